@@ -1,0 +1,4 @@
+pub mod Lists
+pub mod Trees
+pub mod FourClasses
+pub mod Counted

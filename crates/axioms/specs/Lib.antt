@@ -1,0 +1,9 @@
+pub mod Expression
+pub mod Axiom
+pub mod Numbered
+pub mod WellFormed
+pub mod Numbering
+pub mod Theorems
+pub mod Examples
+pub mod View
+pub mod Kept

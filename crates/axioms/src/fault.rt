@@ -1,0 +1,54 @@
+//! Why an ontology could not grow.
+ghost use Rattle.std.specs.Prelude.{◌≡◌};
+ghost use Rattle.axioms.specs.declared.fault.BuildFault.TheVariants as faults;
+
+use std::alloc::{AllocError, AllocFailed};
+
+/// A growth of memory was refused.
+#[derive(Clone, Copy, Debug, PartialEq, Eq)]
+pub struct Memory;
+
+impl From<AllocError> for Memory {
+    fn from(_error: AllocError) -> Memory {
+        Memory
+    }
+}
+
+impl<T: Drop> From<AllocFailed<T>> for Memory {
+    fn from(_error: AllocFailed<T>) -> Memory {
+        Memory
+    }
+}
+
+/// Why a name was not declared.
+#[derive(Clone, Copy, Debug, PartialEq, Eq)]
+pub enum BuildFault {
+    /// A growth of memory was refused.
+    Memory,
+    /// The kind would have more than 1,000,000 names.
+    TooManyNames,
+}
+
+impl From<AllocError> for BuildFault {
+    ghost from_gives = { λ _ e. e ≡ faults.Memory };
+
+    fn from(_error: AllocError) -> BuildFault {
+        BuildFault::Memory
+    }
+}
+
+impl<T: Drop> From<AllocFailed<T>> for BuildFault {
+    ghost from_gives = { λ _ e. e ≡ faults.Memory };
+
+    fn from(_error: AllocFailed<T>) -> BuildFault {
+        BuildFault::Memory
+    }
+}
+
+impl From<Memory> for BuildFault {
+    ghost from_gives = { λ _ e. e ≡ faults.Memory };
+
+    fn from(_error: Memory) -> BuildFault {
+        BuildFault::Memory
+    }
+}

@@ -1,0 +1,100 @@
+//! An ontology: names, class expressions and logical axioms by number.
+ghost use Rattle.std.specs.Prelude.{◌<◌, ◌≡◌, ◌↔◌, IfSome, IsSome, Some, length, map, option_map, slice_get, string_bytes};
+ghost use Rattle.axioms.specs.Numbered.{Class};
+ghost use Rattle.axioms.specs.View.{axiom_of, node_of, at_number};
+ghost use Rattle.axioms.specs.WellFormed.{IsOntology};
+
+use crate::ids::{ClassId, ExprId};
+use crate::terms::{Axiom, Expr};
+use indexmap::IndexSet;
+use std::alloc::Global;
+use std::hash::RandomState;
+use std::marker::Model;
+
+/// Names, class expressions and logical axioms, each numbered by its first place.
+#[derive(Drop)]
+pub struct Ontology {
+    pub(crate) alloc: Global,
+    pub(crate) classes: IndexSet<String, RandomState>,
+    pub(crate) properties: IndexSet<String, RandomState>,
+    pub(crate) individuals: IndexSet<String, RandomState>,
+    pub(crate) expressions: IndexSet<Expr, RandomState>,
+    // the expression of each class, by the number of the class
+    pub(crate) class_expressions: Vec<ExprId>,
+    pub(crate) axioms: Vec<Axiom>,
+}
+
+impl Model for Ontology {
+    ghost use Rattle.axioms.specs.Numbered as numbered;
+    ghost use Rattle.axioms.specs.Kept.{kept_ontology, IsKept};
+
+    ghost Value = { numbered.Ontology };
+
+    ghost view = { kept_ontology };
+
+    ghost invariant = { IsKept };
+}
+
+impl Ontology {
+    /// The IRIs of the named classes, by number.
+    pub fn classes(&self) -> &[String]
+        ensures names { map string_bytes result.now ≡ self.now.names.classes }
+    {
+        self.classes.as_slice()
+    }
+
+    /// The IRIs of the object properties, by number.
+    pub fn properties(&self) -> &[String]
+        ensures names { map string_bytes result.now ≡ self.now.names.properties }
+    {
+        self.properties.as_slice()
+    }
+
+    /// The IRIs of the individuals, by number.
+    pub fn individuals(&self) -> &[String]
+        ensures names { map string_bytes result.now ≡ self.now.names.individuals }
+    {
+        self.individuals.as_slice()
+    }
+
+    /// The expression of that number.
+    pub fn expr(&self, id: ExprId) -> Option<&Expr>
+        ensures node { option_map (λ e. node_of e.now) result ≡ slice_get self.now.nodes id.0 }
+        // Every ontology is well formed.
+        ensures valid { IsOntology self.now }
+    {
+        self.expressions.get_index(id.0)
+    }
+
+    /// How many expressions there are.
+    pub fn expression_count(&self) -> usize
+        ensures { result ≡ length self.now.nodes }
+    {
+        self.expressions.len()
+    }
+
+    /// The axiom of that number, counted from 1 in document order.
+    pub fn axiom(&self, number: usize) -> Option<&Axiom>
+        ensures { option_map (λ a. axiom_of a.now) result ≡ at_number self.now.axioms number }
+    {
+        if number == 0 || self.axioms.len() < number {
+            return None;
+        }
+        Some(&self.axioms[number - 1])
+    }
+
+    /// The logical axioms in document order; the first has the number 1.
+    pub fn axioms(&self) -> &[Axiom]
+        ensures { map axiom_of result.now ≡ self.now.axioms }
+    {
+        &self.axioms
+    }
+
+    /// The number of the expression that is the class.
+    pub fn class_expr(&self, class: ClassId) -> Option<ExprId>
+        ensures found { IfSome result (λ e. slice_get self.now.nodes e.0 ≡ Some (Class class.0)) }
+        ensures only { IsSome result ↔ (class.0 < length self.now.names.classes) }
+    {
+        self.class_expressions.get(class.0).copied()
+    }
+}
