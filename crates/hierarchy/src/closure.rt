@@ -1,0 +1,61 @@
+//! The superclasses of all named classes.
+ghost use Rattle.std.specs.Prelude.{◌≡◌, ◌≤◌, IfOk, length, vec_len};
+ghost use Rattle.hierarchy.specs.Hierarchy.{IsHierarchy};
+
+use crate::context::{Found, Superclass, superclasses};
+use crate::told::told_superclasses;
+use axioms::{ExprId, Memory, Ontology};
+use interpretation_spec::Row;
+use std::alloc::{AllocError, AllocFailed, Global};
+
+/// Why the superclasses were not all found.
+#[derive(Clone, Copy, Debug, PartialEq, Eq)]
+pub enum Stop {
+    Memory,
+    /// There are more facts than the caller allows.
+    Limit,
+}
+
+impl From<Memory> for Stop {
+    fn from(_error: Memory) -> Stop {
+        Stop::Memory
+    }
+}
+
+impl<T: Drop> From<AllocFailed<T>> for Stop {
+    fn from(_error: AllocFailed<T>) -> Stop {
+        Stop::Memory
+    }
+}
+
+/// For each class, by number, its superclasses in the order in which they were found.
+#[derive(Drop)]
+pub struct Hierarchy {
+    pub contexts: Vec<Vec<Superclass>>,
+    pub rows: Vec<Row>,
+    /// How many superclasses there are in all.
+    pub facts: u64,
+}
+
+/// All superclasses of all classes, at most `max_facts` in all.
+pub fn close(alloc: Global, ontology: &Ontology, max_facts: u64) -> Result<Hierarchy, Stop>
+    requires { IsHierarchy ontology.now }
+{
+    let told = told_superclasses(alloc, ontology)?;
+    let mut hierarchy = Hierarchy {
+        contexts: Vec::new(alloc),
+        rows: Vec::new(alloc),
+        facts: 0,
+    };
+    for class in 0..told.len() {
+        let Found { list, set } = superclasses(alloc, &told, ExprId(class))?;
+        let count = list.len() as u64;
+        if count > max_facts - hierarchy.facts {
+            return Err(Stop::Limit);
+        }
+        hierarchy.facts += count;
+        hierarchy.contexts.push(list)?;
+        hierarchy.rows.push(set)?;
+    }
+    Ok(hierarchy)
+}
