@@ -1,0 +1,2 @@
+pub mod Subclasses
+pub mod Theorems

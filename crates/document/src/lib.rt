@@ -1,0 +1,11 @@
+//! Documents of subclass axioms between named classes, from bytes to an ontology.
+#![tactic(auto)]
+
+ghost use Rattle.document.specs.Theorems.{FirstPlacesGrow, NoStatementIsEmpty, OneMoreStatement};
+
+/// How the ontology of a document grows, a statement at a time.
+pub fn statements_one_by_one()
+    ensures places { FirstPlacesGrow }
+    ensures start { NoStatementIsEmpty }
+    ensures more { OneMoreStatement }
+{}
