@@ -30,6 +30,15 @@ impl Row {
         })
     }
 
+    /// All numbers below `n`.
+    pub fn full(alloc: Global, n: usize) -> Result<Row, Memory>
+        ensures { IfOk result (λ r. r ≡ replicate n true) }
+    {
+        Ok(Row {
+            bits: vec![in alloc; true; n]?,
+        })
+    }
+
     /// The same set.
     pub fn copy(&self, alloc: Global) -> Result<Row, Memory>
         ensures { IfOk result (λ r. r ≡ self.now) }
