@@ -1,2 +1,5 @@
 pub mod Subclasses
+pub mod Documents
 pub mod Theorems
+pub mod Faults
+pub mod Statements
