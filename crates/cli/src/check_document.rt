@@ -1,0 +1,69 @@
+//! The check of a document's texts.
+ghost use Rattle.std.specs.Prelude.{◌≡◌};
+
+use crate::fault::CheckFault;
+use axioms::Ontology;
+use cert_check::{Verdict, check};
+use device::{ReadFault, Source, read_all};
+use document::{Limits, read_document};
+use std::alloc::Global;
+use std::hash::RandomState;
+
+/// All the bytes of the source of that number.
+fn bytes_of<S: Source>(
+    alloc: Global,
+    source: &mut S,
+    number: usize,
+) -> Result<Vec<u8>, CheckFault> {
+    match read_all(alloc, source, usize::MAX) {
+        Ok(bytes) => Ok(bytes),
+        Err(ReadFault::Failed) => Err(CheckFault::Io(number)),
+        Err(ReadFault::Memory | ReadFault::TooLarge) => Err(CheckFault::Memory),
+    }
+}
+
+/// The ontology of the document, and the verdict on its texts.
+pub(crate) fn checked<D: Source, T: Source, I: Source, C: Source>(
+    alloc: Global,
+    document: &mut D,
+    taxonomy: &mut T,
+    instances: &mut I,
+    certificate: &mut C,
+    limits: &Limits,
+    state: RandomState,
+) -> Result<(Ontology, Verdict), CheckFault> {
+    let ontology = match read_document(alloc, document, limits, state) {
+        Ok(ontology) => ontology,
+        Err(fault) => return Err(CheckFault::Document(fault)),
+    };
+    let taxonomy = bytes_of(alloc, taxonomy, 2)?;
+    let instances = bytes_of(alloc, instances, 3)?;
+    let certificate = bytes_of(alloc, certificate, 4)?;
+    match check(alloc, &ontology, &taxonomy, &instances, &certificate) {
+        Ok(verdict) => Ok((ontology, verdict)),
+        Err(_) => Err(CheckFault::Memory),
+    }
+}
+
+/// Reads the document and the three texts, in this order up to the first fault, and answers whether the certificate
+/// shows that the other two are right.
+pub fn check_document<D: Source, T: Source, I: Source, C: Source>(
+    alloc: Global,
+    document: &mut D,
+    taxonomy: &mut T,
+    instances: &mut I,
+    certificate: &mut C,
+    limits: &Limits,
+    state: RandomState,
+) -> Result<Verdict, CheckFault> {
+    let (_, verdict) = checked(
+        alloc,
+        document,
+        taxonomy,
+        instances,
+        certificate,
+        limits,
+        state,
+    )?;
+    Ok(verdict)
+}

@@ -1,0 +1,39 @@
+//! Why a document is not classified, or not checked.
+ghost use Rattle.std.specs.Prelude.{◌≡◌};
+
+use classification::Stop;
+use document::DocumentFault;
+use thiserror::Error;
+
+/// Why a document was not classified.
+#[derive(Debug, Drop, Error)]
+pub enum ClassifyFault {
+    /// The document was not read. Nothing is written.
+    #[error(transparent)]
+    Document(DocumentFault),
+    /// Memory was refused. Nothing is written.
+    #[error("out of memory")]
+    Memory,
+    /// The closure has more facts than the limit. Nothing is written.
+    #[error("too many facts")]
+    Limit,
+    /// The sink of that number failed: 1 is the taxonomy's, 2 the instances', 3 the certificate's. Those before it have
+    /// taken their whole text, this one a beginning of its text, those behind it nothing.
+    #[error("sink {0} failed")]
+    Io(usize),
+}
+
+/// Why texts were not checked. No verdict is given.
+#[derive(Debug, Drop, Error)]
+pub enum CheckFault {
+    /// The document was not read.
+    #[error(transparent)]
+    Document(DocumentFault),
+    /// Memory was refused.
+    #[error("out of memory")]
+    Memory,
+    /// The source of that number failed: 2 is the taxonomy's, 3 the instances', 4 the certificate's. (That of the
+    /// document, the first, is told inside `Document`.)
+    #[error("source {0} failed")]
+    Io(usize),
+}
