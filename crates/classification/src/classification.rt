@@ -1,4 +1,9 @@
 //! A classification with its texts.
+ghost use Rattle.axioms.specs.Numbered.{nothing, thing};
+ghost use Rattle.classification.specs.Classified.{IsClassifiable, IsOutcomeOf};
+ghost use Rattle.hierarchy.specs.Contexts.{AreSuperclasses};
+ghost use Rattle.std.specs.Prelude.{◌≡◌, IfOk, not};
+ghost use Rattle.taxonomy.specs.Relation.{IsSquare, lies_below};
 
 use crate::derivation::derivation_lines;
 use crate::listing::{NOTHING, listed};
@@ -31,10 +36,73 @@ pub struct Classification {
     pub certificate: Vec<u8>,
 }
 
-fn outcome(alloc: Global, rows: Vec<Row>, consistent: bool) -> Result<Outcome, Memory> {
+/// Whether `owl:Nothing` is no superclass of `owl:Thing`.
+fn is_consistent(rows: &[Row]) -> bool
+    ensures { result ≡ not (lies_below rows.now thing nothing) }
+{
+    match rows.first() {
+        Some(row) => !row.contains(NOTHING),
+        None => true,
+    }
+}
+
+/// What the superclasses say: the relation of the classes, or that there is no interpretation.
+fn outcome(alloc: Global, rows: Vec<Row>, consistent: bool) -> Result<Outcome, Memory>
+    requires { IsSquare rows.items }
+    ensures { IfOk result (IsOutcomeOf rows.items consistent) }
+{
     if !consistent {
         return Ok(Outcome::Inconsistent);
     }
     let relation = Relation::new(relation_rows(alloc, rows)?);
-    Ok(Outcome::Consistent(reduce(alloc, &relation)?, Vec::new(alloc)))
+    let taxonomy = reduce(alloc, &relation)?;
+    Ok(Outcome::Consistent(taxonomy, Vec::new(alloc)))
+}
+
+/// The certificate of the superclasses.
+fn certificate_of(
+    alloc: Global,
+    ontology: &Ontology,
+    hierarchy: &Hierarchy,
+    consistent: bool,
+) -> Result<Certificate, Memory>
+    requires classifiable { IsClassifiable ontology.now }
+    requires superclasses { AreSuperclasses ontology.now hierarchy.now }
+{
+    let lines = derivation_lines(alloc, &hierarchy.contexts)?;
+    let listed = if consistent {
+        Some(listed(alloc, &hierarchy.contexts, &hierarchy.rows)?)
+    } else {
+        None
+    };
+    match Certificate::new(ontology, lines, listed) {
+        Ok(certificate) => Ok(certificate),
+        Err(_) => Err(Memory),
+    }
+}
+
+/// The classification of an ontology whose closure has at most `max_facts` facts.
+pub fn classify(alloc: Global, ontology: &Ontology, max_facts: u64) -> Result<Classification, Stop>
+    requires { IsClassifiable ontology.now }
+{
+    let hierarchy = close(alloc, ontology, max_facts)?;
+    let consistent = is_consistent(&hierarchy.rows);
+    let certificate = certificate_of(alloc, ontology, &hierarchy, consistent)?;
+    let Hierarchy {
+        contexts: _contexts,
+        rows,
+        facts,
+    } = hierarchy;
+    let outcome = outcome(alloc, rows, consistent)?;
+    Ok(Classification {
+        summary: Summary {
+            consistent,
+            classes: ontology.classes().len(),
+            individuals: ontology.individuals().len(),
+            facts,
+        },
+        taxonomy: taxonomy_bytes(alloc, ontology, &outcome)?,
+        instances: instances_bytes(alloc, ontology, &outcome)?,
+        certificate: certificate_bytes(alloc, &certificate)?,
+    })
 }

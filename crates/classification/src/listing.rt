@@ -1,4 +1,5 @@
 //! The interpretation that the superclasses list: an element for each satisfiable class, in the classes above it.
+ghost use Rattle.std.specs.Prelude.{◌<◌, ◌≤◌, ◌^◌, IfOk, length, vec_len};
 
 use axioms::{ExprId, Memory};
 use certificate::{Claim, ClassRow, Listed};
@@ -10,7 +11,9 @@ use std::alloc::Global;
 pub(crate) const NOTHING: usize = 1;
 
 /// The satisfiable classes, ascending: their places are the elements.
-fn elements(alloc: Global, rows: &[Row]) -> Result<Vec<ExprId>, Memory> {
+fn elements(alloc: Global, rows: &[Row]) -> Result<Vec<ExprId>, Memory>
+    ensures { IfOk result (λ v. vec_len v ≤ length rows.now) }
+{
     let mut elements = Vec::new(alloc);
     for (class, row) in rows.iter().enumerate() {
         if !row.contains(NOTHING) {
@@ -47,7 +50,9 @@ fn members(
     alloc: Global,
     contexts: &[Vec<Superclass>],
     elements: &[ExprId],
-) -> Result<Vec<Vec<u32>>, Memory> {
+) -> Result<Vec<Vec<u32>>, Memory>
+    requires { length elements.now < 2 ^ 32 }
+{
     let mut lists = empty_lists(alloc, contexts.len())?;
     for (element, class) in elements.iter().enumerate() {
         if class.0 < contexts.len() {
@@ -72,7 +77,9 @@ fn class_rows(alloc: Global, members: Vec<Vec<u32>>) -> Result<Vec<ClassRow>, Me
 }
 
 /// Each satisfiable class is claimed at its element.
-fn claims(alloc: Global, elements: &[ExprId]) -> Result<Vec<Claim>, Memory> {
+fn claims(alloc: Global, elements: &[ExprId]) -> Result<Vec<Claim>, Memory>
+    requires { length elements.now < 2 ^ 32 }
+{
     let mut claims = Vec::new(alloc);
     for (element, class) in elements.iter().enumerate() {
         claims.push(Claim {
@@ -88,7 +95,9 @@ pub(crate) fn listed(
     alloc: Global,
     contexts: &[Vec<Superclass>],
     rows: &[Row],
-) -> Result<Listed, Memory> {
+) -> Result<Listed, Memory>
+    requires { length rows.now < 2 ^ 32 }
+{
     let elements = elements(alloc, rows)?;
     let members = members(alloc, contexts, &elements)?;
     let domain = elements.len() as u32;

@@ -1,4 +1,6 @@
 //! The relation of the taxonomy: an unsatisfiable class lies below all classes.
+ghost use Rattle.classification.specs.Relation.{related_row, related_rows};
+ghost use Rattle.std.specs.Prelude.{◌≡◌, IfOk, replicate, true, ℕ};
 
 use crate::listing::NOTHING;
 use axioms::Memory;
@@ -6,7 +8,9 @@ use interpretation_spec::Row;
 use std::alloc::Global;
 
 /// The row of all classes.
-fn all_classes(alloc: Global, classes: usize) -> Result<Row, Memory> {
+fn all_classes(alloc: Global, classes: usize) -> Result<Row, Memory>
+    ensures { IfOk result (λ row. row ≡ replicate classes true) }
+{
     let mut row = Row::new(alloc, classes)?;
     for class in 0..classes {
         row.put(class);
@@ -14,16 +18,25 @@ fn all_classes(alloc: Global, classes: usize) -> Result<Row, Memory> {
     Ok(row)
 }
 
+/// The row of a class in the relation, where that of all classes is known.
+fn related_row(alloc: Global, row: Row, all: &Row) -> Result<Row, Memory>
+    ensures { IfOk result (λ r. (k : ℕ) → all.now ≡ replicate k true → r ≡ related_row k row) }
+{
+    if row.contains(NOTHING) {
+        all.copy(alloc)
+    } else {
+        Ok(row)
+    }
+}
+
 /// The rows of a relation in which each class with `owl:Nothing` above it is below all.
-pub(crate) fn relation_rows(alloc: Global, rows: Vec<Row>) -> Result<Vec<Row>, Memory> {
+pub(crate) fn relation_rows(alloc: Global, rows: Vec<Row>) -> Result<Vec<Row>, Memory>
+    ensures { IfOk result (λ v. v.items ≡ related_rows rows.items) }
+{
     let all = all_classes(alloc, rows.len())?;
     let mut related = Vec::new(alloc);
     for row in rows {
-        if row.contains(NOTHING) {
-            related.push(all.copy(alloc)?)?;
-        } else {
-            related.push(row)?;
-        }
+        related.push(related_row(alloc, row, &all)?)?;
     }
     Ok(related)
 }

@@ -1,0 +1,3 @@
+pub mod Derivation
+pub mod Relation
+pub mod Classified
