@@ -75,11 +75,11 @@ pub record AreSeen {A : Type 0} (y : A) (after seen places : List A) : Type 0 wh
 module _ {A : Type 0} (same : A → A → Bool) (y : A) where
   -- after a member that was seen, or not
   more_step : (seen : List A) (x : A) (xs : List A) →
-    ((s : List A) → first_places_from same s (xs ++ y ∷ []) ≡ first_places_from same s xs ++ first_places_from same (seen_after same s xs) (y ∷ [])) →
-    (b : Bool) →
-    (if b then first_places_from same seen (xs ++ y ∷ []) else x ∷ first_places_from same (x ∷ seen) (xs ++ y ∷ []))
-    ≡ (if b then first_places_from same seen xs else x ∷ first_places_from same (x ∷ seen) xs)
-    ++ first_places_from same (if b then seen_after same seen xs else seen_after same (x ∷ seen) xs) (y ∷ [])
+      ((s : List A) → first_places_from same s (xs ++ y ∷ []) ≡ first_places_from same s xs ++ first_places_from same (seen_after same s xs) (y ∷ [])) →
+      (b : Bool) →
+      (if b then first_places_from same seen (xs ++ y ∷ []) else x ∷ first_places_from same (x ∷ seen) (xs ++ y ∷ []))
+      ≡ (if b then first_places_from same seen xs else x ∷ first_places_from same (x ∷ seen) xs)
+      ++ first_places_from same (if b then seen_after same seen xs else seen_after same (x ∷ seen) xs) (y ∷ [])
   more_step seen x xs later true = later seen
   more_step seen x xs later false = ap (λ zs. x ∷ zs) (later (x ∷ seen))
 
@@ -88,17 +88,17 @@ module _ {A : Type 0} (same : A → A → Bool) (y : A) where
   one_more (x ∷ xs) seen = more_step seen x xs (λ s. one_more xs s) (list_any (same x) seen)
 
   seen_step : (seen : List A) (x : A) (xs : List A) →
-    ((s : List A) → AreSeen y (seen_after same s xs) s (first_places_from same s xs)) → (b : Bool) → (b ≡ true → x ≡ y → Contains seen y) →
-    AreSeen y (if b then seen_after same seen xs else seen_after same (x ∷ seen) xs) seen (if b then first_places_from same seen xs else x ∷ first_places_from same (x ∷ seen) xs)
+      ((s : List A) → AreSeen y (seen_after same s xs) s (first_places_from same s xs)) → (b : Bool) → (b ≡ true → x ≡ y → Contains seen y) →
+      AreSeen y (if b then seen_after same seen xs else seen_after same (x ∷ seen) xs) seen (if b then first_places_from same seen xs else x ∷ first_places_from same (x ∷ seen) xs)
   seen_step seen x xs later true known = later seen
   seen_step seen x xs later false known = record {
     only = λ h. elim ((later (x ∷ seen)).only h) [
-      inl old ↦ elim (first_or_later x y seen old) [ inl e ↦ inr (0, omega arith, e) | inr older ↦ inl older ]
+      | inl old ↦ elim (first_or_later x y seen old) [ inl e ↦ inr (0, omega arith, e) | inr older ↦ inl older ]
       | inr new ↦ inr (at_later x y (first_places_from same (x ∷ seen) xs) new)
     ];
     before = λ h. (later (x ∷ seen)).before (at_later x y seen h);
     placed = λ h. elim (first_or_later x y (first_places_from same (x ∷ seen) xs) h) [
-      inl e ↦ (later (x ∷ seen)).before (0, omega arith, e)
+      | inl e ↦ (later (x ∷ seen)).before (0, omega arith, e)
       | inr new ↦ (later (x ∷ seen)).placed new
     ];
   }
@@ -118,11 +118,11 @@ module _ {A : Type 0} (same : A → A → Bool) (y : A) where
       not_found one seen none false h = h
 
   pub grows : (one : (a b : A) → Decides (same a b) (a ≡ b)) (xs : List A) →
-    (Contains (first_places same xs) y → first_places same (xs ++ y ∷ []) ≡ first_places same xs)
-    × (¬ Contains (first_places same xs) y → first_places same (xs ++ y ∷ []) ≡ first_places same xs ++ y ∷ [])
+      (Contains (first_places same xs) y → first_places same (xs ++ y ∷ []) ≡ first_places same xs)
+      × (¬ Contains (first_places same xs) y → first_places same (xs ++ y ∷ []) ≡ first_places same xs ++ y ∷ [])
   grows one xs =
-    let seen = seen_places one xs [] in
-    let last = last_place one (seen_after same [] xs) in (
-      λ h. one_more xs [] ∙ ap (λ zs. first_places same xs ++ zs) (last.0 (seen.placed h)) ∙ append-nil (first_places same xs),
-      λ none. one_more xs [] ∙ ap (λ zs. first_places same xs ++ zs) (last.1 (λ h. elim (seen.only h) [ inl old ↦ absurd (omega (arith, old.1)) | inr new ↦ none new ])),
-    )
+      let seen = seen_places one xs [] in
+      let last = last_place one (seen_after same [] xs) in (
+        λ h. one_more xs [] ∙ ap (λ zs. first_places same xs ++ zs) (last.0 (seen.placed h)) ∙ append-nil (first_places same xs),
+        λ none. one_more xs [] ∙ ap (λ zs. first_places same xs ++ zs) (last.1 (λ h. elim (seen.only h) [ inl old ↦ absurd (omega (arith, old.1)) | inr new ↦ none new ])),
+      )

@@ -1,2 +1,2 @@
 pub mod FirstPlaces
-pub mod Statements
+pub mod OneMore

@@ -23,10 +23,14 @@ is_reserved iri =
 abbrev pub is_class_name : Iri → Bool
 is_class_name iri = not (is_reserved iri) || (bytes_eq iri owl_thing || bytes_eq iri owl_nothing)
 
+-- two class names
+abbrev pub class_pair : Tree → Tree → Option (Iri × Iri)
+class_pair (Name a c) (Name b d) = if is_class_name c && is_class_name d then Some (c, d) else None
+class_pair _ _ = None
+
 -- the classes of a subclass axiom between two named classes, where the tree is one (Structural Specification, section 9.1.1)
 abbrev pub subclass_pair : Tree → Option (Iri × Iri)
-subclass_pair (Form at keyword (Then (Name a c) (Then (Name b d) Empty))) =
-    if bytes_eq keyword (codes "SubClassOf") && (is_class_name c && is_class_name d) then Some (c, d) else None
+subclass_pair (Form at keyword (Then sub (Then super Empty))) = if bytes_eq keyword (codes "SubClassOf") then class_pair sub super else None
 subclass_pair _ = None
 
 abbrev pub joined : Option (Iri × Iri) → Option (List (Iri × Iri)) → Option (List (Iri × Iri))

@@ -4,8 +4,8 @@ use Rattle.std.specs.Str.{IsUtf8, IsValidUpTo}
 use Rattle.axioms.specs.Numbered.{Ontology}
 use Rattle.axioms.specs.declared.fault.BuildFault.{BuildFault}
 use Rattle.axioms.specs.declared.fault.BuildFault.TheVariants as building
-use Rattle.fs_lexer.specs.declared.fault.LexFault.{LexFault}
-use Rattle.fs_lexer.specs.declared.fault.LexFault.TheVariants as lexing
+use Rattle.fs_lexer.specs.declared.token.LexFault.{LexFault}
+use Rattle.fs_lexer.specs.declared.token.LexFault.TheVariants as lexing
 use Rattle.fs_parser.specs.declared.fault.ParseFault.{ParseFault}
 use Rattle.fs_parser.specs.declared.fault.ParseFault.TheVariants as parsing
 use Rattle.document.specs.declared.fault.DocumentFault.{DocumentFault}

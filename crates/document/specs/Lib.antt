@@ -2,4 +2,4 @@ pub mod Subclasses
 pub mod Documents
 pub mod Theorems
 pub mod Faults
-pub mod Statements
+pub mod Answers

@@ -3,6 +3,15 @@
 
 ghost use Rattle.document.specs.Theorems.{FirstPlacesGrow, NoStatementIsEmpty, OneMoreStatement};
 
+mod document;
+mod fault;
+mod limits;
+mod statements;
+
+pub use document::{read_bytes, read_document};
+pub use fault::DocumentFault;
+pub use limits::{Limits, MOST_BYTES, MOST_FACTS};
+
 /// How the ontology of a document grows, a statement at a time.
 pub fn statements_one_by_one()
     ensures places { FirstPlacesGrow }

@@ -1,6 +1,5 @@
 //! Limits that a caller sets.
-ghost use Rattle.std.specs.Option.{SomeIff};
-ghost use Rattle.std.specs.Prelude.{◌<◌, ◌≡◌, ◌≤◌};
+ghost use Rattle.std.specs.Prelude.{◌<◌, ◌≡◌, ◌≤◌, ◌↔◌, IfSome, IsSome};
 
 /// The greatest number of bytes of a document: 268,435,456.
 pub const MOST_BYTES: u64 = 268_435_456;
@@ -22,9 +21,8 @@ pub struct Limits {
 impl Limits {
     /// These limits: `None` where one is 0 or more than the greatest.
     pub fn new(max_bytes: u64, max_facts: u64) -> Option<Limits>
-        ensures { SomeIff result
-            ((0 < max_bytes) × (max_bytes ≤ MOST_BYTES) × (0 < max_facts) × (max_facts ≤ MOST_FACTS))
-            (record { max_bytes = max_bytes; max_facts = max_facts }) }
+        ensures within { IsSome result ↔ ((0 < max_bytes) × (max_bytes ≤ MOST_BYTES) × (0 < max_facts) × (max_facts ≤ MOST_FACTS)) }
+        ensures these { IfSome result (λ l. (l.max_bytes ≡ max_bytes) × (l.max_facts ≡ max_facts)) }
     {
         if max_bytes == 0 || max_bytes > MOST_BYTES || max_facts == 0 || max_facts > MOST_FACTS {
             return None;

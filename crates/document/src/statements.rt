@@ -1,8 +1,10 @@
 //! The statements of a document's trees.
-ghost use Rattle.std.specs.Prelude.{◌≡◌, ◌++◌, ◌∷◌, [], List, None, Some, IfOk, IfErr, IsErrOf, IsTrue, map, string_bytes, codes, false};
-ghost use Rattle.document.specs.Documents.{is_class_name, is_reserved, subclass_pair, subclass_pairs};
-ghost use Rattle.document.specs.Statements.{Gives, GivesName};
-ghost use Rattle.fs_parser.specs.View.{iri_of, tree_of, trees_of};
+ghost use Rattle.fs_parser.specs.Tree.{Name};
+ghost use Rattle.std.specs.Option.{IfNone, IfSome};
+ghost use Rattle.std.specs.Prelude.{◌≡◌, List, ℕ};
+ghost use Rattle.document.specs.Documents.{class_pair, is_class_name, is_reserved, subclass_pair};
+ghost use Rattle.document.specs.Answers.{Gives, GivesName};
+ghost use Rattle.fs_parser.specs.View.{iri_of, tree_of};
 
 use crate::fault::DocumentFault;
 use fs_parser::{Iri, Tree};
@@ -60,26 +62,46 @@ fn place(tree: &Tree<'_>) -> usize {
     }
 }
 
-/// The classes of a subclass axiom with these operands, whose keyword stands at the place.
-fn operands(alloc: Global, at: usize, trees: &[Tree<'_>]) -> Result<Subclass, DocumentFault> {
-    match trees {
-        [Tree::Name { at: first, iri: sub }, Tree::Name { at: second, iri: superclass }] => {
-            let sub = class_name(alloc, *first, sub)?;
-            let superclass = class_name(alloc, *second, superclass)?;
-            Ok(Subclass { sub, superclass })
-        }
-        _ => Err(DocumentFault::WrongShape { at }),
+/// The name that the tree is, and where it begins.
+fn name_of<'a>(tree: &Tree<'a>) -> Option<(usize, Iri<'a>)>
+    ensures some { IfSome result (λ p. tree_of tree.now ≡ Name p.0 (iri_of p.1)) }
+    ensures none { IfNone result ((at : ℕ) (iri : List ℕ) → tree_of tree.now ≡ Name at iri → ⊥) }
+{
+    match tree {
+        Tree::Name { at, iri } => Some((*at, *iri)),
+        _ => None,
     }
 }
 
+/// The classes of a subclass axiom with these operands, whose keyword stands at the place.
+fn operands(
+    alloc: Global,
+    at: usize,
+    first: &Tree<'_>,
+    second: &Tree<'_>,
+) -> Result<Subclass, DocumentFault>
+    ensures { Gives result (class_pair (tree_of first.now) (tree_of second.now)) }
+{
+    let Some((sub_at, sub)) = name_of(first) else {
+        return Err(DocumentFault::WrongShape { at });
+    };
+    let Some((superclass_at, superclass)) = name_of(second) else {
+        return Err(DocumentFault::WrongShape { at });
+    };
+    let sub = class_name(alloc, sub_at, &sub)?;
+    let superclass = class_name(alloc, superclass_at, &superclass)?;
+    Ok(Subclass { sub, superclass })
+}
+
 /// The classes of the subclass axiom that the tree is.
-pub(crate) fn subclass(alloc: Global, tree: &Tree<'_>) -> Result<Subclass, DocumentFault>
+pub(crate) fn read_subclass(alloc: Global, tree: &Tree<'_>) -> Result<Subclass, DocumentFault>
     ensures { Gives result (subclass_pair (tree_of tree.now)) }
 {
     match tree {
-        Tree::Form { at, keyword, trees } if *keyword == "SubClassOf" => {
-            operands(alloc, *at, trees)
-        }
+        Tree::Form { at, keyword, trees } => match trees.as_slice() {
+            [sub, superclass] if *keyword == "SubClassOf" => operands(alloc, *at, sub, superclass),
+            _ => Err(DocumentFault::WrongShape { at: *at }),
+        },
         _ => Err(DocumentFault::WrongShape { at: place(tree) }),
     }
 }

@@ -187,18 +187,18 @@ one_more_class es axs o p iri c e whole so_far more = record {
   shape = more.shape;
   places = elim more.places [
     | inl h ↦
-      ap (map Named) h.1 ∙ so_far.places
-      ∙ sym (places.0 (let P : List ClassExpression → Type 0 = λ xs. Contains xs (Named iri) in subst P so_far.places (Contains-map Named o.names.classes iri h.0)))
+        ap (map Named) h.1 ∙ so_far.places
+        ∙ sym (places.0 (let P : List ClassExpression → Type 0 = λ xs. Contains xs (Named iri) in subst P so_far.places (Contains-map Named o.names.classes iri h.0)))
     | inr h ↦
-      ap (map Named) h.1 ∙ map-append Named o.names.classes (iri ∷ []) ∙ ap (λ xs. xs ++ Named iri ∷ []) so_far.places
-      ∙ sym (places.1 (λ k. h.0 (named_member o.names.classes iri (let P : List ClassExpression → Type 0 = λ xs. Contains xs (Named iri) in subst P (sym so_far.places) k))))
+        ap (map Named) h.1 ∙ map-append Named o.names.classes (iri ∷ []) ∙ ap (λ xs. xs ++ Named iri ∷ []) so_far.places
+        ∙ sym (places.1 (λ k. h.0 (named_member o.names.classes iri (let P : List ClassExpression → Type 0 = λ xs. Contains xs (Named iri) in subst P (sym so_far.places) k))))
   ];
   axioms = ap (map (axiom_tree p)) more.axioms ∙ same_axiom_trees o p so_far.shape more.shape more.keeps o.axioms so_far.shape.axioms whole.axioms ∙ so_far.axioms;
 }
   where
     places :
-      (Contains (first_places same_expression (with_standard es)) (Named iri) → first_places same_expression (with_standard es ++ Named iri ∷ []) ≡ first_places same_expression (with_standard es))
-      × ((Contains (first_places same_expression (with_standard es)) (Named iri) → ⊥) → first_places same_expression (with_standard es ++ Named iri ∷ []) ≡ first_places same_expression (with_standard es) ++ Named iri ∷ [])
+        (Contains (first_places same_expression (with_standard es)) (Named iri) → first_places same_expression (with_standard es ++ Named iri ∷ []) ≡ first_places same_expression (with_standard es))
+        × ((Contains (first_places same_expression (with_standard es)) (Named iri) → ⊥) → first_places same_expression (with_standard es ++ Named iri ∷ []) ≡ first_places same_expression (with_standard es) ++ Named iri ∷ [])
     places = grows same_expression (Named iri) one_expression (with_standard es)
 
 one_more_axiom : (es : List ClassExpression) (axs : List tree.Axiom) (o : Ontology) (e f : ℕ) (c d : Iri) → SoFar es axs o → expression o e ≡ Named c → expression o f ≡ Named d → SoFar es (axs ++ tree.SubClassOf (Named c) (Named d) ∷ []) (with_axiom o (SubClass e f))
@@ -266,12 +266,12 @@ one_more_statement pairs pair o p q c e d f whole whole' whole'' is first second
     let right : expression q f ≡ Named pair.1 = ap (expression q) h.same ∙ expression_is q h.shape d pair.1 h.name in
     let whole_now = one_more_axiom (expressions_of pairs ++ Named pair.0 ∷ [] ++ Named pair.1 ∷ []) (axioms_of pairs) q e f pair.0 pair.1 two left right in
     let es : expressions_of (pairs ++ pair ∷ []) ≡ expressions_of pairs ++ Named pair.0 ∷ [] ++ Named pair.1 ∷ [] =
-        ap (flat_map statement_expressions) (map-append subclass_statement pairs (pair ∷ []))
-        ∙ flat_map-append statement_expressions (map subclass_statement pairs) (subclass_statement pair ∷ [])
-        ∙ sym (append_assoc (expressions_of pairs) (Named pair.0 ∷ []) (Named pair.1 ∷ [])) in
+    ap (flat_map statement_expressions) (map-append subclass_statement pairs (pair ∷ []))
+    ∙ flat_map-append statement_expressions (map subclass_statement pairs) (subclass_statement pair ∷ [])
+    ∙ sym (append_assoc (expressions_of pairs) (Named pair.0 ∷ []) (Named pair.1 ∷ [])) in
     let axs : axioms_of (pairs ++ pair ∷ []) ≡ axioms_of pairs ++ tree.SubClassOf (Named pair.0) (Named pair.1) ∷ [] =
-        ap (filter_map logical_axiom) (map-append subclass_statement pairs (pair ∷ []))
-        ∙ filter_map-append logical_axiom (map subclass_statement pairs) (subclass_statement pair ∷ []) in
+    ap (filter_map logical_axiom) (map-append subclass_statement pairs (pair ∷ []))
+    ∙ filter_map-append logical_axiom (map subclass_statement pairs) (subclass_statement pair ∷ []) in
     let r : Ontology = with_axiom q (SubClass e f) in
     let P : List ClassExpression → Type 0 = λ xs. SoFar xs (axioms_of pairs ++ tree.SubClassOf (Named pair.0) (Named pair.1) ∷ []) r in
     let Q : List tree.Axiom → Type 0 = λ ys. SoFar (expressions_of (pairs ++ pair ∷ [])) ys r in

@@ -1,0 +1,48 @@
+-- What reading a tree answers.
+use Rattle.std.specs.Prelude.{◌≡◌, List, [], ◌∷◌, ◌++◌, Option, Some, None, Result, Ok, Err, String, string_bytes, true, false}
+use Rattle.std.specs.declared.alloc.Global.{Global}
+use Rattle.axioms.specs.Expression.{Iri}
+use Rattle.axioms.specs.Numbered.{Ontology}
+use Rattle.axioms.specs.declared.fault.BuildFault.{BuildFault}
+use Rattle.document.specs.declared.fault.DocumentFault.{DocumentFault}
+use Rattle.document.specs.declared.fault.DocumentFault.TheVariants.{WrongShape, TooManyNames, Memory}
+use Rattle.document.specs.declared.statements.Subclass.{Subclass}
+use Rattle.document.specs.Documents.{is_class_name}
+use Rattle.document.specs.Theorems.{IsOfSubclasses}
+
+abbrev pub pair_of : Subclass → Iri × Iri
+pair_of s = (string_bytes s.sub, string_bytes s.superclass)
+
+-- the answer is what reading gives, and a fault of shape where it gives nothing, unless memory ran out
+abbrev pub FailsWhere : Type 0 → DocumentFault → Type 0
+FailsWhere P (WrongShape at) = P
+FailsWhere P Memory = Unit {0}
+FailsWhere P _ = ⊥
+
+abbrev pub Gives : Result Subclass DocumentFault → Option (Iri × Iri) → Type 0
+Gives (Ok s) read = read ≡ Some (pair_of s)
+Gives (Err e) read = FailsWhere (read ≡ None) e
+
+abbrev pub GivesName : Result (String Global) DocumentFault → Iri → Type 0
+GivesName (Ok s) iri = (string_bytes s ≡ iri) × (is_class_name iri ≡ true)
+GivesName (Err e) iri = FailsWhere (is_class_name iri ≡ false) e
+
+-- the ontology of one more statement, or a fault of building
+abbrev pub Grows : Ontology → Ontology → Subclass → Result (Unit {0}) BuildFault → Type 0
+Grows old new s (Ok _) = (pairs : List (Iri × Iri)) → IsOfSubclasses pairs old → IsOfSubclasses (pairs ++ pair_of s ∷ []) new
+Grows old new s (Err e) = Unit {0}
+
+-- the ontology of these statements; no fault of shape where all trees are such
+abbrev pub OfStatements : Ontology → Option (List (Iri × Iri)) → Type 0
+OfStatements o None = ⊥
+OfStatements o (Some pairs) = IsOfSubclasses pairs o
+
+abbrev pub NotOfStatements : DocumentFault → Option (List (Iri × Iri)) → Type 0
+NotOfStatements (WrongShape at) read = read ≡ None
+NotOfStatements Memory read = Unit {0}
+NotOfStatements TooManyNames read = Unit {0}
+NotOfStatements _ read = ⊥
+
+abbrev pub GivesOntology : Result Ontology DocumentFault → Option (List (Iri × Iri)) → Type 0
+GivesOntology (Ok o) read = OfStatements o read
+GivesOntology (Err e) read = NotOfStatements e read

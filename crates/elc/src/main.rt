@@ -1,0 +1,48 @@
+//! The program `elc`: classifies ontologies in functional-style syntax, and checks what was said of them.
+#![tactic(auto)]
+
+use cli::perform;
+use device::{Sink, WriterSink, write_all};
+use std::alloc::AllocError;
+use std::env;
+use std::hash::RandomState;
+use std::io;
+use std::process::ExitCode;
+use system_files::SystemFiles;
+
+/// Where words are no text, or memory for them was refused.
+const USAGE: u8 = 2;
+const FILE: u8 = 6;
+
+/// Prints why nothing is done, and gives the status.
+fn refuse(err: &mut impl Sink, text: &str, status: u8) -> ExitCode {
+    match write_all(err, text.as_bytes()) {
+        Ok(()) => ExitCode::from(status),
+        Err(_) => ExitCode::from(FILE),
+    }
+}
+
+fn words(rt: &HostRuntime) -> io::Result<Vec<String>> {
+    Ok(env::args(rt)?.collect(rt.alloc())?)
+}
+
+fn texts<'a>(rt: &HostRuntime, words: &'a [String]) -> Result<Vec<&'a str>, AllocError> {
+    words.iter().map(|word| word.as_str()).collect(rt.alloc())
+}
+
+fn main(rt: HostRuntime) -> ExitCode {
+    let mut out = WriterSink::new(rt.stdout());
+    let mut err = WriterSink::new(rt.stderr());
+    let Ok(state) = RandomState::new(&rt) else {
+        return refuse(&mut err, "cannot read random seed\n", FILE);
+    };
+    let Ok(words) = words(&rt) else {
+        return refuse(&mut err, "the command line is no text\n", USAGE);
+    };
+    let Ok(texts) = texts(&rt, &words) else {
+        return refuse(&mut err, "out of memory\n", 4);
+    };
+    let mut files = SystemFiles::new(&rt);
+    let status = perform(rt.alloc(), &texts, &mut files, &mut out, &mut err, state);
+    ExitCode::from(status)
+}
