@@ -33,19 +33,21 @@ impl<'r, R: rt::Files + AllocGlobal> Files for SystemFiles<'r, R> {
     ghost content = { λ _ _. None };
 
     fn reader(&mut self, path: &str) -> Result<Self::In, Memory> {
-        Ok(ReaderSource::new(FileReader {
+        let file = FileReader {
             runtime: self.runtime,
             path: self.owned(path)?,
             file: None,
-        }))
+        };
+        Ok(ReaderSource::new(file))
     }
 
     fn writer(&mut self, path: &str) -> Result<Self::Out, Memory> {
-        Ok(WriterSink::new(FileWriter {
+        let file = FileWriter {
             runtime: self.runtime,
             path: self.owned(path)?,
             file: None,
-        }))
+        };
+        Ok(WriterSink::new(file))
     }
 }
 
