@@ -1,2 +1,4 @@
 pub mod FirstPlaces
 pub mod OneMore
+pub mod Forms
+pub mod Declared

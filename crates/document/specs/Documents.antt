@@ -28,9 +28,14 @@ abbrev pub class_pair : Tree → Tree → Option (Iri × Iri)
 class_pair (Name a c) (Name b d) = if is_class_name c && is_class_name d then Some (c, d) else None
 class_pair _ _ = None
 
--- the classes of a subclass axiom between two named classes, where the tree is one (Structural Specification, section 9.1.1)
+-- the classes of a subclass axiom between two named classes, with this keyword and these operands (Structural Specification, section 9.1.1)
+abbrev pub subclass_form : List ℕ → Trees → Option (Iri × Iri)
+subclass_form keyword (Then sub (Then super Empty)) = if bytes_eq keyword (codes "SubClassOf") then class_pair sub super else None
+subclass_form _ _ = None
+
+-- .. where the tree is one
 abbrev pub subclass_pair : Tree → Option (Iri × Iri)
-subclass_pair (Form at keyword (Then sub (Then super Empty))) = if bytes_eq keyword (codes "SubClassOf") then class_pair sub super else None
+subclass_pair (Form at keyword trees) = subclass_form keyword trees
 subclass_pair _ = None
 
 abbrev pub joined : Option (Iri × Iri) → Option (List (Iri × Iri)) → Option (List (Iri × Iri))

@@ -1,17 +1,16 @@
 //! From bytes to an ontology.
-ghost use Rattle.axioms.specs.Numbered as numbered;
+ghost use Rattle.axioms.specs.Growth.{DeclaresClass};
+ghost use Rattle.axioms.specs.WellFormed.{IsOntology};
 ghost use Rattle.document.specs.Documents.{ReadsAs, subclass_pairs};
 ghost use Rattle.document.specs.Faults.{Refuses};
 ghost use Rattle.document.specs.Answers.{GivesOntology, Grows};
-ghost use Rattle.document.specs.Theorems.{IsOfSubclasses};
-ghost use Rattle.document.specs.declared.fault.DocumentFault.TheVariants as faults;
 ghost use Rattle.fs_parser.specs.View.{trees_of};
-ghost use Rattle.std.specs.Prelude.{◌≡◌, IfErr, IfOk, IsErrOf, Some};
+ghost use Rattle.std.specs.Prelude.{◌≡◌, IfErr, IfOk, ℕ};
 
 use crate::fault::DocumentFault;
 use crate::limits::Limits;
 use crate::statements::{Subclass, read_subclass};
-use axioms::{Axiom, BuildFault, Builder, Kind, Name, Ontology};
+use axioms::{Axiom, BuildFault, Builder, ExprId, Kind, Name, Ontology};
 use device::{ReadFault, Source, read_all};
 use fs_lexer::tokens;
 use fs_parser::{Tree, forms};
@@ -19,15 +18,29 @@ use std::alloc::Global;
 use std::hash::RandomState;
 use std::str;
 
+/// The expression of the class of this name, which is declared where it is new.
+fn declare_class(builder: &mut Builder, iri: &str) -> Result<ExprId, BuildFault>
+    ensures declared { IfOk result (λ e. (c : ℕ) × DeclaresClass builder.old iri.now builder.new c e.0) }
+    ensures before { IsOntology builder.old }
+    ensures after { IsOntology builder.new }
+{
+    let _before = builder.ontology();
+    let name = builder.declare(Kind::Class, iri);
+    let _after = builder.ontology();
+    match name {
+        Ok(Name::Class(_, expression)) => Ok(expression),
+        Ok(Name::Property(_) | Name::Individual(_)) => unreachable!(),
+        Err(fault) => Err(fault),
+    }
+}
+
 /// Declares the two classes and adds the axiom between them.
 fn add_subclass(builder: &mut Builder, subclass: &Subclass) -> Result<(), BuildFault>
     ensures { Grows builder.old builder.new subclass.now result }
 {
-    let sub = builder.declare(Kind::Class, subclass.sub.as_str())?;
-    let superclass = builder.declare(Kind::Class, subclass.superclass.as_str())?;
-    if let (Name::Class(_, sub), Name::Class(_, superclass)) = (sub, superclass) {
-        builder.add_axiom(Axiom::SubClass(sub, superclass))?;
-    }
+    let sub = declare_class(builder, subclass.sub.as_str())?;
+    let superclass = declare_class(builder, subclass.superclass.as_str())?;
+    builder.add_axiom(Axiom::SubClass(sub, superclass))?;
     Ok(())
 }
 

@@ -1,10 +1,11 @@
 //! The statements of a document's trees.
 ghost use Rattle.fs_parser.specs.Tree.{Name};
 ghost use Rattle.std.specs.Option.{IfNone, IfSome};
-ghost use Rattle.std.specs.Prelude.{◌≡◌, List, ℕ};
-ghost use Rattle.document.specs.Documents.{class_pair, is_class_name, is_reserved, subclass_pair};
+ghost use Rattle.std.specs.List.{starts_with};
+ghost use Rattle.std.specs.Prelude.{◌≡◌, List, nat_eq, ℕ};
+ghost use Rattle.document.specs.Documents.{class_pair, is_class_name, is_reserved, subclass_form, subclass_pair};
 ghost use Rattle.document.specs.Answers.{Gives, GivesName};
-ghost use Rattle.fs_parser.specs.View.{iri_of, tree_of};
+ghost use Rattle.fs_parser.specs.View.{iri_of, tree_of, trees_of};
 
 use crate::fault::DocumentFault;
 use fs_parser::{Iri, Tree};
@@ -17,14 +18,21 @@ pub(crate) struct Subclass {
     pub superclass: String,
 }
 
+/// Whether the IRI begins so.
+fn begins_with(iri: &str, front: &[u8]) -> bool
+    ensures { result ≡ starts_with nat_eq iri.now front.now }
+{
+    iri.as_bytes().starts_with(front)
+}
+
 /// Whether the IRI begins with that of a standard prefix.
 fn is_reserved(iri: &str) -> bool
     ensures { result ≡ is_reserved iri.now }
 {
-    iri.starts_with("http://www.w3.org/1999/02/22-rdf-syntax-ns#")
-        || iri.starts_with("http://www.w3.org/2000/01/rdf-schema#")
-        || iri.starts_with("http://www.w3.org/2001/XMLSchema#")
-        || iri.starts_with("http://www.w3.org/2002/07/owl#")
+    begins_with(iri, b"http://www.w3.org/1999/02/22-rdf-syntax-ns#")
+        || begins_with(iri, b"http://www.w3.org/2000/01/rdf-schema#")
+        || begins_with(iri, b"http://www.w3.org/2001/XMLSchema#")
+        || begins_with(iri, b"http://www.w3.org/2002/07/owl#")
 }
 
 /// Whether a class may have this IRI.
@@ -93,15 +101,30 @@ fn operands(
     Ok(Subclass { sub, superclass })
 }
 
+/// The classes of a subclass axiom with this keyword, which stands at the place, and these operands.
+fn read_form(
+    alloc: Global,
+    at: usize,
+    keyword: &str,
+    trees: &[Tree<'_>],
+) -> Result<Subclass, DocumentFault>
+    ensures { Gives result (subclass_form keyword.now (trees_of trees.now)) }
+{
+    if keyword != "SubClassOf" {
+        return Err(DocumentFault::WrongShape { at });
+    }
+    if trees.len() != 2 {
+        return Err(DocumentFault::WrongShape { at });
+    }
+    operands(alloc, at, &trees[0], &trees[1])
+}
+
 /// The classes of the subclass axiom that the tree is.
 pub(crate) fn read_subclass(alloc: Global, tree: &Tree<'_>) -> Result<Subclass, DocumentFault>
     ensures { Gives result (subclass_pair (tree_of tree.now)) }
 {
     match tree {
-        Tree::Form { at, keyword, trees } => match trees.as_slice() {
-            [sub, superclass] if *keyword == "SubClassOf" => operands(alloc, *at, sub, superclass),
-            _ => Err(DocumentFault::WrongShape { at: *at }),
-        },
+        Tree::Form { at, keyword, trees } => read_form(alloc, *at, keyword, trees),
         _ => Err(DocumentFault::WrongShape { at: place(tree) }),
     }
 }

@@ -1,0 +1,20 @@
+-- Declared classes are among the expressions.
+use Rattle.std.proofs.Common.{◌≡◌, ℕ, ◌+◌, ◌<◌, ◌≤◌, inl, inr, List, [], ◌∷◌, ◌++◌, length, Some, refl, sym, ap, ◌∙◌, arith, length-append}
+use Rattle.std.proofs.lemmas.Option.{slice_get_within}
+use Rattle.axioms.specs.Expression.{Iri}
+use Rattle.axioms.specs.Growth.{DeclaresClass}
+use Rattle.axioms.specs.Numbered.{Ontology, Class}
+
+pub within : (o p : Ontology) (iri : Iri) (c e : ℕ) → DeclaresClass o iri p c e → e < length p.nodes
+within o p iri c e declares =
+    elim declares.node [
+      | inl m ↦ let lt : e < length o.nodes = slice_get_within o.nodes e (Class c) m.0 in let same : length p.nodes ≡ length o.nodes = ap length m.1 in omega arith
+      | inr m ↦ let longer : length p.nodes ≡ length o.nodes + 1 = ap length m.2 ∙ length-append o.nodes (Class c ∷ []) in omega (arith, m.1)
+    ]
+
+pub still : (o p : Ontology) (iri : Iri) (c e : ℕ) → DeclaresClass o iri p c e → length o.nodes ≤ length p.nodes
+still o p iri c e declares =
+    elim declares.node [
+      | inl m ↦ let same : length p.nodes ≡ length o.nodes = ap length m.1 in omega arith
+      | inr m ↦ let longer : length p.nodes ≡ length o.nodes + 1 = ap length m.2 ∙ length-append o.nodes (Class c ∷ []) in omega arith
+    ]
