@@ -2,5 +2,7 @@
 #![tactic(auto)]
 
 mod row;
+mod theory;
 
 pub use row::Row;
+pub use theory::extensions_and_names;

@@ -1,0 +1,10 @@
+//! What extensions are determined by.
+ghost use Rattle.interpretation_spec.specs.Agreement.{AgreeingHoldSame, AgreeingSatisfySame};
+ghost use Rattle.interpretation_spec.specs.Membership.{MembershipIsDecided};
+
+/// Extensions are decided, and depend on what is said of the names of the ontology alone.
+pub fn extensions_and_names()
+    ensures decided { MembershipIsDecided }
+    ensures hold { AgreeingHoldSame }
+    ensures satisfy { AgreeingSatisfySame }
+{}
