@@ -1,0 +1,1 @@
+//! Fakes, and whole texts through them.

@@ -1,0 +1,80 @@
+//! Tokens, and why a text spells none.
+
+ghost use Rattle.std.specs.Prelude.{◌≡◌};
+ghost use Rattle.fs_lexer.specs.declared.token.LexFault.TheVariants.{Memory};
+
+use std::alloc::{AllocError, AllocFailed};
+use thiserror::Error;
+
+/// The kinds of tokens of the functional-style syntax.
+#[derive(Clone, Copy, Debug, PartialEq, Eq)]
+pub enum Kind {
+    /// `(`
+    Opening,
+    /// `)`
+    Closing,
+    /// `=`
+    Equals,
+    /// `^^`
+    Carets,
+    /// `<http://www.w3.org/2002/07/owl#Thing>`
+    FullIri,
+    /// `"text"`
+    Quoted,
+    /// `@en-GB`
+    LanguageTag,
+    /// `SubClassOf`
+    Keyword,
+    /// `64`
+    Integer,
+    /// `owl:`
+    PrefixName,
+    /// `owl:Thing`
+    ShortName,
+    /// `_:node`
+    NodeLabel,
+}
+
+/// A token: its text as it stands in the source, and the byte at which it begins.
+#[derive(Clone, Copy, Debug)]
+pub struct Token<'a> {
+    pub kind: Kind,
+    pub text: &'a str,
+    pub at: usize,
+}
+
+/// Why a text spells no tokens, with the byte at which reading stopped. All that stands before it reads well.
+#[derive(Clone, Copy, Debug, PartialEq, Eq, Error)]
+pub enum LexFault {
+    /// The character begins no token and no separator.
+    #[error("X1 at byte {at}")]
+    BadByte { at: usize },
+    /// No quoted string begins at this quote.
+    #[error("X2 at byte {at}")]
+    OpenString { at: usize },
+    /// No full IRI begins at this `<`.
+    #[error("X3 at byte {at}")]
+    OpenIri { at: usize },
+    /// The run of word characters that begins here is not one word.
+    #[error("X4 at byte {at}")]
+    WordsTouch { at: usize },
+    /// There was no memory for the tokens.
+    #[error("out of memory")]
+    Memory,
+}
+
+impl From<AllocError> for LexFault {
+    ghost from_gives = { λ _ e. e ≡ Memory };
+
+    fn from(_e: AllocError) -> LexFault {
+        LexFault::Memory
+    }
+}
+
+impl<T: Drop> From<AllocFailed<T>> for LexFault {
+    ghost from_gives = { λ _ e. e ≡ Memory };
+
+    fn from(_e: AllocFailed<T>) -> LexFault {
+        LexFault::Memory
+    }
+}
