@@ -1,0 +1,6 @@
+pub mod Lines
+pub mod View
+pub mod Derivation
+pub mod Acceptable
+pub mod Soundness
+pub mod Examples

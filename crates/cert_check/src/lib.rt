@@ -1,0 +1,8 @@
+//! The checker of certificates: whether a certificate shows that a taxonomy and instances are right.
+#![tactic(auto)]
+
+mod operands;
+mod rules;
+mod theory;
+
+pub use theory::{soundness, worked_certificates};
