@@ -7,3 +7,4 @@ pub mod Theorems
 pub mod Examples
 pub mod View
 pub mod Kept
+pub mod Growth

@@ -1,13 +1,17 @@
 //! Names, class expressions and axioms of an ontology, by number.
 #![tactic(auto)]
 
+mod builder;
 mod fault;
+mod growth;
 mod ids;
 mod ontology;
 mod terms;
 mod theory;
 
+pub use builder::Builder;
 pub use fault::{BuildFault, Memory};
+pub use growth::{MOST_NAMES, OWL_NOTHING, OWL_THING};
 pub use ids::{ClassId, ExprId, IndId, PropId};
 pub use ontology::Ontology;
 pub use terms::{Axiom, Expr, Kind, Name};

@@ -1,8 +1,13 @@
 //! Finite interpretations of an ontology, and sets of their elements.
 #![tactic(auto)]
 
+mod fault;
+mod interpretation;
+mod pairs;
 mod row;
 mod theory;
 
+pub use fault::InterpretationFault;
+pub use interpretation::Interpretation;
 pub use row::Row;
 pub use theory::extensions_and_names;

@@ -2,7 +2,8 @@
 ghost use Rattle.interpretation_spec.specs.Row.{has};
 ghost use Rattle.std.specs.Prelude.{◌&&◌, ◌<◌, ◌||◌, ◌↔◌, ◌≡◌, IfOk, IsTrue, count_by, false, length, not, replicate, slice_set, true, ℕ};
 
-use std::alloc::{AllocError, Global};
+use axioms::Memory;
+use std::alloc::Global;
 use std::marker::Model;
 
 /// A set of numbers below `n`.
@@ -21,7 +22,7 @@ impl Model for Row {
 
 impl Row {
     /// The empty set of numbers below `n`.
-    pub fn new(alloc: Global, n: usize) -> Result<Row, AllocError>
+    pub fn new(alloc: Global, n: usize) -> Result<Row, Memory>
         ensures { IfOk result (λ r. r ≡ replicate n false) }
     {
         Ok(Row {
@@ -29,8 +30,17 @@ impl Row {
         })
     }
 
+    /// All numbers below `n`.
+    pub fn full(alloc: Global, n: usize) -> Result<Row, Memory>
+        ensures { IfOk result (λ r. r ≡ replicate n true) }
+    {
+        Ok(Row {
+            bits: vec![in alloc; true; n]?,
+        })
+    }
+
     /// The same set.
-    pub fn copy(&self, alloc: Global) -> Result<Row, AllocError>
+    pub fn copy(&self, alloc: Global) -> Result<Row, Memory>
         ensures { IfOk result (λ r. r ≡ self.now) }
     {
         Ok(Row {

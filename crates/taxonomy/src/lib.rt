@@ -1,6 +1,17 @@
 //! The taxonomy of the named classes of an ontology, and the texts that tell it.
 #![tactic(auto)]
 
+mod groups;
+mod instances_text;
+mod names;
+mod order;
+mod outcome;
+mod reduction;
+mod taxonomy_text;
 mod theory;
+mod write;
 
+pub use outcome::{Outcome, instances_bytes, taxonomy_bytes};
+pub use reduction::{Relation, Taxonomy, reduce};
 pub use theory::texts_of_relations;
+pub use write::{WriteFault, write_instances, write_taxonomy};

@@ -1,0 +1,98 @@
+-- The fields of an ontology, by the ontology that they stand for.
+use Rattle.std.proofs.Common.{◌≡◌, ℕ, zero, suc, inl, inr, ◌++◌, ◌∷◌, [], List, length, map, slice_get, Some, Contains, string_bytes, refl, sym, ap, ◌∙◌, subst, arith}
+use Rattle.std.proofs.lemmas.List.{length-map}
+use Rattle.std.proofs.lemmas.Option.{none-some, same_Some}
+use Rattle.axioms.specs.Expression.{owl_thing, owl_nothing}
+use Rattle.axioms.specs.Growth.{DeclaresClass, Numbers, empty_ontology, with_class}
+use Rattle.axioms.specs.Kept.{kept_ontology, IsKept}
+use Rattle.axioms.specs.Numbered.{Ontology, Node, Axiom, Class, IsClassAt}
+use Rattle.axioms.specs.View.{node_of, axiom_of}
+use Rattle.axioms.specs.WellFormed.{IsOntology}
+use Rattle.axioms.specs.declared.ids.ExprId.{ExprId}
+use Rattle.axioms.specs.declared.ontology.Ontology.TheInside.{Inside}
+use Rattle.axioms.proofs.Growing.{length_push, new_class_node}
+use Rattle.axioms.proofs.Lists.{slice_get_push, slice_get_push_cases, keeps_push, Contains-from_slice_get}
+use Rattle.axioms.proofs.TwoClasses.{empty_is_ontology}
+
+-- a table of classes has the expression of each
+abbrev pub IsTable : Ontology → List ExprId → Type 0
+IsTable o table = (length table ≡ length o.names.classes) × ((c : ℕ) (e : ExprId) → slice_get table c ≡ Some e → IsClassAt o c e.0)
+
+pub kept_as : (inside : Inside) (o : Ontology) → kept_ontology inside ≡ o → IsOntology o → IsTable o inside.class_expressions.items → IsKept inside
+kept_as inside o is whole table = record {
+  ontology = subst IsOntology (sym is) whole;
+  long = table.0 ∙ ap (λ p. length p.names.classes) (sym is) ∙ length-map inside.classes.keys _;
+  each = λ c e g. subst (λ p. IsClassAt p c e.0) (sym is) (table.1 c e g);
+}
+
+pub table_of : (inside : Inside) → IsKept inside → IsTable (kept_ontology inside) inside.class_expressions.items
+table_of inside kept = (kept.long ∙ sym (length-map inside.classes.keys _), kept.each)
+
+-- the table of the two classes of the standard
+pub empty_table : (table : List ExprId) → table ≡ record { 0 = 0 } ∷ record { 0 = 1 } ∷ [] → IsTable empty_ontology table
+empty_table table is = subst (IsTable empty_ontology) (sym is) (refl, place)
+  where
+    place : (c : ℕ) (e : ExprId) → slice_get (record { 0 = 0 } ∷ record { 0 = 1 } ∷ []) c ≡ Some e → IsClassAt empty_ontology c e.0
+    place zero e g = ap (λ (x : ExprId). slice_get empty_ontology.nodes x.0) (sym (same_Some _ e g))
+    place (suc zero) e g = ap (λ (x : ExprId). slice_get empty_ontology.nodes x.0) (sym (same_Some _ e g))
+    place (suc (suc c)) e g = absurd (none-some e g)
+
+-- a table grows with the classes
+pub grown_table : (o : Ontology) (iri : List ℕ) (table : List ExprId) (e : ExprId) → IsTable o table → e.0 ≡ length o.nodes → IsTable (with_class o iri) (table ++ e ∷ [])
+grown_table o iri table e old at = (omega (arith, length_push table e, length_push o.names.classes iri, old.0), place)
+  where
+    last : (c : ℕ) (f : ExprId) → c ≡ length table → e ≡ f → IsClassAt (with_class o iri) c f.0
+    last c f is same =
+        let n : ℕ = length o.names.classes in
+        let e-is : f.0 ≡ length o.nodes = ap (λ (x : ExprId). x.0) (sym same) ∙ at in
+        ap (slice_get (o.nodes ++ Class n ∷ [])) e-is ∙ slice_get_push o.nodes (Class n) ∙ ap (λ k. Some (Class k)) (sym (is ∙ old.0))
+
+    place : (c : ℕ) (f : ExprId) → slice_get (table ++ e ∷ []) c ≡ Some f → IsClassAt (with_class o iri) c f.0
+    place c f g =
+        elim (slice_get_push_cases table e c f g) [
+          | inl h ↦ keeps_push o.nodes (Class (length o.names.classes)) f.0 (Class c) (old.1 c f h)
+          | inr h ↦ last c f h.0 h.1
+        ]
+
+-- the fields of the ontology of no statements
+pub empty_kept : (inside : Inside) → map string_bytes inside.classes.keys ≡ owl_thing ∷ owl_nothing ∷ [] → inside.properties.keys ≡ [] → inside.individuals.keys ≡ []
+    → map node_of inside.expressions.keys ≡ Class 0 ∷ Class 1 ∷ [] → inside.axioms.items ≡ [] → inside.class_expressions.items ≡ record { 0 = 0 } ∷ record { 0 = 1 } ∷ [] → IsKept inside
+empty_kept inside classes properties individuals nodes axioms table =
+    kept_as inside empty_ontology (same_ontology _ _ _ _ _ classes (ap (map string_bytes) properties) (ap (map string_bytes) individuals) nodes (ap (map axiom_of) axioms)) empty_is_ontology (empty_table _ table)
+  where
+    same_ontology : (cs ps is : List (List ℕ)) (ns : List Node) (as' : List Axiom) → cs ≡ owl_thing ∷ owl_nothing ∷ [] → ps ≡ [] → is ≡ [] → ns ≡ Class 0 ∷ Class 1 ∷ [] → as' ≡ []
+        → ◌≡◌ {A = Ontology} (record { names = record { classes = cs; properties = ps; individuals = is }; nodes = ns; axioms = as' }) empty_ontology
+    same_ontology cs ps is ns as' e f g h i =
+        rw (e, f, g, h, i)
+
+-- a name that was not there has the next number
+pub next_number : {X : Type 0} (old : List X) (x : X) (new : List X) (n : ℕ) → Numbers old x new n → (Contains old x → ⊥) → (n ≡ length old) × (new ≡ old ++ x ∷ [])
+next_number old x new n (inl (at, same)) absent = absurd (absent (Contains-from_slice_get old n x at))
+next_number old x new n (inr (apart, at, longer)) absent = (at, longer)
+
+-- a class that was not there, and its expression
+pub class_grown : (o : Ontology) → IsOntology o → (iri : List ℕ) → (Contains o.names.classes iri → ⊥) → (classes : List (List ℕ)) (nodes : List Node) (n place : ℕ)
+    → Numbers o.names.classes iri classes n → Numbers o.nodes (Class n) nodes place
+    → (n ≡ length o.names.classes) × (place ≡ length o.nodes) × (record o { names = record o.names { classes = classes }; nodes = nodes } ≡ with_class o iri)
+class_grown o whole iri absent classes nodes n place named stated =
+    let a = next_number o.names.classes iri classes n named absent in
+    let fresh : Contains o.nodes (Class n) → ⊥ = λ there. new_class_node o whole (subst (λ m. Contains o.nodes (Class m)) a.0 there) in
+    let b = next_number o.nodes (Class n) nodes place stated fresh in
+    (a.0, b.0, same_parts classes nodes a.1 (b.1 ∙ ap (λ m. o.nodes ++ Class m ∷ []) a.0))
+  where
+    same_parts : (cs : List (List ℕ)) (ns : List Node) → cs ≡ o.names.classes ++ iri ∷ [] → ns ≡ o.nodes ++ Class (length o.names.classes) ∷ []
+        → ◌≡◌ {A = Ontology} (record o { names = record o.names { classes = cs }; nodes = ns }) (with_class o iri)
+    same_parts cs ns e f = rw (e, f)
+
+-- what a declaration of a class says where the name is there ..
+pub declares_present : (o : Ontology) (iri : List ℕ) (class place : ℕ) → slice_get o.names.classes class ≡ Some iri → IsClassAt o class place → DeclaresClass o iri o class place
+declares_present o iri class place named at = record { name = inl (named, refl); node = inl (at, refl); others = refl }
+
+-- .. and where it is new
+pub declares_new : (o : Ontology) → IsOntology o → (iri : List ℕ) → (Contains o.names.classes iri → ⊥) → (new : Ontology) (class place : ℕ)
+    → class ≡ length o.names.classes → place ≡ length o.nodes → new ≡ with_class o iri → DeclaresClass o iri new class place
+declares_new o whole iri absent new class place class-is place-is is = subst (λ p. DeclaresClass o iri p class place) (sym is) (record {
+  name = inr (absent, class-is, refl);
+  node = inr (λ there. new_class_node o whole (subst (λ m. Contains o.nodes (Class m)) class-is there), place-is, ap (λ m. o.nodes ++ Class m ∷ []) (sym class-is));
+  others = refl;
+})

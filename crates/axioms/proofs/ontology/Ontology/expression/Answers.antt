@@ -1,0 +1,26 @@
+use Rattle.std.proofs.Common.{length, map, sym, subst}
+use Rattle.axioms.specs.Growth.{Numbers}
+use Rattle.axioms.specs.Kept.{kept_ontology}
+use Rattle.axioms.specs.View.{node_of}
+use Rattle.axioms.specs.WellFormed.{IsNodeOf}
+use Rattle.axioms.specs.contracts.terms.ExprPartialEq.TheImpl.{ghosts}
+use Rattle.axioms.proofs.Growing.{grown_node, keeps_numbers}
+use Rattle.axioms.proofs.Insertions.{inserted, same_expr}
+use Rattle.axioms.proofs.ontology.Ontology.expression.Goals as goal
+use Rattle.axioms.proofs.ontology.Ontology.expression.Goals.{In_ok-number}
+
+numbers : (c : In_ok-number) → Numbers (map node_of c.self.inside.expressions.keys) (node_of c.args.expr) (map node_of c.insert_full.new.self.keys) c.in_ok-number.number
+numbers c = inserted ghosts.eq node_of same_expr c.args.expr c.self.inside.expressions.keys _ c.in_ok-number.number c.in_ok-number.ensures.keys c.in_ok-number.ensures.stored
+
+pub invariant_of-self-2 : goal.invariant_of-self-2
+invariant_of-self-2 c =
+    let o = kept_ontology c.self.inside in
+    let fits = subst (λ p. IsNodeOf p (length p.nodes) (node_of c.args.expr)) (sym c.self.view_is) c.requires in
+    record {
+      ontology = grown_node o c.self.invariant.ontology (node_of c.args.expr) fits _ c.in_ok-number.number (numbers c);
+      long = c.self.invariant.long;
+      each = λ k e g. keeps_numbers o.nodes (node_of c.args.expr) _ c.in_ok-number.number (numbers c) e.0 _ (c.self.invariant.each k e g);
+    }
+
+pub returns-clause-ok : goal.returns-clause-ok
+returns-clause-ok c = rw (← c.self.view_is) (numbers c)

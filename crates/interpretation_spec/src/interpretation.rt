@@ -1,0 +1,159 @@
+//! A finite interpretation of an ontology's names.
+ghost use Rattle.std.specs.Prelude.{◌≡◌, ◌<◌, ◌↔◌, IfOk, IfErr, IsOk, OnOk, OnErr, if◌then◌else◌, nat_lt, ◌==◌, ◌&&◌, length, slice_get, option_map, option_and_then, replicate, true, false, ◌∷◌, ◌-◌};
+ghost use Rattle.interpretation_spec.specs.declared.fault.InterpretationFault.TheVariants as faults;
+ghost use Rattle.interpretation_spec.specs.Numbered.{IsNumberedInterpretation, empty_interpretation, with_individual, with_member, with_pair};
+
+use crate::fault::InterpretationFault;
+use crate::pairs::{put_target, targets_in, without_pairs};
+use crate::row::Row;
+use axioms::{ClassId, IndId, Memory, Ontology, PropId};
+use std::alloc::Global;
+use std::collections::BTreeMap;
+use std::marker::Model;
+
+/// A set of elements for each class of an ontology, a set of pairs of elements for each property, an element for each
+/// individual (OWL 2 Direct Semantics, section 2.2, with a finite domain). The elements are the numbers below `size`.
+#[derive(Drop)]
+pub struct Interpretation {
+    alloc: Global,
+    size: usize,
+    classes: Vec<Row>,
+    // the targets of each source, ascending, by property
+    pairs: Vec<BTreeMap<usize, Vec<usize>>>,
+    individuals: Vec<usize>,
+}
+
+impl Model for Interpretation {
+    ghost use Rattle.interpretation_spec.specs.Numbered.{NumberedInterpretation};
+
+    ghost Value = { NumberedInterpretation };
+
+    ghost use Rattle.interpretation_spec.specs.Numbered.{IsNumberedInterpretation};
+    ghost use Rattle.interpretation_spec.specs.Kept.{kept_interpretation};
+
+    ghost view = { kept_interpretation };
+
+    ghost invariant = { λ i. IsNumberedInterpretation (kept_interpretation i) };
+}
+
+impl Interpretation {
+    /// All properties and all classes but `owl:Thing` are empty, each individual is element 0.
+    pub fn new(
+        alloc: Global,
+        ontology: &Ontology,
+        size: usize,
+    ) -> Result<Interpretation, InterpretationFault>
+        ensures made { IfOk result (λ i. (0 < size) × (i ≡ empty_interpretation ontology.now.names size)) }
+        ensures refused { IfErr result (λ e. e ≡ (if size == 0 then faults.EmptyDomain else faults.Memory)) }
+    {
+        if size == 0 {
+            return Err(InterpretationFault::EmptyDomain);
+        }
+        Ok(Interpretation {
+            alloc,
+            size,
+            classes: empty_classes(alloc, ontology.classes().len(), size)?,
+            pairs: without_pairs(alloc, ontology.properties().len())?,
+            individuals: vec![in alloc; 0; ontology.individuals().len()]?,
+        })
+    }
+
+    /// How many elements there are.
+    pub fn size(&self) -> usize
+        ensures value { result ≡ self.now.size }
+        // Every interpretation is well formed.
+        ensures valid { IsNumberedInterpretation self.now }
+    {
+        self.size
+    }
+
+    /// The elements of the class: all of `owl:Thing`, none of `owl:Nothing`. `None` where there is no such class.
+    pub fn holders(&self, class: ClassId) -> Option<&Row>
+        ensures { option_map (λ row. row.now) result ≡ slice_get self.now.classes class.0 }
+    {
+        self.classes.get(class.0)
+    }
+
+    /// The element of the individual. `None` where there is no such individual.
+    pub fn element(&self, individual: IndId) -> Option<usize>
+        ensures { result ≡ slice_get self.now.individuals individual.0 }
+    {
+        self.individuals.get(individual.0).copied()
+    }
+
+    /// The elements that the property joins `source` to, ascending. `None` where there is no such property or element.
+    pub fn targets(&self, property: PropId, source: usize) -> Option<&[usize]>
+        ensures { option_map (λ targets. targets.now) result
+            ≡ option_and_then (λ sources. slice_get sources source) (slice_get self.now.pairs property.0) }
+    {
+        let pairs = self.pairs.get(property.0)?;
+        if source >= self.size {
+            return None;
+        }
+        Some(targets_in(pairs, source))
+    }
+
+    /// The individual is the element.
+    pub fn put_individual(
+        &mut self,
+        individual: IndId,
+        element: usize,
+    ) -> Result<(), InterpretationFault>
+        ensures taken { IsOk result ↔ ((individual.0 < length self.old.individuals) × (element < self.old.size)) }
+        ensures after { OnOk result (self.new ≡ with_individual self.old individual.0 element) }
+        ensures refused { IfErr result (λ e. (e ≡ faults.OutOfDomain) × (self.new ≡ self.old)) }
+    {
+        if individual.0 >= self.individuals.len() || element >= self.size {
+            return Err(InterpretationFault::OutOfDomain);
+        }
+        self.individuals[individual.0] = element;
+        Ok(())
+    }
+
+    /// The element is in the class.
+    pub fn put_class(&mut self, class: ClassId, element: usize) -> Result<(), InterpretationFault>
+        ensures taken { IsOk result ↔ ((1 < class.0) × (class.0 < length self.old.classes) × (element < self.old.size)) }
+        ensures after { OnOk result (self.new ≡ with_member self.old class.0 element) }
+        ensures refused { IfErr result (λ e. (self.new ≡ self.old) × (e ≡ (if nat_lt class.0 (length self.old.classes) && nat_lt element self.old.size then faults.FixedClass else faults.OutOfDomain))) }
+    {
+        if class.0 >= self.classes.len() || element >= self.size {
+            return Err(InterpretationFault::OutOfDomain);
+        }
+        if class.0 < 2 {
+            return Err(InterpretationFault::FixedClass);
+        }
+        let row = &mut self.classes[class.0];
+        row.put(element);
+        Ok(())
+    }
+
+    /// The property joins `source` to `target`.
+    pub fn put_pair(
+        &mut self,
+        property: PropId,
+        source: usize,
+        target: usize,
+    ) -> Result<(), InterpretationFault>
+        ensures taken { OnOk result ((property.0 < length self.old.pairs) × (source < self.old.size) × (target < self.old.size)) }
+        ensures after { OnOk result (self.new ≡ with_pair self.old property.0 source target) }
+        ensures refused { IfErr result (λ e. (self.new ≡ self.old) × (e ≡ (if nat_lt property.0 (length self.old.pairs) && nat_lt source self.old.size && nat_lt target self.old.size then faults.Memory else faults.OutOfDomain))) }
+    {
+        if property.0 >= self.pairs.len() || source >= self.size || target >= self.size {
+            return Err(InterpretationFault::OutOfDomain);
+        }
+        put_target(self.alloc, &mut self.pairs[property.0], source, target)?;
+        Ok(())
+    }
+}
+
+/// The rows of `count` classes, of which the first is `owl:Thing`.
+fn empty_classes(alloc: Global, count: usize, size: usize) -> Result<Vec<Row>, Memory>
+    ensures { IfOk result (λ rows. rows.items ≡ replicate size true ∷ replicate (count - 1) (replicate size false)) }
+{
+    let mut rows = Vec::new(alloc);
+    rows.push(Row::full(alloc, size)?)?;
+    for _ in 1..count {
+        rows.push(Row::new(alloc, size)?)?;
+    }
+    Ok(rows)
+}

@@ -1,0 +1,60 @@
+//! The pairs of a property, by source.
+ghost use Rattle.std.specs.Prelude.{◌≡◌, ℕ, [], IfOk, OnErr, OnOk, if◌then◌else◌, map, replicate, ◌==◌};
+ghost use Rattle.std.specs.List.Sorted.{IsStrictlyIncreasing};
+ghost use Rattle.interpretation_spec.specs.Kept.{kept_pairs, kept_targets};
+ghost use Rattle.interpretation_spec.specs.Numbered.{with_number};
+
+use std::alloc::{AllocError, Global};
+use std::collections::BTreeMap;
+
+/// For each of `count` properties, no pairs.
+pub(crate) fn without_pairs(
+    alloc: Global,
+    count: usize,
+) -> Result<Vec<BTreeMap<usize, Vec<usize>>>, AllocError>
+    ensures { IfOk result (λ all. (size : ℕ) → map (kept_pairs size) all.items ≡ replicate count (replicate size [])) }
+{
+    let mut all = Vec::new(alloc);
+    for _ in 0..count {
+        all.push(BTreeMap::new(alloc))?;
+    }
+    Ok(all)
+}
+
+/// The targets of the source, ascending.
+pub(crate) fn targets_in(pairs: &BTreeMap<usize, Vec<usize>>, source: usize) -> &[usize]
+    ensures { result.now ≡ kept_targets pairs.now source }
+{
+    match pairs.get(&source) {
+        Some(targets) => targets,
+        None => &[],
+    }
+}
+
+/// Adds the target to those of the source.
+pub(crate) fn put_target(
+    alloc: Global,
+    pairs: &mut BTreeMap<usize, Vec<usize>>,
+    source: usize,
+    target: usize,
+) -> Result<(), AllocError>
+    requires { IsStrictlyIncreasing (kept_targets pairs.old source) }
+    ensures after { OnOk result ((x : ℕ) → kept_targets pairs.new x
+        ≡ (if x == source then with_number target (kept_targets pairs.old source) else kept_targets pairs.old x)) }
+    ensures same { OnErr result ((x : ℕ) → kept_targets pairs.new x ≡ kept_targets pairs.old x) }
+{
+    let targets = pairs.entry(source)?.or_insert(Vec::new(alloc));
+    insert_ascending(targets, target)
+}
+
+/// Adds the number to ascending numbers, where it is not one of them.
+fn insert_ascending(numbers: &mut Vec<usize>, number: usize) -> Result<(), AllocError>
+    requires { IsStrictlyIncreasing numbers.old.items }
+    ensures after { OnOk result (numbers.new.items ≡ with_number number numbers.old.items) }
+    ensures same { OnErr result (numbers.new.items ≡ numbers.old.items) }
+{
+    if let Err(place) = numbers.binary_search(&number) {
+        numbers.insert(place, number)?;
+    }
+    Ok(())
+}

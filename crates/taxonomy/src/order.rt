@@ -1,0 +1,39 @@
+//! Class numbers in the byte order of the names.
+ghost use Rattle.taxonomy.specs.Texts.{in_byte_order, by_name};
+ghost use Rattle.std.specs.List.{All, range_with_len};
+ghost use Rattle.std.specs.List.Sorted.{IsPermutation, IsSortedBy};
+ghost use Rattle.std.specs.Ordering.{is_lt};
+ghost use Rattle.std.specs.Prelude.{◌≡◌, IfOk, map, length};
+ghost use Rattle.std.specs.String.{string_bytes};
+ghost use Rattle.axioms.specs.Numbered.{name_at};
+
+use std::alloc::{AllocError, Global};
+
+/// Each name with its number.
+fn numbered(alloc: Global, names: &[String]) -> Result<Vec<(&str, usize)>, AllocError>
+    ensures { IfOk result
+        (λ v. (map (λ p. p.1) v.items ≡ range_with_len 0 (length names.now))
+        × All (λ p. p.0.now ≡ name_at (map string_bytes names.now) p.1) v.items) }
+{
+    let mut pairs = Vec::new(alloc);
+    for (i, name) in names.iter().enumerate() {
+        pairs.push((name.as_str(), i))?;
+    }
+    Ok(pairs)
+}
+
+/// The numbers of the pairs.
+fn numbers(alloc: Global, pairs: &[(&str, usize)]) -> Result<Vec<usize>, AllocError>
+    ensures { IfOk result (λ v. v.items ≡ map (λ p. p.1) pairs.now) }
+{
+    pairs.iter().map(|p| p.1).collect(alloc)
+}
+
+/// All class numbers, in the byte order of their names.
+pub fn in_byte_order(alloc: Global, names: &[String]) -> Result<Vec<usize>, AllocError>
+    ensures { IfOk result (λ v. v.items ≡ in_byte_order (map string_bytes names.now)) }
+{
+    let mut pairs = numbered(alloc, names)?;
+    pairs.sort()?;
+    numbers(alloc, &pairs)
+}

@@ -1,0 +1,87 @@
+//! The texts, written to a sink.
+ghost use Rattle.device.specs.Device.{AppendsBeginning, HasFailed};
+ghost use Rattle.std.specs.Io.KnownBytes.{Appends, Keeps};
+ghost use Rattle.std.specs.Prelude.{◌≡◌, ◌≤◌, IsErrOf, OnOk};
+ghost use Rattle.taxonomy.specs.Outcome.{IsMadeFor, instances_of, taxonomy_of};
+
+use crate::outcome::{Outcome, instances_bytes, taxonomy_bytes};
+use axioms::{Memory, Ontology};
+use device::{Failed, Sink, write_all};
+use std::alloc::Global;
+
+/// Why a text was not written whole.
+#[derive(Clone, Copy, Debug, PartialEq, Eq)]
+pub enum WriteFault {
+    /// The sink failed.
+    Io,
+    /// Memory was refused.
+    Memory,
+}
+
+impl From<Memory> for WriteFault {
+    ghost use Rattle.std.specs.Prelude.{◌≡◌};
+    ghost use Rattle.taxonomy.specs.declared.write.WriteFault.TheVariants as faults;
+
+    ghost from_gives = { λ _ e. e ≡ faults.Memory };
+
+    fn from(_error: Memory) -> WriteFault {
+        WriteFault::Memory
+    }
+}
+
+impl From<Failed> for WriteFault {
+    ghost use Rattle.std.specs.Prelude.{◌≡◌};
+    ghost use Rattle.taxonomy.specs.declared.write.WriteFault.TheVariants as faults;
+
+    ghost from_gives = { λ _ e. e ≡ faults.Io };
+
+    fn from(_error: Failed) -> WriteFault {
+        WriteFault::Io
+    }
+}
+
+/// Writes the taxonomy text.
+///
+/// `Io` comes only where the sink failed in this call, and after `Memory` it has taken nothing. After either the sink
+/// has taken a beginning of the text.
+pub fn write_taxonomy<S: Sink>(
+    alloc: Global,
+    ontology: &Ontology,
+    outcome: &Outcome,
+    sink: &mut S,
+) -> Result<(), WriteFault>
+    requires { IsMadeFor ontology.now outcome.now }
+    ensures ok { OnOk result (Appends (S.taken sink.old) (S.taken sink.new) (taxonomy_of ontology.now outcome.now)) }
+    ensures begun { AppendsBeginning (S.taken sink.old) (S.taken sink.new) (taxonomy_of ontology.now outcome.now) }
+    ensures io { IsErrOf result WriteFault.Io → HasFailed (S.failures sink.old) (S.failures sink.new) }
+    ensures untouched { IsErrOf result WriteFault.Memory → Keeps (S.taken sink.old) (S.taken sink.new) }
+    ensures unfailed { OnOk result (S.failures sink.new ≡ S.failures sink.old) }
+    ensures count { S.failures sink.old ≤ S.failures sink.new }
+{
+    let text = taxonomy_bytes(alloc, ontology, outcome)?;
+    write_all(sink, &text)?;
+    Ok(())
+}
+
+/// Writes the instances text.
+///
+/// `Io` comes only where the sink failed in this call, and after `Memory` it has taken nothing. After either the sink
+/// has taken a beginning of the text.
+pub fn write_instances<S: Sink>(
+    alloc: Global,
+    ontology: &Ontology,
+    outcome: &Outcome,
+    sink: &mut S,
+) -> Result<(), WriteFault>
+    requires { IsMadeFor ontology.now outcome.now }
+    ensures ok { OnOk result (Appends (S.taken sink.old) (S.taken sink.new) (instances_of ontology.now outcome.now)) }
+    ensures begun { AppendsBeginning (S.taken sink.old) (S.taken sink.new) (instances_of ontology.now outcome.now) }
+    ensures io { IsErrOf result WriteFault.Io → HasFailed (S.failures sink.old) (S.failures sink.new) }
+    ensures untouched { IsErrOf result WriteFault.Memory → Keeps (S.taken sink.old) (S.taken sink.new) }
+    ensures unfailed { OnOk result (S.failures sink.new ≡ S.failures sink.old) }
+    ensures count { S.failures sink.old ≤ S.failures sink.new }
+{
+    let text = instances_bytes(alloc, ontology, outcome)?;
+    write_all(sink, &text)?;
+    Ok(())
+}
