@@ -1,6 +1,7 @@
 pub mod Lines
 pub mod View
 pub mod Derivation
+pub mod Faults
 pub mod Acceptable
 pub mod Soundness
 pub mod Examples
