@@ -1,5 +1,5 @@
 -- Ontologies of subclass axioms between named classes.
-use Rattle.std.specs.Prelude.{◌≡◌, ℕ, List, slice_get, Some, []}
+use Rattle.std.specs.Prelude.{◌≡◌, ℕ, slice_get, Some, []}
 use Rattle.std.specs.List.{All}
 use Rattle.axioms.specs.Numbered.{Ontology, Axiom, Node, Class, SubClass}
 

@@ -1,1 +1,5 @@
 pub mod Hierarchy
+pub mod Superclasses
+pub mod Contexts
+pub mod Search
+pub mod Index

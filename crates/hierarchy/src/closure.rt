@@ -1,12 +1,15 @@
 //! The superclasses of all named classes.
-ghost use Rattle.std.specs.Prelude.{◌≡◌, ◌≤◌, IfOk, length, vec_len};
+ghost use Rattle.std.specs.Prelude.{◌≡◌, ◌≤◌, Err, IfOk, sum_by, vec_len};
+ghost use Rattle.hierarchy.specs.Contexts.{AreSuperclasses};
 ghost use Rattle.hierarchy.specs.Hierarchy.{IsHierarchy};
+ghost use Rattle.hierarchy.specs.declared.closure.Stop.TheVariants as stops;
+ghost use Rattle.hierarchy.specs.Superclasses.{HasFacts, HasMoreFactsThan};
 
 use crate::context::{Found, Superclass, superclasses};
 use crate::told::told_superclasses;
 use axioms::{ExprId, Memory, Ontology};
 use interpretation_spec::Row;
-use std::alloc::{AllocError, AllocFailed, Global};
+use std::alloc::{AllocFailed, Global};
 
 /// Why the superclasses were not all found.
 #[derive(Clone, Copy, Debug, PartialEq, Eq)]
@@ -17,12 +20,16 @@ pub enum Stop {
 }
 
 impl From<Memory> for Stop {
+    ghost from_gives = { λ _ e. e ≡ stops.Memory };
+
     fn from(_error: Memory) -> Stop {
         Stop::Memory
     }
 }
 
 impl<T: Drop> From<AllocFailed<T>> for Stop {
+    ghost from_gives = { λ _ e. e ≡ stops.Memory };
+
     fn from(_error: AllocFailed<T>) -> Stop {
         Stop::Memory
     }
@@ -40,6 +47,11 @@ pub struct Hierarchy {
 /// All superclasses of all classes, at most `max_facts` in all.
 pub fn close(alloc: Global, ontology: &Ontology, max_facts: u64) -> Result<Hierarchy, Stop>
     requires { IsHierarchy ontology.now }
+    ensures superclasses { IfOk result (λ h. AreSuperclasses ontology.now h) }
+    ensures sum { IfOk result (λ h. h.facts ≡ sum_by vec_len h.contexts.items) }
+    ensures count { IfOk result (λ h. HasFacts ontology.now h.facts) }
+    ensures within { IfOk result (λ h. h.facts ≤ max_facts) }
+    ensures limit { result ≡ Err Stop.Limit → HasMoreFactsThan ontology.now max_facts }
 {
     let told = told_superclasses(alloc, ontology)?;
     let mut hierarchy = Hierarchy {

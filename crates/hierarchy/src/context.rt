@@ -1,7 +1,9 @@
 //! The superclasses of one class.
-ghost use Rattle.std.specs.Prelude.{◌≡◌, ◌<◌, IfOk, OnOk, length, vec_len};
+ghost use Rattle.std.specs.Prelude.{◌≡◌, ◌<◌, IfOk, OnOk, length, map};
+ghost use Rattle.hierarchy.specs.Index.{pair_of};
+ghost use Rattle.hierarchy.specs.Search.{IsBounded, IsSearched, search_of, with_class, with_stated};
 
-use crate::told::Told;
+use crate::told::{Index, Told};
 use axioms::{ExprId, Memory};
 use interpretation_spec::Row;
 use std::alloc::Global;
@@ -32,48 +34,59 @@ pub(crate) struct Found {
 }
 
 impl Found {
-    /// Adds a class, unless it is there.
-    fn add(&mut self, class: ExprId, reason: Reason) -> Result<(), Memory> {
-        if !self.set.contains(class.0) {
-            self.list.push(Superclass { class, reason })?;
-            self.set.put(class.0);
+    /// Adds a superclass, unless its class is there.
+    fn add(&mut self, superclass: Superclass) -> Result<(), Memory>
+        ensures { OnOk result (search_of self.new ≡ with_class (search_of self.old) superclass) }
+    {
+        if !self.set.contains(superclass.class.0) {
+            self.list.push(superclass)?;
+            self.set.put(superclass.class.0);
         }
         Ok(())
     }
 
-    /// Adds what axioms state of the class at the place.
-    fn follow(&mut self, told: &[Told], from: usize) -> Result<(), Memory> {
+    /// Adds what axioms state of the class at the place `from`.
+    fn follow(&mut self, told: &[Told], from: usize) -> Result<(), Memory>
+        ensures { OnOk result (search_of self.new ≡ with_stated from (search_of self.old) (map pair_of told.now)) }
+    {
         for step in told {
             let reason = Reason::Axiom {
                 number: step.axiom,
                 from,
             };
-            self.add(step.superclass, reason)?;
+            self.add(Superclass {
+                class: step.superclass,
+                reason,
+            })?;
         }
         Ok(())
     }
 }
 
 /// The superclasses of the class: itself, `owl:Thing`, and what axioms put above them.
-pub(crate) fn superclasses(
-    alloc: Global,
-    told: &[Vec<Told>],
-    class: ExprId,
-) -> Result<Found, Memory> {
+pub(crate) fn superclasses(alloc: Global, told: &Index, class: ExprId) -> Result<Found, Memory>
+    requires bounded { IsBounded told.now }
+    requires within { class.0 < length told.now }
+    ensures { IfOk result (λ f. IsSearched told.now class.0 (search_of f)) }
+{
     let mut found = Found {
         list: Vec::new(alloc),
         set: Row::new(alloc, told.len())?,
     };
-    found.add(class, Reason::Itself)?;
-    found.add(ExprId(0), Reason::Thing)?;
+    found.add(Superclass {
+        class,
+        reason: Reason::Itself,
+    })?;
+    found.add(Superclass {
+        class: ExprId(0),
+        reason: Reason::Thing,
+    })?;
     for next in 0..told.len() {
         if next >= found.list.len() {
             return Ok(found);
         }
-        let step = found.list[next].class.0;
-        if step < told.len() {
-            found.follow(&told[step], next)?;
-        }
+        let step = found.list[next].class;
+        found.follow(told.of(step), next)?;
     }
     Ok(found)
 }

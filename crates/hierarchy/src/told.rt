@@ -1,10 +1,12 @@
 //! Subclass axioms by the class on their left.
-ghost use Rattle.std.specs.Prelude.{◌≡◌, IfOk, List, ℕ, length, vec_len};
-ghost use Rattle.axioms.specs.Numbered as numbered;
+ghost use Rattle.std.specs.Prelude.{◌≡◌, ◌<◌, IfOk, OnOk, [], ◌∷◌, ◌++◌, length, map, replicate, slice_set, slice_index_or};
 ghost use Rattle.hierarchy.specs.Hierarchy.{IsHierarchy};
+ghost use Rattle.hierarchy.specs.Index.{pair_of};
+ghost use Rattle.hierarchy.specs.Search.{IsIndexOf, stated_of};
 
 use axioms::{Axiom, ExprId, Memory, Ontology};
 use std::alloc::Global;
+use std::marker::Model;
 
 /// A superclass that an axiom states.
 #[derive(Clone, Copy, Debug)]
@@ -14,32 +16,75 @@ pub(crate) struct Told {
     pub superclass: ExprId,
 }
 
-/// An empty list for each class.
-fn empty_lists(alloc: Global, classes: usize) -> Result<Vec<Vec<Told>>, Memory> {
-    let mut lists = Vec::new(alloc);
-    for _class in 0..classes {
-        lists.push(Vec::new(alloc))?;
+/// What axioms state of each class, by its number.
+#[derive(Drop)]
+pub(crate) struct Index {
+    lists: Vec<Vec<Told>>,
+}
+
+impl Model for Index {
+    ghost use Rattle.std.specs.Prelude.{ℕ, List};
+
+    ghost Value = { List (List (ℕ × ℕ)) };
+
+    ghost use Rattle.hierarchy.specs.Index.{index_of};
+
+    ghost view = { index_of };
+}
+
+impl Index {
+    /// An empty list for each class.
+    fn new(alloc: Global, classes: usize) -> Result<Index, Memory>
+        ensures { IfOk result (λ t. t ≡ replicate classes []) }
+    {
+        let mut lists = Vec::new(alloc);
+        for _class in 0..classes {
+            lists.push(Vec::new(alloc))?;
+        }
+        Ok(Index { lists })
     }
-    Ok(lists)
+
+    /// Adds what an axiom states of the class.
+    fn add(&mut self, class: ExprId, told: Told) -> Result<(), Memory>
+        requires { class.0 < length self.old }
+        ensures { OnOk result (self.new ≡ slice_set self.old class.0 (stated_of self.old class.0 ++ pair_of told ∷ [])) }
+    {
+        self.lists[class.0].push(told)?;
+        Ok(())
+    }
+
+    /// How many classes there are.
+    pub fn len(&self) -> usize
+        ensures { result ≡ length self.now }
+    {
+        self.lists.len()
+    }
+
+    /// What axioms state of the class.
+    pub fn of(&self, class: ExprId) -> &[Told]
+        requires { class.0 < length self.now }
+        ensures { map pair_of result.now ≡ stated_of self.now class.0 }
+    {
+        &self.lists[class.0]
+    }
 }
 
 /// The superclasses that axioms state of each class.
-pub(crate) fn told_superclasses(
-    alloc: Global,
-    ontology: &Ontology,
-) -> Result<Vec<Vec<Told>>, Memory>
+pub(crate) fn told_superclasses(alloc: Global, ontology: &Ontology) -> Result<Index, Memory>
     requires { IsHierarchy ontology.now }
+    ensures { IfOk result (λ t. IsIndexOf ontology.now (length ontology.now.axioms) t) }
 {
-    let mut lists = empty_lists(alloc, ontology.expression_count())?;
+    let mut index = Index::new(alloc, ontology.expression_count())?;
+    // Each look-up says that the ontology is well formed.
+    let _thing = ontology.expr(ExprId(0));
     for (place, axiom) in ontology.axioms().iter().enumerate() {
         if let Axiom::SubClass(sub, superclass) = axiom {
-            if sub.0 < lists.len() {
-                lists[sub.0].push(Told {
-                    axiom: place + 1,
-                    superclass: *superclass,
-                })?;
-            }
+            let told = Told {
+                axiom: place + 1,
+                superclass: *superclass,
+            };
+            index.add(*sub, told)?;
         }
     }
-    Ok(lists)
+    Ok(index)
 }

@@ -15,12 +15,12 @@ use std::marker::Model;
 /// individual (OWL 2 Direct Semantics, section 2.2, with a finite domain). The elements are the numbers below `size`.
 #[derive(Drop)]
 pub struct Interpretation {
-    alloc: Global,
-    size: usize,
-    classes: Vec<Row>,
+    pub(crate) alloc: Global,
+    pub(crate) size: usize,
+    pub(crate) classes: Vec<Row>,
     // the targets of each source, ascending, by property
-    pairs: Vec<BTreeMap<usize, Vec<usize>>>,
-    individuals: Vec<usize>,
+    pub(crate) pairs: Vec<BTreeMap<usize, Vec<usize>>>,
+    pub(crate) individuals: Vec<usize>,
 }
 
 impl Model for Interpretation {

@@ -1,9 +1,13 @@
 //! The pairs of a property, by source.
-ghost use Rattle.std.specs.Prelude.{◌≡◌, ℕ, [], IfOk, OnErr, OnOk, if◌then◌else◌, map, replicate, ◌==◌};
+ghost use Rattle.std.specs.Prelude.{◌≡◌, ℕ, [], IfOk, OnErr, OnOk, if◌then◌else◌, map, replicate, ◌==◌, ◌<◌, length};
+ghost use Rattle.std.specs.List.{list_any};
 ghost use Rattle.std.specs.List.Sorted.{IsStrictlyIncreasing};
 ghost use Rattle.interpretation_spec.specs.Kept.{kept_pairs, kept_targets};
 ghost use Rattle.interpretation_spec.specs.Numbered.{with_number};
+ghost use Rattle.interpretation_spec.specs.Row.{has};
 
+use crate::row::Row;
+use axioms::Memory;
 use std::alloc::{AllocError, Global};
 use std::collections::BTreeMap;
 
@@ -29,6 +33,34 @@ pub(crate) fn targets_in(pairs: &BTreeMap<usize, Vec<usize>>, source: usize) -> 
         Some(targets) => targets,
         None => &[],
     }
+}
+
+/// Whether the source is joined to one of the fillers.
+fn is_joined(pairs: &BTreeMap<usize, Vec<usize>>, source: usize, fillers: &Row) -> bool
+    ensures { result ≡ list_any (has fillers.now) (kept_targets pairs.now source) }
+{
+    targets_in(pairs, source)
+        .iter()
+        .any(|target| fillers.contains(*target))
+}
+
+/// The elements below `size` that are joined to one of the fillers.
+pub(crate) fn sources_in(
+    alloc: Global,
+    pairs: &BTreeMap<usize, Vec<usize>>,
+    size: usize,
+    fillers: &Row,
+) -> Result<Row, Memory>
+    ensures long { IfOk result (λ row. length row ≡ size) }
+    ensures members { IfOk result (λ row. (x : ℕ) → x < size → has row x ≡ list_any (has fillers.now) (kept_targets pairs.now x)) }
+{
+    let mut sources = Row::new(alloc, size)?;
+    for source in 0..size {
+        if is_joined(pairs, source, fillers) {
+            sources.put(source);
+        }
+    }
+    Ok(sources)
 }
 
 /// Adds the target to those of the source.

@@ -87,6 +87,32 @@ impl Row {
         }
     }
 
+    /// Keeps the members that are in `other`.
+    pub fn intersect(&mut self, other: &Row)
+        requires { length self.old ≡ length other.now }
+        ensures len { length self.new ≡ length self.old }
+        ensures members { (k : ℕ) → has self.new k ≡ (has self.old k && has other.now k) }
+    {
+        for i in 0..self.bits.len() {
+            if !other.bits[i] {
+                self.bits[i] = false;
+            }
+        }
+    }
+
+    /// Whether no member is one of `other`.
+    pub fn is_disjoint(&self, other: &Row) -> bool
+        requires { length self.now ≡ length other.now }
+        ensures { IsTrue result ↔ ((k : ℕ) → has self.now k ≡ true → has other.now k ≡ false) }
+    {
+        for i in 0..self.bits.len() {
+            if self.bits[i] && other.bits[i] {
+                return false;
+            }
+        }
+        true
+    }
+
     /// Whether each member is one of `other`.
     pub fn is_subset(&self, other: &Row) -> bool
         requires { length self.now ≡ length other.now }

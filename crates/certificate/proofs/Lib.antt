@@ -1,0 +1,13 @@
+pub mod Words
+pub mod Decimals
+pub mod Laws
+pub mod Many
+pub mod Derivations
+pub mod Individuals
+pub mod RowLaws
+pub mod Whole
+pub mod Every
+pub mod Ordered
+pub mod LineMeaning
+pub mod RowMeaning
+pub mod Meaning

@@ -1,0 +1,15 @@
+use Rattle.std.proofs.Common.{◌≡◌, None, length, map}
+use Rattle.certificate.specs.Fitting.{pair_key}
+use Rattle.certificate.specs.ListedReading.{fitting_pairs_at}
+use Rattle.certificate.specs.View.{pair_row_of}
+use Rattle.certificate.proofs.Many.{IsReadSoFar, last_or}
+use Rattle.certificate.proofs.listed_reading.pairs_at.Given as goal
+
+abbrev pub invariant-loop-row : goal.invariant-loop-row
+invariant-loop-row l = record {
+  so_far : IsReadSoFar (λ last. fitting_pairs_at l.fn.ontology l.fn.domain (pair_key last)) l.fn.bytes (map pair_row_of l.rows.items) l.rest;
+  last_is : l.last ≡ pair_key (last_or None (map pair_row_of l.rows.items));
+}
+
+abbrev pub decreases-loop-row : goal.decreases-loop-row
+decreases-loop-row l = length l.rest

@@ -1,0 +1,5 @@
+use Rattle.certificate.proofs.Meaning.{same_certificate}
+use Rattle.certificate.proofs.reading.one_certificate.Goals as goal
+
+pub returns : goal.returns
+returns c = same_certificate

@@ -1,0 +1,58 @@
+-- Certificates: derivation lines, and the interpretation that one of a consistent ontology lists.
+-- Expressions, properties, individuals, axioms and elements stand as their numbers.
+use Rattle.std.specs.Prelude.{ℕ, List}
+use Rattle.std.specs.declared.option.Option.{Option}
+
+-- an expression or an individual
+pub data Subject : Type 0 where
+  Expression : (expression : ℕ) → Subject
+  Individual : (individual : ℕ) → Subject
+
+-- the subject lies in the class; or each element of the source has a pair of the property into the target
+pub data Conclusion : Type 0 where
+  Sub : (subject : Subject) (class : ℕ) → Conclusion
+  Edge : (source : Subject) (property : ℕ) (target : Subject) → Conclusion
+
+-- the sixteen rules of certificates, format 1
+pub data Rule : Type 0 where
+  K1 : Rule
+  K2 : Rule
+  K3 : Rule
+  K4 : Rule
+  K5 : Rule
+  K6 : Rule
+  K7 : Rule
+  K8 : Rule
+  K9 : Rule
+  K10 : Rule
+  K11 : Rule
+  K12 : Rule
+  K13 : Rule
+  K14 : Rule
+  K15 : Rule
+  K16 : Rule
+
+-- a conclusion by a rule, from an axiom or none and from earlier lines, counted from 1
+pub record Line : Type 0 where
+  pub conclusion : Conclusion
+  pub rule : Rule
+  pub axiom' : Option ℕ
+  pub premises : List ℕ
+
+-- an interpretation by its members, and for each satisfiable class an element that is in it
+pub record Listed : Type 0 where
+  -- how many elements there are
+  pub domain : ℕ
+  -- a class and its elements
+  pub classes : List (ℕ × List ℕ)
+  -- a property, an element, and the elements that it leads to
+  pub pairs : List (ℕ × ℕ × List ℕ)
+  -- the element of each individual
+  pub individuals : List ℕ
+  -- a class and the element claimed to be in it
+  pub claims : List (ℕ × ℕ)
+
+-- it is of a consistent ontology where an interpretation is listed
+pub record Certificate : Type 0 where
+  pub lines : List Line
+  pub listed : Option Listed

@@ -1,0 +1,10 @@
+pub mod Certificate
+pub mod Text
+pub mod HasText
+pub mod View
+pub mod Kept
+pub mod Reading
+pub mod LineReading
+pub mod Fitting
+pub mod ListedReading
+pub mod Outcome

@@ -1,0 +1,89 @@
+-- The text of a certificate, format 1: lines of ASCII, with single spaces and decimal numbers.
+use Rattle.std.specs.Prelude.{ℕ, List, [], ◌∷◌, ◌++◌, Some, None, codes}
+use Rattle.std.specs.declared.option.Option.{Option}
+use Rattle.std.specs.List.{flat_map, enumerate_from}
+use Rattle.std.specs.Fmt.{decimal}
+use Rattle.certificate.specs.Certificate.{Subject, Expression, Individual, Conclusion, Sub, Edge, Rule, K1, K2, K3, K4, K5, K6, K7, K8, K9, K10, K11, K12, K13, K14, K15, K16, Line, Listed, Certificate}
+
+-- the end of a line
+abbrev pub line_feed : List ℕ
+line_feed = 10 ∷ []
+
+abbrev pub rule_number : Rule → ℕ
+rule_number K1 = 1
+rule_number K2 = 2
+rule_number K3 = 3
+rule_number K4 = 4
+rule_number K5 = 5
+rule_number K6 = 6
+rule_number K7 = 7
+rule_number K8 = 8
+rule_number K9 = 9
+rule_number K10 = 10
+rule_number K11 = 11
+rule_number K12 = 12
+rule_number K13 = 13
+rule_number K14 = 14
+rule_number K15 = 15
+rule_number K16 = 16
+
+-- a letter and a number, as e2
+abbrev pub lettered_number : List ℕ → ℕ → List ℕ
+lettered_number letter n = letter ++ decimal n
+
+-- each number behind a space
+abbrev pub spaced_numbers : List ℕ → List ℕ
+spaced_numbers ns = flat_map (λ n. codes " " ++ decimal n) ns
+
+-- as e2 or i0
+abbrev pub subject_text : Subject → List ℕ
+subject_text (Expression e) = lettered_number (codes "e") e
+subject_text (Individual a) = lettered_number (codes "i") a
+
+-- as sub e2 e3 or edge e2 p0 e3
+abbrev pub conclusion_text : Conclusion → List ℕ
+conclusion_text (Sub x c) = codes "sub " ++ subject_text x ++ lettered_number (codes " e") c
+conclusion_text (Edge x r y) = codes "edge " ++ subject_text x ++ lettered_number (codes " p") r ++ codes " " ++ subject_text y
+
+abbrev pub axiom_text : Option ℕ → List ℕ
+axiom_text None = []
+axiom_text (Some n) = lettered_number (codes " a") n
+
+-- as sub e2 e3 K4 a1 3
+abbrev pub line_text : Line → List ℕ
+line_text line =
+    conclusion_text line.conclusion ++ lettered_number (codes " K") (rule_number line.rule)
+    ++ axiom_text line.axiom' ++ spaced_numbers line.premises ++ line_feed
+
+-- as class e3 1 2
+abbrev pub class_text : ℕ × List ℕ → List ℕ
+class_text c = lettered_number (codes "class e") c.0 ++ spaced_numbers c.1 ++ line_feed
+
+-- as succ p0 1 2
+abbrev pub pairs_text : ℕ × ℕ × List ℕ → List ℕ
+pairs_text p = lettered_number (codes "succ p") p.0 ++ spaced_numbers (p.1 ∷ p.2) ++ line_feed
+
+-- as ind i0 2
+abbrev pub individual_text : ℕ × ℕ → List ℕ
+individual_text a = lettered_number (codes "ind i") a.0 ++ spaced_numbers (a.1 ∷ []) ++ line_feed
+
+-- as claim e3 2
+abbrev pub claim_text : ℕ × ℕ → List ℕ
+claim_text c = lettered_number (codes "claim e") c.0 ++ spaced_numbers (c.1 ∷ []) ++ line_feed
+
+-- the lines of the listed interpretation, only of a consistent certificate
+abbrev pub listed_text : Option Listed → List ℕ
+listed_text None = []
+listed_text (Some l) =
+    lettered_number (codes "domain ") l.domain ++ line_feed
+    ++ flat_map class_text l.classes
+    ++ flat_map pairs_text l.pairs
+    ++ flat_map individual_text (enumerate_from 0 l.individuals)
+    ++ flat_map claim_text l.claims
+
+abbrev pub header : Option Listed → List ℕ
+header None = codes "elcert 1 inconsistent" ++ line_feed
+header (Some l) = codes "elcert 1 consistent" ++ line_feed
+
+abbrev pub certificate_text : Certificate → List ℕ
+certificate_text c = header c.listed ++ flat_map line_text c.lines ++ listed_text c.listed ++ codes "end" ++ line_feed

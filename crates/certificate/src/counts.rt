@@ -1,0 +1,43 @@
+//! What certificates need to know of an ontology.
+
+ghost use Rattle.std.specs.Prelude.{◌≡◌, length, slice_get};
+ghost use Rattle.certificate.specs.Fitting.{is_class, is_named};
+
+use crate::number::is_small;
+use axioms::{Expr, ExprId, Ontology};
+
+pub fn property_count(ontology: &Ontology) -> usize
+    ensures { result ≡ length ontology.now.names.properties }
+{
+    ontology.properties().len()
+}
+
+pub fn individual_count(ontology: &Ontology) -> usize
+    ensures { result ≡ length ontology.now.names.individuals }
+{
+    ontology.individuals().len()
+}
+
+pub fn axiom_count(ontology: &Ontology) -> usize
+    ensures { result ≡ length ontology.now.axioms }
+{
+    ontology.axioms().len()
+}
+
+fn is_class(ontology: &Ontology, expression: ExprId) -> bool
+    ensures { result ≡ is_class (slice_get ontology.now.nodes expression.0) }
+{
+    match ontology.expr(expression) {
+        Some(Expr::Class(_)) => true,
+        Some(Expr::And(_)) => false,
+        Some(Expr::Some(_, _)) => false,
+        None => false,
+    }
+}
+
+/// Whether the expression is a class whose number fits a text.
+pub fn is_named(ontology: &Ontology, expression: ExprId) -> bool
+    ensures { result ≡ is_named ontology.now expression.0 }
+{
+    is_class(ontology, expression) && is_small(expression.0)
+}

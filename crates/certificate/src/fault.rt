@@ -1,0 +1,85 @@
+//! Why a certificate is not made, read or written.
+
+ghost use Rattle.std.specs.Prelude.{◌≡◌, length};
+ghost use Rattle.certificate.specs.declared.fault.ReadFault.TheVariants as read_faults;
+ghost use Rattle.certificate.specs.declared.fault.WriteFault.TheVariants as write_faults;
+
+use axioms::Memory;
+use device::Failed;
+use std::alloc::{AllocError, AllocFailed};
+
+/// Why there is no certificate of some lines and an interpretation.
+#[derive(Clone, Copy, Debug, PartialEq, Eq)]
+pub enum MakeFault {
+    /// They have no text: they name what the ontology does not have, or are not in the order of the text.
+    NoText,
+    /// A growth of memory was refused.
+    Memory,
+}
+
+/// Why bytes are not read as a certificate.
+#[derive(Clone, Copy, Debug, PartialEq, Eq)]
+pub enum CertFault {
+    /// They are the text of none. The first line that cannot follow those before it begins at that byte; where the
+    /// last line is missing it is the number of bytes.
+    BadText { at: usize },
+    /// A growth of memory was refused.
+    Memory,
+}
+
+/// Why a text was not written whole.
+#[derive(Clone, Copy, Debug, PartialEq, Eq)]
+pub enum WriteFault {
+    /// The sink failed.
+    Io,
+    /// A growth of memory was refused.
+    Memory,
+}
+
+impl From<Memory> for WriteFault {
+    ghost from_gives = { λ _ e. e ≡ write_faults.Memory };
+
+    fn from(_error: Memory) -> WriteFault {
+        WriteFault::Memory
+    }
+}
+
+impl From<Failed> for WriteFault {
+    ghost from_gives = { λ _ e. e ≡ write_faults.Io };
+
+    fn from(_error: Failed) -> WriteFault {
+        WriteFault::Io
+    }
+}
+
+/// Why reading stopped.
+#[derive(Clone, Copy, Debug, PartialEq, Eq)]
+pub enum ReadFault {
+    /// The last bytes, so many, do not go on as they should.
+    Text { left: usize },
+    /// A growth of memory was refused.
+    Memory,
+}
+
+impl From<AllocError> for ReadFault {
+    ghost from_gives = { λ _ e. e ≡ read_faults.Memory };
+
+    fn from(_error: AllocError) -> ReadFault {
+        ReadFault::Memory
+    }
+}
+
+impl<T: Drop> From<AllocFailed<T>> for ReadFault {
+    ghost from_gives = { λ _ e. e ≡ read_faults.Memory };
+
+    fn from(_error: AllocFailed<T>) -> ReadFault {
+        ReadFault::Memory
+    }
+}
+
+/// Reading stopped before these bytes.
+pub fn stopped(rest: &[u8]) -> ReadFault
+    ensures { result ≡ ReadFault.Text (length rest.now) }
+{
+    ReadFault::Text { left: rest.len() }
+}

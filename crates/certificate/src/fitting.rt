@@ -1,0 +1,244 @@
+//! Whether lines and rows may stand in a text: their numbers are those of the ontology, in the text's order.
+
+ghost use Rattle.std.specs.Prelude.{◌≡◌, None, map, nat_lt};
+ghost use Rattle.std.specs.List.{list_all};
+ghost use Rattle.certificate.specs.Fitting.{fits_subject, fits_property, fits_conclusion, fits_axiom, is_premise, fits_line, is_after, ascend, are_elements, fits_class, is_pair_after, fits_pairs, fits_claim, fits_domain, fit_classes, fit_pairs, fit_claims, fit_individuals, fits_listed, fits_certificate};
+ghost use Rattle.certificate.specs.View.{subject_of, conclusion_of, line_of, lines_of, class_row_of, pair_row_of, claim_of, listed_of, certificate_from};
+
+use crate::counts::{axiom_count, individual_count, is_named, property_count};
+use crate::line::{Conclusion, Line, Subject};
+use crate::listed::{Claim, ClassRow, Listed, PairRow};
+use crate::number::is_small;
+use axioms::{Ontology, PropId};
+
+fn fits_subject(ontology: &Ontology, subject: Subject) -> bool
+    ensures { result ≡ fits_subject ontology.now (subject_of subject) }
+{
+    match subject {
+        Subject::Expr(expr) => expr.0 < ontology.expression_count() && is_small(expr.0),
+        Subject::Individual(individual) => {
+            individual.0 < individual_count(ontology) && is_small(individual.0)
+        }
+    }
+}
+
+fn fits_property(ontology: &Ontology, property: PropId) -> bool
+    ensures { result ≡ fits_property ontology.now property.0 }
+{
+    property.0 < property_count(ontology) && is_small(property.0)
+}
+
+fn fits_conclusion(ontology: &Ontology, conclusion: Conclusion) -> bool
+    ensures { result ≡ fits_conclusion ontology.now (conclusion_of conclusion) }
+{
+    match conclusion {
+        Conclusion::Sub(subject, class) => {
+            fits_subject(ontology, subject) && fits_subject(ontology, Subject::Expr(class))
+        }
+        Conclusion::Edge(source, property, target) => {
+            fits_subject(ontology, source)
+                && fits_property(ontology, property)
+                && fits_subject(ontology, target)
+        }
+    }
+}
+
+fn fits_axiom(ontology: &Ontology, number: Option<usize>) -> bool
+    ensures { result ≡ fits_axiom ontology.now number }
+{
+    match number {
+        None => true,
+        Some(number) => 1 <= number && number <= axiom_count(ontology) && is_small(number),
+    }
+}
+
+fn is_premise(number: u64) -> bool
+    ensures { result ≡ is_premise number }
+{
+    1 <= number
+}
+
+fn are_premises(numbers: &[u64]) -> bool
+    ensures { result ≡ list_all is_premise numbers.now }
+{
+    numbers.iter().all(|number| is_premise(*number))
+}
+
+/// Whether the line's numbers name something of the ontology, and lines.
+pub fn fits_line(ontology: &Ontology, line: &Line) -> bool
+    ensures { result ≡ fits_line ontology.now (line_of line.now) }
+{
+    fits_conclusion(ontology, line.conclusion)
+        && fits_axiom(ontology, line.axiom)
+        && are_premises(&line.premises)
+}
+
+fn is_after(last: Option<usize>, number: usize) -> bool
+    ensures { result ≡ is_after last number }
+{
+    match last {
+        None => true,
+        Some(last) => last < number,
+    }
+}
+
+fn is_element_after(last: Option<u32>, element: u32) -> bool
+    ensures { result ≡ is_after last element }
+{
+    match last {
+        None => true,
+        Some(last) => last < element,
+    }
+}
+
+fn ascend(domain: u32, elements: &[u32]) -> bool
+    ensures { result ≡ ascend domain None elements.now }
+{
+    let mut last = None;
+    for element in elements {
+        if *element >= domain || !is_element_after(last, *element) {
+            return false;
+        }
+        last = Some(*element);
+    }
+    true
+}
+
+fn are_elements(domain: u32, elements: &[u32]) -> bool
+    ensures { result ≡ are_elements domain elements.now }
+{
+    !elements.is_empty() && ascend(domain, elements)
+}
+
+/// Whether the row may stand after one of the class `last`.
+pub fn fits_class(ontology: &Ontology, domain: u32, last: Option<usize>, row: &ClassRow) -> bool
+    ensures { result ≡ fits_class ontology.now domain last (class_row_of row.now) }
+{
+    is_named(ontology, row.class)
+        && 2 <= row.class.0
+        && is_after(last, row.class.0)
+        && are_elements(domain, &row.elements)
+}
+
+fn is_pair_after(last: Option<(usize, u32)>, property: usize, source: u32) -> bool
+    ensures { result ≡ is_pair_after last property source }
+{
+    match last {
+        None => true,
+        Some((r, x)) => r < property || (r == property && x < source),
+    }
+}
+
+/// Whether the row may stand after one of the property and the source `last`.
+pub fn fits_pairs(
+    ontology: &Ontology,
+    domain: u32,
+    last: Option<(usize, u32)>,
+    row: &PairRow,
+) -> bool
+    ensures { result ≡ fits_pairs ontology.now domain last (pair_row_of row.now) }
+{
+    fits_property(ontology, row.property)
+        && row.source < domain
+        && is_pair_after(last, row.property.0, row.source)
+        && are_elements(domain, &row.targets)
+}
+
+/// Whether the claim may stand after one of the class `last`.
+pub fn fits_claim(ontology: &Ontology, domain: u32, last: Option<usize>, claim: Claim) -> bool
+    ensures { result ≡ fits_claim ontology.now domain last (claim_of claim) }
+{
+    is_named(ontology, claim.class) && claim.element < domain && is_after(last, claim.class.0)
+}
+
+/// Whether there is an element.
+pub fn fits_domain(domain: u32) -> bool
+    ensures { result ≡ fits_domain domain }
+{
+    1 <= domain
+}
+
+fn are_classes(ontology: &Ontology, domain: u32, rows: &[ClassRow]) -> bool
+    ensures { result ≡ fit_classes ontology.now domain None (map class_row_of rows.now) }
+{
+    let mut last = None;
+    for row in rows {
+        if !fits_class(ontology, domain, last, row) {
+            return false;
+        }
+        last = Some(row.class.0);
+    }
+    true
+}
+
+fn are_pairs(ontology: &Ontology, domain: u32, rows: &[PairRow]) -> bool
+    ensures { result ≡ fit_pairs ontology.now domain None (map pair_row_of rows.now) }
+{
+    let mut last = None;
+    for row in rows {
+        if !fits_pairs(ontology, domain, last, row) {
+            return false;
+        }
+        last = Some((row.property.0, row.source));
+    }
+    true
+}
+
+fn are_claims(ontology: &Ontology, domain: u32, claims: &[Claim]) -> bool
+    ensures { result ≡ fit_claims ontology.now domain None (map claim_of claims.now) }
+{
+    let mut last = None;
+    for claim in claims {
+        if !fits_claim(ontology, domain, last, *claim) {
+            return false;
+        }
+        last = Some(claim.class.0);
+    }
+    true
+}
+
+fn are_below(domain: u32, elements: &[u32]) -> bool
+    ensures { result ≡ list_all (λ x. nat_lt x domain) elements.now }
+{
+    elements.iter().all(|element| *element < domain)
+}
+
+fn are_individuals(ontology: &Ontology, domain: u32, elements: &[u32]) -> bool
+    ensures { result ≡ fit_individuals ontology.now domain elements.now }
+{
+    elements.len() == individual_count(ontology)
+        && elements.len() <= 1 << 32
+        && are_below(domain, elements)
+}
+
+fn fits_listed(ontology: &Ontology, listed: &Listed) -> bool
+    ensures { result ≡ fits_listed ontology.now (listed_of listed.now) }
+{
+    fits_domain(listed.domain)
+        && are_classes(ontology, listed.domain, &listed.classes)
+        && are_pairs(ontology, listed.domain, &listed.pairs)
+        && are_individuals(ontology, listed.domain, &listed.individuals)
+        && are_claims(ontology, listed.domain, &listed.claims)
+}
+
+fn are_lines(ontology: &Ontology, lines: &[Line]) -> bool
+    ensures { result ≡ list_all (fits_line ontology.now) (lines_of lines.now) }
+{
+    for line in lines {
+        if !fits_line(ontology, line) {
+            return false;
+        }
+    }
+    true
+}
+
+/// Whether there is a text of these lines and of this interpretation, if there is one.
+pub fn have_text(ontology: &Ontology, lines: &[Line], listed: &Option<Listed>) -> bool
+    ensures { result ≡ fits_certificate ontology.now (certificate_from lines.now listed.now) }
+{
+    are_lines(ontology, lines)
+        && match listed {
+            None => true,
+            Some(listed) => fits_listed(ontology, listed),
+        }
+}

@@ -1,0 +1,21 @@
+//! Certificates of answers about an ontology, and their text in both directions.
+#![tactic(auto)]
+
+mod certificate;
+mod counts;
+mod fault;
+mod fitting;
+mod line;
+mod line_reading;
+mod listed;
+mod listed_reading;
+mod number;
+mod reading;
+mod writing;
+
+pub use certificate::Certificate;
+pub use fault::{CertFault, MakeFault, WriteFault};
+pub use line::{Conclusion, Line, Rule, Subject};
+pub use listed::{Claim, ClassRow, Listed, PairRow};
+pub use reading::{one_certificate, one_text, read_certificate};
+pub use writing::{certificate_bytes, write_certificate};

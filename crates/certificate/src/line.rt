@@ -1,0 +1,51 @@
+//! The lines of a derivation.
+
+use axioms::{ExprId, IndId, PropId};
+
+/// What a line is about: the extension of an expression, or the one element of an individual.
+#[derive(Clone, Copy, Debug, PartialEq, Eq)]
+pub enum Subject {
+    Expr(ExprId),
+    Individual(IndId),
+}
+
+/// What a line says.
+#[derive(Clone, Copy, Debug, PartialEq, Eq)]
+pub enum Conclusion {
+    /// The subject lies in the expression.
+    Sub(Subject, ExprId),
+    /// Each element of the first subject has a successor by the property in the second.
+    Edge(Subject, PropId, Subject),
+}
+
+/// The rules of certificates, format 1.
+#[derive(Clone, Copy, Debug, PartialEq, Eq)]
+pub enum Rule {
+    K1,
+    K2,
+    K3,
+    K4,
+    K5,
+    K6,
+    K7,
+    K8,
+    K9,
+    K10,
+    K11,
+    K12,
+    K13,
+    K14,
+    K15,
+    K16,
+}
+
+/// A line of a derivation: a conclusion by a rule.
+#[derive(Debug, PartialEq, Eq, Drop)]
+pub struct Line {
+    pub conclusion: Conclusion,
+    pub rule: Rule,
+    /// The number of the axiom that the rule takes, from 1 in document order.
+    pub axiom: Option<usize>,
+    /// The numbers of the lines that the rule takes, from 1, in the rule's order.
+    pub premises: Vec<u64>,
+}

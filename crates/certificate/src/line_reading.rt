@@ -1,0 +1,124 @@
+//! Derivation lines at the front of bytes.
+
+ghost use Rattle.std.specs.Prelude.{◌≡◌, Some, option_map, IfOk};
+ghost use Rattle.certificate.specs.LineReading.{subject_at, conclusion_at, numbered_rule, rule_at, axiom_at, premise_at, premises_at, line_at};
+ghost use Rattle.certificate.specs.View.{subject_of, conclusion_of, rule_of, line_of};
+ghost use Rattle.certificate.specs.Outcome.{Gives};
+
+use crate::fault::{ReadFault, stopped};
+use crate::line::{Conclusion, Line, Rule, Subject};
+use crate::number::{after, number_at, small_at};
+use axioms::{ExprId, IndId, PropId};
+use std::alloc::{AllocError, Global};
+
+#[tactic(auto, unfolding(crate::specs::LineReading::subject_at))]
+fn subject_at(bytes: &[u8]) -> Option<(Subject, &[u8])>
+    ensures { option_map (λ x. (subject_of x.0, x.1.now)) result ≡ subject_at bytes.now }
+{
+    if let Some(rest) = after(b"e", bytes) {
+        let (number, rest) = small_at(rest)?;
+        return Some((Subject::Expr(ExprId(number as usize)), rest));
+    }
+    let (number, rest) = small_at(after(b"i", bytes)?)?;
+    Some((Subject::Individual(IndId(number as usize)), rest))
+}
+
+#[tactic(auto, unfolding(crate::specs::LineReading::conclusion_at))]
+fn conclusion_at(bytes: &[u8]) -> Option<(Conclusion, &[u8])>
+    ensures { option_map (λ x. (conclusion_of x.0, x.1.now)) result ≡ conclusion_at bytes.now }
+{
+    if let Some(rest) = after(b"sub ", bytes) {
+        let (subject, rest) = subject_at(rest)?;
+        let (class, rest) = small_at(after(b" e", rest)?)?;
+        return Some((Conclusion::Sub(subject, ExprId(class as usize)), rest));
+    }
+    let (source, rest) = subject_at(after(b"edge ", bytes)?)?;
+    let (property, rest) = small_at(after(b" p", rest)?)?;
+    let (target, rest) = subject_at(after(b" ", rest)?)?;
+    Some((
+        Conclusion::Edge(source, PropId(property as usize), target),
+        rest,
+    ))
+}
+
+#[tactic(auto, unfolding(crate::specs::LineReading::numbered_rule))]
+fn numbered_rule(number: u64) -> Option<Rule>
+    ensures { option_map rule_of result ≡ numbered_rule number }
+{
+    match number {
+        1 => Some(Rule::K1),
+        2 => Some(Rule::K2),
+        3 => Some(Rule::K3),
+        4 => Some(Rule::K4),
+        5 => Some(Rule::K5),
+        6 => Some(Rule::K6),
+        7 => Some(Rule::K7),
+        8 => Some(Rule::K8),
+        9 => Some(Rule::K9),
+        10 => Some(Rule::K10),
+        11 => Some(Rule::K11),
+        12 => Some(Rule::K12),
+        13 => Some(Rule::K13),
+        14 => Some(Rule::K14),
+        15 => Some(Rule::K15),
+        16 => Some(Rule::K16),
+        _ => None,
+    }
+}
+
+#[tactic(auto, unfolding(crate::specs::LineReading::rule_at))]
+fn rule_at(bytes: &[u8]) -> Option<(Rule, &[u8])>
+    ensures { option_map (λ x. (rule_of x.0, x.1.now)) result ≡ rule_at bytes.now }
+{
+    let (number, rest) = number_at(after(b" K", bytes)?)?;
+    Some((numbered_rule(number)?, rest))
+}
+
+#[tactic(auto, unfolding(crate::specs::LineReading::axiom_at))]
+fn axiom_at(bytes: &[u8]) -> Option<(Option<usize>, &[u8])>
+    ensures { option_map (λ x. (x.0, x.1.now)) result ≡ axiom_at bytes.now }
+{
+    if let Some(rest) = after(b" a", bytes) {
+        let (number, rest) = small_at(rest)?;
+        return Some((Some(number as usize), rest));
+    }
+    Some((None, bytes))
+}
+
+#[tactic(auto, unfolding(crate::specs::LineReading::premise_at))]
+fn premise_at(bytes: &[u8]) -> Option<(u64, &[u8])>
+    ensures { option_map (λ x. (x.0, x.1.now)) result ≡ premise_at bytes.now }
+{
+    number_at(after(b" ", bytes)?)
+}
+
+fn premises_at(alloc: Global, bytes: &[u8]) -> Result<(Vec<u64>, &[u8]), AllocError>
+    ensures { IfOk result (λ x. premises_at bytes.now ≡ Some (x.0.items, x.1.now)) }
+{
+    let mut items = Vec::new(alloc);
+    let mut rest = bytes;
+    while let Some((number, others)) = premise_at(rest) {
+        items.push(number)?;
+        rest = others;
+    }
+    Ok((items, rest))
+}
+
+/// The line at the front, of any numbers that fit the types.
+#[tactic(auto, unfolding(crate::specs::LineReading::line_at))]
+pub fn line_at(alloc: Global, bytes: &[u8]) -> Result<(Line, &[u8]), ReadFault>
+    ensures { Gives (λ x. (line_of x.0, x.1.now)) result (line_at bytes.now) }
+{
+    let (conclusion, rest) = conclusion_at(bytes).ok_or(stopped(bytes))?;
+    let (rule, rest) = rule_at(rest).ok_or(stopped(bytes))?;
+    let (axiom, rest) = axiom_at(rest).ok_or(stopped(bytes))?;
+    let (premises, rest) = premises_at(alloc, rest)?;
+    let rest = after(b"\n", rest).ok_or(stopped(bytes))?;
+    let line = Line {
+        conclusion,
+        rule,
+        axiom,
+        premises,
+    };
+    Ok((line, rest))
+}

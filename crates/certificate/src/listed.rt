@@ -1,0 +1,39 @@
+//! Listed interpretations.
+
+use axioms::{ExprId, PropId};
+
+/// A class other than owl:Thing and owl:Nothing that is not empty, with its elements, ascending.
+#[derive(Debug, PartialEq, Eq, Drop)]
+pub struct ClassRow {
+    pub class: ExprId,
+    pub elements: Vec<u32>,
+}
+
+/// The elements, ascending, that an element leads to by a property; there is at least one.
+#[derive(Debug, PartialEq, Eq, Drop)]
+pub struct PairRow {
+    pub property: PropId,
+    pub source: u32,
+    pub targets: Vec<u32>,
+}
+
+/// An element that is said to be in the class and in no more classes than it must.
+#[derive(Clone, Copy, Debug, PartialEq, Eq)]
+pub struct Claim {
+    pub class: ExprId,
+    pub element: u32,
+}
+
+/// An interpretation by its members: the elements are the numbers below `domain`.
+#[derive(Debug, PartialEq, Eq, Drop)]
+pub struct Listed {
+    pub domain: u32,
+    /// Ascending by class.
+    pub classes: Vec<ClassRow>,
+    /// Ascending by property and then by source.
+    pub pairs: Vec<PairRow>,
+    /// The element of each individual, by the individual's number.
+    pub individuals: Vec<u32>,
+    /// Ascending by class.
+    pub claims: Vec<Claim>,
+}

@@ -1,0 +1,98 @@
+-- The program's command line, as clap reads it.
+use Rattle.std.specs.Prelude.{◌≡◌, ◌≤◌, ℕ, List, [], ◌∷◌, Option, Some, None, codes, true, ⊤}
+use Rattle.std.specs.Str.Parse.{IsNumeral, digits_value, without_leading_plus}
+use Rattle.clap.specs.Words.{App, Row, Rule, Text, new_app, new_rule, with_rule, with_subcommand, first_of, one_of, subcommand_of, takes}
+use Rattle.clap.specs.Simple.{on_top}
+use Rattle.clap.specs.declared.builder.value_parser.ValueParser.TheVariants as vp
+use Rattle.command_line.specs.declared.tasks.Paths.{Paths}
+use Rattle.command_line.specs.declared.tasks.LineFault.{LineFault}
+use Rattle.command_line.specs.declared.tasks.LineFault.TheVariants.{Line, Memory}
+use Rattle.command_line.specs.declared.tasks.Task.{Task}
+use Rattle.command_line.specs.declared.tasks.Task.TheVariants.{Check, Classify}
+
+-- ---- the commands
+
+-- the greatest number of facts that a caller may ask for, which is the default
+abbrev pub most_facts : ℕ
+most_facts = 100000000
+
+-- the greatest number of bytes that a caller may ask for, which is the default
+abbrev pub most_bytes : ℕ
+most_bytes = 268435456
+
+-- a path that has to be given
+abbrev pub path : Text → Rule
+path id = record (new_rule id) { required = true }
+
+-- a number from 1 to `most`, with its default
+abbrev pub number : Text → ℕ → Text → Rule
+number id most default = record (new_rule id) { long = Some id; parser = Some (vp.Unsigned 1 most); defaults = default ∷ [] }
+
+-- `--max-facts N`
+abbrev pub max_facts : Rule
+max_facts = number (codes "max-facts") most_facts (codes "100000000")
+
+-- `--max-bytes N`
+abbrev pub max_bytes : Rule
+max_bytes = number (codes "max-bytes") most_bytes (codes "268435456")
+
+-- `DOC TAX INST CERT`
+abbrev pub with_paths : App → App
+with_paths app =
+    with_rule (with_rule (with_rule (with_rule app (path (codes "DOC"))) (path (codes "TAX"))) (path (codes "INST"))) (path (codes "CERT"))
+
+-- `classify DOC TAX INST CERT [--max-facts N] [--max-bytes N]`
+abbrev pub classify_app : App
+classify_app = with_rule (with_rule (with_paths (new_app (codes "classify"))) max_facts) max_bytes
+
+-- `check DOC TAX INST CERT [--max-bytes N]`
+abbrev pub check_app : App
+check_app = with_rule (with_paths (new_app (codes "check"))) max_bytes
+
+-- the program, whose first word after its name is one of the commands
+abbrev pub elc_app : App
+elc_app = with_subcommand (with_subcommand (on_top (λ s. record s { subcommand_required = true }) (new_app (codes "elc"))) classify_app.top) check_app.top
+
+-- ---- what the words ask for
+
+-- the number is what the option's word says in decimal digits, or its default where it has none, and lies from 1 to `most`
+pub record IsNumber (id : Text) (most : ℕ) (rows : List Row) (number : ℕ) : Type 0 where
+  pub word : Text
+  pub given : one_of id rows ≡ Some word
+  pub numeral : IsNumeral 10 (without_leading_plus word)
+  pub value : number ≡ digits_value 10 (without_leading_plus word)
+  pub least : 1 ≤ number
+  pub within : number ≤ most
+
+-- the paths are the words that stand in their places
+pub record ArePaths (rows : List Row) (paths : Paths) : Type 0 where
+  pub document : first_of (codes "DOC") rows ≡ Some paths.document.now
+  pub taxonomy : first_of (codes "TAX") rows ≡ Some paths.taxonomy.now
+  pub instances : first_of (codes "INST") rows ≡ Some paths.instances.now
+  pub certificate : first_of (codes "CERT") rows ≡ Some paths.certificate.now
+
+-- the task is what a command's name and its matches say
+abbrev pub IsTask : Text → List Row → Task → Type 0
+IsTask name rows (Classify paths facts bytes) = (name ≡ codes "classify") × ArePaths rows paths × IsNumber (codes "max-facts") most_facts rows facts × IsNumber (codes "max-bytes") most_bytes rows bytes
+IsTask name rows (Check paths bytes) = (name ≡ codes "check") × ArePaths rows paths × IsNumber (codes "max-bytes") most_bytes rows bytes
+
+-- there is a command, and the task is what it says
+pub record NamesTask (entered : Option (Text × List Row)) (task : Task) : Type 0 where
+  pub name : Text
+  pub rows : List Row
+  pub found : entered ≡ Some (name, rows)
+  pub is : IsTask name rows task
+
+-- the task that clap's function of the program's commands gives for the words
+abbrev pub IsTaskOf : List Text → Task → Type 0
+IsTaskOf words task = NamesTask (subcommand_of elc_app words) task
+
+-- an answer that has the property, or none where no value has it
+abbrev pub Finds : {X : Type 0} → (X → Type 0) → Option X → Type 0
+Finds {X} P None = (x : X) → P x → ⊥
+Finds P (Some x) = P x
+
+-- a line is refused only where clap's function does not take the words, or gives no task for them
+abbrev pub Refuses : List Text → LineFault → Type 0
+Refuses words (Line error) = takes elc_app words ≡ true → (task : Task) → IsTaskOf words task → ⊥
+Refuses words Memory = ⊤

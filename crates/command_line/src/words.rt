@@ -1,0 +1,104 @@
+//! Reads the program's words.
+ghost use Rattle.std.specs.Prelude.{◌≡◌, ℕ, IfOk, IfErr, map, codes, option_map, true};
+ghost use Rattle.clap.specs.Words.{subcommand_rows_of, rows_of, found_of, first_of, takes};
+ghost use Rattle.command_line.specs.CommandLine.{ArePaths, IsNumber, IsTask, IsTaskOf, NamesTask, Finds, Refuses};
+
+use crate::command::elc_command;
+use crate::tasks::{LineFault, MOST_BYTES, MOST_FACTS, Paths, Task};
+use clap::error::ErrorKind;
+use clap::{ArgMatches, Command};
+use std::alloc::Global;
+
+fn path<'a>(inner: &ArgMatches<'a>, id: &str) -> Option<&'a str>
+    ensures { option_map (λ s. s.now) result ≡ first_of id.now (rows_of (found_of inner.now)) }
+{
+    inner.get_str(id)
+}
+
+/// The paths, which the command requires.
+fn paths<'a>(inner: &ArgMatches<'a>) -> Option<Paths<'a>>
+    ensures { Finds (ArePaths (rows_of (found_of inner.now))) result }
+{
+    Some(Paths {
+        document: path(inner, "DOC")?,
+        taxonomy: path(inner, "TAX")?,
+        instances: path(inner, "INST")?,
+        certificate: path(inner, "CERT")?,
+    })
+}
+
+/// The number of an option, from 1 to `most`.
+fn number(inner: &ArgMatches<'_>, id: &str, most: u64) -> Option<u64>
+    ensures { Finds (IsNumber id.now most (rows_of (found_of inner.now))) result }
+{
+    let number = inner.get_one::<u64>(id)?;
+    if number < 1 || number > most {
+        return None;
+    }
+    Some(number)
+}
+
+fn classify_task<'a>(inner: &ArgMatches<'a>) -> Option<Task<'a>>
+    ensures { Finds (IsTask (codes "classify") (rows_of (found_of inner.now))) result }
+{
+    Some(Task::Classify {
+        paths: paths(inner)?,
+        max_facts: number(inner, "max-facts", MOST_FACTS)?,
+        max_bytes: number(inner, "max-bytes", MOST_BYTES)?,
+    })
+}
+
+fn check_task<'a>(inner: &ArgMatches<'a>) -> Option<Task<'a>>
+    ensures { Finds (IsTask (codes "check") (rows_of (found_of inner.now))) result }
+{
+    Some(Task::Check {
+        paths: paths(inner)?,
+        max_bytes: number(inner, "max-bytes", MOST_BYTES)?,
+    })
+}
+
+/// The task of the command that was entered.
+fn entered<'a>(matches: &ArgMatches<'a>) -> Option<Task<'a>>
+    ensures { Finds (NamesTask (subcommand_rows_of matches.now)) result }
+{
+    let (name, inner) = matches.subcommand()?;
+    match name {
+        "classify" => classify_task(inner),
+        "check" => check_task(inner),
+        _ => None,
+    }
+}
+
+/// The task that the program's words ask for, the first word being the program's name.
+///
+/// A word that is missing, unknown or one too many, an option that is given twice, a number out of its range and a call
+/// for help are `Line`.
+pub fn task<'a>(alloc: Global, words: &'a [&'a str]) -> Result<Task<'a>, LineFault>
+    ensures asked { IfOk result (λ t. IsTaskOf (map (λ w. w.now) words.entry.now) t) }
+    ensures refused { IfErr result (Refuses (map (λ w. w.now) words.entry.now)) }
+{
+    let Ok(mut command) = elc_command(alloc) else {
+        return Err(LineFault::Memory);
+    };
+    let matches = match command.try_get_matches_from_mut(words) {
+        Ok(matches) => matches,
+        Err(error) => {
+            if error.kind() == ErrorKind::OutOfMemory {
+                return Err(LineFault::Memory);
+            }
+            return Err(LineFault::Line(error));
+        }
+    };
+    match entered(&matches) {
+        Some(task) => return Ok(task),
+        None => return Err(missing_command(&mut command)),
+    }
+}
+
+/// What to tell of words that name no command.
+fn missing_command(command: &mut Command<'_>) -> LineFault {
+    match command.error(ErrorKind::MissingSubcommand, "no command") {
+        Ok(error) => LineFault::Line(error),
+        Err(_) => LineFault::Memory,
+    }
+}

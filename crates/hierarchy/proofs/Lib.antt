@@ -1,0 +1,5 @@
+pub mod Indexing
+pub mod Members
+pub mod Searching
+pub mod Meaning
+pub mod Closing

@@ -1,0 +1,17 @@
+-- Steps over lists and results.
+use Rattle.std.proofs.Common.{◌≡◌, ℕ, ◌+◌, ◌<◌, ◌≤◌, List, length, get_or, take, All, Result, Ok, Err, IfOk, subst, arith}
+use Rattle.std.proofs.lemmas.List.{take-take, get_or-take, length-take-le}
+use Rattle.std.proofs.lemmas.List.Elements.{All-take}
+
+-- of one element more
+pub all_step : {X : Type 0} (P : X → Type 0) (xs : List X) (i : ℕ) (d : X) → i < length xs → All P (take (i + 1) xs) → All P (take i xs) × P (get_or xs i d)
+all_step {X} P xs i d l all =
+    let le : i ≤ i + 1 = omega arith in
+    let inside : i < length (take (i + 1) xs) = omega (arith, length-take-le (i + 1) xs (omega arith)) in (
+      subst (λ (ys : List X). All P ys) (take-take i (i + 1) xs le) (All-take P i (take (i + 1) xs) all),
+      subst P (get_or-take (i + 1) xs i d (omega arith)) (all i d inside),
+    )
+
+pub IfOk-both : {T E : Type 0} (P Q : T → Type 0) (r : Result T E) → IfOk r P → IfOk r Q → IfOk r (λ x. P x × Q x)
+IfOk-both P Q (Ok x) p q = (p, q)
+IfOk-both P Q (Err e) p q = tt
