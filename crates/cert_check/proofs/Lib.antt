@@ -1,4 +1,5 @@
 pub mod Places
+pub mod Checked
 pub mod Truth
 pub mod Derivations
 pub mod Decisions

@@ -1,13 +1,13 @@
 //! Whether lines are a derivation.
-ghost use Rattle.axioms.specs.View.{at_number};
-ghost use Rattle.cert_check.specs.Derivation.{IsDerivation, IsDerived, at_numbers};
+ghost use Rattle.axioms.specs.View.{at_number, axiom_of};
+ghost use Rattle.cert_check.specs.Derivation.{IsDerivation, IsDerived, at_numbers, axiom_at};
 ghost use Rattle.cert_check.specs.Faults.{IsFirstBadLine};
 ghost use Rattle.certificate.specs.HasText.{IsLineOf};
 ghost use Rattle.certificate.specs.View.{conclusion_of, line_of, lines_of};
 ghost use Rattle.std.specs.Prelude.{◌↔◌, ◌≡◌, All, IfOk, IsTrue, MatchOption, map, option_map};
 
 use crate::rules::follows;
-use axioms::{Memory, Ontology};
+use axioms::{Axiom, Memory, Ontology};
 use certificate::{Conclusion, Line};
 use std::alloc::Global;
 
@@ -35,7 +35,17 @@ fn conclusions_at(alloc: Global, lines: &[Line], numbers: &[u64]) -> Result<Opti
     Ok(Some(conclusions))
 }
 
-/// Whether the line follows by its rule from lines before it.
+// The axiom of that number, where there is a number.
+fn axiom_at(ontology: &Ontology, number: Option<usize>) -> Option<&Axiom>
+    ensures { option_map (λ a. axiom_of a.now) result ≡ axiom_at ontology.now number }
+{
+    match number {
+        Some(number) => ontology.axiom(number),
+        None => None,
+    }
+}
+
+// Whether the line follows by its rule from lines before it.
 fn is_derived(alloc: Global, ontology: &Ontology, before: &[Line], line: &Line) -> Result<bool, Memory>
     requires { IsLineOf ontology.now (line_of line.now) }
     ensures { IfOk result (λ yes. IsTrue yes ↔ IsDerived ontology.now (lines_of before.now) (line_of line.now)) }
@@ -43,10 +53,7 @@ fn is_derived(alloc: Global, ontology: &Ontology, before: &[Line], line: &Line) 
     let Some(premises) = conclusions_at(alloc, before, &line.premises)? else {
         return Ok(false);
     };
-    let stated = match line.axiom {
-        Some(number) => ontology.axiom(number),
-        None => None,
-    };
+    let stated = axiom_at(ontology, line.axiom);
     Ok(follows(ontology, line.rule, &premises, stated, line.conclusion))
 }
 
