@@ -54,16 +54,21 @@ grown_table o iri table e old at = (omega (arith, length_push table e, length_pu
           | inr h ↦ last c f h.0 h.1
         ]
 
+-- two ontologies with the same parts
+pub same_ontology : (o p : Ontology) → o.names.classes ≡ p.names.classes → o.names.properties ≡ p.names.properties → o.names.individuals ≡ p.names.individuals → o.nodes ≡ p.nodes → o.axioms ≡ p.axioms → o ≡ p
+same_ontology o p e f g h i =
+    parts e f g h i
+  where
+    parts : {cs cs' ps ps' is is' : List (List ℕ)} {ns ns' : List Node} {xs xs' : List Axiom} → cs ≡ cs' → ps ≡ ps' → is ≡ is' → ns ≡ ns' → xs ≡ xs'
+        → ◌≡◌ {A = Ontology} (record { names = record { classes = cs; properties = ps; individuals = is }; nodes = ns; axioms = xs }) (record { names = record { classes = cs'; properties = ps'; individuals = is' }; nodes = ns'; axioms = xs' })
+    parts e f g h i = rw (e, f, g, h, i)
+
 -- the fields of the ontology of no statements
 pub empty_kept : (inside : Inside) → map string_bytes inside.classes.keys ≡ owl_thing ∷ owl_nothing ∷ [] → inside.properties.keys ≡ [] → inside.individuals.keys ≡ []
     → map node_of inside.expressions.keys ≡ Class 0 ∷ Class 1 ∷ [] → inside.axioms.items ≡ [] → inside.class_expressions.items ≡ record { 0 = 0 } ∷ record { 0 = 1 } ∷ [] → IsKept inside
 empty_kept inside classes properties individuals nodes axioms table =
-    kept_as inside empty_ontology (same_ontology _ _ _ _ _ classes (ap (map string_bytes) properties) (ap (map string_bytes) individuals) nodes (ap (map axiom_of) axioms)) empty_is_ontology (empty_table _ table)
-  where
-    same_ontology : (cs ps is : List (List ℕ)) (ns : List Node) (as' : List Axiom) → cs ≡ owl_thing ∷ owl_nothing ∷ [] → ps ≡ [] → is ≡ [] → ns ≡ Class 0 ∷ Class 1 ∷ [] → as' ≡ []
-        → ◌≡◌ {A = Ontology} (record { names = record { classes = cs; properties = ps; individuals = is }; nodes = ns; axioms = as' }) empty_ontology
-    same_ontology cs ps is ns as' e f g h i =
-        rw (e, f, g, h, i)
+    let is = same_ontology (kept_ontology inside) empty_ontology classes (ap (map string_bytes) properties) (ap (map string_bytes) individuals) nodes (ap (map axiom_of) axioms) in
+    kept_as inside empty_ontology is empty_is_ontology (empty_table _ table)
 
 -- a name that was not there has the next number
 pub next_number : {X : Type 0} (old : List X) (x : X) (new : List X) (n : ℕ) → Numbers old x new n → (Contains old x → ⊥) → (n ≡ length old) × (new ≡ old ++ x ∷ [])
@@ -78,11 +83,7 @@ class_grown o whole iri absent classes nodes n place named stated =
     let a = next_number o.names.classes iri classes n named absent in
     let fresh : Contains o.nodes (Class n) → ⊥ = λ there. new_class_node o whole (subst (λ m. Contains o.nodes (Class m)) a.0 there) in
     let b = next_number o.nodes (Class n) nodes place stated fresh in
-    (a.0, b.0, same_parts classes nodes a.1 (b.1 ∙ ap (λ m. o.nodes ++ Class m ∷ []) a.0))
-  where
-    same_parts : (cs : List (List ℕ)) (ns : List Node) → cs ≡ o.names.classes ++ iri ∷ [] → ns ≡ o.nodes ++ Class (length o.names.classes) ∷ []
-        → ◌≡◌ {A = Ontology} (record o { names = record o.names { classes = cs }; nodes = ns }) (with_class o iri)
-    same_parts cs ns e f = rw (e, f)
+    (a.0, b.0, same_ontology _ (with_class o iri) a.1 refl refl (b.1 ∙ ap (λ m. o.nodes ++ Class m ∷ []) a.0) refl)
 
 -- what a declaration of a class says where the name is there ..
 pub declares_present : (o : Ontology) (iri : List ℕ) (class place : ℕ) → slice_get o.names.classes class ≡ Some iri → IsClassAt o class place → DeclaresClass o iri o class place
@@ -96,3 +97,8 @@ declares_new o whole iri absent new class place class-is place-is is = subst (λ
   node = inr (λ there. new_class_node o whole (subst (λ m. Contains o.nodes (Class m)) class-is there), place-is, ap (λ m. o.nodes ++ Class m ∷ []) (sym class-is));
   others = refl;
 })
+
+-- fields that stand for the same as those of an ontology
+pub copy_kept : (from copy : Inside) → IsKept from → kept_ontology copy ≡ kept_ontology from → copy.class_expressions.items ≡ from.class_expressions.items → IsKept copy
+copy_kept from copy kept same table =
+    kept_as copy (kept_ontology from) same kept.ontology (subst (IsTable (kept_ontology from)) (sym table) (table_of from kept))

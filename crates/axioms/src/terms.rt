@@ -1,6 +1,7 @@
 //! Class expressions and axioms over numbers.
 
 use crate::ids::{ClassId, ExprId, IndId, PropId};
+use std::alloc::AllocError;
 
 /// A class expression, whose parts stand as their numbers (OWL 2 Structural Specification, section 8).
 #[derive(Debug, PartialEq, Eq, Hash, Drop)]
@@ -11,6 +12,21 @@ pub enum Expr {
     And(Vec<ExprId>),
     /// What has a successor by the property in the expression.
     Some(PropId, ExprId),
+}
+
+impl Clone for Expr {
+    ghost use Rattle.std.specs.Prelude.{◌≡◌};
+    ghost use Rattle.axioms.specs.View.{node_of};
+
+    ghost is_clone = { λ e f. node_of f ≡ node_of e };
+
+    fn clone(&self) -> Result<Expr, AllocError> {
+        match self {
+            Expr::Class(class) => Ok(Expr::Class(*class)),
+            Expr::And(operands) => Ok(Expr::And(operands.clone()?)),
+            Expr::Some(property, filler) => Ok(Expr::Some(*property, *filler)),
+        }
+    }
 }
 
 /// A logical axiom over numbers (OWL 2 Structural Specification, section 9).
@@ -27,6 +43,34 @@ pub enum Axiom {
     Reflexive(PropId),
     ClassAssertion(ExprId, IndId),
     PropertyAssertion(PropId, IndId, IndId),
+}
+
+impl Clone for Axiom {
+    ghost use Rattle.std.specs.Prelude.{◌≡◌};
+    ghost use Rattle.axioms.specs.View.{axiom_of};
+
+    ghost is_clone = { λ a b. axiom_of b ≡ axiom_of a };
+
+    fn clone(&self) -> Result<Axiom, AllocError> {
+        match self {
+            Axiom::SubClass(sub, sup) => Ok(Axiom::SubClass(*sub, *sup)),
+            Axiom::EquivalentClasses(operands) => Ok(Axiom::EquivalentClasses(operands.clone()?)),
+            Axiom::DisjointClasses(operands) => Ok(Axiom::DisjointClasses(operands.clone()?)),
+            Axiom::SubProperty(chain, sup) => Ok(Axiom::SubProperty(chain.clone()?, *sup)),
+            Axiom::EquivalentProperties(operands) => {
+                Ok(Axiom::EquivalentProperties(operands.clone()?))
+            }
+            Axiom::Domain(property, class) => Ok(Axiom::Domain(*property, *class)),
+            Axiom::Transitive(property) => Ok(Axiom::Transitive(*property)),
+            Axiom::Reflexive(property) => Ok(Axiom::Reflexive(*property)),
+            Axiom::ClassAssertion(class, individual) => {
+                Ok(Axiom::ClassAssertion(*class, *individual))
+            }
+            Axiom::PropertyAssertion(property, source, target) => {
+                Ok(Axiom::PropertyAssertion(*property, *source, *target))
+            }
+        }
+    }
 }
 
 /// A kind of names. One IRI may be a name of each kind.

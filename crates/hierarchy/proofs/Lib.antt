@@ -3,3 +3,4 @@ pub mod Members
 pub mod Searching
 pub mod Meaning
 pub mod Closing
+pub mod Counting

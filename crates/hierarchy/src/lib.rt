@@ -3,7 +3,9 @@
 
 mod closure;
 mod context;
+mod theory;
 mod told;
 
 pub use closure::{Hierarchy, Stop, close};
 pub use context::{Reason, Superclass};
+pub use theory::number_of_facts;

@@ -1,6 +1,5 @@
 //! Subclass axioms by the class on their left.
 ghost use Rattle.std.specs.Prelude.{◌≡◌, ◌<◌, IfOk, OnOk, [], ◌∷◌, ◌++◌, length, map, replicate, slice_set, slice_index_or};
-ghost use Rattle.hierarchy.specs.Hierarchy.{IsHierarchy};
 ghost use Rattle.hierarchy.specs.Index.{pair_of};
 ghost use Rattle.hierarchy.specs.Search.{IsIndexOf, stated_of};
 
@@ -71,7 +70,6 @@ impl Index {
 
 /// The superclasses that axioms state of each class.
 pub(crate) fn told_superclasses(alloc: Global, ontology: &Ontology) -> Result<Index, Memory>
-    requires { IsHierarchy ontology.now }
     ensures { IfOk result (λ t. IsIndexOf ontology.now (length ontology.now.axioms) t) }
 {
     let mut index = Index::new(alloc, ontology.expression_count())?;

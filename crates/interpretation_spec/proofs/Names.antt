@@ -62,3 +62,7 @@ stands_well o w n h = record {
   thing = λ x l. ap (λ (k : ℕ). has (members_of n k) x) (named o.names.classes w.distinct_classes 0 owl_thing w.thing_name) ∙ h.thing x l;
   nothing = λ x l. ap (λ (k : ℕ). has (members_of n k) x) (named o.names.classes w.distinct_classes 1 owl_nothing w.nothing_name) ∙ h.nothing x;
 }
+
+pub size_of : (names : Names) (n : NumberedInterpretation) → (interpretation_of names n).size ≡ n.size
+unfolding interpretation_of
+size_of names n = refl

@@ -1,5 +1,5 @@
 -- Steps over lists and results.
-use Rattle.std.proofs.Common.{◌≡◌, ℕ, ◌+◌, ◌<◌, ◌≤◌, List, length, get_or, take, All, Result, Ok, Err, IfOk, subst, arith}
+use Rattle.std.proofs.Common.{◌≡◌, ℕ, ◌+◌, ◌<◌, ◌≤◌, List, length, get_or, take, All, Bool, IsTrue, ◌↔◌, Result, Ok, Err, IfOk, Option, Some, None, IfSome, refl, subst, arith}
 use Rattle.std.proofs.lemmas.List.{take-take, get_or-take, length-take-le}
 use Rattle.std.proofs.lemmas.List.Elements.{All-take}
 
@@ -15,3 +15,12 @@ all_step {X} P xs i d l all =
 pub IfOk-both : {T E : Type 0} (P Q : T → Type 0) (r : Result T E) → IfOk r P → IfOk r Q → IfOk r (λ x. P x × Q x)
 IfOk-both P Q (Ok x) p q = (p, q)
 IfOk-both P Q (Err e) p q = tt
+
+pub if_some : {A : Type 0} (P : A → Type 0) (o : Option A) → ((a : A) → o ≡ Some a → P a) → IfSome o P
+if_some P None h = tt
+if_some P (Some a) h = h a refl
+
+-- what decides one of two facts that are the same decides the other
+pub said_by : {P Q E : Type 0} → P ↔ Q → (r : Result Bool E) → IfOk r (λ b. IsTrue b ↔ P) → IfOk r (λ b. IsTrue b ↔ Q)
+said_by e (Ok b) h = (λ t. e.0 (h.0 t), λ q. h.1 (e.1 q))
+said_by e (Err x) h = tt

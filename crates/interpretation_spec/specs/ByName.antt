@@ -18,6 +18,11 @@ number_of (x ∷ xs) name = if bytes_eq x name then 0 else suc (number_of xs nam
 abbrev pub is_target : NumberedInterpretation → ℕ → ℕ → ℕ → Bool
 is_target i r x y = list_any (λ z. z == y) (targets_of i r x)
 
+-- a path from x to y along the properties of these numbers
+abbrev pub HasNumberedPath : NumberedInterpretation → List ℕ → ℕ → ℕ → Type 0
+HasNumberedPath i [] x y = x ≡ y
+HasNumberedPath i (r ∷ rs) x y = (z : ℕ) × (z < i.size) × (is_target i r x z ≡ true) × HasNumberedPath i rs z y
+
 -- each name by its number; a name that the ontology does not have is empty, or element 0
 unfoldable pub interpretation_of : Names → NumberedInterpretation → Interpretation
 interpretation_of names i = record {

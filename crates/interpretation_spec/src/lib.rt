@@ -6,6 +6,7 @@ mod fault;
 mod interpretation;
 mod pairs;
 mod row;
+mod satisfaction;
 mod theory;
 
 pub use fault::InterpretationFault;

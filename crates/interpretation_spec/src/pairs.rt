@@ -1,5 +1,5 @@
 //! The pairs of a property, by source.
-ghost use Rattle.std.specs.Prelude.{◌≡◌, ℕ, [], IfOk, OnErr, OnOk, if◌then◌else◌, map, replicate, ◌==◌, ◌<◌, length};
+ghost use Rattle.std.specs.Prelude.{◌≡◌, ℕ, [], IfOk, OnErr, OnOk, if◌then◌else◌, map, replicate, ◌==◌, ◌<◌, length, ◌||◌};
 ghost use Rattle.std.specs.List.{list_any};
 ghost use Rattle.std.specs.List.Sorted.{IsStrictlyIncreasing};
 ghost use Rattle.interpretation_spec.specs.Kept.{kept_pairs, kept_targets};
@@ -32,6 +32,16 @@ pub(crate) fn targets_in(pairs: &BTreeMap<usize, Vec<usize>>, source: usize) -> 
     match pairs.get(&source) {
         Some(targets) => targets,
         None => &[],
+    }
+}
+
+/// Adds the targets to the row.
+pub(crate) fn put_targets(row: &mut Row, targets: &[usize])
+    ensures len { length row.new ≡ length row.old }
+    ensures members { (k : ℕ) → k < length row.old → has row.new k ≡ (has row.old k || list_any (λ z. z == k) targets.now) }
+{
+    for target in targets {
+        row.put(*target);
     }
 }
 

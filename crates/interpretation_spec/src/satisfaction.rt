@@ -1,0 +1,244 @@
+//! Which axioms hold.
+ghost use Rattle.std.specs.Prelude.{◌≡◌, ℕ, ◌<◌, ◌↔◌, IfOk, IsNone, IfSome, IsTrue, length, AllPairs, All, true, slice_index_or};
+ghost use Rattle.axioms.specs.Numbered.{axiom_tree, axiom_trees, expression as expression_of, expressions};
+ghost use Rattle.axioms.specs.View.{axiom_of, expr_numbers, prop_numbers};
+ghost use Rattle.axioms.specs.WellFormed.{IsAxiomOf, IsOntology};
+ghost use Rattle.interpretation_spec.specs.ByName.{HasNumberedPath, IsFirstUnsatisfied, interpretation_of, is_target};
+ghost use Rattle.interpretation_spec.specs.Interpretation.{IsApart, IsModel, IsSame, IsWithin, Satisfies};
+ghost use Rattle.interpretation_spec.specs.Numbered.{IsMadeFor, targets_of};
+ghost use Rattle.interpretation_spec.specs.Row.{has};
+
+use crate::interpretation::Interpretation;
+use crate::pairs::{put_targets, targets_in};
+use crate::row::Row;
+use axioms::{Axiom, ExprId, IndId, Memory, Ontology, PropId};
+
+impl Interpretation {
+    /// The least number, from 1, of an axiom that does not hold, of the ontology that this was made for.
+    pub fn first_unsatisfied(&self, ontology: &Ontology) -> Result<Option<usize>, Memory>
+        requires { IsMadeFor ontology.now.names self.now }
+        ensures model { IfOk result (λ found. IsNone found → IsModel (interpretation_of ontology.now.names self.now) (axiom_trees ontology.now)) }
+        ensures first { IfOk result (λ found. IfSome found (IsFirstUnsatisfied ontology.now (interpretation_of ontology.now.names self.now))) }
+    {
+        well_formed(ontology);
+        let _ = self.size();
+        for (index, axiom) in ontology.axioms().iter().enumerate() {
+            if !self.satisfies(ontology, axiom)? {
+                return Ok(Some(index + 1));
+            }
+        }
+        Ok(None)
+    }
+
+    /// Whether the axiom holds (OWL 2 Direct Semantics, section 2.3), which is over names and expressions of the ontology
+    /// that this was made for.
+    pub fn satisfies(&self, ontology: &Ontology, axiom: &Axiom) -> Result<bool, Memory>
+        requires made_for { IsMadeFor ontology.now.names self.now }
+        requires of { IsAxiomOf ontology.now (axiom_of axiom.now) }
+        ensures { IfOk result (λ holds. IsTrue holds ↔ Satisfies (interpretation_of ontology.now.names self.now) (axiom_tree ontology.now (axiom_of axiom.now))) }
+    {
+        well_formed(ontology);
+        match axiom {
+            Axiom::SubClass(sub, sup) => self.is_within(ontology, *sub, *sup),
+            Axiom::EquivalentClasses(operands) => self.are_same(ontology, operands),
+            Axiom::DisjointClasses(operands) => self.are_apart(ontology, operands),
+            Axiom::SubProperty(chain, sup) => self.is_sub_property(chain, *sup),
+            Axiom::EquivalentProperties(properties) => Ok(self.are_same_properties(properties)),
+            Axiom::Domain(property, class) => {
+                let members = self.extension(ontology, *class)?;
+                Ok(self.has_sources_in(*property, &members))
+            }
+            Axiom::Transitive(property) => self.is_sub_property(&[*property, *property], *property),
+            Axiom::Reflexive(property) => Ok(self.is_reflexive(*property)),
+            Axiom::ClassAssertion(class, individual) => {
+                let members = self.extension(ontology, *class)?;
+                Ok(members.contains(self.individuals[individual.0]))
+            }
+            Axiom::PropertyAssertion(property, source, target) => {
+                Ok(self.joins(*property, *source, *target))
+            }
+        }
+    }
+
+    /// Whether the elements of `sub` are elements of `sup`.
+    fn is_within(&self, ontology: &Ontology, sub: ExprId, sup: ExprId) -> Result<bool, Memory>
+        requires made_for { IsMadeFor ontology.now.names self.now }
+        requires sub_there { sub.0 < length ontology.now.nodes }
+        requires super_there { sup.0 < length ontology.now.nodes }
+        ensures { IfOk result (λ holds. IsTrue holds ↔ IsWithin (interpretation_of ontology.now.names self.now) (expression_of ontology.now sub.0) (expression_of ontology.now sup.0)) }
+    {
+        let sub = self.extension(ontology, sub)?;
+        let sup = self.extension(ontology, sup)?;
+        Ok(sub.is_subset(&sup))
+    }
+
+    /// Whether the operands have the same elements.
+    fn are_same(&self, ontology: &Ontology, operands: &[ExprId]) -> Result<bool, Memory>
+        requires made_for { IsMadeFor ontology.now.names self.now }
+        requires there { All (λ e. e < length ontology.now.nodes) (expr_numbers operands.now) }
+        ensures { IfOk result (λ holds. IsTrue holds ↔ AllPairs (IsSame (interpretation_of ontology.now.names self.now)) (expressions ontology.now (expr_numbers operands.now))) }
+    {
+        let Some(first) = operands.first() else {
+            return Ok(true);
+        };
+        let first = self.extension(ontology, *first)?;
+        for operand in operands {
+            let members = self.extension(ontology, *operand)?;
+            if !first.is_subset(&members) {
+                return Ok(false);
+            }
+            if !members.is_subset(&first) {
+                return Ok(false);
+            }
+        }
+        Ok(true)
+    }
+
+    /// Whether no two of the operands have an element in common.
+    fn are_apart(&self, ontology: &Ontology, operands: &[ExprId]) -> Result<bool, Memory>
+        requires made_for { IsMadeFor ontology.now.names self.now }
+        requires there { All (λ e. e < length ontology.now.nodes) (expr_numbers operands.now) }
+        ensures { IfOk result (λ holds. IsTrue holds ↔ AllPairs (IsApart (interpretation_of ontology.now.names self.now)) (expressions ontology.now (expr_numbers operands.now))) }
+    {
+        let mut seen = Row::new(self.alloc, self.size())?;
+        for operand in operands {
+            let members = self.extension(ontology, *operand)?;
+            if !members.is_disjoint(&seen) {
+                return Ok(false);
+            }
+            seen.union(&members);
+        }
+        Ok(true)
+    }
+
+    /// Whether the property joins the elements of the individuals.
+    fn joins(&self, property: PropId, source: IndId, target: IndId) -> bool
+        requires property_there { property.0 < length self.now.pairs }
+        requires source_there { source.0 < length self.now.individuals }
+        requires target_there { target.0 < length self.now.individuals }
+        ensures { result ≡ is_target self.now property.0 (slice_index_or self.now.individuals source.0 0) (slice_index_or self.now.individuals target.0 0) }
+    {
+        let target = self.individuals[target.0];
+        self.targets_at(property, self.individuals[source.0])
+            .contains(&target)
+    }
+
+    /// Whether the property joins each element to itself.
+    fn is_reflexive(&self, property: PropId) -> bool
+        requires { property.0 < length self.now.pairs }
+        ensures { IsTrue result ↔ ((x : ℕ) → x < self.now.size → is_target self.now property.0 x x ≡ true) }
+    {
+        for element in 0..self.size() {
+            if !self.targets_at(property, element).contains(&element) {
+                return false;
+            }
+        }
+        true
+    }
+
+    /// Whether each element that the property joins to another is in the row.
+    fn has_sources_in(&self, property: PropId, row: &Row) -> bool
+        requires { property.0 < length self.now.pairs }
+        ensures { IsTrue result ↔ ((x : ℕ) → x < self.now.size → (y : ℕ) → is_target self.now property.0 x y ≡ true → has row.now x ≡ true) }
+    {
+        for source in 0..self.size() {
+            if !self.targets_at(property, source).is_empty() && !row.contains(source) {
+                return false;
+            }
+        }
+        true
+    }
+
+    /// Whether the properties join the same elements.
+    fn are_same_properties(&self, properties: &[PropId]) -> bool
+        requires { All (λ r. r < length self.now.pairs) (prop_numbers properties.now) }
+        ensures { IsTrue result ↔ AllPairs (λ r s. (x : ℕ) → x < self.now.size → targets_of self.now r x ≡ targets_of self.now s x) (prop_numbers properties.now) }
+    {
+        let Some(first) = properties.first() else {
+            return true;
+        };
+        for property in properties {
+            if !self.have_same_targets(*first, *property) {
+                return false;
+            }
+        }
+        true
+    }
+
+    /// Whether the two properties join the same elements.
+    fn have_same_targets(&self, first: PropId, second: PropId) -> bool
+        requires first_there { first.0 < length self.now.pairs }
+        requires second_there { second.0 < length self.now.pairs }
+        ensures { IsTrue result ↔ ((x : ℕ) → x < self.now.size → targets_of self.now first.0 x ≡ targets_of self.now second.0 x) }
+    {
+        for source in 0..self.size() {
+            if self.targets_at(first, source) != self.targets_at(second, source) {
+                return false;
+            }
+        }
+        true
+    }
+
+    /// Whether each path along the chain is a pair of the property.
+    fn is_sub_property(&self, chain: &[PropId], property: PropId) -> Result<bool, Memory>
+        requires chain_there { All (λ r. r < length self.now.pairs) (prop_numbers chain.now) }
+        requires property_there { property.0 < length self.now.pairs }
+        ensures { IfOk result (λ holds. IsTrue holds ↔ ((x : ℕ) → x < self.now.size → (y : ℕ) → y < self.now.size → HasNumberedPath self.now (prop_numbers chain.now) x y → is_target self.now property.0 x y ≡ true)) }
+    {
+        for source in 0..self.size() {
+            let reached = self.reached(chain, source)?;
+            let mut targets = Row::new(self.alloc, self.size())?;
+            put_targets(&mut targets, self.targets_at(property, source));
+            if !reached.is_subset(&targets) {
+                return Ok(false);
+            }
+        }
+        Ok(true)
+    }
+
+    /// The ends of the paths along the chain from the source.
+    fn reached(&self, chain: &[PropId], source: usize) -> Result<Row, Memory>
+        requires chain_there { All (λ r. r < length self.now.pairs) (prop_numbers chain.now) }
+        requires source_there { source < self.now.size }
+        ensures long { IfOk result (λ row. length row ≡ self.now.size) }
+        ensures members { IfOk result (λ row. (y : ℕ) → y < self.now.size → (has row y ≡ true) ↔ HasNumberedPath self.now (prop_numbers chain.now) source y) }
+    {
+        let mut reached = Row::new(self.alloc, self.size())?;
+        reached.put(source);
+        for property in chain {
+            reached = self.successors(*property, &reached)?;
+        }
+        Ok(reached)
+    }
+
+    /// The elements that the property joins one of the sources to.
+    fn successors(&self, property: PropId, sources: &Row) -> Result<Row, Memory>
+        requires there { property.0 < length self.now.pairs }
+        ensures long { IfOk result (λ row. length row ≡ self.now.size) }
+        ensures members { IfOk result (λ row. (y : ℕ) → y < self.now.size → (has row y ≡ true) ↔ ((x : ℕ) × (x < self.now.size) × (has sources.now x ≡ true) × (is_target self.now property.0 x y ≡ true))) }
+    {
+        let mut successors = Row::new(self.alloc, self.size())?;
+        for source in 0..self.size() {
+            if sources.contains(source) {
+                put_targets(&mut successors, self.targets_at(property, source));
+            }
+        }
+        Ok(successors)
+    }
+
+    /// The elements that the property joins the element to.
+    fn targets_at(&self, property: PropId, element: usize) -> &[usize]
+        requires property_there { property.0 < length self.now.pairs }
+        requires element_there { element < self.now.size }
+        ensures { result.now ≡ targets_of self.now property.0 element }
+    {
+        targets_in(&self.pairs[property.0], element)
+    }
+}
+
+/// Every ontology is well formed.
+fn well_formed(ontology: &Ontology)
+    ensures { IsOntology ontology.now }
+{
+    let _ = ontology.expr(ExprId(0));
+}

@@ -1,0 +1,12 @@
+//! Files by their paths: of the system, and in memory.
+#![tactic(auto)]
+
+mod files;
+mod memory;
+mod system;
+#[cfg(test)]
+mod tests;
+
+pub use files::Files;
+pub use memory::{MemoryFiles, MemorySink, MemorySource};
+pub use system::{FileReader, FileWriter, SystemFiles};
