@@ -1,5 +1,6 @@
 pub mod Places
 pub mod Checked
+pub mod Made
 pub mod Truth
 pub mod Derivations
 pub mod Decisions

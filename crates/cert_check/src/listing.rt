@@ -80,6 +80,8 @@ fn put_individuals(ontology: &Ontology, interpretation: &mut Interpretation, ele
 pub fn interpretation_of(alloc: Global, ontology: &Ontology, listed: &Listed) -> Result<Interpretation, Memory>
     ensures { IfOk result (IsMadeFor ontology.now.names) }
 {
+    // What holds of every ontology: owl:Thing and owl:Nothing are among its classes.
+    let _ = ontology.expr(ExprId(0));
     let mut interpretation = match Interpretation::new(alloc, ontology, listed.domain as usize) {
         Ok(interpretation) => interpretation,
         Err(_) => return Err(Memory),
