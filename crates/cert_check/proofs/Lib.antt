@@ -1,0 +1,11 @@
+pub mod Places
+pub mod Checked
+pub mod Made
+pub mod Truth
+pub mod Derivations
+pub mod Decisions
+pub mod Headline
+pub mod Determined
+pub mod Listings
+pub mod OneSubclass
+pub mod Contradiction

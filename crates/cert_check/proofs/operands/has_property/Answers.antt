@@ -1,0 +1,5 @@
+use Rattle.cert_check.proofs.Places.{contains_answer}
+use Rattle.cert_check.proofs.operands.has_property.Goals as goal
+
+pub returns : goal.returns
+returns c = contains_answer (λ p. p.0) c.args.operands.now c.args.property.0 c.contains.result c.contains.ensures.cases

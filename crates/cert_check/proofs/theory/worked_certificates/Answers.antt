@@ -1,0 +1,6 @@
+use Rattle.cert_check.proofs.OneSubclass.{one_subclass_is_accepted}
+use Rattle.cert_check.proofs.Contradiction.{contradiction_is_accepted}
+use Rattle.cert_check.proofs.theory.worked_certificates.Goals as goal
+
+pub returns : goal.returns
+returns c = record { one_subclass = one_subclass_is_accepted; contradiction = contradiction_is_accepted }

@@ -1,0 +1,18 @@
+//! The checker of certificates: whether a certificate shows that a taxonomy and instances are right.
+#![tactic(auto)]
+
+mod checker;
+mod claims;
+mod compare;
+mod derivation;
+mod listing;
+mod operands;
+mod relation;
+mod rules;
+mod superclasses;
+mod theory;
+mod verdict;
+
+pub use checker::check;
+pub use theory::{soundness, worked_certificates};
+pub use verdict::{Reason, Verdict};

@@ -1,0 +1,19 @@
+//! What an acceptable certificate means.
+ghost use Rattle.cert_check.specs.Examples.{ContradictionIsAccepted, OneSubclassIsAccepted};
+ghost use Rattle.cert_check.specs.Soundness.{AcceptableSays, LinesAreTrue, ListingsAgree, RulesKeepTruth, TextsAreDetermined};
+
+/// Rules keep truth, each line of a derivation is true wherever the axioms hold, acceptable texts are those of what
+/// follows from the axioms, and an ontology has no others.
+pub fn soundness()
+    ensures rules { RulesKeepTruth }
+    ensures lines { LinesAreTrue }
+    ensures says { AcceptableSays }
+    ensures determined { TextsAreDetermined }
+    ensures listings { ListingsAgree }
+{}
+
+/// Two certificates that are acceptable, so that what is promised of such can be met.
+pub fn worked_certificates()
+    ensures one_subclass { OneSubclassIsAccepted }
+    ensures contradiction { ContradictionIsAccepted }
+{}

@@ -1,0 +1,7 @@
+pub mod Names
+pub mod Run
+pub mod Complete
+pub mod Sound
+pub mod Inside
+pub mod Steps
+pub mod Documents

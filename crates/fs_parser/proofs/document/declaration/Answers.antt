@@ -1,0 +1,25 @@
+use Rattle.std.proofs.Common.{◌≡◌, ◌∷◌, List, ap, ◌∙◌}
+use Rattle.std.proofs.lemmas.Result.{err_from_is_err_and}
+use Rattle.fs_lexer.specs.Spelling.{Token}
+use Rattle.fs_lexer.specs.Views.{token_of}
+use Rattle.fs_parser.specs.View.{tokens_of, known_of, prefixes_of_code}
+use Rattle.fs_parser.proofs.Documents.{allowed_from, declared_iri}
+use Rattle.fs_parser.proofs.document.declaration.Goals as goal
+
+pub returns-in_err-iri-clause-refused : goal.returns-in_err-iri-clause-refused
+returns-in_err-iri-clause-refused c =
+    let p = err_from_is_err_and c.from_residual-in_err-iri.result c.from_residual-in_err-iri.ensures.1 in
+    let t : Token = c.in_ok-rest.ensures.found.token in
+    let u : Token = token_of c.in_ok-_opening._opening in
+    let v : Token = token_of c.in_ok-name_token.name_token in
+    let w : Token = token_of c.in_ok-_equals._equals in
+    let x : Token = token_of c.in_ok-iri_token.iri_token in
+    let e : tokens_of c.args.tokens.now ≡ t ∷ u ∷ v ∷ w ∷ x ∷ tokens_of c.in_ok-iri_token.rest.now =
+    c.in_ok-rest.ensures.found.tokens_are ∙ ap (λ (z : List Token). t ∷ z) (c.in_ok-_opening.ensures.found ∙ ap (λ (z : List Token). u ∷ z) (c.in_ok-name_token.ensures.found
+    ∙ ap (λ (z : List Token). v ∷ z) (c.in_ok-_equals.ensures.found ∙ ap (λ (z : List Token). w ∷ z) c.in_ok-iri_token.ensures.found))) in
+    rw p.1 (λ d rest h a.
+    let k = declared_iri (prefixes_of_code c.args.known.now.declared.items) d (tokens_of c.args.tokens.now) rest t u v w x (tokens_of c.in_ok-iri_token.rest.now) c.in_ok-name.name.now e c.in_ok-name.ensures.found h a in
+    c.in_err-iri.ensures.refused d.1 k.0 k.1)
+
+pub returns-clause-allowed : goal.returns-clause-allowed
+returns-clause-allowed c = allowed_from (known_of c.args.known.now) c.in_ok-name.name.now c.in_ok-iri.iri.now c.in_ok-name.ensures.allowed c.in_ok-iri.ensures.allowed

@@ -1,0 +1,7 @@
+use Rattle.fs_parser.specs.View.{known_of}
+use Rattle.fs_parser.proofs.Steps.{name_taken}
+use Rattle.fs_parser.proofs.document.new_name.Goals as goal
+
+pub returns-in-Some-iri-clause-refused : goal.returns-in-Some-iri-clause-refused
+returns-in-Some-iri-clause-refused c =
+    name_taken (known_of c.args.known.now) c.args.token.now.text.now c.in-Some.name.now c.in-Some-iri.field-0.now c.in-Some.ensures.some c.in-None.ensures.none c.in-Some-iri.ensures.some

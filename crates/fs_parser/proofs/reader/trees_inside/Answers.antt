@@ -1,0 +1,44 @@
+use Rattle.std.proofs.Common.{map, sym, ◌∙◌, arith}
+use Rattle.std.proofs.lemmas.Result.{err_from_is_err_and}
+use Rattle.fs_parser.specs.View.{tree_of, tokens_of, known_of}
+use Rattle.fs_parser.specs.State.{state_of}
+use Rattle.fs_parser.proofs.Run.{inside, start}
+use Rattle.fs_parser.proofs.Inside.{found_by, only_by}
+use Rattle.fs_parser.proofs.Steps.{loop_goes_on, loop_stops, loop_ends, loop_none}
+use Rattle.fs_parser.proofs.reader.trees_inside.Goals as goal
+
+pub loop-rest-preserved : goal.loop-rest-preserved
+loop-rest-preserved c =
+    let prefixes = known_of c.args.known.now in
+    loop_goes_on c.args.limit prefixes c.requires c.loop-rest.rest.now _ (state_of c.loop-rest.state) (state_of c.take.new.state) c.expand.result
+    (inside c.args.limit prefixes (tokens_of c.args.tokens.now) start) c.in-len1-up.len_at_least c.expand.ensures.some c.expand.ensures.none
+    (sym c.is_ended_by.ensures ∙ c.if-is_ended_by.false) c.in_ok-take.ensures c.loop-rest.invariant
+
+pub returns-in_err-take-clause-only : goal.returns-in_err-take-clause-only
+returns-in_err-take-clause-only c =
+    let prefixes = known_of c.args.known.now in
+    let p = err_from_is_err_and c.from_residual.result c.from_residual.ensures.1 in
+    λ ts h. rw (p.1, p.2) (loop_stops c.args.limit prefixes c.requires c.loop-rest.rest.now _ (state_of c.loop-rest.state) c.expand.result
+    (tokens_of c.args.tokens.now) c.in_err-take.field-0.0 c.in-len1-up.len_at_least c.expand.ensures.some c.expand.ensures.none
+    (sym c.is_ended_by.ensures ∙ c.if-is_ended_by.false) c.in_err-take.ensures c.loop-rest.invariant ts h)
+
+pub returns-then-is_ended_by-clause-found : goal.returns-then-is_ended_by-clause-found
+returns-then-is_ended_by-clause-found c =
+    let prefixes = known_of c.args.known.now in
+    let e = loop_ends c.args.limit prefixes c.loop-rest.rest.now _ (state_of c.loop-rest.state) (inside c.args.limit prefixes (tokens_of c.args.tokens.now) start)
+    c.in-len1-up.len_at_least (sym c.is_ended_by.ensures ∙ c.if-is_ended_by.true) c.loop-rest.invariant in
+    let h = c.end_before.ensures in
+    found_by (λ v. map tree_of v.items) c.end_before.result c.args.limit prefixes (tokens_of c.args.tokens.now) (rw (← e) h)
+
+pub returns-then-is_ended_by-clause-only : goal.returns-then-is_ended_by-clause-only
+returns-then-is_ended_by-clause-only c =
+    let prefixes = known_of c.args.known.now in
+    let e = loop_ends c.args.limit prefixes c.loop-rest.rest.now _ (state_of c.loop-rest.state) (inside c.args.limit prefixes (tokens_of c.args.tokens.now) start)
+    c.in-len1-up.len_at_least (sym c.is_ended_by.ensures ∙ c.if-is_ended_by.true) c.loop-rest.invariant in
+    let h = c.end_before.ensures in
+    only_by (λ v. map tree_of v.items) c.end_before.result c.args.limit prefixes c.requires (tokens_of c.args.tokens.now) (rw (← e) h)
+
+pub returns-clause-only : goal.returns-clause-only
+returns-clause-only c =
+    let prefixes = known_of c.args.known.now in
+    λ ts h. absurd (loop_none c.args.limit prefixes c.requires c.loop-rest.rest.now (state_of c.loop-rest.state) (tokens_of c.args.tokens.now) (omega arith) c.loop-rest.invariant ts h)

@@ -1,0 +1,13 @@
+use Rattle.std.proofs.Common.{◌≡◌, length}
+use Rattle.fs_parser.specs.State.{state_of}
+use Rattle.fs_parser.specs.View.{tokens_of, known_of}
+use Rattle.fs_parser.proofs.Run.{inside, start}
+use Rattle.fs_parser.proofs.reader.trees_inside.Given as goal
+
+-- what is left gives the trees of all
+abbrev pub invariant-loop-rest : goal.invariant-loop-rest
+invariant-loop-rest l =
+    inside l.limit (known_of l.known) (tokens_of l.rest) (state_of l.state) ≡ inside l.limit (known_of l.known) (tokens_of l.fn.tokens) start
+
+abbrev pub decreases-loop-rest : goal.decreases-loop-rest
+decreases-loop-rest l = length l.rest

@@ -1,0 +1,30 @@
+//! Reads the tokens of a document in the functional-style syntax of OWL 2 as trees, with names expanded.
+#![tactic(auto)]
+
+ghost use Rattle.fs_parser.specs.Laws.{OneTree, OneListOfTrees, DocumentsHavePrefixes, OneDocument, PrefixNamesEndAtColon};
+
+mod document;
+mod fault;
+mod iri;
+mod prefix;
+mod reader;
+mod tree;
+
+pub use document::forms;
+pub use fault::ParseFault;
+pub use iri::Iri;
+pub use prefix::Prefix;
+pub use tree::{Document, Tree};
+
+/// A law: tokens are at most one document. With prefixes that each stand for one IRI they are at most one list of trees,
+/// and the prefixes of a document are such.
+pub fn tokens_are_one_document()
+    ensures document { OneDocument }
+    ensures prefixes { DocumentsHavePrefixes }
+    ensures trees { OneListOfTrees }
+    ensures tree { OneTree }
+    ensures names { PrefixNamesEndAtColon }
+{}
+
+#[cfg(test)]
+mod tests;

@@ -1,0 +1,296 @@
+//! Reading tokens one after the other, with the open parentheses on a stack.
+
+ghost use Rattle.std.specs.Prelude.{◌≡◌, Some, None, map};
+ghost use Rattle.std.specs.Result.{IfOk};
+ghost use Rattle.fs_lexer.specs.Views.{token_of};
+ghost use Rattle.fs_parser.specs.Machine as machine;
+ghost use Rattle.fs_parser.specs.Machine.{add, enter, leave, plain, behind_text, step, ends, finish, finish_before};
+ghost use Rattle.fs_parser.specs.Name.{StandForOne};
+ghost use Rattle.fs_parser.specs.State.{Gives, Fails, whole_of, frames_of, keyword_of, name_of_code, state_of};
+ghost use Rattle.fs_parser.specs.Tree.{Trees, AreClosed};
+ghost use Rattle.fs_parser.specs.View.{tokens_of, known_of, tree_of, trees_of};
+
+use crate::fault::ParseFault;
+use crate::iri::Iri;
+use crate::prefix::{Known, expand};
+use crate::tree::Tree;
+use fs_lexer::{Kind, Token};
+use std::alloc::Global;
+use std::mem;
+
+/// What was read and is no whole tree yet.
+#[derive(Clone, Copy)]
+pub enum Pending<'a> {
+    Nothing,
+    Word(usize, &'a str),
+    Text(usize, &'a str),
+    Typed(usize, &'a str),
+}
+
+/// An open parenthesis: where its tree begins, its keyword, and the trees before it.
+#[derive(Drop)]
+pub struct Frame<'a> {
+    pub at: usize,
+    pub keyword: Option<&'a str>,
+    pub before: Vec<Tree<'a>>,
+}
+
+/// What was read so far.
+#[derive(Drop)]
+pub struct State<'a> {
+    pub frames: Vec<Frame<'a>>,
+    pub done: Vec<Tree<'a>>,
+    pub pending: Pending<'a>,
+}
+
+/// One more tree.
+fn push<'a>(state: &mut State<'a>, tree: Tree<'a>) -> Result<(), ParseFault>
+    ensures { Gives (λ _. state_of state.new) result (Some (add (frames_of state.old.frames.items) (map tree_of state.old.done.items) (tree_of tree.entry))) }
+{
+    state.done.push(tree)?;
+    state.pending = Pending::Nothing;
+    Ok(())
+}
+
+/// One more open parenthesis, at `here`, of a tree that begins at `at`.
+fn open<'a>(
+    alloc: Global,
+    limit: usize,
+    state: &mut State<'a>,
+    at: usize,
+    keyword: Option<&'a str>,
+    here: usize,
+) -> Result<(), ParseFault>
+    ensures { Gives (λ _. state_of state.new) result (enter limit (frames_of state.old.frames.items) (map tree_of state.old.done.items) at (keyword_of keyword.entry)) }
+{
+    if state.frames.len() >= limit {
+        return Err(ParseFault::TooDeep { at: here });
+    }
+    let before = mem::replace(&mut state.done, Vec::new(alloc));
+    state.frames.push(Frame {
+        at,
+        keyword,
+        before,
+    })?;
+    state.pending = Pending::Nothing;
+    Ok(())
+}
+
+/// The tree of a frame, with the trees in it.
+fn whole<'a>(at: usize, keyword: Option<&'a str>, trees: Vec<Tree<'a>>) -> Tree<'a>
+    ensures { tree_of result ≡ whole_of at (keyword_of keyword.entry) (map tree_of trees.entry.items) }
+{
+    match keyword {
+        Some(keyword) => Tree::Form { at, keyword, trees },
+        None => Tree::Group { at, trees },
+    }
+}
+
+/// One open parenthesis less.
+fn close(state: &mut State<'_>, here: usize) -> Result<(), ParseFault>
+    ensures { Gives (λ _. state_of state.new) result (leave (frames_of state.old.frames.items) (map tree_of state.old.done.items)) }
+{
+    match state.frames.pop() {
+        Some(frame) => {
+            let trees = mem::replace(&mut state.done, frame.before);
+            push(state, whole(frame.at, frame.keyword, trees))
+        }
+        None => Err(ParseFault::Unexpected { at: here }),
+    }
+}
+
+/// Why the token names no IRI: its prefix is not known, or it is no name.
+fn unnamed(token: &Token<'_>) -> ParseFault
+    ensures { Fails {Y = machine.State} result None }
+{
+    match token.kind {
+        Kind::FullIri | Kind::ShortName => ParseFault::UnknownPrefix { at: token.at },
+        _ => ParseFault::Unexpected { at: token.at },
+    }
+}
+
+/// A token where nothing is pending.
+fn take_plain<'a>(
+    alloc: Global,
+    limit: usize,
+    state: &mut State<'a>,
+    token: &Token<'a>,
+    name: Option<Iri<'a>>,
+) -> Result<(), ParseFault>
+    ensures { Gives (λ _. state_of state.new) result (plain limit (name_of_code name.entry) (frames_of state.old.frames.items) (map tree_of state.old.done.items) token.now.kind (token_of token.now)) }
+{
+    match token.kind {
+        Kind::Opening => open(alloc, limit, state, token.at, None, token.at),
+        Kind::Closing => close(state, token.at),
+        Kind::FullIri | Kind::ShortName => match name {
+            Some(iri) => push(state, Tree::Name { at: token.at, iri }),
+            None => Err(unnamed(token)),
+        },
+        Kind::Quoted => {
+            state.pending = Pending::Text(token.at, token.text);
+            Ok(())
+        }
+        Kind::Keyword => {
+            state.pending = Pending::Word(token.at, token.text);
+            Ok(())
+        }
+        Kind::Integer => push(
+            state,
+            Tree::Number {
+                at: token.at,
+                digits: token.text,
+            },
+        ),
+        Kind::NodeLabel => push(
+            state,
+            Tree::Anonymous {
+                at: token.at,
+                label: token.text,
+            },
+        ),
+        Kind::Equals | Kind::Carets | Kind::LanguageTag | Kind::PrefixName => {
+            Err(ParseFault::Unexpected { at: token.at })
+        }
+    }
+}
+
+/// A token behind a string.
+fn take_behind_text<'a>(
+    alloc: Global,
+    limit: usize,
+    state: &mut State<'a>,
+    at: usize,
+    text: &'a str,
+    token: &Token<'a>,
+    name: Option<Iri<'a>>,
+) -> Result<(), ParseFault>
+    ensures { Gives (λ _. state_of state.new) result (behind_text limit (name_of_code name.entry) (frames_of state.old.frames.items) (map tree_of state.old.done.items) at text.now token.now.kind (token_of token.now)) }
+{
+    match token.kind {
+        Kind::LanguageTag => push(
+            state,
+            Tree::TaggedLiteral {
+                at,
+                text,
+                tag: token.text,
+            },
+        ),
+        Kind::Carets => {
+            state.pending = Pending::Typed(at, text);
+            Ok(())
+        }
+        _ => {
+            push(state, Tree::PlainLiteral { at, text })?;
+            take_plain(alloc, limit, state, token, name)
+        }
+    }
+}
+
+/// One more token, which names the IRI, if any.
+fn take<'a>(
+    alloc: Global,
+    limit: usize,
+    state: &mut State<'a>,
+    token: &Token<'a>,
+    name: Option<Iri<'a>>,
+) -> Result<(), ParseFault>
+    ensures { Gives (λ _. state_of state.new) result (step limit (name_of_code name.entry) (state_of state.old) (token_of token.now)) }
+{
+    match state.pending {
+        Pending::Nothing => take_plain(alloc, limit, state, token, name),
+        Pending::Word(at, keyword) => {
+            if token.kind == Kind::Opening {
+                open(alloc, limit, state, at, Some(keyword), token.at)
+            } else {
+                Err(ParseFault::Unexpected { at: token.at })
+            }
+        }
+        Pending::Text(at, text) => take_behind_text(alloc, limit, state, at, text, token, name),
+        Pending::Typed(at, text) => match name {
+            Some(iri) => push(
+                state,
+                Tree::TypedLiteral {
+                    at,
+                    text,
+                    datatype: iri,
+                },
+            ),
+            None => Err(unnamed(token)),
+        },
+    }
+}
+
+/// The trees, at the end of the tokens.
+fn end(state: State<'_>, here: usize) -> Result<Vec<Tree<'_>>, ParseFault>
+    ensures { Gives (λ v. map tree_of v.items) result (finish (state_of state.entry)) }
+{
+    if !state.frames.is_empty() {
+        return Err(ParseFault::UnexpectedEnd { at: here });
+    }
+    let mut done = state.done;
+    match state.pending {
+        Pending::Nothing => Ok(done),
+        Pending::Text(at, text) => {
+            done.push(Tree::PlainLiteral { at, text })?;
+            Ok(done)
+        }
+        Pending::Word(..) | Pending::Typed(..) => Err(ParseFault::UnexpectedEnd { at: here }),
+    }
+}
+
+/// Whether the token closes a parenthesis that was open before the first of the trees, so that these are whole.
+fn is_ended_by(state: &State<'_>, token: &Token<'_>) -> bool
+    ensures { result ≡ ends (state_of state.now) (token_of token.now) }
+{
+    if !state.frames.is_empty() {
+        return false;
+    }
+    match token.kind {
+        Kind::Closing => matches!(state.pending, Pending::Nothing | Pending::Text(..)),
+        _ => false,
+    }
+}
+
+/// The trees, at the parenthesis that closes them. No token may follow it.
+fn end_before<'a>(
+    rest: &[Token<'_>],
+    state: State<'a>,
+    here: usize,
+) -> Result<Vec<Tree<'a>>, ParseFault>
+    ensures { Gives (λ v. map tree_of v.items) result (finish_before (tokens_of rest.now) (state_of state.entry)) }
+{
+    match rest {
+        [] => end(state, here),
+        [next, ..] => Err(ParseFault::Unexpected { at: next.at }),
+    }
+}
+
+/// The trees that the tokens are up to a closing parenthesis, which is the last token. At most `limit` parentheses are
+/// open at once in the trees. `here` is where the tokens end.
+pub fn trees_inside<'a>(
+    alloc: Global,
+    limit: usize,
+    known: &Known<'a>,
+    tokens: &[Token<'a>],
+    here: usize,
+) -> Result<Vec<Tree<'a>>, ParseFault>
+    requires { StandForOne (known_of known.now) }
+    ensures found { IfOk result (λ v. AreClosed limit (known_of known.now) (trees_of v.items) (tokens_of tokens.now)) }
+    // Where they are such trees these are found, unless memory runs out.
+    ensures only { (ts : Trees) → AreClosed limit (known_of known.now) ts (tokens_of tokens.now) → Gives (λ v. trees_of v.items) result (Some ts) }
+{
+    let mut state = State {
+        frames: Vec::new(alloc),
+        done: Vec::new(alloc),
+        pending: Pending::Nothing,
+    };
+    let mut rest = tokens;
+    while let [token, others @ ..] = rest {
+        if is_ended_by(&state, token) {
+            return end_before(others, state, here);
+        }
+        take(alloc, limit, &mut state, token, expand(known, token))?;
+        rest = others;
+    }
+    Err(ParseFault::UnexpectedEnd { at: here })
+}
