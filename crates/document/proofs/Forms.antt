@@ -1,5 +1,5 @@
 -- Subclass axioms among trees.
-use Rattle.std.proofs.Common.{◌≡◌, ℕ, zero, suc, ◌+◌, ◌<◌, ◌≤◌, Bool, true, false, List, [], ◌∷◌, ◌++◌, map, take, length, get_or, slice_get, Some, None, Option, refl, sym, ap, ap₂, ◌∙◌, arith, codes, if◌then◌else◌}
+use Rattle.std.proofs.Common.{◌≡◌, ℕ, zero, suc, ◌+◌, ◌<◌, ◌≤◌, Bool, true, false, List, [], ◌∷◌, ◌++◌, map, take, length, get_or, slice_get, Some, None, Option, refl, sym, ap, ap₂, ◌∙◌, subst, arith, codes, lit≤, if◌then◌else◌}
 use Rattle.std.specs.Str.{bytes_eq}
 use Rattle.std.proofs.lemmas.Option.{none-some, same_Some, slice_get-get_or, slice_get-map}
 use Rattle.std.proofs.lemmas.List.{map-append, take_all}
@@ -8,6 +8,9 @@ use Rattle.axioms.proofs.Lists.{take_push}
 use Rattle.axioms.specs.Growth.{empty_ontology}
 use Rattle.axioms.specs.Numbered.{Ontology}
 use Rattle.axioms.specs.Expression.{Iri}
+use Rattle.document.specs.Answers.{FailsWhere, HasFewNames, IsBuildingFault, IsOneMore, NotOfStatements, OfStatements}
+use Rattle.document.specs.declared.fault.DocumentFault.{DocumentFault}
+use Rattle.document.specs.declared.fault.DocumentFault.TheVariants as faults
 use Rattle.document.specs.Documents.{class_pair, joined, subclass_form, subclass_pair, subclass_pairs}
 use Rattle.document.proofs.OneMore.{no_statement}
 use Rattle.document.specs.Theorems.{IsOfSubclasses}
@@ -62,23 +65,48 @@ pub record AreRead (ts : List code.Tree) (n : ℕ) (o : Ontology) : Type 0 where
   pub pairs : List (Iri × Iri)
   pub read : subclass_pairs (trees_of (take n ts)) ≡ Some pairs
   pub ontology : IsOfSubclasses pairs o
+  pub few : HasFewNames o
 
 pub read_none : (ts : List code.Tree) → AreRead ts 0 empty_ontology
-read_none ts = record { pairs = []; read = refl; ontology = no_statement }
+read_none ts = record { pairs = []; read = refl; ontology = no_statement; few = lit≤ tt }
 
 pub read_more : (ts : List code.Tree) (n : ℕ) (t : code.Tree) (o p : Ontology) (s : Iri × Iri) → AreRead ts n o → n < length ts → t ≡ get_or ts n t → subclass_pair (tree_of t) ≡ Some s →
-    ((pairs : List (Iri × Iri)) → IsOfSubclasses pairs o → IsOfSubclasses (pairs ++ s ∷ []) p) → AreRead ts (n + 1) p
+    IsOneMore o p s → AreRead ts (n + 1) p
 read_more ts n t o p s so_far within is pair grows = record {
   pairs = so_far.pairs ++ s ∷ [];
   read =
       ap (λ xs. subclass_pairs (trees_of xs)) (take_push ts n t (slice_get-get_or ts n t within ∙ ap Some (sym is)))
       ∙ ap (λ xs. subclass_pairs (trees_from xs)) (map-append tree_of (take n ts) (t ∷ []))
       ∙ pairs_push (map tree_of (take n ts)) (tree_of t) so_far.pairs s so_far.read pair;
-  ontology = grows so_far.pairs so_far.ontology;
+  ontology = grows.statements so_far.pairs so_far.ontology;
+  few = grows.few so_far.few;
 }
 
-pub read_all : (ts : List code.Tree) (n : ℕ) (o : Ontology) → AreRead ts n o → length ts ≤ n → (pairs : List (Iri × Iri)) × (subclass_pairs (trees_of ts) ≡ Some pairs) × IsOfSubclasses pairs o
-read_all ts n o so_far all = (so_far.pairs, ap (λ xs. subclass_pairs (trees_of xs)) (sym (take_all n ts all)) ∙ so_far.read, so_far.ontology)
+pub read_all : (ts : List code.Tree) (n : ℕ) (o : Ontology) → AreRead ts n o → length ts ≤ n → OfStatements o (subclass_pairs (trees_of ts))
+read_all ts n o so_far all =
+    let P : Option (List (Iri × Iri)) → Type 0 = OfStatements o in
+    subst P (sym (ap (λ xs. subclass_pairs (trees_of xs)) (sym (take_all n ts all)) ∙ so_far.read)) (so_far.ontology, so_far.few)
 
 pub read_not : (ts : List code.Tree) (n : ℕ) (t : code.Tree) → n < length ts → t ≡ get_or ts n t → subclass_pair (tree_of t) ≡ None → subclass_pairs (trees_of ts) ≡ None
 read_not ts n t within is none = pairs_none (map tree_of ts) n (tree_of t) (slice_get-map tree_of ts n ∙ ap (option_map tree_of) (slice_get-get_or ts n t within ∙ ap Some (sym is))) none
+
+-- a fault of one tree, and one of building, as a fault of all
+pub tree_fault : (e : DocumentFault) (read : Option (Iri × Iri)) (all : Option (List (Iri × Iri))) → FailsWhere (read ≡ None) e → (read ≡ None → all ≡ None) → NotOfStatements e all
+tree_fault (faults.WrongShape at) read all h more = more h
+tree_fault faults.Memory read all h more = tt
+tree_fault faults.TooManyNames read all h more = absurd h
+tree_fault faults.TooLarge read all h more = absurd h
+tree_fault faults.Io read all h more = absurd h
+tree_fault (faults.NotUtf8 at) read all h more = absurd h
+tree_fault (faults.Lex f) read all h more = absurd h
+tree_fault (faults.Parse f) read all h more = absurd h
+
+pub building_fault : (e : DocumentFault) (all : Option (List (Iri × Iri))) → IsBuildingFault e → NotOfStatements e all
+building_fault (faults.WrongShape at) all h = absurd h
+building_fault faults.Memory all h = tt
+building_fault faults.TooManyNames all h = tt
+building_fault faults.TooLarge all h = absurd h
+building_fault faults.Io all h = absurd h
+building_fault (faults.NotUtf8 at) all h = absurd h
+building_fault (faults.Lex f) all h = absurd h
+building_fault (faults.Parse f) all h = absurd h

@@ -2,3 +2,4 @@ pub mod FirstPlaces
 pub mod OneMore
 pub mod Forms
 pub mod Declared
+pub mod Readings

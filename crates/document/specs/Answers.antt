@@ -1,9 +1,9 @@
 -- What reading a tree answers.
-use Rattle.std.specs.Prelude.{◌≡◌, List, [], ◌∷◌, ◌++◌, Option, Some, None, Result, Ok, Err, String, string_bytes, true, false}
+use Rattle.std.specs.Prelude.{◌≡◌, ◌≤◌, List, length, [], ◌∷◌, ◌++◌, Option, Some, None, Result, Ok, Err, String, string_bytes, true, false}
 use Rattle.std.specs.declared.alloc.Global.{Global}
 use Rattle.axioms.specs.Expression.{Iri}
 use Rattle.axioms.specs.Numbered.{Ontology}
-use Rattle.axioms.specs.declared.fault.BuildFault.{BuildFault}
+use Rattle.axioms.specs.Growth.{most_names}
 use Rattle.document.specs.declared.fault.DocumentFault.{DocumentFault}
 use Rattle.document.specs.declared.fault.DocumentFault.TheVariants.{WrongShape, TooManyNames, Memory}
 use Rattle.document.specs.declared.statements.Subclass.{Subclass}
@@ -27,15 +27,30 @@ abbrev pub GivesName : Result (String Global) DocumentFault → Iri → Type 0
 GivesName (Ok s) iri = (string_bytes s ≡ iri) × (is_class_name iri ≡ true)
 GivesName (Err e) iri = FailsWhere (is_class_name iri ≡ false) e
 
--- the ontology of one more statement, or a fault of building
-abbrev pub Grows : Ontology → Ontology → Subclass → Result (Unit {0}) BuildFault → Type 0
-Grows old new s (Ok _) = (pairs : List (Iri × Iri)) → IsOfSubclasses pairs old → IsOfSubclasses (pairs ++ pair_of s ∷ []) new
-Grows old new s (Err e) = Unit {0}
+-- as many class names as there may be
+abbrev pub HasFewNames : Ontology → Type 0
+HasFewNames o = length o.names.classes ≤ most_names
+
+-- building failed: a refused growth, or too many names
+abbrev pub IsBuildingFault : DocumentFault → Type 0
+IsBuildingFault Memory = Unit {0}
+IsBuildingFault TooManyNames = Unit {0}
+IsBuildingFault _ = ⊥
+
+-- the ontology of one more statement
+pub record IsOneMore (old new : Ontology) (s : Iri × Iri) : Type 0 where
+  pub statements : (pairs : List (Iri × Iri)) → IsOfSubclasses pairs old → IsOfSubclasses (pairs ++ s ∷ []) new
+  pub few : HasFewNames old → HasFewNames new
+
+-- .. or a fault of building
+abbrev pub Grows : Ontology → Ontology → Subclass → Result (Unit {0}) DocumentFault → Type 0
+Grows old new s (Ok _) = IsOneMore old new (pair_of s)
+Grows old new s (Err e) = IsBuildingFault e
 
 -- the ontology of these statements; no fault of shape where all trees are such
 abbrev pub OfStatements : Ontology → Option (List (Iri × Iri)) → Type 0
 OfStatements o None = ⊥
-OfStatements o (Some pairs) = IsOfSubclasses pairs o
+OfStatements o (Some pairs) = IsOfSubclasses pairs o × HasFewNames o
 
 abbrev pub NotOfStatements : DocumentFault → Option (List (Iri × Iri)) → Type 0
 NotOfStatements (WrongShape at) read = read ≡ None

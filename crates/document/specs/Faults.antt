@@ -39,3 +39,8 @@ Refuses TooManyNames bytes = Unit {0}
 Refuses Memory bytes = Unit {0}
 Refuses TooLarge bytes = ⊥
 Refuses Io bytes = ⊥
+
+-- .. of a text, which is UTF-8
+abbrev pub RefusesText : DocumentFault → List ℕ → Type 0
+RefusesText (NotUtf8 at) text = ⊥
+RefusesText fault text = Refuses fault text
