@@ -6,6 +6,8 @@ mod classify_document;
 mod fault;
 mod perform;
 mod printing;
+#[cfg(test)]
+mod tests;
 
 pub use axioms::Ontology;
 pub use cert_check::{Reason, Verdict};

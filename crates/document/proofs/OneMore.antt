@@ -25,7 +25,7 @@ length_class_nodes : (n : ℕ) → length (class_nodes n) ≡ n
 length_class_nodes zero = refl
 length_class_nodes (suc n) = omega (arith, length-append (class_nodes n) (Class n ∷ []), length_class_nodes n)
 
-class_node : (n e : ℕ) (node : Node) → slice_get (class_nodes n) e ≡ Some node → node ≡ Class e
+pub class_node : (n e : ℕ) (node : Node) → slice_get (class_nodes n) e ≡ Some node → node ≡ Class e
 class_node zero e node g = absurd (none-some node g)
 class_node (suc n) e node g =
     elim (slice_get_push_cases (class_nodes n) (Class n) e node g) [
@@ -59,7 +59,7 @@ trees_are o shape =
     ∙ class_trees o.names (length o.names.classes) (omega arith)
     ∙ ap (map Named) (take-length o.names.classes)
 
-length_nodes : (o : Ontology) → IsSubclassOntology o → length o.nodes ≡ length o.names.classes
+pub length_nodes : (o : Ontology) → IsSubclassOntology o → length o.nodes ≡ length o.names.classes
 length_nodes o shape = ap length shape.nodes ∙ length_class_nodes (length o.names.classes)
 
 is_class_at : (o : Ontology) → IsSubclassOntology o → (e : ℕ) → e < length o.names.classes → IsClassAt o e e

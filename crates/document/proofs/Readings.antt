@@ -1,6 +1,8 @@
 -- What a document reads as, from what its parts are.
-use Rattle.std.proofs.Common.{◌≡◌, ℕ, List, Some, None, Option, Result, Ok, Err, IfOk, IfErr, refl, sym, ap, ◌∙◌, subst}
+use Rattle.std.proofs.Common.{◌≡◌, ℕ, ◌≤◌, ◌++◌, List, length, Some, None, Option, Result, Ok, Err, IfOk, IfErr, refl, sym, ap, ◌∙◌, subst}
 use Rattle.std.proofs.lemmas.Option.{none-some}
+use Rattle.std.proofs.lemmas.List.{append-nil}
+use Rattle.std.specs.Io.KnownBytes.{Consumes, IsAtEnd}
 use Rattle.std.specs.Str.{IsUtf8}
 use Rattle.axioms.specs.Expression.{Iri}
 use Rattle.axioms.specs.Numbered.{Ontology}
@@ -8,15 +10,14 @@ use Rattle.fs_lexer.proofs.Whole.{one_spelling}
 use Rattle.fs_lexer.specs.Spelling.{Token, Spells}
 use Rattle.fs_parser.proofs.Documents.{one_document}
 use Rattle.fs_parser.specs.Document.{Document, IsDocument}
-use Rattle.document.specs.Answers.{GivesOntology, NotOfStatements, OfStatements}
+use Rattle.document.specs.Answers.{GivesOntology, IsTaken, NotOfStatements, OfStatements}
 use Rattle.document.specs.declared.fault.DocumentFault.{DocumentFault}
 use Rattle.document.specs.declared.fault.DocumentFault.TheVariants as faults
 use Rattle.document.specs.Documents.{ReadsAs, subclass_pairs}
-use Rattle.document.specs.Faults.{ReadAsNone, Refuses, RefusesText, of_parsing}
+use Rattle.document.specs.Faults.{ReadAsNone, Refuses, RefusesKnown, RefusesText, of_parsing}
 use Rattle.fs_parser.specs.State.{IsRefusal}
 use Rattle.fs_parser.specs.declared.fault.ParseFault.{ParseFault}
 use Rattle.fs_parser.specs.declared.fault.ParseFault.TheVariants as parsing
-use Rattle.document.specs.Subclasses.{IsSubclassOntology}
 use Rattle.document.specs.Theorems.{IsOfSubclasses}
 
 module _ (text : List ℕ) (tokens : List Token) (document : Document) (spelled : Spells text tokens) (written : IsDocument document tokens) where
@@ -61,9 +62,13 @@ module _ (text : List ℕ) (tokens : List Token) (document : Document) (spelled 
   refused_answer (Ok o) h = tt
   refused_answer (Err e) h = shape_fault e h
 
-pub shape_of : (o : Ontology) (read : Option (List (Iri × Iri))) → OfStatements o read → IsSubclassOntology o
-shape_of o None h = absurd h
-shape_of o (Some pairs) h = h.0.shape
+taken_from : (o : Ontology) (read : Option (List (Iri × Iri))) → OfStatements o read → IsTaken o
+taken_from o None h = absurd h
+taken_from o (Some pairs) h = record { shape = h.0.shape; few = h.1 }
+
+pub taken : (r : Result Ontology DocumentFault) (read : Option (List (Iri × Iri))) → GivesOntology r read → IfOk r IsTaken
+taken (Ok o) read h = taken_from o read h
+taken (Err e) read h = tt
 
 -- tokens that are no document
 pub no_document : (text : List ℕ) (tokens : List Token) → Spells text tokens → ((d : Document) → IsDocument d tokens → ⊥) → ReadAsNone text
@@ -97,3 +102,26 @@ of_text (faults.Parse f) text h = h
 pub bytes_refused : (r : Result Ontology DocumentFault) (text bytes : List ℕ) → text ≡ bytes → IfErr r (λ e. RefusesText e text) → IfErr r (λ e. Refuses e bytes)
 bytes_refused (Ok o) text bytes same h = tt
 bytes_refused (Err e) text bytes same h = let P : List ℕ → Type 0 = Refuses e in subst P same (of_text e text h)
+
+-- all the bytes of a source
+not_read : (xs : List ℕ) (most : ℕ) (e : DocumentFault) → Refuses e xs → RefusesKnown (Some xs) most e
+not_read xs most (faults.WrongShape at) h = h
+not_read xs most faults.Memory h = h
+not_read xs most faults.TooManyNames h = h
+not_read xs most faults.TooLarge h = absurd h
+not_read xs most faults.Io h = absurd h
+not_read xs most (faults.NotUtf8 at) h = h
+not_read xs most (faults.Lex f) h = h
+not_read xs most (faults.Parse f) h = h
+
+known_refused : (left rest : Option (List ℕ)) (bytes : List ℕ) (most : ℕ) (e : DocumentFault) → Consumes left rest bytes → IsAtEnd rest → Refuses e bytes → RefusesKnown left most e
+known_refused None rest bytes most e all end h = tt
+known_refused (Some xs) None bytes most e all end h = absurd all
+known_refused (Some xs) (Some ys) bytes most e all end h =
+    let same : bytes ≡ xs = sym (all ∙ ap (λ zs. bytes ++ zs) end ∙ append-nil bytes) in
+    let P : List ℕ → Type 0 = Refuses e in not_read xs most e (subst P same h)
+
+pub answer_refused : (r : Result Ontology DocumentFault) (left rest : Option (List ℕ)) (bytes text : List ℕ) (most : ℕ) → Consumes left rest bytes → IsAtEnd rest → text ≡ bytes → IfErr r (λ e. Refuses e text) → IfErr r (RefusesKnown left most)
+answer_refused (Ok o) left rest bytes text most all end same h = tt
+answer_refused (Err e) left rest bytes text most all end same h =
+    let P : List ℕ → Type 0 = Refuses e in known_refused left rest bytes most e all end (subst P same h)

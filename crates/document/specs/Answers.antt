@@ -8,6 +8,7 @@ use Rattle.document.specs.declared.fault.DocumentFault.{DocumentFault}
 use Rattle.document.specs.declared.fault.DocumentFault.TheVariants.{WrongShape, TooManyNames, Memory}
 use Rattle.document.specs.declared.statements.Subclass.{Subclass}
 use Rattle.document.specs.Documents.{is_class_name}
+use Rattle.document.specs.Subclasses.{IsSubclassOntology}
 use Rattle.document.specs.Theorems.{IsOfSubclasses}
 
 abbrev pub pair_of : Subclass → Iri × Iri
@@ -30,6 +31,11 @@ GivesName (Err e) iri = FailsWhere (is_class_name iri ≡ false) e
 -- as many class names as there may be
 abbrev pub HasFewNames : Ontology → Type 0
 HasFewNames o = length o.names.classes ≤ most_names
+
+-- an ontology of subclass axioms between named classes, with as many names as there may be
+pub record IsTaken (o : Ontology) : Type 0 where
+  pub shape : IsSubclassOntology o
+  pub few : HasFewNames o
 
 -- building failed: a refused growth, or too many names
 abbrev pub IsBuildingFault : DocumentFault → Type 0

@@ -1,5 +1,5 @@
 -- What a fault says of a document.
-use Rattle.std.specs.Prelude.{List, ℕ}
+use Rattle.std.specs.Prelude.{List, ℕ, ◌<◌, ◌≤◌, length, Option, Some, None}
 use Rattle.std.specs.Str.{IsUtf8, IsValidUpTo}
 use Rattle.axioms.specs.Numbered.{Ontology}
 use Rattle.axioms.specs.declared.fault.BuildFault.{BuildFault}
@@ -44,3 +44,14 @@ Refuses Io bytes = ⊥
 abbrev pub RefusesText : DocumentFault → List ℕ → Type 0
 RefusesText (NotUtf8 at) text = ⊥
 RefusesText fault text = Refuses fault text
+
+-- what a source that tells its bytes says of an answer about them, where at most so many are allowed
+abbrev pub ReadsKnown : Option (List ℕ) → ℕ → Ontology → Type 0
+ReadsKnown None most o = Unit {0}
+ReadsKnown (Some bytes) most o = ReadsAs bytes o × (length bytes ≤ most)
+
+abbrev pub RefusesKnown : Option (List ℕ) → ℕ → DocumentFault → Type 0
+RefusesKnown None most e = Unit {0}
+RefusesKnown (Some bytes) most TooLarge = most < length bytes
+RefusesKnown (Some bytes) most Io = Unit {0}
+RefusesKnown (Some bytes) most e = Refuses e bytes

@@ -1,12 +1,12 @@
 //! From bytes to an ontology.
 ghost use Rattle.axioms.specs.Growth.{DeclaresClass};
 ghost use Rattle.axioms.specs.WellFormed.{IsOntology};
+ghost use Rattle.device.specs.Device.{HasFailed};
 ghost use Rattle.document.specs.Documents.{ReadsAs, subclass_pairs};
-ghost use Rattle.document.specs.Faults.{Refuses, RefusesText};
-ghost use Rattle.document.specs.Subclasses.{IsSubclassOntology};
-ghost use Rattle.document.specs.Answers.{GivesOntology, Grows, HasFewNames, IsBuildingFault};
+ghost use Rattle.document.specs.Faults.{ReadsKnown, Refuses, RefusesKnown, RefusesText};
+ghost use Rattle.document.specs.Answers.{GivesOntology, Grows, HasFewNames, IsBuildingFault, IsTaken};
 ghost use Rattle.fs_parser.specs.View.{trees_of};
-ghost use Rattle.std.specs.Prelude.{◌≡◌, IfErr, IfOk, OnOk, ℕ};
+ghost use Rattle.std.specs.Prelude.{◌≡◌, Err, IfErr, IfOk, OnOk, ℕ};
 ghost use Rattle.std.specs.Str.{IsUtf8};
 
 use crate::fault::DocumentFault;
@@ -84,7 +84,7 @@ fn ontology_of(
 /// The ontology that a text reads as.
 fn read_text(alloc: Global, text: &str, state: RandomState) -> Result<Ontology, DocumentFault>
     ensures read { IfOk result (λ o. IsUtf8 text.now → ReadsAs text.now o) }
-    ensures shape { IfOk result IsSubclassOntology }
+    ensures taken { IfOk result IsTaken }
     ensures refused { IfErr result (λ e. RefusesText e text.now) }
 {
     let tokens = match tokens(alloc, text) {
@@ -106,7 +106,7 @@ pub fn read_bytes(
     state: RandomState,
 ) -> Result<Ontology, DocumentFault>
     ensures read { IfOk result (ReadsAs bytes.now) }
-    ensures shape { IfOk result IsSubclassOntology }
+    ensures taken { IfOk result IsTaken }
     ensures refused { IfErr result (λ e. Refuses e bytes.now) }
 {
     match str::from_utf8(bytes) {
@@ -118,17 +118,25 @@ pub fn read_bytes(
 }
 
 /// The ontology of the document that the source gives, within the limit of bytes.
+///
+/// What is left of the bytes is lost in part where the answer is a fault.
 pub fn read_document<S: Source>(
     alloc: Global,
     source: &mut S,
     limits: &Limits,
     state: RandomState,
-) -> Result<Ontology, DocumentFault> {
-    let bytes = match read_all(alloc, source, limits.max_bytes as usize) {
-        Ok(bytes) => bytes,
-        Err(ReadFault::TooLarge) => return Err(DocumentFault::TooLarge),
-        Err(ReadFault::Failed) => return Err(DocumentFault::Io),
-        Err(ReadFault::Memory) => return Err(DocumentFault::Memory),
-    };
-    read_bytes(alloc, &bytes, state)
+) -> Result<Ontology, DocumentFault>
+    // The source's bytes read as this ontology; or they do not, or are too many, or the source failed in this call.
+    ensures read { IfOk result (ReadsKnown (S.left source.old) limits.now.max_bytes) }
+    ensures taken { IfOk result IsTaken }
+    ensures refused { IfErr result (RefusesKnown (S.left source.old) limits.now.max_bytes) }
+    ensures failed { result ≡ Err DocumentFault.Io → HasFailed (S.failures source.old) (S.failures source.new) }
+{
+    let most = limits.max_bytes as usize;
+    match read_all(alloc, source, most) {
+        Ok(bytes) => read_bytes(alloc, &bytes, state),
+        Err(ReadFault::TooLarge) => Err(DocumentFault::TooLarge),
+        Err(ReadFault::Failed) => Err(DocumentFault::Io),
+        Err(ReadFault::Memory) => Err(DocumentFault::Memory),
+    }
 }
