@@ -8,6 +8,7 @@ mod pairs;
 mod row;
 mod satisfaction;
 mod theory;
+mod words;
 
 pub use fault::InterpretationFault;
 pub use interpretation::Interpretation;

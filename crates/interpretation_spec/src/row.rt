@@ -2,22 +2,27 @@
 ghost use Rattle.interpretation_spec.specs.Row.{has};
 ghost use Rattle.std.specs.Prelude.{◌&&◌, ◌<◌, ◌||◌, ◌↔◌, ◌≡◌, IfOk, IsTrue, count_by, false, length, not, replicate, slice_set, true, ℕ};
 
+use crate::words::{are_disjoint, intersect_words, is_within, minus_words, union_words};
 use axioms::Memory;
 use std::alloc::Global;
 use std::marker::Model;
 
-/// A set of numbers below `n`.
+/// A set of numbers below `n`, in words of 64 bits.
 #[derive(Drop)]
 pub struct Row {
-    bits: Vec<bool>,
+    len: usize,
+    words: Vec<u64>,
 }
 
 impl Model for Row {
     ghost use Rattle.std.specs.Prelude.{Bool, List};
+    ghost use Rattle.interpretation_spec.specs.Words.{IsRow, bits_of};
 
     ghost Value = { List Bool };
 
-    ghost view = { λ r. r.bits.items };
+    ghost view = { λ r. bits_of r.len r.words.items };
+
+    ghost invariant = { λ r. IsRow r.len r.words.items };
 }
 
 impl Row {
@@ -25,18 +30,20 @@ impl Row {
     pub fn new(alloc: Global, n: usize) -> Result<Row, Memory>
         ensures { IfOk result (λ r. r ≡ replicate n false) }
     {
-        Ok(Row {
-            bits: vec![in alloc; false; n]?,
-        })
+        let count = n / 64 + usize::from(n % 64 != 0);
+        let words = vec![in alloc; 0u64; count]?;
+        Ok(Row { len: n, words })
     }
 
     /// All numbers below `n`.
     pub fn full(alloc: Global, n: usize) -> Result<Row, Memory>
         ensures { IfOk result (λ r. r ≡ replicate n true) }
     {
-        Ok(Row {
-            bits: vec![in alloc; true; n]?,
-        })
+        let mut row = Row::new(alloc, n)?;
+        for i in 0..n {
+            row.put(i);
+        }
+        Ok(row)
     }
 
     /// The same set.
@@ -44,7 +51,8 @@ impl Row {
         ensures { IfOk result (λ r. r ≡ self.now) }
     {
         Ok(Row {
-            bits: self.bits.as_slice().to_vec(alloc)?,
+            len: self.len,
+            words: self.words.as_slice().to_vec(alloc)?,
         })
     }
 
@@ -53,12 +61,11 @@ impl Row {
         ensures in_range { IsTrue result ↔ (i < length self.old) }
         ensures after { self.new ≡ slice_set self.old i true }
     {
-        if i < self.bits.len() {
-            self.bits[i] = true;
-            true
-        } else {
-            false
+        if i >= self.len {
+            return false;
         }
+        self.words[i / 64] |= 1 << (i % 64);
+        true
     }
 
     /// Adds the members of `other`.
@@ -67,11 +74,7 @@ impl Row {
         ensures len { length self.new ≡ length self.old }
         ensures members { (k : ℕ) → has self.new k ≡ (has self.old k || has other.now k) }
     {
-        for i in 0..self.bits.len() {
-            if other.bits[i] {
-                self.bits[i] = true;
-            }
-        }
+        union_words(&mut self.words, &other.words);
     }
 
     /// Removes the members of `other`.
@@ -80,11 +83,7 @@ impl Row {
         ensures len { length self.new ≡ length self.old }
         ensures members { (k : ℕ) → has self.new k ≡ (has self.old k && not (has other.now k)) }
     {
-        for i in 0..self.bits.len() {
-            if other.bits[i] {
-                self.bits[i] = false;
-            }
-        }
+        minus_words(&mut self.words, &other.words);
     }
 
     /// Keeps the members that are in `other`.
@@ -93,11 +92,7 @@ impl Row {
         ensures len { length self.new ≡ length self.old }
         ensures members { (k : ℕ) → has self.new k ≡ (has self.old k && has other.now k) }
     {
-        for i in 0..self.bits.len() {
-            if !other.bits[i] {
-                self.bits[i] = false;
-            }
-        }
+        intersect_words(&mut self.words, &other.words);
     }
 
     /// Whether no member is one of `other`.
@@ -105,12 +100,7 @@ impl Row {
         requires { length self.now ≡ length other.now }
         ensures { IsTrue result ↔ ((k : ℕ) → has self.now k ≡ true → has other.now k ≡ false) }
     {
-        for i in 0..self.bits.len() {
-            if self.bits[i] && other.bits[i] {
-                return false;
-            }
-        }
-        true
+        are_disjoint(&self.words, &other.words)
     }
 
     /// Whether each member is one of `other`.
@@ -118,36 +108,36 @@ impl Row {
         requires { length self.now ≡ length other.now }
         ensures { IsTrue result ↔ ((k : ℕ) → has self.now k ≡ true → has other.now k ≡ true) }
     {
-        for i in 0..self.bits.len() {
-            if self.bits[i] && !other.bits[i] {
-                return false;
-            }
-        }
-        true
+        is_within(&self.words, &other.words)
     }
 
     /// Whether `i` is a member.
     pub fn contains(&self, i: usize) -> bool
         ensures { result ≡ has self.now i }
     {
-        if i < self.bits.len() {
-            self.bits[i]
-        } else {
-            false
+        if i >= self.len {
+            return false;
         }
+        self.words[i / 64] >> (i % 64) & 1 == 1
     }
 
     /// How many members there are.
     pub fn count(&self) -> usize
         ensures { result ≡ count_by (λ b. b) self.now }
     {
-        self.bits.iter().filter(|b| **b).count()
+        let mut count = 0;
+        for i in 0..self.len {
+            if self.contains(i) {
+                count += 1;
+            }
+        }
+        count
     }
 
     /// Below which number its members are.
     pub fn len(&self) -> usize
         ensures { result ≡ length self.now }
     {
-        self.bits.len()
+        self.len
     }
 }

@@ -1,0 +1,18 @@
+-- A set of numbers in words of 64 bits.
+use Rattle.std.specs.Prelude.{◌≡◌, ℕ, ◌+◌, ◌*◌, ◌/◌, ◌%◌, ◌<◌, ◌≤◌, Bool, List, length, slice_index, nat_eq, false, map}
+use Rattle.std.specs.Int.{bit_at}
+use Rattle.std.specs.List.{range_with_len}
+
+-- whether the set has this number
+abbrev pub bit_of : List ℕ → ℕ → Bool
+bit_of words k = nat_eq (bit_at (slice_index words (k / 64)) (k % 64)) 1
+
+-- the truth values of the numbers below n
+abbrev pub bits_of : ℕ → List ℕ → List Bool
+bits_of n words = map (bit_of words) (range_with_len 0 n)
+
+-- there are words for n bits, and no bit past them
+pub record IsRow (n : ℕ) (words : List ℕ) : Type 0 where
+  pub long : n ≤ 64 * length words
+  pub short : 64 * length words < n + 64
+  pub clear : (k : ℕ) → n ≤ k → bit_of words k ≡ false
