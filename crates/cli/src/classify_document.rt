@@ -1,5 +1,4 @@
 //! Classification of a document.
-ghost use Rattle.cli.specs.Writing.{IsUntouched, IsWritten, IsCutAt};
 ghost use Rattle.std.specs.Prelude.{◌≡◌, IfErr, OnOk};
 
 use crate::fault::ClassifyFault;
