@@ -6,3 +6,4 @@ pub mod Insertions
 pub mod Growing
 pub mod TwoClasses
 pub mod Keeping
+pub mod Unique

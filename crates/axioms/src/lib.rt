@@ -19,4 +19,4 @@ pub use growth::{MOST_NAMES, OWL_NOTHING, OWL_THING};
 pub use ids::{ClassId, ExprId, IndId, PropId};
 pub use ontology::Ontology;
 pub use terms::{Axiom, Expr, Kind, Name};
-pub use theory::numbered_expressions;
+pub use theory::{numbered_expressions, ontology_of_statements};

@@ -39,6 +39,7 @@ impl Ontology {
     /// The IRIs of the named classes, by number.
     pub fn classes(&self) -> &[String]
         ensures names { map string_bytes result.now ≡ self.now.names.classes }
+        ensures count { length result.now ≡ length self.now.names.classes }
     {
         self.classes.as_slice()
     }
@@ -46,6 +47,7 @@ impl Ontology {
     /// The IRIs of the object properties, by number.
     pub fn properties(&self) -> &[String]
         ensures names { map string_bytes result.now ≡ self.now.names.properties }
+        ensures count { length result.now ≡ length self.now.names.properties }
     {
         self.properties.as_slice()
     }
@@ -53,6 +55,7 @@ impl Ontology {
     /// The IRIs of the individuals, by number.
     pub fn individuals(&self) -> &[String]
         ensures names { map string_bytes result.now ≡ self.now.names.individuals }
+        ensures count { length result.now ≡ length self.now.names.individuals }
     {
         self.individuals.as_slice()
     }

@@ -3,7 +3,7 @@ use Rattle.std.proofs.Common.{◌≡◌, ℕ, zero, suc, ◌+◌, ◌*◌, ◌-�
 use Rattle.std.specs.Prelude.{codes}
 use Rattle.std.specs.List.{Contains}
 use Rattle.std.proofs.lemmas.Bool.{ltb-true}
-use Rattle.std.proofs.lemmas.List.{append_cancel_left, append_cancel_right, append-nil, length-drop, drop-drop}
+use Rattle.std.proofs.lemmas.List.{append_cancel_right, append-nil, length-drop, drop-drop}
 use Rattle.std.proofs.lemmas.List.Elements.{Contains-append_left}
 use Rattle.fs_lexer.specs.Spelling.{Token}
 use Rattle.fs_lexer.specs.declared.token.Token as lexer
@@ -17,7 +17,7 @@ use Rattle.fs_parser.specs.declared.fault.ParseFault.{ParseFault}
 use Rattle.fs_parser.specs.declared.fault.ParseFault.TheVariants as faults
 use Rattle.fs_parser.proofs.Names.{Contains-cases, Contains-none}
 use Rattle.fs_parser.proofs.Complete.{one_reading}
-use Rattle.fs_parser.proofs.Steps.{push_cases, take_all}
+use Rattle.fs_parser.proofs.Steps.{push_cases, same_brackets, take_all}
 
 -- ---- what is allowed stands for one IRI
 
@@ -94,17 +94,21 @@ stands_from declared d (inr none) other k = absurd (none other (Contains-append_
 
 -- ---- one declaration
 
+same_pair : (c d : List ℕ × List ℕ) → c.0 ≡ d.0 → c.1 ≡ d.1 → c ≡ d
+same_pair c d first second = ap (λ (p : List ℕ). (p, c.1)) first ∙ ap (λ (q : List ℕ). (d.0, q)) second
+
+same_name : (a b text : List ℕ) → text ≡ a ++ codes ":" → text ≡ b ++ codes ":" → a ≡ b
+same_name a b text h k = append_cancel_right a b (codes ":") (sym h ∙ k)
+
 pub one_declaration : (c d : List ℕ × List ℕ) (tokens x y : List Token) → IsDeclaration c tokens x → IsDeclaration d tokens y → (c ≡ d) × (x ≡ y)
 one_declaration c d tokens x y h k =
     let all : h.word ∷ h.opening ∷ h.name ∷ h.equals ∷ h.iri ∷ h.closing ∷ x ≡ k.word ∷ k.opening ∷ k.name ∷ k.equals ∷ k.iri ∷ k.closing ∷ y = sym h.tokens_are ∙ k.tokens_are in
     let name : h.name ≡ k.name = cc in
     let iri : h.iri ≡ k.iri = cc in
     let rest : x ≡ y = cc in
-    let first : c.0 ≡ d.0 = append_cancel_right c.0 d.0 (codes ":") (sym h.name_is.1 ∙ ap (λ (t : Token). t.text) name ∙ k.name_is.1) in
-    let bare : codes "<" ++ c.1 ++ codes ">" ≡ codes "<" ++ d.1 ++ codes ">" = sym h.iri_is.1 ∙ ap (λ (t : Token). t.text) iri ∙ k.iri_is.1 in
-    let second : c.1 ≡ d.1 = append_cancel_right c.1 d.1 (codes ">") (append_cancel_left (codes "<") (c.1 ++ codes ">") (d.1 ++ codes ">") bare) in
-    let pair : c ≡ d = ap (λ (p : List ℕ). (p, c.1)) first ∙ ap (λ (q : List ℕ). (d.0, q)) second in
-    (pair, rest)
+    let first : c.0 ≡ d.0 = same_name c.0 d.0 k.name.text (subst (λ (t : Token). t.text ≡ c.0 ++ codes ":") name h.name_is.1) k.name_is.1 in
+    let second : c.1 ≡ d.1 = same_brackets d.1 c.1 k.iri.text k.iri_is.1 (subst (λ (t : Token). IsBracketed c.1 t.text) iri h.iri_is.1) in
+    (same_pair c d first second, rest)
 
 -- the IRI of a declaration of which the name was read
 pub declared_iri : (declared : Prefixes) (d : List ℕ × List ℕ) (tokens rest : List Token) (t u v w x : Token) (more : List Token) (name : List ℕ)

@@ -4,4 +4,5 @@ pub mod Complete
 pub mod Sound
 pub mod Inside
 pub mod Steps
+pub mod Indexed
 pub mod Documents

@@ -1,12 +1,12 @@
 -- What the functions of the code give, as the machine has it.
-use Rattle.std.proofs.Common.{◌≡◌, ◌≢◌, ℕ, zero, suc, ◌+◌, ◌-◌, ◌≤◌, ◌<◌, List, [], ◌∷◌, ◌++◌, Bool, true, false, Option, Some, None, Bor, length, get_or, take, drop, refl, sym, ap, ◌∙◌, subst, ◌⊎◌, inl, inr, arith, nat_lt, append_assoc}
+use Rattle.std.proofs.Common.{◌≡◌, ◌≢◌, ℕ, zero, suc, ◌-◌, ◌≤◌, ◌<◌, List, [], ◌∷◌, ◌++◌, Bool, true, false, Option, Some, None, Bor, length, get_or, take, drop, refl, sym, ap, ◌∙◌, subst, ◌⊎◌, inl, inr, arith, nat_lt, append_assoc}
 use Rattle.std.specs.List.{Contains}
 use Rattle.std.specs.Prelude.{codes, IsTrue, ◌↔◌}
 use Rattle.std.specs.Str.{bytes_eq}
 use Rattle.std.proofs.lemmas.Slice.Eq.{bytes_eq-Decides}
 use Rattle.std.specs.Option.{IfSome, IfNone, MatchOption}
 use Rattle.std.proofs.lemmas.Bool.{lt-ltb, ltb-true, false≢true}
-use Rattle.std.proofs.lemmas.List.{take_more, map_push, length-append, append_cancel_left, append_cancel_right}
+use Rattle.std.proofs.lemmas.List.{length-append, append_cancel_left, append_cancel_right}
 use Rattle.std.proofs.lemmas.List.Elements.{Contains-append_right, Contains-append_cases}
 use Rattle.std.proofs.lemmas.Option.{none-some}
 use Rattle.fs_lexer.specs.Spelling.{Token}
@@ -17,14 +17,13 @@ use Rattle.fs_lexer.specs.Views.{token_of}
 use Rattle.fs_parser.specs.Front.{BeginsWith, IsWord, MayBeNamed}
 use Rattle.fs_parser.specs.Name.{Prefixes, standard_prefixes, StandForOne, IsNameOf, IsShort, IsBracketed}
 use Rattle.fs_parser.specs.Tree.{AreClosed, Tree, Trees, PlainLiteral}
-use Rattle.fs_parser.specs.View.{tokens_of, prefix_of, prefixes_of_code, iri_of, tree_of, layer_of}
+use Rattle.fs_parser.specs.View.{tokens_of, iri_of, tree_of, layer_of}
 use Rattle.fs_parser.specs.State.{Fails, frame_of, frames_of, name_of_code}
 use Rattle.fs_parser.specs.Machine as machine
 use Rattle.fs_parser.proofs.Complete.{list_from}
 use Rattle.fs_parser.proofs.Run.{inside, start}
 use Rattle.fs_parser.proofs.Inside.{goes_on, stops, is_ended, all_inside, fails_by}
 use Rattle.fs_parser.specs.declared.fault.ParseFault.{ParseFault}
-use Rattle.fs_parser.specs.declared.prefix.Prefix as prefix
 use Rattle.fs_parser.specs.declared.reader.Frame as code_frame
 use Rattle.fs_parser.specs.declared.iri.Iri as code_iri
 use Rattle.fs_parser.specs.declared.tree.Tree as code
@@ -85,24 +84,6 @@ short_unknown known text front local e free none iri h =
 pub short_none : (known : Prefixes) (text : List ℕ) → ((i : ℕ) → i < length text → get_or text i 0 ≡ 58 → ⊥) → (iri : List ℕ) → IsShort known text iri → ⊥
 short_none known text free iri h =
     free_from text free (subst (λ (x : List ℕ). Contains x 58) (sym (short_parts known text iri h)) (Contains-append_right h.prefix (58 ∷ h.local) 58 (Contains-first 58 h.local)))
-
--- one more prefix, which has another name
-pub none_more : (ps : List prefix.Prefix) (i : ℕ) (d : prefix.Prefix) (name : List ℕ) → i < length ps
-    → ((iri : List ℕ) → Contains (prefixes_of_code (take i ps)) (name, iri) → ⊥) → ((get_or ps i d).name.now ≡ name → ⊥)
-    → (iri : List ℕ) → Contains (prefixes_of_code (take (i + 1) ps)) (name, iri) → ⊥
-none_more ps i d name l none apart iri c =
-    let p = get_or ps i d in
-    let e : prefixes_of_code (take (i + 1) ps) ≡ prefixes_of_code (take i ps) ++ prefix_of p ∷ [] = ap prefixes_of_code (take_more ps i d l) ∙ map_push prefix_of (take i ps) p in
-    elim (push_cases (prefixes_of_code (take i ps)) (prefix_of p) (name, iri) (subst (λ (z : Prefixes). Contains z (name, iri)) e c)) [
-      | inl f ↦ none iri f
-      | inr f ↦ apart (ap (λ (q : List ℕ × List ℕ). q.0) f)
-    ]
-
--- the prefix at a place
-pub prefix_there : (ps : List prefix.Prefix) (i : ℕ) (d : prefix.Prefix) → i < length ps → Contains (prefixes_of_code ps) (prefix_of (get_or ps i d))
-prefix_there [] i d l = absurd (omega arith)
-prefix_there (p ∷ ps) zero d l = Contains-first (prefix_of p) (prefixes_of_code ps)
-prefix_there (p ∷ ps) (suc i) d l = Contains-later (prefix_of p) (prefix_of (get_or ps i d)) (prefixes_of_code ps) (prefix_there ps i d (omega arith))
 
 -- ---- what is known
 
@@ -176,10 +157,6 @@ take_all [] zero l = refl
 take_all [] (suc i) l = refl
 take_all (x ∷ xs) zero l = absurd (omega arith)
 take_all {X} (x ∷ xs) (suc i) l = ap (λ (z : List X). x ∷ z) (take_all xs i (omega arith))
-
-pub none_all : (ps : List prefix.Prefix) (i : ℕ) (name : List ℕ) → length ps ≤ i → ((iri : List ℕ) → Contains (prefixes_of_code (take i ps)) (name, iri) → ⊥)
-    → (iri : List ℕ) → Contains (prefixes_of_code ps) (name, iri) → ⊥
-none_all ps i name l none iri h = none iri (subst (λ (z : List prefix.Prefix). Contains (prefixes_of_code z) (name, iri)) (sym (take_all ps i l)) h)
 
 pub not_named : (prefixes : Prefixes) (t : Token) (r : Option code_iri.Iri) → t.kind ≡ ShortName → IfNone r ((iri : List ℕ) → IsShort prefixes t.text iri → ⊥)
     → IfNone r ((iri : List ℕ) → IsNameOf prefixes t iri → ⊥)

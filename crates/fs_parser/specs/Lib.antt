@@ -2,6 +2,8 @@ pub mod Name
 pub mod Tree
 pub mod Document
 pub mod View
+pub mod Index
+pub mod Known
 pub mod Machine
 pub mod State
 pub mod Front

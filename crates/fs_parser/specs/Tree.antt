@@ -21,6 +21,17 @@ mutual
     Empty : Trees
     Then : (first : Tree) (rest : Trees) → Trees
 
+-- where a tree begins
+abbrev pub place_of : Tree → ℕ
+place_of (Name at iri) = at
+place_of (PlainLiteral at text) = at
+place_of (TaggedLiteral at text tag) = at
+place_of (TypedLiteral at text type) = at
+place_of (Anonymous at label) = at
+place_of (Number at digits) = at
+place_of (Group at trees) = at
+place_of (Form at keyword trees) = at
+
 -- a token of the kind, with this place and text
 abbrev pub IsToken : Kind → ℕ → List ℕ → Token → Type 0
 IsToken kind at text token = (token.kind ≡ kind) × (token.at ≡ at) × (token.text ≡ text)

@@ -4,13 +4,12 @@ use Rattle.fs_lexer.specs.Spelling as spelling
 use Rattle.fs_lexer.specs.Views.{token_of}
 use Rattle.fs_lexer.specs.declared.token.Token as lexer
 use Rattle.fs_parser.specs.declared.iri.Iri as iri
-use Rattle.fs_parser.specs.declared.prefix.Known as known
 use Rattle.fs_parser.specs.declared.prefix.Prefix as prefix
 use Rattle.fs_parser.specs.declared.tree.Document as document
 use Rattle.fs_parser.specs.declared.tree.Tree as code
 use Rattle.fs_parser.specs.declared.tree.Tree.TheOpen as layer
 use Rattle.fs_parser.specs.declared.tree.Tree.TheFolds.{fold-Tree}
-use Rattle.fs_parser.specs.Name.{Prefixes, standard_prefixes}
+use Rattle.fs_parser.specs.Name.{Prefixes}
 use Rattle.fs_parser.specs.Tree.{Tree, Trees, Name, PlainLiteral, TaggedLiteral, TypedLiteral, Anonymous, Number, Group, Form, Empty, Then}
 use Rattle.fs_parser.specs.Document.{Document}
 
@@ -22,10 +21,6 @@ prefix_of p = (p.name.now, p.iri.now)
 
 abbrev pub prefixes_of_code : List prefix.Prefix → Prefixes
 prefixes_of_code = map prefix_of
-
--- what names are expanded with
-abbrev pub known_of : known.Known → Prefixes
-known_of k = standard_prefixes ++ prefixes_of_code k.declared.items
 
 abbrev pub iri_of : iri.Iri → List ℕ
 iri_of i = i.base.now ++ i.local.now

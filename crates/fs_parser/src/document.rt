@@ -9,10 +9,12 @@ ghost use Rattle.fs_parser.specs.Front.{BeginsWith, BeginsWithKind, IsWord, MayB
 ghost use Rattle.fs_parser.specs.Name.{StandForOne, IsBracketed};
 ghost use Rattle.fs_parser.specs.State.{Gives, IsRefusal};
 ghost use Rattle.fs_parser.specs.Tree.{Trees};
-ghost use Rattle.fs_parser.specs.View.{tokens_of, known_of, prefix_of, trees_of, document_of};
+ghost use Rattle.fs_parser.specs.Known.{known_of};
+ghost use Rattle.fs_parser.specs.View.{tokens_of, prefix_of, trees_of, document_of};
 
 use crate::fault::ParseFault;
-use crate::prefix::{Known, Prefix, before_colon, in_brackets, standard_iri};
+use crate::known::Known;
+use crate::prefix::{Prefix, before_colon, in_brackets, standard_iri};
 use crate::reader::trees_inside;
 use crate::tree::{Document, Tree};
 use fs_lexer::{Kind, Token};
@@ -181,7 +183,7 @@ pub fn forms<'a>(alloc: Global, tokens: &[Token<'a>]) -> Result<Document<'a>, Pa
     let mut read = 0;
     'declarations: while begins_with("Prefix", &tokens[read..]) {
         let prefix = declaration(&known, &tokens[read..], here)?;
-        known.declare(prefix)?;
+        known = known.declare(prefix)?;
         read += DECLARATION;
     }
     let trees = ontology(alloc, &known, &tokens[read..], here)?;

@@ -6,6 +6,7 @@ ghost use Rattle.fs_parser.specs.Laws.{OneTree, OneListOfTrees, DocumentsHavePre
 mod document;
 mod fault;
 mod iri;
+mod known;
 mod prefix;
 mod reader;
 mod tree;

@@ -5,23 +5,18 @@ ghost use Rattle.std.specs.List.{Contains};
 ghost use Rattle.std.specs.Option.{IfSome, IfNone};
 ghost use Rattle.fs_lexer.specs.Views.{token_of};
 ghost use Rattle.fs_parser.specs.Name.{IsNameOf, IsShort, IsBracketed, standard_prefixes};
-ghost use Rattle.fs_parser.specs.View.{prefix_of, prefixes_of_code, known_of, iri_of};
+ghost use Rattle.fs_parser.specs.Known.{known_of};
+ghost use Rattle.fs_parser.specs.View.{iri_of};
 
 use crate::iri::Iri;
+use crate::known::Known;
 use fs_lexer::{Kind, Token};
-use std::alloc::{AllocError, Global};
 
 /// A prefix that a document declares: its name without the colon, and the IRI that it stands for.
 #[derive(Clone, Copy, Debug)]
 pub struct Prefix<'a> {
     pub name: &'a str,
     pub iri: &'a str,
-}
-
-/// The prefixes that names are expanded with: the standard ones, and these.
-#[derive(Drop)]
-pub struct Known<'a> {
-    pub declared: Vec<Prefix<'a>>,
 }
 
 /// The IRI of a prefix that is declared from the start.
@@ -40,49 +35,6 @@ pub fn standard_iri(name: &str) -> Option<&'static str>
         Some("http://www.w3.org/2002/07/owl#")
     } else {
         None
-    }
-}
-
-impl<'a> Known<'a> {
-    /// The standard prefixes alone.
-    pub fn new(alloc: Global) -> Known<'a>
-        ensures { prefixes_of_code result.declared.items ≡ [] }
-    {
-        Known {
-            declared: Vec::new(alloc),
-        }
-    }
-
-    /// The IRI of a prefix that the document declares.
-    pub fn declared_iri(&self, name: &str) -> Option<&'a str>
-        ensures some { IfSome result (λ iri. Contains (prefixes_of_code self.now.declared.items) (name.now, iri.now)) }
-        ensures none { IfNone result ((iri : List ℕ) → Contains (prefixes_of_code self.now.declared.items) (name.now, iri) → ⊥) }
-    {
-        for prefix in &self.declared {
-            if prefix.name == name {
-                return Some(prefix.iri);
-            }
-        }
-        None
-    }
-
-    /// The IRI of a prefix.
-    pub fn iri(&self, name: &str) -> Option<&'a str>
-        ensures some { IfSome result (λ iri. Contains (known_of self.now) (name.now, iri.now)) }
-        ensures none { IfNone result ((iri : List ℕ) → Contains (known_of self.now) (name.now, iri) → ⊥) }
-    {
-        match standard_iri(name) {
-            Some(iri) => Some(iri),
-            None => self.declared_iri(name),
-        }
-    }
-
-    /// One more prefix.
-    pub fn declare(&mut self, prefix: Prefix<'a>) -> Result<(), AllocError>
-        ensures { OnOk result (map prefix_of self.new.declared.items ≡ map prefix_of self.old.declared.items ++ prefix_of prefix.entry ∷ []) }
-    {
-        self.declared.push(prefix)?;
-        Ok(())
     }
 }
 

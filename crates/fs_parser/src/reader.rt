@@ -8,11 +8,13 @@ ghost use Rattle.fs_parser.specs.Machine.{add, enter, leave, plain, behind_text,
 ghost use Rattle.fs_parser.specs.Name.{StandForOne};
 ghost use Rattle.fs_parser.specs.State.{Gives, Fails, whole_of, frames_of, keyword_of, name_of_code, state_of};
 ghost use Rattle.fs_parser.specs.Tree.{Trees, AreClosed};
-ghost use Rattle.fs_parser.specs.View.{tokens_of, known_of, tree_of, trees_of};
+ghost use Rattle.fs_parser.specs.Known.{known_of};
+ghost use Rattle.fs_parser.specs.View.{tokens_of, tree_of, trees_of};
 
 use crate::fault::ParseFault;
 use crate::iri::Iri;
-use crate::prefix::{Known, expand};
+use crate::known::Known;
+use crate::prefix::expand;
 use crate::tree::Tree;
 use fs_lexer::{Kind, Token};
 use std::alloc::Global;

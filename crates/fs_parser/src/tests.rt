@@ -114,6 +114,20 @@ fn every_tree(rt: HostRuntime) {
 }
 
 #[test]
+fn places_of_trees(rt: HostRuntime) {
+    let alloc = rt.alloc();
+    let mut found = false;
+    if let Ok(tokens) = tokens(alloc, "Ontology(<x:o> SubClassOf(<x:A> <x:B>))") {
+        if let Ok(Document { trees, .. }) = forms(alloc, tokens.as_slice()) {
+            if let [name, form] = trees.as_slice() {
+                found = name.at() == 9 && form.at() == 15;
+            }
+        }
+    }
+    assert!(rt; found);
+}
+
+#[test]
 fn truncated_document(rt: HostRuntime) {
     assert!(rt; is_shown(rt.alloc(), "Ontology(", "P2 at byte 9") == Ok(true));
     assert!(rt; is_shown(rt.alloc(), "", "P2 at byte 0") == Ok(true));

@@ -1,5 +1,7 @@
 //! Documents as trees.
 
+ghost use Rattle.std.specs.Prelude.{◌≡◌};
+
 use crate::iri::Iri;
 use crate::prefix::Prefix;
 
@@ -49,6 +51,27 @@ pub enum Tree<'a> {
         keyword: &'a str,
         trees: Vec<Tree<'a>>,
     },
+}
+
+impl Tree<'_> {
+    ghost use Rattle.fs_parser.specs.Tree.{place_of};
+    ghost use Rattle.fs_parser.specs.View.{tree_of};
+
+    /// The byte of the source at which the tree begins.
+    pub fn at(&self) -> usize
+        ensures { result ≡ place_of (tree_of self.now) }
+    {
+        match self {
+            Tree::Name { at, .. }
+            | Tree::PlainLiteral { at, .. }
+            | Tree::TaggedLiteral { at, .. }
+            | Tree::TypedLiteral { at, .. }
+            | Tree::Anonymous { at, .. }
+            | Tree::Number { at, .. }
+            | Tree::Group { at, .. }
+            | Tree::Form { at, .. } => *at,
+        }
+    }
 }
 
 /// A document: the prefixes that it declares, in order, and the trees of its ontology, with names expanded.

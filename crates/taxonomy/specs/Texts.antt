@@ -80,12 +80,14 @@ listed names lead between (n ∷ ns) = lead ++ bracketed (name_at names n) ++ li
 abbrev pub line_feed : List ℕ
 line_feed = 10 ∷ []
 
+-- a line of these members of a group, with what stands for the groups directly above it
+abbrev pub line_of : List Iri → List ℕ → List ℕ → List ℕ
+line_of names members above = listed names [] (codes " = ") members ++ listed names (codes " < ") (codes " , ") above ++ line_feed
+
 -- a group's line: its members, and the groups directly above it
 abbrev pub group_line : List Iri → (ℕ → ℕ → Bool) → List ℕ → ℕ → List ℕ
 group_line names lies_below all g =
-    listed names [] (codes " = ") (group lies_below all g)
-    ++ listed names (codes " < ") (codes " , ") (filter (is_directly_above lies_below (length names) g) (groups lies_below all))
-    ++ line_feed
+    line_of names (group lies_below all g) (filter (is_directly_above lies_below (length names) g) (groups lies_below all))
 
 -- the number of owl:Nothing among the class names
 abbrev pub nothing_class : ℕ
@@ -121,10 +123,14 @@ abbrev pub least_groups : List Iri → (ℕ → ℕ → Bool) → (ℕ → Bool)
 least_groups names lies_below belongs =
     filter (least_among (length names) lies_below belongs) (groups lies_below (in_byte_order names))
 
+-- a line of an individual, with these classes
+abbrev pub line_with : List Iri → Iri → List ℕ → List ℕ
+line_with classes individual types = bracketed individual ++ listed classes (codes " : ") (codes " , ") types ++ line_feed
+
 -- an individual's line: the least of its groups
 abbrev pub individual_line : List Iri → List Iri → (ℕ → ℕ → Bool) → (ℕ → ℕ → Bool) → ℕ → List ℕ
 individual_line classes individuals lies_below belongs a =
-    bracketed (name_at individuals a) ++ listed classes (codes " : ") (codes " , ") (least_groups classes lies_below (belongs a)) ++ line_feed
+    line_with classes (name_at individuals a) (least_groups classes lies_below (belongs a))
 
 -- the instances text of named individuals: a line for each, in byte order
 abbrev pub instances_text : List Iri → List Iri → (ℕ → ℕ → Bool) → (ℕ → ℕ → Bool) → List ℕ

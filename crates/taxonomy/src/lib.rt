@@ -3,10 +3,12 @@
 
 mod groups;
 mod instances_text;
+mod lists;
 mod names;
 mod order;
 mod outcome;
 mod reduction;
+mod rows;
 mod taxonomy_text;
 mod theory;
 mod write;

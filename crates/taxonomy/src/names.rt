@@ -4,7 +4,7 @@ ghost use Rattle.std.specs.Prelude.{◌++◌, ◌≡◌, OnOk, map};
 ghost use Rattle.std.specs.String.{string_bytes};
 ghost use Rattle.taxonomy.specs.Texts.{bracketed, listed};
 
-use std::alloc::AllocError;
+use axioms::Memory;
 
 /// The name of that number, or nothing where there is none.
 fn name_of(names: &[String], n: usize) -> &str
@@ -17,7 +17,7 @@ fn name_of(names: &[String], n: usize) -> &str
 }
 
 /// Adds the name in angle brackets.
-pub(crate) fn write_name(out: &mut Vec<u8>, names: &[String], n: usize) -> Result<(), AllocError>
+pub(crate) fn write_name(out: &mut Vec<u8>, names: &[String], n: usize) -> Result<(), Memory>
     ensures { OnOk result
         (out.new.items ≡ out.old.items ++ bracketed (name_at (map string_bytes names.now) n)) }
 {
@@ -34,7 +34,7 @@ pub(crate) fn write_names(
     lead: &[u8],
     between: &[u8],
     classes: &[usize],
-) -> Result<(), AllocError>
+) -> Result<(), Memory>
     ensures { OnOk result
         (out.new.items ≡ out.old.items ++ listed (map string_bytes names.now) lead.now between.now classes.now) }
 {

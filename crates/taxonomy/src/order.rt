@@ -7,10 +7,11 @@ ghost use Rattle.std.specs.Prelude.{◌≡◌, IfOk, map, length};
 ghost use Rattle.std.specs.String.{string_bytes};
 ghost use Rattle.axioms.specs.Numbered.{name_at};
 
-use std::alloc::{AllocError, Global};
+use axioms::Memory;
+use std::alloc::Global;
 
 /// Each name with its number.
-fn numbered(alloc: Global, names: &[String]) -> Result<Vec<(&str, usize)>, AllocError>
+fn numbered(alloc: Global, names: &[String]) -> Result<Vec<(&str, usize)>, Memory>
     ensures { IfOk result
         (λ v. (map (λ p. p.1) v.items ≡ range_with_len 0 (length names.now))
         × All (λ p. p.0.now ≡ name_at (map string_bytes names.now) p.1) v.items) }
@@ -23,14 +24,14 @@ fn numbered(alloc: Global, names: &[String]) -> Result<Vec<(&str, usize)>, Alloc
 }
 
 /// The numbers of the pairs.
-fn numbers(alloc: Global, pairs: &[(&str, usize)]) -> Result<Vec<usize>, AllocError>
+fn numbers(alloc: Global, pairs: &[(&str, usize)]) -> Result<Vec<usize>, Memory>
     ensures { IfOk result (λ v. v.items ≡ map (λ p. p.1) pairs.now) }
 {
-    pairs.iter().map(|p| p.1).collect(alloc)
+    Ok(pairs.iter().map(|p| p.1).collect(alloc)?)
 }
 
 /// All class numbers, in the byte order of their names.
-pub fn in_byte_order(alloc: Global, names: &[String]) -> Result<Vec<usize>, AllocError>
+pub fn in_byte_order(alloc: Global, names: &[String]) -> Result<Vec<usize>, Memory>
     ensures { IfOk result (λ v. v.items ≡ in_byte_order (map string_bytes names.now)) }
 {
     let mut pairs = numbered(alloc, names)?;

@@ -1,13 +1,16 @@
 //! A relation on classes, and what lies directly above each class by it.
-ghost use Rattle.taxonomy.specs.Texts.{is_directly_above, is_same, is_strictly_above};
 ghost use Rattle.interpretation_spec.specs.Row.{has};
 ghost use Rattle.std.specs.Bool.{OnTrue};
-ghost use Rattle.std.specs.Prelude.{◌<◌, ◌≡◌, IfOk, length, ℕ};
-ghost use Rattle.taxonomy.specs.Relation.{IsReduction, IsSquare, IsStrictPart, AreNearest, HasNearest, is_nearest, lies_below};
+ghost use Rattle.std.specs.List.{filter, list_any};
+ghost use Rattle.std.specs.Prelude.{◌<◌, ◌≡◌, IfOk, length, not, ℕ};
+ghost use Rattle.taxonomy.specs.Lists.{members_of};
+ghost use Rattle.taxonomy.specs.Relation.{HasNearest, IsReduction, IsSquare, IsStrictPart, is_nearest, lies_below, row_at};
+ghost use Rattle.taxonomy.specs.Texts.{is_directly_above, is_same, is_strictly_above, numbers_below};
 
+use crate::rows::{add_row, lies_below, put_each, row_members};
 use axioms::Memory;
 use interpretation_spec::Row;
-use std::alloc::{AllocError, Global};
+use std::alloc::Global;
 use std::marker::Model;
 
 /// The number of owl:Nothing.
@@ -73,30 +76,36 @@ impl Taxonomy {
         lies_below(&self.rows, c, d) && lies_below(&self.rows, d, c)
     }
 
-    /// Whether `h` is above `g`, and is not `g`.
+    /// Whether `h` is above `g`, and is not in its group.
     pub fn is_strictly_above(&self, g: usize, h: usize) -> bool
         ensures { result ≡ is_strictly_above (lies_below self.now) g h }
     {
         lies_below(&self.rows, g, h) && !lies_below(&self.rows, h, g)
     }
 
-    /// Whether `h` is directly above `g`.
-    pub fn is_directly_above(&self, g: usize, h: usize) -> bool
-        ensures { result ≡ is_directly_above (lies_below self.now) (length self.now) g h }
+    /// The classes of a class's group, by number.
+    pub(crate) fn group(&self, alloc: Global, g: usize) -> Result<Vec<usize>, Memory>
+        ensures { IfOk result (λ v. v.items ≡ filter (is_same (lies_below self.now) g) (numbers_below (length self.now))) }
     {
-        lies_below(&self.direct, g, h)
+        let rows = self.rows.as_slice();
+        let higher = row_members(alloc, rows, g)?;
+        let same = those_below(alloc, rows, &higher, g)?;
+        Ok(same)
+    }
+
+    /// The classes directly above a class, by number.
+    pub(crate) fn directly_above(&self, alloc: Global, g: usize) -> Result<Vec<usize>, Memory>
+        ensures { IfOk result
+            (λ v. v.items
+            ≡ filter (is_directly_above (lies_below self.now) (length self.now) g) (numbers_below (length self.now))) }
+    {
+        let higher = row_members(alloc, &self.direct, g)?;
+        Ok(higher)
     }
 }
 
-/// Whether the row of `c` has `d`.
-pub(crate) fn lies_below(rows: &[Row], c: usize, d: usize) -> bool
-    ensures { result ≡ lies_below rows.now c d }
-{
-    c < rows.len() && rows[c].contains(d)
-}
-
 /// The same rows.
-fn copy_of(alloc: Global, rows: &[Row]) -> Result<Vec<Row>, AllocError>
+fn copy_of(alloc: Global, rows: &[Row]) -> Result<Vec<Row>, Memory>
     ensures { IfOk result (λ v. v.items ≡ rows.now) }
 {
     let mut copies = Vec::new(alloc);
@@ -106,24 +115,43 @@ fn copy_of(alloc: Global, rows: &[Row]) -> Result<Vec<Row>, AllocError>
     Ok(copies)
 }
 
-/// What is strictly above the class.
-fn strict_row(alloc: Global, rows: &[Row], c: usize) -> Result<Row, AllocError>
-    requires { c < length rows.now }
+/// Those of the classes that lie below `c`.
+fn those_below(
+    alloc: Global,
+    rows: &[Row],
+    classes: &[usize],
+    c: usize,
+) -> Result<Vec<usize>, Memory>
+    ensures { IfOk result (λ v. v.items ≡ filter (λ d. lies_below rows.now d c) classes.now) }
+{
+    let lower = classes.iter().copied().filter(|d| lies_below(rows, *d, c));
+    Ok(lower.collect(alloc)?)
+}
+
+/// The classes strictly above a class, by number.
+fn strictly_above(alloc: Global, rows: &[Row], c: usize) -> Result<Vec<usize>, Memory>
+    ensures { IfOk result (λ v. v.items ≡ filter (λ d. not (lies_below rows.now d c)) (members_of (row_at rows.now c))) }
+{
+    let higher = row_members(alloc, rows, c)?;
+    let strict = higher.iter().copied().filter(|d| !lies_below(rows, *d, c));
+    Ok(strict.collect(alloc)?)
+}
+
+/// The row of what is strictly above a class.
+fn strict_row(alloc: Global, rows: &[Row], c: usize) -> Result<Row, Memory>
+    requires { IsSquare rows.now }
     ensures { IfOk result
         (λ r. (length r ≡ length rows.now)
         × ((k : ℕ) → k < length rows.now → has r k ≡ is_strictly_above (lies_below rows.now) c k)) }
 {
+    let higher = strictly_above(alloc, rows, c)?;
     let mut above = Row::new(alloc, rows.len())?;
-    for d in 0..rows.len() {
-        if lies_below(rows, c, d) && !lies_below(rows, d, c) {
-            above.put(d);
-        }
-    }
+    put_each(&mut above, &higher);
     Ok(above)
 }
 
 /// What is strictly above each class.
-fn strict_part(alloc: Global, rows: &[Row]) -> Result<Vec<Row>, AllocError>
+fn strict_part(alloc: Global, rows: &[Row]) -> Result<Vec<Row>, Memory>
     requires { IsSquare rows.now }
     ensures { IfOk result (λ v. IsStrictPart rows.now v.items) }
 {
@@ -134,20 +162,30 @@ fn strict_part(alloc: Global, rows: &[Row]) -> Result<Vec<Row>, AllocError>
     Ok(above)
 }
 
+/// What is above a class that is above the class.
+fn covered_row(alloc: Global, above: &[Row], c: usize) -> Result<Row, Memory>
+    requires { IsSquare above.now }
+    ensures { IfOk result
+        (λ r. (length r ≡ length above.now)
+        × ((k : ℕ) → has r k ≡ list_any (λ j. lies_below above.now j k) (members_of (row_at above.now c)))) }
+{
+    let higher = row_members(alloc, above, c)?;
+    let mut covered = Row::new(alloc, above.len())?;
+    for k in &higher {
+        add_row(&mut covered, above, *k);
+    }
+    Ok(covered)
+}
+
 /// What is above the class, without what is above another class above it.
-fn nearest_row(alloc: Global, above: &[Row], c: usize) -> Result<Row, AllocError>
+fn nearest_row(alloc: Global, above: &[Row], c: usize) -> Result<Row, Memory>
     requires in_range { c < length above.now }
     requires square { IsSquare above.now }
     ensures { IfOk result
         (λ r. (length r ≡ length above.now)
         × ((k : ℕ) → has r k ≡ is_nearest (lies_below above.now) (length above.now) c k)) }
 {
-    let mut covered = Row::new(alloc, above.len())?;
-    for k in 0..above.len() {
-        if lies_below(above, c, k) {
-            covered.union(&above[k]);
-        }
-    }
+    let covered = covered_row(alloc, above, c)?;
     let mut nearest = above[c].copy(alloc)?;
     nearest.minus(&covered);
     Ok(nearest)
@@ -164,12 +202,13 @@ fn are_alike(above: &[Row], c: usize, d: usize) -> bool
 }
 
 /// The row of `c`, where that of owl:Nothing is known: many classes can be as owl:Nothing is.
-fn next_row(alloc: Global, above: &[Row], rows: &[Row], c: usize) -> Result<Row, AllocError>
+fn next_row(alloc: Global, above: &[Row], rows: &[Row], c: usize) -> Result<Row, Memory>
     requires in_range { c < length above.now }
     requires square { IsSquare above.now }
     requires done { HasNearest above.now rows.now }
     ensures { IfOk result
-        (λ r. (k : ℕ) → has r k ≡ is_nearest (lies_below above.now) (length above.now) c k) }
+        (λ r. (length r ≡ length above.now)
+        × ((k : ℕ) → has r k ≡ is_nearest (lies_below above.now) (length above.now) c k)) }
 {
     if NOTHING < rows.len() && NOTHING < above.len() && are_alike(above, c, NOTHING) {
         Ok(rows[NOTHING].copy(alloc)?)
@@ -178,10 +217,11 @@ fn next_row(alloc: Global, above: &[Row], rows: &[Row], c: usize) -> Result<Row,
     }
 }
 
-/// The row of each class.
-fn nearest_rows(alloc: Global, above: &[Row]) -> Result<Vec<Row>, AllocError>
+/// The row of each class, without what is above another class above it.
+fn nearest_rows(alloc: Global, above: &[Row]) -> Result<Vec<Row>, Memory>
     requires { IsSquare above.now }
-    ensures { IfOk result (λ v. AreNearest above.now v.items) }
+    ensures long { IfOk result (λ v. length v.items ≡ length above.now) }
+    ensures nearest { IfOk result (λ v. HasNearest above.now v.items) }
 {
     let mut rows = Vec::new(alloc);
     for c in 0..above.len() {
@@ -191,12 +231,13 @@ fn nearest_rows(alloc: Global, above: &[Row]) -> Result<Vec<Row>, AllocError>
 }
 
 /// What is directly above each class.
-fn direct_part(alloc: Global, rows: &[Row]) -> Result<Vec<Row>, AllocError>
+fn direct_part(alloc: Global, rows: &[Row]) -> Result<Vec<Row>, Memory>
     requires { IsSquare rows.now }
     ensures { IfOk result (λ v. IsReduction rows.now v.items) }
 {
     let above = strict_part(alloc, rows)?;
-    nearest_rows(alloc, &above)
+    let direct = nearest_rows(alloc, &above)?;
+    Ok(direct)
 }
 
 /// The taxonomy of a relation: to each class what is directly above it, with no class between.

@@ -1,58 +1,49 @@
 //! The taxonomy text of a consistent ontology.
-ghost use Rattle.std.specs.List.{filter, flat_map};
-ghost use Rattle.std.specs.Prelude.{◌++◌, ◌≡◌, IfOk, OnOk, length, map};
+ghost use Rattle.std.specs.List.{All, filter, flat_map};
+ghost use Rattle.std.specs.Prelude.{◌++◌, ◌<◌, ◌≡◌, IfOk, OnOk, length, map};
 ghost use Rattle.std.specs.String.{string_bytes};
+ghost use Rattle.taxonomy.specs.Lists.{list_at};
 ghost use Rattle.taxonomy.specs.Relation.{lies_below};
-ghost use Rattle.taxonomy.specs.Texts.{group_line, groups, is_no_bottom, taxonomy_text, text_of_order};
+ghost use Rattle.taxonomy.specs.Texts.{is_no_bottom, line_of, taxonomy_text, text_of_order};
 
-use crate::groups::{directly_above, leaders, members};
+use crate::groups::{Groups, group_of, groups_in};
 use crate::names::write_names;
 use crate::order::in_byte_order;
 use crate::reduction::{NOTHING, Taxonomy};
-use std::alloc::{AllocError, Global};
+use axioms::Memory;
+use std::alloc::Global;
 
-/// Adds a group's line.
-fn write_group(
-    alloc: Global,
+/// Adds the line of these members of a group, with what stands for the groups directly above it.
+fn write_line(
     out: &mut Vec<u8>,
     names: &[String],
-    taxonomy: &Taxonomy,
-    order: &[usize],
-    leaders: &[usize],
-    g: usize,
-) -> Result<(), AllocError>
-    requires long { length names.now ≡ length taxonomy.now }
-    requires firsts { leaders.now ≡ groups (lies_below taxonomy.now) order.now }
+    members: &[usize],
+    above: &[usize],
+) -> Result<(), Memory>
     ensures { OnOk result
-        (out.new.items ≡ out.old.items ++ group_line (map string_bytes names.now) (lies_below taxonomy.now) order.now g) }
+        (out.new.items ≡ out.old.items ++ line_of (map string_bytes names.now) members.now above.now) }
 {
-    let same = members(alloc, taxonomy, order, g)?;
-    write_names(out, names, b"", b" = ", &same)?;
-    let above = directly_above(alloc, taxonomy, leaders, g)?;
-    write_names(out, names, b" < ", b" , ", &above)?;
+    write_names(out, names, b"", b" = ", members)?;
+    write_names(out, names, b" < ", b" , ", above)?;
     out.push(b'\n')?;
     Ok(())
 }
 
 /// Adds the lines of all groups but that of owl:Nothing.
 fn write_groups(
-    alloc: Global,
     out: &mut Vec<u8>,
     names: &[String],
     taxonomy: &Taxonomy,
-    order: &[usize],
-    leaders: &[usize],
-) -> Result<(), AllocError>
-    requires long { length names.now ≡ length taxonomy.now }
-    requires firsts { leaders.now ≡ groups (lies_below taxonomy.now) order.now }
+    groups: &Groups,
+) -> Result<(), Memory>
     ensures { OnOk result
         (out.new.items ≡ out.old.items
-        ++ flat_map (group_line (map string_bytes names.now) (lies_below taxonomy.now) order.now)
-        (filter (is_no_bottom (lies_below taxonomy.now)) leaders.now)) }
+        ++ flat_map (λ g. line_of (map string_bytes names.now) (list_at groups.now.members g) (list_at groups.now.above g))
+        (filter (is_no_bottom (lies_below taxonomy.now)) groups.now.leaders.items)) }
 {
-    for g in leaders {
+    for g in &groups.leaders {
         if !taxonomy.is_same(*g, NOTHING) {
-            write_group(alloc, out, names, taxonomy, order, leaders, *g)?;
+            write_line(out, names, groups.members.at(*g), groups.above.at(*g))?;
         }
     }
     Ok(())
@@ -65,16 +56,17 @@ fn write_in_order(
     names: &[String],
     taxonomy: &Taxonomy,
     order: &[usize],
-) -> Result<(), AllocError>
-    requires { length names.now ≡ length taxonomy.now }
+) -> Result<(), Memory>
+    requires long { length names.now ≡ length taxonomy.now }
+    requires within { All (λ c. c < length taxonomy.now) order.now }
     ensures { OnOk result
         (out.new.items ≡ out.old.items
         ++ text_of_order (map string_bytes names.now) (lies_below taxonomy.now) order.now) }
 {
-    let leaders = leaders(alloc, taxonomy, order)?;
+    let groups = groups_in(alloc, taxonomy, order)?;
     out.extend_from_slice(b"eltax 1 consistent\n")?;
-    write_groups(alloc, out, names, taxonomy, order, &leaders)?;
-    let bottom = members(alloc, taxonomy, order, NOTHING)?;
+    write_groups(out, names, taxonomy, &groups)?;
+    let bottom = group_of(alloc, taxonomy, order, NOTHING)?;
     write_names(out, names, b"bottom ", b" = ", &bottom)?;
     out.push(b'\n')?;
     Ok(())
@@ -85,7 +77,7 @@ pub(crate) fn text_of_taxonomy(
     alloc: Global,
     names: &[String],
     taxonomy: &Taxonomy,
-) -> Result<Vec<u8>, AllocError>
+) -> Result<Vec<u8>, Memory>
     requires { length names.now ≡ length taxonomy.now }
     ensures { IfOk result (λ v. v.items ≡ taxonomy_text (map string_bytes names.now) (lies_below taxonomy.now)) }
 {

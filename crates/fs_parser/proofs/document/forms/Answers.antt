@@ -10,8 +10,8 @@ declarations-init c = nothing_read c.args.tokens.now (prefixes_of_code c.new-kno
 
 pub declarations-preserved : goal.declarations-preserved
 declarations-preserved c =
-    one_read c.args.tokens.now c.declarations.read (prefixes_of_code c.declarations.known.declared.items) (prefixes_of_code c.declare.new.self.declared.items)
-    (prefix_of c.in_ok-prefix.prefix) c.declarations.invariant c.in_ok-prefix.ensures.found c.in_ok-prefix.ensures.allowed c.in_ok-declare.ensures
+    one_read c.args.tokens.now c.declarations.read (prefixes_of_code c.declarations.known.declared.items) (prefixes_of_code c.in_ok-known.known.declared.items)
+    (prefix_of c.in_ok-prefix.prefix) c.declarations.invariant c.in_ok-prefix.ensures.found c.in_ok-prefix.ensures.allowed c.in_ok-known.ensures
 
 pub returns-in_err-prefix-clause-refused : goal.returns-in_err-prefix-clause-refused
 returns-in_err-prefix-clause-refused c =

@@ -1,4 +1,4 @@
-use Rattle.fs_parser.specs.View.{known_of}
+use Rattle.fs_parser.specs.Known.{known_of}
 use Rattle.fs_parser.proofs.Steps.{name_taken}
 use Rattle.fs_parser.proofs.document.new_name.Goals as goal
 

@@ -1,0 +1,23 @@
+use Rattle.std.proofs.Common.{◌≡◌, ◌<◌, ℕ, List, length, get_or, ap, ◌∙◌, arith}
+use Rattle.std.specs.Prelude.{slice_set}
+use Rattle.std.specs.List.{filter}
+use Rattle.std.proofs.lemmas.List.{length-set}
+use Rattle.taxonomy.specs.Relation.{lies_below}
+use Rattle.taxonomy.specs.Texts.{is_directly_above, numbers_below}
+use Rattle.taxonomy.proofs.Grouping.{set_more}
+use Rattle.taxonomy.proofs.groups.above_lists.Goals as goal
+
+pub loop-g-preserved : goal.loop-g-preserved
+loop-g-preserved c =
+    let n = length c.args.taxonomy.now in
+    let lists = c.loop-g.lists in
+    let gs = c.args.leaders.now in
+    let i = c.loop-g.g-index in
+    let g = get_or gs i 0 in
+    let F : ℕ → List ℕ = λ g. filter (is_directly_above (lies_below c.args.taxonomy.now) n g) (numbers_below n) in
+    let within : g < length lists = omega (arith, c.requires i 0 c.loop-g-test.true, c.loop-g.invariant.long) in
+    let placed : c.set.new.self ≡ slice_set lists g (F g) = c.set.ensures ∙ ap (slice_set lists g) c.in_ok-directly_above.ensures in
+    record {
+      long = ap length placed ∙ length-set lists g (F g) ∙ c.loop-g.invariant.long;
+      each = rw placed (set_more F lists gs i c.loop-g-test.true within c.loop-g.invariant.each);
+    }
