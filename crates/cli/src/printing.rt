@@ -17,11 +17,17 @@ pub(crate) struct Message {
 }
 
 pub(crate) const DONE: u8 = 0;
+
 pub(crate) const REJECTED: u8 = 1;
+
 pub(crate) const USAGE: u8 = 2;
+
 pub(crate) const REFUSED: u8 = 3;
+
 pub(crate) const MEMORY: u8 = 4;
+
 pub(crate) const LIMIT: u8 = 5;
+
 pub(crate) const FILE: u8 = 6;
 
 /// Prints the text and gives the status; where the sink fails, that of a file.
@@ -133,7 +139,9 @@ pub(crate) fn summary_message(alloc: Global, summary: &Summary) -> Result<Messag
     let individuals = summary.individuals;
     let facts = summary.facts;
     Ok(Message {
-        text: format!(in alloc; "{answer} classes {classes} individuals {individuals} facts {facts}\n")?,
+        text: format!(in alloc;
+            "{answer} classes {classes} individuals {individuals} facts {facts}\n"
+        )?,
         status: DONE,
     })
 }

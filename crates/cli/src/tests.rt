@@ -30,7 +30,11 @@ fn classified(
     let mut out = BufferSink::new(alloc);
     let mut err = BufferSink::new(alloc);
     let inputs = [("doc", document)];
-    let outputs = vec![in alloc; ("tax", &mut taxonomy), ("inst", &mut instances), ("cert", &mut certificate)]?;
+    let outputs = vec![in alloc;
+        ("tax", &mut taxonomy),
+        ("inst", &mut instances),
+        ("cert", &mut certificate),
+    ]?;
     let mut files = MemoryFiles::new(&inputs, outputs);
     let status = perform(alloc, &words, &mut files, &mut out, &mut err, state);
     drop(files);
@@ -75,13 +79,15 @@ fn gives(
     let alloc = rt.alloc();
     let run = classified(alloc, document, &[], RandomState::new(rt)?)?;
     let (status, verdict) = checked(alloc, document, &run, RandomState::new(rt)?)?;
-    Ok(run.status == 0
-        && run.err.is_empty()
-        && run.out.as_slice() == counts.as_bytes()
-        && run.taxonomy.as_slice() == taxonomy.as_bytes()
-        && run.instances.as_slice() == instances.as_bytes()
-        && status == 0
-        && verdict.as_slice() == b"accepted\n".as_slice())
+    Ok(
+        run.status == 0
+            && run.err.is_empty()
+            && run.out.as_slice() == counts.as_bytes()
+            && run.taxonomy.as_slice() == taxonomy.as_bytes()
+            && run.instances.as_slice() == instances.as_bytes()
+            && status == 0
+            && verdict.as_slice() == b"accepted\n".as_slice(),
+    )
 }
 
 /// Whether the document is refused so, and nothing is written.
@@ -93,19 +99,31 @@ fn refuses(
     told: &str,
 ) -> Result<bool, Fail> {
     let run = classified(rt.alloc(), document, options, RandomState::new(rt)?)?;
-    Ok(run.status == status
-        && run.out.is_empty()
-        && run.err.as_slice() == told.as_bytes()
-        && run.taxonomy.is_empty()
-        && run.instances.is_empty()
-        && run.certificate.is_empty())
+    Ok(
+        run.status == status
+            && run.out.is_empty()
+            && run.err.as_slice() == told.as_bytes()
+            && run.taxonomy.is_empty()
+            && run.instances.is_empty()
+            && run.certificate.is_empty(),
+    )
 }
 
-const EMPTY: &str = "eltax 1 consistent\n<http://www.w3.org/2002/07/owl#Thing>\nbottom <http://www.w3.org/2002/07/owl#Nothing>\n";
-const ONE: &str = "eltax 1 consistent\n<http://www.w3.org/2002/07/owl#Thing>\n<x:A> < <x:B>\n<x:B> < <http://www.w3.org/2002/07/owl#Thing>\nbottom <http://www.w3.org/2002/07/owl#Nothing>\n";
-const CYCLE: &str = "eltax 1 consistent\n<http://www.w3.org/2002/07/owl#Thing>\n<x:A> = <x:B> < <http://www.w3.org/2002/07/owl#Thing>\nbottom <http://www.w3.org/2002/07/owl#Nothing>\n";
-const TOP: &str = "eltax 1 consistent\n<http://www.w3.org/2002/07/owl#Thing> = <x:A>\nbottom <http://www.w3.org/2002/07/owl#Nothing>\n";
-const HASH: &str = "eltax 1 consistent\n<http://www.w3.org/2002/07/owl#Thing>\n<x:A#b> < <x:B>\n<x:B> < <http://www.w3.org/2002/07/owl#Thing>\nbottom <http://www.w3.org/2002/07/owl#Nothing>\n";
+const EMPTY: &str =
+    "eltax 1 consistent\n<http://www.w3.org/2002/07/owl#Thing>\nbottom <http://www.w3.org/2002/07/owl#Nothing>\n";
+
+const ONE: &str =
+    "eltax 1 consistent\n<http://www.w3.org/2002/07/owl#Thing>\n<x:A> < <x:B>\n<x:B> < <http://www.w3.org/2002/07/owl#Thing>\nbottom <http://www.w3.org/2002/07/owl#Nothing>\n";
+
+const CYCLE: &str =
+    "eltax 1 consistent\n<http://www.w3.org/2002/07/owl#Thing>\n<x:A> = <x:B> < <http://www.w3.org/2002/07/owl#Thing>\nbottom <http://www.w3.org/2002/07/owl#Nothing>\n";
+
+const TOP: &str =
+    "eltax 1 consistent\n<http://www.w3.org/2002/07/owl#Thing> = <x:A>\nbottom <http://www.w3.org/2002/07/owl#Nothing>\n";
+
+const HASH: &str =
+    "eltax 1 consistent\n<http://www.w3.org/2002/07/owl#Thing>\n<x:A#b> < <x:B>\n<x:B> < <http://www.w3.org/2002/07/owl#Thing>\nbottom <http://www.w3.org/2002/07/owl#Nothing>\n";
+
 const NO_INSTANCES: &str = "elinst 1 consistent\n";
 
 #[test]
@@ -170,7 +188,12 @@ fn worked_documents_on_top_and_bottom(rt: HostRuntime) -> Result<(), Fail> {
 fn limits_of_facts_and_bytes(rt: HostRuntime) -> Result<(), Fail> {
     let empty = b"Ontology()";
     let one = b"Ontology(SubClassOf(<x:A> <x:B>))";
-    let three = classified(rt.alloc(), empty, &["--max-facts", "3"], RandomState::new(&rt)?)?;
+    let three = classified(
+        rt.alloc(),
+        empty,
+        &["--max-facts", "3"],
+        RandomState::new(&rt)?,
+    )?;
     assert_eq!(rt; three.status, 0);
     let two = refuses(
         &rt,
@@ -180,7 +203,12 @@ fn limits_of_facts_and_bytes(rt: HostRuntime) -> Result<(), Fail> {
         "limit: more than 2 facts\n",
     )?;
     assert!(rt; two);
-    let all = classified(rt.alloc(), one, &["--max-bytes", "33"], RandomState::new(&rt)?)?;
+    let all = classified(
+        rt.alloc(),
+        one,
+        &["--max-bytes", "33"],
+        RandomState::new(&rt)?,
+    )?;
     assert_eq!(rt; all.status, 0);
     let fewer = refuses(
         &rt,
@@ -198,18 +226,60 @@ fn refused_documents(rt: HostRuntime) -> Result<(), Fail> {
     assert!(rt; refuses(&rt, b"", &[], 3, "P2 at byte 0\n")?);
     assert!(rt; refuses(&rt, b"Ontology(", &[], 3, "P2 at byte 9\n")?);
     assert!(rt; refuses(&rt, b"Ontology(\xff", &[], 3, "U1 at byte 9\n")?);
-    assert!(rt; refuses(&rt, b"Ontology(SubClassOf(owl:Thing:A <x:B>))", &[], 3, "X4 at byte 20\n")?);
-    assert!(rt; refuses(&rt, b"Ontology(SubClassOf(q:A <x:B>))", &[], 3, "P3 at byte 20\n")?);
-    assert!(rt; refuses(&rt, b"Ontology(HasKey(<x:A> (<x:p>) ()))", &[], 3, "F3 at byte 9\n")?);
-    assert!(rt; refuses(&rt, b"Ontology(SubClassOf(<x:A> owl:real))", &[], 3, "F3 at byte 26\n")?);
+    assert!(rt;
+        refuses(
+            &rt,
+            b"Ontology(SubClassOf(owl:Thing:A <x:B>))",
+            &[],
+            3,
+            "X4 at byte 20\n"
+        )?
+    );
+    assert!(rt;
+        refuses(
+            &rt,
+            b"Ontology(SubClassOf(q:A <x:B>))",
+            &[],
+            3,
+            "P3 at byte 20\n"
+        )?
+    );
+    assert!(rt;
+        refuses(
+            &rt,
+            b"Ontology(HasKey(<x:A> (<x:p>) ()))",
+            &[],
+            3,
+            "F3 at byte 9\n"
+        )?
+    );
+    assert!(rt;
+        refuses(
+            &rt,
+            b"Ontology(SubClassOf(<x:A> owl:real))",
+            &[],
+            3,
+            "F3 at byte 26\n"
+        )?
+    );
     Ok(())
 }
 
 #[test]
 fn refused_words(rt: HostRuntime) -> Result<(), Fail> {
-    let low = classified(rt.alloc(), b"Ontology()", &["--max-facts", "0"], RandomState::new(&rt)?)?;
+    let low = classified(
+        rt.alloc(),
+        b"Ontology()",
+        &["--max-facts", "0"],
+        RandomState::new(&rt)?,
+    )?;
     assert_eq!(rt; low.status, 2);
-    let high = classified(rt.alloc(), b"Ontology()", &["--max-bytes", "268435457"], RandomState::new(&rt)?)?;
+    let high = classified(
+        rt.alloc(),
+        b"Ontology()",
+        &["--max-bytes", "268435457"],
+        RandomState::new(&rt)?,
+    )?;
     assert_eq!(rt; high.status, 2);
     let more = classified(rt.alloc(), b"Ontology()", &["more"], RandomState::new(&rt)?)?;
     assert_eq!(rt; more.status, 2);

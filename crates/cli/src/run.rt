@@ -1,7 +1,7 @@
 //! A whole run of the program.
 
-use crate::check_document::checked;
-use crate::classify_document::classify_document;
+use crate::checking::checked;
+use crate::classifying::classify_document;
 use crate::fault::{CheckFault, ClassifyFault};
 use crate::printing::{
     MEMORY, USAGE, check_message, classify_message, print, summary_message, tell, usage_message,
@@ -99,11 +99,13 @@ pub fn perform<F: Files, O: Sink, E: Sink>(
     state: RandomState,
 ) -> u8 {
     match task(alloc, words) {
-        Ok(Task::Classify {
-            paths,
-            max_facts,
-            max_bytes,
-        }) => match Limits::new(max_bytes, max_facts) {
+        Ok(
+            Task::Classify {
+                paths,
+                max_facts,
+                max_bytes,
+            },
+        ) => match Limits::new(max_bytes, max_facts) {
             Some(limits) => perform_classify(alloc, &paths, &limits, files, out, err, state),
             None => USAGE,
         },
