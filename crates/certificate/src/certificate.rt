@@ -1,6 +1,6 @@
 //! Certificates: derivations with what they show.
 
-ghost use Rattle.std.specs.Prelude.{◌≡◌, ◌↔◌, IfOk, IfErr, IsOk, map, option_map};
+ghost use Rattle.std.specs.Prelude.{◌≡◌, IfOk, IfErr, OnErr, option_map};
 ghost use Rattle.certificate.specs.HasText.{HasText};
 ghost use Rattle.certificate.specs.View.{lines_of, listed_of, certificate_from};
 
@@ -38,8 +38,9 @@ impl Certificate {
         listed: Option<Listed>,
     ) -> Result<Certificate, MakeFault>
         ensures made { IfOk result (λ c. c ≡ certificate_from lines.items listed) }
-        ensures exact { IsOk result ↔ HasText ontology.now (certificate_from lines.items listed) }
-        ensures fault { IfErr result (λ e. e ≡ MakeFault.NoText) }
+        ensures text { IfOk result (λ c. HasText ontology.now c) }
+        ensures none { OnErr result (HasText ontology.now (certificate_from lines.items listed) → ⊥) }
+        ensures fault { IfErr result (λ fault. fault ≡ MakeFault.NoText) }
     {
         if !have_text(ontology, &lines, &listed) {
             return Err(MakeFault::NoText);

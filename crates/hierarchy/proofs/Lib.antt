@@ -4,3 +4,4 @@ pub mod Searching
 pub mod Meaning
 pub mod Closing
 pub mod Counting
+pub mod Shapes

@@ -28,7 +28,7 @@ IsReason S c list place d (Axiom number from) = (b : ℕ) × (from < place) × (
 abbrev pub AreReasons : (ℕ → ℕ → ℕ → Type 0) → ℕ → List Superclass → Type 0
 AreReasons S c list = (place : ℕ) (s : Superclass) → slice_get list place ≡ Some s → IsReason S c list place s.class.0 s.reason
 
--- the superclasses of c, each once: c first, each other one with the reason that an earlier one gave
+-- the superclasses of c, each once and with its reason, c first
 pub record AreSuperclassesOf (o : Ontology) (c : ℕ) (list : List Superclass) : Type 0 where
   pub first : slice_get list 0 ≡ Some (as_itself c)
   pub distinct : AreDistinct (classes list)

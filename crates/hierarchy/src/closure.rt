@@ -44,7 +44,11 @@ pub struct Hierarchy {
     pub facts: u64,
 }
 
-/// All superclasses of all classes, at most `max_facts` in all.
+/// All superclasses of all classes, each with what gave it. A fact is a class with one of its superclasses.
+///
+/// # Errors
+///
+/// `Limit` where there are more than `max_facts` facts, and `Memory` where memory was refused before that was seen.
 pub fn close(alloc: Global, ontology: &Ontology, max_facts: u64) -> Result<Hierarchy, Stop>
     requires { IsHierarchy ontology.now }
     ensures superclasses { IfOk result (λ h. AreSuperclasses ontology.now h) }

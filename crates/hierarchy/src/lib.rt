@@ -3,9 +3,14 @@
 
 mod closure;
 mod context;
+mod shape;
 mod theory;
 mod told;
 
 pub use closure::{Hierarchy, Stop, close};
 pub use context::{Reason, Superclass};
+pub use shape::is_hierarchy;
 pub use theory::number_of_facts;
+
+#[cfg(test)]
+mod tests;
