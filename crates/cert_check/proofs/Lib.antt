@@ -1,6 +1,7 @@
 pub mod Places
 pub mod Checked
 pub mod Made
+pub mod Rowwise
 pub mod Truth
 pub mod Derivations
 pub mod Decisions

@@ -1,5 +1,7 @@
 //! The checker.
 ghost use Rattle.cert_check.specs.Rows.{AreRows};
+ghost use Rattle.certificate.specs.HasText.{IsLineOf};
+ghost use Rattle.certificate.specs.View.{lines_of};
 ghost use Rattle.std.specs.Prelude.{◌≡◌, All, IfOk, length};
 ghost use Rattle.taxonomy.specs.Outcome.{IsMadeFor};
 
@@ -41,7 +43,9 @@ pub fn check(alloc: Global, ontology: &Ontology, taxonomy: &[u8], instances: &[u
 }
 
 // What speaks against a certificate with a listed interpretation whose lines are a derivation.
-fn against_consistent(alloc: Global, ontology: &Ontology, taxonomy: &[u8], instances: &[u8], lines: &[Line], listed: &Listed) -> Result<Option<Reason>, Memory> {
+fn against_consistent(alloc: Global, ontology: &Ontology, taxonomy: &[u8], instances: &[u8], lines: &[Line], listed: &Listed) -> Result<Option<Reason>, Memory>
+    requires { All (IsLineOf ontology.now) (lines_of lines.now) }
+{
     if let Some(axiom) = first_failing_axiom(alloc, ontology, listed)? {
         return Ok(Some(Reason::AxiomFails { axiom }));
     }
