@@ -1,7 +1,9 @@
 -- Rows of classes: for each class, or for each individual, the classes that lines put above it.
-use Rattle.std.specs.Prelude.{◌≡◌, ℕ, ◌↔◌, ◌⊎◌, List, Bool, true, length, slice_get, slice_set, Some}
+use Rattle.std.specs.Prelude.{◌≡◌, ℕ, ◌<◌, ◌||◌, ◌↔◌, ◌⊎◌, List, Bool, true, length, slice_get, slice_set, Some}
 use Rattle.axioms.specs.Numbered.{Ontology, IsClassAt}
 use Rattle.certificate.specs.Certificate.{Expression, Individual, Conclusion, Sub, Line}
+use Rattle.interpretation_spec.specs.Row.{has}
+use Rattle.taxonomy.specs.Texts.{nothing_class}
 use Rattle.taxonomy.specs.Relation.{AreOver, row_at, lies_below}
 
 -- so many rows, each over so many numbers
@@ -38,3 +40,12 @@ pub record AreClassRows (o : Ontology) (lines : List Line) (rows : List (List Bo
 pub record AreTypeRows (o : Ontology) (lines : List Line) (rows : List (List Bool)) : Type 0 where
   pub shaped : AreRows (length o.names.individuals) (length o.names.classes) rows
   pub each : (a d : ℕ) → (lies_below rows a d ≡ true) ↔ SomeLine lines (λ b. PutsInto o b a d)
+
+-- the row of a class, where what lies below owl:Nothing lies below all
+pub record IsFilledRow (row filled : List Bool) : Type 0 where
+  pub long : length filled ≡ length row
+  pub each : (d : ℕ) → d < length row → has filled d ≡ (has row nothing_class || has row d)
+
+pub record AreFilled (rows filled : List (List Bool)) : Type 0 where
+  pub long : length filled ≡ length rows
+  pub each : (c : ℕ) → c < length rows → IsFilledRow (row_at rows c) (row_at filled c)
