@@ -1,6 +1,8 @@
 pub mod Places
 pub mod Checked
 pub mod Made
+pub mod Rowwise
+pub mod Relations
 pub mod Truth
 pub mod Derivations
 pub mod Decisions

@@ -1,17 +1,20 @@
 //! The checker.
-ghost use Rattle.cert_check.specs.Rows.{AreRows};
-ghost use Rattle.std.specs.Prelude.{◌≡◌, All, IfOk, length};
-ghost use Rattle.taxonomy.specs.Outcome.{IsMadeFor};
+ghost use Rattle.cert_check.specs.Rows.{AreClassRows, AreRows, AreTypeRows};
+ghost use Rattle.cert_check.specs.Verdict.{Against, ConsistentAgainst, ContradictionAgainst, HasContradiction, IsContradiction, IsVerdict, RelationAgainst, TextsAgainst};
+ghost use Rattle.certificate.specs.HasText.{IsLineOf};
+ghost use Rattle.certificate.specs.View.{conclusion_of, lines_of};
+ghost use Rattle.std.specs.Prelude.{◌↔◌, ◌≡◌, All, IfOk, IsTrue, length};
+ghost use Rattle.taxonomy.specs.Outcome.{IsMadeFor, instances_of, taxonomy_of};
 
 use crate::claims::{claimed_elements, first_disagreeing_class, first_disagreeing_individual, first_unclaimed, holders};
 use crate::compare::first_difference;
 use crate::derivation::first_bad_line;
 use crate::listing::interpretation_of;
-use crate::relation::with_empty_classes;
+use crate::relation::filled_rows;
 use crate::superclasses::{class_rows, type_rows};
 use crate::verdict::{Reason, Verdict};
 use axioms::{ExprId, Memory, Ontology};
-use certificate::{CertFault, Conclusion, Line, Listed, Subject, read_certificate};
+use certificate::{CertFault, Certificate, Conclusion, Line, Listed, Subject, read_certificate};
 use interpretation_spec::Row;
 use std::alloc::Global;
 use taxonomy::{Outcome, Relation, instances_bytes, reduce, taxonomy_bytes};
@@ -20,28 +23,40 @@ use taxonomy::{Outcome, Relation, instances_bytes, reduce, taxonomy_bytes};
 /// axioms of the ontology; where it does not, the first reason.
 ///
 /// It fails only where memory is refused.
-pub fn check(alloc: Global, ontology: &Ontology, taxonomy: &[u8], instances: &[u8], certificate: &[u8]) -> Result<Verdict, Memory> {
-    let certificate = match read_certificate(alloc, ontology, certificate) {
+pub fn check(alloc: Global, ontology: &Ontology, taxonomy: &[u8], instances: &[u8], certificate: &[u8]) -> Result<Verdict, Memory>
+    ensures { IfOk result (IsVerdict ontology.now taxonomy.now instances.now certificate.now) }
+{
+    let read = match read_certificate(alloc, ontology, certificate) {
         Ok(certificate) => certificate,
         Err(CertFault::BadText { at }) => return Ok(Verdict::Rejected(Reason::BadText { at })),
         Err(CertFault::Memory) => return Err(Memory),
     };
-    let lines = certificate.lines();
-    if let Some(number) = first_bad_line(alloc, ontology, lines)? {
+    if let Some(number) = first_bad_line(alloc, ontology, read.lines())? {
         return Ok(Verdict::Rejected(Reason::BadLine { number }));
     }
-    let found = match certificate.listed() {
-        Some(listed) => against_consistent(alloc, ontology, taxonomy, instances, lines, listed)?,
-        None => against_contradiction(alloc, ontology, taxonomy, instances, lines)?,
-    };
+    let found = against(alloc, ontology, taxonomy, instances, &read)?;
     Ok(match found {
         Some(reason) => Verdict::Rejected(reason),
         None => Verdict::Accepted,
     })
 }
 
+// What speaks against a certificate whose lines are a derivation.
+fn against(alloc: Global, ontology: &Ontology, taxonomy: &[u8], instances: &[u8], certificate: &Certificate) -> Result<Option<Reason>, Memory>
+    requires { All (IsLineOf ontology.now) certificate.now.lines }
+    ensures { IfOk result (Against ontology.now taxonomy.now instances.now certificate.now.lines certificate.now.listed) }
+{
+    match certificate.listed() {
+        Some(listed) => against_consistent(alloc, ontology, taxonomy, instances, certificate.lines(), listed),
+        None => against_contradiction(alloc, ontology, taxonomy, instances, certificate.lines()),
+    }
+}
+
 // What speaks against a certificate with a listed interpretation whose lines are a derivation.
-fn against_consistent(alloc: Global, ontology: &Ontology, taxonomy: &[u8], instances: &[u8], lines: &[Line], listed: &Listed) -> Result<Option<Reason>, Memory> {
+fn against_consistent(alloc: Global, ontology: &Ontology, taxonomy: &[u8], instances: &[u8], lines: &[Line], listed: &Listed) -> Result<Option<Reason>, Memory>
+    requires { All (IsLineOf ontology.now) (lines_of lines.now) }
+    ensures { IfOk result (ConsistentAgainst ontology.now taxonomy.now instances.now (lines_of lines.now)) }
+{
     if let Some(axiom) = first_failing_axiom(alloc, ontology, listed)? {
         return Ok(Some(Reason::AxiomFails { axiom }));
     }
@@ -50,9 +65,7 @@ fn against_consistent(alloc: Global, ontology: &Ontology, taxonomy: &[u8], insta
     if let Some(reason) = against_claims(alloc, ontology, listed, &above, &types)? {
         return Ok(Some(reason));
     }
-    let relation = Relation::new(with_empty_classes(alloc, above)?);
-    let outcome = Outcome::Consistent(reduce(alloc, &relation)?, types);
-    against_texts(alloc, ontology, taxonomy, instances, &outcome)
+    against_relation(alloc, ontology, taxonomy, instances, above, types, lines)
 }
 
 // The least number of an axiom that the listed interpretation does not satisfy.
@@ -80,8 +93,25 @@ fn against_claims(alloc: Global, ontology: &Ontology, listed: &Listed, above: &[
     Ok(None)
 }
 
+// Where the texts differ from those of the relation and the types that the lines give.
+fn against_relation(alloc: Global, ontology: &Ontology, taxonomy: &[u8], instances: &[u8], above: Vec<Row>, types: Vec<Row>, _lines: &[Line]) -> Result<Option<Reason>, Memory>
+    requires above { AreClassRows ontology.now (lines_of _lines.now) above.items }
+    requires types { AreTypeRows ontology.now (lines_of _lines.now) types.items }
+    ensures { IfOk result (RelationAgainst ontology.now taxonomy.now instances.now (lines_of _lines.now)) }
+{
+    // What holds of every ontology.
+    let _ = ontology.expr(ExprId(0));
+    let filled = filled_rows(alloc, &above)?;
+    let relation = Relation::new(filled);
+    let reduced = reduce(alloc, &relation)?;
+    let outcome = Outcome::Consistent(reduced, types);
+    against_texts(alloc, ontology, taxonomy, instances, &outcome)
+}
+
 // What speaks against a certificate of a contradiction whose lines are a derivation.
-fn against_contradiction(alloc: Global, ontology: &Ontology, taxonomy: &[u8], instances: &[u8], lines: &[Line]) -> Result<Option<Reason>, Memory> {
+fn against_contradiction(alloc: Global, ontology: &Ontology, taxonomy: &[u8], instances: &[u8], lines: &[Line]) -> Result<Option<Reason>, Memory>
+    ensures { IfOk result (ContradictionAgainst taxonomy.now instances.now (lines_of lines.now)) }
+{
     if !has_contradiction(lines) {
         return Ok(Some(Reason::NoContradiction));
     }
@@ -89,21 +119,32 @@ fn against_contradiction(alloc: Global, ontology: &Ontology, taxonomy: &[u8], in
 }
 
 // Whether a line puts owl:Thing or an individual below owl:Nothing.
-fn has_contradiction(lines: &[Line]) -> bool {
-    lines.iter().any(|line| is_contradiction(line.conclusion))
+fn has_contradiction(lines: &[Line]) -> bool
+    ensures { IsTrue result ↔ HasContradiction (lines_of lines.now) }
+{
+    for line in lines {
+        if is_contradiction(line.conclusion) {
+            return true;
+        }
+    }
+    false
 }
 
-fn is_contradiction(conclusion: Conclusion) -> bool {
+// Whether the conclusion puts owl:Thing or an individual below owl:Nothing.
+fn is_contradiction(conclusion: Conclusion) -> bool
+    ensures { IsTrue result ↔ IsContradiction (conclusion_of conclusion) }
+{
     match conclusion {
-        Conclusion::Sub(Subject::Expr(ExprId(0)), ExprId(1)) => true,
-        Conclusion::Sub(Subject::Individual(_), ExprId(1)) => true,
-        _ => false,
+        Conclusion::Sub(Subject::Expr(expression), above) => expression.0 == 0 && above.0 == 1,
+        Conclusion::Sub(Subject::Individual(_), above) => above.0 == 1,
+        Conclusion::Edge(..) => false,
     }
 }
 
 // Where the texts differ from those of the outcome.
 fn against_texts(alloc: Global, ontology: &Ontology, taxonomy: &[u8], instances: &[u8], outcome: &Outcome) -> Result<Option<Reason>, Memory>
     requires { IsMadeFor ontology.now outcome.now }
+    ensures { IfOk result (TextsAgainst taxonomy.now instances.now (taxonomy_of ontology.now outcome.now) (instances_of ontology.now outcome.now)) }
 {
     if let Some(at) = first_difference(taxonomy, &taxonomy_bytes(alloc, ontology, outcome)?) {
         return Ok(Some(Reason::TaxonomyDiffers { at }));

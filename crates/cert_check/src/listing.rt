@@ -1,6 +1,7 @@
 //! The interpretation that a certificate lists.
+ghost use Rattle.axioms.specs.Numbered.{IsClassAt};
 ghost use Rattle.interpretation_spec.specs.Numbered.{IsMadeFor};
-ghost use Rattle.std.specs.Prelude.{◌≡◌, IfOk, OnOk};
+ghost use Rattle.std.specs.Prelude.{◌<◌, ◌≡◌, IfOk, MatchOption, OnOk, length, ℕ};
 
 use axioms::{ClassId, Expr, ExprId, IndId, Memory, Ontology};
 use certificate::{ClassRow, Listed, PairRow};
@@ -8,7 +9,10 @@ use interpretation_spec::Interpretation;
 use std::alloc::Global;
 
 /// The class that the expression is.
-pub fn class_of(ontology: &Ontology, expression: ExprId) -> Option<ClassId> {
+pub fn class_of(ontology: &Ontology, expression: ExprId) -> Option<ClassId>
+    ensures { MatchOption result ((c : ℕ) → IsClassAt ontology.now c expression.0 → ⊥)
+        (λ class. IsClassAt ontology.now class.0 expression.0 × (class.0 < length ontology.now.names.classes)) }
+{
     match ontology.expr(expression) {
         Some(Expr::Class(class)) => Some(*class),
         _ => None,

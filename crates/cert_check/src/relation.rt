@@ -1,25 +1,35 @@
 //! The relation on classes that lines show.
-ghost use Rattle.cert_check.specs.Rows.{AreRows};
-ghost use Rattle.std.specs.Prelude.{◌≡◌, IfOk, length};
-ghost use Rattle.taxonomy.specs.Relation.{IsSquare};
+ghost use Rattle.cert_check.specs.Acceptable.{LiesBelow};
+ghost use Rattle.cert_check.specs.Rows.{AreClassRows, AreFilled, IsFilledRow};
+ghost use Rattle.certificate.specs.Certificate.{Line};
+ghost use Rattle.std.specs.Prelude.{◌≡◌, IfOk, List, length};
+ghost use Rattle.taxonomy.specs.Relation.{AreOver, lies_below};
 
-use axioms::Memory;
+use axioms::{Memory, Ontology};
 use interpretation_spec::Row;
 use std::alloc::Global;
 
 // The number of owl:Nothing among the classes.
 const NOTHING: usize = 1;
 
-/// The rows in which each class that is below owl:Nothing is below all classes.
-pub fn with_empty_classes(alloc: Global, mut rows: Vec<Row>) -> Result<Vec<Row>, Memory>
-    requires { IsSquare rows.items }
-    ensures { IfOk result (λ filled. (length filled.items ≡ length rows.items) × IsSquare filled.items) }
+// The row of a class; one that has owl:Nothing has all classes.
+fn filled_row(alloc: Global, row: &Row) -> Result<Row, Memory>
+    ensures { IfOk result (IsFilledRow row.now) }
 {
-    let count = rows.len();
-    for class in 0..count {
-        if rows[class].contains(NOTHING) {
-            rows[class] = Row::full(alloc, count)?;
-        }
+    if row.contains(NOTHING) {
+        Row::full(alloc, row.len())
+    } else {
+        row.copy(alloc)
     }
-    Ok(rows)
+}
+
+/// The rows, in which each class that is below owl:Nothing is below all classes.
+pub fn filled_rows(alloc: Global, rows: &[Row]) -> Result<Vec<Row>, Memory>
+    ensures { IfOk result (λ filled. AreFilled rows.now filled.items) }
+{
+    let mut filled = Vec::new(alloc);
+    for row in rows {
+        filled.push(filled_row(alloc, row)?)?;
+    }
+    Ok(filled)
 }

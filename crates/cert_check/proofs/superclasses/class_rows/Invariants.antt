@@ -1,6 +1,7 @@
-use Rattle.std.proofs.Common.{length}
-use Rattle.cert_check.specs.Rows.{AreRows}
+use Rattle.std.proofs.Common.{take}
+use Rattle.certificate.specs.View.{lines_of}
+use Rattle.cert_check.specs.Rows.{AreClassRows}
 use Rattle.cert_check.proofs.superclasses.class_rows.Given as goal
 
 abbrev pub invariant-loop-line : goal.invariant-loop-line
-invariant-loop-line l = AreRows (length l.ontology.names.classes) (length l.ontology.names.classes) l.rows.items
+invariant-loop-line l = AreClassRows l.ontology (lines_of (take l.line-index l.lines)) l.rows.items

@@ -1,6 +1,5 @@
-use Rattle.std.proofs.Common.{length}
-use Rattle.cert_check.specs.Rows.{AreRows}
+use Rattle.std.proofs.Common.{◌≡◌, false, replicate}
 use Rattle.cert_check.proofs.superclasses.empty_rows.Given as goal
 
 abbrev pub invariant-loop : goal.invariant-loop
-invariant-loop l = AreRows l.counter l.width l.rows.items
+invariant-loop l = l.rows.items ≡ replicate l.counter (replicate l.width false)
