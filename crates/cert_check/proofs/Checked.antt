@@ -23,9 +23,9 @@ pub derived_yes : (o : Ontology) (before : List Line) (line : Line) (ps : List C
     → Some ps ≡ at_numbers (map (λ l. l.conclusion) before) line.premises
     → (b ≡ true) ↔ Follows o line.rule ps (axiom_at o line.axiom') line.conclusion → (b ≡ true) ↔ IsDerived o before line
 derived_yes o before line ps b w e h = (
-    λ t. record { within = w; premises = ps; premises_at = sym e; follows = h.0 t },
-    λ d. (let same : d.premises ≡ ps = same_Some d.premises ps (sym d.premises_at ∙ sym e) in
-        h.1 (subst (λ qs. Follows o line.rule qs (axiom_at o line.axiom') line.conclusion) same d.follows)),
+  λ t. record { within = w; premises = ps; premises_at = sym e; follows = h.0 t },
+  λ d. (let same : d.premises ≡ ps = same_Some d.premises ps (sym d.premises_at ∙ sym e) in
+      h.1 (subst (λ qs. Follows o line.rule qs (axiom_at o line.axiom') line.conclusion) same d.follows)),
 )
 
 -- .. where the line's numbers, the conclusions and the axiom are known by equations

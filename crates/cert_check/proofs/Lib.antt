@@ -3,6 +3,7 @@ pub mod Checked
 pub mod Made
 pub mod Rowwise
 pub mod Relations
+pub mod Verdicts
 pub mod Truth
 pub mod Derivations
 pub mod Decisions

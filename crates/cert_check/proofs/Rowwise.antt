@@ -35,14 +35,14 @@ where_it_is (l ∷ lines) last (suc k) line g = where_it_is lines last k line g
 
 pub one_more_line : (P : Conclusion → Type 0) (lines : List Line) (last : Line) → SomeLine (lines ++ last ∷ []) P ↔ (SomeLine lines P ⊎ P last.conclusion)
 one_more_line P lines last = (
-    λ (k, line, g, p). elim (where_it_is lines last k line g) [
-      | inl h ↦ inl (k, line, h, p)
-      | inr e ↦ inr (subst (λ (l : Line). P l.conclusion) (sym e) p)
-    ],
-    λ h. elim h [
-      | inl s ↦ (s.0, s.1, in_front lines last s.0 s.1 s.2, s.3)
-      | inr p ↦ (length lines, last, at_end lines last, p)
-    ],
+  λ (k, line, g, p). elim (where_it_is lines last k line g) [
+    | inl h ↦ inl (k, line, h, p)
+    | inr e ↦ inr (subst (λ (l : Line). P l.conclusion) (sym e) p)
+  ],
+  λ h. elim h [
+    | inl s ↦ (s.0, s.1, in_front lines last s.0 s.1 s.2, s.3)
+    | inr p ↦ (length lines, last, at_end lines last, p)
+  ],
 )
 
 pub next_lines : (lines : List code.Line) (i : ℕ) (r : code.Line) → slice_get lines i ≡ Some r → lines_of (take (i + 1) lines) ≡ lines_of (take i lines) ++ line_of r ∷ []
@@ -182,17 +182,17 @@ rows_with_number count width rows a b h = elim (cases_lt a (length rows)) [
   | inl l ↦ record {
     long = length-set rows a (set (row_at rows a) b true) ∙ h.long;
     over = λ k d kl. (let kl' : k < length rows = omega (arith, length-set rows a (set (row_at rows a) b true)) in
-      elim (cases_eq k a) [
-        | inl e ↦ subst (λ j. length (get_or (with_number_at rows a b) j d) ≡ width) (sym e)
-            (ap length (get_or-set_same rows a (set (row_at rows a) b true) d l) ∙ length-set (row_at rows a) b true ∙ h.over a [] l)
-        | inr ne ↦ ap length (get_or-set_other rows a k (set (row_at rows a) b true) d ne) ∙ h.over k d kl'
-      ]);
+        elim (cases_eq k a) [
+          | inl e ↦ subst (λ j. length (get_or (with_number_at rows a b) j d) ≡ width) (sym e)
+              (ap length (get_or-set_same rows a (set (row_at rows a) b true) d l) ∙ length-set (row_at rows a) b true ∙ h.over a [] l)
+          | inr ne ↦ ap length (get_or-set_other rows a k (set (row_at rows a) b true) d ne) ∙ h.over k d kl'
+        ]);
   }
   | inr l ↦ record {
     long = length-set rows a (set (row_at rows a) b true) ∙ h.long;
     over = λ k d kl. (let kl' : k < length rows = omega (arith, length-set rows a (set (row_at rows a) b true)) in
-      let ne : k ≢ a = λ e. (let no : a < length rows = subst (λ j. j < length rows) e kl' in omega arith) in
-      ap length (get_or-set_other rows a k (set (row_at rows a) b true) d ne) ∙ h.over k d kl');
+        let ne : k ≢ a = λ e. (let no : a < length rows = subst (λ j. j < length rows) e kl' in omega arith) in
+        ap length (get_or-set_other rows a k (set (row_at rows a) b true) d ne) ∙ h.over k d kl');
   }
 ]
 

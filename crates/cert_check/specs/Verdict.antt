@@ -53,9 +53,22 @@ ConsistentAgainst o t i lines (Some (ClaimDisagrees c)) = Unit {0}
 ConsistentAgainst o t i lines (Some (IndividualDisagrees a)) = Unit {0}
 ConsistentAgainst o t i lines reason = RelationAgainst o t i lines reason
 
+-- the reasons that the claims and the elements of individuals can give
+abbrev pub ClaimsAgainst : Option Reason → Type 0
+ClaimsAgainst None = Unit {0}
+ClaimsAgainst (Some (ClaimMissing c)) = Unit {0}
+ClaimsAgainst (Some (ClaimDisagrees c)) = Unit {0}
+ClaimsAgainst (Some (IndividualDisagrees a)) = Unit {0}
+ClaimsAgainst _ = ⊥
+
+-- what speaks against a certificate
 abbrev pub Against : Ontology → (taxonomy instances : List ℕ) → List Line → Option Listed → Option Reason → Type 0
 Against o t i lines None reason = ContradictionAgainst t i lines reason
 Against o t i lines (Some listed) reason = ConsistentAgainst o t i lines reason
+
+abbrev pub verdict_of_reason : Option Reason → Verdict
+verdict_of_reason None = Accepted
+verdict_of_reason (Some reason) = Rejected reason
 
 -- the text is that of a certificate whose lines are a derivation, and this, if anything, speaks against it
 pub record IsJudged (o : Ontology) (t i text : List ℕ) (reason : Option Reason) : Type 0 where

@@ -1,12 +1,15 @@
 //! The checker.
 ghost use Rattle.cert_check.specs.Rows.{AreClassRows, AreRows, AreTypeRows};
-ghost use Rattle.cert_check.specs.Verdict.{Against, ConsistentAgainst, ContradictionAgainst, HasContradiction, IsContradiction, IsVerdict, RelationAgainst, TextsAgainst};
+ghost use Rattle.cert_check.specs.Verdict.{Against, ClaimsAgainst, ConsistentAgainst, ContradictionAgainst, HasContradiction, IsContradiction, IsVerdict, RelationAgainst, TextsAgainst, verdict_of_reason};
 ghost use Rattle.certificate.specs.HasText.{IsLineOf};
 ghost use Rattle.certificate.specs.View.{conclusion_of, lines_of};
 ghost use Rattle.std.specs.Prelude.{◌↔◌, ◌≡◌, All, IfOk, IsTrue, length};
 ghost use Rattle.taxonomy.specs.Outcome.{IsMadeFor, instances_of, taxonomy_of};
 
-use crate::claims::{claimed_elements, first_disagreeing_class, first_disagreeing_individual, first_unclaimed, holders};
+use crate::claims::{
+    claimed_elements, first_disagreeing_class, first_disagreeing_individual, first_unclaimed,
+    holders,
+};
 use crate::compare::first_difference;
 use crate::derivation::first_bad_line;
 use crate::listing::interpretation_of;
@@ -23,7 +26,13 @@ use taxonomy::{Outcome, Relation, instances_bytes, reduce, taxonomy_bytes};
 /// axioms of the ontology; where it does not, the first reason.
 ///
 /// It fails only where memory is refused.
-pub fn check(alloc: Global, ontology: &Ontology, taxonomy: &[u8], instances: &[u8], certificate: &[u8]) -> Result<Verdict, Memory>
+pub fn check(
+    alloc: Global,
+    ontology: &Ontology,
+    taxonomy: &[u8],
+    instances: &[u8],
+    certificate: &[u8],
+) -> Result<Verdict, Memory>
     ensures { IfOk result (IsVerdict ontology.now taxonomy.now instances.now certificate.now) }
 {
     let read = match read_certificate(alloc, ontology, certificate) {
@@ -31,29 +40,59 @@ pub fn check(alloc: Global, ontology: &Ontology, taxonomy: &[u8], instances: &[u
         Err(CertFault::BadText { at }) => return Ok(Verdict::Rejected(Reason::BadText { at })),
         Err(CertFault::Memory) => return Err(Memory),
     };
-    if let Some(number) = first_bad_line(alloc, ontology, read.lines())? {
-        return Ok(Verdict::Rejected(Reason::BadLine { number }));
+    let bad = first_bad_line(alloc, ontology, read.lines())?;
+    match bad {
+        Some(number) => Ok(Verdict::Rejected(Reason::BadLine { number })),
+        None => {
+            let found = against(alloc, ontology, taxonomy, instances, &read)?;
+            Ok(verdict_of(found))
+        }
     }
-    let found = against(alloc, ontology, taxonomy, instances, &read)?;
-    Ok(match found {
+}
+
+// The verdict, where this speaks against the certificate.
+fn verdict_of(found: Option<Reason>) -> Verdict
+    ensures { result ≡ verdict_of_reason found }
+{
+    match found {
         Some(reason) => Verdict::Rejected(reason),
         None => Verdict::Accepted,
-    })
+    }
 }
 
 // What speaks against a certificate whose lines are a derivation.
-fn against(alloc: Global, ontology: &Ontology, taxonomy: &[u8], instances: &[u8], certificate: &Certificate) -> Result<Option<Reason>, Memory>
+fn against(
+    alloc: Global,
+    ontology: &Ontology,
+    taxonomy: &[u8],
+    instances: &[u8],
+    certificate: &Certificate,
+) -> Result<Option<Reason>, Memory>
     requires { All (IsLineOf ontology.now) certificate.now.lines }
     ensures { IfOk result (Against ontology.now taxonomy.now instances.now certificate.now.lines certificate.now.listed) }
 {
     match certificate.listed() {
-        Some(listed) => against_consistent(alloc, ontology, taxonomy, instances, certificate.lines(), listed),
+        Some(listed) => against_consistent(
+            alloc,
+            ontology,
+            taxonomy,
+            instances,
+            certificate.lines(),
+            listed,
+        ),
         None => against_contradiction(alloc, ontology, taxonomy, instances, certificate.lines()),
     }
 }
 
 // What speaks against a certificate with a listed interpretation whose lines are a derivation.
-fn against_consistent(alloc: Global, ontology: &Ontology, taxonomy: &[u8], instances: &[u8], lines: &[Line], listed: &Listed) -> Result<Option<Reason>, Memory>
+fn against_consistent(
+    alloc: Global,
+    ontology: &Ontology,
+    taxonomy: &[u8],
+    instances: &[u8],
+    lines: &[Line],
+    listed: &Listed,
+) -> Result<Option<Reason>, Memory>
     requires { All (IsLineOf ontology.now) (lines_of lines.now) }
     ensures { IfOk result (ConsistentAgainst ontology.now taxonomy.now instances.now (lines_of lines.now)) }
 {
@@ -62,22 +101,34 @@ fn against_consistent(alloc: Global, ontology: &Ontology, taxonomy: &[u8], insta
     }
     let above = class_rows(alloc, ontology, lines)?;
     let types = type_rows(alloc, ontology, lines)?;
-    if let Some(reason) = against_claims(alloc, ontology, listed, &above, &types)? {
-        return Ok(Some(reason));
+    let claims = against_claims(alloc, ontology, listed, &above, &types)?;
+    if claims.is_some() {
+        return Ok(claims);
     }
     against_relation(alloc, ontology, taxonomy, instances, above, types, lines)
 }
 
 // The least number of an axiom that the listed interpretation does not satisfy.
-fn first_failing_axiom(alloc: Global, ontology: &Ontology, listed: &Listed) -> Result<Option<usize>, Memory> {
+fn first_failing_axiom(
+    alloc: Global,
+    ontology: &Ontology,
+    listed: &Listed,
+) -> Result<Option<usize>, Memory> {
     let interpretation = interpretation_of(alloc, ontology, listed)?;
     interpretation.first_unsatisfied(ontology)
 }
 
 // What speaks against the claims, and against the elements of the individuals.
-fn against_claims(alloc: Global, ontology: &Ontology, listed: &Listed, above: &[Row], types: &[Row]) -> Result<Option<Reason>, Memory>
+fn against_claims(
+    alloc: Global,
+    ontology: &Ontology,
+    listed: &Listed,
+    above: &[Row],
+    types: &[Row],
+) -> Result<Option<Reason>, Memory>
     requires above { AreRows (length ontology.now.names.classes) (length ontology.now.names.classes) above.now }
     requires types { AreRows (length ontology.now.names.individuals) (length ontology.now.names.classes) types.now }
+    ensures { IfOk result ClaimsAgainst }
 {
     let claimed = claimed_elements(alloc, ontology, &listed.claims)?;
     if let Some(class) = first_unclaimed(ontology, above, &claimed) {
@@ -87,14 +138,28 @@ fn against_claims(alloc: Global, ontology: &Ontology, listed: &Listed, above: &[
     if let Some(class) = first_disagreeing_class(alloc, ontology, above, &claimed, &holders)? {
         return Ok(Some(Reason::ClaimDisagrees { class }));
     }
-    if let Some(individual) = first_disagreeing_individual(alloc, ontology, types, &listed.individuals, &holders)? {
+    if let Some(individual) = first_disagreeing_individual(
+        alloc,
+        ontology,
+        types,
+        &listed.individuals,
+        &holders,
+    )? {
         return Ok(Some(Reason::IndividualDisagrees { individual }));
     }
     Ok(None)
 }
 
 // Where the texts differ from those of the relation and the types that the lines give.
-fn against_relation(alloc: Global, ontology: &Ontology, taxonomy: &[u8], instances: &[u8], above: Vec<Row>, types: Vec<Row>, _lines: &[Line]) -> Result<Option<Reason>, Memory>
+fn against_relation(
+    alloc: Global,
+    ontology: &Ontology,
+    taxonomy: &[u8],
+    instances: &[u8],
+    above: Vec<Row>,
+    types: Vec<Row>,
+    _lines: &[Line],
+) -> Result<Option<Reason>, Memory>
     requires above { AreClassRows ontology.now (lines_of _lines.now) above.items }
     requires types { AreTypeRows ontology.now (lines_of _lines.now) types.items }
     ensures { IfOk result (RelationAgainst ontology.now taxonomy.now instances.now (lines_of _lines.now)) }
@@ -109,7 +174,13 @@ fn against_relation(alloc: Global, ontology: &Ontology, taxonomy: &[u8], instanc
 }
 
 // What speaks against a certificate of a contradiction whose lines are a derivation.
-fn against_contradiction(alloc: Global, ontology: &Ontology, taxonomy: &[u8], instances: &[u8], lines: &[Line]) -> Result<Option<Reason>, Memory>
+fn against_contradiction(
+    alloc: Global,
+    ontology: &Ontology,
+    taxonomy: &[u8],
+    instances: &[u8],
+    lines: &[Line],
+) -> Result<Option<Reason>, Memory>
     ensures { IfOk result (ContradictionAgainst taxonomy.now instances.now (lines_of lines.now)) }
 {
     if !has_contradiction(lines) {
@@ -142,7 +213,13 @@ fn is_contradiction(conclusion: Conclusion) -> bool
 }
 
 // Where the texts differ from those of the outcome.
-fn against_texts(alloc: Global, ontology: &Ontology, taxonomy: &[u8], instances: &[u8], outcome: &Outcome) -> Result<Option<Reason>, Memory>
+fn against_texts(
+    alloc: Global,
+    ontology: &Ontology,
+    taxonomy: &[u8],
+    instances: &[u8],
+    outcome: &Outcome,
+) -> Result<Option<Reason>, Memory>
     requires { IsMadeFor ontology.now outcome.now }
     ensures { IfOk result (TextsAgainst taxonomy.now instances.now (taxonomy_of ontology.now outcome.now) (instances_of ontology.now outcome.now)) }
 {

@@ -15,7 +15,11 @@ const THING: usize = 0;
 const NOTHING: usize = 1;
 
 /// The claimed element for each expression, by number, where there is a claim.
-pub fn claimed_elements(alloc: Global, ontology: &Ontology, claims: &[Claim]) -> Result<Vec<Option<u32>>, Memory> {
+pub fn claimed_elements(
+    alloc: Global,
+    ontology: &Ontology,
+    claims: &[Claim],
+) -> Result<Vec<Option<u32>>, Memory> {
     let mut elements = vec![in alloc; None; ontology.expression_count()]?;
     for claim in claims {
         if claim.class.0 < elements.len() {
@@ -32,7 +36,12 @@ fn claimed_element(ontology: &Ontology, claimed: &[Option<u32>], class: ClassId)
 }
 
 /// For each element the classes that are listed with it.
-pub fn holders(alloc: Global, ontology: &Ontology, domain: u32, rows: &[ClassRow]) -> Result<Vec<Vec<usize>>, Memory> {
+pub fn holders(
+    alloc: Global,
+    ontology: &Ontology,
+    domain: u32,
+    rows: &[ClassRow],
+) -> Result<Vec<Vec<usize>>, Memory> {
     let mut holders = Vec::new(alloc);
     for _ in 0..domain {
         holders.push(Vec::new(alloc))?;
@@ -44,7 +53,11 @@ pub fn holders(alloc: Global, ontology: &Ontology, domain: u32, rows: &[ClassRow
 }
 
 // Adds the class to the holders of its elements.
-fn put_holder(ontology: &Ontology, holders: &mut Vec<Vec<usize>>, row: &ClassRow) -> Result<(), Memory> {
+fn put_holder(
+    ontology: &Ontology,
+    holders: &mut Vec<Vec<usize>>,
+    row: &ClassRow,
+) -> Result<(), Memory> {
     let Some(class) = class_of(ontology, row.class) else {
         return Ok(());
     };
@@ -58,7 +71,12 @@ fn put_holder(ontology: &Ontology, holders: &mut Vec<Vec<usize>>, row: &ClassRow
 }
 
 // The row of the classes that hold the element.
-fn holder_row(alloc: Global, width: usize, holders: &[Vec<usize>], element: u32) -> Result<Row, Memory>
+fn holder_row(
+    alloc: Global,
+    width: usize,
+    holders: &[Vec<usize>],
+    element: u32,
+) -> Result<Row, Memory>
     ensures { IfOk result (λ row. length row ≡ width) }
 {
     let mut row = Row::new(alloc, width)?;
@@ -79,7 +97,11 @@ fn are_same(row: &Row, other: &Row) -> bool
 }
 
 /// The least class that no line puts below owl:Nothing and for which nothing is claimed.
-pub fn first_unclaimed(ontology: &Ontology, above: &[Row], claimed: &[Option<u32>]) -> Option<ClassId> {
+pub fn first_unclaimed(
+    ontology: &Ontology,
+    above: &[Row],
+    claimed: &[Option<u32>],
+) -> Option<ClassId> {
     for (class, row) in above.iter().enumerate() {
         if !row.contains(NOTHING) && claimed_element(ontology, claimed, ClassId(class)).is_none() {
             return Some(ClassId(class));
@@ -89,7 +111,13 @@ pub fn first_unclaimed(ontology: &Ontology, above: &[Row], claimed: &[Option<u32
 }
 
 /// The least class whose claimed element is not in it, or is in other classes than lines put above it.
-pub fn first_disagreeing_class(alloc: Global, ontology: &Ontology, above: &[Row], claimed: &[Option<u32>], holders: &[Vec<usize>]) -> Result<Option<ClassId>, Memory>
+pub fn first_disagreeing_class(
+    alloc: Global,
+    ontology: &Ontology,
+    above: &[Row],
+    claimed: &[Option<u32>],
+    holders: &[Vec<usize>],
+) -> Result<Option<ClassId>, Memory>
     requires { AreRows (length ontology.now.names.classes) (length ontology.now.names.classes) above.now }
 {
     let width = ontology.classes().len();
@@ -105,7 +133,13 @@ pub fn first_disagreeing_class(alloc: Global, ontology: &Ontology, above: &[Row]
 }
 
 /// The least individual whose element is in other classes than lines put it into.
-pub fn first_disagreeing_individual(alloc: Global, ontology: &Ontology, above: &[Row], elements: &[u32], holders: &[Vec<usize>]) -> Result<Option<IndId>, Memory>
+pub fn first_disagreeing_individual(
+    alloc: Global,
+    ontology: &Ontology,
+    above: &[Row],
+    elements: &[u32],
+    holders: &[Vec<usize>],
+) -> Result<Option<IndId>, Memory>
     requires { AreRows (length ontology.now.names.individuals) (length ontology.now.names.classes) above.now }
 {
     let width = ontology.classes().len();

@@ -22,7 +22,11 @@ fn conclusion_at(lines: &[Line], number: u64) -> Option<Conclusion>
 }
 
 // The conclusions of the lines of these numbers; there are none where a number is no line's.
-fn conclusions_at(alloc: Global, lines: &[Line], numbers: &[u64]) -> Result<Option<Vec<Conclusion>>, Memory>
+fn conclusions_at(
+    alloc: Global,
+    lines: &[Line],
+    numbers: &[u64],
+) -> Result<Option<Vec<Conclusion>>, Memory>
     ensures { IfOk result (λ r. option_map (λ v. map conclusion_of v.items) r ≡ at_numbers (map (λ l. l.conclusion) (lines_of lines.now)) numbers.now) }
 {
     let mut conclusions = Vec::new(alloc);
@@ -46,7 +50,12 @@ fn axiom_at(ontology: &Ontology, number: Option<usize>) -> Option<&Axiom>
 }
 
 // Whether the line follows by its rule from lines before it.
-fn is_derived(alloc: Global, ontology: &Ontology, before: &[Line], line: &Line) -> Result<bool, Memory>
+fn is_derived(
+    alloc: Global,
+    ontology: &Ontology,
+    before: &[Line],
+    line: &Line,
+) -> Result<bool, Memory>
     requires { IsLineOf ontology.now (line_of line.now) }
     ensures { IfOk result (λ yes. IsTrue yes ↔ IsDerived ontology.now (lines_of before.now) (line_of line.now)) }
 {
@@ -58,7 +67,11 @@ fn is_derived(alloc: Global, ontology: &Ontology, before: &[Line], line: &Line) 
 }
 
 /// The number of the first line, counted from 1, that does not follow by its rule from lines before it.
-pub fn first_bad_line(alloc: Global, ontology: &Ontology, lines: &[Line]) -> Result<Option<usize>, Memory>
+pub fn first_bad_line(
+    alloc: Global,
+    ontology: &Ontology,
+    lines: &[Line],
+) -> Result<Option<usize>, Memory>
     requires { All (IsLineOf ontology.now) (lines_of lines.now) }
     ensures { IfOk result (λ bad. MatchOption bad (IsDerivation ontology.now (lines_of lines.now)) (IsFirstBadLine ontology.now (lines_of lines.now))) }
 {

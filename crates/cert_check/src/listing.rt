@@ -20,7 +20,11 @@ pub fn class_of(ontology: &Ontology, expression: ExprId) -> Option<ClassId>
 }
 
 // Adds the elements of a class.
-fn put_elements(ontology: &Ontology, interpretation: &mut Interpretation, row: &ClassRow) -> Result<(), Memory>
+fn put_elements(
+    ontology: &Ontology,
+    interpretation: &mut Interpretation,
+    row: &ClassRow,
+) -> Result<(), Memory>
     requires { IsMadeFor ontology.now.names interpretation.old }
     ensures { OnOk result (IsMadeFor ontology.now.names interpretation.new) }
 {
@@ -36,19 +40,30 @@ fn put_elements(ontology: &Ontology, interpretation: &mut Interpretation, row: &
     Ok(())
 }
 
-fn put_targets(ontology: &Ontology, interpretation: &mut Interpretation, row: &PairRow) -> Result<(), Memory>
+fn put_targets(
+    ontology: &Ontology,
+    interpretation: &mut Interpretation,
+    row: &PairRow,
+) -> Result<(), Memory>
     requires { IsMadeFor ontology.now.names interpretation.old }
     ensures { OnOk result (IsMadeFor ontology.now.names interpretation.new) }
 {
     for target in &row.targets {
-        if interpretation.put_pair(row.property, row.source as usize, *target as usize).is_err() {
+        if interpretation
+            .put_pair(row.property, row.source as usize, *target as usize)
+            .is_err()
+        {
             return Err(Memory);
         }
     }
     Ok(())
 }
 
-fn put_classes(ontology: &Ontology, interpretation: &mut Interpretation, rows: &[ClassRow]) -> Result<(), Memory>
+fn put_classes(
+    ontology: &Ontology,
+    interpretation: &mut Interpretation,
+    rows: &[ClassRow],
+) -> Result<(), Memory>
     requires { IsMadeFor ontology.now.names interpretation.old }
     ensures { OnOk result (IsMadeFor ontology.now.names interpretation.new) }
 {
@@ -58,7 +73,11 @@ fn put_classes(ontology: &Ontology, interpretation: &mut Interpretation, rows: &
     Ok(())
 }
 
-fn put_pairs(ontology: &Ontology, interpretation: &mut Interpretation, rows: &[PairRow]) -> Result<(), Memory>
+fn put_pairs(
+    ontology: &Ontology,
+    interpretation: &mut Interpretation,
+    rows: &[PairRow],
+) -> Result<(), Memory>
     requires { IsMadeFor ontology.now.names interpretation.old }
     ensures { OnOk result (IsMadeFor ontology.now.names interpretation.new) }
 {
@@ -68,12 +87,19 @@ fn put_pairs(ontology: &Ontology, interpretation: &mut Interpretation, rows: &[P
     Ok(())
 }
 
-fn put_individuals(ontology: &Ontology, interpretation: &mut Interpretation, elements: &[u32]) -> Result<(), Memory>
+fn put_individuals(
+    ontology: &Ontology,
+    interpretation: &mut Interpretation,
+    elements: &[u32],
+) -> Result<(), Memory>
     requires { IsMadeFor ontology.now.names interpretation.old }
     ensures { OnOk result (IsMadeFor ontology.now.names interpretation.new) }
 {
     for (i, element) in elements.iter().enumerate() {
-        if interpretation.put_individual(IndId(i), *element as usize).is_err() {
+        if interpretation
+            .put_individual(IndId(i), *element as usize)
+            .is_err()
+        {
             return Err(Memory);
         }
     }
@@ -81,7 +107,11 @@ fn put_individuals(ontology: &Ontology, interpretation: &mut Interpretation, ele
 }
 
 /// The listed interpretation.
-pub fn interpretation_of(alloc: Global, ontology: &Ontology, listed: &Listed) -> Result<Interpretation, Memory>
+pub fn interpretation_of(
+    alloc: Global,
+    ontology: &Ontology,
+    listed: &Listed,
+) -> Result<Interpretation, Memory>
     ensures { IfOk result (IsMadeFor ontology.now.names) }
 {
     // What holds of every ontology: owl:Thing and owl:Nothing are among its classes.

@@ -59,7 +59,11 @@ pub fn at_two_places(operands: &[ExprId], first: ExprId, second: ExprId) -> bool
 }
 
 // Where the first premise says that the subject lies in the expression: the other premises.
-fn after_first_in(premises: &[Conclusion], subject: Subject, expression: ExprId) -> Option<&[Conclusion]>
+fn after_first_in(
+    premises: &[Conclusion],
+    subject: Subject,
+    expression: ExprId,
+) -> Option<&[Conclusion]>
     ensures { MatchOption result (IsFirstIn premises.now subject expression → ⊥)
         (λ others. map conclusion_of premises.now ≡ certificate.Sub (subject_of subject) expression.0 ∷ map conclusion_of others.now) }
 {
@@ -94,12 +98,18 @@ pub fn are_in_each(premises: &[Conclusion], subject: Subject, operands: &[ExprId
 }
 
 // Where the first premise is an edge from the subject by the property: its end, and the other premises.
-fn first_edge(premises: &[Conclusion], source: Subject, property: PropId) -> Option<(Subject, &[Conclusion])>
+fn first_edge(
+    premises: &[Conclusion],
+    source: Subject,
+    property: PropId,
+) -> Option<(Subject, &[Conclusion])>
     ensures { MatchOption result (IsFirstEdge premises.now source property → ⊥)
         (λ r. map conclusion_of premises.now ≡ certificate.Edge (subject_of source) property.0 (subject_of r.0) ∷ map conclusion_of r.1.now) }
 {
     match premises {
-        [Conclusion::Edge(x, r, y), others @ ..] if *x == source && *r == property => Some((*y, others)),
+        [Conclusion::Edge(x, r, y), others @ ..] if *x == source && *r == property => Some((
+            *y, others,
+        )),
         _ => None,
     }
 }

@@ -6,16 +6,22 @@ ghost use Rattle.certificate.specs.Certificate as certificate;
 ghost use Rattle.certificate.specs.View.{conclusion_of, rule_of, subject_of};
 ghost use Rattle.std.specs.Prelude.{◌↔◌, ◌≡◌, IsTrue, List, Some, map, option_map, slice_get, ℕ};
 
+use crate::operands::{are_in_each, at_two_places, has_expression, has_property, is_only, is_walk};
 use axioms::{Axiom, Expr, ExprId, Ontology, PropId};
 use certificate::{Conclusion, Rule, Subject};
-use crate::operands::{are_in_each, at_two_places, has_expression, has_property, is_only, is_walk};
 
 const THING: ExprId = ExprId(0);
 
 const NOTHING: ExprId = ExprId(1);
 
 /// Whether the conclusion follows by the rule from the premises, in their order, and the stated axiom, if there is one.
-pub fn follows(ontology: &Ontology, rule: Rule, premises: &[Conclusion], stated: Option<&Axiom>, conclusion: Conclusion) -> bool
+pub fn follows(
+    ontology: &Ontology,
+    rule: Rule,
+    premises: &[Conclusion],
+    stated: Option<&Axiom>,
+    conclusion: Conclusion,
+) -> bool
     ensures { IsTrue result ↔ FollowsFrom ontology.now (rule_of rule) premises.now (option_map (λ a. axiom_of a.now) stated.entry) conclusion }
 {
     match rule {
@@ -39,7 +45,12 @@ pub fn follows(ontology: &Ontology, rule: Rule, premises: &[Conclusion], stated:
 }
 
 // Each expression lies in itself.
-fn by_k1(ontology: &Ontology, premises: &[Conclusion], stated: Option<&Axiom>, conclusion: Conclusion) -> bool
+fn by_k1(
+    ontology: &Ontology,
+    premises: &[Conclusion],
+    stated: Option<&Axiom>,
+    conclusion: Conclusion,
+) -> bool
     ensures { IsTrue result ↔ FollowsFrom ontology.now certificate.K1 premises.now (option_map (λ a. axiom_of a.now) stated.entry) conclusion }
 {
     match (premises, stated, conclusion) {
@@ -49,7 +60,12 @@ fn by_k1(ontology: &Ontology, premises: &[Conclusion], stated: Option<&Axiom>, c
 }
 
 // Each subject lies in owl:Thing.
-fn by_k2(ontology: &Ontology, premises: &[Conclusion], stated: Option<&Axiom>, conclusion: Conclusion) -> bool
+fn by_k2(
+    ontology: &Ontology,
+    premises: &[Conclusion],
+    stated: Option<&Axiom>,
+    conclusion: Conclusion,
+) -> bool
     ensures { IsTrue result ↔ FollowsFrom ontology.now certificate.K2 premises.now (option_map (λ a. axiom_of a.now) stated.entry) conclusion }
 {
     match (premises, stated, conclusion) {
@@ -59,7 +75,12 @@ fn by_k2(ontology: &Ontology, premises: &[Conclusion], stated: Option<&Axiom>, c
 }
 
 // What lies in owl:Nothing lies in each expression.
-fn by_k3(ontology: &Ontology, premises: &[Conclusion], stated: Option<&Axiom>, conclusion: Conclusion) -> bool
+fn by_k3(
+    ontology: &Ontology,
+    premises: &[Conclusion],
+    stated: Option<&Axiom>,
+    conclusion: Conclusion,
+) -> bool
     ensures { IsTrue result ↔ FollowsFrom ontology.now certificate.K3 premises.now (option_map (λ a. axiom_of a.now) stated.entry) conclusion }
 {
     match (premises, stated, conclusion) {
@@ -69,20 +90,34 @@ fn by_k3(ontology: &Ontology, premises: &[Conclusion], stated: Option<&Axiom>, c
 }
 
 // By a subclass axiom, or by two operands of an equivalence.
-fn by_k4(ontology: &Ontology, premises: &[Conclusion], stated: Option<&Axiom>, conclusion: Conclusion) -> bool
+fn by_k4(
+    ontology: &Ontology,
+    premises: &[Conclusion],
+    stated: Option<&Axiom>,
+    conclusion: Conclusion,
+) -> bool
     ensures { IsTrue result ↔ FollowsFrom ontology.now certificate.K4 premises.now (option_map (λ a. axiom_of a.now) stated.entry) conclusion }
 {
     match (premises, stated, conclusion) {
-        ([Conclusion::Sub(x, c)], Some(Axiom::SubClass(a, b)), Conclusion::Sub(y, d)) => *x == y && c == a && d == *b,
-        ([Conclusion::Sub(x, c)], Some(Axiom::EquivalentClasses(operands)), Conclusion::Sub(y, d)) => {
-            *x == y && has_expression(operands, *c) && has_expression(operands, d)
-        }
+        ([Conclusion::Sub(x, c)], Some(Axiom::SubClass(a, b)), Conclusion::Sub(y, d)) => *x == y
+            && c == a
+            && d == *b,
+        (
+            [Conclusion::Sub(x, c)],
+            Some(Axiom::EquivalentClasses(operands)),
+            Conclusion::Sub(y, d),
+        ) => { *x == y && has_expression(operands, *c) && has_expression(operands, d) }
         _ => false,
     }
 }
 
 // Whether the premises say of the subject that it lies in each operand of the intersection, in their order.
-fn is_in_each_operand(ontology: &Ontology, premises: &[Conclusion], subject: Subject, intersection: ExprId) -> bool
+fn is_in_each_operand(
+    ontology: &Ontology,
+    premises: &[Conclusion],
+    subject: Subject,
+    intersection: ExprId,
+) -> bool
     ensures { IsTrue result ↔ ((ds : List ℕ) × (slice_get ontology.now.nodes intersection.0 ≡ Some (numbered.And ds))
         × (map conclusion_of premises.now ≡ map (certificate.Sub (subject_of subject)) ds)) }
 {
@@ -93,7 +128,12 @@ fn is_in_each_operand(ontology: &Ontology, premises: &[Conclusion], subject: Sub
 }
 
 // What lies in each operand lies in the intersection.
-fn by_k5(ontology: &Ontology, premises: &[Conclusion], stated: Option<&Axiom>, conclusion: Conclusion) -> bool
+fn by_k5(
+    ontology: &Ontology,
+    premises: &[Conclusion],
+    stated: Option<&Axiom>,
+    conclusion: Conclusion,
+) -> bool
     ensures { IsTrue result ↔ FollowsFrom ontology.now certificate.K5 premises.now (option_map (λ a. axiom_of a.now) stated.entry) conclusion }
 {
     match (stated, conclusion) {
@@ -103,7 +143,12 @@ fn by_k5(ontology: &Ontology, premises: &[Conclusion], stated: Option<&Axiom>, c
 }
 
 // What lies in an intersection lies in each operand.
-fn by_k6(ontology: &Ontology, premises: &[Conclusion], stated: Option<&Axiom>, conclusion: Conclusion) -> bool
+fn by_k6(
+    ontology: &Ontology,
+    premises: &[Conclusion],
+    stated: Option<&Axiom>,
+    conclusion: Conclusion,
+) -> bool
     ensures { IsTrue result ↔ FollowsFrom ontology.now certificate.K6 premises.now (option_map (λ a. axiom_of a.now) stated.entry) conclusion }
 {
     match (premises, stated, conclusion) {
@@ -116,55 +161,86 @@ fn by_k6(ontology: &Ontology, premises: &[Conclusion], stated: Option<&Axiom>, c
 }
 
 // What lies in two disjoint expressions lies in owl:Nothing.
-fn by_k7(ontology: &Ontology, premises: &[Conclusion], stated: Option<&Axiom>, conclusion: Conclusion) -> bool
+fn by_k7(
+    ontology: &Ontology,
+    premises: &[Conclusion],
+    stated: Option<&Axiom>,
+    conclusion: Conclusion,
+) -> bool
     ensures { IsTrue result ↔ FollowsFrom ontology.now certificate.K7 premises.now (option_map (λ a. axiom_of a.now) stated.entry) conclusion }
 {
     match (premises, stated, conclusion) {
-        ([Conclusion::Sub(x, c), Conclusion::Sub(y, d)], Some(Axiom::DisjointClasses(operands)), Conclusion::Sub(z, e)) => {
-            x == y && *x == z && at_two_places(operands, *c, *d) && e == NOTHING
-        }
+        (
+            [Conclusion::Sub(x, c), Conclusion::Sub(y, d)],
+            Some(Axiom::DisjointClasses(operands)),
+            Conclusion::Sub(z, e),
+        ) => { x == y && *x == z && at_two_places(operands, *c, *d) && e == NOTHING }
         _ => false,
     }
 }
 
 // What lies in an existential restriction has a successor in its filler.
-fn by_k8(ontology: &Ontology, premises: &[Conclusion], stated: Option<&Axiom>, conclusion: Conclusion) -> bool
+fn by_k8(
+    ontology: &Ontology,
+    premises: &[Conclusion],
+    stated: Option<&Axiom>,
+    conclusion: Conclusion,
+) -> bool
     ensures { IsTrue result ↔ FollowsFrom ontology.now certificate.K8 premises.now (option_map (λ a. axiom_of a.now) stated.entry) conclusion }
 {
     match (premises, stated, conclusion) {
-        ([Conclusion::Sub(x, e)], None, Conclusion::Edge(y, r, Subject::Expr(c))) => match ontology.expr(*e) {
-            Some(Expr::Some(s, d)) => *x == y && *s == r && *d == c,
-            _ => false,
-        },
+        ([Conclusion::Sub(x, e)], None, Conclusion::Edge(y, r, Subject::Expr(c))) =>
+            match ontology.expr(*e) {
+                Some(Expr::Some(s, d)) => *x == y && *s == r && *d == c,
+                _ => false,
+            },
         _ => false,
     }
 }
 
 // What has a successor in an expression lies in the existential restriction.
-fn by_k9(ontology: &Ontology, premises: &[Conclusion], stated: Option<&Axiom>, conclusion: Conclusion) -> bool
+fn by_k9(
+    ontology: &Ontology,
+    premises: &[Conclusion],
+    stated: Option<&Axiom>,
+    conclusion: Conclusion,
+) -> bool
     ensures { IsTrue result ↔ FollowsFrom ontology.now certificate.K9 premises.now (option_map (λ a. axiom_of a.now) stated.entry) conclusion }
 {
     match (premises, stated, conclusion) {
-        ([Conclusion::Edge(x, r, y), Conclusion::Sub(z, c)], None, Conclusion::Sub(w, e)) => match ontology.expr(e) {
-            Some(Expr::Some(s, d)) => *x == w && y == z && s == r && d == c,
-            _ => false,
-        },
+        ([Conclusion::Edge(x, r, y), Conclusion::Sub(z, c)], None, Conclusion::Sub(w, e)) =>
+            match ontology.expr(e) {
+                Some(Expr::Some(s, d)) => *x == w && y == z && s == r && d == c,
+                _ => false,
+            },
         _ => false,
     }
 }
 
 // What has a successor by a property lies in the property's domain.
-fn by_k10(ontology: &Ontology, premises: &[Conclusion], stated: Option<&Axiom>, conclusion: Conclusion) -> bool
+fn by_k10(
+    ontology: &Ontology,
+    premises: &[Conclusion],
+    stated: Option<&Axiom>,
+    conclusion: Conclusion,
+) -> bool
     ensures { IsTrue result ↔ FollowsFrom ontology.now certificate.K10 premises.now (option_map (λ a. axiom_of a.now) stated.entry) conclusion }
 {
     match (premises, stated, conclusion) {
-        ([Conclusion::Edge(x, r, _)], Some(Axiom::Domain(s, c)), Conclusion::Sub(z, d)) => *x == z && r == s && *c == d,
+        ([Conclusion::Edge(x, r, _)], Some(Axiom::Domain(s, c)), Conclusion::Sub(z, d)) => *x == z
+            && r == s
+            && *c == d,
         _ => false,
     }
 }
 
 // What has a successor in owl:Nothing lies in owl:Nothing.
-fn by_k11(ontology: &Ontology, premises: &[Conclusion], stated: Option<&Axiom>, conclusion: Conclusion) -> bool
+fn by_k11(
+    ontology: &Ontology,
+    premises: &[Conclusion],
+    stated: Option<&Axiom>,
+    conclusion: Conclusion,
+) -> bool
     ensures { IsTrue result ↔ FollowsFrom ontology.now certificate.K11 premises.now (option_map (λ a. axiom_of a.now) stated.entry) conclusion }
 {
     match (premises, stated, conclusion) {
@@ -176,35 +252,59 @@ fn by_k11(ontology: &Ontology, premises: &[Conclusion], stated: Option<&Axiom>, 
 }
 
 // By a plain subproperty axiom, or by two operands of an equivalence.
-fn by_k12(ontology: &Ontology, premises: &[Conclusion], stated: Option<&Axiom>, conclusion: Conclusion) -> bool
+fn by_k12(
+    ontology: &Ontology,
+    premises: &[Conclusion],
+    stated: Option<&Axiom>,
+    conclusion: Conclusion,
+) -> bool
     ensures { IsTrue result ↔ FollowsFrom ontology.now certificate.K12 premises.now (option_map (λ a. axiom_of a.now) stated.entry) conclusion }
 {
     match (premises, stated, conclusion) {
-        ([Conclusion::Edge(x, r, y)], Some(Axiom::SubProperty(chain, t)), Conclusion::Edge(z, s, w)) => {
-            *x == z && *y == w && is_only(chain, *r) && *t == s
-        }
-        ([Conclusion::Edge(x, r, y)], Some(Axiom::EquivalentProperties(operands)), Conclusion::Edge(z, s, w)) => {
-            *x == z && *y == w && has_property(operands, *r) && has_property(operands, s)
-        }
+        (
+            [Conclusion::Edge(x, r, y)],
+            Some(Axiom::SubProperty(chain, t)),
+            Conclusion::Edge(z, s, w),
+        ) => { *x == z && *y == w && is_only(chain, *r) && *t == s }
+        (
+            [Conclusion::Edge(x, r, y)],
+            Some(Axiom::EquivalentProperties(operands)),
+            Conclusion::Edge(z, s, w),
+        ) => { *x == z && *y == w && has_property(operands, *r) && has_property(operands, s) }
         _ => false,
     }
 }
 
 // By a property chain axiom, or by a transitive property.
-fn by_k13(ontology: &Ontology, premises: &[Conclusion], stated: Option<&Axiom>, conclusion: Conclusion) -> bool
+fn by_k13(
+    ontology: &Ontology,
+    premises: &[Conclusion],
+    stated: Option<&Axiom>,
+    conclusion: Conclusion,
+) -> bool
     ensures { IsTrue result ↔ FollowsFrom ontology.now certificate.K13 premises.now (option_map (λ a. axiom_of a.now) stated.entry) conclusion }
 {
     match (stated, conclusion) {
         (Some(Axiom::SubProperty(chain, t)), Conclusion::Edge(x, s, y)) => {
             1 < chain.len() && is_walk(x, chain, y, premises) && *t == s
         }
-        (Some(Axiom::Transitive(t)), Conclusion::Edge(x, s, y)) => is_walk(x, &[*t, *t], y, premises) && *t == s,
+        (Some(Axiom::Transitive(t)), Conclusion::Edge(x, s, y)) => is_walk(
+            x,
+            &[*t, *t],
+            y,
+            premises,
+        ) && *t == s,
         _ => false,
     }
 }
 
 // A reflexive property leads from each subject to itself.
-fn by_k14(ontology: &Ontology, premises: &[Conclusion], stated: Option<&Axiom>, conclusion: Conclusion) -> bool
+fn by_k14(
+    ontology: &Ontology,
+    premises: &[Conclusion],
+    stated: Option<&Axiom>,
+    conclusion: Conclusion,
+) -> bool
     ensures { IsTrue result ↔ FollowsFrom ontology.now certificate.K14 premises.now (option_map (λ a. axiom_of a.now) stated.entry) conclusion }
 {
     match (premises, stated, conclusion) {
@@ -214,17 +314,29 @@ fn by_k14(ontology: &Ontology, premises: &[Conclusion], stated: Option<&Axiom>, 
 }
 
 // By a class assertion.
-fn by_k15(ontology: &Ontology, premises: &[Conclusion], stated: Option<&Axiom>, conclusion: Conclusion) -> bool
+fn by_k15(
+    ontology: &Ontology,
+    premises: &[Conclusion],
+    stated: Option<&Axiom>,
+    conclusion: Conclusion,
+) -> bool
     ensures { IsTrue result ↔ FollowsFrom ontology.now certificate.K15 premises.now (option_map (λ a. axiom_of a.now) stated.entry) conclusion }
 {
     match (premises, stated, conclusion) {
-        ([], Some(Axiom::ClassAssertion(c, a)), Conclusion::Sub(x, d)) => x == Subject::Individual(*a) && *c == d,
+        ([], Some(Axiom::ClassAssertion(c, a)), Conclusion::Sub(x, d)) => x
+            == Subject::Individual(*a)
+            && *c == d,
         _ => false,
     }
 }
 
 // By a property assertion.
-fn by_k16(ontology: &Ontology, premises: &[Conclusion], stated: Option<&Axiom>, conclusion: Conclusion) -> bool
+fn by_k16(
+    ontology: &Ontology,
+    premises: &[Conclusion],
+    stated: Option<&Axiom>,
+    conclusion: Conclusion,
+) -> bool
     ensures { IsTrue result ↔ FollowsFrom ontology.now certificate.K16 premises.now (option_map (λ a. axiom_of a.now) stated.entry) conclusion }
 {
     match (premises, stated, conclusion) {

@@ -22,5 +22,5 @@ returns c =
     (TextsAgainst t i (taxonomy_text o.names.classes (lies_below c.in_ok-reduced.reduced)) (instances_text o.names.classes o.names.individuals (lies_below c.in_ok-reduced.reduced) (lies_below types)))
     (RelationAgainst o t i lines)
     (λ reason h. relation_against o c.expr.ensures.valid lines c.args.above.items filled types c.requires.above c.requires.types fill t i reason
-      (subst (λ rows. TextsAgainst t i (taxonomy_text o.names.classes (lies_below rows)) (instances_text o.names.classes o.names.individuals (lies_below rows) (lies_below types)) reason) same h))
+    (subst (λ rows. TextsAgainst t i (taxonomy_text o.names.classes (lies_below rows)) (instances_text o.names.classes o.names.individuals (lies_below rows) (lies_below types)) reason) same h))
     c.against_texts.ensures

@@ -18,7 +18,7 @@ loop-line-preserved c =
     let r = c.line-item.result in
     let there = slice_get_read c.args.lines.now (length c.args.lines.now) c.loop-line.line-index r refl c.loop-line-test.true c.line-item.is in
     λ s. elim ((one_more_line IsContradiction (lines_of (take c.loop-line.line-index c.args.lines.now)) (line_of r)).0
-      (subst HasContradiction (next_lines c.args.lines.now c.loop-line.line-index r there) s)) [
+    (subst HasContradiction (next_lines c.args.lines.now c.loop-line.line-index r there) s)) [
       | inl h ↦ c.loop-line.invariant h
       | inr p ↦ false≢true (sym c.if-is_contradiction.false ∙ c.is_contradiction.ensures.1 p)
     ]
