@@ -4,14 +4,14 @@
 use cli::perform;
 use device::{Sink, WriterSink, write_all};
 use std::alloc::AllocError;
-use std::env;
 use std::hash::RandomState;
-use std::io;
 use std::process::ExitCode;
+use std::{env, io};
 use system_files::SystemFiles;
 
 /// Where words are no text, or memory for them was refused.
 const USAGE: u8 = 2;
+
 const FILE: u8 = 6;
 
 /// Prints why nothing is done, and gives the status.
