@@ -1,5 +1,7 @@
 //! The check of a document's texts.
-ghost use Rattle.std.specs.Prelude.{◌≡◌};
+ghost use Rattle.axioms.specs.Numbered.{Ontology};
+ghost use Rattle.cli.specs.Checked.{AreKnown, IsChecked};
+ghost use Rattle.std.specs.Prelude.{IfOk};
 
 use crate::fault::CheckFault;
 use axioms::Ontology;
@@ -10,11 +12,9 @@ use std::alloc::Global;
 use std::hash::RandomState;
 
 /// All the bytes of the source of that number.
-fn bytes_of<S: Source>(
-    alloc: Global,
-    source: &mut S,
-    number: usize,
-) -> Result<Vec<u8>, CheckFault> {
+fn bytes_of<S: Source>(alloc: Global, source: &mut S, number: usize) -> Result<Vec<u8>, CheckFault>
+    ensures { IfOk result (λ v. AreKnown (S.left source.old) v.items) }
+{
     match read_all(alloc, source, usize::MAX) {
         Ok(bytes) => Ok(bytes),
         Err(ReadFault::Failed) => Err(CheckFault::Io(number)),
@@ -31,7 +31,9 @@ pub(crate) fn checked<D: Source, T: Source, I: Source, C: Source>(
     certificate: &mut C,
     limits: &Limits,
     state: RandomState,
-) -> Result<(Ontology, Verdict), CheckFault> {
+) -> Result<(Ontology, Verdict), CheckFault>
+    ensures { IfOk result (λ p. IsChecked limits.now.max_bytes (D.left document.old) (T.left taxonomy.old) (I.left instances.old) (C.left certificate.old) p.0 p.1) }
+{
     let ontology = match read_document(alloc, document, limits, state) {
         Ok(ontology) => ontology,
         Err(fault) => return Err(CheckFault::Document(fault)),
@@ -55,7 +57,10 @@ pub fn check_document<D: Source, T: Source, I: Source, C: Source>(
     certificate: &mut C,
     limits: &Limits,
     state: RandomState,
-) -> Result<Verdict, CheckFault> {
+) -> Result<Verdict, CheckFault>
+    // The document reads as an ontology, and the verdict is on that ontology and the three texts.
+    ensures { IfOk result (λ v. (o : Ontology) × IsChecked limits.now.max_bytes (D.left document.old) (T.left taxonomy.old) (I.left instances.old) (C.left certificate.old) o v) }
+{
     let (_, verdict) = checked(
         alloc,
         document,
