@@ -30,11 +30,10 @@ fn classified(
     let mut out = BufferSink::new(alloc);
     let mut err = BufferSink::new(alloc);
     let inputs = [("doc", document)];
-    let outputs = vec![in alloc;
-        ("tax", &mut taxonomy),
-        ("inst", &mut instances),
-        ("cert", &mut certificate),
-    ]?;
+    let mut outputs = Vec::new(alloc);
+    outputs.push(("tax", &mut taxonomy))?;
+    outputs.push(("inst", &mut instances))?;
+    outputs.push(("cert", &mut certificate))?;
     let mut files = MemoryFiles::new(&inputs, outputs);
     let status = perform(alloc, &words, &mut files, &mut out, &mut err, state);
     drop(files);
