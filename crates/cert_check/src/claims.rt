@@ -15,6 +15,7 @@ const THING: usize = 0;
 const NOTHING: usize = 1;
 
 /// The claimed element for each expression, by number, where there is a claim.
+/// No contract yet: what the answer says of the certificate is not proved.
 pub fn claimed_elements(
     alloc: Global,
     ontology: &Ontology,
@@ -36,6 +37,7 @@ fn claimed_element(ontology: &Ontology, claimed: &[Option<u32>], class: ClassId)
 }
 
 /// For each element the classes that are listed with it.
+/// No contract yet: what the answer says of the certificate is not proved.
 pub fn holders(
     alloc: Global,
     ontology: &Ontology,
@@ -97,6 +99,7 @@ fn are_same(row: &Row, other: &Row) -> bool
 }
 
 /// The least class that no line puts below owl:Nothing and for which nothing is claimed.
+/// No contract yet: what the answer says of the certificate is not proved.
 pub fn first_unclaimed(
     ontology: &Ontology,
     above: &[Row],
@@ -111,6 +114,7 @@ pub fn first_unclaimed(
 }
 
 /// The least class whose claimed element is not in it, or is in other classes than lines put above it.
+/// No contract yet: what the answer says of the certificate is not proved.
 pub fn first_disagreeing_class(
     alloc: Global,
     ontology: &Ontology,
@@ -133,6 +137,7 @@ pub fn first_disagreeing_class(
 }
 
 /// The least individual whose element is in other classes than lines put it into.
+/// No contract yet: what the answer says of the certificate is not proved.
 pub fn first_disagreeing_individual(
     alloc: Global,
     ontology: &Ontology,

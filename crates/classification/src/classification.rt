@@ -82,6 +82,8 @@ fn certificate_of(
 }
 
 /// The classification of an ontology whose closure has at most `max_facts` facts.
+///
+/// No contract yet: that the checker accepts the texts is not proved.
 pub fn classify(alloc: Global, ontology: &Ontology, max_facts: u64) -> Result<Classification, Stop>
     requires { IsClassifiable ontology.now }
 {

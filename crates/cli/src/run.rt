@@ -90,6 +90,8 @@ fn perform_check<F: Files, O: Sink, E: Sink>(
 
 /// Does what the words ask for, the first being the program's name: reads and writes the files, prints to `out` and
 /// `err`, and gives the exit status.
+///
+/// No contract yet: the calls it makes carry theirs; which of them it makes is not proved.
 pub fn perform<F: Files, O: Sink, E: Sink>(
     alloc: Global,
     words: &[&str],

@@ -13,7 +13,7 @@ pub struct SystemFiles<'r, R: rt::Files + AllocGlobal> {
 }
 
 impl<'r, R: rt::Files + AllocGlobal> SystemFiles<'r, R> {
-    /// The files that the runtime reaches.
+    /// The files that the runtime reaches. Nothing is promised: what lies in them is the system's.
     pub fn new(runtime: &'r R) -> Self {
         SystemFiles { runtime }
     }
