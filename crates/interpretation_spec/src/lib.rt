@@ -7,6 +7,8 @@ mod interpretation;
 mod pairs;
 mod row;
 mod satisfaction;
+#[cfg(test)]
+mod tests;
 mod theory;
 mod words;
 
