@@ -3,3 +3,4 @@ pub mod OneMore
 pub mod Forms
 pub mod Declared
 pub mod Readings
+pub mod OneReading

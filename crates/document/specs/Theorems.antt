@@ -6,6 +6,7 @@ use Rattle.axioms.specs.Growth.{DeclaresClass, empty_ontology, with_axiom}
 use Rattle.axioms.specs.Numbered.{Ontology, SubClass}
 use Rattle.axioms.specs.Numbering.{IsOntologyOf, first_places, same_expression}
 use Rattle.axioms.specs.WellFormed.{IsOntology}
+use Rattle.document.specs.Documents.{ReadsAs}
 use Rattle.document.specs.Subclasses.{IsSubclassOntology, subclass_statement}
 
 -- one more member of a list is the last of its first places, or is there already
@@ -29,3 +30,7 @@ OneMoreStatement =
     (pairs : List (Iri × Iri)) (pair : Iri × Iri) (o p q : Ontology) (c e d f : ℕ) →
     IsOntology o → IsOntology p → IsOntology q → IsOfSubclasses pairs o → DeclaresClass o pair.0 p c e → DeclaresClass p pair.1 q d f →
     IsOfSubclasses (pairs ++ pair ∷ []) (with_axiom q (SubClass e f))
+
+-- bytes read as at most one ontology
+abbrev pub BytesReadAsOneOntology : Type 0
+BytesReadAsOneOntology = (bytes : List ℕ) (o p : Ontology) → IsOntology o → IsOntology p → ReadsAs bytes o → ReadsAs bytes p → o ≡ p

@@ -1,12 +1,14 @@
 //! Documents of subclass axioms between named classes, from bytes to an ontology.
 #![tactic(auto)]
 
-ghost use Rattle.document.specs.Theorems.{FirstPlacesGrow, NoStatementIsEmpty, OneMoreStatement};
+ghost use Rattle.document.specs.Theorems.{BytesReadAsOneOntology, FirstPlacesGrow, NoStatementIsEmpty, OneMoreStatement};
 
 mod document;
 mod fault;
 mod limits;
 mod statements;
+#[cfg(test)]
+mod tests;
 
 pub use document::{read_bytes, read_document};
 pub use fault::DocumentFault;
@@ -17,4 +19,9 @@ pub fn statements_one_by_one()
     ensures places { FirstPlacesGrow }
     ensures start { NoStatementIsEmpty }
     ensures more { OneMoreStatement }
+{}
+
+/// Bytes read as at most one ontology.
+pub fn one_ontology_is_read()
+    ensures { BytesReadAsOneOntology }
 {}

@@ -1,0 +1,91 @@
+//! The document of one subclass axiom, and documents that are refused.
+
+use super::*;
+use axioms::{Axiom, ExprId, OWL_NOTHING, OWL_THING, Ontology};
+use device::SliceSource;
+use std::hash::RandomState;
+use std::process::Abort;
+use std::random::RandomSource;
+use std::test::Fail;
+
+const ONE_SUBCLASS: &[u8] = b"Ontology(SubClassOf(<x:A> <x:B>))";
+
+/// The ontology has the classes A and B, and the one axiom is SubClassOf(A B).
+fn assert_one_subclass<R: Abort>(rt: &R, ontology: &Ontology) {
+    for (number, iri) in [OWL_THING, OWL_NOTHING, "x:A", "x:B"].iter().enumerate() {
+        assert_eq!(rt;
+            ontology.classes().get(number).map(String::as_str),
+            Some(*iri)
+        );
+    }
+    assert_eq!(rt; ontology.classes().len(), 4);
+    assert_eq!(rt;
+        ontology.axioms(),
+        [Axiom::SubClass(ExprId(2), ExprId(3))].as_slice()
+    );
+}
+
+/// What reading the bytes of a document gives, where so many are allowed.
+fn read_within<R: AllocGlobal + RandomSource>(
+    rt: &R,
+    bytes: &[u8],
+    max_bytes: u64,
+) -> Result<Result<Ontology, DocumentFault>, Fail> {
+    let limits = Limits::new(max_bytes, 1).ok_or("limits")?;
+    let mut source = SliceSource::new(bytes);
+    Ok(read_document(rt.alloc(), &mut source, &limits, RandomState::new(rt)?))
+}
+
+/// Whether reading the bytes of a document gives the fault that is printed so.
+fn is_refused<R: AllocGlobal + RandomSource>(
+    rt: &R,
+    bytes: &[u8],
+    max_bytes: u64,
+    printed: &str,
+) -> Result<bool, Fail> {
+    match read_within(rt, bytes, max_bytes)? {
+        Ok(_) => Ok(false),
+        Err(fault) => Ok(format!(in rt.alloc(); "{fault}")?.as_str() == printed),
+    }
+}
+
+#[test]
+fn one_subclass(rt: HostRuntime) -> Result<(), Fail> {
+    let ontology = read_bytes(rt.alloc(), ONE_SUBCLASS, RandomState::new(&rt)?)?;
+    assert_one_subclass(&rt, &ontology);
+    statements_one_by_one();
+    Ok(())
+}
+
+#[test]
+fn one_subclass_of_a_source(rt: HostRuntime) -> Result<(), Fail> {
+    let ontology = read_within(&rt, ONE_SUBCLASS, 33)??;
+    assert_one_subclass(&rt, &ontology);
+    Ok(())
+}
+
+#[test]
+fn refused_documents(rt: HostRuntime) -> Result<(), Fail> {
+    assert!(rt; is_refused(&rt, b"Ontology(\xff", 10, "U1 at byte 9")?);
+    assert!(rt; is_refused(&rt, ONE_SUBCLASS, 32, "U2")?);
+    assert!(rt;
+        is_refused(
+            &rt,
+            b"Ontology(SubClassOf(<x:A> owl:real))",
+            36,
+            "F3 at byte 26"
+        )?
+    );
+    assert!(rt; is_refused(&rt, b"", 1, "P2 at byte 0")?);
+    Ok(())
+}
+
+#[test]
+fn limits(rt: HostRuntime) {
+    assert!(rt; Limits::new(1, 1).is_some());
+    assert!(rt; Limits::new(MOST_BYTES, MOST_FACTS).is_some());
+    assert!(rt; Limits::new(0, 1).is_none() && Limits::new(1, 0).is_none());
+    assert!(rt;
+        Limits::new(MOST_BYTES + 1, 1).is_none() && Limits::new(1, MOST_FACTS + 1).is_none()
+    );
+}
