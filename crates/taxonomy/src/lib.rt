@@ -10,6 +10,8 @@ mod outcome;
 mod reduction;
 mod rows;
 mod taxonomy_text;
+#[cfg(test)]
+mod tests;
 mod theory;
 mod write;
 
