@@ -11,6 +11,8 @@ mod listed;
 mod listed_reading;
 mod number;
 mod reading;
+#[cfg(test)]
+mod tests;
 mod writing;
 
 pub use certificate::Certificate;
