@@ -1,10 +1,10 @@
 -- What the walk over the lines of a derivation finds.
-use Rattle.std.proofs.Common.{◌≡◌, ◌↔◌, ℕ, zero, suc, ◌+◌, ◌<◌, Bool, true, List, length, get_or, map, take, slice_get, Some, None, Option, refl, sym, ap, ◌∙◌, subst, subst₂, arith}
+use Rattle.std.proofs.Common.{◌≡◌, ◌↔◌, ℕ, zero, suc, ◌+◌, Bool, true, List, map, take, slice_get, Some, None, Option, sym, ◌∙◌, subst, subst₂, arith}
 use Rattle.std.proofs.lemmas.List.{take-map}
-use Rattle.std.proofs.lemmas.Option.{same_Some, none-some, slice_get-get_or}
+use Rattle.std.proofs.lemmas.Option.{same_Some, none-some}
 use Rattle.axioms.specs.Numbered.{Ontology, Axiom}
 use Rattle.axioms.specs.View.{at_number}
-use Rattle.axioms.proofs.Lists.{slice_get_map, slice_get_map_from, one_value}
+use Rattle.axioms.proofs.Lists.{slice_get_map, one_value}
 use Rattle.certificate.specs.Certificate.{Line, Conclusion}
 use Rattle.certificate.specs.declared.line.Line as code
 use Rattle.certificate.specs.HasText.{IsLineOf}

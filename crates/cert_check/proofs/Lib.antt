@@ -2,7 +2,10 @@ pub mod Places
 pub mod Checked
 pub mod Made
 pub mod Rowwise
+pub mod Additions
+pub mod ListedRows
 pub mod Relations
+pub mod Claimed
 pub mod Verdicts
 pub mod Truth
 pub mod Derivations
@@ -10,5 +13,6 @@ pub mod Decisions
 pub mod Headline
 pub mod Determined
 pub mod Listings
+pub mod Exactness
 pub mod OneSubclass
 pub mod Contradiction

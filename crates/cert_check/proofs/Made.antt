@@ -1,5 +1,5 @@
 -- The interpretation that a certificate lists.
-use Rattle.std.proofs.Common.{◌≡◌, ℕ, ◌-◌, ◌<◌, [], length, true, false, replicate, arith}
+use Rattle.std.proofs.Common.{ℕ, ◌-◌, ◌<◌, [], length, false, replicate, arith}
 use Rattle.std.proofs.lemmas.List.{length-replicate}
 use Rattle.std.proofs.lemmas.Option.{slice_get_within}
 use Rattle.axioms.specs.Expression.{owl_thing}

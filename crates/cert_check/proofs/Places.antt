@@ -1,16 +1,11 @@
 -- Members of mapped lists, places in them, and walks.
-use Rattle.std.proofs.Common.{◌≡◌, ◌↔◌, ℕ, zero, suc, ◌+◌, ◌<◌, Bool, true, false, List, [], ◌∷◌, ◌++◌, length, get_or, map, take, drop, slice_get, Some, Option, eqb, Contains, refl, sym, ap, ◌∙◌, subst, subst₂, arith}
+use Rattle.std.proofs.Common.{◌≡◌, ◌↔◌, ℕ, Bool, true, false, List, get_or, map, slice_get, Some, Option, eqb, Contains, refl, sym, ap, ◌∙◌, arith}
 use Rattle.std.specs.List.{IsAnyAnswer}
 use Rattle.std.proofs.lemmas.Bool.{eqb-true, eqb-false, false≢true}
-use Rattle.std.proofs.lemmas.List.{drop_more}
 use Rattle.std.proofs.lemmas.Option.{slice_get_within, get_or_from_slice_get}
 use Rattle.axioms.proofs.Lists.{Contains-from_slice_get, slice_get-from_Contains, slice_get_there, slice_get_map, slice_get_map_from}
-use Rattle.axioms.specs.declared.ids.ExprId.{ExprId}
-use Rattle.axioms.specs.declared.ids.PropId.{PropId}
 use Rattle.axioms.specs.Numbered.{Node, And}
-use Rattle.axioms.specs.View.{expr_numbers, prop_numbers}
-use Rattle.certificate.specs.Certificate.{Subject, Conclusion, Sub, Edge}
-use Rattle.cert_check.specs.Lines.{IsWalk}
+use Rattle.certificate.specs.Certificate.{Conclusion}
 
 -- ---- members
 

@@ -13,14 +13,14 @@ use Rattle.cert_check.specs.Rows.{SomeLine, PutsBelow, PutsInto, AreClassRows, A
 use Rattle.cert_check.specs.Verdict.{RelationAgainst, TextsAgainst}
 
 module _ (o : Ontology) (w : IsOntology o) (lines : List Line) where
-  below_line : (c d e f : ℕ) → IsClassAt o c e → IsClassAt o d f → SomeLine lines (λ a. PutsBelow o a c d) ↔ HasLine lines (Sub (Expression e) f)
+  pub below_line : (c d e f : ℕ) → IsClassAt o c e → IsClassAt o d f → SomeLine lines (λ a. PutsBelow o a c d) ↔ HasLine lines (Sub (Expression e) f)
   below_line c d e f ge gf = (
     λ (k, line, g, (e', f', s, ge', gf')).
         (k, line, g, subst₂ (λ x y. line.conclusion ≡ Sub (Expression x) y) (w.distinct_nodes e' e (Class c) ge' ge) (w.distinct_nodes f' f (Class d) gf' gf) s),
     λ (k, line, g, s). (k, line, g, (e, f, s, ge, gf)),
   )
 
-  type_line : (a d f : ℕ) → IsClassAt o d f → SomeLine lines (λ b. PutsInto o b a d) ↔ HasLine lines (Sub (Individual a) f)
+  pub type_line : (a d f : ℕ) → IsClassAt o d f → SomeLine lines (λ b. PutsInto o b a d) ↔ HasLine lines (Sub (Individual a) f)
   type_line a d f gf = (
     λ (k, line, g, (f', s, gf')). (k, line, g, s ∙ ap (Sub (Individual a)) (w.distinct_nodes f' f (Class d) gf' gf)),
     λ (k, line, g, s). (k, line, g, (f, s, gf)),

@@ -1,16 +1,15 @@
 -- Rows to which numbers are added line by line.
-use Rattle.std.proofs.Common.{◌≡◌, ◌≢◌, ◌↔◌, ℕ, zero, suc, ◌+◌, ◌<◌, ◌≤◌, List, [], ◌∷◌, ◌++◌, length, map, take, get_or, set, replicate, slice_get, Some, None, Bool, true, false, ◌⊎◌, inl, inr, refl, sym, ap, ◌∙◌, subst, arith}
+use Rattle.std.proofs.Common.{◌≡◌, ◌≢◌, ◌↔◌, ℕ, zero, suc, ◌+◌, ◌<◌, List, [], ◌∷◌, ◌++◌, length, map, take, get_or, set, replicate, slice_get, Some, Bool, true, false, ◌⊎◌, inl, inr, refl, sym, ap, ◌∙◌, subst, arith}
 use Rattle.std.proofs.lemmas.Bool.{cases_eq, cases_lt, false≢true}
 use Rattle.axioms.proofs.Trees.{one_class}
 use Rattle.axioms.specs.Numbered.{Ontology, IsClassAt}
-use Rattle.std.proofs.lemmas.List.{get_or-set_same, get_or-set_other, get_or_default, take_more, map-append, length-set, get_or_past, length-replicate, get_or-replicate, length-map}
+use Rattle.std.proofs.lemmas.List.{get_or-set_same, get_or-set_other, take_more, map-append, length-set, length-replicate, get_or-replicate, length-map}
 use Rattle.std.proofs.lemmas.Option.{none-some, same_Some, slice_get-get_or, slice_get_within}
-use Rattle.axioms.proofs.Lists.{slice_get_map}
 use Rattle.certificate.specs.Certificate.{Conclusion, Sub, Expression, Individual, Line}
 use Rattle.certificate.specs.declared.line.Line as code
 use Rattle.certificate.specs.View.{conclusion_of, line_of, lines_of}
 use Rattle.interpretation_spec.specs.Row.{has}
-use Rattle.taxonomy.specs.Relation.{AreOver, row_at, lies_below}
+use Rattle.taxonomy.specs.Relation.{row_at, lies_below}
 use Rattle.cert_check.specs.Rows.{AreRows, AreClassRows, AreTypeRows, Adds, SomeLine, PutsBelow, PutsInto, with_number_at}
 
 -- ---- one more line

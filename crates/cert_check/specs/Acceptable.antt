@@ -136,3 +136,9 @@ pub record SaysContradictory (o : Ontology) (taxonomy instances : List ℕ) (lin
 abbrev pub Says : Ontology → List ℕ → List ℕ → Certificate → Type 0
 Says o taxonomy instances certificate =
     MatchOption certificate.listed (SaysContradictory o taxonomy instances certificate.lines) (SaysConsistent o taxonomy instances certificate.lines)
+
+-- the taxonomy and instances texts say what follows from the axioms, as the certificate of the text shows
+pub record AreRight (o : Ontology) (taxonomy instances text : List ℕ) : Type 0 where
+  pub certificate : Certificate
+  pub text_is : IsTextOf o text certificate
+  pub says : Says o taxonomy instances certificate

@@ -1,5 +1,5 @@
 -- Derivations: lists of lines, each of which follows from lines before it.
-use Rattle.std.specs.Prelude.{◌≡◌, ℕ, List, [], ◌∷◌, ◌++◌, map, slice_get, take, Some, None}
+use Rattle.std.specs.Prelude.{◌≡◌, ℕ, List, [], ◌∷◌, map, slice_get, take, Some, None}
 use Rattle.std.specs.declared.option.Option.{Option}
 use Rattle.axioms.specs.Numbered.{Ontology, Axiom}
 use Rattle.axioms.specs.View.{at_number}

@@ -3,6 +3,7 @@ pub mod View
 pub mod Derivation
 pub mod Faults
 pub mod Rows
+pub mod Additions
 pub mod Verdict
 pub mod Acceptable
 pub mod Soundness

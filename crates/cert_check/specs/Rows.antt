@@ -1,5 +1,7 @@
--- Rows of classes: for each class, or for each individual, the classes that lines put above it.
-use Rattle.std.specs.Prelude.{◌≡◌, ℕ, ◌<◌, ◌||◌, ◌↔◌, ◌⊎◌, List, Bool, true, length, slice_get, slice_set, Some}
+-- Rows of classes: for each class, or for each individual, the classes that lines put above it, and for each element the classes
+-- that it is in.
+use Rattle.std.specs.Prelude.{◌≡◌, ℕ, ◌<◌, ◌||◌, ◌↔◌, ◌⊎◌, List, Bool, true, length, slice_get, slice_set, Option, Some}
+use Rattle.std.specs.List.{Contains}
 use Rattle.axioms.specs.Numbered.{Ontology, IsClassAt}
 use Rattle.certificate.specs.Certificate.{Expression, Individual, Conclusion, Sub, Line}
 use Rattle.interpretation_spec.specs.Row.{has}
@@ -49,3 +51,27 @@ pub record IsFilledRow (row filled : List Bool) : Type 0 where
 pub record AreFilled (rows filled : List (List Bool)) : Type 0 where
   pub long : length filled ≡ length rows
   pub each : (c : ℕ) → c < length rows → IsFilledRow (row_at rows c) (row_at filled c)
+
+-- ---- claims and elements
+
+-- the element that is claimed for each class, by the number of the class, where there is a claim
+pub record AreClaimed (o : Ontology) (claims : List (ℕ × ℕ)) (claimed : List (Option ℕ)) : Type 0 where
+  pub long : length claimed ≡ length o.names.classes
+  pub each : (c e x : ℕ) → IsClassAt o c e → (slice_get claimed c ≡ Some (Some x)) ↔ Contains claims (e, x)
+
+-- the class, if it is one, has owl:Nothing in its row or a claimed element
+abbrev pub IsClaimed : List (List Bool) → List (Option ℕ) → ℕ → Type 0
+IsClaimed above claimed c = c < length above → (lies_below above c nothing_class ≡ true) ⊎ ((x : ℕ) × (slice_get claimed c ≡ Some (Some x)))
+
+-- the element is in exactly the classes of the row
+abbrev pub IsInExactly : List (List Bool) → ℕ → List Bool → Type 0
+IsInExactly holding x row = (d : ℕ) → lies_below holding x d ≡ has row d
+
+-- the claimed element of the class, if there is one, is in it, and in exactly the classes of its row
+abbrev pub ClaimAgrees : List (List Bool) → List (Option ℕ) → List (List Bool) → ℕ → Type 0
+ClaimAgrees above claimed holding c =
+    c < length above → (x : ℕ) → slice_get claimed c ≡ Some (Some x) → (lies_below holding x c ≡ true) × IsInExactly holding x (row_at above c)
+
+-- the element of the individual, if it is one, is in exactly the classes of its row
+abbrev pub ElementAgrees : List (List Bool) → List ℕ → List (List Bool) → ℕ → Type 0
+ElementAgrees types elements holding a = a < length types → (x : ℕ) → slice_get elements a ≡ Some x → IsInExactly holding x (row_at types a)

@@ -1,7 +1,10 @@
 -- What the checker's answers mean.
-use Rattle.std.specs.Prelude.{◌≡◌, ℕ, List, Bool, Some, None}
+use Rattle.std.specs.Prelude.{◌≡◌, ℕ, ◌<◌, List, Bool, slice_get, Some, None}
 use Rattle.std.specs.declared.option.Option.{Option}
-use Rattle.axioms.specs.Numbered.{Ontology, thing, nothing}
+use Rattle.std.specs.List.{Contains}
+use Rattle.axioms.specs.Numbered.{Ontology, IsClassAt, axiom_trees, thing, nothing}
+use Rattle.interpretation_spec.specs.ByName.{IsFirstUnsatisfied}
+use Rattle.interpretation_spec.specs.Interpretation.{Interpretation, IsInterpretation, IsModel}
 use Rattle.certificate.specs.Certificate.{Expression, Individual, Conclusion, Sub, Edge, Line, Listed, Certificate}
 use Rattle.certificate.specs.HasText.{IsTextOf}
 use Rattle.taxonomy.specs.Texts.{taxonomy_text, instances_text, inconsistent_taxonomy_text, inconsistent_instances_text}
@@ -9,8 +12,8 @@ use Rattle.cert_check.specs.declared.verdict.Reason.{Reason}
 use Rattle.cert_check.specs.declared.verdict.Reason.TheVariants.{BadText, BadLine, AxiomFails, ClaimMissing, ClaimDisagrees, IndividualDisagrees, NoContradiction, TaxonomyDiffers, InstancesDiffer}
 use Rattle.cert_check.specs.declared.verdict.Verdict.{Verdict}
 use Rattle.cert_check.specs.declared.verdict.Verdict.TheVariants.{Accepted, Rejected}
-use Rattle.cert_check.specs.Derivation.{IsDerivation}
-use Rattle.cert_check.specs.Acceptable.{LiesBelow, Belongs}
+use Rattle.cert_check.specs.Derivation.{IsDerivation, HasLine}
+use Rattle.cert_check.specs.Acceptable.{IsListing, Agrees, ClaimHolds, LiesBelow, Belongs}
 use Rattle.cert_check.specs.Rows.{SomeLine}
 use Rattle.cert_check.specs.Faults.{IsFirstBadLine, DifferFirstAt}
 
@@ -44,27 +47,60 @@ pub record RelationAgainst (o : Ontology) (t i : List ℕ) (lines : List Line) (
   pub types : Belongs o lines belongs
   pub texts : TextsAgainst t i (taxonomy_text o.names.classes lies_below) (instances_text o.names.classes o.names.individuals lies_below belongs) reason
 
--- what speaks against them where a derivation and a listed interpretation are to show what follows; what C3 to C6 say of the
--- listed interpretation and of the claims does not stand here yet
-abbrev pub ConsistentAgainst : Ontology → (taxonomy instances : List ℕ) → List Line → Option Reason → Type 0
-ConsistentAgainst o t i lines (Some (AxiomFails n)) = Unit {0}
-ConsistentAgainst o t i lines (Some (ClaimMissing c)) = Unit {0}
-ConsistentAgainst o t i lines (Some (ClaimDisagrees c)) = Unit {0}
-ConsistentAgainst o t i lines (Some (IndividualDisagrees a)) = Unit {0}
-ConsistentAgainst o t i lines reason = RelationAgainst o t i lines reason
+-- ---- the claims and the individuals of a listed interpretation
 
--- the reasons that the claims and the elements of individuals can give
-abbrev pub ClaimsAgainst : Option Reason → Type 0
-ClaimsAgainst None = Unit {0}
-ClaimsAgainst (Some (ClaimMissing c)) = Unit {0}
-ClaimsAgainst (Some (ClaimDisagrees c)) = Unit {0}
-ClaimsAgainst (Some (IndividualDisagrees a)) = Unit {0}
-ClaimsAgainst _ = ⊥
+-- the class, unless a line puts it below owl:Nothing, has a claimed element
+abbrev pub HasClaim : Ontology → List Line → Listed → ℕ → Type 0
+HasClaim o lines listed c = (e : ℕ) → IsClassAt o c e → (HasLine lines (Sub (Expression e) nothing) → ⊥) → (x : ℕ) × Contains listed.claims (e, x)
+
+-- what is claimed for the class holds
+abbrev pub ClaimsHold : Ontology → Interpretation → List Line → Listed → ℕ → Type 0
+ClaimsHold o i lines listed c = (e x : ℕ) → IsClassAt o c e → Contains listed.claims (e, x) → ClaimHolds o i lines (e, x)
+
+-- the element of the individual is in exactly the classes that lines put the individual into
+abbrev pub IndividualAgrees : Ontology → Interpretation → List Line → Listed → ℕ → Type 0
+IndividualAgrees o i lines listed a = (x : ℕ) → slice_get listed.individuals a ≡ Some x → Agrees o i lines (Individual a) x
+
+-- of each number
+abbrev pub Each : (ℕ → Type 0) → Type 0
+Each P = (n : ℕ) → P n
+
+-- of each number before this one, and not of this one
+abbrev pub IsFirstWithout : (ℕ → Type 0) → ℕ → Type 0
+IsFirstWithout P n = (P n → ⊥) × ((k : ℕ) → k < n → P k)
+
+-- which of these, in this order, is the first that not all have, and the first number without it
+abbrev pub ClaimsAgainst : Ontology → Interpretation → List Line → Listed → Option Reason → Type 0
+ClaimsAgainst o i lines listed (Some (ClaimMissing c)) = IsFirstWithout (HasClaim o lines listed) c.0
+ClaimsAgainst o i lines listed (Some (ClaimDisagrees c)) = Each (HasClaim o lines listed) × IsFirstWithout (ClaimsHold o i lines listed) c.0
+ClaimsAgainst o i lines listed (Some (IndividualDisagrees a)) =
+    Each (HasClaim o lines listed) × Each (ClaimsHold o i lines listed) × IsFirstWithout (IndividualAgrees o i lines listed) a.0
+ClaimsAgainst o i lines listed None =
+    Each (HasClaim o lines listed) × Each (ClaimsHold o i lines listed) × Each (IndividualAgrees o i lines listed)
+ClaimsAgainst _ _ _ _ _ = ⊥
+
+-- what speaks against the texts where the listed interpretation is i: an axiom that it does not satisfy, else a claim or an
+-- individual, else the texts
+abbrev pub ListingAgainst : Ontology → (taxonomy instances : List ℕ) → List Line → Listed → Interpretation → Option Reason → Type 0
+ListingAgainst o t t' lines listed i (Some (AxiomFails n)) = IsFirstUnsatisfied o i n
+ListingAgainst o t t' lines listed i (Some (ClaimMissing c)) = IsModel i (axiom_trees o) × ClaimsAgainst o i lines listed (Some (ClaimMissing c))
+ListingAgainst o t t' lines listed i (Some (ClaimDisagrees c)) = IsModel i (axiom_trees o) × ClaimsAgainst o i lines listed (Some (ClaimDisagrees c))
+ListingAgainst o t t' lines listed i (Some (IndividualDisagrees a)) =
+    IsModel i (axiom_trees o) × ClaimsAgainst o i lines listed (Some (IndividualDisagrees a))
+ListingAgainst o t t' lines listed i reason =
+    IsModel i (axiom_trees o) × ClaimsAgainst o i lines listed None × RelationAgainst o t t' lines reason
+
+-- the members list an interpretation, by which the texts are measured
+pub record ConsistentAgainst (o : Ontology) (taxonomy instances : List ℕ) (lines : List Line) (listed : Listed) (reason : Option Reason) : Type 0 where
+  pub i : Interpretation
+  pub listing : IsListing o listed i
+  pub interpretation : IsInterpretation i
+  pub against : ListingAgainst o taxonomy instances lines listed i reason
 
 -- what speaks against a certificate
 abbrev pub Against : Ontology → (taxonomy instances : List ℕ) → List Line → Option Listed → Option Reason → Type 0
 Against o t i lines None reason = ContradictionAgainst t i lines reason
-Against o t i lines (Some listed) reason = ConsistentAgainst o t i lines reason
+Against o t i lines (Some listed) reason = ConsistentAgainst o t i lines listed reason
 
 abbrev pub verdict_of_reason : Option Reason → Verdict
 verdict_of_reason None = Accepted

@@ -1,14 +1,18 @@
 //! The checker.
-ghost use Rattle.cert_check.specs.Rows.{AreClassRows, AreRows, AreTypeRows};
+ghost use Rattle.axioms.specs.Numbered.{axiom_trees};
+ghost use Rattle.cert_check.specs.Acceptable.{AreRight, IsAcceptable, IsListing};
+ghost use Rattle.cert_check.specs.Rows.{AreClassRows, AreTypeRows};
 ghost use Rattle.cert_check.specs.Verdict.{Against, ClaimsAgainst, ConsistentAgainst, ContradictionAgainst, HasContradiction, IsContradiction, IsVerdict, RelationAgainst, TextsAgainst, verdict_of_reason};
-ghost use Rattle.certificate.specs.HasText.{IsLineOf};
-ghost use Rattle.certificate.specs.View.{conclusion_of, lines_of};
-ghost use Rattle.std.specs.Prelude.{◌↔◌, ◌≡◌, All, IfOk, IsTrue, length};
+ghost use Rattle.certificate.specs.HasText.{IsLineOf, IsListedOf};
+ghost use Rattle.certificate.specs.View.{conclusion_of, lines_of, listed_of};
+ghost use Rattle.interpretation_spec.specs.ByName.{IsFirstUnsatisfied};
+ghost use Rattle.interpretation_spec.specs.Interpretation.{Interpretation, IsInterpretation, IsModel};
+ghost use Rattle.std.specs.Prelude.{◌↔◌, ◌≡◌, All, IfOk, IfSome, IsTrue, MatchOption, length};
 ghost use Rattle.taxonomy.specs.Outcome.{IsMadeFor, instances_of, taxonomy_of};
 
 use crate::claims::{
-    claimed_elements, first_disagreeing_class, first_disagreeing_individual, first_unclaimed,
-    holders,
+    claimed_elements, element_rows, first_disagreeing_class, first_disagreeing_individual,
+    first_unclaimed,
 };
 use crate::compare::first_difference;
 use crate::derivation::first_bad_line;
@@ -27,6 +31,26 @@ use taxonomy::{Outcome, Relation, instances_bytes, reduce, taxonomy_bytes};
 ///
 /// It fails only where memory is refused.
 pub fn check(
+    alloc: Global,
+    ontology: &Ontology,
+    taxonomy: &[u8],
+    instances: &[u8],
+    certificate: &[u8],
+) -> Result<Verdict, Memory>
+    ensures verdict { IfOk result (IsVerdict ontology.now taxonomy.now instances.now certificate.now) }
+    // It accepts exactly what is acceptable.
+    ensures accepted { IfOk result (λ v. (v ≡ Verdict.Accepted) ↔ IsAcceptable ontology.now taxonomy.now instances.now certificate.now) }
+    // What it accepts says what follows from the axioms.
+    ensures says { IfOk result (λ v. v ≡ Verdict.Accepted → AreRight ontology.now taxonomy.now instances.now certificate.now) }
+{
+    let verdict = verdict_on(alloc, ontology, taxonomy, instances, certificate)?;
+    // What holds of every ontology.
+    let _ = ontology.expr(ExprId(0));
+    Ok(verdict)
+}
+
+// The verdict: the first reason that holds, where there is one.
+fn verdict_on(
     alloc: Global,
     ontology: &Ontology,
     taxonomy: &[u8],
@@ -68,7 +92,8 @@ fn against(
     instances: &[u8],
     certificate: &Certificate,
 ) -> Result<Option<Reason>, Memory>
-    requires { All (IsLineOf ontology.now) certificate.now.lines }
+    requires lines { All (IsLineOf ontology.now) certificate.now.lines }
+    requires listed { IfSome certificate.now.listed (IsListedOf ontology.now) }
     ensures { IfOk result (Against ontology.now taxonomy.now instances.now certificate.now.lines certificate.now.listed) }
 {
     match certificate.listed() {
@@ -93,15 +118,16 @@ fn against_consistent(
     lines: &[Line],
     listed: &Listed,
 ) -> Result<Option<Reason>, Memory>
-    requires { All (IsLineOf ontology.now) (lines_of lines.now) }
-    ensures { IfOk result (ConsistentAgainst ontology.now taxonomy.now instances.now (lines_of lines.now)) }
+    requires lines { All (IsLineOf ontology.now) (lines_of lines.now) }
+    requires listed { IsListedOf ontology.now (listed_of listed.now) }
+    ensures { IfOk result (ConsistentAgainst ontology.now taxonomy.now instances.now (lines_of lines.now) (listed_of listed.now)) }
 {
     if let Some(axiom) = first_failing_axiom(alloc, ontology, listed)? {
         return Ok(Some(Reason::AxiomFails { axiom }));
     }
     let above = class_rows(alloc, ontology, lines)?;
     let types = type_rows(alloc, ontology, lines)?;
-    let claims = against_claims(alloc, ontology, listed, &above, &types)?;
+    let claims = against_claims(alloc, ontology, listed, &above, &types, lines)?;
     if claims.is_some() {
         return Ok(claims);
     }
@@ -113,8 +139,15 @@ fn first_failing_axiom(
     alloc: Global,
     ontology: &Ontology,
     listed: &Listed,
-) -> Result<Option<usize>, Memory> {
+) -> Result<Option<usize>, Memory>
+    requires { IsListedOf ontology.now (listed_of listed.now) }
+    ensures { IfOk result (λ found. (i : Interpretation) × IsListing ontology.now (listed_of listed.now) i × IsInterpretation i
+        × MatchOption found (IsModel i (axiom_trees ontology.now)) (IsFirstUnsatisfied ontology.now i)) }
+{
+    // What holds of every ontology, and of every interpretation.
+    let _ = ontology.expr(ExprId(0));
     let interpretation = interpretation_of(alloc, ontology, listed)?;
+    let _ = interpretation.size();
     interpretation.first_unsatisfied(ontology)
 }
 
@@ -125,26 +158,25 @@ fn against_claims(
     listed: &Listed,
     above: &[Row],
     types: &[Row],
+    _lines: &[Line],
 ) -> Result<Option<Reason>, Memory>
-    requires above { AreRows (length ontology.now.names.classes) (length ontology.now.names.classes) above.now }
-    requires types { AreRows (length ontology.now.names.individuals) (length ontology.now.names.classes) types.now }
-    ensures { IfOk result ClaimsAgainst }
+    requires listed { IsListedOf ontology.now (listed_of listed.now) }
+    requires above { AreClassRows ontology.now (lines_of _lines.now) above.now }
+    requires types { AreTypeRows ontology.now (lines_of _lines.now) types.now }
+    ensures { (i : Interpretation) → IsListing ontology.now (listed_of listed.now) i → IsInterpretation i →
+        IfOk result (ClaimsAgainst ontology.now i (lines_of _lines.now) (listed_of listed.now)) }
 {
+    // What holds of every ontology.
+    let _ = ontology.expr(ExprId(0));
     let claimed = claimed_elements(alloc, ontology, &listed.claims)?;
-    if let Some(class) = first_unclaimed(ontology, above, &claimed) {
+    if let Some(class) = first_unclaimed(above, &claimed) {
         return Ok(Some(Reason::ClaimMissing { class }));
     }
-    let holders = holders(alloc, ontology, listed.domain, &listed.classes)?;
-    if let Some(class) = first_disagreeing_class(alloc, ontology, above, &claimed, &holders)? {
+    let holding = element_rows(alloc, ontology, listed.domain, &listed.classes)?;
+    if let Some(class) = first_disagreeing_class(above, &claimed, &holding) {
         return Ok(Some(Reason::ClaimDisagrees { class }));
     }
-    if let Some(individual) = first_disagreeing_individual(
-        alloc,
-        ontology,
-        types,
-        &listed.individuals,
-        &holders,
-    )? {
+    if let Some(individual) = first_disagreeing_individual(types, &listed.individuals, &holding) {
         return Ok(Some(Reason::IndividualDisagrees { individual }));
     }
     Ok(None)

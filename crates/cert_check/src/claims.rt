@@ -1,9 +1,17 @@
 //! Whether the classes that hold claimed elements, and the elements of individuals, are those that lines put above.
-ghost use Rattle.cert_check.specs.Rows.{AreRows};
-ghost use Rattle.std.specs.Prelude.{◌≡◌, IfOk, length, vec_len};
+ghost use Rattle.cert_check.specs.Additions.{AreElementRows, ListsMember};
+ghost use Rattle.cert_check.specs.Rows.{Adds, AreClaimed, AreRows, ClaimAgrees, ElementAgrees, IsClaimed, IsInExactly};
+ghost use Rattle.cert_check.specs.Verdict.{Each, IsFirstWithout};
+ghost use Rattle.certificate.specs.HasText.{AreElements, Ascends};
+ghost use Rattle.certificate.specs.View.{claim_of, class_row_of};
+ghost use Rattle.interpretation_spec.specs.Row.{has};
+ghost use Rattle.std.specs.Prelude.{◌↔◌, ◌<◌, ◌≡◌, ◌⊎◌, All, IfOk, IsTrue, MatchOption, Some, false, length, map, replicate, slice_get, slice_set, true, ℕ};
+ghost use Rattle.taxonomy.specs.Relation.{AreOver, lies_below};
+ghost use Rattle.taxonomy.specs.Texts.{nothing_class};
 
 use crate::listing::class_of;
-use axioms::{ClassId, IndId, Memory, Ontology};
+use crate::superclasses::put_at;
+use axioms::{ClassId, ExprId, IndId, Memory, Ontology};
 use certificate::{Claim, ClassRow};
 use interpretation_spec::Row;
 use std::alloc::Global;
@@ -14,147 +22,150 @@ const THING: usize = 0;
 // The number of owl:Nothing among the classes.
 const NOTHING: usize = 1;
 
-/// The claimed element for each expression, by number, where there is a claim.
-/// No contract yet: what the answer says of the certificate is not proved.
-pub fn claimed_elements(
+/// The claimed element for each class, by number, where there is a claim.
+pub(crate) fn claimed_elements(
     alloc: Global,
     ontology: &Ontology,
     claims: &[Claim],
-) -> Result<Vec<Option<u32>>, Memory> {
-    let mut elements = vec![in alloc; None; ontology.expression_count()]?;
+) -> Result<Vec<Option<u32>>, Memory>
+    requires { Ascends (map (λ c. c.0) (map claim_of claims.now)) }
+    ensures { IfOk result (λ claimed. AreClaimed ontology.now (map claim_of claims.now) claimed.items) }
+{
+    // What holds of every ontology: a class is one expression.
+    let _ = ontology.expr(ExprId(0));
+    let mut elements = vec![in alloc; None; ontology.classes().len()]?;
     for claim in claims {
-        if claim.class.0 < elements.len() {
-            elements[claim.class.0] = Some(claim.element);
+        if let Some(class) = class_of(ontology, claim.class) {
+            elements[class.0] = Some(claim.element);
         }
     }
     Ok(elements)
 }
 
-// The claimed element of the class.
-fn claimed_element(ontology: &Ontology, claimed: &[Option<u32>], class: ClassId) -> Option<u32> {
-    let expression = ontology.class_expr(class)?;
-    claimed.get(expression.0).copied().flatten()
+// So many rows with only owl:Thing.
+fn thing_rows(alloc: Global, count: usize, width: usize) -> Result<Vec<Row>, Memory>
+    ensures { IfOk result (λ rows. rows.items ≡ replicate count (slice_set (replicate width false) 0 true)) }
+{
+    let mut rows = Vec::new(alloc);
+    for _ in 0..count {
+        let mut row = Row::new(alloc, width)?;
+        row.put(THING);
+        rows.push(row)?;
+    }
+    Ok(rows)
 }
 
-/// For each element the classes that are listed with it.
-/// No contract yet: what the answer says of the certificate is not proved.
-pub fn holders(
+// Adds the class to the rows of its elements.
+fn put_holders(ontology: &Ontology, rows: &mut Vec<Row>, listed: &ClassRow)
+    requires rows { AreRows (length rows.old.items) (length ontology.now.names.classes) rows.old.items }
+    requires within { All (λ x. x < length rows.old.items) listed.now.elements.items }
+    ensures kept { AreRows (length rows.old.items) (length ontology.now.names.classes) rows.new.items }
+    ensures added { Adds (λ x c. ListsMember ontology.now (class_row_of listed.now) c x) rows.old.items rows.new.items }
+{
+    if let Some(class) = class_of(ontology, listed.class) {
+        for element in &listed.elements {
+            put_at(rows, *element as usize, class.0);
+        }
+    }
+}
+
+/// For each element the row of the classes that it is in: owl:Thing, and those that are listed with it.
+pub(crate) fn element_rows(
     alloc: Global,
     ontology: &Ontology,
     domain: u32,
-    rows: &[ClassRow],
-) -> Result<Vec<Vec<usize>>, Memory> {
-    let mut holders = Vec::new(alloc);
-    for _ in 0..domain {
-        holders.push(Vec::new(alloc))?;
-    }
-    for row in rows {
-        put_holder(ontology, &mut holders, row)?;
-    }
-    Ok(holders)
-}
-
-// Adds the class to the holders of its elements.
-fn put_holder(
-    ontology: &Ontology,
-    holders: &mut Vec<Vec<usize>>,
-    row: &ClassRow,
-) -> Result<(), Memory> {
-    let Some(class) = class_of(ontology, row.class) else {
-        return Ok(());
-    };
-    for element in &row.elements {
-        if (*element as usize) < holders.len() {
-            let classes = &mut holders[*element as usize];
-            classes.push(class.0)?;
-        }
-    }
-    Ok(())
-}
-
-// The row of the classes that hold the element.
-fn holder_row(
-    alloc: Global,
-    width: usize,
-    holders: &[Vec<usize>],
-    element: u32,
-) -> Result<Row, Memory>
-    ensures { IfOk result (λ row. length row ≡ width) }
+    classes: &[ClassRow],
+) -> Result<Vec<Row>, Memory>
+    requires { All (λ row. AreElements domain row.elements.items) classes.now }
+    ensures { IfOk result (λ rows. AreElementRows ontology.now domain (map class_row_of classes.now) rows.items) }
 {
-    let mut row = Row::new(alloc, width)?;
-    row.put(THING);
-    if let Some(classes) = holders.get(element as usize) {
-        for class in classes {
-            row.put(*class);
-        }
+    // What holds of every ontology: owl:Thing is among its classes.
+    let _ = ontology.expr(ExprId(0));
+    let mut rows = thing_rows(alloc, domain as usize, ontology.classes().len())?;
+    for listed in classes {
+        put_holders(ontology, &mut rows, listed);
     }
-    Ok(row)
+    Ok(rows)
 }
 
-// Whether the rows have the same numbers.
-fn are_same(row: &Row, other: &Row) -> bool
-    requires { length row.now ≡ length other.now }
+// Whether the class with this row and this claim is below owl:Nothing or has a claimed element.
+fn is_claimed(row: &Row, claim: Option<u32>) -> bool
+    ensures { IsTrue result ↔ ((has row.now nothing_class ≡ true) ⊎ ((x : ℕ) × (claim ≡ Some x))) }
 {
-    row.is_subset(other) && other.is_subset(row)
+    row.contains(NOTHING) || claim.is_some()
 }
 
-/// The least class that no line puts below owl:Nothing and for which nothing is claimed.
-/// No contract yet: what the answer says of the certificate is not proved.
-pub fn first_unclaimed(
-    ontology: &Ontology,
-    above: &[Row],
-    claimed: &[Option<u32>],
-) -> Option<ClassId> {
+/// The least class that has no owl:Nothing in its row and for which nothing is claimed.
+pub(crate) fn first_unclaimed(above: &[Row], claimed: &[Option<u32>]) -> Option<ClassId>
+    requires { length claimed.now ≡ length above.now }
+    ensures { MatchOption result (Each (IsClaimed above.now claimed.now)) (λ class. IsFirstWithout (IsClaimed above.now claimed.now) class.0) }
+{
     for (class, row) in above.iter().enumerate() {
-        if !row.contains(NOTHING) && claimed_element(ontology, claimed, ClassId(class)).is_none() {
+        if !is_claimed(row, claimed[class]) {
             return Some(ClassId(class));
         }
     }
     None
 }
 
-/// The least class whose claimed element is not in it, or is in other classes than lines put above it.
-/// No contract yet: what the answer says of the certificate is not proved.
-pub fn first_disagreeing_class(
-    alloc: Global,
-    ontology: &Ontology,
-    above: &[Row],
-    claimed: &[Option<u32>],
-    holders: &[Vec<usize>],
-) -> Result<Option<ClassId>, Memory>
-    requires { AreRows (length ontology.now.names.classes) (length ontology.now.names.classes) above.now }
+// Whether the element is in exactly the classes of the row.
+fn is_in_exactly(holding: &[Row], element: u32, row: &Row) -> bool
+    requires there { element < length holding.now }
+    requires over { AreOver (length row.now) holding.now }
+    ensures { IsTrue result ↔ IsInExactly holding.now element row.now }
 {
-    let width = ontology.classes().len();
-    for (class, row) in above.iter().enumerate() {
-        if let Some(element) = claimed_element(ontology, claimed, ClassId(class)) {
-            let holding = holder_row(alloc, width, holders, element)?;
-            if !holding.contains(class) || !are_same(&holding, row) {
-                return Ok(Some(ClassId(class)));
-            }
-        }
-    }
-    Ok(None)
+    let held = &holding[element as usize];
+    held.is_subset(row) && row.is_subset(held)
 }
 
-/// The least individual whose element is in other classes than lines put it into.
-/// No contract yet: what the answer says of the certificate is not proved.
-pub fn first_disagreeing_individual(
-    alloc: Global,
-    ontology: &Ontology,
-    above: &[Row],
-    elements: &[u32],
-    holders: &[Vec<usize>],
-) -> Result<Option<IndId>, Memory>
-    requires { AreRows (length ontology.now.names.individuals) (length ontology.now.names.classes) above.now }
+// Whether the claimed element is in the class, and in exactly the classes of its row.
+fn agrees(holding: &[Row], class: usize, claim: Option<u32>, row: &Row) -> bool
+    requires there { (x : ℕ) → claim ≡ Some x → x < length holding.now }
+    requires over { AreOver (length row.now) holding.now }
+    ensures { IsTrue result ↔ ((x : ℕ) → claim ≡ Some x → (lies_below holding.now x class ≡ true) × IsInExactly holding.now x row.now) }
 {
-    let width = ontology.classes().len();
-    for (individual, row) in above.iter().enumerate() {
-        if let Some(element) = elements.get(individual) {
-            let holding = holder_row(alloc, width, holders, *element)?;
-            if !are_same(&holding, row) {
-                return Ok(Some(IndId(individual)));
-            }
+    match claim {
+        Some(element) => holding[element as usize].contains(class)
+            && is_in_exactly(holding, element, row),
+        None => true,
+    }
+}
+
+/// The least class whose claimed element is not in it, or is in other classes than those of its row.
+pub(crate) fn first_disagreeing_class(
+    above: &[Row],
+    claimed: &[Option<u32>],
+    holding: &[Row],
+) -> Option<ClassId>
+    requires claimed { length claimed.now ≡ length above.now }
+    requires there { (c x : ℕ) → slice_get claimed.now c ≡ Some (Some x) → x < length holding.now }
+    requires above { AreOver (length above.now) above.now }
+    requires holding { AreOver (length above.now) holding.now }
+    ensures { MatchOption result (Each (ClaimAgrees above.now claimed.now holding.now)) (λ class. IsFirstWithout (ClaimAgrees above.now claimed.now holding.now) class.0) }
+{
+    for (class, row) in above.iter().enumerate() {
+        if !agrees(holding, class, claimed[class], row) {
+            return Some(ClassId(class));
         }
     }
-    Ok(None)
+    None
+}
+
+/// The least individual whose element is in other classes than those of its row.
+pub(crate) fn first_disagreeing_individual(
+    types: &[Row],
+    elements: &[u32],
+    holding: &[Row],
+) -> Option<IndId>
+    requires elements { length elements.now ≡ length types.now }
+    requires there { All (λ x. x < length holding.now) elements.now }
+    requires over { (width : ℕ) × AreOver width types.now × AreOver width holding.now }
+    ensures { MatchOption result (Each (ElementAgrees types.now elements.now holding.now)) (λ individual. IsFirstWithout (ElementAgrees types.now elements.now holding.now) individual.0) }
+{
+    for (individual, row) in types.iter().enumerate() {
+        if !is_in_exactly(holding, elements[individual], row) {
+            return Some(IndId(individual));
+        }
+    }
+    None
 }

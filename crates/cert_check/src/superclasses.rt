@@ -22,8 +22,8 @@ fn empty_rows(alloc: Global, count: usize, width: usize) -> Result<Vec<Row>, Mem
     Ok(rows)
 }
 
-// Adds the number to the row at that place.
-fn put_at(rows: &mut Vec<Row>, place: usize, number: usize)
+/// Adds the number to the row at that place.
+pub(crate) fn put_at(rows: &mut Vec<Row>, place: usize, number: usize)
     ensures { rows.new.items ≡ with_number_at rows.old.items place number }
 {
     if place < rows.len() {

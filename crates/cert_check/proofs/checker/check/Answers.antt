@@ -1,13 +1,15 @@
-use Rattle.std.proofs.Common.{sym, subst}
-use Rattle.cert_check.specs.Derivation.{IsDerivation}
-use Rattle.cert_check.specs.Verdict.{IsVerdict}
-use Rattle.cert_check.proofs.Verdicts.{judged_verdict}
+use Rattle.cert_check.proofs.Exactness.{accepted_exactly, accepted_right}
 use Rattle.cert_check.proofs.checker.check.Goals as goal
 
 pub returns : goal.returns
 returns c =
     let o = c.args.ontology.now in
-    let bad = rw c.in-None.is at c.in_ok-bad.ensures in
-    let derivation = subst (IsDerivation o) c.lines.ensures bad in
-    subst (IsVerdict o c.args.taxonomy.now c.args.instances.now c.args.certificate.now) (sym c.verdict_of.ensures)
-    (judged_verdict o c.args.taxonomy.now c.args.instances.now c.args.certificate.now c.in-Ok.certificate c.in_ok-found-in-None.found c.in-Ok.ensures.found derivation c.in_ok-found-in-None.ensures)
+    let t = c.args.taxonomy.now in
+    let i = c.args.instances.now in
+    let text = c.args.certificate.now in
+    let verdict = c.in_ok-verdict.ensures in
+    record {
+      verdict = verdict;
+      accepted = accepted_exactly o c.expr.ensures.valid t i text c.in_ok-verdict.verdict verdict;
+      says = accepted_right o c.expr.ensures.valid t i text c.in_ok-verdict.verdict verdict;
+    }

@@ -1,4 +1,4 @@
-use Rattle.std.proofs.Common.{◌≡◌, length, refl, true, sym, ◌∙◌, subst, take, inl, inr}
+use Rattle.std.proofs.Common.{length, refl, sym, ◌∙◌, subst, take, inl, inr}
 use Rattle.std.proofs.lemmas.Bool.{false≢true}
 use Rattle.std.proofs.lemmas.Option.{slice_get_read}
 use Rattle.certificate.specs.View.{line_of, lines_of}

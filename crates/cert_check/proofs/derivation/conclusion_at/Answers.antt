@@ -1,6 +1,6 @@
-use Rattle.std.proofs.Common.{◌-◌, length, get_or, arith}
+use Rattle.std.proofs.Common.{◌-◌, get_or, arith}
 use Rattle.std.proofs.lemmas.Option.{slice_get-get_or}
-use Rattle.certificate.specs.View.{conclusion_of, line_of}
+use Rattle.certificate.specs.View.{line_of}
 use Rattle.cert_check.proofs.Checked.{at_there}
 use Rattle.cert_check.proofs.derivation.conclusion_at.Goals as goal
 

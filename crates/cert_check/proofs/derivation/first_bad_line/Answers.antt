@@ -1,4 +1,4 @@
-use Rattle.std.proofs.Common.{◌≡◌, length, refl, slice_get, Some, false, true, ◌∙◌, sym, below_more, arith}
+use Rattle.std.proofs.Common.{length, refl, ◌∙◌, sym, below_more, arith}
 use Rattle.std.proofs.lemmas.Bool.{false≢true}
 use Rattle.std.proofs.lemmas.List.{length-map}
 use Rattle.std.proofs.lemmas.Option.{slice_get_read, slice_get_within}

@@ -1,5 +1,6 @@
-use Rattle.interpretation_spec.specs.Numbered.{IsMadeFor}
+use Rattle.std.proofs.Common.{take}
+use Rattle.cert_check.specs.Additions.{PutsIndividuals}
 use Rattle.cert_check.proofs.listing.put_individuals.Given as goal
 
 abbrev pub invariant-loop-i : goal.invariant-loop-i
-invariant-loop-i l = IsMadeFor l.ontology.names l.interpretation
+invariant-loop-i l = PutsIndividuals (take l.i l.elements) l.initial.interpretation l.interpretation

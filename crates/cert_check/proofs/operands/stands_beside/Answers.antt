@@ -1,9 +1,8 @@
-use Rattle.std.proofs.Common.{◌≡◌, length, map, below_more, eqb, false, sym, ◌∙◌, arith}
-use Rattle.std.proofs.lemmas.Bool.{eqb-false, eqb-true}
-use Rattle.std.proofs.lemmas.Option.{slice_get_within, slice_get-get_or}
+use Rattle.std.proofs.Common.{below_more, sym, ◌∙◌, arith}
+use Rattle.std.proofs.lemmas.Bool.{eqb-false}
+use Rattle.std.proofs.lemmas.Option.{slice_get_within}
 use Rattle.std.proofs.lemmas.List.{length-map}
 use Rattle.axioms.specs.View.{expr_numbers}
-use Rattle.axioms.proofs.Lists.{slice_get_map}
 use Rattle.cert_check.proofs.Places.{number_at, neither}
 use Rattle.cert_check.proofs.operands.stands_beside.Goals as goal
 use Rattle.cert_check.proofs.operands.stands_beside.Goals.{else-i-place-via-then-i-place+else-eq, else-i-place-via-else-i-place}

@@ -1,4 +1,4 @@
-use Rattle.std.proofs.Common.{length, refl, false, replicate, string_bytes, ◌≡◌, ◌∙◌, ap}
+use Rattle.std.proofs.Common.{length, refl, false, replicate, string_bytes, ◌∙◌, ap}
 use Rattle.std.proofs.lemmas.Option.{slice_get_read}
 use Rattle.cert_check.proofs.Rowwise.{class_rows_start, class_rows_more, counted}
 use Rattle.cert_check.proofs.superclasses.class_rows.Goals as goal

@@ -1,4 +1,4 @@
-use Rattle.std.proofs.Common.{length, refl, false, replicate, string_bytes, ◌≡◌, ◌∙◌, ap, ap₂}
+use Rattle.std.proofs.Common.{length, refl, false, replicate, string_bytes, ◌∙◌, ap₂}
 use Rattle.std.proofs.lemmas.Option.{slice_get_read}
 use Rattle.axioms.proofs.Lists.{mapped}
 use Rattle.certificate.specs.HasText.{IsLineOf}

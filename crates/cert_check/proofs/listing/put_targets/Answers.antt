@@ -1,0 +1,28 @@
+use Rattle.std.proofs.Common.{◌≡◌, Some, get_or, length, slice_get, Contains, List, ℕ, ap, subst, arith}
+use Rattle.std.proofs.lemmas.List.{take_all}
+use Rattle.std.proofs.lemmas.Option.{slice_get-get_or}
+use Rattle.cert_check.specs.Additions.{AddsPairs}
+use Rattle.cert_check.proofs.Additions.{pair_step, went_well}
+use Rattle.cert_check.proofs.listing.put_targets.Goals as goal
+
+pub loop-target-preserved : goal.loop-target-preserved
+loop-target-preserved c =
+    let row = c.args.row.now in
+    let items = c.deref-target-items.result.now in
+    let k = c.loop-target.target-index in
+    let y = get_or items k 0 in
+    let there : slice_get row.targets.items k ≡ Some y =
+    subst (λ (ys : List ℕ). slice_get ys k ≡ Some y) c.deref-target-items.ensures.value (slice_get-get_or items k 0 c.loop-target-test.true) in
+    let well = went_well c.put_pair.result c.is_err.result c.is_err.ensures.negation c.if-is_err.false c.put_pair.ensures.after in
+    let taken = (went_well c.put_pair.result c.is_err.result c.is_err.ensures.negation c.if-is_err.false c.put_pair.ensures.taken).1 in
+    pair_step row.property.0 row.source row.targets.items k y there
+    c.args.interpretation.now c.loop-target.interpretation c.put_pair.new.self
+    c.size.ensures.valid taken.0 taken.1 well.1 c.loop-target.invariant
+
+pub returns : goal.returns
+returns c =
+    let row = c.args.row.now in
+    let value = c.deref-target-items.ensures.value in
+    let long : length c.deref-target-items.result.now ≡ length row.targets.items = ap length value in
+    subst (λ (ys : List ℕ). AddsPairs (λ r x y. (row.property.0 ≡ r) × (row.source ≡ x) × Contains ys y) c.args.interpretation.now c.loop-target.interpretation)
+    (take_all c.loop-target.target-index row.targets.items (omega arith)) c.loop-target.invariant
