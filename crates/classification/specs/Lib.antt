@@ -1,3 +1,6 @@
 pub mod Derivation
 pub mod Relation
 pub mod Classified
+pub mod Elements
+pub mod Countermodel
+pub mod Shown

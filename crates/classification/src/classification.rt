@@ -1,19 +1,29 @@
 //! A classification with its texts.
 ghost use Rattle.axioms.specs.Numbered.{nothing, thing};
-ghost use Rattle.classification.specs.Classified.{IsClassifiable, IsOutcomeOf};
+ghost use Rattle.cert_check.specs.Acceptable.{IsAcceptable};
+ghost use Rattle.certificate.specs.HasText.{HasText};
+ghost use Rattle.classification.specs.Classified.{AreCountsOf, AreTextsOf, IsClassifiable, IsOutcomeOf};
+ghost use Rattle.classification.specs.Shown.{AreLinesOf, IsListedWhere};
 ghost use Rattle.hierarchy.specs.Contexts.{AreSuperclasses};
-ghost use Rattle.std.specs.Prelude.{◌≡◌, IfOk, not};
+ghost use Rattle.hierarchy.specs.Superclasses.{HasMoreFactsThan};
+ghost use Rattle.std.specs.Prelude.{◌≡◌, ◌<◌, ◌≤◌, Err, IfOk, length, not};
 ghost use Rattle.taxonomy.specs.Relation.{IsSquare, lies_below};
 
 use crate::derivation::derivation_lines;
 use crate::listing::{NOTHING, listed};
 use crate::relation::relation_rows;
-use axioms::{Memory, Ontology};
+use axioms::{ExprId, Memory, Ontology};
 use certificate::{Certificate, certificate_bytes};
 use hierarchy::{Hierarchy, Stop, close};
 use interpretation_spec::Row;
 use std::alloc::Global;
 use taxonomy::{Outcome, Relation, instances_bytes, reduce, taxonomy_bytes};
+
+/// The expression of `owl:Thing`.
+const THING: usize = 0;
+
+/// A certificate can number fewer axioms than these.
+const MOST_AXIOMS: usize = 1 << 32;
 
 /// What a classification counts.
 #[derive(Clone, Copy, Debug, PartialEq, Eq)]
@@ -38,12 +48,10 @@ pub struct Classification {
 
 /// Whether `owl:Nothing` is no superclass of `owl:Thing`.
 fn is_consistent(rows: &[Row]) -> bool
+    requires { thing < length rows.now }
     ensures { result ≡ not (lies_below rows.now thing nothing) }
 {
-    match rows.first() {
-        Some(row) => !row.contains(NOTHING),
-        None => true,
-    }
+    !rows[THING].contains(NOTHING)
 }
 
 /// What the superclasses say: the relation of the classes, or that there is no interpretation.
@@ -68,25 +76,46 @@ fn certificate_of(
 ) -> Result<Certificate, Memory>
     requires classifiable { IsClassifiable ontology.now }
     requires superclasses { AreSuperclasses ontology.now hierarchy.now }
+    requires consistent { consistent ≡ not (lies_below hierarchy.now.rows.items thing nothing) }
+    ensures text { IfOk result (λ c. HasText ontology.now c) }
+    ensures lines { IfOk result (λ c. AreLinesOf ontology.now c.lines) }
+    ensures listed { IfOk result (λ c. IsListedWhere ontology.now consistent c.listed) }
 {
     let lines = derivation_lines(alloc, &hierarchy.contexts)?;
     let listed = if consistent {
-        Some(listed(alloc, &hierarchy.contexts, &hierarchy.rows)?)
+        Some(listed(alloc, ontology, hierarchy)?)
     } else {
         None
     };
     match Certificate::new(ontology, lines, listed) {
         Ok(certificate) => Ok(certificate),
-        Err(_) => Err(Memory),
+        Err(_) => {
+            // Only where the axioms are too many for their numbers to be written.
+            let too_many = ontology.axioms().len() >= MOST_AXIOMS;
+            prove!(too_many);
+            Err(Memory)
+        }
     }
 }
 
 /// The classification of an ontology whose closure has at most `max_facts` facts.
 ///
-/// No contract yet: that the checker accepts the texts is not proved.
+/// # Errors
+///
+/// `Limit` where the closure has more facts, and `Memory` where memory was refused before that was seen, or where there
+/// are 2 ^ 32 axioms or more, which a certificate cannot number.
 pub fn classify(alloc: Global, ontology: &Ontology, max_facts: u64) -> Result<Classification, Stop>
     requires { IsClassifiable ontology.now }
+    ensures counts { IfOk result (λ c. AreCountsOf ontology.now c.summary) }
+    ensures within { IfOk result (λ c. c.summary.facts ≤ max_facts) }
+    ensures texts { IfOk result (λ c. AreTextsOf ontology.now c.summary.consistent c.taxonomy.items c.instances.items) }
+    // The certificate shows that the taxonomy and the instances are right.
+    ensures acceptable { IfOk result
+        (λ c. IsAcceptable ontology.now c.taxonomy.items c.instances.items c.certificate.items) }
+    ensures limit { result ≡ Err Stop.Limit → HasMoreFactsThan ontology.now max_facts }
 {
+    // Each look-up says that the ontology is well formed.
+    let _thing = ontology.expr(ExprId(THING));
     let hierarchy = close(alloc, ontology, max_facts)?;
     let consistent = is_consistent(&hierarchy.rows);
     let certificate = certificate_of(alloc, ontology, &hierarchy, consistent)?;

@@ -8,3 +8,6 @@ mod relation;
 
 pub use classification::{Classification, Summary, classify};
 pub use hierarchy::Stop;
+
+#[cfg(test)]
+mod tests;

@@ -1,9 +1,18 @@
 //! The interpretation that the superclasses list: an element for each satisfiable class, in the classes above it.
-ghost use Rattle.std.specs.Prelude.{◌<◌, ◌≤◌, ◌^◌, IfOk, length, vec_len};
+ghost use Rattle.axioms.specs.Numbered.{nothing, thing};
+ghost use Rattle.axioms.specs.View.{expr_numbers};
+ghost use Rattle.certificate.specs.HasText.{IsListedOf, listed_numbers};
+ghost use Rattle.certificate.specs.View.{claim_of, class_row_of, listed_of};
+ghost use Rattle.classification.specs.Classified.{IsClassifiable};
+ghost use Rattle.classification.specs.Countermodel.{IsCountermodel};
+ghost use Rattle.classification.specs.Elements.{AreMembers, AreOnce, IsAddedTo, claims_of, class_rows_of, list_at, lists_of, satisfiable};
+ghost use Rattle.hierarchy.specs.Contexts.{AreSuperclasses, classes};
+ghost use Rattle.std.specs.Prelude.{◌++◌, ◌<◌, ◌≡◌, ◌^◌, ◌∷◌, All, IfOk, OnOk, Some, [], false, length, map, replicate, slice_set, vec_len};
+ghost use Rattle.taxonomy.specs.Relation.{lies_below};
 
-use axioms::{ExprId, Memory};
+use axioms::{ExprId, Memory, Ontology};
 use certificate::{Claim, ClassRow, Listed};
-use hierarchy::Superclass;
+use hierarchy::{Hierarchy, Superclass};
 use interpretation_spec::Row;
 use std::alloc::Global;
 
@@ -12,7 +21,7 @@ pub(crate) const NOTHING: usize = 1;
 
 /// The satisfiable classes, ascending: their places are the elements.
 fn elements(alloc: Global, rows: &[Row]) -> Result<Vec<ExprId>, Memory>
-    ensures { IfOk result (λ v. vec_len v ≤ length rows.now) }
+    ensures { IfOk result (λ v. expr_numbers v.items ≡ satisfiable rows.now) }
 {
     let mut elements = Vec::new(alloc);
     for (class, row) in rows.iter().enumerate() {
@@ -23,7 +32,10 @@ fn elements(alloc: Global, rows: &[Row]) -> Result<Vec<ExprId>, Memory>
     Ok(elements)
 }
 
-fn empty_lists(alloc: Global, classes: usize) -> Result<Vec<Vec<u32>>, Memory> {
+/// An empty list for each class.
+fn empty_lists(alloc: Global, classes: usize) -> Result<Vec<Vec<u32>>, Memory>
+    ensures { IfOk result (λ v. lists_of v.items ≡ replicate classes []) }
+{
     let mut lists = Vec::new(alloc);
     for _class in 0..classes {
         lists.push(Vec::new(alloc))?;
@@ -31,16 +43,27 @@ fn empty_lists(alloc: Global, classes: usize) -> Result<Vec<Vec<u32>>, Memory> {
     Ok(lists)
 }
 
+/// Adds the element to the list of the class.
+fn add_to(lists: &mut Vec<Vec<u32>>, class: ExprId, element: u32) -> Result<(), Memory>
+    requires { class.0 < vec_len lists.old }
+    ensures { OnOk result (lists_of lists.new.items
+        ≡ slice_set (lists_of lists.old.items) class.0 (list_at (lists_of lists.old.items) class.0 ++ element ∷ [])) }
+{
+    lists[class.0].push(element)?;
+    Ok(())
+}
+
 /// Adds the element to the list of each of its superclasses.
 fn add_element(
     lists: &mut Vec<Vec<u32>>,
     superclasses: &[Superclass],
     element: u32,
-) -> Result<(), Memory> {
+) -> Result<(), Memory>
+    requires { AreOnce (vec_len lists.old) (classes superclasses.now) }
+    ensures { OnOk result (IsAddedTo (classes superclasses.now) element (lists_of lists.old.items) (lists_of lists.new.items)) }
+{
     for superclass in superclasses {
-        if superclass.class.0 < lists.len() {
-            lists[superclass.class.0].push(element)?;
-        }
+        add_to(lists, superclass.class, element)?;
     }
     Ok(())
 }
@@ -51,19 +74,22 @@ fn members(
     contexts: &[Vec<Superclass>],
     elements: &[ExprId],
 ) -> Result<Vec<Vec<u32>>, Memory>
-    requires { length elements.now < 2 ^ 32 }
+    requires few { length elements.now < 2 ^ 32 }
+    requires within { All (λ e. e.0 < length contexts.now) elements.now }
+    requires once { All (λ list. AreOnce (length contexts.now) (classes list.items)) contexts.now }
+    ensures { IfOk result (λ v. AreMembers contexts.now (expr_numbers elements.now) (length elements.now) (lists_of v.items)) }
 {
     let mut lists = empty_lists(alloc, contexts.len())?;
     for (element, class) in elements.iter().enumerate() {
-        if class.0 < contexts.len() {
-            add_element(&mut lists, &contexts[class.0], element as u32)?;
-        }
+        add_element(&mut lists, &contexts[class.0], element as u32)?;
     }
     Ok(lists)
 }
 
 /// The rows of the classes that have elements, but for `owl:Thing` and `owl:Nothing`.
-fn class_rows(alloc: Global, members: Vec<Vec<u32>>) -> Result<Vec<ClassRow>, Memory> {
+fn class_rows(alloc: Global, members: Vec<Vec<u32>>) -> Result<Vec<ClassRow>, Memory>
+    ensures { IfOk result (λ v. map class_row_of v.items ≡ class_rows_of (lists_of members.items)) }
+{
     let mut rows = Vec::new(alloc);
     for (class, elements) in members.into_iter().enumerate() {
         if class > NOTHING && !elements.is_empty() {
@@ -79,6 +105,7 @@ fn class_rows(alloc: Global, members: Vec<Vec<u32>>) -> Result<Vec<ClassRow>, Me
 /// Each satisfiable class is claimed at its element.
 fn claims(alloc: Global, elements: &[ExprId]) -> Result<Vec<Claim>, Memory>
     requires { length elements.now < 2 ^ 32 }
+    ensures { IfOk result (λ v. map claim_of v.items ≡ claims_of (expr_numbers elements.now)) }
 {
     let mut claims = Vec::new(alloc);
     for (element, class) in elements.iter().enumerate() {
@@ -90,16 +117,25 @@ fn claims(alloc: Global, elements: &[ExprId]) -> Result<Vec<Claim>, Memory>
     Ok(claims)
 }
 
-/// The listed interpretation of these superclasses.
+/// The listed interpretation of these superclasses, which is a model in which an element of each satisfiable class is in
+/// no class but its superclasses.
 pub(crate) fn listed(
     alloc: Global,
-    contexts: &[Vec<Superclass>],
-    rows: &[Row],
+    ontology: &Ontology,
+    hierarchy: &Hierarchy,
 ) -> Result<Listed, Memory>
-    requires { length rows.now < 2 ^ 32 }
+    requires classifiable { IsClassifiable ontology.now }
+    requires superclasses { AreSuperclasses ontology.now hierarchy.now }
+    requires consistent { lies_below hierarchy.now.rows.items thing nothing ≡ false }
+    ensures countermodel { IfOk result (λ l. IsCountermodel ontology.now (listed_of l)) }
+    // A certificate of it can be written.
+    ensures text { IfOk result (λ l. IsListedOf ontology.now (listed_of l)) }
+    ensures numbers { IfOk result (λ l. All (λ n. n < 2 ^ 32) (listed_numbers (Some (listed_of l)))) }
 {
-    let elements = elements(alloc, rows)?;
-    let members = members(alloc, contexts, &elements)?;
+    // A look-up says that the ontology is well formed.
+    let _thing = ontology.expr(ExprId(0));
+    let elements = elements(alloc, &hierarchy.rows)?;
+    let members = members(alloc, &hierarchy.contexts, &elements)?;
     let domain = elements.len() as u32;
     let classes = class_rows(alloc, members)?;
     let claims = claims(alloc, &elements)?;

@@ -1,4 +1,3 @@
-use Rattle.std.proofs.Common.{arith}
 use Rattle.classification.proofs.Rows.{filled_next}
 use Rattle.classification.proofs.relation.all_classes.Goals as goal
 
