@@ -17,10 +17,9 @@ pub trait Files {
     ghost content: { Self → List ℕ → Option (List ℕ) };
 
     /// A source of the bytes of the file at the path, which fails where there is none.
-    fn reader(&mut self, path: &str) -> Result<Self::In, Memory>
-        ensures left { IfOk result (λ source. Keeps (content self.old path.now) (Self.In.left source)) }
-        ensures failures { IfOk result (λ source. Self.In.failures source ≡ 0) }
-        ensures kept { (other : List ℕ) → Keeps (content self.old other) (content self.new other) };
+    fn reader(&self, path: &str) -> Result<Self::In, Memory>
+        ensures left { IfOk result (λ source. Keeps (content self.now path.now) (Self.In.left source)) }
+        ensures failures { IfOk result (λ source. Self.In.failures source ≡ 0) };
 
     /// A sink that has taken nothing and makes the file at the path anew, which fails where that is not allowed.
     fn writer(&mut self, path: &str) -> Result<Self::Out, Memory>

@@ -42,7 +42,7 @@ impl<'a> Files for MemoryFiles<'a> {
 
     ghost content = { λ f path. file_at f.inputs.now path };
 
-    fn reader(&mut self, path: &str) -> Result<MemorySource<'a>, Memory> {
+    fn reader(&self, path: &str) -> Result<MemorySource<'a>, Memory> {
         let bytes = match find_file(self.inputs, path) {
             Some(bytes) => Some(SliceSource::new(bytes)),
             None => None,

@@ -32,7 +32,7 @@ impl<'r, R: rt::Files + AllocGlobal> Files for SystemFiles<'r, R> {
 
     ghost content = { λ _ _. None };
 
-    fn reader(&mut self, path: &str) -> Result<Self::In, Memory> {
+    fn reader(&self, path: &str) -> Result<Self::In, Memory> {
         let file = FileReader {
             runtime: self.runtime,
             path: self.owned(path)?,
