@@ -1,14 +1,91 @@
 -- Known bytes that stay, and known bytes that are all read.
-use Rattle.std.proofs.Common.{◌≡◌, ℕ, ◌++◌, List, Option, Some, None, refl, ap, ◌∙◌}
+use Rattle.std.proofs.Common.{ℕ, ◌++◌, ◌≤◌, List, length, Option, Some, None, refl, sym, ap, subst, ◌∙◌}
 use Rattle.std.proofs.lemmas.List.{append-nil}
 use Rattle.std.specs.Io.KnownBytes.{Consumes, IsAtEnd, Keeps}
-use Rattle.cli.specs.Checked.{AreKnown}
+use Rattle.axioms.specs.Numbered.{Ontology}
+use Rattle.cert_check.specs.declared.verdict.Verdict.{Verdict}
+use Rattle.cli.specs.Checked.{AreKnown, IsChecked, IsCheckFault}
+use Rattle.cli.specs.Writing.{IsClassified, IsFaultOf, Texts}
+use Rattle.classification.specs.declared.classification.Summary.{Summary}
+use Rattle.cli.specs.declared.fault.CheckFault.{CheckFault}
+use Rattle.cli.specs.declared.fault.CheckFault.TheVariants as checking
+use Rattle.cli.specs.declared.fault.ClassifyFault.{ClassifyFault}
+use Rattle.cli.specs.declared.fault.ClassifyFault.TheVariants as classifying
+use Rattle.document.specs.Documents.{ReadsAs}
+use Rattle.document.specs.Faults.{ReadsKnown, RefusesKnown}
+use Rattle.document.specs.declared.fault.DocumentFault.{DocumentFault}
 
 pub keeps_same : (known : Option (List ℕ)) → Keeps known known
 keeps_same None = tt
 keeps_same (Some xs) = refl
 
+-- what stays in one call and in the next stays in both
+pub keeps_twice : (a b c : Option (List ℕ)) → Keeps a b → Keeps b c → Keeps a c
+keeps_twice None b c h k = tt
+keeps_twice (Some xs) None c h k = absurd h
+keeps_twice (Some xs) (Some ys) None h k = absurd k
+keeps_twice (Some xs) (Some ys) (Some zs) h k = k ∙ h
+
 pub all_known : (left rest : Option (List ℕ)) (bytes : List ℕ) → Consumes left rest bytes → IsAtEnd rest → AreKnown left bytes
 all_known None rest bytes all end = tt
 all_known (Some xs) None bytes all end = absurd all
 all_known (Some xs) (Some ys) bytes all end = all ∙ ap (λ zs. bytes ++ zs) end ∙ append-nil bytes
+
+-- ---- what holds of a source's bytes holds of those of its file
+
+pub reads_file : (file left : Option (List ℕ)) (most : ℕ) (o : Ontology) → Keeps file left → ReadsKnown left most o → ReadsKnown file most o
+reads_file None left most o kept reads = tt
+reads_file (Some xs) None most o kept reads = absurd kept
+reads_file (Some xs) (Some ys) most o kept reads =
+    let P : List ℕ → Type 0 = λ bytes. ReadsAs bytes o × (length bytes ≤ most) in
+    subst P kept reads
+
+pub refuses_file : (file left : Option (List ℕ)) (most : ℕ) (fault : DocumentFault) → Keeps file left → RefusesKnown left most fault → RefusesKnown file most fault
+refuses_file None left most fault kept refuses = tt
+refuses_file (Some xs) None most fault kept refuses = absurd kept
+refuses_file (Some xs) (Some ys) most fault kept refuses =
+    let P : List ℕ → Type 0 = λ bytes. RefusesKnown (Some bytes) most fault in
+    subst P kept refuses
+
+known_file : (file left : Option (List ℕ)) (bytes : List ℕ) → Keeps file left → AreKnown left bytes → AreKnown file bytes
+known_file None left bytes kept known = tt
+known_file (Some xs) None bytes kept known = absurd kept
+known_file (Some xs) (Some ys) bytes kept known = sym kept ∙ known
+
+pub classified_file : (file left : Option (List ℕ)) (bytes facts : ℕ) (summary : Summary) (texts : Texts) → Keeps file left → IsClassified bytes facts left summary texts → IsClassified bytes facts file summary texts
+classified_file file left bytes facts summary texts kept is = record {
+  ontology = is.ontology;
+  reads = reads_file file left bytes is.ontology kept is.reads;
+  well_formed = is.well_formed;
+  counts = is.counts;
+  within = is.within;
+  texts_are = is.texts_are;
+  acceptable = is.acceptable;
+}
+
+pub fault_of_file : (file left : Option (List ℕ)) (bytes facts : ℕ) (fault : ClassifyFault) → Keeps file left → IsFaultOf bytes facts left fault → IsFaultOf bytes facts file fault
+fault_of_file file left bytes facts (classifying.Document fault) kept is = refuses_file file left bytes fault kept is
+fault_of_file file left bytes facts classifying.Memory kept is = tt
+fault_of_file file left bytes facts classifying.Limit kept is = (is.0, reads_file file left bytes is.0 kept is.1, is.2)
+fault_of_file file left bytes facts (classifying.Io n) kept is = (is.0, is.1, (is.2.0, is.2.1, classified_file file left bytes facts is.2.0 is.2.1 kept is.2.2))
+
+pub check_fault_of_file : (file left : Option (List ℕ)) (most : ℕ) (fault : CheckFault) → Keeps file left → IsCheckFault most left fault → IsCheckFault most file fault
+check_fault_of_file file left most (checking.Document fault) kept is = refuses_file file left most fault kept is
+check_fault_of_file file left most checking.Memory kept is = tt
+check_fault_of_file file left most (checking.Io n) kept is = (is.0, is.1, (is.2.0, reads_file file left most is.2.0 kept is.2.1))
+
+-- a check of sources is one of their files
+pub checked_files : (most : ℕ) (d d' t t' i i' c c' : Option (List ℕ)) (o : Ontology) (verdict : Verdict) → Keeps d d' → Keeps t t' → Keeps i i' → Keeps c c' → IsChecked most d' t' i' c' o verdict → IsChecked most d t i c o verdict
+checked_files most d d' t t' i i' c c' o verdict kd kt ki kc checked = record {
+  reads = reads_file d d' most o kd checked.reads;
+  well_formed = checked.well_formed;
+  taxonomy_text = checked.taxonomy_text;
+  instances_text = checked.instances_text;
+  certificate_text = checked.certificate_text;
+  taxonomy_is = known_file t t' checked.taxonomy_text kt checked.taxonomy_is;
+  instances_is = known_file i i' checked.instances_text ki checked.instances_is;
+  certificate_is = known_file c c' checked.certificate_text kc checked.certificate_is;
+  judged = checked.judged;
+  accepted = checked.accepted;
+  right = checked.right;
+}

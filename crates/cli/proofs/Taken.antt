@@ -1,5 +1,5 @@
 -- What a document reads as can be classified.
-use Rattle.std.proofs.Common.{◌≡◌, ap, ◌∙◌, sym, slice_get, length}
+use Rattle.std.proofs.Common.{ap, ◌∙◌, sym, slice_get, length}
 use Rattle.axioms.specs.Numbered.{Ontology}
 use Rattle.classification.specs.Classified.{IsClassifiable}
 use Rattle.document.proofs.OneMore.{class_node, length_nodes}

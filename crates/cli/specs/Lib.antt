@@ -1,2 +1,6 @@
+pub mod Devices
+pub mod Printed
 pub mod Writing
 pub mod Checked
+pub mod Performed
+pub mod Theorems

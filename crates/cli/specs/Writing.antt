@@ -1,8 +1,82 @@
--- What an answer of the classifier says of what was written.
+-- What a classification of a document writes.
+use Rattle.std.specs.Prelude.{◌≡◌, ◌≤◌, ℕ, zero, suc, List, Option, Result, Ok, Err}
+use Rattle.axioms.specs.Numbered.{Ontology}
+use Rattle.axioms.specs.WellFormed.{IsOntology}
+use Rattle.cert_check.specs.Acceptable.{IsAcceptable}
+use Rattle.classification.specs.Classified.{AreCountsOf, AreTextsOf}
+use Rattle.classification.specs.declared.classification.Classification.{Classification}
+use Rattle.classification.specs.declared.classification.Summary.{Summary}
+use Rattle.cli.specs.Devices.{Device, Takes, FailsIn}
 use Rattle.cli.specs.declared.fault.ClassifyFault.{ClassifyFault}
-use Rattle.cli.specs.declared.fault.ClassifyFault.TheVariants.{Io}
+use Rattle.cli.specs.declared.fault.ClassifyFault.TheVariants.{Document, Memory, Limit, Io}
+use Rattle.document.specs.Faults.{ReadsKnown, RefusesKnown}
+use Rattle.hierarchy.specs.Superclasses.{HasMoreFactsThan}
+
+-- what takes the three texts
+pub record Sinks : Type 0 where
+  pub taxonomy : Device
+  pub instances : Device
+  pub certificate : Device
+
+pub record Texts : Type 0 where
+  pub taxonomy : List ℕ
+  pub instances : List ℕ
+  pub certificate : List ℕ
+
+-- each sink has taken the whole of its text
+abbrev pub AreWritten : (old new : Sinks) → Texts → Type 0
+AreWritten old new texts =
+    Takes old.taxonomy new.taxonomy texts.taxonomy × Takes old.instances new.instances texts.instances × Takes old.certificate new.certificate texts.certificate
+
+-- the sink of that number failed: those before it have taken the whole of their texts, it a beginning of its text, and
+-- those behind it nothing
+abbrev pub AreWrittenUntil : ℕ → (old new : Sinks) → Texts → Type 0
+AreWrittenUntil (suc zero) old new texts =
+    FailsIn old.taxonomy new.taxonomy texts.taxonomy × (new.instances ≡ old.instances) × (new.certificate ≡ old.certificate)
+AreWrittenUntil (suc (suc zero)) old new texts =
+    Takes old.taxonomy new.taxonomy texts.taxonomy × FailsIn old.instances new.instances texts.instances × (new.certificate ≡ old.certificate)
+AreWrittenUntil (suc (suc (suc zero))) old new texts =
+    Takes old.taxonomy new.taxonomy texts.taxonomy × Takes old.instances new.instances texts.instances × FailsIn old.certificate new.certificate texts.certificate
+AreWrittenUntil n old new texts = ⊥
+
+-- the document, of at most so many bytes, reads as an ontology whose closure has at most so many facts; these are its counts
+-- and its texts, and the certificate shows that the other two are right
+pub record IsClassified (most_bytes most_facts : ℕ) (document : Option (List ℕ)) (summary : Summary) (texts : Texts) : Type 0 where
+  pub ontology : Ontology
+  pub reads : ReadsKnown document most_bytes ontology
+  pub well_formed : IsOntology ontology
+  pub counts : AreCountsOf ontology summary
+  pub within : summary.facts ≤ most_facts
+  pub texts_are : AreTextsOf ontology summary.consistent texts.taxonomy texts.instances
+  pub acceptable : IsAcceptable ontology texts.taxonomy texts.instances texts.certificate
+
+-- the document reads as an ontology whose closure has more facts
+abbrev pub HasTooManyFacts : (most_bytes most_facts : ℕ) → (document : Option (List ℕ)) → Type 0
+HasTooManyFacts bytes facts document = (o : Ontology) × ReadsKnown document bytes o × HasMoreFactsThan o facts
+
+-- what a fault says of the document; it numbers the sinks from 1
+abbrev pub IsFaultOf : (most_bytes most_facts : ℕ) → (document : Option (List ℕ)) → ClassifyFault → Type 0
+IsFaultOf bytes facts document (Document fault) = RefusesKnown document bytes fault
+IsFaultOf bytes facts document Memory = Unit {0}
+IsFaultOf bytes facts document Limit = HasTooManyFacts bytes facts document
+IsFaultOf bytes facts document (Io n) = (1 ≤ n) × (n ≤ 3) × ((summary : Summary) × (texts : Texts) × IsClassified bytes facts document summary texts)
+
+-- what was written where the answer is this fault: nothing where it came before the writing
+abbrev pub IsUnwritten : (most_bytes most_facts : ℕ) → (document : Option (List ℕ)) → (old new : Sinks) → ClassifyFault → Type 0
+IsUnwritten bytes facts document old new (Io n) =
+    (summary : Summary) × (texts : Texts) × IsClassified bytes facts document summary texts × AreWrittenUntil n old new texts
+IsUnwritten bytes facts document old new fault = new ≡ old
+
+-- what an answer says of the document and of what was written
+abbrev pub IsClassification : (most_bytes most_facts : ℕ) → (document : Option (List ℕ)) → (old new : Sinks) → Result Summary ClassifyFault → Type 0
+IsClassification bytes facts document old new (Ok summary) = (texts : Texts) × IsClassified bytes facts document summary texts × AreWritten old new texts
+IsClassification bytes facts document old new (Err fault) = IsFaultOf bytes facts document fault × IsUnwritten bytes facts document old new fault
+
+-- the texts of a classification in memory
+abbrev pub texts_of : Classification → Texts
+texts_of c = record { taxonomy = c.taxonomy.items; instances = c.instances.items; certificate = c.certificate.items }
 
 -- the answer came before anything was written
 abbrev pub IsBeforeWriting : ClassifyFault → Type 0
 IsBeforeWriting (Io number) = ⊥
-IsBeforeWriting _ = Unit {0}
+IsBeforeWriting fault = Unit {0}

@@ -1,10 +1,11 @@
 //! Classification of a document.
-ghost use Rattle.cli.specs.Writing.{IsBeforeWriting};
+ghost use Rattle.cli.specs.Writing.{IsBeforeWriting, IsClassification, IsClassified, IsFaultOf, Sinks, texts_of};
 ghost use Rattle.device.specs.Device.{HasFailed};
-ghost use Rattle.std.specs.Io.KnownBytes.{Keeps};
-ghost use Rattle.std.specs.Prelude.{◌≡◌, Err, IfErr};
+ghost use Rattle.document.specs.declared.fault.DocumentFault.TheVariants as reading;
+ghost use Rattle.std.specs.Prelude.{◌≡◌, Err, IfErr, IfOk};
 
 use crate::fault::ClassifyFault;
+use axioms::ExprId;
 use classification::{Classification, Stop, Summary, classify};
 use device::{Sink, Source, write_all};
 use document::{Limits, read_document};
@@ -18,12 +19,17 @@ fn classified<S: Source>(
     limits: &Limits,
     state: RandomState,
 ) -> Result<Classification, ClassifyFault>
-    ensures { IfErr result IsBeforeWriting }
+    ensures classified { IfOk result (λ c. IsClassified limits.now.max_bytes limits.now.max_facts (S.left source.old) c.summary (texts_of c)) }
+    ensures fault { IfErr result (IsFaultOf limits.now.max_bytes limits.now.max_facts (S.left source.old)) }
+    ensures before { IfErr result IsBeforeWriting }
+    ensures failed { result ≡ Err (ClassifyFault.Document reading.Io) → HasFailed (S.failures source.old) (S.failures source.new) }
 {
     let ontology = match read_document(alloc, source, limits, state) {
         Ok(ontology) => ontology,
         Err(fault) => return Err(ClassifyFault::Document(fault)),
     };
+    // What holds of every ontology.
+    let _ = ontology.expr(ExprId(0));
     match classify(alloc, &ontology, limits.max_facts) {
         Ok(classification) => Ok(classification),
         Err(Stop::Memory) => Err(ClassifyFault::Memory),
@@ -33,7 +39,6 @@ fn classified<S: Source>(
 
 /// Reads the document, classifies it, and writes the taxonomy, the instances and the certificate, in this order. All
 /// three are made in memory before anything is written.
-#[tactic(auto, using(crate::proofs::Kept::keeps_same))]
 pub fn classify_document<S: Source, T: Sink, I: Sink, C: Sink>(
     alloc: Global,
     source: &mut S,
@@ -43,14 +48,11 @@ pub fn classify_document<S: Source, T: Sink, I: Sink, C: Sink>(
     limits: &Limits,
     state: RandomState,
 ) -> Result<Summary, ClassifyFault>
-    // What is answered before anything is written has written nothing.
-    ensures taxonomy_kept { IfErr result (λ e. IsBeforeWriting e → Keeps (T.taken taxonomy.old) (T.taken taxonomy.new)) }
-    ensures instances_kept { IfErr result (λ e. IsBeforeWriting e → Keeps (I.taken instances.old) (I.taken instances.new)) }
-    ensures certificate_kept { IfErr result (λ e. IsBeforeWriting e → Keeps (C.taken certificate.old) (C.taken certificate.new)) }
-    // A sink is named only where it failed in this call.
-    ensures taxonomy_failed { result ≡ Err (ClassifyFault.Io 1) → HasFailed (T.failures taxonomy.old) (T.failures taxonomy.new) }
-    ensures instances_failed { result ≡ Err (ClassifyFault.Io 2) → HasFailed (I.failures instances.old) (I.failures instances.new) }
-    ensures certificate_failed { result ≡ Err (ClassifyFault.Io 3) → HasFailed (C.failures certificate.old) (C.failures certificate.new) }
+    // What the answer says of the document, and what each sink has taken; a sink is named only where it failed.
+    ensures answered { let old : Sinks = record { taxonomy = (T.taken taxonomy.old, T.failures taxonomy.old); instances = (I.taken instances.old, I.failures instances.old); certificate = (C.taken certificate.old, C.failures certificate.old) } in
+        let new : Sinks = record { taxonomy = (T.taken taxonomy.new, T.failures taxonomy.new); instances = (I.taken instances.new, I.failures instances.new); certificate = (C.taken certificate.new, C.failures certificate.new) } in
+        IsClassification limits.now.max_bytes limits.now.max_facts (S.left source.old) old new result }
+    ensures failed { result ≡ Err (ClassifyFault.Document reading.Io) → HasFailed (S.failures source.old) (S.failures source.new) }
 {
     let made = match classified(alloc, source, limits, state) {
         Ok(made) => made,

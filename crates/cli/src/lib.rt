@@ -1,11 +1,15 @@
 //! Documents in, texts and verdicts out: the calls that the program `elc` makes.
 #![tactic(auto)]
 
+ghost use Rattle.cli.specs.Theorems.{WhatIsWrittenIsAccepted};
+
 mod checking;
 mod classifying;
 mod fault;
 mod printing;
 mod run;
+#[cfg(test)]
+mod tests;
 
 pub use axioms::Ontology;
 pub use cert_check::{Reason, Verdict};
@@ -17,3 +21,9 @@ pub use document::{DocumentFault, Limits, read_document};
 pub use fault::{CheckFault, ClassifyFault};
 pub use run::perform;
 pub use system_files::Files;
+
+/// The texts that a classification of a document writes are accepted where the same document is checked: whatever
+/// `classify_document` wrote, `check_document` answers `Accepted` on it.
+pub fn what_is_written_is_accepted()
+    ensures { WhatIsWrittenIsAccepted }
+{}

@@ -1,4 +1,6 @@
 //! What the program prints, and its statuses.
+ghost use Rattle.cli.specs.Printed.{Output, IsPrinted, IsToldMessage, IsAnsweredMessage, IsDocumentText, IsClassifyText, IsCheckText, document_status, classify_status, check_status, name_at, reason_text as text_of_reason, summary_text, verdict_text, verdict_status, written_path as path_written, read_path as path_read, done, memory, out_of_memory, usage};
+ghost use Rattle.std.specs.Prelude.{◌≡◌, ℕ, IfOk, Ok, map, string_bytes};
 
 use crate::fault::{CheckFault, ClassifyFault};
 use axioms::Ontology;
@@ -31,18 +33,55 @@ pub(crate) const LIMIT: u8 = 5;
 pub(crate) const FILE: u8 = 6;
 
 /// Prints the text and gives the status; where the sink fails, that of a file.
-pub(crate) fn print<W: Sink>(sink: &mut W, text: &str, status: u8) -> u8 {
+pub(crate) fn print<W: Sink>(sink: &mut W, text: &str, status: u8) -> u8
+    ensures { IsPrinted (W.taken sink.old, W.failures sink.old) (W.taken sink.new, W.failures sink.new) text.now status result }
+{
     match write_all(sink, text.as_bytes()) {
         Ok(()) => status,
         Err(_) => FILE,
     }
 }
 
-/// Prints the message; where there was no memory for it, says that.
-pub(crate) fn tell<W: Sink>(sink: &mut W, message: Result<Message, AllocError>) -> u8 {
+/// Tells that there is no memory.
+pub(crate) fn tell_out_of_memory<E: Sink>(err: &mut E) -> u8
+    ensures { IsPrinted (E.taken err.old, E.failures err.old) (E.taken err.new, E.failures err.new) out_of_memory memory result }
+{
+    print(err, "out of memory\n", MEMORY)
+}
+
+/// Prints the message to `err`; where there was no memory for it, tells that.
+pub(crate) fn tell<E: Sink>(err: &mut E, message: Result<Message, AllocError>) -> u8
+    ensures { IsToldMessage (E.taken err.old, E.failures err.old) (E.taken err.new, E.failures err.new) message result }
+{
     match message {
-        Ok(message) => print(sink, message.text.as_str(), message.status),
-        Err(_) => print(sink, "out of memory\n", MEMORY),
+        Ok(message) => print(err, message.text.as_str(), message.status),
+        Err(_) => tell_out_of_memory(err),
+    }
+}
+
+/// Prints the message to `out`; where there was no memory for it, tells that.
+pub(crate) fn answer<O: Sink, E: Sink>(
+    out: &mut O,
+    err: &mut E,
+    message: Result<Message, AllocError>,
+) -> u8
+    ensures { let old : Output = record { out = (O.taken out.old, O.failures out.old); err = (E.taken err.old, E.failures err.old) } in
+        let new : Output = record { out = (O.taken out.new, O.failures out.new); err = (E.taken err.new, E.failures err.new) } in
+        IsAnsweredMessage old new message result }
+{
+    match message {
+        Ok(message) => print(out, message.text.as_str(), message.status),
+        Err(_) => tell_out_of_memory(err),
+    }
+}
+
+/// The message of this text, unless memory was refused for it.
+fn message_of(text: Result<String, AllocError>, status: u8) -> Result<Message, AllocError>
+    ensures { IfOk result (λ m. (text ≡ Ok m.text) × (m.status ≡ status)) }
+{
+    match text {
+        Ok(text) => Ok(Message { text, status }),
+        Err(error) => Err(error),
     }
 }
 
@@ -52,28 +91,36 @@ pub(crate) fn document_message(
     fault: &DocumentFault,
     path: &str,
     limits: &Limits,
-) -> Result<Message, AllocError> {
-    let (text, status) = match fault {
+) -> Result<Message, AllocError>
+    ensures { IfOk result (λ m. IsDocumentText path.now limits.now.max_bytes fault.now (string_bytes m.text) × (m.status ≡ document_status fault.now)) }
+{
+    match fault {
         DocumentFault::TooLarge => {
             let most = limits.max_bytes;
-            (format!(in alloc; "limit: more than {most} bytes\n")?, LIMIT)
+            message_of(format!(in alloc; "limit: more than {most} bytes\n"), LIMIT)
         }
-        DocumentFault::TooManyNames => (
-            String::from_str(alloc, "limit: more than 1000000 names\n")?,
+        DocumentFault::TooManyNames => message_of(
+            String::from_str(alloc, "limit: more than 1000000 names\n"),
             LIMIT,
         ),
-        DocumentFault::Io => (format!(in alloc; "cannot read {path}\n")?, FILE),
-        DocumentFault::Memory => (String::from_str(alloc, "out of memory\n")?, MEMORY),
-        fault => (format!(in alloc; "{fault}\n")?, REFUSED),
-    };
-    Ok(Message { text, status })
+        DocumentFault::Io => message_of(format!(in alloc; "cannot read {path}\n"), FILE),
+        DocumentFault::Memory => message_of(String::from_str(alloc, "out of memory\n"), MEMORY),
+        DocumentFault::NotUtf8 { .. }
+        | DocumentFault::Lex(_)
+        | DocumentFault::Parse(_)
+        | DocumentFault::WrongShape { .. } => message_of(format!(in alloc; "{fault}\n"), REFUSED),
+    }
 }
 
-/// The path that the number of a file stands for: 1 is the first.
-fn path_of<'a>(paths: &[&'a str], number: usize) -> &'a str {
-    match paths.get(number.wrapping_sub(1)) {
-        Some(path) => path,
-        None => "",
+/// The path of the file that is written as that number: 1 is the taxonomy's.
+fn written_path<'a>(paths: &Paths<'a>, number: usize) -> &'a str
+    ensures { result.now ≡ path_written paths.now number }
+{
+    match number {
+        1 => paths.taxonomy,
+        2 => paths.instances,
+        3 => paths.certificate,
+        _ => "",
     }
 }
 
@@ -83,23 +130,33 @@ pub(crate) fn classify_message(
     fault: &ClassifyFault,
     paths: &Paths<'_>,
     limits: &Limits,
-) -> Result<Message, AllocError> {
-    let (text, status) = match fault {
-        ClassifyFault::Document(fault) => {
-            return document_message(alloc, fault, paths.document, limits);
-        }
-        ClassifyFault::Memory => (String::from_str(alloc, "out of memory\n")?, MEMORY),
+) -> Result<Message, AllocError>
+    ensures { IfOk result (λ m. IsClassifyText paths.now limits.now.max_bytes limits.now.max_facts fault.now (string_bytes m.text) × (m.status ≡ classify_status fault.now)) }
+{
+    match fault {
+        ClassifyFault::Document(fault) => document_message(alloc, fault, paths.document, limits),
+        ClassifyFault::Memory => message_of(String::from_str(alloc, "out of memory\n"), MEMORY),
         ClassifyFault::Limit => {
             let most = limits.max_facts;
-            (format!(in alloc; "limit: more than {most} facts\n")?, LIMIT)
+            message_of(format!(in alloc; "limit: more than {most} facts\n"), LIMIT)
         }
         ClassifyFault::Io(number) => {
-            let written = [paths.taxonomy, paths.instances, paths.certificate];
-            let path = path_of(&written, *number);
-            (format!(in alloc; "cannot write {path}\n")?, FILE)
+            let path = written_path(paths, *number);
+            message_of(format!(in alloc; "cannot write {path}\n"), FILE)
         }
-    };
-    Ok(Message { text, status })
+    }
+}
+
+/// The path of the file that is read as that number: 2 is the taxonomy's.
+fn read_path<'a>(paths: &Paths<'a>, number: usize) -> &'a str
+    ensures { result.now ≡ path_read paths.now number }
+{
+    match number {
+        2 => paths.taxonomy,
+        3 => paths.instances,
+        4 => paths.certificate,
+        _ => "",
+    }
 }
 
 /// What to tell where the texts were not checked.
@@ -108,28 +165,23 @@ pub(crate) fn check_message(
     fault: &CheckFault,
     paths: &Paths<'_>,
     limits: &Limits,
-) -> Result<Message, AllocError> {
-    let (text, status) = match fault {
-        CheckFault::Document(fault) => {
-            return document_message(alloc, fault, paths.document, limits);
-        }
-        CheckFault::Memory => (String::from_str(alloc, "out of memory\n")?, MEMORY),
+) -> Result<Message, AllocError>
+    ensures { IfOk result (λ m. IsCheckText paths.now limits.now.max_bytes fault.now (string_bytes m.text) × (m.status ≡ check_status fault.now)) }
+{
+    match fault {
+        CheckFault::Document(fault) => document_message(alloc, fault, paths.document, limits),
+        CheckFault::Memory => message_of(String::from_str(alloc, "out of memory\n"), MEMORY),
         CheckFault::Io(number) => {
-            let read = [
-                paths.document,
-                paths.taxonomy,
-                paths.instances,
-                paths.certificate,
-            ];
-            let path = path_of(&read, *number);
-            (format!(in alloc; "cannot read {path}\n")?, FILE)
+            let path = read_path(paths, *number);
+            message_of(format!(in alloc; "cannot read {path}\n"), FILE)
         }
-    };
-    Ok(Message { text, status })
+    }
 }
 
 /// The line of counts.
-pub(crate) fn summary_message(alloc: Global, summary: &Summary) -> Result<Message, AllocError> {
+pub(crate) fn summary_message(alloc: Global, summary: &Summary) -> Result<Message, AllocError>
+    ensures { IfOk result (λ m. (string_bytes m.text ≡ summary_text summary.now) × (m.status ≡ done)) }
+{
     let answer = if summary.consistent {
         "consistent"
     } else {
@@ -138,16 +190,16 @@ pub(crate) fn summary_message(alloc: Global, summary: &Summary) -> Result<Messag
     let classes = summary.classes;
     let individuals = summary.individuals;
     let facts = summary.facts;
-    Ok(Message {
-        text: format!(in alloc;
-            "{answer} classes {classes} individuals {individuals} facts {facts}\n"
-        )?,
-        status: DONE,
-    })
+    message_of(
+        format!(in alloc; "{answer} classes {classes} individuals {individuals} facts {facts}\n"),
+        DONE,
+    )
 }
 
 /// The name of that number, or nothing where there is none.
-fn name_of(names: &[String], number: usize) -> &str {
+fn name_of(names: &[String], number: usize) -> &str
+    ensures { result.now ≡ name_at (map string_bytes names.now) number }
+{
     match names.get(number) {
         Some(name) => name.as_str(),
         None => "",
@@ -155,7 +207,9 @@ fn name_of(names: &[String], number: usize) -> &str {
 }
 
 /// The reason as it is printed.
-fn reason_text(alloc: Global, ontology: &Ontology, reason: &Reason) -> Result<String, AllocError> {
+fn reason_text(alloc: Global, ontology: &Ontology, reason: &Reason) -> Result<String, AllocError>
+    ensures { IfOk result (λ text. string_bytes text ≡ text_of_reason ontology.now reason.now) }
+{
     match reason {
         Reason::BadText { at } => format!(in alloc; "C1 at byte {at}"),
         Reason::BadLine { number } => format!(in alloc; "C2 line {number}"),
@@ -183,26 +237,21 @@ pub(crate) fn verdict_message(
     alloc: Global,
     ontology: &Ontology,
     verdict: &Verdict,
-) -> Result<Message, AllocError> {
+) -> Result<Message, AllocError>
+    ensures { IfOk result (λ m. (string_bytes m.text ≡ verdict_text ontology.now verdict.now) × (m.status ≡ verdict_status verdict.now)) }
+{
     match verdict {
-        Verdict::Accepted => Ok(Message {
-            text: String::from_str(alloc, "accepted\n")?,
-            status: DONE,
-        }),
+        Verdict::Accepted => message_of(String::from_str(alloc, "accepted\n"), DONE),
         Verdict::Rejected(reason) => {
             let reason = reason_text(alloc, ontology, reason)?;
-            Ok(Message {
-                text: format!(in alloc; "rejected: {reason}\n")?,
-                status: REJECTED,
-            })
+            message_of(format!(in alloc; "rejected: {reason}\n"), REJECTED)
         }
     }
 }
 
 /// What to tell of words that ask for nothing that the program does.
-pub(crate) fn usage_message(alloc: Global, fault: &clap::Error) -> Result<Message, AllocError> {
-    Ok(Message {
-        text: format!(in alloc; "{fault}")?,
-        status: USAGE,
-    })
+pub(crate) fn usage_message(alloc: Global, fault: &clap::Error) -> Result<Message, AllocError>
+    ensures { IfOk result (λ m. m.status ≡ usage) }
+{
+    message_of(format!(in alloc; "{fault}"), USAGE)
 }

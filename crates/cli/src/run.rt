@@ -1,11 +1,14 @@
 //! A whole run of the program.
+ghost use Rattle.cli.specs.Performed.{AskForNoClassification, IsCheckRun, IsClassifyRun, IsPerformed};
+ghost use Rattle.cli.specs.Printed.{IsLineTold, Output};
+ghost use Rattle.std.specs.Io.KnownBytes.{Keeps};
+ghost use Rattle.std.specs.Prelude.{◌≡◌, ℕ, List, map};
 
 use crate::checking::checked;
 use crate::classifying::classify_document;
-use crate::fault::{CheckFault, ClassifyFault};
 use crate::printing::{
-    MEMORY, USAGE, check_message, classify_message, print, summary_message, tell, usage_message,
-    verdict_message,
+    answer, check_message, classify_message, summary_message, tell, tell_out_of_memory,
+    usage_message, verdict_message,
 };
 use command_line::{LineFault, Paths, Task, task};
 use device::Sink;
@@ -23,20 +26,25 @@ fn perform_classify<F: Files, O: Sink, E: Sink>(
     out: &mut O,
     err: &mut E,
     state: RandomState,
-) -> u8 {
+) -> u8
+    ensures run { let old : Output = record { out = (O.taken out.old, O.failures out.old); err = (E.taken err.old, E.failures err.old) } in
+        let new : Output = record { out = (O.taken out.new, O.failures out.new); err = (E.taken err.new, E.failures err.new) } in
+        IsClassifyRun paths.now limits.now.max_facts limits.now.max_bytes (F.content files.old) old new result }
+    ensures kept { (path : List ℕ) → Keeps (F.content files.old path) (F.content files.new path) }
+{
     let Ok(mut document) = files.reader(paths.document) else {
-        return print(err, "out of memory\n", MEMORY);
+        return tell_out_of_memory(err);
     };
     let Ok(mut taxonomy) = files.writer(paths.taxonomy) else {
-        return print(err, "out of memory\n", MEMORY);
+        return tell_out_of_memory(err);
     };
     let Ok(mut instances) = files.writer(paths.instances) else {
-        return print(err, "out of memory\n", MEMORY);
+        return tell_out_of_memory(err);
     };
     let Ok(mut certificate) = files.writer(paths.certificate) else {
-        return print(err, "out of memory\n", MEMORY);
+        return tell_out_of_memory(err);
     };
-    let answer = classify_document(
+    let classified = classify_document(
         alloc,
         &mut document,
         &mut taxonomy,
@@ -45,8 +53,8 @@ fn perform_classify<F: Files, O: Sink, E: Sink>(
         limits,
         state,
     );
-    match answer {
-        Ok(summary) => tell(out, summary_message(alloc, &summary)),
+    match classified {
+        Ok(summary) => answer(out, err, summary_message(alloc, &summary)),
         Err(fault) => tell(err, classify_message(alloc, &fault, paths, limits)),
     }
 }
@@ -56,24 +64,28 @@ fn perform_check<F: Files, O: Sink, E: Sink>(
     alloc: Global,
     paths: &Paths<'_>,
     limits: &Limits,
-    files: &mut F,
+    files: &F,
     out: &mut O,
     err: &mut E,
     state: RandomState,
-) -> u8 {
+) -> u8
+    ensures { let old : Output = record { out = (O.taken out.old, O.failures out.old); err = (E.taken err.old, E.failures err.old) } in
+        let new : Output = record { out = (O.taken out.new, O.failures out.new); err = (E.taken err.new, E.failures err.new) } in
+        IsCheckRun paths.now limits.now.max_bytes (F.content files.now) old new result }
+{
     let Ok(mut document) = files.reader(paths.document) else {
-        return print(err, "out of memory\n", MEMORY);
+        return tell_out_of_memory(err);
     };
     let Ok(mut taxonomy) = files.reader(paths.taxonomy) else {
-        return print(err, "out of memory\n", MEMORY);
+        return tell_out_of_memory(err);
     };
     let Ok(mut instances) = files.reader(paths.instances) else {
-        return print(err, "out of memory\n", MEMORY);
+        return tell_out_of_memory(err);
     };
     let Ok(mut certificate) = files.reader(paths.certificate) else {
-        return print(err, "out of memory\n", MEMORY);
+        return tell_out_of_memory(err);
     };
-    let answer = checked(
+    let checked = checked(
         alloc,
         &mut document,
         &mut taxonomy,
@@ -82,16 +94,24 @@ fn perform_check<F: Files, O: Sink, E: Sink>(
         limits,
         state,
     );
-    match answer {
-        Ok((ontology, verdict)) => tell(out, verdict_message(alloc, &ontology, &verdict)),
+    match checked {
+        Ok((ontology, verdict)) => answer(out, err, verdict_message(alloc, &ontology, &verdict)),
         Err(fault) => tell(err, check_message(alloc, &fault, paths, limits)),
+    }
+}
+
+/// Tells of words that ask for nothing that the program does.
+fn refuse<E: Sink>(alloc: Global, fault: &LineFault, err: &mut E) -> u8
+    ensures { IsLineTold fault.now (E.taken err.old, E.failures err.old) (E.taken err.new, E.failures err.new) result }
+{
+    match fault {
+        LineFault::Memory => tell_out_of_memory(err),
+        LineFault::Line(fault) => tell(err, usage_message(alloc, fault)),
     }
 }
 
 /// Does what the words ask for, the first being the program's name: reads and writes the files, prints to `out` and
 /// `err`, and gives the exit status.
-///
-/// No contract yet: the calls it makes carry theirs; which of them it makes is not proved.
 pub fn perform<F: Files, O: Sink, E: Sink>(
     alloc: Global,
     words: &[&str],
@@ -99,7 +119,15 @@ pub fn perform<F: Files, O: Sink, E: Sink>(
     out: &mut O,
     err: &mut E,
     state: RandomState,
-) -> u8 {
+) -> u8
+    // What the words ask for, what is printed, and the status.
+    ensures performed { let old : Output = record { out = (O.taken out.old, O.failures out.old); err = (E.taken err.old, E.failures err.old) } in
+        let new : Output = record { out = (O.taken out.new, O.failures out.new); err = (E.taken err.new, E.failures err.new) } in
+        IsPerformed (map (λ w. w.now) words.entry.now) (F.content files.old) old new result }
+    // Only a classification writes files, and none that was there to be read changes.
+    ensures untouched { AskForNoClassification (map (λ w. w.now) words.entry.now) → files.new ≡ files.old }
+    ensures kept { (path : List ℕ) → Keeps (F.content files.old path) (F.content files.new path) }
+{
     match task(alloc, words) {
         Ok(
             Task::Classify {
@@ -109,13 +137,12 @@ pub fn perform<F: Files, O: Sink, E: Sink>(
             },
         ) => match Limits::new(max_bytes, max_facts) {
             Some(limits) => perform_classify(alloc, &paths, &limits, files, out, err, state),
-            None => USAGE,
+            None => unreachable!(),
         },
         Ok(Task::Check { paths, max_bytes }) => match Limits::new(max_bytes, MOST_FACTS) {
             Some(limits) => perform_check(alloc, &paths, &limits, files, out, err, state),
-            None => USAGE,
+            None => unreachable!(),
         },
-        Err(LineFault::Memory) => print(err, "out of memory\n", MEMORY),
-        Err(LineFault::Line(fault)) => tell(err, usage_message(alloc, &fault)),
+        Err(fault) => refuse(alloc, &fault, err),
     }
 }
