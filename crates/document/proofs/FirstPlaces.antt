@@ -72,21 +72,23 @@ pub record AreSeen {A : Type 0} (y : A) (after seen places : List A) : Type 0 wh
   pub before : Contains seen y → Contains after y
   pub placed : Contains places y → Contains after y
 
-module _ {A : Type 0} (same : A → A → Bool) (y : A) where
+module _ {A : Type 0} (same : A → A → Bool) where
   -- after a member that was seen, or not
-  more_step : (seen : List A) (x : A) (xs : List A) →
-      ((s : List A) → first_places_from same s (xs ++ y ∷ []) ≡ first_places_from same s xs ++ first_places_from same (seen_after same s xs) (y ∷ [])) →
+  joined_step : (ys seen : List A) (x : A) (xs : List A) →
+      ((s : List A) → first_places_from same s (xs ++ ys) ≡ first_places_from same s xs ++ first_places_from same (seen_after same s xs) ys) →
       (b : Bool) →
-      (if b then first_places_from same seen (xs ++ y ∷ []) else x ∷ first_places_from same (x ∷ seen) (xs ++ y ∷ []))
+      (if b then first_places_from same seen (xs ++ ys) else x ∷ first_places_from same (x ∷ seen) (xs ++ ys))
       ≡ (if b then first_places_from same seen xs else x ∷ first_places_from same (x ∷ seen) xs)
-      ++ first_places_from same (if b then seen_after same seen xs else seen_after same (x ∷ seen) xs) (y ∷ [])
-  more_step seen x xs later true = later seen
-  more_step seen x xs later false = ap (λ zs. x ∷ zs) (later (x ∷ seen))
+      ++ first_places_from same (if b then seen_after same seen xs else seen_after same (x ∷ seen) xs) ys
+  joined_step ys seen x xs later true = later seen
+  joined_step ys seen x xs later false = ap (λ zs. x ∷ zs) (later (x ∷ seen))
 
-  one_more : (xs seen : List A) → first_places_from same seen (xs ++ y ∷ []) ≡ first_places_from same seen xs ++ first_places_from same (seen_after same seen xs) (y ∷ [])
-  one_more [] seen = refl
-  one_more (x ∷ xs) seen = more_step seen x xs (λ s. one_more xs s) (list_any (same x) seen)
+  -- the first places of a list begin with those of its beginning
+  pub places_of_joined : (ys xs seen : List A) → first_places_from same seen (xs ++ ys) ≡ first_places_from same seen xs ++ first_places_from same (seen_after same seen xs) ys
+  places_of_joined ys [] seen = refl
+  places_of_joined ys (x ∷ xs) seen = joined_step ys seen x xs (λ s. places_of_joined ys xs s) (list_any (same x) seen)
 
+module _ {A : Type 0} (same : A → A → Bool) (y : A) where
   seen_step : (seen : List A) (x : A) (xs : List A) →
       ((s : List A) → AreSeen y (seen_after same s xs) s (first_places_from same s xs)) → (b : Bool) → (b ≡ true → x ≡ y → Contains seen y) →
       AreSeen y (if b then seen_after same seen xs else seen_after same (x ∷ seen) xs) seen (if b then first_places_from same seen xs else x ∷ first_places_from same (x ∷ seen) xs)
@@ -123,6 +125,6 @@ module _ {A : Type 0} (same : A → A → Bool) (y : A) where
   grows one xs =
       let seen = seen_places one xs [] in
       let last = last_place one (seen_after same [] xs) in (
-        λ h. one_more xs [] ∙ ap (λ zs. first_places same xs ++ zs) (last.0 (seen.placed h)) ∙ append-nil (first_places same xs),
-        λ none. one_more xs [] ∙ ap (λ zs. first_places same xs ++ zs) (last.1 (λ h. elim (seen.only h) [ inl old ↦ absurd (omega (arith, old.1)) | inr new ↦ none new ])),
+        λ h. places_of_joined same (y ∷ []) xs [] ∙ ap (λ zs. first_places same xs ++ zs) (last.0 (seen.placed h)) ∙ append-nil (first_places same xs),
+        λ none. places_of_joined same (y ∷ []) xs [] ∙ ap (λ zs. first_places same xs ++ zs) (last.1 (λ h. elim (seen.only h) [ inl old ↦ absurd (omega (arith, old.1)) | inr new ↦ none new ])),
       )

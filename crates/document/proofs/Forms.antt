@@ -7,12 +7,14 @@ use Rattle.std.specs.Option.{option_map}
 use Rattle.axioms.proofs.Lists.{take_push}
 use Rattle.axioms.specs.Growth.{empty_ontology}
 use Rattle.axioms.specs.Numbered.{Ontology}
+use Rattle.axioms.specs.Numbering.{IsOntologyOf}
 use Rattle.axioms.specs.Expression.{Iri}
-use Rattle.document.specs.Answers.{FailsWhere, HasFewNames, IsBuildingFault, IsOneMore, NotOfStatements, OfStatements}
+use Rattle.document.specs.Answers.{AreTooMany, FailsWhere, HasFewNames, IsBuildingFault, IsOneMore, NotOfStatements, OfStatements}
 use Rattle.document.specs.declared.fault.DocumentFault.{DocumentFault}
 use Rattle.document.specs.declared.fault.DocumentFault.TheVariants as faults
 use Rattle.document.specs.Documents.{class_pair, joined, subclass_form, subclass_pair, subclass_pairs}
 use Rattle.document.proofs.OneMore.{no_statement}
+use Rattle.document.specs.Subclasses.{subclass_statement}
 use Rattle.document.specs.Theorems.{IsOfSubclasses}
 use Rattle.fs_parser.specs.Tree.{Tree, Trees, Empty, Then}
 use Rattle.fs_parser.specs.View.{tree_of, trees_from, trees_of}
@@ -101,12 +103,35 @@ tree_fault (faults.NotUtf8 at) read all h more = absurd h
 tree_fault (faults.Lex f) read all h more = absurd h
 tree_fault (faults.Parse f) read all h more = absurd h
 
-pub building_fault : (e : DocumentFault) (all : Option (List (Iri × Iri))) → IsBuildingFault e → NotOfStatements e all
-building_fault (faults.WrongShape at) all h = absurd h
-building_fault faults.Memory all h = tt
-building_fault faults.TooManyNames all h = tt
-building_fault faults.TooLarge all h = absurd h
-building_fault faults.Io all h = absurd h
-building_fault (faults.NotUtf8 at) all h = absurd h
-building_fault (faults.Lex f) all h = absurd h
-building_fault (faults.Parse f) all h = absurd h
+-- where the trees are read, their pairs go on behind those of the first n
+pairs_split : (ts : List code.Tree) (n : ℕ) (t : code.Tree) (s : Iri × Iri) (ps qs : List (Iri × Iri)) → slice_get ts n ≡ Some t → subclass_pair (tree_of t) ≡ Some s →
+    subclass_pairs (trees_of (take n ts)) ≡ Some ps → subclass_pairs (trees_of ts) ≡ Some qs → (more : List (Iri × Iri)) × (qs ≡ ps ++ s ∷ more)
+pairs_split [] n t s ps qs at pair first all = absurd (none-some t at)
+pairs_split (x ∷ ts) zero t s ps qs at pair first all =
+    let j = joined_some (subclass_pair (tree_of x)) (subclass_pairs (trees_of ts)) qs all in
+    let same : j.0 ≡ s = same_Some j.0 s (sym j.2 ∙ ap (λ y. subclass_pair (tree_of y)) (same_Some x t at) ∙ pair) in
+    (j.1, j.4 ∙ ap₂ (λ q zs. zs ++ q ∷ j.1) same (same_Some [] ps first))
+pairs_split (x ∷ ts) (suc n) t s ps qs at pair first all =
+    let j = joined_some (subclass_pair (tree_of x)) (subclass_pairs (trees_of ts)) qs all in
+    let k = joined_some (subclass_pair (tree_of x)) (subclass_pairs (trees_of (take n ts))) ps first in
+    let later = pairs_split ts n t s k.1 j.1 at pair k.3 j.3 in
+    let same : j.0 ≡ k.0 = same_Some j.0 k.0 (sym j.2 ∙ k.2) in
+    (later.0, j.4 ∙ ap₂ (λ q zs. q ∷ zs) same later.1 ∙ ap (λ zs. zs ++ s ∷ later.0) (sym k.4))
+
+too_many : (ts : List code.Tree) (n : ℕ) (t : code.Tree) (o : Ontology) (s : Iri × Iri) → AreRead ts n o → slice_get ts n ≡ Some t → subclass_pair (tree_of t) ≡ Some s → IsBuildingFault o s faults.TooManyNames →
+    (read : Option (List (Iri × Iri))) → subclass_pairs (trees_of ts) ≡ read → AreTooMany read
+too_many ts n t o s so_far at pair fault None e = tt
+too_many ts n t o s so_far at pair fault (Some qs) e = λ p is.
+    let split = pairs_split ts n t s so_far.pairs qs at pair so_far.read e in
+    fault so_far.pairs so_far.ontology split.0 p (let P : List (Iri × Iri) → Type 0 = λ zs. IsOntologyOf (map subclass_statement zs) p in subst P split.1 is)
+
+pub building_fault : (ts : List code.Tree) (n : ℕ) (t : code.Tree) (o : Ontology) (s : Iri × Iri) (e : DocumentFault) → AreRead ts n o → n < length ts → t ≡ get_or ts n t → subclass_pair (tree_of t) ≡ Some s →
+    IsBuildingFault o s e → NotOfStatements e (subclass_pairs (trees_of ts))
+building_fault ts n t o s faults.TooManyNames so_far within is pair h = too_many ts n t o s so_far (slice_get-get_or ts n t within ∙ ap Some (sym is)) pair h (subclass_pairs (trees_of ts)) refl
+building_fault ts n t o s faults.Memory so_far within is pair h = tt
+building_fault ts n t o s (faults.WrongShape at) so_far within is pair h = absurd h
+building_fault ts n t o s faults.TooLarge so_far within is pair h = absurd h
+building_fault ts n t o s faults.Io so_far within is pair h = absurd h
+building_fault ts n t o s (faults.NotUtf8 at) so_far within is pair h = absurd h
+building_fault ts n t o s (faults.Lex f) so_far within is pair h = absurd h
+building_fault ts n t o s (faults.Parse f) so_far within is pair h = absurd h

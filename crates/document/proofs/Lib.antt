@@ -1,5 +1,6 @@
 pub mod FirstPlaces
 pub mod OneMore
+pub mod Refusals
 pub mod Forms
 pub mod Declared
 pub mod Readings

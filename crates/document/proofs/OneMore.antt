@@ -9,15 +9,16 @@ use Rattle.std.proofs.lemmas.Grind.{flat_map-append}
 use Rattle.std.proofs.Math.Seq.{take-length}
 use Rattle.axioms.specs.Axiom as tree
 use Rattle.axioms.specs.Expression.{Iri, ClassExpression, Named, owl_thing, owl_nothing}
-use Rattle.axioms.specs.Growth.{Numbers, DeclaresClass, empty_ontology, with_axiom}
+use Rattle.axioms.specs.Growth.{Numbers, DeclaresClass, IsFull, empty_ontology, most_names, with_axiom}
 use Rattle.axioms.specs.Numbered.{Ontology, Names, Axiom, Node, Class, SubClass, IsClassAt, name_at, tree_of, trees_from, trees, expression, axiom_tree, axiom_trees}
-use Rattle.axioms.specs.Numbering.{IsOntologyOf, first_places, same_expression, statement_expressions, statement_properties, statement_individuals, logical_axiom, class_name}
+use Rattle.axioms.specs.Numbering.{IsOntologyOf, first_places, first_places_from, same_expression, statement_expressions, statement_properties, statement_individuals, logical_axiom, class_name}
 use Rattle.axioms.specs.WellFormed.{IsOntology, IsAxiomOf}
 use Rattle.axioms.proofs.Lists.{Contains-map, Contains-from_slice_get, slice_get-from_Contains, slice_get_map_from, slice_get_there, slice_get_push, slice_get_push_cases, keeps_push, take_push}
 use Rattle.axioms.proofs.Trees.{class_named}
 use Rattle.document.specs.Subclasses.{IsSubclassOntology, IsSubclassAxiom, class_nodes, subclass_statement}
+use Rattle.document.specs.Answers.{LeaveTooManyNames}
 use Rattle.document.specs.Theorems.{IsOfSubclasses, NoStatementIsEmpty, OneMoreStatement}
-use Rattle.document.proofs.FirstPlaces.{grows, one_expression}
+use Rattle.document.proofs.FirstPlaces.{grows, one_expression, places_of_joined, seen_after}
 
 -- ---- classes that are numbered as they come
 
@@ -276,3 +277,42 @@ one_more_statement pairs pair o p q c e d f whole whole' whole'' is first second
     let P : List ClassExpression → Type 0 = λ xs. SoFar xs (axioms_of pairs ++ tree.SubClassOf (Named pair.0) (Named pair.1) ∷ []) r in
     let Q : List tree.Axiom → Type 0 = λ ys. SoFar (expressions_of (pairs ++ pair ∷ [])) ys r in
     of_so_far (pairs ++ pair ∷ []) r (subst Q (sym axs) (subst P (sym es) whole_now))
+
+-- ---- too many names
+
+-- a class that is not among those so far is one more, whatever follows
+one_more_name : (es : List ClassExpression) (axs : List tree.Axiom) (o : Ontology) (iri : Iri) → SoFar es axs o → ¬ Contains o.names.classes iri → (rest : List ClassExpression) →
+    length o.names.classes < length (filter_map class_name (first_places same_expression (with_standard (es ++ Named iri ∷ rest))))
+one_more_name es axs o iri so_far new rest =
+    let front : List ClassExpression = with_standard es ++ Named iri ∷ [] in
+    let behind : List ClassExpression = first_places_from same_expression (seen_after same_expression [] front) rest in
+    let last = (grows same_expression (Named iri) one_expression (with_standard es)).1 (λ k. new (named_member o.names.classes iri (let P : List ClassExpression → Type 0 = λ xs. Contains xs (Named iri) in subst P (sym so_far.places) k))) in
+    let named : first_places same_expression front ≡ map Named (o.names.classes ++ iri ∷ []) = last ∙ ap (λ xs. xs ++ Named iri ∷ []) (sym so_far.places) ∙ sym (map-append Named o.names.classes (iri ∷ [])) in
+    let whole : first_places same_expression (with_standard (es ++ Named iri ∷ rest)) ≡ map Named (o.names.classes ++ iri ∷ []) ++ behind =
+    ap (first_places same_expression) (sym (append_assoc (with_standard es) (Named iri ∷ []) rest)) ∙ places_of_joined same_expression rest front [] ∙ ap (λ xs. xs ++ behind) named in
+    let names : filter_map class_name (first_places same_expression (with_standard (es ++ Named iri ∷ rest))) ≡ (o.names.classes ++ iri ∷ []) ++ filter_map class_name behind =
+    ap (filter_map class_name) whole ∙ filter_map-append class_name (map Named (o.names.classes ++ iri ∷ [])) behind ∙ ap (λ xs. xs ++ filter_map class_name behind) (classes_are (o.names.classes ++ iri ∷ [])) in
+    omega (arith, ap length names, length-append (o.names.classes ++ iri ∷ []) (filter_map class_name behind), length-append o.names.classes (iri ∷ []))
+
+expressions_with : (pairs : List (Iri × Iri)) (pair : Iri × Iri) (more : List (Iri × Iri)) → expressions_of (pairs ++ pair ∷ more) ≡ expressions_of pairs ++ Named pair.0 ∷ Named pair.1 ∷ expressions_of more
+expressions_with pairs pair more =
+    ap (flat_map statement_expressions) (map-append subclass_statement pairs (pair ∷ more))
+    ∙ flat_map-append statement_expressions (map subclass_statement pairs) (subclass_statement pair ∷ map subclass_statement more)
+
+-- the names of an ontology of statements
+names_are : (es : List ClassExpression) (pairs : List (Iri × Iri)) (q : Ontology) → expressions_of pairs ≡ es → IsOntologyOf (map subclass_statement pairs) q → q.names.classes ≡ filter_map class_name (first_places same_expression (with_standard es))
+names_are es pairs q same is = is.classes ∙ ap (filter_map class_name) (is.expressions ∙ ap (λ xs. first_places same_expression (with_standard xs)) same)
+
+-- where the first class of a statement, or its second, has no room, no ontology with that statement has few names
+pub first_refused : (pairs : List (Iri × Iri)) (pair : Iri × Iri) (o : Ontology) → IsFull o.names.classes pair.0 → IsOfSubclasses pairs o → LeaveTooManyNames pairs pair
+first_refused pairs pair o full is more q is' =
+    let counted = one_more_name (expressions_of pairs) (axioms_of pairs) o pair.0 (so_far_of pairs o is) full.0 (Named pair.1 ∷ expressions_of more) in
+    omega (arith, counted, full.1, ap length (names_are (expressions_of pairs ++ Named pair.0 ∷ Named pair.1 ∷ expressions_of more) (pairs ++ pair ∷ more) q (expressions_with pairs pair more) is'))
+
+pub second_refused : (pairs : List (Iri × Iri)) (pair : Iri × Iri) (o p : Ontology) (c e : ℕ) → IsOntology o → DeclaresClass o pair.0 p c e → IsFull p.names.classes pair.1 → IsOfSubclasses pairs o → LeaveTooManyNames pairs pair
+second_refused pairs pair o p c e whole first full is more q is' =
+    let one = one_more_class (expressions_of pairs) (axioms_of pairs) o p pair.0 c e whole (so_far_of pairs o is) (grown o p pair.0 c e whole is.shape first) in
+    let counted = one_more_name (expressions_of pairs ++ Named pair.0 ∷ []) (axioms_of pairs) p pair.1 one full.0 (expressions_of more) in
+    let same : expressions_of (pairs ++ pair ∷ more) ≡ (expressions_of pairs ++ Named pair.0 ∷ []) ++ Named pair.1 ∷ expressions_of more =
+    expressions_with pairs pair more ∙ sym (append_assoc (expressions_of pairs) (Named pair.0 ∷ []) (Named pair.1 ∷ expressions_of more)) in
+    omega (arith, counted, full.1, ap length (names_are ((expressions_of pairs ++ Named pair.0 ∷ []) ++ Named pair.1 ∷ expressions_of more) (pairs ++ pair ∷ more) q same is'))

@@ -1,5 +1,5 @@
 -- What a document reads as, from what its parts are.
-use Rattle.std.proofs.Common.{◌≡◌, ℕ, ◌≤◌, ◌++◌, List, length, Some, None, Option, Result, Ok, Err, IfOk, IfErr, refl, sym, ap, ◌∙◌, subst}
+use Rattle.std.proofs.Common.{◌≡◌, ℕ, ◌≤◌, ◌++◌, List, length, Some, None, Option, Result, Ok, Err, IfOk, IfErr, refl, sym, ap, ◌∙◌, subst, arith}
 use Rattle.std.proofs.lemmas.Option.{none-some}
 use Rattle.std.proofs.lemmas.List.{append-nil}
 use Rattle.std.specs.Io.KnownBytes.{Consumes, IsAtEnd}
@@ -10,7 +10,7 @@ use Rattle.fs_lexer.proofs.Whole.{one_spelling}
 use Rattle.fs_lexer.specs.Spelling.{Token, Spells}
 use Rattle.fs_parser.proofs.Documents.{one_document}
 use Rattle.fs_parser.specs.Document.{Document, IsDocument}
-use Rattle.document.specs.Answers.{GivesOntology, IsTaken, NotOfStatements, OfStatements}
+use Rattle.document.specs.Answers.{AreTooMany, GivesOntology, IsTaken, NotOfStatements, OfStatements}
 use Rattle.document.specs.declared.fault.DocumentFault.{DocumentFault}
 use Rattle.document.specs.declared.fault.DocumentFault.TheVariants as faults
 use Rattle.document.specs.Documents.{ReadsAs, subclass_pairs}
@@ -44,10 +44,18 @@ module _ (text : List ℕ) (tokens : List Token) (document : Document) (spelled 
       let written' : IsDocument r.document tokens = let P : List Token → Type 0 = IsDocument r.document in subst P (one_spelling text r.tokens tokens r.spelled spelled) r.written in
       none-some r.pairs (sym none ∙ ap (λ (d : Document). subclass_pairs d.trees) (one_document tokens document r.document written written') ∙ r.statements)
 
+  -- .. nor where their ontology has too many names
+  too_many_names : AreTooMany (subclass_pairs document.trees) → ReadAsNone text
+  too_many_names many o r =
+      let written' : IsDocument r.document tokens = let P : List Token → Type 0 = IsDocument r.document in subst P (one_spelling text r.tokens tokens r.spelled spelled) r.written in
+      let read : subclass_pairs document.trees ≡ Some r.pairs = ap (λ (d : Document). subclass_pairs d.trees) (one_document tokens document r.document written written') ∙ r.statements in
+      let more : AreTooMany (Some r.pairs) = let P : Option (List (Iri × Iri)) → Type 0 = AreTooMany in subst P read many in
+      absurd (omega (arith, more o r.ontology, r.few_names))
+
   pub shape_fault : (e : DocumentFault) → NotOfStatements e (subclass_pairs document.trees) → RefusesText e text
   shape_fault (faults.WrongShape at) h = no_statements h
   shape_fault faults.Memory h = tt
-  shape_fault faults.TooManyNames h = tt
+  shape_fault faults.TooManyNames h = too_many_names h
   shape_fault faults.TooLarge h = absurd h
   shape_fault faults.Io h = absurd h
   shape_fault (faults.NotUtf8 at) h = absurd h

@@ -4,7 +4,7 @@ ghost use Rattle.axioms.specs.WellFormed.{IsOntology};
 ghost use Rattle.device.specs.Device.{HasFailed};
 ghost use Rattle.document.specs.Documents.{ReadsAs, subclass_pairs};
 ghost use Rattle.document.specs.Faults.{ReadsKnown, Refuses, RefusesKnown, RefusesText};
-ghost use Rattle.document.specs.Answers.{GivesOntology, Grows, HasFewNames, IsBuildingFault, IsTaken};
+ghost use Rattle.document.specs.Answers.{GivesOntology, Grows, HasFewNames, IsDeclaringFault, IsTaken};
 ghost use Rattle.fs_parser.specs.View.{trees_of};
 ghost use Rattle.std.specs.Prelude.{◌≡◌, Err, IfErr, IfOk, OnOk, ℕ};
 ghost use Rattle.std.specs.Str.{IsUtf8};
@@ -24,7 +24,7 @@ use std::str;
 fn declare_class(builder: &mut Builder, iri: &str) -> Result<ExprId, DocumentFault>
     ensures declared { IfOk result (λ e. (c : ℕ) × DeclaresClass builder.old iri.now builder.new c e.0) }
     ensures few { OnOk result (HasFewNames builder.old → HasFewNames builder.new) }
-    ensures refused { IfErr result IsBuildingFault }
+    ensures refused { IfErr result (IsDeclaringFault builder.old iri.now) }
     ensures before { IsOntology builder.old }
     ensures after { IsOntology builder.new }
 {
