@@ -40,7 +40,7 @@ two k (x ∷ y ∷ z ∷ ts) a b h long e f = absurd (omega arith)
 
 -- ---- lists of trees
 
-joined_some : (a : Option (Iri × Iri)) (b : Option (List (Iri × Iri))) (ps : List (Iri × Iri)) → joined a b ≡ Some ps → (q : Iri × Iri) × (qs : List (Iri × Iri)) × (a ≡ Some q) × (b ≡ Some qs) × (ps ≡ q ∷ qs)
+pub joined_some : (a : Option (Iri × Iri)) (b : Option (List (Iri × Iri))) (ps : List (Iri × Iri)) → joined a b ≡ Some ps → (q : Iri × Iri) × (qs : List (Iri × Iri)) × (a ≡ Some q) × (b ≡ Some qs) × (ps ≡ q ∷ qs)
 joined_some (Some q) (Some qs) ps h = (q, qs, refl, refl, sym (same_Some (q ∷ qs) ps h))
 joined_some (Some q) None ps h = absurd (none-some ps h)
 joined_some None b ps h = absurd (none-some ps h)

@@ -18,6 +18,7 @@ use Rattle.document.specs.Faults.{ReadAsNone, Refuses, RefusesKnown, RefusesText
 use Rattle.fs_parser.specs.State.{IsRefusal}
 use Rattle.fs_parser.specs.declared.fault.ParseFault.{ParseFault}
 use Rattle.fs_parser.specs.declared.fault.ParseFault.TheVariants as parsing
+use Rattle.document.proofs.Bounds.{axioms_take_bytes}
 use Rattle.document.specs.Theorems.{IsOfSubclasses}
 
 module _ (text : List ℕ) (tokens : List Token) (document : Document) (spelled : Spells text tokens) (written : IsDocument document tokens) where
@@ -110,6 +111,11 @@ of_text (faults.Parse f) text h = h
 pub bytes_refused : (r : Result Ontology DocumentFault) (text bytes : List ℕ) → text ≡ bytes → IfErr r (λ e. RefusesText e text) → IfErr r (λ e. Refuses e bytes)
 bytes_refused (Ok o) text bytes same h = tt
 bytes_refused (Err e) text bytes same h = let P : List ℕ → Type 0 = Refuses e in subst P same (of_text e text h)
+
+-- .. and so is how many axioms its ontology has
+pub axioms_fit : (r : Result Ontology DocumentFault) (text bytes : List ℕ) → text ≡ bytes → IsUtf8 bytes → IfOk r (λ o. IsUtf8 text → ReadsAs text o) → IfOk r (λ o. length o.axioms ≤ length bytes)
+axioms_fit (Err e) text bytes same utf8 h = tt
+axioms_fit (Ok o) text bytes same utf8 h = omega (arith, axioms_take_bytes text o (h (let P : List ℕ → Type 0 = IsUtf8 in subst P (sym same) utf8)), ap length same)
 
 -- all the bytes of a source
 not_read : (xs : List ℕ) (most : ℕ) (e : DocumentFault) → Refuses e xs → RefusesKnown (Some xs) most e

@@ -1,5 +1,5 @@
 -- What is proved of documents of subclass axioms.
-use Rattle.std.specs.Prelude.{◌≡◌, ℕ, List, [], ◌∷◌, ◌++◌, map}
+use Rattle.std.specs.Prelude.{◌≡◌, ◌≤◌, ℕ, length, List, [], ◌∷◌, ◌++◌, map}
 use Rattle.std.specs.List.{Contains}
 use Rattle.axioms.specs.Expression.{Iri, ClassExpression}
 use Rattle.axioms.specs.Growth.{DeclaresClass, empty_ontology, with_axiom}
@@ -34,3 +34,7 @@ OneMoreStatement =
 -- bytes read as at most one ontology
 abbrev pub BytesReadAsOneOntology : Type 0
 BytesReadAsOneOntology = (bytes : List ℕ) (o p : Ontology) → IsOntology o → IsOntology p → ReadsAs bytes o → ReadsAs bytes p → o ≡ p
+
+-- a document has at least as many bytes as its ontology has axioms
+abbrev pub AxiomsTakeBytes : Type 0
+AxiomsTakeBytes = (bytes : List ℕ) (o : Ontology) → ReadsAs bytes o → length o.axioms ≤ length bytes

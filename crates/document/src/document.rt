@@ -6,7 +6,7 @@ ghost use Rattle.document.specs.Documents.{ReadsAs, subclass_pairs};
 ghost use Rattle.document.specs.Faults.{ReadsKnown, Refuses, RefusesKnown, RefusesText};
 ghost use Rattle.document.specs.Answers.{GivesOntology, Grows, HasFewNames, IsDeclaringFault, IsTaken};
 ghost use Rattle.fs_parser.specs.View.{trees_of};
-ghost use Rattle.std.specs.Prelude.{◌≡◌, Err, IfErr, IfOk, OnOk, ℕ};
+ghost use Rattle.std.specs.Prelude.{◌≡◌, ◌≤◌, Err, IfErr, IfOk, OnOk, length, ℕ};
 ghost use Rattle.std.specs.Str.{IsUtf8};
 
 use crate::fault::DocumentFault;
@@ -107,6 +107,7 @@ pub fn read_bytes(
 ) -> Result<Ontology, DocumentFault>
     ensures read { IfOk result (ReadsAs bytes.now) }
     ensures taken { IfOk result IsTaken }
+    ensures axioms { IfOk result (λ o. length o.axioms ≤ length bytes.now) }
     ensures refused { IfErr result (λ e. Refuses e bytes.now) }
 {
     match str::from_utf8(bytes) {
@@ -129,6 +130,7 @@ pub fn read_document<S: Source>(
     // The source's bytes read as this ontology; or they do not, or are too many, or the source failed in this call.
     ensures read { IfOk result (ReadsKnown (S.left source.old) limits.now.max_bytes) }
     ensures taken { IfOk result IsTaken }
+    ensures axioms { IfOk result (λ o. length o.axioms ≤ limits.now.max_bytes) }
     ensures refused { IfErr result (RefusesKnown (S.left source.old) limits.now.max_bytes) }
     ensures failed { result ≡ Err DocumentFault.Io → HasFailed (S.failures source.old) (S.failures source.new) }
 {

@@ -1,7 +1,7 @@
 //! Documents of subclass axioms between named classes, from bytes to an ontology.
 #![tactic(auto)]
 
-ghost use Rattle.document.specs.Theorems.{BytesReadAsOneOntology, FirstPlacesGrow, NoStatementIsEmpty, OneMoreStatement};
+ghost use Rattle.document.specs.Theorems.{AxiomsTakeBytes, BytesReadAsOneOntology, FirstPlacesGrow, NoStatementIsEmpty, OneMoreStatement};
 
 mod document;
 mod fault;
@@ -24,4 +24,9 @@ pub fn statements_one_by_one()
 /// Bytes read as at most one ontology.
 pub fn one_ontology_is_read()
     ensures { BytesReadAsOneOntology }
+{}
+
+/// A document has at least as many bytes as its ontology has axioms.
+pub fn axioms_take_bytes()
+    ensures { AxiomsTakeBytes }
 {}
