@@ -22,9 +22,6 @@ use taxonomy::{Outcome, Relation, instances_bytes, reduce, taxonomy_bytes};
 /// The expression of `owl:Thing`.
 const THING: usize = 0;
 
-/// A certificate can number fewer axioms than these.
-const MOST_AXIOMS: usize = 1 << 32;
-
 /// What a classification counts.
 #[derive(Clone, Copy, Debug, PartialEq, Eq)]
 pub struct Summary {
@@ -89,21 +86,17 @@ fn certificate_of(
     };
     match Certificate::new(ontology, lines, listed) {
         Ok(certificate) => Ok(certificate),
-        Err(_) => {
-            // Only where the axioms are too many for their numbers to be written.
-            let too_many = ontology.axioms().len() >= MOST_AXIOMS;
-            prove!(too_many);
-            Err(Memory)
-        }
+        // All its numbers can be written.
+        Err(_) => unreachable!(),
     }
 }
 
-/// The classification of an ontology whose closure has at most `max_facts` facts.
+/// The classification of an ontology whose closure has at most `max_facts` facts. It has subclass axioms between named
+/// classes and nothing else, at most 1,000,000 classes, and fewer than 2 ^ 32 axioms, as a certificate can number.
 ///
 /// # Errors
 ///
-/// `Limit` where the closure has more facts, and `Memory` where memory was refused before that was seen, or where there
-/// are 2 ^ 32 axioms or more, which a certificate cannot number.
+/// `Limit` where the closure has more facts, and `Memory` where memory was refused before that was seen.
 pub fn classify(alloc: Global, ontology: &Ontology, max_facts: u64) -> Result<Classification, Stop>
     requires { IsClassifiable ontology.now }
     ensures counts { IfOk result (λ c. AreCountsOf ontology.now c.summary) }

@@ -19,7 +19,9 @@ fn is_classifiable(ontology: &Ontology) -> bool
         return false;
     }
     let classes = ontology.classes().len();
-    ontology.expression_count() == classes && classes <= 1_000_000
+    ontology.expression_count() == classes
+        && classes <= 1_000_000
+        && ontology.axioms().len() < 1 << 32
 }
 
 /// `SubClassOf(A B)`.

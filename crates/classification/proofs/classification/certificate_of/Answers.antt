@@ -3,7 +3,6 @@ use Rattle.std.proofs.lemmas.List.{length-map}
 use Rattle.std.proofs.lemmas.List.Elements.{All-nil}
 use Rattle.std.specs.Prelude.{option_map}
 use Rattle.std.specs.declared.option.Option.{Option}
-use Rattle.axioms.specs.View.{axiom_of}
 use Rattle.certificate.specs.Certificate.{Line, Certificate, Listed}
 use Rattle.certificate.specs.HasText.{HasText}
 use Rattle.certificate.specs.View.{line_of, lines_of, listed_of}
@@ -14,23 +13,22 @@ use Rattle.classification.proofs.Writing.{superclasses_have_text}
 use Rattle.classification.proofs.classification.certificate_of.Goals as goal
 use Rattle.classification.proofs.classification.certificate_of.Goals.{then-consistent+in_ok-listed, else-consistent}
 
-pub returns-in-Ok-clause-lines : goal.returns-in-Ok-clause-lines
-returns-in-Ok-clause-lines c =
+pub returns-clause-lines : goal.returns-clause-lines
+returns-clause-lines c =
     let o = c.args.ontology.now in
     let h = c.args.hierarchy.now in
     let same = ap (λ (d : Certificate). d.lines) c.in-Ok.ensures.made ∙ c.in_ok-lines.ensures ∙ ap (lines_from 0 0) c.deref.ensures.value in
     subst (λ (lines : List Line). AreLinesOf o lines) (sym same) (are_lines o h c.requires.superclasses)
 
-pub prove-unreachable-requires : goal.prove-unreachable-requires
-prove-unreachable-requires c =
+pub unreachable-requires : goal.unreachable-requires
+unreachable-requires c =
     let o = c.args.ontology.now in
     let h = c.args.hierarchy.now in
     let lines = c.in_ok-lines.lines in
     let same : lines_of lines.items ≡ lines_from 0 0 h.contexts.items = c.in_ok-lines.ensures ∙ ap (lines_from 0 0) c.deref.ensures.value in
     let long : length (lines_from 0 0 h.contexts.items) < 2 ^ 64 = omega (arith, lines.ok.0, lines.ok.1, lines.small, length-map lines.items line_of, ap length same) in
     let small : length o.nodes < 2 ^ 32 = omega (arith, c.requires.classifiable.classes, c.requires.classifiable.few_names) in
-    let below : length c.axioms.result.now < 2 ^ 32 = c.if-prove.true in
-    let few : length o.axioms < 2 ^ 32 = omega (arith, below, length-map c.axioms.result.now axiom_of, ap length c.axioms.ensures) in
+    let few : length o.axioms < 2 ^ 32 = c.requires.classifiable.few_axioms in
     let refused = c.in-Err.ensures.none in
     elim c.if-consistent.branch [
       | then-consistent+in_ok-listed w ↦
