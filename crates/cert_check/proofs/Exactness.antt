@@ -23,8 +23,9 @@ use Rattle.cert_check.specs.declared.verdict.Verdict.TheVariants.{Accepted, Reje
 use Rattle.cert_check.specs.Acceptable.{Agrees, ClaimHolds, LiesBelow, Belongs, IsConsistentShown, IsTop, of_thing, of_individual, IsContradictionShown, IsAcceptable, AreRight}
 use Rattle.cert_check.specs.Derivation.{IsDerivation, HasLine}
 use Rattle.cert_check.specs.Faults.{DifferFirstAt}
-use Rattle.cert_check.specs.Verdict.{IsContradiction, HasContradiction, ClaimsHold, IndividualAgrees, Against, ConsistentAgainst, IsJudged, HasBadLine, IsVerdict}
+use Rattle.cert_check.specs.Verdict.{IsContradiction, HasContradiction, ClaimsHold, IndividualAgrees, Against, ConsistentAgainst, IsJudged, HasBadLine, HasTrueLines, IsVerdict, PassesLines}
 use Rattle.cert_check.proofs.Decisions.{has_line_or_not}
+use Rattle.cert_check.proofs.Derivations.{lines_true}
 use Rattle.cert_check.proofs.Determined.{same_answer}
 use Rattle.cert_check.proofs.Headline.{acceptable_says}
 use Rattle.cert_check.proofs.Listings.{listings_agree}
@@ -211,3 +212,25 @@ pub accepted_right : (o : Ontology) → IsOntology o → (t i text : List ℕ) (
 accepted_right o w t i text v j e =
     let a = (accepted_exactly o w t i text v j).0 e in
     record { certificate = a.certificate; text_is = a.text_is; says = acceptable_says o w t i text a }
+
+-- ---- lines that were passed
+
+module _ (o : Ontology) (w : IsOntology o) (t i text : List ℕ) where
+  judged_lines : (reason : Option Reason) → IsJudged o t i text reason → HasTrueLines o text
+  judged_lines reason j = record {
+    certificate = j.certificate;
+    text_is = j.text_is;
+    lines = λ m model n line g. lines_true o w j.certificate.lines j.derivation m model n line g;
+  }
+
+  pub passed_lines : (v : Verdict) → IsVerdict o t i text v → PassesLines v → HasTrueLines o text
+  passed_lines Accepted j p = judged_lines None j
+  passed_lines (Rejected (BadText at)) j p = absurd p
+  passed_lines (Rejected (BadLine n)) j p = absurd p
+  passed_lines (Rejected (AxiomFails n)) j p = judged_lines (Some (AxiomFails n)) j
+  passed_lines (Rejected (ClaimMissing c)) j p = judged_lines (Some (ClaimMissing c)) j
+  passed_lines (Rejected (ClaimDisagrees c)) j p = judged_lines (Some (ClaimDisagrees c)) j
+  passed_lines (Rejected (IndividualDisagrees a)) j p = judged_lines (Some (IndividualDisagrees a)) j
+  passed_lines (Rejected NoContradiction) j p = judged_lines (Some NoContradiction) j
+  passed_lines (Rejected (TaxonomyDiffers at)) j p = judged_lines (Some (TaxonomyDiffers at)) j
+  passed_lines (Rejected (InstancesDiffer at)) j p = judged_lines (Some (InstancesDiffer at)) j

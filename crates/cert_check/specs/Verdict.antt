@@ -16,6 +16,7 @@ use Rattle.cert_check.specs.Derivation.{IsDerivation, HasLine}
 use Rattle.cert_check.specs.Acceptable.{IsListing, Agrees, ClaimHolds, LiesBelow, Belongs}
 use Rattle.cert_check.specs.Rows.{SomeLine}
 use Rattle.cert_check.specs.Faults.{IsFirstBadLine, DifferFirstAt}
+use Rattle.cert_check.specs.Lines.{IsTrueIn}
 
 -- the conclusion puts owl:Thing or an individual below owl:Nothing, so that there is no interpretation of the axioms
 abbrev pub IsContradiction : Conclusion → Type 0
@@ -125,3 +126,15 @@ IsVerdict o t i text (Rejected (BadText at)) = (c : Certificate) → IsTextOf o 
 IsVerdict o t i text (Rejected (BadLine n)) = HasBadLine o text n
 IsVerdict o t i text (Rejected reason) = IsJudged o t i text (Some reason)
 IsVerdict o t i text Accepted = IsJudged o t i text None
+
+-- the verdict is neither C1 nor C2: the text is that of a certificate, and its lines are a derivation
+abbrev pub PassesLines : Verdict → Type 0
+PassesLines (Rejected (BadText at)) = ⊥
+PassesLines (Rejected (BadLine n)) = ⊥
+PassesLines verdict = Unit {0}
+
+-- the text is that of a certificate, and each of its lines is true in every interpretation in which the axioms hold
+pub record HasTrueLines (o : Ontology) (text : List ℕ) : Type 0 where
+  pub certificate : Certificate
+  pub text_is : IsTextOf o text certificate
+  pub lines : (i : Interpretation) → IsModel i (axiom_trees o) → (n : ℕ) (line : Line) → slice_get certificate.lines n ≡ Some line → IsTrueIn o i line.conclusion

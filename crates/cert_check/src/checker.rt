@@ -2,7 +2,7 @@
 ghost use Rattle.axioms.specs.Numbered.{axiom_trees};
 ghost use Rattle.cert_check.specs.Acceptable.{AreRight, IsAcceptable, IsListing};
 ghost use Rattle.cert_check.specs.Rows.{AreClassRows, AreTypeRows};
-ghost use Rattle.cert_check.specs.Verdict.{Against, ClaimsAgainst, ConsistentAgainst, ContradictionAgainst, HasContradiction, IsContradiction, IsVerdict, RelationAgainst, TextsAgainst, verdict_of_reason};
+ghost use Rattle.cert_check.specs.Verdict.{Against, ClaimsAgainst, ConsistentAgainst, ContradictionAgainst, HasContradiction, HasTrueLines, IsContradiction, IsVerdict, PassesLines, RelationAgainst, TextsAgainst, verdict_of_reason};
 ghost use Rattle.certificate.specs.HasText.{IsLineOf, IsListedOf};
 ghost use Rattle.certificate.specs.View.{conclusion_of, lines_of, listed_of};
 ghost use Rattle.interpretation_spec.specs.ByName.{IsFirstUnsatisfied};
@@ -40,6 +40,8 @@ pub fn check(
     ensures verdict { IfOk result (IsVerdict ontology.now taxonomy.now instances.now certificate.now) }
     // It accepts exactly what is acceptable.
     ensures accepted { IfOk result (λ v. (v ≡ Verdict.Accepted) ↔ IsAcceptable ontology.now taxonomy.now instances.now certificate.now) }
+    // Where it passes the lines, each is true in every interpretation in which the axioms hold.
+    ensures lines { IfOk result (λ v. PassesLines v → HasTrueLines ontology.now certificate.now) }
     // What it accepts says what follows from the axioms.
     ensures says { IfOk result (λ v. v ≡ Verdict.Accepted → AreRight ontology.now taxonomy.now instances.now certificate.now) }
 {

@@ -86,6 +86,7 @@ checked_files most d d' t t' i i' c c' o verdict kd kt ki kc checked = record {
   instances_is = known_file i i' checked.instances_text ki checked.instances_is;
   certificate_is = known_file c c' checked.certificate_text kc checked.certificate_is;
   judged = checked.judged;
+  lines = checked.lines;
   accepted = checked.accepted;
   right = checked.right;
 }

@@ -3,7 +3,7 @@ use Rattle.std.specs.Prelude.{◌≡◌, ◌≤◌, ◌↔◌, ℕ, zero, suc, L
 use Rattle.axioms.specs.Numbered.{Ontology}
 use Rattle.axioms.specs.WellFormed.{IsOntology}
 use Rattle.cert_check.specs.Acceptable.{AreRight, IsAcceptable}
-use Rattle.cert_check.specs.Verdict.{IsVerdict}
+use Rattle.cert_check.specs.Verdict.{HasTrueLines, IsVerdict, PassesLines}
 use Rattle.cert_check.specs.declared.verdict.Verdict.{Verdict}
 use Rattle.cert_check.specs.declared.verdict.Verdict.TheVariants.{Accepted}
 use Rattle.cli.specs.Devices.{Device}
@@ -20,7 +20,7 @@ AreKnown None bytes = Unit {0}
 AreKnown (Some left) bytes = left ≡ bytes
 
 -- the document reads as an ontology, and the verdict is on the three texts and that ontology: they are accepted exactly
--- where they are acceptable, and then they say what follows from the axioms
+-- where they are acceptable, and then they say what follows from the axioms; lines that were passed are true
 pub record IsChecked (most : ℕ) (document taxonomy instances certificate : Option (List ℕ)) (o : Ontology) (verdict : Verdict) : Type 0 where
   pub reads : ReadsKnown document most o
   pub well_formed : IsOntology o
@@ -31,6 +31,7 @@ pub record IsChecked (most : ℕ) (document taxonomy instances certificate : Opt
   pub instances_is : AreKnown instances instances_text
   pub certificate_is : AreKnown certificate certificate_text
   pub judged : IsVerdict o taxonomy_text instances_text certificate_text verdict
+  pub lines : PassesLines verdict → HasTrueLines o certificate_text
   pub accepted : (verdict ≡ Accepted) ↔ IsAcceptable o taxonomy_text instances_text certificate_text
   pub right : verdict ≡ Accepted → AreRight o taxonomy_text instances_text certificate_text
 

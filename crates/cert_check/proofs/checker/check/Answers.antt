@@ -1,4 +1,4 @@
-use Rattle.cert_check.proofs.Exactness.{accepted_exactly, accepted_right}
+use Rattle.cert_check.proofs.Exactness.{accepted_exactly, accepted_right, passed_lines}
 use Rattle.cert_check.proofs.checker.check.Goals as goal
 
 pub returns : goal.returns
@@ -11,5 +11,6 @@ returns c =
     record {
       verdict = verdict;
       accepted = accepted_exactly o c.expr.ensures.valid t i text c.in_ok-verdict.verdict verdict;
+      lines = passed_lines o c.expr.ensures.valid t i text c.in_ok-verdict.verdict verdict;
       says = accepted_right o c.expr.ensures.valid t i text c.in_ok-verdict.verdict verdict;
     }
