@@ -1,76 +1,116 @@
 //! Small ontologies that are built name by name, with their numbers worked out by hand.
 
 use super::*;
+use std::alloc::AllocGlobal;
 use std::hash::RandomState;
 use std::process::Abort;
+use std::random::RandomSource;
 use std::test::Fail;
 
-fn empty(rt: &HostRuntime) -> Result<Builder, Fail> {
+/// A builder of the ontology of no statements.
+fn empty<R: AllocGlobal + RandomSource>(rt: &R) -> Result<Builder, Fail> {
     Ok(Builder::new(rt.alloc(), RandomState::new(rt)?)?)
+}
+
+/// Whether the class of that number has this IRI, and its own expression.
+fn is_standard(ontology: &Ontology, number: usize, iri: &str) -> bool {
+    ontology.classes().get(number).map(String::as_str) == Some(iri)
+        && ontology.class_expr(ClassId(number)) == Some(ExprId(number))
+}
+
+/// The two classes of the standard, and nothing else.
+fn assert_empty<R: Abort>(rt: &R, ontology: &Ontology) {
+    assert!(rt; is_standard(ontology, 0, OWL_THING));
+    assert!(rt; is_standard(ontology, 1, OWL_NOTHING));
+    assert_eq!(rt; ontology.classes().len(), 2);
+    assert_eq!(rt; ontology.expression_count(), 2);
+    assert_eq!(rt; ontology.axioms().len(), 0);
 }
 
 #[test]
 fn empty_ontology(rt: HostRuntime) -> Result<(), Fail> {
     let ontology = empty(&rt)?.finish();
-    for (number, iri) in [OWL_THING, OWL_NOTHING].iter().enumerate() {
-        assert_eq!(rt;
-            ontology.classes().get(number).map(String::as_str),
-            Some(*iri)
-        );
-        assert_eq!(rt; ontology.class_expr(ClassId(number)), Some(ExprId(number)));
-    }
-    assert_eq!(rt; ontology.classes().len(), 2);
-    assert_eq!(rt; ontology.expression_count(), 2);
-    assert_eq!(rt; ontology.axioms().len(), 0);
+    assert_empty(&rt, &ontology);
+    Ok(())
+}
+
+/// The name of a class whose expression has the same number.
+fn class(number: usize) -> Name {
+    Name::Class(ClassId(number), ExprId(number))
+}
+
+/// Whether the IRI is declared as that name of its kind.
+fn is_declared(builder: &mut Builder, iri: &str, name: Name) -> Result<bool, BuildFault> {
+    let kind = match name {
+        Name::Class(_, _) => Kind::Class,
+        Name::Property(_) => Kind::Property,
+        Name::Individual(_) => Kind::Individual,
+    };
+    Ok(builder.declare(kind, iri)? == name)
+}
+
+fn assert_classes<R: Abort>(rt: &R, builder: &mut Builder) -> Result<(), BuildFault> {
+    assert!(rt; is_declared(builder, "x:A", class(2))?);
+    assert!(rt; is_declared(builder, "x:B", class(3))?);
+    assert!(rt; is_declared(builder, "x:A", class(2))?);
+    assert!(rt; is_declared(builder, OWL_NOTHING, class(1))?);
+    Ok(())
+}
+
+fn assert_properties<R: Abort>(rt: &R, builder: &mut Builder) -> Result<(), BuildFault> {
+    assert!(rt; is_declared(builder, "x:q", Name::Property(PropId(0)))?);
+    assert!(rt; is_declared(builder, "x:A", Name::Property(PropId(1)))?);
+    assert!(rt; is_declared(builder, "x:q", Name::Property(PropId(0)))?);
+    Ok(())
+}
+
+fn assert_individuals<R: Abort>(rt: &R, builder: &mut Builder) -> Result<(), BuildFault> {
+    assert!(rt; is_declared(builder, "x:A", Name::Individual(IndId(0)))?);
+    assert!(rt; is_declared(builder, "x:a", Name::Individual(IndId(1)))?);
+    Ok(())
+}
+
+/// The names of each kind have numbers of their own.
+fn assert_numbers<R: Abort>(rt: &R, builder: &mut Builder) -> Result<(), Fail> {
+    assert_classes(rt, builder)?;
+    assert_properties(rt, builder)?;
+    assert_individuals(rt, builder)?;
     Ok(())
 }
 
 #[test]
 fn names_by_first_place(rt: HostRuntime) -> Result<(), Fail> {
     let mut builder = empty(&rt)?;
-    for (kind, iri, name) in [
-        (Kind::Class, "x:A", Name::Class(ClassId(2), ExprId(2))),
-        (Kind::Class, "x:B", Name::Class(ClassId(3), ExprId(3))),
-        (Kind::Class, "x:A", Name::Class(ClassId(2), ExprId(2))),
-        (Kind::Class, OWL_NOTHING, Name::Class(ClassId(1), ExprId(1))),
-        (Kind::Property, "x:q", Name::Property(PropId(0))),
-        (Kind::Property, "x:A", Name::Property(PropId(1))),
-        (Kind::Property, "x:q", Name::Property(PropId(0))),
-        (Kind::Individual, "x:A", Name::Individual(IndId(0))),
-        (Kind::Individual, "x:a", Name::Individual(IndId(1))),
-    ] {
-        assert_eq!(rt; builder.declare(kind, iri)?, name, "{iri}");
-    }
+    assert_numbers(&rt, &mut builder)
+}
+
+fn declare_some_names(builder: &mut Builder) -> Result<(), BuildFault> {
+    builder.declare(Kind::Class, "x:A")?;
+    builder.declare(Kind::Class, "x:B")?;
+    builder.declare(Kind::Property, "x:r")?;
+    builder.declare(Kind::Individual, "x:a")?;
     Ok(())
 }
 
 /// The classes A and B, of numbers 2 and 3, the property r and the individual a.
-fn some_names(rt: &HostRuntime) -> Result<Builder, Fail> {
+fn some_names<R: AllocGlobal + RandomSource>(rt: &R) -> Result<Builder, Fail> {
     let mut builder = empty(rt)?;
-    for (kind, iri) in [
-        (Kind::Class, "x:A"),
-        (Kind::Class, "x:B"),
-        (Kind::Property, "x:r"),
-        (Kind::Individual, "x:a"),
-    ] {
-        builder.declare(kind, iri)?;
-    }
+    declare_some_names(&mut builder)?;
     Ok(builder)
+}
+
+/// Whether this is the first of the names.
+fn is_first(names: &[String], iri: &str) -> bool {
+    names.first().map(String::as_str) == Some(iri)
 }
 
 /// What the numbers of some names stand for.
 fn assert_names<R: Abort>(rt: &R, ontology: &Ontology) {
     assert_eq!(rt; ontology.classes().len(), 4);
-    assert_eq!(rt;
-        ontology.properties().first().map(String::as_str),
-        Some("x:r")
-    );
-    assert_eq!(rt;
-        ontology.individuals().first().map(String::as_str),
-        Some("x:a")
-    );
-    assert_eq!(rt; ontology.expr(ExprId(3)), Some(&Expr::Class(ClassId(3))));
-    assert_eq!(rt; ontology.expr(ExprId(4)), None);
+    assert!(rt; is_first(ontology.properties(), "x:r"));
+    assert!(rt; is_first(ontology.individuals(), "x:a"));
+    assert!(rt; matches!(ontology.expr(ExprId(3)), Some(Expr::Class(ClassId(3)))));
+    assert!(rt; ontology.expr(ExprId(4)).is_none());
 }
 
 #[test]
@@ -93,11 +133,20 @@ fn add_some<R: Abort>(
     builder.add_expr(Expr::Some(PropId(property), ExprId(filler)))
 }
 
+/// The number of the intersection of the classes A and B.
+fn add_both<R: AllocGlobal + Abort>(rt: &R, builder: &mut Builder) -> Result<ExprId, Memory> {
+    assert!(rt; builder.ontology().expression_count() > 3);
+    let operands = Vec::from_array(rt.alloc(), [ExprId(2), ExprId(3)])?;
+    builder.add_expr(Expr::And(operands))
+}
+
 /// An expression has one number, and a new one the next.
-fn assert_expressions<R: Abort>(rt: &R, builder: &mut Builder) -> Result<(), Fail> {
-    for (filler, number) in [(2, 4), (4, 5), (2, 4)] {
-        assert_eq!(rt; add_some(rt, builder, 0, filler)?, ExprId(number));
-    }
+fn assert_expressions<R: AllocGlobal + Abort>(rt: &R, builder: &mut Builder) -> Result<(), Fail> {
+    assert_eq!(rt; add_some(rt, builder, 0, 2)?.0, 4);
+    assert_eq!(rt; add_both(rt, builder)?.0, 5);
+    assert_eq!(rt; add_some(rt, builder, 0, 5)?.0, 6);
+    assert_eq!(rt; add_both(rt, builder)?.0, 5);
+    assert_eq!(rt; add_some(rt, builder, 0, 2)?.0, 4);
     Ok(())
 }
 
@@ -126,40 +175,61 @@ fn state_cycle<R: Abort>(rt: &R, builder: &mut Builder) -> Result<(), Memory> {
     state(rt, builder, 3, 2)
 }
 
+/// Whether the axiom of that number states that the one class is a subclass of the other.
+fn is_stated(ontology: &Ontology, number: usize, sub: usize, superclass: usize) -> bool {
+    match ontology.axiom(number) {
+        Some(Axiom::SubClass(c, d)) => c.0 == sub && d.0 == superclass,
+        _ => false,
+    }
+}
+
 /// The axioms of that cycle, by number from 1.
 fn assert_cycle<R: Abort>(rt: &R, ontology: &Ontology) {
-    let cycle = [
-        Axiom::SubClass(ExprId(2), ExprId(3)),
-        Axiom::SubClass(ExprId(3), ExprId(2)),
-    ];
-    assert_eq!(rt; ontology.axioms(), cycle.as_slice());
-    assert_eq!(rt; ontology.axiom(0), None);
-    assert_eq!(rt; ontology.axiom(2), ontology.axioms().get(1));
-    assert_eq!(rt; ontology.axiom(3), None);
+    assert!(rt; is_stated(ontology, 1, 2, 3));
+    assert!(rt; is_stated(ontology, 2, 3, 2));
+    assert!(rt; ontology.axiom(0).is_none());
+    assert!(rt; ontology.axiom(3).is_none());
+    assert!(rt; ontology.axiom(2) == ontology.axioms().get(1));
+    assert_eq!(rt; ontology.axioms().len(), 2);
+}
+
+/// The axioms have numbers in the order in which they come.
+fn assert_axioms<R: Abort>(rt: &R, builder: &mut Builder) -> Result<(), Fail> {
+    state_cycle(rt, builder)?;
+    assert_cycle(rt, builder.ontology());
+    Ok(())
 }
 
 #[test]
 fn axioms_by_number(rt: HostRuntime) -> Result<(), Fail> {
     let mut builder = some_names(&rt)?;
-    state_cycle(&rt, &mut builder)?;
-    assert_cycle(&rt, builder.ontology());
-    Ok(())
+    assert_axioms(&rt, &mut builder)
 }
 
-/// A copy of the ontology with one more class.
-fn grown_copy(ontology: &Ontology) -> Result<Ontology, Fail> {
-    let mut builder = Builder::from(ontology.copy()?);
+/// How many classes there are with one more.
+fn grown(builder: &mut Builder) -> Result<usize, Fail> {
     builder.declare(Kind::Class, "x:C")?;
-    Ok(builder.finish())
+    Ok(builder.ontology().classes().len())
+}
+
+/// How many classes a copy of the ontology has with one more.
+fn grown_copy(ontology: &Ontology) -> Result<usize, Fail> {
+    let mut copy = Builder::from(ontology.copy()?);
+    grown(&mut copy)
+}
+
+/// The copy has one class more, and the ontology none.
+fn assert_copy<R: Abort>(rt: &R, ontology: &Ontology) -> Result<(), Fail> {
+    let many = grown_copy(ontology)?;
+    assert_eq!(rt; many, 5);
+    assert_eq!(rt; ontology.classes().len(), 4);
+    Ok(())
 }
 
 #[test]
 fn a_copy_grows_alone(rt: HostRuntime) -> Result<(), Fail> {
     let builder = some_names(&rt)?;
-    let grown = grown_copy(builder.ontology())?;
-    assert_eq!(rt; grown.classes().len(), 5);
-    assert_eq!(rt; builder.ontology().classes().len(), 4);
-    Ok(())
+    assert_copy(&rt, builder.ontology())
 }
 
 #[test]
