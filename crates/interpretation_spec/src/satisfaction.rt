@@ -34,8 +34,8 @@ impl Interpretation {
     /// that this was made for.
     pub fn satisfies(&self, ontology: &Ontology, axiom: &Axiom) -> Result<bool, Memory>
         requires made_for { IsMadeFor ontology.now.names self.now }
-        requires of { IsAxiomOf ontology.now (axiom_of axiom.now) }
-        ensures { IfOk result (λ holds. IsTrue holds ↔ Satisfies (interpretation_of ontology.now.names self.now) (axiom_tree ontology.now (axiom_of axiom.now))) }
+        requires of { IsAxiomOf ontology.now (axiom_of «axiom».now) }
+        ensures { IfOk result (λ holds. IsTrue holds ↔ Satisfies (interpretation_of ontology.now.names self.now) (axiom_tree ontology.now (axiom_of «axiom».now))) }
     {
         well_formed(ontology);
         match axiom {
