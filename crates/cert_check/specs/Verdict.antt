@@ -1,5 +1,5 @@
 -- What the checker's answers mean.
-use Rattle.std.specs.Prelude.{◌≡◌, ℕ, ◌<◌, List, Bool, slice_get, Some, None}
+use Rattle.std.specs.Prelude.{◌≡◌, ℕ, ◌<◌, ◌≤◌, List, Bool, length, slice_get, Some, None}
 use Rattle.std.specs.declared.option.Option.{Option}
 use Rattle.std.specs.List.{Contains}
 use Rattle.axioms.specs.Numbered.{Ontology, IsClassAt, axiom_trees, thing, nothing}
@@ -122,7 +122,7 @@ pub record HasBadLine (o : Ontology) (text : List ℕ) (number : ℕ) : Type 0 w
 
 -- what the verdict says of an ontology, a taxonomy text, an instances text and a certificate text
 abbrev pub IsVerdict : Ontology → (taxonomy instances text : List ℕ) → Verdict → Type 0
-IsVerdict o t i text (Rejected (BadText at)) = (c : Certificate) → IsTextOf o text c → ⊥
+IsVerdict o t i text (Rejected (BadText at)) = (at ≤ length text) × ((c : Certificate) → IsTextOf o text c → ⊥)
 IsVerdict o t i text (Rejected (BadLine n)) = HasBadLine o text n
 IsVerdict o t i text (Rejected reason) = IsJudged o t i text (Some reason)
 IsVerdict o t i text Accepted = IsJudged o t i text None
