@@ -97,7 +97,7 @@ stands_from declared d (inr none) other k = absurd (none other (Contains-append_
 same_pair : (c d : List ℕ × List ℕ) → c.0 ≡ d.0 → c.1 ≡ d.1 → c ≡ d
 same_pair c d first second = ap (λ (p : List ℕ). (p, c.1)) first ∙ ap (λ (q : List ℕ). (d.0, q)) second
 
-same_name : (a b text : List ℕ) → text ≡ a ++ codes ":" → text ≡ b ++ codes ":" → a ≡ b
+pub same_name : (a b text : List ℕ) → text ≡ a ++ codes ":" → text ≡ b ++ codes ":" → a ≡ b
 same_name a b text h k = append_cancel_right a b (codes ":") (sym h ∙ k)
 
 pub one_declaration : (c d : List ℕ × List ℕ) (tokens x y : List Token) → IsDeclaration c tokens x → IsDeclaration d tokens y → (c ≡ d) × (x ≡ y)

@@ -6,3 +6,4 @@ pub mod Inside
 pub mod Steps
 pub mod Indexed
 pub mod Documents
+pub mod Faults

@@ -7,4 +7,5 @@ pub mod Known
 pub mod Machine
 pub mod State
 pub mod Front
+pub mod Faults
 pub mod Laws

@@ -1,8 +1,9 @@
 //! Reading tokens one after the other, with the open parentheses on a stack.
 
-ghost use Rattle.std.specs.Prelude.{◌≡◌, Some, None, map};
-ghost use Rattle.std.specs.Result.{IfOk};
+ghost use Rattle.std.specs.Prelude.{◌≡◌, ℕ, Some, None, length, map};
+ghost use Rattle.std.specs.Result.{IfErr, IfOk, OnOk};
 ghost use Rattle.fs_lexer.specs.Views.{token_of};
+ghost use Rattle.fs_parser.specs.Faults.{IsPlain, IsSaidOfToken, IsSaidOfTrees, IsTooDeepAt};
 ghost use Rattle.fs_parser.specs.Machine as machine;
 ghost use Rattle.fs_parser.specs.Machine.{add, enter, leave, plain, behind_text, step, ends, finish, finish_before};
 ghost use Rattle.fs_parser.specs.Name.{StandForOne};
@@ -47,7 +48,9 @@ pub struct State<'a> {
 
 /// One more tree.
 fn push<'a>(state: &mut State<'a>, tree: Tree<'a>) -> Result<(), ParseFault>
-    ensures { Gives (λ _. state_of state.new) result (Some (add (frames_of state.old.frames.items) (map tree_of state.old.done.items) (tree_of tree.entry))) }
+    ensures given { Gives (λ _. state_of state.new) result (Some (add (frames_of state.old.frames.items) (map tree_of state.old.done.items) (tree_of tree.entry))) }
+    ensures kept { OnOk result (state.new.frames ≡ state.old.frames) }
+    ensures said { IfErr result IsPlain }
 {
     state.done.push(tree)?;
     state.pending = Pending::Nothing;
@@ -63,7 +66,8 @@ fn open<'a>(
     keyword: Option<&'a str>,
     here: usize,
 ) -> Result<(), ParseFault>
-    ensures { Gives (λ _. state_of state.new) result (enter limit (frames_of state.old.frames.items) (map tree_of state.old.done.items) at (keyword_of keyword.entry)) }
+    ensures given { Gives (λ _. state_of state.new) result (enter limit (frames_of state.old.frames.items) (map tree_of state.old.done.items) at (keyword_of keyword.entry)) }
+    ensures said { IfErr result (IsTooDeepAt limit (length state.old.frames.items) here) }
 {
     if state.frames.len() >= limit {
         return Err(ParseFault::TooDeep { at: here });
@@ -90,7 +94,8 @@ fn whole<'a>(at: usize, keyword: Option<&'a str>, trees: Vec<Tree<'a>>) -> Tree<
 
 /// One open parenthesis less.
 fn close(state: &mut State<'_>, here: usize) -> Result<(), ParseFault>
-    ensures { Gives (λ _. state_of state.new) result (leave (frames_of state.old.frames.items) (map tree_of state.old.done.items)) }
+    ensures given { Gives (λ _. state_of state.new) result (leave (frames_of state.old.frames.items) (map tree_of state.old.done.items)) }
+    ensures said { IfErr result IsPlain }
 {
     match state.frames.pop() {
         Some(frame) => {
@@ -103,7 +108,8 @@ fn close(state: &mut State<'_>, here: usize) -> Result<(), ParseFault>
 
 /// Why the token names no IRI: its prefix is not known, or it is no name.
 fn unnamed(token: &Token<'_>) -> ParseFault
-    ensures { Fails {Y = machine.State} result None }
+    ensures given { Fails {Y = machine.State} result None }
+    ensures said { (limit open' : ℕ) → IsSaidOfToken limit open' None (token_of token.now) result }
 {
     match token.kind {
         Kind::FullIri | Kind::ShortName => ParseFault::UnknownPrefix { at: token.at },
@@ -119,7 +125,8 @@ fn take_plain<'a>(
     token: &Token<'a>,
     name: Option<Iri<'a>>,
 ) -> Result<(), ParseFault>
-    ensures { Gives (λ _. state_of state.new) result (plain limit (name_of_code name.entry) (frames_of state.old.frames.items) (map tree_of state.old.done.items) token.now.kind (token_of token.now)) }
+    ensures given { Gives (λ _. state_of state.new) result (plain limit (name_of_code name.entry) (frames_of state.old.frames.items) (map tree_of state.old.done.items) token.now.kind (token_of token.now)) }
+    ensures said { IfErr result (IsSaidOfToken limit (length state.old.frames.items) (name_of_code name.entry) (token_of token.now)) }
 {
     match token.kind {
         Kind::Opening => open(alloc, limit, state, token.at, None, token.at),
@@ -166,7 +173,8 @@ fn take_behind_text<'a>(
     token: &Token<'a>,
     name: Option<Iri<'a>>,
 ) -> Result<(), ParseFault>
-    ensures { Gives (λ _. state_of state.new) result (behind_text limit (name_of_code name.entry) (frames_of state.old.frames.items) (map tree_of state.old.done.items) at text.now token.now.kind (token_of token.now)) }
+    ensures given { Gives (λ _. state_of state.new) result (behind_text limit (name_of_code name.entry) (frames_of state.old.frames.items) (map tree_of state.old.done.items) at text.now token.now.kind (token_of token.now)) }
+    ensures said { IfErr result (IsSaidOfToken limit (length state.old.frames.items) (name_of_code name.entry) (token_of token.now)) }
 {
     match token.kind {
         Kind::LanguageTag => push(
@@ -196,7 +204,8 @@ fn take<'a>(
     token: &Token<'a>,
     name: Option<Iri<'a>>,
 ) -> Result<(), ParseFault>
-    ensures { Gives (λ _. state_of state.new) result (step limit (name_of_code name.entry) (state_of state.old) (token_of token.now)) }
+    ensures given { Gives (λ _. state_of state.new) result (step limit (name_of_code name.entry) (state_of state.old) (token_of token.now)) }
+    ensures said { IfErr result (IsSaidOfToken limit (length state.old.frames.items) (name_of_code name.entry) (token_of token.now)) }
 {
     match state.pending {
         Pending::Nothing => take_plain(alloc, limit, state, token, name),
@@ -224,7 +233,8 @@ fn take<'a>(
 
 /// The trees, at the end of the tokens.
 fn end(state: State<'_>, here: usize) -> Result<Vec<Tree<'_>>, ParseFault>
-    ensures { Gives (λ v. map tree_of v.items) result (finish (state_of state.entry)) }
+    ensures given { Gives (λ v. map tree_of v.items) result (finish (state_of state.entry)) }
+    ensures said { IfErr result IsPlain }
 {
     if !state.frames.is_empty() {
         return Err(ParseFault::UnexpectedEnd { at: here });
@@ -259,7 +269,8 @@ fn end_before<'a>(
     state: State<'a>,
     here: usize,
 ) -> Result<Vec<Tree<'a>>, ParseFault>
-    ensures { Gives (λ v. map tree_of v.items) result (finish_before (tokens_of rest.now) (state_of state.entry)) }
+    ensures given { Gives (λ v. map tree_of v.items) result (finish_before (tokens_of rest.now) (state_of state.entry)) }
+    ensures said { IfErr result IsPlain }
 {
     match rest {
         [] => end(state, here),
@@ -280,6 +291,8 @@ pub fn trees_inside<'a>(
     ensures found { IfOk result (λ v. AreClosed limit (known_of known.now) (trees_of v.items) (tokens_of tokens.now)) }
     // Where they are such trees these are found, unless memory runs out.
     ensures only { (ts : Trees) → AreClosed limit (known_of known.now) ts (tokens_of tokens.now) → Gives (λ v. trees_of v.items) result (Some ts) }
+    // What a refusal speaks of stands at its place.
+    ensures said { IfErr result (IsSaidOfTrees limit (known_of known.now) (tokens_of tokens.now)) }
 {
     let mut state = State {
         frames: Vec::new(alloc),

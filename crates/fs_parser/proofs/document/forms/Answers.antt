@@ -3,6 +3,7 @@ use Rattle.std.proofs.lemmas.Bool.{false≢true}
 use Rattle.std.proofs.lemmas.Result.{err_from_is_err_and}
 use Rattle.fs_parser.specs.View.{prefix_of, prefixes_of_code, trees_of}
 use Rattle.fs_parser.proofs.Documents.{nothing_read, one_read, none_declared, document_read, none_read, allowed_one}
+use Rattle.fs_parser.proofs.Faults.{placed_there}
 use Rattle.fs_parser.proofs.document.forms.Goals as goal
 
 pub declarations-init : goal.declarations-init
@@ -31,3 +32,15 @@ returns-in_err-trees-clause-refused c =
 pub returns-clause-found : goal.returns-clause-found
 returns-clause-found c =
     document_read c.args.tokens.now c.declarations.read (prefixes_of_code c.declarations.known.declared.items) (trees_of c.in_ok-trees.trees.items) c.declarations.invariant c.in_ok-trees.ensures.found
+
+pub returns-in_err-prefix-clause-placed : goal.returns-in_err-prefix-clause-placed
+returns-in_err-prefix-clause-placed c =
+    let p = err_from_is_err_and c.from_residual.result c.from_residual.ensures.1 in
+    rw (p.1, p.2) (placed_there c.args.tokens.now c.declarations.read (prefixes_of_code c.declarations.known.declared.items) c.in_err-prefix.field-0.0 c.declarations.invariant
+    c.in_err-prefix.ensures.said)
+
+pub returns-in_err-trees-clause-placed : goal.returns-in_err-trees-clause-placed
+returns-in_err-trees-clause-placed c =
+    let p = err_from_is_err_and c.from_residual-in_err-trees.result c.from_residual-in_err-trees.ensures.1 in
+    rw (p.1, p.2) (placed_there c.args.tokens.now c.declarations.read (prefixes_of_code c.declarations.known.declared.items) c.in_err-trees.field-0.0 c.declarations.invariant
+    c.in_err-trees.ensures.said)
