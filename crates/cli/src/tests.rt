@@ -1,15 +1,18 @@
 //! Whole runs over files in memory, on documents worked out by hand.
 
-use crate::{Limits, Summary, Verdict, check_document, classify_document, perform};
-use device::{BufferSink, SliceSource};
-use std::alloc::Global;
+mod failing;
+mod hierarchies;
+
+use crate::perform;
+use device::BufferSink;
+use std::alloc::{AllocError, Global};
 use std::hash::RandomState;
 use std::random::RandomSource;
 use std::test::Fail;
-use system_files::MemoryFiles;
+use system_files::{Files, MemoryFiles};
 
 /// What a run printed, and its status.
-#[derive(Debug, Drop)]
+#[derive(Drop)]
 struct Run {
     status: u8,
     out: Vec<u8>,
@@ -17,10 +20,10 @@ struct Run {
 }
 
 /// A run of the program.
-fn run_of<R: AllocGlobal + RandomSource>(
+fn run_of<R: AllocGlobal + RandomSource, F: Files>(
     rt: &R,
     words: &[&str],
-    files: &mut MemoryFiles<'_>,
+    files: &mut F,
 ) -> Result<Run, Fail> {
     let alloc = rt.alloc();
     let state = RandomState::new(rt)?;
@@ -42,7 +45,7 @@ fn is_run(run: &Run, status: u8, out: &str, err: &str) -> bool {
 }
 
 /// The texts of a classification.
-#[derive(Debug, Drop)]
+#[derive(Drop)]
 struct Texts {
     taxonomy: Vec<u8>,
     instances: Vec<u8>,
@@ -57,33 +60,37 @@ fn no_texts(alloc: Global) -> Texts {
     }
 }
 
-/// A classification of the document, and what it wrote.
-fn classify<R: AllocGlobal + RandomSource>(
+/// The files that a classification writes.
+fn outputs_of<'a>(
+    alloc: Global,
+    texts: &'a mut Texts,
+) -> Result<Vec<(&'a str, &'a mut Vec<u8>)>, AllocError> {
+    let mut outputs = Vec::new(alloc);
+    outputs.push(("tax", &mut texts.taxonomy))?;
+    outputs.push(("inst", &mut texts.instances))?;
+    outputs.push(("cert", &mut texts.certificate))?;
+    Ok(outputs)
+}
+
+/// A run that reads these files and writes the texts.
+fn run_writing<'a, R: AllocGlobal + RandomSource>(
     rt: &R,
+    words: &[&str],
+    inputs: &'a [(&'a str, &'a [u8])],
+    texts: &'a mut Texts,
+) -> Result<Run, Fail> {
+    let mut files = MemoryFiles::new(inputs, outputs_of(rt.alloc(), texts)?);
+    run_of(rt, words, &mut files)
+}
+
+/// A run on the document, and what it wrote.
+fn written_by<R: AllocGlobal + RandomSource>(
+    rt: &R,
+    words: &[&str],
     document: &[u8],
-    options: &[&'static str],
 ) -> Result<(Run, Texts), Fail> {
-    let alloc = rt.alloc();
-    let mut words = ["elc", "classify", "doc", "tax", "inst", "cert"].to_vec(alloc)?;
-    words.extend_from_slice(options)?;
-    let document = document.to_vec(alloc)?;
-    let mut taxonomy = Vec::new(alloc);
-    let mut instances = Vec::new(alloc);
-    let mut certificate = Vec::new(alloc);
-    let run = {
-        let mut outputs = Vec::new(alloc);
-        outputs.push(("tax", &mut taxonomy))?;
-        outputs.push(("inst", &mut instances))?;
-        outputs.push(("cert", &mut certificate))?;
-        let inputs = [("doc", document.as_slice())];
-        let mut files = MemoryFiles::new(&inputs, outputs);
-        run_of(rt, &words, &mut files)?
-    };
-    let texts = Texts {
-        taxonomy,
-        instances,
-        certificate,
-    };
+    let mut texts = no_texts(rt.alloc());
+    let run = run_writing(rt, words, &[("doc", document)], &mut texts)?;
     Ok((run, texts))
 }
 
@@ -93,7 +100,6 @@ fn check<R: AllocGlobal + RandomSource>(
     document: &[u8],
     texts: &Texts,
 ) -> Result<Run, Fail> {
-    let words = ["elc", "check", "doc", "tax", "inst", "cert"];
     let inputs = [
         ("doc", document),
         ("tax", texts.taxonomy.as_slice()),
@@ -101,13 +107,23 @@ fn check<R: AllocGlobal + RandomSource>(
         ("cert", texts.certificate.as_slice()),
     ];
     let mut files = MemoryFiles::new(&inputs, Vec::new(rt.alloc()));
-    run_of(rt, &words, &mut files)
+    run_of(rt, &CHECK, &mut files)
 }
 
 /// Whether these are the texts, whatever the certificate.
 fn are_texts(texts: &Texts, taxonomy: &str, instances: &str) -> bool {
     texts.taxonomy.as_slice() == taxonomy.as_bytes()
         && texts.instances.as_slice() == instances.as_bytes()
+}
+
+/// Whether the checker accepts the texts of the document.
+fn is_accepted<R: AllocGlobal + RandomSource>(
+    rt: &R,
+    document: &[u8],
+    texts: &Texts,
+) -> Result<bool, Fail> {
+    let run = check(rt, document, texts)?;
+    Ok(is_run(&run, 0, "accepted\n", ""))
 }
 
 /// Whether the document is classified so, and the checker accepts what was written.
@@ -118,39 +134,38 @@ fn gives<R: AllocGlobal + RandomSource>(
     instances: &str,
     counts: &str,
 ) -> Result<bool, Fail> {
-    let (classified, texts) = classify(rt, document, &[])?;
-    let checked = check(rt, document, &texts)?;
-    Ok(
-        is_run(&classified, 0, counts, "")
-            && are_texts(&texts, taxonomy, instances)
-            && is_run(&checked, 0, "accepted\n", ""),
-    )
+    let (run, texts) = written_by(rt, &CLASSIFY, document)?;
+    let is_accepted = is_accepted(rt, document, &texts)?;
+    Ok(is_run(&run, 0, counts, "") && are_texts(&texts, taxonomy, instances) && is_accepted)
 }
 
-/// Whether the document is refused so, and nothing is written.
+/// Whether the words or the document are refused so, and nothing is written.
 fn refuses<R: AllocGlobal + RandomSource>(
     rt: &R,
+    words: &[&str],
     document: &[u8],
-    options: &[&'static str],
     status: u8,
     told: &str,
 ) -> Result<bool, Fail> {
-    let (refused, texts) = classify(rt, document, options)?;
-    Ok(
-        is_run(&refused, status, "", told)
-            && are_texts(&texts, "", "")
-            && texts.certificate.is_empty(),
-    )
+    let (run, texts) = written_by(rt, words, document)?;
+    Ok(is_run(&run, status, "", told) && are_texts(&texts, "", "") && texts.certificate.is_empty())
 }
 
-/// The status of a classification of the document.
+/// The status of a run on the document.
 fn status<R: AllocGlobal + RandomSource>(
     rt: &R,
+    words: &[&str],
     document: &[u8],
-    options: &[&'static str],
 ) -> Result<u8, Fail> {
-    let (run, _texts) = classify(rt, document, options)?;
+    let (run, _texts) = written_by(rt, words, document)?;
     Ok(run.status)
+}
+
+/// The words that classify within a limit.
+fn limited<'a>(option: &'a str, number: &'a str) -> [&'a str; 8] {
+    [
+        "elc", "classify", "doc", "tax", "inst", "cert", option, number,
+    ]
 }
 
 /// A run on a document alone, with no place for texts.
@@ -164,36 +179,9 @@ fn alone<R: AllocGlobal + RandomSource>(
     run_of(rt, words, &mut files)
 }
 
-/// The counts of the document, and the verdict on its texts, by the two calls.
-fn both_calls<R: AllocGlobal + RandomSource>(
-    rt: &R,
-    document: &[u8],
-    limits: &Limits,
-) -> Result<(Summary, Verdict), Fail> {
-    let alloc = rt.alloc();
-    let mut taxonomy = BufferSink::new(alloc);
-    let mut instances = BufferSink::new(alloc);
-    let mut certificate = BufferSink::new(alloc);
-    let summary = classify_document(
-        alloc,
-        &mut SliceSource::new(document),
-        &mut taxonomy,
-        &mut instances,
-        &mut certificate,
-        limits,
-        RandomState::new(rt)?,
-    )?;
-    let verdict = check_document(
-        alloc,
-        &mut SliceSource::new(document),
-        &mut SliceSource::new(taxonomy.bytes()),
-        &mut SliceSource::new(instances.bytes()),
-        &mut SliceSource::new(certificate.bytes()),
-        limits,
-        RandomState::new(rt)?,
-    )?;
-    Ok((summary, verdict))
-}
+const CLASSIFY: [&str; 6] = ["elc", "classify", "doc", "tax", "inst", "cert"];
+
+const CHECK: [&str; 6] = ["elc", "check", "doc", "tax", "inst", "cert"];
 
 const EMPTY: &str =
     "eltax 1 consistent\n<http://www.w3.org/2002/07/owl#Thing>\nbottom <http://www.w3.org/2002/07/owl#Nothing>\n";
@@ -238,17 +226,28 @@ fn two_spellings_in_a_cycle(rt: HostRuntime) -> Result<(), Fail> {
 
 #[test]
 fn contradiction_without_individual(rt: HostRuntime) -> Result<(), Fail> {
-    let document = b"Ontology(SubClassOf(owl:Thing owl:Nothing))";
-    let counts = "inconsistent classes 2 individuals 0 facts 4\n";
-    assert!(rt;
-        gives(
-            &rt,
-            document,
-            "eltax 1 inconsistent\n",
-            "elinst 1 inconsistent\n",
-            counts
-        )?
-    );
+    let rows = [
+        (
+            "Ontology(SubClassOf(owl:Thing owl:Nothing))",
+            "inconsistent classes 2 individuals 0 facts 4\n",
+        ),
+        (
+            "Ontology(SubClassOf(owl:Thing <x:A>) SubClassOf(<x:A> owl:Nothing))",
+            "inconsistent classes 3 individuals 0 facts 9\n",
+        ),
+        (
+            "Ontology(SubClassOf(<x:A> <x:B>) SubClassOf(owl:Thing owl:Nothing))",
+            "inconsistent classes 4 individuals 0 facts 11\n",
+        ),
+    ];
+    let (taxonomy, instances) = ("eltax 1 inconsistent\n", "elinst 1 inconsistent\n");
+    for (document, counts) in rows {
+        let document = document.as_bytes();
+        assert!(rt;
+            gives(&rt, document, taxonomy, instances, counts)?,
+            "{counts}"
+        );
+    }
     Ok(())
 }
 
@@ -270,17 +269,19 @@ fn hash_in_iri_and_comment_at_end(rt: HostRuntime) -> Result<(), Fail> {
 
 #[test]
 fn limit_of_facts(rt: HostRuntime) -> Result<(), Fail> {
-    assert_eq!(rt; status(&rt, b"Ontology()", &["--max-facts", "3"])?, 0);
+    let (enough, less) = (limited("--max-facts", "3"), limited("--max-facts", "2"));
+    assert_eq!(rt; status(&rt, &enough, b"Ontology()")?, 0);
     let told = "limit: more than 2 facts\n";
-    assert!(rt; refuses(&rt, b"Ontology()", &["--max-facts", "2"], 5, told)?);
+    assert!(rt; refuses(&rt, &less, b"Ontology()", 5, told)?);
     Ok(())
 }
 
 #[test]
 fn limit_of_bytes(rt: HostRuntime) -> Result<(), Fail> {
-    assert_eq!(rt; status(&rt, ONE_DOCUMENT, &["--max-bytes", "33"])?, 0);
+    let (enough, less) = (limited("--max-bytes", "33"), limited("--max-bytes", "32"));
+    assert_eq!(rt; status(&rt, &enough, ONE_DOCUMENT)?, 0);
     let told = "limit: more than 32 bytes\n";
-    assert!(rt; refuses(&rt, ONE_DOCUMENT, &["--max-bytes", "32"], 5, told)?);
+    assert!(rt; refuses(&rt, &less, ONE_DOCUMENT, 5, told)?);
     Ok(())
 }
 
@@ -299,34 +300,19 @@ fn refused_documents(rt: HostRuntime) -> Result<(), Fail> {
         (b"Ontology(SubClassOf(<x:A> owl:real))", "F3 at byte 26\n"),
     ];
     for (document, told) in refused {
-        assert!(rt; refuses(&rt, document, &[], 3, told)?, "{told}");
+        assert!(rt; refuses(&rt, &CLASSIFY, document, 3, told)?, "{told}");
     }
     Ok(())
 }
 
 #[test]
 fn refused_words(rt: HostRuntime) -> Result<(), Fail> {
-    assert_eq!(rt; status(&rt, b"Ontology()", &["--max-facts", "0"])?, 2);
-    assert_eq!(rt;
-        status(&rt, b"Ontology()", &["--max-bytes", "268435457"])?,
-        2
-    );
-    assert_eq!(rt; status(&rt, b"Ontology()", &["more"])?, 2);
-    Ok(())
-}
-
-#[test]
-fn classified_and_checked_by_calls(rt: HostRuntime) -> Result<(), Fail> {
-    let limits = Limits::new(33, 8).expect(&rt, "limits");
-    let (summary, verdict) = both_calls(&rt, ONE_DOCUMENT, &limits)?;
-    let counts = Summary {
-        consistent: true,
-        classes: 4,
-        individuals: 0,
-        facts: 8,
-    };
-    assert_eq!(rt; summary, counts);
-    assert_eq!(rt; verdict, Verdict::Accepted);
+    let none = limited("--max-facts", "0");
+    assert_eq!(rt; status(&rt, &none, b"Ontology()")?, 2);
+    let more = limited("--max-bytes", "268435457");
+    assert_eq!(rt; status(&rt, &more, b"Ontology()")?, 2);
+    let words = ["elc", "classify", "doc", "tax", "inst", "cert", "more"];
+    assert_eq!(rt; status(&rt, &words, b"Ontology()")?, 2);
     Ok(())
 }
 
@@ -338,12 +324,10 @@ fn rejected_texts(rt: HostRuntime) -> Result<(), Fail> {
 }
 
 #[test]
-fn files_that_fail(rt: HostRuntime) -> Result<(), Fail> {
-    let checked = ["elc", "check", "doc", "tax", "inst", "cert"];
-    let unread = alone(&rt, &checked, ONE_DOCUMENT)?;
+fn files_that_are_missing(rt: HostRuntime) -> Result<(), Fail> {
+    let unread = alone(&rt, &CHECK, ONE_DOCUMENT)?;
     assert!(rt; is_run(&unread, 6, "", "cannot read tax\n"));
-    let classified = ["elc", "classify", "doc", "tax", "inst", "cert"];
-    let unwritten = alone(&rt, &classified, ONE_DOCUMENT)?;
+    let unwritten = alone(&rt, &CLASSIFY, ONE_DOCUMENT)?;
     assert!(rt; is_run(&unwritten, 6, "", "cannot write tax\n"));
     Ok(())
 }
