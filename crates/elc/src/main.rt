@@ -9,8 +9,9 @@ use std::process::ExitCode;
 use std::{env, io};
 use system_files::SystemFiles;
 
-/// Where words are no text, or memory for them was refused.
 const USAGE: u8 = 2;
+
+const MEMORY: u8 = 4;
 
 const FILE: u8 = 6;
 
@@ -36,11 +37,15 @@ fn main(rt: HostRuntime) -> ExitCode {
     let Ok(state) = RandomState::new(&rt) else {
         return refuse(&mut err, "cannot read random seed\n", FILE);
     };
-    let Ok(words) = words(&rt) else {
-        return refuse(&mut err, "the command line is no text\n", USAGE);
+    let words = match words(&rt) {
+        Ok(words) => words,
+        Err(fault) if fault.kind() == io::ErrorKind::OutOfMemory => {
+            return refuse(&mut err, "out of memory\n", MEMORY);
+        }
+        Err(_) => return refuse(&mut err, "the command line is no text\n", USAGE),
     };
     let Ok(texts) = texts(&rt, &words) else {
-        return refuse(&mut err, "out of memory\n", 4);
+        return refuse(&mut err, "out of memory\n", MEMORY);
     };
     let mut files = SystemFiles::new(&rt);
     let status = perform(rt.alloc(), &texts, &mut files, &mut out, &mut err, state);
