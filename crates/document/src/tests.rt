@@ -53,7 +53,6 @@ fn is_refused<R: AllocGlobal + RandomSource>(
 fn one_subclass(rt: HostRuntime) -> Result<(), Fail> {
     let ontology = read_bytes(rt.alloc(), ONE_SUBCLASS, RandomState::new(&rt)?)?;
     assert_one_subclass(&rt, &ontology);
-    statements_one_by_one();
     Ok(())
 }
 
@@ -88,4 +87,10 @@ fn limits(rt: HostRuntime) {
     assert!(rt;
         Limits::new(MOST_BYTES + 1, 1).is_none() && Limits::new(1, MOST_FACTS + 1).is_none()
     );
+}
+
+#[test]
+fn laws() {
+    statements_one_by_one();
+    one_ontology_is_read();
 }

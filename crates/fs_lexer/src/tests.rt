@@ -1,4 +1,4 @@
-use crate::{Kind, LexFault, Token, tokens};
+use crate::{Kind, LexFault, Token, texts_spell_one_list, tokens};
 use std::alloc::{AllocError, Global};
 
 /// The tokens, each as its kind, its place and its text, or the fault.
@@ -210,4 +210,9 @@ fn table_of_texts(rt: HostRuntime) {
     for (text, expected) in &TEXTS {
         assert!(rt; is_shown(rt.alloc(), text, expected) == Ok(true), "{text}");
     }
+}
+
+#[test]
+fn laws() {
+    texts_spell_one_list();
 }

@@ -1,4 +1,4 @@
-use crate::{Document, Iri, ParseFault, Tree, forms};
+use crate::{Document, Iri, ParseFault, Tree, forms, tokens_are_one_document};
 use fs_lexer::{LexFault, Token, tokens};
 use std::alloc::{AllocError, Global};
 use std::test::Fail;
@@ -384,4 +384,9 @@ fn iris(rt: HostRuntime) {
     assert!(rt; iri.is_text("x:A"));
     assert!(rt; !iri.is_text("x:"));
     assert!(rt; !iri.is_text("x:AB"));
+}
+
+#[test]
+fn laws() {
+    tokens_are_one_document();
 }
