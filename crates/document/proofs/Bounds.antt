@@ -1,19 +1,19 @@
 -- A document has at least as many bytes as its ontology has axioms.
-use Rattle.std.proofs.Common.{◌≡◌, ℕ, suc, ◌+◌, ◌<◌, ◌≤◌, ◌⊎◌, inl, inr, List, [], ◌∷◌, ◌++◌, length, map, codes, Some, Option, true, false, refl, sym, ap, ◌∙◌, arith, length-append, true≢false}
+use Rattle.std.proofs.Common.{◌≡◌, ℕ, suc, ◌+◌, ◌<◌, ◌≤◌, inl, inr, List, [], ◌∷◌, ◌++◌, length, map, Some, refl, sym, ap, arith, length-append, true≢false}
 use Rattle.std.specs.List.{filter_map}
 use Rattle.std.proofs.lemmas.Option.{same_Some}
 use Rattle.std.proofs.lemmas.List.{length-map}
 use Rattle.axioms.specs.Expression.{Iri}
-use Rattle.axioms.specs.Numbered.{Ontology, axiom_tree}
+use Rattle.axioms.specs.Numbered.{axiom_tree}
 use Rattle.axioms.specs.Numbering.{logical_axiom}
 use Rattle.document.proofs.Forms.{joined_some}
-use Rattle.document.specs.Documents.{ReadsAs, subclass_pair, subclass_pairs}
+use Rattle.document.specs.Documents.{subclass_pair, subclass_pairs}
 use Rattle.document.specs.Subclasses.{subclass_statement}
 use Rattle.document.specs.Theorems.{AxiomsTakeBytes}
 use Rattle.fs_lexer.specs.Spelling.{IsOfKind, IsPrefixName, SpellsFrom, Token}
 use Rattle.fs_lexer.specs.declared.token.Kind.{Kind}
 use Rattle.fs_lexer.specs.declared.token.Kind.TheVariants.{Opening, Closing, Equals, Carets, FullIri, Quoted, LanguageTag, Keyword, Integer, PrefixName, ShortName, NodeLabel}
-use Rattle.fs_parser.specs.Document.{AreDeclarations, Document, IsDocument}
+use Rattle.fs_parser.specs.Document.{AreDeclarations}
 use Rattle.fs_parser.specs.Name.{Prefixes}
 use Rattle.fs_parser.specs.Tree.{AreTrees, IsTree, Tree, Trees, Empty, Then, Name, PlainLiteral, TaggedLiteral, TypedLiteral, Anonymous, Number, Group, Form}
 

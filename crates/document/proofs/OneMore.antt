@@ -2,14 +2,14 @@
 use Rattle.std.proofs.Common.{◌≡◌, ℕ, zero, suc, ◌+◌, ◌<◌, ◌≤◌, ◌⊎◌, inl, inr, List, [], ◌∷◌, ◌++◌, map, take, length, slice_get, Some, Contains, All, refl, sym, ap, ap₂, ◌∙◌, subst, arith, length-append, append_assoc}
 use Rattle.std.specs.Option.{unwrap_or}
 use Rattle.std.specs.List.{flat_map, filter_map}
-use Rattle.std.proofs.lemmas.Option.{none-some, same_Some, slice_get_within}
+use Rattle.std.proofs.lemmas.Option.{none-some, slice_get_within}
 use Rattle.std.proofs.lemmas.List.{map-append}
 use Rattle.std.proofs.lemmas.List.Elements.{All-head, All-tail, All-push, filter_map-append}
 use Rattle.std.proofs.lemmas.Grind.{flat_map-append}
 use Rattle.std.proofs.Math.Seq.{take-length}
 use Rattle.axioms.specs.Axiom as tree
 use Rattle.axioms.specs.Expression.{Iri, ClassExpression, Named, owl_thing, owl_nothing}
-use Rattle.axioms.specs.Growth.{Numbers, DeclaresClass, IsFull, empty_ontology, most_names, with_axiom}
+use Rattle.axioms.specs.Growth.{DeclaresClass, IsFull, empty_ontology, with_axiom}
 use Rattle.axioms.specs.Numbered.{Ontology, Names, Axiom, Node, Class, SubClass, IsClassAt, name_at, tree_of, trees_from, trees, expression, axiom_tree, axiom_trees}
 use Rattle.axioms.specs.Numbering.{IsOntologyOf, first_places, first_places_from, same_expression, statement_expressions, statement_properties, statement_individuals, logical_axiom, class_name}
 use Rattle.axioms.specs.WellFormed.{IsOntology, IsAxiomOf}

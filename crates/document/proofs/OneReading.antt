@@ -5,7 +5,6 @@ use Rattle.axioms.proofs.Unique.{statements_determine}
 use Rattle.axioms.specs.Expression.{Iri}
 use Rattle.axioms.specs.Numbered.{Ontology}
 use Rattle.axioms.specs.Numbering.{IsOntologyOf}
-use Rattle.axioms.specs.WellFormed.{IsOntology}
 use Rattle.fs_lexer.proofs.Whole.{one_spelling}
 use Rattle.fs_lexer.specs.Spelling.{Token}
 use Rattle.fs_parser.proofs.Documents.{one_document}

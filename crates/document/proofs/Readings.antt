@@ -19,7 +19,6 @@ use Rattle.fs_parser.specs.State.{IsRefusal}
 use Rattle.fs_parser.specs.declared.fault.ParseFault.{ParseFault}
 use Rattle.fs_parser.specs.declared.fault.ParseFault.TheVariants as parsing
 use Rattle.document.proofs.Bounds.{axioms_take_bytes}
-use Rattle.document.specs.Theorems.{IsOfSubclasses}
 
 module _ (text : List ℕ) (tokens : List Token) (document : Document) (spelled : Spells text tokens) (written : IsDocument document tokens) where
   reads_from : (o : Ontology) (read : Option (List (Iri × Iri))) → subclass_pairs document.trees ≡ read → OfStatements o read → IsUtf8 text → ReadsAs text o

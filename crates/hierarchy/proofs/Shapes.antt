@@ -1,8 +1,8 @@
 -- What the tests of an ontology's shape say together.
-use Rattle.std.proofs.Common.{◌≡◌, ℕ, ◌<◌, List, [], length, map, slice_get, Some, All, EachIndex, sym, ap, ◌∙◌, subst, arith}
+use Rattle.std.proofs.Common.{◌≡◌, ℕ, List, length, map, slice_get, Some, All, EachIndex, sym, ap, ◌∙◌, arith}
 use Rattle.std.proofs.lemmas.List.{nil_from_length, length-map}
 use Rattle.std.proofs.lemmas.List.Elements.{All-map}
-use Rattle.std.proofs.lemmas.Option.{same_Some, slice_get_within, slice_get-get_or}
+use Rattle.std.proofs.lemmas.Option.{same_Some, slice_get_within}
 use Rattle.axioms.proofs.Lists.{All-from_map, slice_get_there}
 use Rattle.axioms.specs.declared.terms.Axiom as code_axiom
 use Rattle.axioms.specs.Numbered.{Ontology, Class}

@@ -1,4 +1,4 @@
-use Rattle.std.proofs.Common.{List, ℕ, ◌+◌, ◌<◌, ◌≤◌, arith, sym, subst}
+use Rattle.std.proofs.Common.{arith, sym, subst}
 use Rattle.axioms.specs.Expression.{Iri}
 use Rattle.axioms.specs.Growth.{DeclaresClass}
 use Rattle.axioms.specs.Numbered.{Ontology}
@@ -6,7 +6,6 @@ use Rattle.document.proofs.Declared.{still, within}
 use Rattle.document.proofs.OneMore.{one_more_statement}
 use Rattle.document.proofs.Refusals.{first_fault, second_fault}
 use Rattle.document.specs.Answers.{IsDeclaringFault, IsOneMore, pair_of}
-use Rattle.document.specs.Theorems.{IsOfSubclasses}
 use Rattle.document.proofs.document.add_subclass.Goals as goal
 
 pub returns-in-Ok-add_axiom : goal.returns-in-Ok-add_axiom

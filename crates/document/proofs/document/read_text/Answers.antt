@@ -1,5 +1,5 @@
-use Rattle.std.proofs.Common.{List, ℕ, sym, subst}
-use Rattle.fs_lexer.specs.Spelling.{Spells, Token}
+use Rattle.std.proofs.Common.{List, sym, subst}
+use Rattle.fs_lexer.specs.Spelling.{Spells}
 use Rattle.fs_lexer.specs.declared.token.Token as code_token
 use Rattle.fs_parser.specs.View.{document_of, tokens_of, trees_of}
 use Rattle.fs_parser.specs.declared.tree.Tree as code_tree

@@ -1,6 +1,6 @@
 use Rattle.std.proofs.Common.{length, refl, sym, ◌∙◌, string_bytes}
 use Rattle.std.proofs.lemmas.Bool.{false≢true, eqb-true, eq-eqb}
-use Rattle.hierarchy.proofs.Shapes.{own_classes, subclass_axioms, no_individuals, hierarchy_from}
+use Rattle.hierarchy.proofs.Shapes.{subclass_axioms, no_individuals, hierarchy_from}
 use Rattle.hierarchy.proofs.shape.is_hierarchy.Goals as goal
 
 pub returns-then-not-has_only_subclass_axioms : goal.returns-then-not-has_only_subclass_axioms
