@@ -1,5 +1,4 @@
 use Rattle.std.proofs.Common.{string_bytes}
-use Rattle.axioms.specs.View.{node_of, axiom_of}
 use Rattle.axioms.proofs.Lists.{same_views}
 use Rattle.axioms.proofs.copies.copied_names.Goals as goal
 
