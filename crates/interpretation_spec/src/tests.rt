@@ -1,24 +1,26 @@
 //! Rows and interpretations of a few elements, worked out by hand.
-ghost use Rattle.std.specs.Prelude.{◌≡◌, IfOk, length};
+ghost use Rattle.std.specs.Prelude.{IfOk};
 ghost use Rattle.interpretation_spec.specs.Numbered.{IsMadeFor};
 
 use super::*;
-use axioms::{Axiom, Builder, ClassId, ExprId, IndId, Kind, Memory, Ontology, PropId};
+use axioms::{Axiom, BuildFault, Builder, ClassId, ExprId, IndId, Kind, Memory, Ontology, PropId};
 use std::alloc::Global;
 use std::hash::RandomState;
 use std::process::Abort;
 use std::random::RandomSource;
 use std::test::Fail;
 
-/// The set of these numbers, of those below `n`.
-fn row_of<R: AllocGlobal + Abort>(rt: &R, n: usize, members: &[usize]) -> Result<Row, Memory>
-    ensures { IfOk result (λ r. length r ≡ n) }
-{
-    let mut row = Row::new(rt.alloc(), n)?;
-    for number in members {
+/// Adds the numbers to the set.
+fn put_all(row: &mut Row, numbers: &[usize]) {
+    for number in numbers {
         row.put(*number);
     }
-    assert_eq!(rt; row.len(), n);
+}
+
+/// The set of these numbers, of those below 70.
+fn row_of(alloc: Global, members: &[usize]) -> Result<Row, Memory> {
+    let mut row = Row::new(alloc, 70)?;
+    put_all(&mut row, members);
     Ok(row)
 }
 
@@ -29,14 +31,20 @@ fn is_taken(alloc: Global, n: usize, number: usize) -> Result<bool, Memory> {
 }
 
 #[test]
-fn members_of_two_words(rt: HostRuntime) -> Result<(), Fail> {
+fn numbers_in_range(rt: HostRuntime) -> Result<(), Fail> {
     for (number, in_range) in [(0, true), (63, true), (64, true), (69, true), (70, false)] {
         assert_eq!(rt; is_taken(rt.alloc(), 70, number)?, in_range, "{number}");
     }
-    let row = row_of(&rt, 70, &[0, 63, 64, 69, 70])?;
+    Ok(())
+}
+
+#[test]
+fn members_of_two_words(rt: HostRuntime) -> Result<(), Fail> {
+    let row = row_of(rt.alloc(), &[0, 63, 64, 69, 70])?;
     assert_eq!(rt; row.len(), 70);
     assert_eq!(rt; row.count(), 4);
-    assert!(rt; !row.contains(1) && !row.contains(70));
+    assert!(rt; !row.contains(1));
+    assert!(rt; !row.contains(70));
     Ok(())
 }
 
@@ -47,27 +55,42 @@ fn all_numbers(rt: HostRuntime) -> Result<(), Fail> {
     Ok(())
 }
 
+/// Whether the one set is within the other, and whether no number is in both.
+fn compare<R: Abort>(rt: &R, these: &Row, those: &Row) -> (bool, bool) {
+    assert_eq!(rt; these.len(), those.len());
+    (these.is_subset(those), these.is_disjoint(those))
+}
+
 #[test]
 fn subsets(rt: HostRuntime) -> Result<(), Fail> {
-    let small = row_of(&rt, 70, &[3, 65])?;
-    let large = row_of(&rt, 70, &[3, 65, 66])?;
-    let other = row_of(&rt, 70, &[4, 66])?;
-    assert!(rt; small.is_subset(&large) && !large.is_subset(&small));
-    assert!(rt; small.is_disjoint(&other) && !large.is_disjoint(&other));
+    let small = row_of(rt.alloc(), &[3, 65])?;
+    let large = row_of(rt.alloc(), &[3, 65, 66])?;
+    let other = row_of(rt.alloc(), &[4, 66])?;
+    assert_eq!(rt; compare(&rt, &small, &large), (true, false));
+    assert_eq!(rt; compare(&rt, &large, &small), (false, false));
+    assert_eq!(rt; compare(&rt, &small, &other), (false, true));
+    assert_eq!(rt; compare(&rt, &large, &other), (false, false));
     Ok(())
+}
+
+/// Takes a row of two numbers from one with a third, adds it again, and leaves what both have.
+fn assert_changes<R: Abort>(rt: &R, row: &mut Row, other: &Row) {
+    assert_eq!(rt; row.len(), 70);
+    assert_eq!(rt; other.len(), 70);
+    row.minus(other);
+    assert!(rt; row.contains(66));
+    assert_eq!(rt; row.count(), 1);
+    row.union(other);
+    assert_eq!(rt; row.count(), 3);
+    row.intersect(other);
+    assert_eq!(rt; row.count(), 2);
 }
 
 #[test]
 fn changed_rows(rt: HostRuntime) -> Result<(), Fail> {
-    let other = row_of(&rt, 70, &[3, 65])?;
-    let mut row = row_of(&rt, 70, &[3, 65, 66])?.copy(rt.alloc())?;
-    assert_eq!(rt; row.len(), 70);
-    row.minus(&other);
-    assert!(rt; row.contains(66) && row.count() == 1);
-    row.union(&other);
-    assert_eq!(rt; row.count(), 3);
-    row.intersect(&other);
-    assert_eq!(rt; row.count(), 2);
+    let other = row_of(rt.alloc(), &[3, 65])?;
+    let mut row = row_of(rt.alloc(), &[3, 65, 66])?.copy(rt.alloc())?;
+    assert_changes(&rt, &mut row, &other);
     Ok(())
 }
 
@@ -76,9 +99,8 @@ fn builder<R: AllocGlobal + RandomSource>(rt: &R) -> Result<Builder, Fail> {
     Ok(Builder::new(rt.alloc(), RandomState::new(rt)?)?)
 }
 
-/// The class A, of number 2, the property r and the individual a.
-fn one_name_of_each_kind<R: AllocGlobal + RandomSource>(rt: &R) -> Result<Ontology, Fail> {
-    let mut builder = builder(rt)?;
+/// Declares the class A, of number 2, the property r and the individual a.
+fn declare_names(builder: &mut Builder) -> Result<(), BuildFault> {
     for (kind, iri) in [
         (Kind::Class, "x:A"),
         (Kind::Property, "x:r"),
@@ -86,13 +108,44 @@ fn one_name_of_each_kind<R: AllocGlobal + RandomSource>(rt: &R) -> Result<Ontolo
     ] {
         builder.declare(kind, iri)?;
     }
+    Ok(())
+}
+
+/// The ontology of these names.
+fn one_name_of_each_kind<R: AllocGlobal + Abort + RandomSource>(rt: &R) -> Result<Ontology, Fail> {
+    let mut builder = builder(rt)?;
+    assert!(rt; declare_names(&mut builder).is_ok());
     Ok(builder.finish())
 }
 
-/// An interpretation of these names with so many elements.
-fn of_names<R: AllocGlobal + RandomSource>(rt: &R, size: usize) -> Result<Interpretation, Fail> {
-    let ontology = one_name_of_each_kind(rt)?;
-    Ok(Interpretation::new(rt.alloc(), &ontology, size)?)
+/// The interpretation of so many elements whose classes but owl:Thing are empty.
+fn empty_interpretation(
+    alloc: Global,
+    ontology: &Ontology,
+    size: usize,
+) -> Result<Interpretation, InterpretationFault>
+    ensures { IfOk result (IsMadeFor ontology.now.names) }
+{
+    // What holds of every ontology.
+    let _ = ontology.expr(ExprId(0));
+    Interpretation::new(alloc, ontology, size)
+}
+
+/// The same of an ontology that is not used again.
+fn interpretation_of(
+    alloc: Global,
+    ontology: Ontology,
+    size: usize,
+) -> Result<Interpretation, InterpretationFault> {
+    empty_interpretation(alloc, &ontology, size)
+}
+
+/// An interpretation of one name of each kind with so many elements.
+fn of_names<R: AllocGlobal + Abort + RandomSource>(
+    rt: &R,
+    size: usize,
+) -> Result<Interpretation, Fail> {
+    Ok(interpretation_of(rt.alloc(), one_name_of_each_kind(rt)?, size)?)
 }
 
 #[test]
@@ -108,15 +161,25 @@ fn members_of_a_class(rt: HostRuntime) -> Result<(), Fail> {
     Ok(())
 }
 
-#[test]
-fn targets_ascend(rt: HostRuntime) -> Result<(), Fail> {
-    let mut i = of_names(&rt, 3)?;
-    assert_eq!(rt; i.put_pair(PropId(0), 1, 2), Ok(()));
-    assert_eq!(rt; i.put_pair(PropId(0), 1, 0), Ok(()));
-    assert_eq!(rt; i.put_pair(PropId(0), 1, 2), Ok(()));
+/// Joins 1 to 2, to 0 and to 2 again.
+fn put_pairs<R: Abort>(rt: &R, i: &mut Interpretation) {
+    for target in [2, 0, 2] {
+        assert_eq!(rt; i.put_pair(PropId(0), 1, target), Ok(()));
+    }
+}
+
+/// What 1 was joined to, once and in order, and nothing of what is not there.
+fn assert_targets<R: Abort>(rt: &R, i: &Interpretation) {
     assert_eq!(rt; i.targets(PropId(0), 1), Some([0, 2].as_slice()));
     assert_eq!(rt; i.targets(PropId(0), 3), None);
     assert_eq!(rt; i.targets(PropId(1), 0), None);
+}
+
+#[test]
+fn targets_ascend(rt: HostRuntime) -> Result<(), Fail> {
+    let mut i = of_names(&rt, 3)?;
+    put_pairs(&rt, &mut i);
+    assert_targets(&rt, &i);
     Ok(())
 }
 
@@ -130,48 +193,45 @@ fn the_element_of_an_individual(rt: HostRuntime) -> Result<(), Fail> {
     Ok(())
 }
 
-#[test]
-fn refused_members(rt: HostRuntime) -> Result<(), Fail> {
-    let mut i = of_names(&rt, 2)?;
+/// What an interpretation with two elements refuses.
+fn assert_refused<R: Abort>(rt: &R, i: &mut Interpretation) {
     let outside = Err(InterpretationFault::OutOfDomain);
-    assert_eq!(rt;
-        i.put_class(ClassId(1), 0),
-        Err(InterpretationFault::FixedClass)
-    );
+    let fixed = Err(InterpretationFault::FixedClass);
+    assert_eq!(rt; i.put_class(ClassId(1), 0), fixed);
     assert_eq!(rt; i.put_class(ClassId(2), 2), outside);
     assert_eq!(rt; i.put_pair(PropId(0), 0, 2), outside);
     assert_eq!(rt; i.put_individual(IndId(1), 0), outside);
+}
+
+#[test]
+fn refused_members(rt: HostRuntime) -> Result<(), Fail> {
+    let mut i = of_names(&rt, 2)?;
+    assert_refused(&rt, &mut i);
     Ok(())
 }
 
 #[test]
 fn a_domain_has_an_element(rt: HostRuntime) -> Result<(), Fail> {
-    let ontology = one_name_of_each_kind(&rt)?;
-    let none = Interpretation::new(rt.alloc(), &ontology, 0);
+    let none = interpretation_of(rt.alloc(), one_name_of_each_kind(&rt)?, 0);
     assert_eq!(rt; none.err(), Some(InterpretationFault::EmptyDomain));
     Ok(())
 }
 
-/// All things are none, which no interpretation satisfies.
-fn contradiction<R: AllocGlobal + Abort + RandomSource>(rt: &R) -> Result<Ontology, Fail> {
-    let mut builder = builder(rt)?;
+/// States that all things are none, which no interpretation satisfies.
+fn state_contradiction<R: Abort>(rt: &R, builder: &mut Builder) {
     assert_eq!(rt; builder.ontology().expression_count(), 2);
-    builder.add_axiom(Axiom::SubClass(ExprId(0), ExprId(1)))?;
-    Ok(builder.finish())
+    assert!(rt;
+        builder
+            .add_axiom(Axiom::SubClass(ExprId(0), ExprId(1)))
+            .is_ok()
+    );
 }
 
-/// The interpretation of so many elements whose classes but owl:Thing are empty.
-fn empty_interpretation(
-    alloc: Global,
-    ontology: &Ontology,
-    size: usize,
-) -> Result<Interpretation, InterpretationFault>
-    ensures { IfOk result (IsMadeFor ontology.now.names) }
-{
-    // What holds of every ontology.
-    let _ = ontology.expr(ExprId(0));
-    let interpretation = Interpretation::new(alloc, ontology, size)?;
-    Ok(interpretation)
+/// The ontology that states this alone.
+fn contradiction<R: AllocGlobal + Abort + RandomSource>(rt: &R) -> Result<Ontology, Fail> {
+    let mut builder = builder(rt)?;
+    state_contradiction(rt, &mut builder);
+    Ok(builder.finish())
 }
 
 /// How many of 70 elements are in the expression, where all classes but owl:Thing are empty.
@@ -180,8 +240,8 @@ fn count<R: AllocGlobal + Abort>(
     ontology: &Ontology,
     expression: usize,
 ) -> Result<usize, Fail> {
-    let i = empty_interpretation(rt.alloc(), ontology, 70)?;
     assert!(rt; expression < ontology.expression_count());
+    let i = empty_interpretation(rt.alloc(), ontology, 70)?;
     Ok(i.extension(ontology, ExprId(expression))?.count())
 }
 
@@ -192,9 +252,10 @@ fn is_within<R: AllocGlobal + Abort>(
     sub: usize,
     superclass: usize,
 ) -> Result<bool, Fail> {
-    let i = empty_interpretation(rt.alloc(), ontology, 70)?;
     let many = ontology.expression_count();
-    assert!(rt; sub < many && superclass < many);
+    assert!(rt; sub < many);
+    assert!(rt; superclass < many);
+    let i = empty_interpretation(rt.alloc(), ontology, 70)?;
     Ok(i.satisfies(ontology, &Axiom::SubClass(ExprId(sub), ExprId(superclass)))?)
 }
 

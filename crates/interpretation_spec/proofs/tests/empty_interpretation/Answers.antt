@@ -1,10 +1,11 @@
-use Rattle.std.proofs.Common.{ℕ, ◌-◌, ◌<◌, [], length, true, false, replicate, arith, sym, subst}
+use Rattle.std.proofs.Common.{◌≡◌, ℕ, ◌-◌, ◌<◌, [], length, true, false, replicate, arith, sym, subst}
 use Rattle.std.proofs.lemmas.List.{length-replicate}
 use Rattle.std.proofs.lemmas.Option.{slice_get_within}
+use Rattle.std.proofs.lemmas.Result.{IfOk-weaker}
 use Rattle.axioms.specs.Expression.{owl_thing}
 use Rattle.axioms.specs.Numbered.{Ontology}
 use Rattle.axioms.specs.WellFormed.{IsOntology}
-use Rattle.interpretation_spec.specs.Numbered.{IsMadeFor, empty_interpretation}
+use Rattle.interpretation_spec.specs.Numbered.{NumberedInterpretation, IsMadeFor, empty_interpretation}
 use Rattle.interpretation_spec.proofs.tests.empty_interpretation.Goals as goal
 
 made_for : (o : Ontology) → IsOntology o → (size : ℕ) → IsMadeFor o.names (empty_interpretation o.names size)
@@ -18,5 +19,7 @@ made_for o w size =
 
 pub returns : goal.returns
 returns c =
-    let made = c.in_ok-interpretation.ensures.made in
-    subst (IsMadeFor c.args.ontology.now.names) (sym made.1) (made_for c.args.ontology.now c.expr.ensures.valid c.args.size)
+    let o = c.args.ontology.now in
+    let size = c.args.size in
+    IfOk-weaker c.new.result (λ (i : NumberedInterpretation). (0 < size) × (i ≡ empty_interpretation o.names size)) (IsMadeFor o.names)
+    (λ i h. subst (IsMadeFor o.names) (sym h.1) (made_for o c.expr.ensures.valid size)) c.new.ensures.made
