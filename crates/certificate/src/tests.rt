@@ -15,22 +15,28 @@ use std::test::Fail;
 const TEXT: &[u8] =
     b"elcert 1 consistent\nsub e0 e0 K1\nsub e1 e1 K1\nsub e2 e2 K1\nsub e2 e0 K2\nsub e2 e3 K4 a1 3\nsub e3 e3 K1\nsub e3 e0 K2\ndomain 3\nclass e2 1\nclass e3 1 2\nclaim e0 0\nclaim e2 1\nclaim e3 2\nend\n";
 
-/// A builder of the ontology of no statements.
-fn builder<R: AllocGlobal + RandomSource>(rt: &R) -> Result<Builder, Fail> {
-    Ok(Builder::new(rt.alloc(), RandomState::new(rt)?)?)
+/// The keys of a builder's tables.
+fn keys<R: RandomSource>(rt: &R) -> Result<RandomState, Fail> {
+    Ok(RandomState::new(rt)?)
 }
 
-/// Declares these names of the kind.
-fn declare(builder: &mut Builder, kind: Kind, names: &[&str]) -> Result<(), Fail> {
-    for iri in names {
-        builder.declare(kind, iri)?;
+/// A builder of the ontology of no statements.
+fn builder<R: AllocGlobal + RandomSource>(rt: &R) -> Result<Builder, Fail> {
+    let keys = keys(rt)?;
+    Ok(Builder::new(rt.alloc(), keys)?)
+}
+
+/// Declares these names, each of its kind.
+fn declare(builder: &mut Builder, names: &[(Kind, &str)]) -> Result<(), Fail> {
+    for (kind, iri) in names {
+        builder.declare(*kind, iri)?;
     }
     Ok(())
 }
 
 /// Declares the classes A, of number 2, and B, and states SubClassOf(A B).
 fn state_subclass<R: Abort>(rt: &R, builder: &mut Builder) -> Result<(), Fail> {
-    declare(builder, Kind::Class, &["x:A", "x:B"])?;
+    declare(builder, &[(Kind::Class, "x:A"), (Kind::Class, "x:B")])?;
     assert_eq!(rt; builder.ontology().expression_count(), 4);
     builder.add_axiom(Axiom::SubClass(ExprId(2), ExprId(3)))?;
     Ok(())
@@ -43,17 +49,19 @@ fn one_subclass<R: AllocGlobal + Abort + RandomSource>(rt: &R) -> Result<Ontolog
     Ok(builder.finish())
 }
 
-/// Declares a class A, properties r and s, individuals a and b.
-fn declare_names(builder: &mut Builder) -> Result<(), Fail> {
-    declare(builder, Kind::Class, &["x:A"])?;
-    declare(builder, Kind::Property, &["x:r", "x:s"])?;
-    declare(builder, Kind::Individual, &["x:a", "x:b"])
-}
+/// A class A, properties r and s, individuals a and b.
+const NAMES: &[(Kind, &str)] = &[
+    (Kind::Class, "x:A"),
+    (Kind::Property, "x:r"),
+    (Kind::Property, "x:s"),
+    (Kind::Individual, "x:a"),
+    (Kind::Individual, "x:b"),
+];
 
 /// These names, and no axioms.
 fn names<R: AllocGlobal + RandomSource>(rt: &R) -> Result<Ontology, Fail> {
     let mut builder = builder(rt)?;
-    declare_names(&mut builder)?;
+    declare(&mut builder, NAMES)?;
     Ok(builder.finish())
 }
 
@@ -66,6 +74,12 @@ fn place(alloc: Global, ontology: &Ontology, bytes: &[u8]) -> Result<Option<usiz
     }
 }
 
+/// Whether this is the certificate's text, in memory.
+fn has_bytes(alloc: Global, certificate: &Certificate, text: &[u8]) -> Result<bool, Fail> {
+    let bytes = certificate_bytes(alloc, certificate)?;
+    Ok(bytes.as_slice() == text)
+}
+
 /// Whether this is the certificate's text, in memory and through a sink.
 fn is_text(
     alloc: Global,
@@ -75,10 +89,9 @@ fn is_text(
 ) -> Result<bool, Fail>
     requires { HasText ontology.now certificate.now }
 {
-    let bytes = certificate_bytes(alloc, certificate)?;
     let mut sink = BufferSink::new(alloc);
     write_certificate(alloc, ontology, certificate, &mut sink)?;
-    Ok(bytes.as_slice() == text && sink.bytes() == text)
+    Ok(sink.bytes() == text && has_bytes(alloc, certificate, text)?)
 }
 
 /// Whether the text is read, and written again as it was.
@@ -315,7 +328,24 @@ fn listed_individuals_and_pairs(rt: HostRuntime) -> Result<(), Fail> {
     assert_texts(&rt, &texts)
 }
 
-/// The certificate of the one line that the expression leads to the individual a by s, by K16.
+/// The line that the expression leads to the individual a by s, by K16.
+fn edge(
+    alloc: Global,
+    expression: usize,
+    axiom: Option<usize>,
+    premise: u64,
+) -> Result<Line, AllocError> {
+    let source = Subject::Expr(ExprId(expression));
+    let target = Subject::Individual(IndId(0));
+    Ok(Line {
+        conclusion: Conclusion::Edge(source, PropId(1), target),
+        rule: Rule::K16,
+        axiom,
+        premises: vec![in alloc; premise]?,
+    })
+}
+
+/// The certificate of this one line.
 fn made(
     alloc: Global,
     ontology: &Ontology,
@@ -323,14 +353,7 @@ fn made(
     axiom: Option<usize>,
     premise: u64,
 ) -> Result<Result<Certificate, MakeFault>, AllocError> {
-    let source = Subject::Expr(ExprId(expression));
-    let target = Subject::Individual(IndId(0));
-    let line = Line {
-        conclusion: Conclusion::Edge(source, PropId(1), target),
-        rule: Rule::K16,
-        axiom,
-        premises: vec![in alloc; premise]?,
-    };
+    let line = edge(alloc, expression, axiom, premise)?;
     let lines = vec![in alloc; line]?;
     Ok(Certificate::new(ontology, lines, None))
 }
@@ -338,8 +361,7 @@ fn made(
 /// Whether the certificate of a line that is there has this text.
 fn is_made(alloc: Global, ontology: &Ontology, text: &[u8]) -> Result<bool, Fail> {
     let certificate = made(alloc, ontology, 2, None, 7)??;
-    let bytes = certificate_bytes(alloc, &certificate)?;
-    Ok(bytes.as_slice() == text)
+    has_bytes(alloc, &certificate, text)
 }
 
 /// A certificate is made of a line, and none where a number is out of range.
