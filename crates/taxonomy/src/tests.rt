@@ -13,9 +13,15 @@ use std::process::Abort;
 use std::random::RandomSource;
 use std::test::Fail;
 
+/// The keys of a builder's tables.
+fn keys<R: RandomSource>(rt: &R) -> Result<RandomState, Fail> {
+    Ok(RandomState::new(rt)?)
+}
+
 /// A builder of the ontology of no statements.
 fn builder<R: AllocGlobal + RandomSource>(rt: &R) -> Result<Builder, Fail> {
-    Ok(Builder::new(rt.alloc(), RandomState::new(rt)?)?)
+    let keys = keys(rt)?;
+    Ok(Builder::new(rt.alloc(), keys)?)
 }
 
 /// An ontology of owl:Thing, owl:Nothing and these classes, and of these individuals.
@@ -112,8 +118,8 @@ fn outcome_of(
     Ok(Outcome::Consistent(taxonomy, types))
 }
 
-/// The taxonomy text in memory and through a sink.
-fn is_taxonomy_text(
+/// Whether this is the taxonomy text in memory.
+fn has_taxonomy_bytes(
     alloc: Global,
     ontology: &Ontology,
     outcome: &Outcome,
@@ -122,13 +128,25 @@ fn is_taxonomy_text(
     requires { IsMadeFor ontology.now outcome.now }
 {
     let bytes = taxonomy_bytes(alloc, ontology, outcome)?;
-    let mut sink = BufferSink::new(alloc);
-    write_taxonomy(alloc, ontology, outcome, &mut sink)?;
-    Ok(bytes.as_slice() == text.as_bytes() && sink.bytes() == text.as_bytes())
+    Ok(bytes.as_slice() == text.as_bytes())
 }
 
-/// The instances text in memory and through a sink.
-fn is_instances_text(
+/// Whether this is the taxonomy text in memory and through a sink.
+fn is_taxonomy_text(
+    alloc: Global,
+    ontology: &Ontology,
+    outcome: &Outcome,
+    text: &str,
+) -> Result<bool, Fail>
+    requires { IsMadeFor ontology.now outcome.now }
+{
+    let mut sink = BufferSink::new(alloc);
+    write_taxonomy(alloc, ontology, outcome, &mut sink)?;
+    Ok(sink.bytes() == text.as_bytes() && has_taxonomy_bytes(alloc, ontology, outcome, text)?)
+}
+
+/// Whether this is the instances text in memory.
+fn has_instances_bytes(
     alloc: Global,
     ontology: &Ontology,
     outcome: &Outcome,
@@ -137,9 +155,21 @@ fn is_instances_text(
     requires { IsMadeFor ontology.now outcome.now }
 {
     let bytes = instances_bytes(alloc, ontology, outcome)?;
+    Ok(bytes.as_slice() == text.as_bytes())
+}
+
+/// Whether this is the instances text in memory and through a sink.
+fn is_instances_text(
+    alloc: Global,
+    ontology: &Ontology,
+    outcome: &Outcome,
+    text: &str,
+) -> Result<bool, Fail>
+    requires { IsMadeFor ontology.now outcome.now }
+{
     let mut sink = BufferSink::new(alloc);
     write_instances(alloc, ontology, outcome, &mut sink)?;
-    Ok(bytes.as_slice() == text.as_bytes() && sink.bytes() == text.as_bytes())
+    Ok(sink.bytes() == text.as_bytes() && has_instances_bytes(alloc, ontology, outcome, text)?)
 }
 
 /// Whether these are the texts that tell the outcome.
@@ -263,6 +293,13 @@ fn individuals_and_domain(rt: HostRuntime) -> Result<(), Fail> {
     assert_instances(&rt, &[(0, 2), (0, 3), (0, 4)], TYPES)
 }
 
+/// The outcome of a contradiction.
+fn contradiction(ontology: &Ontology) -> Outcome
+    ensures { IsMadeFor ontology.now result }
+{
+    Outcome::Inconsistent
+}
+
 /// Whether these are the texts of a contradiction.
 fn is_contradiction(
     alloc: Global,
@@ -270,7 +307,8 @@ fn is_contradiction(
     taxonomy: &str,
     instances: &str,
 ) -> Result<bool, Fail> {
-    is_told(alloc, ontology, &Outcome::Inconsistent, taxonomy, instances)
+    let outcome = contradiction(ontology);
+    is_told(alloc, ontology, &outcome, taxonomy, instances)
 }
 
 #[test]
