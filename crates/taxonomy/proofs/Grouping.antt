@@ -1,5 +1,5 @@
 -- Groups that are found one after another, and lists that are put in order.
-use Rattle.std.proofs.Common.{◌≡◌, ℕ, ◌+◌, ◌<◌, ◌≤◌, Bool, true, false, ◌&&◌, ◌||◌, List, [], ◌∷◌, ◌++◌, length, get_or, take, All, refl, sym, ap, ap₂, subst, ◌∙◌, arith, ⊎_elim}
+use Rattle.std.proofs.Common.{◌≡◌, ℕ, ◌+◌, ◌<◌, Bool, true, false, ◌&&◌, ◌||◌, List, [], ◌∷◌, ◌++◌, length, get_or, take, All, refl, sym, ap, ap₂, subst, ◌∙◌, arith, ⊎_elim}
 use Rattle.std.specs.Prelude.{◌==◌, slice_set}
 use Rattle.std.specs.List.{filter, flat_map, list_any}
 use Rattle.std.proofs.lemmas.Bool.{cases_eq, cases_lt}
@@ -8,7 +8,7 @@ use Rattle.std.proofs.lemmas.List.Elements.{All-push, All-weaker, All-filter}
 use Rattle.std.proofs.lemmas.List.Folds.{list_any-append, list_any_none}
 use Rattle.interpretation_spec.specs.Row.{has}
 use Rattle.axioms.specs.Numbered.{name_at}
-use Rattle.taxonomy.specs.Texts.{numbers_below, in_byte_order, is_same, group, groups, group_line, is_directly_above, line_of, line_with, least_among, least_groups, individual_line}
+use Rattle.taxonomy.specs.Texts.{numbers_below, in_byte_order, is_same, groups, group_line, is_directly_above, line_of, line_with, least_among, least_groups, individual_line}
 use Rattle.taxonomy.specs.Lists.{list_at, arranged, AreGroups}
 use Rattle.taxonomy.specs.Relation.{lies_below}
 use Rattle.taxonomy.proofs.Agreement.{all_firsts, all_in_byte_order, same_flat_map}

@@ -1,5 +1,5 @@
 -- The texts of lists, one element on.
-use Rattle.std.proofs.Common.{◌≡◌, ℕ, ◌+◌, ◌<◌, Bool, true, false, cond, List, [], ◌∷◌, ◌++◌, length, get_or, drop, take, sym, ap, ◌∙◌, refl}
+use Rattle.std.proofs.Common.{◌≡◌, ℕ, ◌+◌, ◌<◌, Bool, true, false, cond, List, [], ◌∷◌, ◌++◌, length, get_or, drop, sym, ap, ◌∙◌, refl}
 use Rattle.std.proofs.lemmas.List.{at_drop_more, append_assoc}
 use Rattle.std.specs.List.{filter, flat_map, list_any}
 use Rattle.axioms.specs.Numbered.{name_at}

@@ -1,4 +1,4 @@
-use Rattle.std.proofs.Common.{◌<◌, ℕ, length, All, ap, sym, subst, ◌∙◌}
+use Rattle.std.proofs.Common.{◌<◌, length, All, ap, ◌∙◌}
 use Rattle.taxonomy.specs.Lists.{arranged, list_at}
 use Rattle.taxonomy.specs.Relation.{lies_below}
 use Rattle.taxonomy.specs.Texts.{is_directly_above, is_same}

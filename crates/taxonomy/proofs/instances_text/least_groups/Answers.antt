@@ -1,7 +1,7 @@
 use Rattle.std.proofs.Common.{◌≡◌, length, map, ap, ◌∙◌, arith}
 use Rattle.std.specs.String.{string_bytes}
 use Rattle.std.proofs.lemmas.List.{length-map}
-use Rattle.taxonomy.specs.Lists.{arranged, list_at}
+use Rattle.taxonomy.specs.Lists.{list_at}
 use Rattle.taxonomy.specs.Relation.{lies_below}
 use Rattle.taxonomy.specs.Texts.{groups, in_byte_order}
 use Rattle.taxonomy.proofs.Grouping.{leaders_below, least_ordered, order_below}

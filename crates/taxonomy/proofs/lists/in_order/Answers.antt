@@ -1,5 +1,5 @@
-use Rattle.std.proofs.Common.{◌≡◌, ◌∙◌, length, ap, arith}
-use Rattle.taxonomy.specs.Lists.{list_at, turned_at}
+use Rattle.std.proofs.Common.{◌∙◌, length, ap, arith}
+use Rattle.taxonomy.specs.Lists.{turned_at}
 use Rattle.taxonomy.specs.Texts.{numbers_below}
 use Rattle.taxonomy.proofs.Arranging.{turned-turned}
 use Rattle.taxonomy.proofs.lists.in_order.Goals as goal
