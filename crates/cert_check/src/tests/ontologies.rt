@@ -1,7 +1,6 @@
 //! Small ontologies, with their numbers worked out by hand.
 
 use axioms::{Axiom, Builder, Expr, ExprId, IndId, Kind, Memory, Ontology, PropId};
-use std::alloc::Global;
 use std::hash::RandomState;
 use std::process::Abort;
 use std::random::RandomSource;
