@@ -1,0 +1,107 @@
+-- The faults of a document's trees, in the order of the text. Trees without faults are the axioms, annotations and
+-- expressions of the profile (OWL 2 Profiles, sections 2.2.1 to 2.2.5; OWL 2 Structural Specification, sections 3.1, 9 and 10).
+use Rattle.std.specs.Prelude.{ℕ, ◌+◌, ◌-◌, List, [], ◌∷◌, ◌++◌, Bool, true, false, ◌&&◌, not, Option, Some, None, if◌then◌else◌, codes, nat_lt}
+use Rattle.std.specs.List.{list_any}
+use Rattle.std.specs.Str.{bytes_eq}
+use Rattle.fs_parser.specs.Tree.{Tree, Trees, Name, PlainLiteral, TaggedLiteral, TypedLiteral, Anonymous, Number, Group, Form, Empty, Then, place_of}
+use Rattle.shapes.specs.declared.expected.Expected.{Expected}
+use Rattle.shapes.specs.declared.expected.Expected.TheVariants.{Axiom, Annotation, NameOrLiteral}
+use Rattle.shapes.specs.Shapes.{Operands, Each, operands_of, may_be_annotated, fits_count, next_expected, later_expected, wants_distinct}
+use Rattle.shapes.specs.Keywords.{is_refused, is_known}
+use Rattle.shapes.specs.Names.{is_allowed, may_be_name}
+use Rattle.shapes.specs.SameTree.{same_tree}
+
+-- what is wrong, and where it stands
+pub data Fault : Type 0 where
+  RefusedConstruct : (at : ℕ) (keyword : List ℕ) → Fault
+  UnknownKeyword : (at : ℕ) (keyword : List ℕ) → Fault
+  WrongShape : (at : ℕ) → Fault
+  RepeatedOperand : (at : ℕ) → Fault
+  ReservedName : (at : ℕ) → Fault
+  AnonymousIndividual : (at : ℕ) → Fault
+
+-- ---- of names and literals
+
+abbrev pub name_faults : Expected → ℕ → List ℕ → List Fault
+name_faults expected at iri =
+    if not (may_be_name expected) then WrongShape at ∷ []
+    else (if is_allowed expected iri then [] else ReservedName at ∷ [])
+
+abbrev pub literal_faults : Expected → ℕ → List Fault
+literal_faults NameOrLiteral at = []
+literal_faults _ at = WrongShape at ∷ []
+
+-- ---- of forms
+
+abbrev pub count_of : Trees → ℕ
+count_of Empty = 0
+count_of (Then first rest) = count_of rest + 1
+
+abbrev pub is_name : Tree → Bool
+is_name (Name at iri) = true
+is_name _ = false
+
+abbrev pub is_annotation : Tree → Bool
+is_annotation (Form at keyword trees) = bytes_eq keyword (codes "Annotation")
+is_annotation _ = false
+
+-- the trees behind the annotations in front
+abbrev pub behind_annotations : Trees → Trees
+behind_annotations Empty = Empty
+behind_annotations (Then first rest) = if is_annotation first then behind_annotations rest else Then first rest
+
+-- the operands behind the annotations that a tree expected here may begin with
+abbrev pub own_trees : Expected → Trees → Trees
+own_trees expected trees = if may_be_annotated expected then behind_annotations trees else trees
+
+-- a form that may stand here has the faults of its trees, unless it has too few or too many
+abbrev pub form_faults : ℕ → Option Operands → Trees → List Fault → List Fault
+form_faults at None own inside = WrongShape at ∷ []
+form_faults at (Some operands) own inside = if fits_count operands (count_of own) then inside else WrongShape at ∷ []
+
+abbrev pub operands_or_none : Option Operands → Operands
+operands_or_none None = Each []
+operands_or_none (Some operands) = operands
+
+abbrev mutual
+  -- the faults of a tree where one is expected, in the order of the text
+  pub faults : Expected → Tree → List Fault
+  faults expected (Anonymous at _) = AnonymousIndividual at ∷ []
+  faults expected (Name at iri) = name_faults expected at iri
+  faults expected (PlainLiteral at _) = literal_faults expected at
+  faults expected (TaggedLiteral at _ _) = literal_faults expected at
+  faults expected (TypedLiteral at _ _) = literal_faults expected at
+  faults expected (Number at _) = WrongShape at ∷ []
+  faults expected (Group at _) = WrongShape at ∷ []
+  faults expected (Form at keyword trees) =
+      if is_refused keyword then RefusedConstruct at keyword ∷ []
+      else (if not (is_known keyword) then UnknownKeyword at keyword ∷ []
+      else form_faults at (operands_of expected keyword) (own_trees expected trees)
+      (faults_in (may_be_annotated expected) [] (operands_or_none (operands_of expected keyword)) trees))
+
+  -- of the annotations in front and of the operands, in order. An operand that equals an earlier one gives that alone
+  pub faults_in : Bool → List Tree → Operands → Trees → List Fault
+  faults_in annotated earlier operands Empty = []
+  faults_in annotated earlier operands (Then first rest) =
+      if annotated && is_annotation first then faults Annotation first ++ faults_in annotated earlier operands rest
+      else ((if wants_distinct operands && list_any (same_tree first) earlier then RepeatedOperand (place_of first) ∷ [] else faults (next_expected operands) first)
+      ++ faults_in false (earlier ++ first ∷ []) (later_expected operands) rest)
+
+-- ---- of documents
+
+-- statements: each tree is expected to be an axiom
+abbrev pub axiom_faults : Trees → List Fault
+axiom_faults Empty = []
+axiom_faults (Then first rest) = faults Axiom first ++ axiom_faults rest
+
+-- what an ontology holds: some names, then annotations, then axioms
+abbrev pub ontology_faults : (names : ℕ) → Trees → List Fault
+ontology_faults names Empty = []
+ontology_faults names (Then first rest) =
+    if is_name first then (if nat_lt 0 names then [] else WrongShape (place_of first) ∷ []) ++ ontology_faults (names - 1) rest
+    else (if is_annotation first then faults Annotation first ++ ontology_faults 0 rest
+    else axiom_faults (Then first rest))
+
+-- at most two names: of the ontology and of its version (section 3.1)
+abbrev pub document_faults : Trees → List Fault
+document_faults trees = ontology_faults 2 trees

@@ -1,0 +1,6 @@
+pub mod Shapes
+pub mod Keywords
+pub mod Names
+pub mod SameTree
+pub mod Faults
+pub mod View
