@@ -87,12 +87,21 @@ abbrev mutual
       else ((if wants_distinct operands && list_any (same_tree first) earlier then RepeatedOperand (place_of first) ∷ [] else faults (next_expected operands) first)
       ++ faults_in false (earlier ++ first ∷ []) (later_expected operands) rest)
 
+-- of the annotations in front
+abbrev pub annotation_faults : Trees → List Fault
+annotation_faults Empty = []
+annotation_faults (Then first rest) = if is_annotation first then faults Annotation first ++ annotation_faults rest else []
+
 -- ---- of documents
+
+-- where each of the trees is expected to be the same
+abbrev pub each_faults : Expected → Trees → List Fault
+each_faults expected Empty = []
+each_faults expected (Then first rest) = faults expected first ++ each_faults expected rest
 
 -- statements: each tree is expected to be an axiom
 abbrev pub axiom_faults : Trees → List Fault
-axiom_faults Empty = []
-axiom_faults (Then first rest) = faults Axiom first ++ axiom_faults rest
+axiom_faults trees = each_faults Axiom trees
 
 -- what an ontology holds: some names, then annotations, then axioms
 abbrev pub ontology_faults : (names : ℕ) → Trees → List Fault

@@ -1,14 +1,11 @@
 -- The keywords of the standard: those of the profile, and those that it refuses.
-use Rattle.std.specs.Prelude.{ℕ, List, [], ◌∷◌, ◌++◌, Bool, map, codes}
+use Rattle.std.specs.Prelude.{ℕ, List, [], ◌∷◌, Bool, ◌||◌, codes}
 use Rattle.std.specs.List.{list_any}
+use Rattle.std.specs.Option.{is_some}
 use Rattle.std.specs.Str.{bytes_eq}
-use Rattle.shapes.specs.Shapes.{axiom_shapes, annotation_shapes, entity_shapes, expression_shapes, chain_shapes}
-
--- of documents and of the shapes
-abbrev pub known_keywords : List (List ℕ)
-known_keywords =
-    codes "Prefix" ∷ codes "Ontology"
-    ∷ map (λ s. s.0) (axiom_shapes ++ annotation_shapes ++ entity_shapes ++ expression_shapes ++ chain_shapes)
+use Rattle.shapes.specs.declared.expected.Expected.{Expected}
+use Rattle.shapes.specs.declared.expected.Expected.TheVariants.{Axiom, Annotation, Entity, ClassExpression, PropertyOrChain}
+use Rattle.shapes.specs.Shapes.{operands_of}
 
 -- of the standard, and not in this profile
 abbrev pub refused_keywords : List (List ℕ)
@@ -28,10 +25,18 @@ refused_keywords =
     ∷ []
 
 abbrev pub is_one_of : List (List ℕ) → List ℕ → Bool
-is_one_of keywords keyword = list_any (bytes_eq keyword) keywords
+is_one_of keywords keyword = list_any (λ k. bytes_eq k keyword) keywords
 
 abbrev pub is_refused : List ℕ → Bool
-is_refused = is_one_of refused_keywords
+is_refused keyword = is_one_of refused_keywords keyword
 
+-- the keyword has a shape where such a tree is expected
+abbrev pub has_shape : Expected → List ℕ → Bool
+has_shape expected keyword = is_some (operands_of expected keyword)
+
+-- of documents, or of a shape
 abbrev pub is_known : List ℕ → Bool
-is_known = is_one_of known_keywords
+is_known keyword =
+    bytes_eq keyword (codes "Prefix") || (bytes_eq keyword (codes "Ontology")
+    || (has_shape Axiom keyword || (has_shape Annotation keyword || (has_shape Entity keyword
+    || (has_shape ClassExpression keyword || has_shape PropertyOrChain keyword)))))

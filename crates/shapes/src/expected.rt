@@ -1,11 +1,13 @@
 //! What may stand where.
 
 ghost use Rattle.std.specs.Prelude.{◌≡◌};
+ghost use Rattle.shapes.specs.Shapes.{fits_count, later_expected, may_be_annotated, next_expected, wants_distinct};
+ghost use Rattle.shapes.specs.View.{operands_view};
 
 /// What is expected at a place.
 #[derive(Clone, Copy, Debug, PartialEq, Eq)]
 pub enum Expected {
-    /// An axiom, a declaration among them.
+    /// An axiom, a declaration or an axiom of annotations.
     Axiom,
     Annotation,
     /// What is declared, with its kind.
@@ -22,11 +24,63 @@ pub enum Expected {
     NameOrLiteral,
 }
 
+impl Expected {
+    /// Whether annotations may stand in front of the operands.
+    pub fn may_be_annotated(self) -> bool
+        ensures { result ≡ may_be_annotated self }
+    {
+        matches!(self, Expected::Axiom | Expected::Annotation)
+    }
+}
+
 /// The operands of a form.
 #[derive(Clone, Copy, Debug)]
-pub enum Operands {
+pub enum Operands<'a> {
     /// These, in this order.
-    Each(&'static [Expected]),
-    /// Two or more of one kind, and no two that are equal if they have to be distinct.
+    Each(&'a [Expected]),
+    /// Two or more of one kind, and no two that are equal where they have to be distinct.
     Many { distinct: bool, operand: Expected },
+}
+
+impl<'a> Operands<'a> {
+    /// Whether a form may have so many operands.
+    pub fn fits_count(self, count: usize) -> bool
+        ensures { result ≡ fits_count (operands_view self.entry) count }
+    {
+        match self {
+            Operands::Each(each) => count == each.len(),
+            Operands::Many { .. } => count > 1,
+        }
+    }
+
+    /// What is expected of the next operand.
+    pub fn next(self) -> Expected
+        ensures { result ≡ next_expected (operands_view self.entry) }
+    {
+        match self {
+            Operands::Each([first, ..]) => *first,
+            Operands::Each([]) => Expected::AnyName,
+            Operands::Many { operand, .. } => operand,
+        }
+    }
+
+    /// What is expected of the operands behind the next one.
+    pub fn later(self) -> Operands<'a>
+        ensures { operands_view result ≡ later_expected (operands_view self.entry) }
+    {
+        match self {
+            Operands::Each([_, rest @ ..]) => Operands::Each(rest),
+            other => other,
+        }
+    }
+
+    /// Whether no two operands may be equal.
+    pub fn wants_distinct(self) -> bool
+        ensures { result ≡ wants_distinct (operands_view self.entry) }
+    {
+        match self {
+            Operands::Each(_) => false,
+            Operands::Many { distinct, .. } => distinct,
+        }
+    }
 }

@@ -1,0 +1,247 @@
+//! Every fault of a document's trees, in the order of the text.
+
+ghost use Rattle.std.specs.Prelude.{◌≡◌, ◌≤◌, ◌++◌, ◌∷◌, [], drop, false, length, OnOk, IfOk};
+ghost use Rattle.fs_parser.specs.Tree.{Form};
+ghost use Rattle.fs_parser.specs.View.{iri_of, tree_of, trees_of};
+ghost use Rattle.shapes.specs.Faults as spec;
+ghost use Rattle.shapes.specs.Faults.{annotation_faults, behind_annotations, each_faults, faults, faults_in, is_annotation, is_name, literal_faults, name_faults, ontology_faults, own_trees};
+ghost use Rattle.shapes.specs.View.{fault_of, faults_of, operands_view};
+
+use crate::equality::is_among;
+use crate::expected::{Expected, Operands};
+use crate::fault::Fault;
+use crate::keywords::{is_known, is_refused, operands_of};
+use crate::names::{is_allowed, may_be_name};
+use axioms::Memory;
+use fs_parser::{Document, Iri, Tree};
+use std::alloc::Global;
+
+/// Which constructs are taken.
+#[derive(Clone, Copy, Debug, PartialEq, Eq)]
+pub enum Version {
+    V1,
+}
+
+/// Whether the tree is a name.
+fn is_name(tree: &Tree<'_>) -> bool
+    ensures { result ≡ is_name (tree_of tree.now) }
+{
+    matches!(tree, Tree::Name { .. })
+}
+
+/// Whether the tree is an annotation, be it a faulty one.
+fn is_annotation(tree: &Tree<'_>) -> bool
+    ensures { result ≡ is_annotation (tree_of tree.now) }
+{
+    match tree {
+        Tree::Form { keyword, .. } => *keyword == "Annotation",
+        _ => false,
+    }
+}
+
+/// How many annotations stand in front of the other trees.
+fn annotation_count(trees: &[Tree<'_>]) -> usize
+    ensures within { result ≤ length trees.now }
+    ensures others { trees_of (drop result trees.now) ≡ behind_annotations (trees_of trees.now) }
+{
+    for (index, tree) in trees.iter().enumerate() {
+        if !is_annotation(tree) {
+            return index;
+        }
+    }
+    trees.len()
+}
+
+/// How many annotations stand in front of the operands where such a tree is expected.
+fn annotations_in_front(expected: Expected, trees: &[Tree<'_>]) -> usize
+    ensures within { result ≤ length trees.now }
+    ensures others { trees_of (drop result trees.now) ≡ own_trees expected (trees_of trees.now) }
+{
+    if expected.may_be_annotated() {
+        annotation_count(trees)
+    } else {
+        0
+    }
+}
+
+/// One more fault.
+fn tell<'a>(found: &mut Vec<Fault<'a>>, fault: Fault<'a>) -> Result<(), Memory>
+    ensures { OnOk result (faults_of found.new.items ≡ faults_of found.old.items ++ fault_of fault.entry ∷ []) }
+{
+    found.push(fault)?;
+    Ok(())
+}
+
+/// The fault of a name, if it has one.
+fn name_faults<'a>(
+    found: &mut Vec<Fault<'a>>,
+    expected: Expected,
+    at: usize,
+    iri: &Iri<'a>,
+) -> Result<(), Memory>
+    ensures { OnOk result (faults_of found.new.items ≡ faults_of found.old.items ++ name_faults expected at (iri_of iri.now)) }
+{
+    if !may_be_name(expected) {
+        return tell(found, Fault::WrongShape { at });
+    }
+    if !is_allowed(expected, iri) {
+        return tell(found, Fault::ReservedName { at });
+    }
+    Ok(())
+}
+
+/// The fault of a literal, if it has one.
+fn literal_faults<'a>(
+    found: &mut Vec<Fault<'a>>,
+    expected: Expected,
+    at: usize,
+) -> Result<(), Memory>
+    ensures { OnOk result (faults_of found.new.items ≡ faults_of found.old.items ++ literal_faults expected at) }
+{
+    match expected {
+        Expected::NameOrLiteral => Ok(()),
+        _ => tell(found, Fault::WrongShape { at }),
+    }
+}
+
+/// The faults of a tree, where one is expected.
+#[cycle(faults)]
+fn tree_faults<'a>(
+    found: &mut Vec<Fault<'a>>,
+    expected: Expected,
+    tree: &Tree<'a>,
+) -> Result<(), Memory>
+    ensures { OnOk result (faults_of found.new.items ≡ faults_of found.old.items ++ faults expected (tree_of tree.now)) }
+{
+    match tree {
+        Tree::Name { at, iri } => name_faults(found, expected, *at, iri),
+        Tree::PlainLiteral { at, .. }
+        | Tree::TaggedLiteral { at, .. }
+        | Tree::TypedLiteral { at, .. } => literal_faults(found, expected, *at),
+        Tree::Anonymous { at, .. } => tell(found, Fault::Anonymous { at: *at }),
+        Tree::Number { at, .. } | Tree::Group { at, .. } => {
+            tell(found, Fault::WrongShape { at: *at })
+        }
+        Tree::Form { at, keyword, trees } => form_faults(found, expected, *at, keyword, trees),
+    }
+}
+
+/// The faults of a form with these trees in it, where one is expected.
+#[cycle(faults)]
+fn form_faults<'a>(
+    found: &mut Vec<Fault<'a>>,
+    expected: Expected,
+    at: usize,
+    keyword: &'a str,
+    trees: &[Tree<'a>],
+) -> Result<(), Memory>
+    ensures { OnOk result (faults_of found.new.items ≡ faults_of found.old.items ++ faults expected (Form at keyword.now (trees_of trees.now))) }
+{
+    if is_refused(keyword) {
+        return tell(found, Fault::RefusedConstruct { at, keyword });
+    }
+    if !is_known(keyword) {
+        return tell(found, Fault::UnknownKeyword { at, keyword });
+    }
+    let Some(operands) = operands_of(expected, keyword) else {
+        return tell(found, Fault::WrongShape { at });
+    };
+    let in_front = annotations_in_front(expected, trees);
+    if !operands.fits_count(trees.len() - in_front) {
+        return tell(found, Fault::WrongShape { at });
+    }
+    if expected.may_be_annotated() {
+        annotation_faults(found, trees)?;
+    }
+    operand_faults(found, operands, trees, in_front)
+}
+
+/// The faults of the annotations in front.
+#[cycle(faults)]
+fn annotation_faults<'a>(found: &mut Vec<Fault<'a>>, trees: &[Tree<'a>]) -> Result<(), Memory>
+    ensures { OnOk result (faults_of found.new.items ≡ faults_of found.old.items ++ annotation_faults (trees_of trees.now)) }
+{
+    for tree in trees {
+        if !is_annotation(tree) {
+            return Ok(());
+        }
+        tree_faults(found, Expected::Annotation, tree)?;
+    }
+    Ok(())
+}
+
+/// The faults of the operands behind so many trees. One that equals an earlier one, where none may, gives that alone.
+#[cycle(faults)]
+fn operand_faults<'a>(
+    found: &mut Vec<Fault<'a>>,
+    operands: Operands<'_>,
+    trees: &[Tree<'a>],
+    in_front: usize,
+) -> Result<(), Memory>
+    ensures { OnOk result (faults_of found.new.items ≡ faults_of found.old.items ++ faults_in false [] (operands_view operands.entry) (trees_of (drop in_front trees.now))) }
+{
+    let mut left = operands;
+    for index in in_front..trees.len() {
+        let tree = &trees[index];
+        if left.wants_distinct() && is_among(tree, &trees[in_front..index]) {
+            tell(found, Fault::RepeatedOperand { at: tree.at() })?;
+        } else {
+            tree_faults(found, left.next(), tree)?;
+        }
+        left = left.later();
+    }
+    Ok(())
+}
+
+/// The faults of trees that are each expected to be the same.
+fn each_faults<'a>(
+    found: &mut Vec<Fault<'a>>,
+    expected: Expected,
+    trees: &[Tree<'a>],
+) -> Result<(), Memory>
+    ensures { OnOk result (faults_of found.new.items ≡ faults_of found.old.items ++ each_faults expected (trees_of trees.now)) }
+{
+    for tree in trees {
+        tree_faults(found, expected, tree)?;
+    }
+    Ok(())
+}
+
+/// The faults of what an ontology holds: at most two names, then annotations, then axioms.
+fn ontology_faults<'a>(found: &mut Vec<Fault<'a>>, trees: &[Tree<'a>]) -> Result<(), Memory>
+    ensures { OnOk result (faults_of found.new.items ≡ faults_of found.old.items ++ ontology_faults 2 (trees_of trees.now)) }
+{
+    let mut names_left: usize = 2;
+    for (index, tree) in trees.iter().enumerate() {
+        if is_name(tree) {
+            if names_left == 0 {
+                tell(found, Fault::WrongShape { at: tree.at() })?;
+            } else {
+                names_left -= 1;
+            }
+        } else if is_annotation(tree) {
+            tree_faults(found, Expected::Annotation, tree)?;
+            names_left = 0;
+        } else {
+            return each_faults(found, Expected::Axiom, &trees[index..]);
+        }
+    }
+    Ok(())
+}
+
+/// Every fault of a document, in the order of the text.
+pub fn document_faults<'a>(
+    alloc: Global,
+    document: &Document<'a>,
+    version: Version,
+) -> Result<Vec<Fault<'a>>, Memory>
+    ensures { IfOk result (λ found. faults_of found.items ≡ spec.document_faults (trees_of document.now.trees.items)) }
+{
+    match version {
+        Version::V1 => {
+            let mut found = Vec::new(alloc);
+            ontology_faults(&mut found, &document.trees)?;
+            Ok(found)
+        }
+    }
+}
