@@ -63,6 +63,10 @@ abbrev pub operands_or_none : Option Operands → Operands
 operands_or_none None = Each []
 operands_or_none (Some operands) = operands
 
+-- the next operand equals an earlier one, and may not
+abbrev pub is_repeated : Operands → Tree → List Tree → Bool
+is_repeated operands next earlier = wants_distinct operands && list_any (same_tree next) earlier
+
 abbrev mutual
   -- the faults of a tree where one is expected, in the order of the text
   pub faults : Expected → Tree → List Fault
@@ -84,13 +88,17 @@ abbrev mutual
   faults_in annotated earlier operands Empty = []
   faults_in annotated earlier operands (Then first rest) =
       if annotated && is_annotation first then faults Annotation first ++ faults_in annotated earlier operands rest
-      else ((if wants_distinct operands && list_any (same_tree first) earlier then RepeatedOperand (place_of first) ∷ [] else faults (next_expected operands) first)
+      else ((if is_repeated operands first earlier then RepeatedOperand (place_of first) ∷ [] else faults (next_expected operands) first)
       ++ faults_in false (earlier ++ first ∷ []) (later_expected operands) rest)
 
 -- of the annotations in front
 abbrev pub annotation_faults : Trees → List Fault
 annotation_faults Empty = []
 annotation_faults (Then first rest) = if is_annotation first then faults Annotation first ++ annotation_faults rest else []
+
+-- .. if there may be annotations where such a tree is expected
+abbrev pub front_faults : Expected → Trees → List Fault
+front_faults expected trees = if may_be_annotated expected then annotation_faults trees else []
 
 -- ---- of documents
 

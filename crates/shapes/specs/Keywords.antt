@@ -27,7 +27,7 @@ refused_keywords =
 abbrev pub is_one_of : List (List ℕ) → List ℕ → Bool
 is_one_of keywords keyword = list_any (λ k. bytes_eq k keyword) keywords
 
-abbrev pub is_refused : List ℕ → Bool
+unfoldable pub is_refused : List ℕ → Bool
 is_refused keyword = is_one_of refused_keywords keyword
 
 -- the keyword has a shape where such a tree is expected
@@ -35,7 +35,7 @@ abbrev pub has_shape : Expected → List ℕ → Bool
 has_shape expected keyword = is_some (operands_of expected keyword)
 
 -- of documents, or of a shape
-abbrev pub is_known : List ℕ → Bool
+unfoldable pub is_known : List ℕ → Bool
 is_known keyword =
     bytes_eq keyword (codes "Prefix") || (bytes_eq keyword (codes "Ontology")
     || (has_shape Axiom keyword || (has_shape Annotation keyword || (has_shape Entity keyword

@@ -112,6 +112,7 @@ pub fn operands_of(expected: Expected, keyword: &str) -> Option<Operands<'static
 }
 
 /// Whether the keyword is one of OWL 2 that the profile leaves out.
+#[tactic(auto, unfolding(crate::specs::Keywords::is_refused))]
 pub fn is_refused(keyword: &str) -> bool
     ensures { result ≡ is_refused keyword.now }
 {
@@ -126,6 +127,7 @@ fn has_shape(expected: Expected, keyword: &str) -> bool
 }
 
 /// Whether the keyword is one of documents and of the profile.
+#[tactic(auto, unfolding(crate::specs::Keywords::is_known))]
 pub fn is_known(keyword: &str) -> bool
     ensures { result ≡ is_known keyword.now }
 {

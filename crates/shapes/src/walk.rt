@@ -1,10 +1,10 @@
 //! Every fault of a document's trees, in the order of the text.
 
-ghost use Rattle.std.specs.Prelude.{◌≡◌, ◌≤◌, ◌++◌, ◌∷◌, [], drop, false, length, OnOk, IfOk};
+ghost use Rattle.std.specs.Prelude.{◌≡◌, ◌≤◌, ◌++◌, ◌∷◌, [], drop, false, length, map, OnOk, IfOk};
 ghost use Rattle.fs_parser.specs.Tree.{Form};
 ghost use Rattle.fs_parser.specs.View.{iri_of, tree_of, trees_of};
 ghost use Rattle.shapes.specs.Faults as spec;
-ghost use Rattle.shapes.specs.Faults.{annotation_faults, behind_annotations, each_faults, faults, faults_in, is_annotation, is_name, literal_faults, name_faults, ontology_faults, own_trees};
+ghost use Rattle.shapes.specs.Faults.{behind_annotations, each_faults, faults, faults_in, front_faults, is_annotation, is_name, is_repeated, literal_faults, name_faults, ontology_faults, own_trees};
 ghost use Rattle.shapes.specs.View.{fault_of, faults_of, operands_view};
 
 use crate::equality::is_among;
@@ -70,6 +70,13 @@ fn tell<'a>(found: &mut Vec<Fault<'a>>, fault: Fault<'a>) -> Result<(), Memory>
 {
     found.push(fault)?;
     Ok(())
+}
+
+/// Whether the next operand equals an earlier one, and may not.
+fn is_repeated(operands: Operands<'_>, next: &Tree<'_>, earlier: &[Tree<'_>]) -> bool
+    ensures { result ≡ is_repeated (operands_view operands.entry) (tree_of next.now) (map tree_of earlier.now) }
+{
+    operands.wants_distinct() && is_among(next, earlier)
 }
 
 /// The fault of a name, if it has one.
@@ -150,17 +157,22 @@ fn form_faults<'a>(
     if !operands.fits_count(trees.len() - in_front) {
         return tell(found, Fault::WrongShape { at });
     }
-    if expected.may_be_annotated() {
-        annotation_faults(found, trees)?;
-    }
+    annotation_faults(found, expected, trees)?;
     operand_faults(found, operands, trees, in_front)
 }
 
-/// The faults of the annotations in front.
+/// The faults of the annotations in front, if there may be any where such a tree is expected.
 #[cycle(faults)]
-fn annotation_faults<'a>(found: &mut Vec<Fault<'a>>, trees: &[Tree<'a>]) -> Result<(), Memory>
-    ensures { OnOk result (faults_of found.new.items ≡ faults_of found.old.items ++ annotation_faults (trees_of trees.now)) }
+fn annotation_faults<'a>(
+    found: &mut Vec<Fault<'a>>,
+    expected: Expected,
+    trees: &[Tree<'a>],
+) -> Result<(), Memory>
+    ensures { OnOk result (faults_of found.new.items ≡ faults_of found.old.items ++ front_faults expected (trees_of trees.now)) }
 {
+    if !expected.may_be_annotated() {
+        return Ok(());
+    }
     for tree in trees {
         if !is_annotation(tree) {
             return Ok(());
@@ -183,7 +195,7 @@ fn operand_faults<'a>(
     let mut left = operands;
     for index in in_front..trees.len() {
         let tree = &trees[index];
-        if left.wants_distinct() && is_among(tree, &trees[in_front..index]) {
+        if is_repeated(left, tree, &trees[in_front..index]) {
             tell(found, Fault::RepeatedOperand { at: tree.at() })?;
         } else {
             tree_faults(found, left.next(), tree)?;
