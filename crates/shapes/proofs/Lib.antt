@@ -1,2 +1,4 @@
 pub mod Pieces
 pub mod Lists
+pub mod Worked
+pub mod Apart

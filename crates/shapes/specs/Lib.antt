@@ -4,3 +4,5 @@ pub mod Names
 pub mod SameTree
 pub mod Faults
 pub mod View
+pub mod Examples
+pub mod Laws

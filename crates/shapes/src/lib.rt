@@ -1,6 +1,9 @@
 //! Which trees are axioms and expressions of the profile, and every fault of a document's trees in the order of the text.
 #![tactic(auto)]
 
+ghost use Rattle.shapes.specs.Examples.{EveryFaultIsTold, OrderIsTold, RepeatedOperandIsTold};
+ghost use Rattle.shapes.specs.Laws.{EachTreeIsItself, KeywordsAreApart};
+
 mod equality;
 mod expected;
 mod fault;
@@ -14,3 +17,16 @@ mod tests;
 pub use expected::{Expected, Operands};
 pub use fault::Fault;
 pub use walk::{Version, document_faults};
+
+/// The faults of small documents.
+pub fn worked_documents()
+    ensures every_fault { EveryFaultIsTold }
+    ensures repeated_operand { RepeatedOperandIsTold }
+    ensures order { OrderIsTold }
+{}
+
+/// Laws: no keyword is both refused and known, and each tree equals itself.
+pub fn keywords_and_trees()
+    ensures keywords { KeywordsAreApart }
+    ensures trees { EachTreeIsItself }
+{}
