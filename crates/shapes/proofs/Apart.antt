@@ -4,10 +4,10 @@ use Rattle.std.specs.List.{list_any, list_all}
 use Rattle.std.specs.Str.{bytes_eq}
 use Rattle.std.proofs.lemmas.Bool.{false≢true}
 use Rattle.std.proofs.lemmas.Slice.Eq.{bytes_eq-Decides}
-use Rattle.fs_parser.specs.Tree.{Tree, Trees, Name, PlainLiteral, TaggedLiteral, TypedLiteral, Anonymous, Number, Group, Form, Empty, Then}
+use Rattle.fs_parser.specs.Tree.{Trees, Name, PlainLiteral, TaggedLiteral, TypedLiteral, Anonymous, Number, Group, Form, Empty, Then}
 use Rattle.shapes.specs.Keywords.{is_known, is_refused, refused_keywords}
 use Rattle.shapes.specs.Laws.{EachTreeIsItself, KeywordsAreApart}
-use Rattle.shapes.specs.SameTree.{same_tree, same_trees}
+use Rattle.shapes.specs.SameTree.{same_trees}
 
 -- what holds of each keyword of a list holds of one that is found in it
 of_one : (test : List ℕ → Bool) (ks : List (List ℕ)) (k : List ℕ) → list_all test ks ≡ true → list_any (λ x. bytes_eq x k) ks ≡ true → test k ≡ true

@@ -1,7 +1,6 @@
 -- Lists of trees, one tree after the other.
-use Rattle.std.proofs.Common.{◌≡◌, ℕ, zero, suc, ◌+◌, ◌-◌, ◌<◌, ◌≤◌, Bool, true, false, ◌&&◌, ◌||◌, not, List, [], ◌∷◌, ◌++◌, map, take, drop, length, get_or, refl, sym, ap, ap₂, ◌∙◌, subst, arith, add-one, Some, Result, Ok, Err, if◌then◌else◌}
+use Rattle.std.proofs.Common.{◌≡◌, ℕ, zero, suc, ◌+◌, ◌-◌, ◌<◌, ◌≤◌, Bool, true, false, ◌&&◌, List, [], ◌∷◌, ◌++◌, map, take, drop, length, get_or, refl, sym, ap, ap₂, ◌∙◌, arith, add-one, Some, Result, Ok, Err, if◌then◌else◌}
 use Rattle.std.proofs.lemmas.List.{drop_more, get_or-drop, length-drop, map-append, take_more}
-use Rattle.std.specs.List.{list_any}
 use Rattle.std.specs.Result.{OnOk}
 use Rattle.fs_parser.specs.Tree.{Tree, Trees, Empty, Then, Form, place_of}
 use Rattle.fs_parser.specs.View.{tree_of, trees_of}
@@ -9,7 +8,7 @@ use Rattle.fs_parser.specs.declared.tree.Tree as code
 use Rattle.shapes.specs.Faults.{Fault, RepeatedOperand, WrongShape, behind_annotations, annotation_faults, count_of, faults, faults_in, front_faults, is_annotation, is_repeated, own_trees}
 use Rattle.shapes.specs.Keywords.{is_known, is_refused}
 use Rattle.shapes.specs.SameTree.{same_tree, same_trees}
-use Rattle.shapes.specs.Shapes.{Operands, fits_count, later_expected, may_be_annotated, next_expected, operands_of, wants_distinct}
+use Rattle.shapes.specs.Shapes.{Operands, fits_count, later_expected, may_be_annotated, next_expected, operands_of}
 use Rattle.shapes.specs.declared.expected.Expected.{Expected}
 use Rattle.shapes.specs.declared.expected.Expected.TheVariants.{Annotation}
 
@@ -76,11 +75,11 @@ abbrev pub operand_faults : List Tree → Operands → Tree → List Fault
 operand_faults before operands next = if is_repeated operands next before then RepeatedOperand (place_of next) ∷ [] else faults (next_expected operands) next
 
 pub operand_step :
-  (all found new : List Fault) (operands later : Operands) (ts : List code.Tree) (n i : ℕ) (t : code.Tree) →
-  n ≤ i → i < length ts → t ≡ get_or ts i t → later ≡ later_expected operands →
-  found ++ faults_in false (earlier ts n i) operands (trees_of (drop i ts)) ≡ all →
-  new ≡ found ++ operand_faults (earlier ts n i) operands (tree_of t) →
-  new ++ faults_in false (earlier ts n (i + 1)) later (trees_of (drop (i + 1) ts)) ≡ all
+    (all found new : List Fault) (operands later : Operands) (ts : List code.Tree) (n i : ℕ) (t : code.Tree) →
+    n ≤ i → i < length ts → t ≡ get_or ts i t → later ≡ later_expected operands →
+    found ++ faults_in false (earlier ts n i) operands (trees_of (drop i ts)) ≡ all →
+    new ≡ found ++ operand_faults (earlier ts n i) operands (tree_of t) →
+    new ++ faults_in false (earlier ts n (i + 1)) later (trees_of (drop (i + 1) ts)) ≡ all
 operand_step all found new operands later ts n i t h k e l inv more =
     let rest = trees_of (drop (i + 1) ts) in
     ap₂ (λ (x : List Tree) (y : Operands). new ++ faults_in false x y rest) (earlier_next ts n i t h k e) l
@@ -99,12 +98,12 @@ in_front operands Empty = refl
 in_front operands (Then t ts) = go (is_annotation t) refl (in_front operands ts)
   where
     go : (b : Bool) → is_annotation t ≡ b → faults_in true [] operands ts ≡ annotation_faults ts ++ faults_in false [] operands (behind_annotations ts) →
-      faults_in true [] operands (Then t ts) ≡ annotation_faults (Then t ts) ++ faults_in false [] operands (behind_annotations (Then t ts))
+        faults_in true [] operands (Then t ts) ≡ annotation_faults (Then t ts) ++ faults_in false [] operands (behind_annotations (Then t ts))
     go true e more = rw e (ap (λ fs. faults Annotation t ++ fs) more ∙ sym (join (faults Annotation t) (annotation_faults ts) (faults_in false [] operands (behind_annotations ts))))
     go false e more = rw e refl
 
 inside : (expected : Expected) (operands : Operands) (ts : Trees) →
-  faults_in (may_be_annotated expected) [] operands ts ≡ front_faults expected ts ++ faults_in false [] operands (own_trees expected ts)
+    faults_in (may_be_annotated expected) [] operands ts ≡ front_faults expected ts ++ faults_in false [] operands (own_trees expected ts)
 inside expected operands ts = go (may_be_annotated expected) refl
   where
     go : (b : Bool) → may_be_annotated expected ≡ b → faults_in (may_be_annotated expected) [] operands ts ≡ front_faults expected ts ++ faults_in false [] operands (own_trees expected ts)
@@ -112,23 +111,23 @@ inside expected operands ts = go (may_be_annotated expected) refl
     go false e = rw e refl
 
 pub fitting_form :
-  (expected : Expected) (at : ℕ) (keyword : List ℕ) (ts : Trees) (operands : Operands) →
-  is_refused keyword ≡ false → is_known keyword ≡ true → operands_of expected keyword ≡ Some operands → fits_count operands (count_of (own_trees expected ts)) ≡ true →
-  faults expected (Form at keyword ts) ≡ front_faults expected ts ++ faults_in false [] operands (own_trees expected ts)
+    (expected : Expected) (at : ℕ) (keyword : List ℕ) (ts : Trees) (operands : Operands) →
+    is_refused keyword ≡ false → is_known keyword ≡ true → operands_of expected keyword ≡ Some operands → fits_count operands (count_of (own_trees expected ts)) ≡ true →
+    faults expected (Form at keyword ts) ≡ front_faults expected ts ++ faults_in false [] operands (own_trees expected ts)
 fitting_form expected at keyword ts operands r k o f = rw (r, k, o, f) (inside expected operands ts)
 
 pub unfitting_form :
-  (expected : Expected) (at : ℕ) (keyword : List ℕ) (ts : Trees) (operands : Operands) →
-  is_refused keyword ≡ false → is_known keyword ≡ true → operands_of expected keyword ≡ Some operands → fits_count operands (count_of (own_trees expected ts)) ≡ false →
-  faults expected (Form at keyword ts) ≡ WrongShape at ∷ []
+    (expected : Expected) (at : ℕ) (keyword : List ℕ) (ts : Trees) (operands : Operands) →
+    is_refused keyword ≡ false → is_known keyword ≡ true → operands_of expected keyword ≡ Some operands → fits_count operands (count_of (own_trees expected ts)) ≡ false →
+    faults expected (Form at keyword ts) ≡ WrongShape at ∷ []
 unfitting_form expected at keyword ts operands r k o f = rw (r, k, o, f) refl
 
 pub fits_behind : (expected : Expected) (operands : Operands) (ts : List code.Tree) (n : ℕ) (b : Bool) → trees_of (drop n ts) ≡ own_trees expected (trees_of ts) → b ≡ fits_count operands (length ts - n) → fits_count operands (count_of (own_trees expected (trees_of ts))) ≡ b
 fits_behind expected operands ts n b e f = ap (fits_count operands) (ap count_of (sym e) ∙ count_is (drop n ts) ∙ length-drop n ts) ∙ sym f
 
 pub form_found :
-  (found front mid new all : List Fault) (operands : Operands) (left own : Trees) →
-  left ≡ own → all ≡ front ++ faults_in false [] operands own → mid ≡ found ++ front → new ≡ mid ++ faults_in false [] operands left → new ≡ found ++ all
+    (found front mid new all : List Fault) (operands : Operands) (left own : Trees) →
+    left ≡ own → all ≡ front ++ faults_in false [] operands own → mid ≡ found ++ front → new ≡ mid ++ faults_in false [] operands left → new ≡ found ++ all
 form_found found front mid new all operands left own e f g h =
     h ∙ ap₂ (λ (m : List Fault) (l : Trees). m ++ faults_in false [] operands l) g e ∙ join found front (faults_in false [] operands own) ∙ ap (λ (t : List Fault). found ++ t) (sym f)
 

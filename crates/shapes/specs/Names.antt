@@ -1,10 +1,10 @@
 -- Which IRIs may name what (OWL 2 Structural Specification, sections 2.4, 5.1, 5.3, 5.5 and 5.6).
-use Rattle.std.specs.Prelude.{ℕ, List, [], ◌∷◌, Bool, true, false, ◌||◌, not, codes, nat_eq}
+use Rattle.std.specs.Prelude.{ℕ, List, Bool, true, false, ◌||◌, not, codes, nat_eq}
 use Rattle.std.specs.List.{starts_with}
 use Rattle.std.specs.Str.{bytes_eq}
 use Rattle.axioms.specs.Expression.{owl_thing, owl_nothing}
 use Rattle.shapes.specs.declared.expected.Expected.{Expected}
-use Rattle.shapes.specs.declared.expected.Expected.TheVariants.{Axiom, Annotation, Entity, ClassExpression, Class, Property, PropertyOrChain, Individual, AnyName, NameOrLiteral}
+use Rattle.shapes.specs.declared.expected.Expected.TheVariants.{Axiom, Annotation, Entity, ClassExpression, Class, Property, PropertyOrChain, Individual}
 
 -- an IRI is reserved where it begins with that of a standard prefix (section 2.4)
 abbrev pub is_reserved : List ℕ → Bool

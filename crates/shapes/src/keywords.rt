@@ -20,68 +20,169 @@ const DISTINCT_CLASSES: Operands<'static> = Operands::Many {
     distinct: true,
     operand: ClassExpression,
 };
+
 const DISTINCT_PROPERTIES: Operands<'static> = Operands::Many {
     distinct: true,
     operand: Property,
 };
+
 const PROPERTIES: Operands<'static> = Operands::Many {
     distinct: false,
     operand: Property,
 };
 
 static AXIOMS: [Shape; 15] = [
-    Shape { keyword: "SubClassOf", operands: Operands::Each(&[ClassExpression, ClassExpression]) },
-    Shape { keyword: "EquivalentClasses", operands: DISTINCT_CLASSES },
-    Shape { keyword: "DisjointClasses", operands: DISTINCT_CLASSES },
-    Shape { keyword: "SubObjectPropertyOf", operands: Operands::Each(&[PropertyOrChain, Property]) },
-    Shape { keyword: "EquivalentObjectProperties", operands: DISTINCT_PROPERTIES },
-    Shape { keyword: "ObjectPropertyDomain", operands: Operands::Each(&[Property, ClassExpression]) },
-    Shape { keyword: "TransitiveObjectProperty", operands: Operands::Each(&[Property]) },
-    Shape { keyword: "ReflexiveObjectProperty", operands: Operands::Each(&[Property]) },
-    Shape { keyword: "ClassAssertion", operands: Operands::Each(&[ClassExpression, Individual]) },
-    Shape { keyword: "ObjectPropertyAssertion", operands: Operands::Each(&[Property, Individual, Individual]) },
-    Shape { keyword: "Declaration", operands: Operands::Each(&[Entity]) },
-    Shape { keyword: "AnnotationAssertion", operands: Operands::Each(&[AnyName, AnyName, NameOrLiteral]) },
-    Shape { keyword: "SubAnnotationPropertyOf", operands: Operands::Each(&[AnyName, AnyName]) },
-    Shape { keyword: "AnnotationPropertyDomain", operands: Operands::Each(&[AnyName, AnyName]) },
-    Shape { keyword: "AnnotationPropertyRange", operands: Operands::Each(&[AnyName, AnyName]) },
+    Shape {
+        keyword: "SubClassOf",
+        operands: Operands::Each(&[ClassExpression, ClassExpression]),
+    },
+    Shape {
+        keyword: "EquivalentClasses",
+        operands: DISTINCT_CLASSES,
+    },
+    Shape {
+        keyword: "DisjointClasses",
+        operands: DISTINCT_CLASSES,
+    },
+    Shape {
+        keyword: "SubObjectPropertyOf",
+        operands: Operands::Each(&[PropertyOrChain, Property]),
+    },
+    Shape {
+        keyword: "EquivalentObjectProperties",
+        operands: DISTINCT_PROPERTIES,
+    },
+    Shape {
+        keyword: "ObjectPropertyDomain",
+        operands: Operands::Each(&[Property, ClassExpression]),
+    },
+    Shape {
+        keyword: "TransitiveObjectProperty",
+        operands: Operands::Each(&[Property]),
+    },
+    Shape {
+        keyword: "ReflexiveObjectProperty",
+        operands: Operands::Each(&[Property]),
+    },
+    Shape {
+        keyword: "ClassAssertion",
+        operands: Operands::Each(&[ClassExpression, Individual]),
+    },
+    Shape {
+        keyword: "ObjectPropertyAssertion",
+        operands: Operands::Each(&[Property, Individual, Individual]),
+    },
+    Shape {
+        keyword: "Declaration",
+        operands: Operands::Each(&[Entity]),
+    },
+    Shape {
+        keyword: "AnnotationAssertion",
+        operands: Operands::Each(&[AnyName, AnyName, NameOrLiteral]),
+    },
+    Shape {
+        keyword: "SubAnnotationPropertyOf",
+        operands: Operands::Each(&[AnyName, AnyName]),
+    },
+    Shape {
+        keyword: "AnnotationPropertyDomain",
+        operands: Operands::Each(&[AnyName, AnyName]),
+    },
+    Shape {
+        keyword: "AnnotationPropertyRange",
+        operands: Operands::Each(&[AnyName, AnyName]),
+    },
 ];
 
-static ANNOTATIONS: [Shape; 1] = [
-    Shape { keyword: "Annotation", operands: Operands::Each(&[AnyName, NameOrLiteral]) },
-];
+static ANNOTATIONS: [Shape; 1] = [Shape {
+    keyword: "Annotation",
+    operands: Operands::Each(&[AnyName, NameOrLiteral]),
+}];
 
 static ENTITIES: [Shape; 4] = [
-    Shape { keyword: "Class", operands: Operands::Each(&[Class]) },
-    Shape { keyword: "ObjectProperty", operands: Operands::Each(&[Property]) },
-    Shape { keyword: "NamedIndividual", operands: Operands::Each(&[Individual]) },
-    Shape { keyword: "AnnotationProperty", operands: Operands::Each(&[AnyName]) },
+    Shape {
+        keyword: "Class",
+        operands: Operands::Each(&[Class]),
+    },
+    Shape {
+        keyword: "ObjectProperty",
+        operands: Operands::Each(&[Property]),
+    },
+    Shape {
+        keyword: "NamedIndividual",
+        operands: Operands::Each(&[Individual]),
+    },
+    Shape {
+        keyword: "AnnotationProperty",
+        operands: Operands::Each(&[AnyName]),
+    },
 ];
 
 static EXPRESSIONS: [Shape; 2] = [
-    Shape { keyword: "ObjectIntersectionOf", operands: DISTINCT_CLASSES },
-    Shape { keyword: "ObjectSomeValuesFrom", operands: Operands::Each(&[Property, ClassExpression]) },
+    Shape {
+        keyword: "ObjectIntersectionOf",
+        operands: DISTINCT_CLASSES,
+    },
+    Shape {
+        keyword: "ObjectSomeValuesFrom",
+        operands: Operands::Each(&[Property, ClassExpression]),
+    },
 ];
 
 static NONE: [Shape; 0] = [];
 
-static CHAINS: [Shape; 1] = [
-    Shape { keyword: "ObjectPropertyChain", operands: PROPERTIES },
-];
+static CHAINS: [Shape; 1] = [Shape {
+    keyword: "ObjectPropertyChain",
+    operands: PROPERTIES,
+}];
 
 static REFUSED: [&str; 46] = [
-    "Import", "ObjectUnionOf", "ObjectComplementOf", "ObjectOneOf", "ObjectAllValuesFrom",
-    "ObjectHasValue", "ObjectHasSelf", "ObjectMinCardinality", "ObjectMaxCardinality",
-    "ObjectExactCardinality", "ObjectInverseOf", "DataSomeValuesFrom", "DataAllValuesFrom",
-    "DataHasValue", "DataMinCardinality", "DataMaxCardinality", "DataExactCardinality",
-    "DataIntersectionOf", "DataUnionOf", "DataComplementOf", "DataOneOf",
-    "DatatypeRestriction", "DisjointUnion", "DisjointObjectProperties", "InverseObjectProperties",
-    "ObjectPropertyRange", "FunctionalObjectProperty", "InverseFunctionalObjectProperty",
-    "IrreflexiveObjectProperty", "SymmetricObjectProperty", "AsymmetricObjectProperty",
-    "SubDataPropertyOf", "EquivalentDataProperties", "DisjointDataProperties",
-    "DataPropertyDomain", "DataPropertyRange", "FunctionalDataProperty", "DatatypeDefinition",
-    "HasKey", "DataPropertyAssertion", "NegativeDataPropertyAssertion", "Datatype",
-    "DataProperty", "SameIndividual", "DifferentIndividuals", "NegativeObjectPropertyAssertion",
+    "Import",
+    "ObjectUnionOf",
+    "ObjectComplementOf",
+    "ObjectOneOf",
+    "ObjectAllValuesFrom",
+    "ObjectHasValue",
+    "ObjectHasSelf",
+    "ObjectMinCardinality",
+    "ObjectMaxCardinality",
+    "ObjectExactCardinality",
+    "ObjectInverseOf",
+    "DataSomeValuesFrom",
+    "DataAllValuesFrom",
+    "DataHasValue",
+    "DataMinCardinality",
+    "DataMaxCardinality",
+    "DataExactCardinality",
+    "DataIntersectionOf",
+    "DataUnionOf",
+    "DataComplementOf",
+    "DataOneOf",
+    "DatatypeRestriction",
+    "DisjointUnion",
+    "DisjointObjectProperties",
+    "InverseObjectProperties",
+    "ObjectPropertyRange",
+    "FunctionalObjectProperty",
+    "InverseFunctionalObjectProperty",
+    "IrreflexiveObjectProperty",
+    "SymmetricObjectProperty",
+    "AsymmetricObjectProperty",
+    "SubDataPropertyOf",
+    "EquivalentDataProperties",
+    "DisjointDataProperties",
+    "DataPropertyDomain",
+    "DataPropertyRange",
+    "FunctionalDataProperty",
+    "DatatypeDefinition",
+    "HasKey",
+    "DataPropertyAssertion",
+    "NegativeDataPropertyAssertion",
+    "Datatype",
+    "DataProperty",
+    "SameIndividual",
+    "DifferentIndividuals",
+    "NegativeObjectPropertyAssertion",
 ];
 
 /// The shapes of the forms that may stand where such a tree is expected.

@@ -9,10 +9,9 @@ mod expected;
 mod fault;
 mod keywords;
 mod names;
-mod walk;
-
 #[cfg(test)]
 mod tests;
+mod walk;
 
 pub use expected::{Expected, Operands};
 pub use fault::Fault;

@@ -1,4 +1,4 @@
-use Rattle.std.proofs.Common.{◌≡◌, ◌∙◌, sym, ap, nat_eq, List, ℕ}
+use Rattle.std.proofs.Common.{◌∙◌, sym, ap, nat_eq, List, ℕ}
 use Rattle.std.specs.List.{starts_with}
 use Rattle.fs_parser.specs.View.{iri_of}
 use Rattle.shapes.proofs.Pieces.{begins_behind, begins_before}

@@ -1,4 +1,4 @@
-use Rattle.std.proofs.Common.{◌≡◌, ◌∙◌, ◌++◌, sym, ap, List, ℕ}
+use Rattle.std.proofs.Common.{◌∙◌, ◌++◌, sym, ap, List, ℕ}
 use Rattle.std.specs.Str.{bytes_eq}
 use Rattle.fs_parser.specs.View.{iri_of}
 use Rattle.shapes.proofs.Pieces.{bytes_eq-sym, same_behind, other_before}

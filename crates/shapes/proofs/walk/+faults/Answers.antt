@@ -1,4 +1,4 @@
-use Rattle.std.proofs.Common.{◌≡◌, ◌∙◌, ◌++◌, [], List, Vec, Global, arith, drop, false, sym, ap}
+use Rattle.std.proofs.Common.{◌∙◌, ◌++◌, [], List, Vec, Global, arith, drop, false, sym, ap}
 use Rattle.fs_parser.specs.Tree.{Form}
 use Rattle.fs_parser.specs.View.{tree_of, trees_of}
 use Rattle.shapes.proofs.Lists.{earlier, fits_behind, fitting_form, form_found, not_repeated, on_ok, operand_step, repeated, unfitting_form}
@@ -42,11 +42,11 @@ operand_faults-loop-index-preserved t c =
     let before = earlier ts n i in
     let found = faults_of c.loop-index.found.items in
     let step = operand_step (faults_of c.args.found.now.items ++ faults_in false [] (operands_view c.args.operands) (trees_of (drop n ts)))
-      found (faults_of c.if-is_repeated.found.items) operands (operands_view c.later-left.result) ts n i next
-      (omega (arith, c.loop-index.auto.index)) c.loop-index-test.true c.index-trees-index.is c.later-left.ensures c.loop-index.invariant in
+    found (faults_of c.if-is_repeated.found.items) operands (operands_view c.later-left.result) ts n i next
+    (omega (arith, c.loop-index.auto.index)) c.loop-index-test.true c.index-trees-index.is c.later-left.ensures c.loop-index.invariant in
     elim c.if-is_repeated.branch [
-      operand_faults-then-is_repeated+in_ok-tell w ↦ step (ap (λ (v : Vec code.Fault Global). faults_of v.items) w.found-is ∙ w.in_ok-tell.ensures
-        ∙ ap (λ (fs : List Fault). found ++ fs) (repeated before operands (tree_of next) w.at.result w.if-is_repeated.ensures w.at.ensures))
-    | operand_faults-else-is_repeated+in_ok-tree_faults w ↦ step (ap (λ (v : Vec code.Fault Global). faults_of v.items) w.found-is ∙ w.in_ok-tree_faults.ensures
-        ∙ ap (λ (fs : List Fault). found ++ fs) (not_repeated before operands (tree_of next) w.next.result w.if-is_repeated.ensures w.next.ensures))
+      | operand_faults-then-is_repeated+in_ok-tell w ↦ step (ap (λ (v : Vec code.Fault Global). faults_of v.items) w.found-is ∙ w.in_ok-tell.ensures
+          ∙ ap (λ (fs : List Fault). found ++ fs) (repeated before operands (tree_of next) w.at.result w.if-is_repeated.ensures w.at.ensures))
+      | operand_faults-else-is_repeated+in_ok-tree_faults w ↦ step (ap (λ (v : Vec code.Fault Global). faults_of v.items) w.found-is ∙ w.in_ok-tree_faults.ensures
+          ∙ ap (λ (fs : List Fault). found ++ fs) (not_repeated before operands (tree_of next) w.next.result w.if-is_repeated.ensures w.next.ensures))
     ]

@@ -1,4 +1,4 @@
-use Rattle.std.proofs.Common.{◌≡◌, ◌++◌, ◌-◌, ◌≤◌, [], false, map, take, drop}
+use Rattle.std.proofs.Common.{◌≡◌, ◌++◌, ◌-◌, [], false, map, take, drop}
 use Rattle.fs_parser.specs.View.{tree_of, trees_of}
 use Rattle.shapes.specs.Faults.{annotation_faults, faults_in}
 use Rattle.shapes.specs.View.{faults_of, operands_view}
