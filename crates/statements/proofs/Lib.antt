@@ -1,0 +1,4 @@
+pub mod FirstPlaces
+pub mod Appending
+pub mod Trees
+pub mod Steps

@@ -1,0 +1,160 @@
+-- One name or expression more.
+use Rattle.std.proofs.Common.{◌≡◌, ℕ, zero, suc, ◌+◌, ◌<◌, ◌≤◌, ◌⊎◌, inl, inr, List, [], ◌∷◌, ◌++◌, length, map, slice_get, Some, None, All, Contains, refl, sym, ap, ap₂, ◌∙◌, subst, subst₂, arith, length-append, append_assoc}
+use Rattle.std.specs.Option.{unwrap_or}
+use Rattle.std.specs.Str.{bytes_eq}
+use Rattle.std.specs.List.{filter_map, cons_option}
+use Rattle.std.proofs.lemmas.List.{append-nil, map-append}
+use Rattle.std.proofs.lemmas.List.Elements.{filter_map-append}
+use Rattle.std.proofs.lemmas.Option.{none-some, same_Some, slice_get_within}
+use Rattle.std.proofs.lemmas.Slice.Eq.{bytes_eq-Decides}
+use Rattle.axioms.specs.Axiom as tree
+use Rattle.axioms.specs.Expression.{Iri, ClassExpression, Named, SomeValues}
+use Rattle.axioms.specs.Growth.{Numbers, DeclaresClass, DeclaresProperty, DeclaresIndividual}
+use Rattle.axioms.specs.Numbered.{Ontology, Names, Axiom, Node, Class, And, Exists, name_at, tree_at, tree_of, trees_from, trees, expression, axiom_tree, axiom_trees}
+use Rattle.axioms.specs.Numbering.{first_places, same_expression, class_name}
+use Rattle.axioms.specs.WellFormed.{AreDistinct, IsNodeOf, IsAxiomOf, IsOntology}
+use Rattle.axioms.proofs.Lists.{Keeps, slice_get_there, slice_get_push, Contains-from_slice_get, slice_get-from_Contains}
+use Rattle.axioms.proofs.Trees.{node_tree}
+use Rattle.axioms.proofs.Growing.{keeps_numbers}
+use Rattle.axioms.proofs.Unique.{expression_determined}
+use Rattle.statements.specs.Additions.{Appends, Adds}
+use Rattle.statements.proofs.FirstPlaces.{one_expression}
+use Rattle.statements.proofs.Appending.{appends_nothing, appends_join, appends_number, appends_old, appends_new, once}
+use Rattle.statements.proofs.Trees.{KeepsNames, KeepsAll, keeps_append, axioms_kept, trees_kept, trees_pushed, distinct_trees, length_trees, tree_there}
+
+-- additions one after another
+pub adds_join : (es fs : List ClassExpression) (rs ss as' bs : List Iri) (xs ys : List tree.Axiom) (o p q : Ontology) →
+    Adds es rs as' xs o p → Adds fs ss bs ys p q → Adds (es ++ fs) (rs ++ ss) (as' ++ bs) (xs ++ ys) o q
+adds_join es fs rs ss as' bs xs ys o p q first second = record {
+  trees_grow = appends_join same_expression es fs (trees o) (trees p) (trees q) first.trees_grow second.trees_grow;
+  classes_grow =
+      let P : List Iri → Type 0 = λ cs. Appends bytes_eq o.names.classes cs q.names.classes in
+      subst P (sym (filter_map-append class_name es fs)) (appends_join bytes_eq (filter_map class_name es) (filter_map class_name fs) o.names.classes p.names.classes q.names.classes first.classes_grow second.classes_grow);
+  properties_grow = appends_join bytes_eq rs ss o.names.properties p.names.properties q.names.properties first.properties_grow second.properties_grow;
+  individuals_grow = appends_join bytes_eq as' bs o.names.individuals p.names.individuals q.names.individuals first.individuals_grow second.individuals_grow;
+  axioms_grow = second.axioms_grow ∙ ap (λ zs. zs ++ ys) first.axioms_grow ∙ append_assoc (axiom_trees o) xs ys;
+}
+
+-- ---- additions of nothing, and of one
+
+pub keeps_of : (es : List ClassExpression) (rs as' : List Iri) (xs : List tree.Axiom) (o p : Ontology) → Adds es rs as' xs o p → KeepsAll o p
+keeps_of es rs as' xs o p adds = record {
+  kept_trees = keeps_append (trees o) (trees p) adds.trees_grow.rest adds.trees_grow.keeps;
+  kept_properties = keeps_append o.names.properties p.names.properties adds.properties_grow.rest adds.properties_grow.keeps;
+  kept_individuals = keeps_append o.names.individuals p.names.individuals adds.individuals_grow.rest adds.individuals_grow.keeps;
+}
+
+same_list : {A : Type 0} (xs : List A) → Keeps xs xs
+same_list xs n x g = g
+
+module _ (o : Ontology) (whole : IsOntology o) where
+  nothing_old_trees : Appends same_expression (trees o) [] (trees o)
+  nothing_old_trees = appends_nothing same_expression (trees o) (once same_expression one_expression (trees o) (distinct_trees o whole))
+
+  no_names : (names : List Iri) → AreDistinct names → Appends bytes_eq names [] names
+  no_names names distinct = appends_nothing bytes_eq names (once bytes_eq bytes_eq-Decides names distinct)
+
+  adds_nothing : Adds [] [] [] [] o o
+  adds_nothing = record {
+    trees_grow = nothing_old_trees;
+    classes_grow = no_names o.names.classes whole.distinct_classes;
+    properties_grow = no_names o.names.properties whole.distinct_properties;
+    individuals_grow = no_names o.names.individuals whole.distinct_individuals;
+    axioms_grow = sym (append-nil (axiom_trees o));
+  }
+
+  -- a property gets a number
+  property_added : (iri : Iri) (rs : List Iri) (n : ℕ) → Numbers o.names.properties iri rs n →
+      Adds [] (iri ∷ []) [] [] o (record o { names = record o.names { properties = rs } })
+  property_added iri rs n numbers =
+      let p : Ontology = record o { names = record o.names { properties = rs } } in
+      let keeps : Keeps o.names.properties rs = keeps_numbers o.names.properties iri rs n numbers in
+      let same : trees p ≡ trees o = trees_kept o whole p.names (record { classes = same_list o.names.classes; properties = keeps }) in
+      let all : KeepsAll o p = record { kept_trees = λ e x g. ap (λ ts. slice_get ts e) same ∙ g; kept_properties = keeps; kept_individuals = same_list o.names.individuals } in
+      record {
+        trees_grow = let P : List ClassExpression → Type 0 = Appends same_expression (trees o) [] in subst P (sym same) nothing_old_trees;
+        classes_grow = no_names o.names.classes whole.distinct_classes;
+        properties_grow = appends_number bytes_eq bytes_eq-Decides o.names.properties iri rs n whole.distinct_properties numbers;
+        individuals_grow = no_names o.names.individuals whole.distinct_individuals;
+        axioms_grow = axioms_kept o p whole all ∙ sym (append-nil (axiom_trees o));
+      }
+
+  -- an individual gets a number
+  individual_added : (iri : Iri) (as' : List Iri) (n : ℕ) → Numbers o.names.individuals iri as' n →
+      Adds [] [] (iri ∷ []) [] o (record o { names = record o.names { individuals = as' } })
+  individual_added iri as' n numbers =
+      let p : Ontology = record o { names = record o.names { individuals = as' } } in
+      let keeps : Keeps o.names.individuals as' = keeps_numbers o.names.individuals iri as' n numbers in
+      let same : trees p ≡ trees o = trees_kept o whole p.names (record { classes = same_list o.names.classes; properties = same_list o.names.properties }) in
+      let all : KeepsAll o p = record { kept_trees = λ e x g. ap (λ ts. slice_get ts e) same ∙ g; kept_properties = same_list o.names.properties; kept_individuals = keeps } in
+      record {
+        trees_grow = let P : List ClassExpression → Type 0 = Appends same_expression (trees o) [] in subst P (sym same) nothing_old_trees;
+        classes_grow = no_names o.names.classes whole.distinct_classes;
+        properties_grow = no_names o.names.properties whole.distinct_properties;
+        individuals_grow = appends_number bytes_eq bytes_eq-Decides o.names.individuals iri as' n whole.distinct_individuals numbers;
+        axioms_grow = axioms_kept o p whole all ∙ sym (append-nil (axiom_trees o));
+      }
+
+  -- ---- a node at the end
+
+  -- a new node stands for a new expression
+  new_tree : (p : Ontology) → IsOntology p → (t : ClassExpression) → trees p ≡ trees o ++ t ∷ [] → Contains (trees o) t → ⊥
+  new_tree p whole' t is there =
+      let (e, at) = slice_get-from_Contains (trees o) t there in
+      let early : slice_get (trees p) e ≡ Some t = keeps_append (trees o) (trees p) (t ∷ []) is e t at in
+      let last : slice_get (trees p) (length (trees o)) ≡ Some t = ap (λ ts. slice_get ts (length (trees o))) is ∙ slice_get_push (trees o) t in
+      let same : e ≡ length (trees o) = distinct_trees p whole' e (length (trees o)) t early last in
+      let within : e < length (trees o) = slice_get_within (trees o) e t at in
+      omega arith
+
+  old_tree : (t : ClassExpression) (e : ℕ) → slice_get (trees o) e ≡ Some t → Appends same_expression (trees o) (t ∷ []) (trees o)
+  old_tree t e at = appends_old same_expression one_expression (trees o) t (distinct_trees o whole) (Contains-from_slice_get (trees o) e t at)
+
+  more_trees : (p : Ontology) → IsOntology p → (t : ClassExpression) → trees p ≡ trees o ++ t ∷ [] → Appends same_expression (trees o) (t ∷ []) (trees p)
+  more_trees p whole' t is =
+      let P : List ClassExpression → Type 0 = Appends same_expression (trees o) (t ∷ []) in
+      subst P (sym is) (appends_new same_expression one_expression (trees o) t (distinct_trees o whole) (new_tree p whole' t is))
+
+  last_tree : (p : Ontology) (t : ClassExpression) → trees p ≡ trees o ++ t ∷ [] → (e : ℕ) → e ≡ length o.nodes → slice_get (trees p) e ≡ Some t
+  last_tree p t is e at =
+      ap₂ slice_get is (at ∙ sym (length_trees o)) ∙ slice_get_push (trees o) t
+
+  -- the node has a number, which now is that of its expression
+  pub record NodeAdded (p : Ontology) (e : ℕ) (t : ClassExpression) : Type 0 where
+    pub adds : Adds (t ∷ []) [] [] [] o p
+    pub number : slice_get (trees p) e ≡ Some t
+
+  with_trees : (p : Ontology) → IsOntology p → (t : ClassExpression) → Appends same_expression (trees o) (t ∷ []) (trees p) → p.names ≡ o.names → p.axioms ≡ o.axioms → class_name t ≡ None → Adds (t ∷ []) [] [] [] o p
+  with_trees p whole' t grow names axioms none =
+      let keeps : Keeps (trees o) (trees p) = keeps_append (trees o) (trees p) grow.rest grow.keeps in
+      let all : KeepsAll o p = record {
+        kept_trees = keeps;
+        kept_properties = λ n x g. ap (λ (ns : Names). slice_get ns.properties n) names ∙ g;
+        kept_individuals = λ n x g. ap (λ (ns : Names). slice_get ns.individuals n) names ∙ g;
+      } in
+      let C : List Iri → List Iri → Type 0 = λ added new. Appends bytes_eq o.names.classes added new in
+      record {
+        trees_grow = grow;
+        classes_grow = subst₂ C (ap (λ c. cons_option c []) (sym none)) (ap (λ (ns : Names). ns.classes) (sym names)) (no_names o.names.classes whole.distinct_classes);
+        properties_grow = let P : List Iri → Type 0 = Appends bytes_eq o.names.properties [] in subst P (ap (λ (ns : Names). ns.properties) (sym names)) (no_names o.names.properties whole.distinct_properties);
+        individuals_grow = let P : List Iri → Type 0 = Appends bytes_eq o.names.individuals [] in subst P (ap (λ (ns : Names). ns.individuals) (sym names)) (no_names o.names.individuals whole.distinct_individuals);
+        axioms_grow = ap (map (axiom_tree p)) axioms ∙ axioms_kept o p whole all ∙ sym (append-nil (axiom_trees o));
+      }
+
+  same_names : KeepsNames o.names o.names
+  same_names = record { classes = same_list o.names.classes; properties = same_list o.names.properties }
+
+  node_added : (node : Node) (nodes : List Node) (e : ℕ) → IsOntology (record o { nodes = nodes }) → Numbers o.nodes node nodes e → (t : ClassExpression) → tree_of o.names (trees o) node ≡ t → class_name t ≡ None → NodeAdded (record o { nodes = nodes }) e t
+  node_added node nodes e whole' (inl (at, same)) t is none =
+      let tree-at : slice_get (trees o) e ≡ Some t = tree_there o whole e (slice_get_within o.nodes e node at) ∙ ap Some (node_tree o whole e node at ∙ is) in
+      let here : NodeAdded o e t = record { adds = with_trees o whole t (old_tree t e tree-at) refl refl none; number = tree-at } in
+      let P : List Node → Type 0 = λ ns. NodeAdded (record o { nodes = ns }) e t in
+      subst P (sym same) here
+  node_added node nodes e whole' (inr (apart, last, longer)) t is none =
+      let p : Ontology = record o { nodes = nodes } in
+      let grown : trees p ≡ trees o ++ t ∷ [] =
+      ap (trees_from o.names []) longer ∙ trees_pushed o whole o.names same_names node ∙ ap (λ x. trees o ++ x ∷ []) is in
+      record {
+        adds = with_trees p whole' t (more_trees p whole' t grown) refl refl none;
+        number = last_tree p t grown e last;
+      }
