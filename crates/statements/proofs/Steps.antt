@@ -9,13 +9,13 @@ use Rattle.std.proofs.lemmas.Option.{none-some, same_Some, slice_get_within}
 use Rattle.std.proofs.lemmas.Slice.Eq.{bytes_eq-Decides}
 use Rattle.axioms.specs.Axiom as tree
 use Rattle.axioms.specs.Expression.{Iri, ClassExpression, Named, SomeValues}
-use Rattle.axioms.specs.Growth.{Numbers, DeclaresClass, DeclaresProperty, DeclaresIndividual}
+use Rattle.axioms.specs.Growth.{Numbers, DeclaresClass, DeclaresProperty, DeclaresIndividual, with_axiom}
 use Rattle.axioms.specs.Numbered.{Ontology, Names, Axiom, Node, Class, And, Exists, name_at, tree_at, tree_of, trees_from, trees, expression, axiom_tree, axiom_trees}
 use Rattle.axioms.specs.Numbering.{first_places, same_expression, class_name}
 use Rattle.axioms.specs.WellFormed.{AreDistinct, IsNodeOf, IsAxiomOf, IsOntology}
 use Rattle.axioms.proofs.Lists.{Keeps, slice_get_there, slice_get_push, Contains-from_slice_get, slice_get-from_Contains}
-use Rattle.axioms.proofs.Trees.{node_tree}
-use Rattle.axioms.proofs.Growing.{keeps_numbers}
+use Rattle.axioms.proofs.Trees.{node_tree, class_named}
+use Rattle.axioms.proofs.Growing.{keeps_numbers, new_class_node}
 use Rattle.axioms.proofs.Unique.{expression_determined}
 use Rattle.statements.specs.Additions.{Appends, Adds}
 use Rattle.statements.proofs.FirstPlaces.{one_expression}
@@ -37,6 +37,10 @@ adds_join es fs rs ss as' bs xs ys o p q first second = record {
 
 -- ---- additions of nothing, and of one
 
+numbered : {A : Type 0} (old : List A) (x : A) (new : List A) (n : ℕ) → Numbers old x new n → slice_get new n ≡ Some x
+numbered old x new n (inl (at, same)) = ap (λ xs. slice_get xs n) same ∙ at
+numbered old x new n (inr (apart, last, longer)) = ap₂ slice_get longer last ∙ slice_get_push old x
+
 pub keeps_of : (es : List ClassExpression) (rs as' : List Iri) (xs : List tree.Axiom) (o p : Ontology) → Adds es rs as' xs o p → KeepsAll o p
 keeps_of es rs as' xs o p adds = record {
   kept_trees = keeps_append (trees o) (trees p) adds.trees_grow.rest adds.trees_grow.keeps;
@@ -46,6 +50,11 @@ keeps_of es rs as' xs o p adds = record {
 
 same_list : {A : Type 0} (xs : List A) → Keeps xs xs
 same_list xs n x g = g
+
+-- an expression is added, and now has this number
+pub record NodeAdded (o p : Ontology) (e : ℕ) (t : ClassExpression) : Type 0 where
+  pub adds : Adds (t ∷ []) [] [] [] o p
+  pub number : slice_get (trees p) e ≡ Some t
 
 module _ (o : Ontology) (whole : IsOntology o) where
   nothing_old_trees : Appends same_expression (trees o) [] (trees o)
@@ -119,11 +128,6 @@ module _ (o : Ontology) (whole : IsOntology o) where
   last_tree p t is e at =
       ap₂ slice_get is (at ∙ sym (length_trees o)) ∙ slice_get_push (trees o) t
 
-  -- the node has a number, which now is that of its expression
-  pub record NodeAdded (p : Ontology) (e : ℕ) (t : ClassExpression) : Type 0 where
-    pub adds : Adds (t ∷ []) [] [] [] o p
-    pub number : slice_get (trees p) e ≡ Some t
-
   with_trees : (p : Ontology) → IsOntology p → (t : ClassExpression) → Appends same_expression (trees o) (t ∷ []) (trees p) → p.names ≡ o.names → p.axioms ≡ o.axioms → class_name t ≡ None → Adds (t ∷ []) [] [] [] o p
   with_trees p whole' t grow names axioms none =
       let keeps : Keeps (trees o) (trees p) = keeps_append (trees o) (trees p) grow.rest grow.keeps in
@@ -144,11 +148,11 @@ module _ (o : Ontology) (whole : IsOntology o) where
   same_names : KeepsNames o.names o.names
   same_names = record { classes = same_list o.names.classes; properties = same_list o.names.properties }
 
-  node_added : (node : Node) (nodes : List Node) (e : ℕ) → IsOntology (record o { nodes = nodes }) → Numbers o.nodes node nodes e → (t : ClassExpression) → tree_of o.names (trees o) node ≡ t → class_name t ≡ None → NodeAdded (record o { nodes = nodes }) e t
+  node_added : (node : Node) (nodes : List Node) (e : ℕ) → IsOntology (record o { nodes = nodes }) → Numbers o.nodes node nodes e → (t : ClassExpression) → tree_of o.names (trees o) node ≡ t → class_name t ≡ None → NodeAdded o (record o { nodes = nodes }) e t
   node_added node nodes e whole' (inl (at, same)) t is none =
       let tree-at : slice_get (trees o) e ≡ Some t = tree_there o whole e (slice_get_within o.nodes e node at) ∙ ap Some (node_tree o whole e node at ∙ is) in
-      let here : NodeAdded o e t = record { adds = with_trees o whole t (old_tree t e tree-at) refl refl none; number = tree-at } in
-      let P : List Node → Type 0 = λ ns. NodeAdded (record o { nodes = ns }) e t in
+      let here : NodeAdded o o e t = record { adds = with_trees o whole t (old_tree t e tree-at) refl refl none; number = tree-at } in
+      let P : List Node → Type 0 = λ ns. NodeAdded o (record o { nodes = ns }) e t in
       subst P (sym same) here
   node_added node nodes e whole' (inr (apart, last, longer)) t is none =
       let p : Ontology = record o { nodes = nodes } in
@@ -158,3 +162,92 @@ module _ (o : Ontology) (whole : IsOntology o) where
         adds = with_trees p whole' t (more_trees p whole' t grown) refl refl none;
         number = last_tree p t grown e last;
       }
+
+  -- ---- a class and its expression
+
+  abbrev with_classes : List Iri → List Node → Ontology
+  with_classes classes nodes = record o { names = record o.names { classes = classes }; nodes = nodes }
+
+  class_there : (iri : Iri) (c e : ℕ) → slice_get o.names.classes c ≡ Some iri → slice_get o.nodes e ≡ Some (Class c) → NodeAdded o o e (Named iri)
+  class_there iri c e named at =
+      let is : expression o e ≡ Named iri = class_named o c e iri at named in
+      let tree-at : slice_get (trees o) e ≡ Some (Named iri) = tree_there o whole e (slice_get_within o.nodes e (Class c) at) ∙ ap Some is in
+      record {
+        adds = record {
+          trees_grow = old_tree (Named iri) e tree-at;
+          classes_grow = appends_old bytes_eq bytes_eq-Decides o.names.classes iri whole.distinct_classes (Contains-from_slice_get o.names.classes c iri named);
+          properties_grow = no_names o.names.properties whole.distinct_properties;
+          individuals_grow = no_names o.names.individuals whole.distinct_individuals;
+          axioms_grow = sym (append-nil (axiom_trees o));
+        };
+        number = tree-at;
+      }
+
+  class_new : (iri : Iri) (classes : List Iri) (nodes : List Node) (c e : ℕ) → IsOntology (with_classes classes nodes) → (Contains o.names.classes iri → ⊥) → c ≡ length o.names.classes → classes ≡ o.names.classes ++ iri ∷ [] →
+      e ≡ length o.nodes → nodes ≡ o.nodes ++ Class c ∷ [] → NodeAdded o (with_classes classes nodes) e (Named iri)
+  class_new iri classes nodes c e whole' apart last longer end more =
+      let p : Ontology = with_classes classes nodes in
+      let keeps : Keeps o.names.classes classes = keeps_append o.names.classes classes (iri ∷ []) longer in
+      let kept : KeepsNames o.names p.names = record { classes = keeps; properties = same_list o.names.properties } in
+      let name : name_at classes c ≡ iri = ap (λ x. unwrap_or x []) (ap₂ slice_get longer last ∙ slice_get_push o.names.classes iri) in
+      let grown : trees p ≡ trees o ++ Named iri ∷ [] =
+      ap (trees_from p.names []) more ∙ trees_pushed o whole p.names kept (Class c) ∙ ap (λ x. trees o ++ Named x ∷ []) name in
+      let grow : Appends same_expression (trees o) (Named iri ∷ []) (trees p) = more_trees p whole' (Named iri) grown in
+      let all : KeepsAll o p = record { kept_trees = keeps_append (trees o) (trees p) grow.rest grow.keeps; kept_properties = same_list o.names.properties; kept_individuals = same_list o.names.individuals } in
+      record {
+        adds = record {
+          trees_grow = grow;
+          classes_grow = let P : List Iri → Type 0 = Appends bytes_eq o.names.classes (iri ∷ []) in subst P (sym longer) (appends_new bytes_eq bytes_eq-Decides o.names.classes iri whole.distinct_classes apart);
+          properties_grow = no_names o.names.properties whole.distinct_properties;
+          individuals_grow = no_names o.names.individuals whole.distinct_individuals;
+          axioms_grow = axioms_kept o p whole all ∙ sym (append-nil (axiom_trees o));
+        };
+        number = last_tree p (Named iri) grown e end;
+      }
+
+  class_added : (iri : Iri) (classes : List Iri) (nodes : List Node) (c e : ℕ) → IsOntology (with_classes classes nodes) → Numbers o.names.classes iri classes c → Numbers o.nodes (Class c) nodes e → NodeAdded o (with_classes classes nodes) e (Named iri)
+  class_added iri classes nodes c e whole' (inl (named, same)) (inl (at, same')) =
+      let P : List Iri → Type 0 = λ cs. NodeAdded o (with_classes cs nodes) e (Named iri) in
+      let Q : List Node → Type 0 = λ ns. NodeAdded o (with_classes o.names.classes ns) e (Named iri) in
+      subst P (sym same) (subst Q (sym same') (class_there iri c e named at))
+  class_added iri classes nodes c e whole' (inl (named, same)) (inr (apart, end, more)) =
+      absurd (apart (let there = whole.class_nodes c (slice_get_within o.names.classes c iri named) in Contains-from_slice_get o.nodes there.0 (Class c) there.1))
+  class_added iri classes nodes c e whole' (inr (apart, last, longer)) (inl (at, same')) =
+      absurd (new_class_node o whole (let P : ℕ → Type 0 = λ n. Contains o.nodes (Class n) in subst P last (Contains-from_slice_get o.nodes e (Class c) at)))
+  class_added iri classes nodes c e whole' (inr (apart, last, longer)) (inr (apart', end, more)) =
+      class_new iri classes nodes c e whole' apart last longer end more
+
+-- ---- .. by what a declaration says
+
+pub class_declared : (o p : Ontology) (iri : Iri) (c e : ℕ) → IsOntology o → IsOntology p → DeclaresClass o iri p c e → NodeAdded o p e (Named iri)
+class_declared o p iri c e whole whole' declares =
+    let q : Ontology = record o { names = record o.names { classes = p.names.classes }; nodes = p.nodes } in
+    let P : Ontology → Type 0 = λ x. NodeAdded o x e (Named iri) in
+    subst P (sym declares.others) (class_added o whole iri p.names.classes p.nodes c e (subst IsOntology declares.others whole') declares.name declares.node)
+
+pub property_declared : (o p : Ontology) (iri : Iri) (n : ℕ) → IsOntology o → DeclaresProperty o iri p n → Adds [] (iri ∷ []) [] [] o p × (slice_get p.names.properties n ≡ Some iri)
+property_declared o p iri n whole declares =
+    let P : Ontology → Type 0 = λ x. Adds [] (iri ∷ []) [] [] o x in
+    (subst P (sym declares.others) (property_added o whole iri p.names.properties n declares.name), numbered o.names.properties iri p.names.properties n declares.name)
+
+pub individual_declared : (o p : Ontology) (iri : Iri) (n : ℕ) → IsOntology o → DeclaresIndividual o iri p n → Adds [] [] (iri ∷ []) [] o p × (slice_get p.names.individuals n ≡ Some iri)
+individual_declared o p iri n whole declares =
+    let P : Ontology → Type 0 = λ x. Adds [] [] (iri ∷ []) [] o x in
+    (subst P (sym declares.others) (individual_added o whole iri p.names.individuals n declares.name), numbered o.names.individuals iri p.names.individuals n declares.name)
+
+pub node_stated : (o p : Ontology) (node : Node) (e : ℕ) → IsOntology o → IsOntology p → Numbers o.nodes node p.nodes e → p ≡ record o { nodes = p.nodes } → (t : ClassExpression) → tree_of o.names (trees o) node ≡ t → class_name t ≡ None → NodeAdded o p e t
+node_stated o p node e whole whole' numbers others t is none =
+    let P : Ontology → Type 0 = λ x. NodeAdded o x e t in
+    subst P (sym others) (node_added o whole node p.nodes e (subst IsOntology others whole') numbers t is none)
+
+-- an axiom comes last
+pub axiom_stated : (o : Ontology) (axiom' : Axiom) → IsOntology o → Adds [] [] [] (axiom_tree o axiom' ∷ []) o (with_axiom o axiom')
+axiom_stated o axiom' whole =
+    let nothing = adds_nothing o whole in
+    record {
+      trees_grow = nothing.trees_grow;
+      classes_grow = nothing.classes_grow;
+      properties_grow = nothing.properties_grow;
+      individuals_grow = nothing.individuals_grow;
+      axioms_grow = map-append (axiom_tree o) o.axioms (axiom' ∷ []);
+    }

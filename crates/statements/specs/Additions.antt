@@ -1,11 +1,19 @@
 -- How an ontology grows by expressions, names and axioms, read in order: what is new comes last, each at its first place.
-use Rattle.std.specs.Prelude.{◌≡◌, ℕ, List, ◌++◌, Bool, map, slice_get, Some}
+use Rattle.std.specs.Prelude.{◌≡◌, ℕ, ◌<◌, ◌⊎◌, List, [], ◌∷◌, ◌++◌, Bool, length, map, slice_get, Some, Result, Ok, Err, Vec}
+use Rattle.std.specs.declared.alloc.Global.{Global}
 use Rattle.std.specs.Str.{bytes_eq}
-use Rattle.std.specs.List.{filter_map}
+use Rattle.std.specs.List.{filter_map, flat_map}
 use Rattle.axioms.specs.Axiom.{Axiom}
 use Rattle.axioms.specs.Expression.{Iri, ClassExpression}
+use Rattle.axioms.specs.Growth.{most_names}
 use Rattle.axioms.specs.Numbered.{Ontology, trees, axiom_trees}
-use Rattle.axioms.specs.Numbering.{first_places, same_expression, class_name}
+use Rattle.axioms.specs.Numbering.{first_places, same_expression, class_name, parts, properties_in}
+use Rattle.axioms.specs.View.{expr_numbers}
+use Rattle.axioms.specs.declared.fault.BuildFault.{BuildFault}
+use Rattle.axioms.specs.declared.fault.BuildFault.TheVariants.{TooManyNames, Memory}
+use Rattle.axioms.specs.declared.ids.ExprId.{ExprId}
+use Rattle.axioms.specs.declared.ids.IndId.{IndId}
+use Rattle.axioms.specs.declared.ids.PropId.{PropId}
 
 -- what was there keeps its place, and of what is added the first places follow
 pub record Appends {A : Type 0} (same : A → A → Bool) (old added new : List A) : Type 0 where
@@ -24,3 +32,56 @@ pub record Adds (expressions : List ClassExpression) (properties individuals : L
 -- each of these has the number beside it
 abbrev pub AreNumbers : {A : Type 0} → List A → List ℕ → List A → Type 0
 AreNumbers all numbers xs = map (slice_get all) numbers ≡ map Some xs
+
+-- ---- too many names
+
+-- more names than a kind may have
+abbrev pub AreTooMany : List Iri → Type 0
+AreTooMany names = most_names < length names
+
+-- with these expressions, properties and individuals a kind has too many names
+abbrev pub Overflows : List ClassExpression → List Iri → List Iri → Ontology → Type 0
+Overflows expressions properties individuals o =
+    AreTooMany (first_places bytes_eq (o.names.classes ++ filter_map class_name expressions))
+    ⊎ (AreTooMany (first_places bytes_eq (o.names.properties ++ properties))
+    ⊎ AreTooMany (first_places bytes_eq (o.names.individuals ++ individuals)))
+
+-- ---- what reading answers
+
+-- the class expression is added with its parts, and has the number
+pub record ReadsClass (c : ClassExpression) (old new : Ontology) (number : ℕ) : Type 0 where
+  pub adds : Adds (parts c) (properties_in c) [] [] old new
+  pub at : slice_get (trees new) number ≡ Some c
+
+abbrev pub ClassRead : Result ExprId BuildFault → ClassExpression → Ontology → Ontology → Type 0
+ClassRead (Ok e) c old new = ReadsClass c old new e.0
+ClassRead (Err TooManyNames) c old new = Overflows (parts c) (properties_in c) [] old
+ClassRead (Err Memory) c old new = Unit {0}
+
+-- .. class expressions, in their order
+pub record ReadsClasses (cs : List ClassExpression) (old new : Ontology) (numbers : List ℕ) : Type 0 where
+  pub adds : Adds (flat_map parts cs) (flat_map properties_in cs) [] [] old new
+  pub at : AreNumbers (trees new) numbers cs
+
+abbrev pub ClassesRead : Result (Vec ExprId Global) BuildFault → List ClassExpression → Ontology → Ontology → Type 0
+ClassesRead (Ok es) cs old new = ReadsClasses cs old new (expr_numbers es.items)
+ClassesRead (Err TooManyNames) cs old new = Overflows (flat_map parts cs) (flat_map properties_in cs) [] old
+ClassesRead (Err Memory) cs old new = Unit {0}
+
+-- a property
+abbrev pub ReadsProperty : Iri → Ontology → Ontology → ℕ → Type 0
+ReadsProperty r old new number = Adds [] (r ∷ []) [] [] old new × (slice_get new.names.properties number ≡ Some r)
+
+abbrev pub PropertyRead : Result PropId BuildFault → Iri → Ontology → Ontology → Type 0
+PropertyRead (Ok p) r old new = ReadsProperty r old new p.0
+PropertyRead (Err TooManyNames) r old new = Overflows [] (r ∷ []) [] old
+PropertyRead (Err Memory) r old new = Unit {0}
+
+-- an individual
+abbrev pub ReadsIndividual : Iri → Ontology → Ontology → ℕ → Type 0
+ReadsIndividual a old new number = Adds [] [] (a ∷ []) [] old new × (slice_get new.names.individuals number ≡ Some a)
+
+abbrev pub IndividualRead : Result IndId BuildFault → Iri → Ontology → Ontology → Type 0
+IndividualRead (Ok i) a old new = ReadsIndividual a old new i.0
+IndividualRead (Err TooManyNames) a old new = Overflows [] [] (a ∷ []) old
+IndividualRead (Err Memory) a old new = Unit {0}

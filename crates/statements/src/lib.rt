@@ -3,6 +3,8 @@
 
 ghost use Rattle.statements.specs.Theorems.{FirstPlacesJoin};
 
+mod names;
+
 /// How an ontology grows: by first places.
 pub fn first_places_come_first()
     ensures join { FirstPlacesJoin }

@@ -1,0 +1,58 @@
+//! Names as the builder numbers them.
+ghost use Rattle.std.specs.Prelude.{◌≡◌};
+ghost use Rattle.axioms.specs.Expression.{Named};
+ghost use Rattle.axioms.specs.WellFormed.{IsOntology};
+ghost use Rattle.statements.specs.Additions.{ClassRead, IndividualRead, PropertyRead};
+
+use axioms::{BuildFault, Builder, ExprId, IndId, Kind, Name, PropId};
+
+/// The expression of the class of this name, which is declared where it is new.
+pub(crate) fn class(builder: &mut Builder, iri: &str) -> Result<ExprId, BuildFault>
+    ensures read { ClassRead result (Named iri.now) builder.old builder.new }
+    ensures after { IsOntology builder.new }
+{
+    let _before = builder.ontology();
+    let name = match builder.declare(Kind::Class, iri) {
+        Ok(name) => name,
+        Err(fault) => return Err(fault),
+    };
+    let _after = builder.ontology();
+    let Name::Class(_, expression) = name else {
+        unreachable!()
+    };
+    Ok(expression)
+}
+
+/// The property of this name, which is declared where it is new.
+pub(crate) fn property(builder: &mut Builder, iri: &str) -> Result<PropId, BuildFault>
+    ensures read { PropertyRead result iri.now builder.old builder.new }
+    ensures after { IsOntology builder.new }
+{
+    let _before = builder.ontology();
+    let name = match builder.declare(Kind::Property, iri) {
+        Ok(name) => name,
+        Err(fault) => return Err(fault),
+    };
+    let _after = builder.ontology();
+    let Name::Property(property) = name else {
+        unreachable!()
+    };
+    Ok(property)
+}
+
+/// The individual of this name, which is declared where it is new.
+pub(crate) fn individual(builder: &mut Builder, iri: &str) -> Result<IndId, BuildFault>
+    ensures read { IndividualRead result iri.now builder.old builder.new }
+    ensures after { IsOntology builder.new }
+{
+    let _before = builder.ontology();
+    let name = match builder.declare(Kind::Individual, iri) {
+        Ok(name) => name,
+        Err(fault) => return Err(fault),
+    };
+    let _after = builder.ontology();
+    let Name::Individual(individual) = name else {
+        unreachable!()
+    };
+    Ok(individual)
+}
