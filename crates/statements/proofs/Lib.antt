@@ -4,3 +4,6 @@ pub mod Trees
 pub mod Steps
 pub mod Overflowing
 pub mod Named
+pub mod ClassReading
+pub mod Forms
+pub mod Stating

@@ -22,7 +22,7 @@ module _ (o p : Ontology) (iri : Iri) (whole : IsOntology o) where
   class_answer whole' name c e is declares =
       let P : Name → Type 0 = Declares o kinds.Class iri p in
       let added = class_declared o p iri c.0 e.0 whole whole' (subst P is declares) in
-      record { adds = added.adds; at = added.number }
+      record { adds = added.adds; at = added.at }
 
   pub class_refused : (fault : BuildFault) → ((◌≡◌ {A = Result Name BuildFault} (Err fault) (Err TooManyNames)) ↔ IsFull o.names.classes iri) → ClassRead (Err fault) (Named iri) o p
   class_refused TooManyNames full = inl (full_overflows o.names.classes iri whole.distinct_classes (full.0 refl))

@@ -1,5 +1,5 @@
 -- One name or expression more.
-use Rattle.std.proofs.Common.{◌≡◌, ℕ, zero, suc, ◌+◌, ◌<◌, ◌≤◌, ◌⊎◌, inl, inr, List, [], ◌∷◌, ◌++◌, length, map, slice_get, Some, None, All, Contains, refl, sym, ap, ap₂, ◌∙◌, subst, subst₂, arith, length-append, append_assoc}
+use Rattle.std.proofs.Common.{◌≡◌, ℕ, zero, suc, ◌+◌, ◌<◌, ◌≤◌, ◌⊎◌, inl, inr, List, [], ◌∷◌, ◌++◌, length, map, slice_get, Some, None, Ok, Err, Result, IfOk, All, Contains, refl, sym, ap, ap₂, ◌∙◌, subst, subst₂, arith, length-append, append_assoc}
 use Rattle.std.specs.Option.{unwrap_or}
 use Rattle.std.specs.Str.{bytes_eq}
 use Rattle.std.specs.List.{filter_map, cons_option}
@@ -17,7 +17,9 @@ use Rattle.axioms.proofs.Lists.{Keeps, slice_get_there, slice_get_push, Contains
 use Rattle.axioms.proofs.Trees.{node_tree, class_named}
 use Rattle.axioms.proofs.Growing.{keeps_numbers, new_class_node}
 use Rattle.axioms.proofs.Unique.{expression_determined}
-use Rattle.statements.specs.Additions.{Appends, Adds}
+use Rattle.axioms.specs.declared.fault.Memory.{Memory}
+use Rattle.axioms.specs.declared.ids.ExprId.{ExprId}
+use Rattle.statements.specs.Additions.{Appends, Adds, HasAdded}
 use Rattle.statements.proofs.FirstPlaces.{one_expression}
 use Rattle.statements.proofs.Appending.{appends_nothing, appends_join, appends_number, appends_old, appends_new, once}
 use Rattle.statements.proofs.Trees.{KeepsNames, KeepsAll, keeps_append, axioms_kept, trees_kept, trees_pushed, distinct_trees, length_trees, tree_there}
@@ -51,11 +53,6 @@ keeps_of es rs as' xs o p adds = record {
 same_list : {A : Type 0} (xs : List A) → Keeps xs xs
 same_list xs n x g = g
 
--- an expression is added, and now has this number
-pub record NodeAdded (o p : Ontology) (e : ℕ) (t : ClassExpression) : Type 0 where
-  pub adds : Adds (t ∷ []) [] [] [] o p
-  pub number : slice_get (trees p) e ≡ Some t
-
 module _ (o : Ontology) (whole : IsOntology o) where
   nothing_old_trees : Appends same_expression (trees o) [] (trees o)
   nothing_old_trees = appends_nothing same_expression (trees o) (once same_expression one_expression (trees o) (distinct_trees o whole))
@@ -63,7 +60,7 @@ module _ (o : Ontology) (whole : IsOntology o) where
   no_names : (names : List Iri) → AreDistinct names → Appends bytes_eq names [] names
   no_names names distinct = appends_nothing bytes_eq names (once bytes_eq bytes_eq-Decides names distinct)
 
-  adds_nothing : Adds [] [] [] [] o o
+  pub adds_nothing : Adds [] [] [] [] o o
   adds_nothing = record {
     trees_grow = nothing_old_trees;
     classes_grow = no_names o.names.classes whole.distinct_classes;
@@ -148,11 +145,11 @@ module _ (o : Ontology) (whole : IsOntology o) where
   same_names : KeepsNames o.names o.names
   same_names = record { classes = same_list o.names.classes; properties = same_list o.names.properties }
 
-  node_added : (node : Node) (nodes : List Node) (e : ℕ) → IsOntology (record o { nodes = nodes }) → Numbers o.nodes node nodes e → (t : ClassExpression) → tree_of o.names (trees o) node ≡ t → class_name t ≡ None → NodeAdded o (record o { nodes = nodes }) e t
+  node_added : (node : Node) (nodes : List Node) (e : ℕ) → IsOntology (record o { nodes = nodes }) → Numbers o.nodes node nodes e → (t : ClassExpression) → tree_of o.names (trees o) node ≡ t → class_name t ≡ None → HasAdded o (record o { nodes = nodes }) e t
   node_added node nodes e whole' (inl (at, same)) t is none =
       let tree-at : slice_get (trees o) e ≡ Some t = tree_there o whole e (slice_get_within o.nodes e node at) ∙ ap Some (node_tree o whole e node at ∙ is) in
-      let here : NodeAdded o o e t = record { adds = with_trees o whole t (old_tree t e tree-at) refl refl none; number = tree-at } in
-      let P : List Node → Type 0 = λ ns. NodeAdded o (record o { nodes = ns }) e t in
+      let here : HasAdded o o e t = record { adds = with_trees o whole t (old_tree t e tree-at) refl refl none; at = tree-at } in
+      let P : List Node → Type 0 = λ ns. HasAdded o (record o { nodes = ns }) e t in
       subst P (sym same) here
   node_added node nodes e whole' (inr (apart, last, longer)) t is none =
       let p : Ontology = record o { nodes = nodes } in
@@ -160,7 +157,7 @@ module _ (o : Ontology) (whole : IsOntology o) where
       ap (trees_from o.names []) longer ∙ trees_pushed o whole o.names same_names node ∙ ap (λ x. trees o ++ x ∷ []) is in
       record {
         adds = with_trees p whole' t (more_trees p whole' t grown) refl refl none;
-        number = last_tree p t grown e last;
+        at = last_tree p t grown e last;
       }
 
   -- ---- a class and its expression
@@ -168,7 +165,7 @@ module _ (o : Ontology) (whole : IsOntology o) where
   abbrev with_classes : List Iri → List Node → Ontology
   with_classes classes nodes = record o { names = record o.names { classes = classes }; nodes = nodes }
 
-  class_there : (iri : Iri) (c e : ℕ) → slice_get o.names.classes c ≡ Some iri → slice_get o.nodes e ≡ Some (Class c) → NodeAdded o o e (Named iri)
+  class_there : (iri : Iri) (c e : ℕ) → slice_get o.names.classes c ≡ Some iri → slice_get o.nodes e ≡ Some (Class c) → HasAdded o o e (Named iri)
   class_there iri c e named at =
       let is : expression o e ≡ Named iri = class_named o c e iri at named in
       let tree-at : slice_get (trees o) e ≡ Some (Named iri) = tree_there o whole e (slice_get_within o.nodes e (Class c) at) ∙ ap Some is in
@@ -180,11 +177,11 @@ module _ (o : Ontology) (whole : IsOntology o) where
           individuals_grow = no_names o.names.individuals whole.distinct_individuals;
           axioms_grow = sym (append-nil (axiom_trees o));
         };
-        number = tree-at;
+        at = tree-at;
       }
 
   class_new : (iri : Iri) (classes : List Iri) (nodes : List Node) (c e : ℕ) → IsOntology (with_classes classes nodes) → (Contains o.names.classes iri → ⊥) → c ≡ length o.names.classes → classes ≡ o.names.classes ++ iri ∷ [] →
-      e ≡ length o.nodes → nodes ≡ o.nodes ++ Class c ∷ [] → NodeAdded o (with_classes classes nodes) e (Named iri)
+      e ≡ length o.nodes → nodes ≡ o.nodes ++ Class c ∷ [] → HasAdded o (with_classes classes nodes) e (Named iri)
   class_new iri classes nodes c e whole' apart last longer end more =
       let p : Ontology = with_classes classes nodes in
       let keeps : Keeps o.names.classes classes = keeps_append o.names.classes classes (iri ∷ []) longer in
@@ -202,13 +199,13 @@ module _ (o : Ontology) (whole : IsOntology o) where
           individuals_grow = no_names o.names.individuals whole.distinct_individuals;
           axioms_grow = axioms_kept o p whole all ∙ sym (append-nil (axiom_trees o));
         };
-        number = last_tree p (Named iri) grown e end;
+        at = last_tree p (Named iri) grown e end;
       }
 
-  class_added : (iri : Iri) (classes : List Iri) (nodes : List Node) (c e : ℕ) → IsOntology (with_classes classes nodes) → Numbers o.names.classes iri classes c → Numbers o.nodes (Class c) nodes e → NodeAdded o (with_classes classes nodes) e (Named iri)
+  class_added : (iri : Iri) (classes : List Iri) (nodes : List Node) (c e : ℕ) → IsOntology (with_classes classes nodes) → Numbers o.names.classes iri classes c → Numbers o.nodes (Class c) nodes e → HasAdded o (with_classes classes nodes) e (Named iri)
   class_added iri classes nodes c e whole' (inl (named, same)) (inl (at, same')) =
-      let P : List Iri → Type 0 = λ cs. NodeAdded o (with_classes cs nodes) e (Named iri) in
-      let Q : List Node → Type 0 = λ ns. NodeAdded o (with_classes o.names.classes ns) e (Named iri) in
+      let P : List Iri → Type 0 = λ cs. HasAdded o (with_classes cs nodes) e (Named iri) in
+      let Q : List Node → Type 0 = λ ns. HasAdded o (with_classes o.names.classes ns) e (Named iri) in
       subst P (sym same) (subst Q (sym same') (class_there iri c e named at))
   class_added iri classes nodes c e whole' (inl (named, same)) (inr (apart, end, more)) =
       absurd (apart (let there = whole.class_nodes c (slice_get_within o.names.classes c iri named) in Contains-from_slice_get o.nodes there.0 (Class c) there.1))
@@ -219,10 +216,10 @@ module _ (o : Ontology) (whole : IsOntology o) where
 
 -- ---- .. by what a declaration says
 
-pub class_declared : (o p : Ontology) (iri : Iri) (c e : ℕ) → IsOntology o → IsOntology p → DeclaresClass o iri p c e → NodeAdded o p e (Named iri)
+pub class_declared : (o p : Ontology) (iri : Iri) (c e : ℕ) → IsOntology o → IsOntology p → DeclaresClass o iri p c e → HasAdded o p e (Named iri)
 class_declared o p iri c e whole whole' declares =
     let q : Ontology = record o { names = record o.names { classes = p.names.classes }; nodes = p.nodes } in
-    let P : Ontology → Type 0 = λ x. NodeAdded o x e (Named iri) in
+    let P : Ontology → Type 0 = λ x. HasAdded o x e (Named iri) in
     subst P (sym declares.others) (class_added o whole iri p.names.classes p.nodes c e (subst IsOntology declares.others whole') declares.name declares.node)
 
 pub property_declared : (o p : Ontology) (iri : Iri) (n : ℕ) → IsOntology o → DeclaresProperty o iri p n → Adds [] (iri ∷ []) [] [] o p × (slice_get p.names.properties n ≡ Some iri)
@@ -235,9 +232,9 @@ individual_declared o p iri n whole declares =
     let P : Ontology → Type 0 = λ x. Adds [] [] (iri ∷ []) [] o x in
     (subst P (sym declares.others) (individual_added o whole iri p.names.individuals n declares.name), numbered o.names.individuals iri p.names.individuals n declares.name)
 
-pub node_stated : (o p : Ontology) (node : Node) (e : ℕ) → IsOntology o → IsOntology p → Numbers o.nodes node p.nodes e → p ≡ record o { nodes = p.nodes } → (t : ClassExpression) → tree_of o.names (trees o) node ≡ t → class_name t ≡ None → NodeAdded o p e t
+pub node_stated : (o p : Ontology) (node : Node) (e : ℕ) → IsOntology o → IsOntology p → Numbers o.nodes node p.nodes e → p ≡ record o { nodes = p.nodes } → (t : ClassExpression) → tree_of o.names (trees o) node ≡ t → class_name t ≡ None → HasAdded o p e t
 node_stated o p node e whole whole' numbers others t is none =
-    let P : Ontology → Type 0 = λ x. NodeAdded o x e t in
+    let P : Ontology → Type 0 = λ x. HasAdded o x e t in
     subst P (sym others) (node_added o whole node p.nodes e (subst IsOntology others whole') numbers t is none)
 
 -- an axiom comes last
@@ -251,3 +248,9 @@ axiom_stated o axiom' whole =
       individuals_grow = nothing.individuals_grow;
       axioms_grow = map-append (axiom_tree o) o.axioms (axiom' ∷ []);
     }
+
+-- .. where it was added
+pub expr_added : (o p : Ontology) (node : Node) (result : Result ExprId Memory) → IsOntology o → IsOntology p → class_name (tree_of o.names (trees o) node) ≡ None →
+    IfOk result (λ e. Numbers o.nodes node p.nodes e.0) → p ≡ record o { nodes = p.nodes } → IfOk result (λ e. HasAdded o p e.0 (tree_of o.names (trees o) node))
+expr_added o p node (Ok e) whole whole' none numbers others = node_stated o p node e.0 whole whole' numbers others _ refl none
+expr_added o p node (Err f) whole whole' none numbers others = tt

@@ -33,6 +33,11 @@ pub record Adds (expressions : List ClassExpression) (properties individuals : L
 abbrev pub AreNumbers : {A : Type 0} → List A → List ℕ → List A → Type 0
 AreNumbers all numbers xs = map (slice_get all) numbers ≡ map Some xs
 
+-- the expression is added, and now has this number
+pub record HasAdded (old new : Ontology) (number : ℕ) (c : ClassExpression) : Type 0 where
+  pub adds : Adds (c ∷ []) [] [] [] old new
+  pub at : slice_get (trees new) number ≡ Some c
+
 -- ---- too many names
 
 -- more names than a kind may have

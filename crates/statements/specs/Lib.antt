@@ -1,3 +1,4 @@
 pub mod Statements
+pub mod ClassTrees
 pub mod Additions
 pub mod Theorems

@@ -1,11 +1,16 @@
 //! The ontology that the trees of a faultless document state, numbered by first places.
 #![tactic(auto)]
 
-ghost use Rattle.statements.specs.Theorems.{FirstPlacesJoin};
+ghost use Rattle.statements.specs.Theorems.{AdditionsChangeNoNumber, FirstPlacesJoin, OneMoreStatement};
 
+mod expressions;
 mod names;
+mod parts;
 
-/// How an ontology grows: by first places.
-pub fn first_places_come_first()
+/// How an ontology grows: to add what a statement brings, each at its first place, is to read one statement more, and what
+/// is added at the end changes no number.
+pub fn statements_one_by_one()
     ensures join { FirstPlacesJoin }
+    ensures more { OneMoreStatement }
+    ensures numbers { AdditionsChangeNoNumber }
 {}

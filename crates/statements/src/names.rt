@@ -1,15 +1,12 @@
 //! Names as the builder numbers them.
-ghost use Rattle.std.specs.Prelude.{◌≡◌};
 ghost use Rattle.axioms.specs.Expression.{Named};
-ghost use Rattle.axioms.specs.WellFormed.{IsOntology};
 ghost use Rattle.statements.specs.Additions.{ClassRead, IndividualRead, PropertyRead};
 
 use axioms::{BuildFault, Builder, ExprId, IndId, Kind, Name, PropId};
 
 /// The expression of the class of this name, which is declared where it is new.
 pub(crate) fn class(builder: &mut Builder, iri: &str) -> Result<ExprId, BuildFault>
-    ensures read { ClassRead result (Named iri.now) builder.old builder.new }
-    ensures after { IsOntology builder.new }
+    ensures { ClassRead result (Named iri.now) builder.old builder.new }
 {
     let _before = builder.ontology();
     let name = match builder.declare(Kind::Class, iri) {
@@ -25,8 +22,7 @@ pub(crate) fn class(builder: &mut Builder, iri: &str) -> Result<ExprId, BuildFau
 
 /// The property of this name, which is declared where it is new.
 pub(crate) fn property(builder: &mut Builder, iri: &str) -> Result<PropId, BuildFault>
-    ensures read { PropertyRead result iri.now builder.old builder.new }
-    ensures after { IsOntology builder.new }
+    ensures { PropertyRead result iri.now builder.old builder.new }
 {
     let _before = builder.ontology();
     let name = match builder.declare(Kind::Property, iri) {
@@ -42,8 +38,7 @@ pub(crate) fn property(builder: &mut Builder, iri: &str) -> Result<PropId, Build
 
 /// The individual of this name, which is declared where it is new.
 pub(crate) fn individual(builder: &mut Builder, iri: &str) -> Result<IndId, BuildFault>
-    ensures read { IndividualRead result iri.now builder.old builder.new }
-    ensures after { IsOntology builder.new }
+    ensures { IndividualRead result iri.now builder.old builder.new }
 {
     let _before = builder.ontology();
     let name = match builder.declare(Kind::Individual, iri) {

@@ -1,10 +1,10 @@
 use Rattle.statements.proofs.Named.{individual_answer, individual_refused}
 use Rattle.statements.proofs.names.individual.Goals as goal
 
-pub returns-clause-read : goal.returns-clause-read
-returns-clause-read c =
+pub returns : goal.returns
+returns c =
     individual_answer c.args.builder.now c.declare.new.self c.args.iri.now c.ontology-before.ensures.valid c.in-Ok.name c.in-Individual.individual c.in-Individual.is c.in-Ok.ensures.ok
 
-pub returns-in-Err-clause-read : goal.returns-in-Err-clause-read
-returns-in-Err-clause-read c =
+pub returns-in-Err : goal.returns-in-Err
+returns-in-Err c =
     individual_refused c.args.builder.now c.declare.new.self c.args.iri.now c.ontology-before.ensures.valid c.in-Err.fault c.in-Err.ensures.full

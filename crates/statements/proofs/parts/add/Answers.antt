@@ -1,0 +1,6 @@
+use Rattle.statements.proofs.Steps.{expr_added}
+use Rattle.statements.proofs.parts.add.Goals as goal
+
+pub returns : goal.returns
+returns c =
+    expr_added c.args.builder.now c.add_expr-number.new.self _ c.add_expr-number.result c.ontology-before.ensures.valid c.ontology-after.ensures.valid c.requires.unnamed c.add_expr-number.ensures.ok c.add_expr-number.ensures.others
