@@ -7,3 +7,4 @@ pub mod Named
 pub mod ClassReading
 pub mod Forms
 pub mod Stating
+pub mod AxiomReading

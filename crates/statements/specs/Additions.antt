@@ -6,8 +6,9 @@ use Rattle.std.specs.List.{filter_map, flat_map}
 use Rattle.axioms.specs.Axiom.{Axiom}
 use Rattle.axioms.specs.Expression.{Iri, ClassExpression}
 use Rattle.axioms.specs.Growth.{most_names}
-use Rattle.axioms.specs.Numbered.{Ontology, trees, axiom_trees}
-use Rattle.axioms.specs.Numbering.{first_places, same_expression, class_name, parts, properties_in}
+use Rattle.axioms.specs.Numbered as numbered
+use Rattle.axioms.specs.Numbered.{Ontology, trees, axiom_tree, axiom_trees}
+use Rattle.axioms.specs.Numbering.{Statement, first_places, same_expression, class_name, parts, properties_in, logical_axiom, statement_expressions, statement_properties, statement_individuals}
 use Rattle.axioms.specs.View.{expr_numbers}
 use Rattle.axioms.specs.declared.fault.BuildFault.{BuildFault}
 use Rattle.axioms.specs.declared.fault.BuildFault.TheVariants.{TooManyNames, Memory}
@@ -90,3 +91,15 @@ abbrev pub IndividualRead : Result IndId BuildFault → Iri → Ontology → Ont
 IndividualRead (Ok i) a old new = ReadsIndividual a old new i.0
 IndividualRead (Err TooManyNames) a old new = Overflows [] [] (a ∷ []) old
 IndividualRead (Err Memory) a old new = Unit {0}
+
+-- an axiom over what is there
+abbrev pub AxiomRead : Result (Unit {0}) BuildFault → numbered.Axiom → Ontology → Ontology → Type 0
+AxiomRead (Ok _) a old new = Adds [] [] [] (axiom_tree old a ∷ []) old new
+AxiomRead (Err TooManyNames) a old new = ⊥
+AxiomRead (Err Memory) a old new = Unit {0}
+
+-- a statement, with all that it brings
+abbrev pub StatementRead : Result (Unit {0}) BuildFault → Statement → Ontology → Ontology → Type 0
+StatementRead (Ok _) s old new = Adds (statement_expressions s) (statement_properties s) (statement_individuals s) (filter_map logical_axiom (s ∷ [])) old new
+StatementRead (Err TooManyNames) s old new = Overflows (statement_expressions s) (statement_properties s) (statement_individuals s) old
+StatementRead (Err Memory) s old new = Unit {0}

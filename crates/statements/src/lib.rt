@@ -3,6 +3,7 @@
 
 ghost use Rattle.statements.specs.Theorems.{AdditionsChangeNoNumber, FirstPlacesJoin, OneMoreStatement};
 
+mod axiom_forms;
 mod expressions;
 mod names;
 mod parts;
