@@ -8,3 +8,4 @@ pub mod ClassReading
 pub mod Forms
 pub mod Stating
 pub mod AxiomReading
+pub mod PropertyForms

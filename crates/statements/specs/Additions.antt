@@ -9,7 +9,7 @@ use Rattle.axioms.specs.Growth.{most_names}
 use Rattle.axioms.specs.Numbered as numbered
 use Rattle.axioms.specs.Numbered.{Ontology, trees, axiom_tree, axiom_trees}
 use Rattle.axioms.specs.Numbering.{Statement, first_places, same_expression, class_name, parts, properties_in, logical_axiom, statement_expressions, statement_properties, statement_individuals}
-use Rattle.axioms.specs.View.{expr_numbers}
+use Rattle.axioms.specs.View.{expr_numbers, prop_numbers}
 use Rattle.axioms.specs.declared.fault.BuildFault.{BuildFault}
 use Rattle.axioms.specs.declared.fault.BuildFault.TheVariants.{TooManyNames, Memory}
 use Rattle.axioms.specs.declared.ids.ExprId.{ExprId}
@@ -82,6 +82,16 @@ abbrev pub PropertyRead : Result PropId BuildFault → Iri → Ontology → Onto
 PropertyRead (Ok p) r old new = ReadsProperty r old new p.0
 PropertyRead (Err TooManyNames) r old new = Overflows [] (r ∷ []) [] old
 PropertyRead (Err Memory) r old new = Unit {0}
+
+-- .. properties, in their order
+pub record ReadsProperties (rs : List Iri) (old new : Ontology) (numbers : List ℕ) : Type 0 where
+  pub adds : Adds [] rs [] [] old new
+  pub at : AreNumbers new.names.properties numbers rs
+
+abbrev pub PropertiesRead : Result (Vec PropId Global) BuildFault → List Iri → Ontology → Ontology → Type 0
+PropertiesRead (Ok ps) rs old new = ReadsProperties rs old new (prop_numbers ps.items)
+PropertiesRead (Err TooManyNames) rs old new = Overflows [] rs [] old
+PropertiesRead (Err Memory) rs old new = Unit {0}
 
 -- an individual
 abbrev pub ReadsIndividual : Iri → Ontology → Ontology → ℕ → Type 0

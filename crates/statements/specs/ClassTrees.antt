@@ -3,7 +3,7 @@ use Rattle.std.specs.Prelude.{ℕ, ◌≤◌, List, length, Bool, true, false, c
 use Rattle.std.specs.Str.{bytes_eq}
 use Rattle.axioms.specs.WellFormed.{AreDistinct}
 use Rattle.fs_parser.specs.Tree.{Tree, Trees, Name, Form, Empty, Then}
-use Rattle.statements.specs.Statements.{classes_of}
+use Rattle.statements.specs.Statements.{classes_of, iris_of}
 
 abbrev pub IsOneOf : Bool → Type 0 → Type 0 → Type 0
 IsOneOf true P Q = P
@@ -12,6 +12,16 @@ IsOneOf false P Q = Q
 abbrev pub IsName : Tree → Type 0
 IsName (Name at iri) = Unit {0}
 IsName _ = ⊥
+
+abbrev pub AreNames : Trees → Type 0
+AreNames Empty = Unit {0}
+AreNames (Then first rest) = IsName first × AreNames rest
+
+-- a property, or a form of one or more properties
+abbrev pub IsChain : Tree → Type 0
+IsChain (Name at iri) = Unit {0}
+IsChain (Form at keyword trees) = AreNames trees × (1 ≤ length (iris_of trees))
+IsChain _ = ⊥
 
 -- two or more trees, which are different expressions
 pub record AreManyDistinct (trees : Trees) : Type 0 where

@@ -1,14 +1,15 @@
 //! Axioms, each behind what it is about.
-ghost use Rattle.axioms.specs.Axiom.{SubClassOf, EquivalentClasses, DisjointClasses};
+ghost use Rattle.axioms.specs.Axiom.{SubClassOf, EquivalentClasses, DisjointClasses, PropertyDomain, TransitiveProperty, ReflexiveProperty, ClassAssertion, PropertyAssertion};
 ghost use Rattle.axioms.specs.Numbering.{States};
 ghost use Rattle.axioms.specs.View.{axiom_of};
 ghost use Rattle.axioms.specs.WellFormed.{IsAxiomOf};
 ghost use Rattle.fs_parser.specs.View.{tree_of, trees_of};
 ghost use Rattle.statements.specs.Additions.{AxiomRead, StatementRead};
-ghost use Rattle.statements.specs.ClassTrees.{AreClassTrees, AreManyDistinct, IsClassTree};
-ghost use Rattle.statements.specs.Statements.{class_of, classes_of};
+ghost use Rattle.statements.specs.ClassTrees.{AreClassTrees, AreManyDistinct, IsClassTree, IsName};
+ghost use Rattle.statements.specs.Statements.{class_of, classes_of, iri_of};
 
 use crate::expressions::{class_expression, class_expressions};
+use crate::parts::{individual, property};
 use axioms::{Axiom, BuildFault, Builder};
 use fs_parser::Tree;
 use std::alloc::Global;
@@ -79,4 +80,108 @@ pub(crate) fn disjoint_classes(
         Err(fault) => return Err(fault),
     };
     state(builder, Axiom::DisjointClasses(operands))
+}
+
+/// An axiom that what has a successor by the property is in the class.
+pub(crate) fn property_domain(
+    alloc: Global,
+    builder: &mut Builder,
+    first: &Tree<'_>,
+    second: &Tree<'_>,
+) -> Result<(), BuildFault>
+    requires property { IsName (tree_of first.now) }
+    requires class { IsClassTree (tree_of second.now) }
+    ensures { StatementRead result (States (PropertyDomain (iri_of (tree_of first.now)) (class_of (tree_of second.now)))) builder.old builder.new }
+{
+    let property = match property(alloc, builder, first) {
+        Ok(property) => property,
+        Err(fault) => return Err(fault),
+    };
+    let class = match class_expression(alloc, builder, second) {
+        Ok(class) => class,
+        Err(fault) => return Err(fault),
+    };
+    state(builder, Axiom::Domain(property, class))
+}
+
+/// An axiom that the property is transitive.
+pub(crate) fn transitive_property(
+    alloc: Global,
+    builder: &mut Builder,
+    tree: &Tree<'_>,
+) -> Result<(), BuildFault>
+    requires { IsName (tree_of tree.now) }
+    ensures { StatementRead result (States (TransitiveProperty (iri_of (tree_of tree.now)))) builder.old builder.new }
+{
+    let property = match property(alloc, builder, tree) {
+        Ok(property) => property,
+        Err(fault) => return Err(fault),
+    };
+    state(builder, Axiom::Transitive(property))
+}
+
+/// An axiom that the property is reflexive.
+pub(crate) fn reflexive_property(
+    alloc: Global,
+    builder: &mut Builder,
+    tree: &Tree<'_>,
+) -> Result<(), BuildFault>
+    requires { IsName (tree_of tree.now) }
+    ensures { StatementRead result (States (ReflexiveProperty (iri_of (tree_of tree.now)))) builder.old builder.new }
+{
+    let property = match property(alloc, builder, tree) {
+        Ok(property) => property,
+        Err(fault) => return Err(fault),
+    };
+    state(builder, Axiom::Reflexive(property))
+}
+
+/// An axiom that the individual is in the class.
+pub(crate) fn class_assertion(
+    alloc: Global,
+    builder: &mut Builder,
+    first: &Tree<'_>,
+    second: &Tree<'_>,
+) -> Result<(), BuildFault>
+    requires class { IsClassTree (tree_of first.now) }
+    requires individual { IsName (tree_of second.now) }
+    ensures { StatementRead result (States (ClassAssertion (class_of (tree_of first.now)) (iri_of (tree_of second.now)))) builder.old builder.new }
+{
+    let class = match class_expression(alloc, builder, first) {
+        Ok(class) => class,
+        Err(fault) => return Err(fault),
+    };
+    let individual = match individual(alloc, builder, second) {
+        Ok(individual) => individual,
+        Err(fault) => return Err(fault),
+    };
+    state(builder, Axiom::ClassAssertion(class, individual))
+}
+
+/// An axiom that the property holds from the source to the target.
+pub(crate) fn property_assertion(
+    alloc: Global,
+    builder: &mut Builder,
+    first: &Tree<'_>,
+    second: &Tree<'_>,
+    third: &Tree<'_>,
+) -> Result<(), BuildFault>
+    requires property { IsName (tree_of first.now) }
+    requires source { IsName (tree_of second.now) }
+    requires target { IsName (tree_of third.now) }
+    ensures { StatementRead result (States (PropertyAssertion (iri_of (tree_of first.now)) (iri_of (tree_of second.now)) (iri_of (tree_of third.now)))) builder.old builder.new }
+{
+    let property = match property(alloc, builder, first) {
+        Ok(property) => property,
+        Err(fault) => return Err(fault),
+    };
+    let source = match individual(alloc, builder, second) {
+        Ok(source) => source,
+        Err(fault) => return Err(fault),
+    };
+    let target = match individual(alloc, builder, third) {
+        Ok(target) => target,
+        Err(fault) => return Err(fault),
+    };
+    state(builder, Axiom::PropertyAssertion(property, source, target))
 }

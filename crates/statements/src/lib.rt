@@ -7,6 +7,7 @@ mod axiom_forms;
 mod expressions;
 mod names;
 mod parts;
+mod properties;
 
 /// How an ontology grows: to add what a statement brings, each at its first place, is to read one statement more, and what
 /// is added at the end changes no number.

@@ -1,0 +1,70 @@
+-- Trees that are properties.
+use Rattle.std.proofs.Common.{◌≡◌, ℕ, zero, suc, ◌+◌, ◌<◌, ◌≤◌, List, [], ◌∷◌, ◌++◌, length, map, take, drop, slice_get, get_or, Some, Err, refl, sym, ap, ap₂, ◌∙◌, subst, arith}
+use Rattle.std.proofs.lemmas.List.{map-append, take_all}
+use Rattle.std.proofs.lemmas.Option.{slice_get-get_or}
+use Rattle.axioms.specs.Expression.{Iri}
+use Rattle.axioms.specs.Numbered.{Ontology}
+use Rattle.axioms.specs.View.{prop_numbers}
+use Rattle.axioms.specs.WellFormed.{IsOntology}
+use Rattle.axioms.specs.declared.fault.BuildFault.{BuildFault}
+use Rattle.axioms.specs.declared.fault.BuildFault.TheVariants.{TooManyNames, Memory}
+use Rattle.axioms.specs.declared.ids.PropId.{PropId}
+use Rattle.axioms.proofs.Lists.{take_push}
+use Rattle.fs_parser.specs.View.{tree_of, trees_of}
+use Rattle.fs_parser.specs.declared.tree.Tree as code
+use Rattle.statements.specs.Additions.{PropertiesRead, PropertyRead, ReadsProperties, ReadsProperty}
+use Rattle.statements.specs.ClassTrees.{AreNames, IsName}
+use Rattle.statements.specs.Statements.{iri_of, iris_of}
+use Rattle.statements.proofs.ClassReading.{numbers_kept, numbers_push}
+use Rattle.statements.proofs.Overflowing.{overflow_more, overflow_later}
+use Rattle.statements.proofs.Steps.{adds_join, adds_nothing, keeps_of}
+
+abbrev pub tree_name : code.Tree → Iri
+tree_name t = iri_of (tree_of t)
+
+iris_are : (ts : List code.Tree) → iris_of (trees_of ts) ≡ map tree_name ts
+iris_are [] = refl
+iris_are (t ∷ ts) = ap (λ rs. tree_name t ∷ rs) (iris_are ts)
+
+pub name_there : (ts : List code.Tree) (n : ℕ) (t : code.Tree) → AreNames (trees_of ts) → n < length ts → t ≡ get_or ts n t → IsName (tree_of t)
+name_there [] n t all within is = absurd (omega arith)
+name_there (u ∷ ts) zero t all within is = let P : code.Tree → Type 0 = λ x. IsName (tree_of x) in subst P (sym is) all.0
+name_there (u ∷ ts) (suc n) t all within is = name_there ts n t all.1 (omega arith) is
+
+pub no_property : (o : Ontology) → IsOntology o → (ps : List PropId) → ps ≡ [] → ReadsProperties [] o o (prop_numbers ps)
+no_property o whole ps is = let P : List PropId → Type 0 = λ xs. ReadsProperties [] o o (prop_numbers xs) in subst P (sym is) (record { adds = adds_nothing o whole; at = refl })
+
+one_more : (rs : List Iri) (r : Iri) (o p q : Ontology) (ns : List ℕ) (n : ℕ) → ReadsProperties rs o p ns → ReadsProperty r p q n → ReadsProperties (rs ++ r ∷ []) o q (ns ++ n ∷ [])
+one_more rs r o p q ns n read more =
+    let keeps = keeps_of [] (r ∷ []) [] [] p q more.0 in
+    record {
+      adds = adds_join [] [] rs (r ∷ []) [] [] [] [] o p q read.adds more.0;
+      at = numbers_push q.names.properties ns rs n r (numbers_kept p.names.properties q.names.properties keeps.kept_properties ns rs read.at) more.1;
+    }
+
+pub property_pushed : (ts : List code.Tree) (n : ℕ) (t : code.Tree) (o p q : Ontology) (ps : List PropId) (r : PropId) (qs : List PropId) → qs ≡ ps ++ r ∷ [] → ReadsProperties (map tree_name (take n ts)) o p (prop_numbers ps) → n < length ts → t ≡ get_or ts n t → ReadsProperty (tree_name t) p q r.0 →
+    ReadsProperties (map tree_name (take (n + 1) ts)) o q (prop_numbers qs)
+property_pushed ts n t o p q ps r qs is read within item more =
+    let P : List ℕ → Type 0 = λ ns. ReadsProperties (map tree_name (take (n + 1) ts)) o q ns in
+    let Q : List Iri → Type 0 = λ rs. ReadsProperties rs o q (prop_numbers ps ++ r.0 ∷ []) in
+    let pushed : map tree_name (take (n + 1) ts) ≡ map tree_name (take n ts) ++ tree_name t ∷ [] =
+    ap (map tree_name) (take_push ts n t (slice_get-get_or ts n t within ∙ ap Some (sym item))) ∙ map-append tree_name (take n ts) (t ∷ []) in
+    subst P (sym (ap prop_numbers is ∙ map-append (λ (x : PropId). x.0) ps (r ∷ []))) (subst Q (sym pushed) (one_more (map tree_name (take n ts)) (tree_name t) o p q (prop_numbers ps) r.0 read more))
+
+pub all_properties : (ts : List code.Tree) (n : ℕ) (o p : Ontology) (ns : List ℕ) → ReadsProperties (map tree_name (take n ts)) o p ns → length ts ≤ n → ReadsProperties (iris_of (trees_of ts)) o p ns
+all_properties ts n o p ns read all =
+    let P : List Iri → Type 0 = λ rs. ReadsProperties rs o p ns in
+    subst P (ap (map tree_name) (take_all n ts all) ∙ sym (iris_are ts)) read
+
+split_at : (ts : List code.Tree) (n : ℕ) (t : code.Tree) → n < length ts → t ≡ get_or ts n t → map tree_name ts ≡ map tree_name (take n ts) ++ (tree_name t ∷ map tree_name (drop (suc n) ts))
+split_at [] n t within is = absurd (omega arith)
+split_at (u ∷ ts) zero t within is = ap (λ x. tree_name x ∷ map tree_name ts) (sym is)
+split_at (u ∷ ts) (suc n) t within is = ap (λ xs. tree_name u ∷ xs) (split_at ts n t (omega arith) is)
+
+pub property_refused : (ts : List code.Tree) (n : ℕ) (t : code.Tree) (o p q : Ontology) (ns : List ℕ) → ReadsProperties (map tree_name (take n ts)) o p ns → n < length ts → t ≡ get_or ts n t → (fault : BuildFault) → PropertyRead (Err fault) (tree_name t) p q → PropertiesRead (Err fault) (iris_of (trees_of ts)) o q
+property_refused ts n t o p q ns read within is TooManyNames h =
+    let P : List Iri → Type 0 = λ rs. PropertiesRead (Err TooManyNames) rs o q in
+    let rest = map tree_name (drop (suc n) ts) in
+    subst P (sym (iris_are ts ∙ split_at ts n t within is))
+    (overflow_later [] [] (map tree_name (take n ts)) (tree_name t ∷ rest) [] [] [] o p read.adds (overflow_more [] [] (tree_name t ∷ []) rest [] [] p h))
+property_refused ts n t o p q ns read within is Memory h = tt
