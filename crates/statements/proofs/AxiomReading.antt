@@ -8,7 +8,7 @@ use Rattle.axioms.specs.Axiom as tree
 use Rattle.axioms.specs.Expression.{Iri, ClassExpression, Named}
 use Rattle.axioms.specs.Growth.{with_axiom}
 use Rattle.axioms.specs.Numbered.{Ontology, Axiom, SubClass, EquivalentClasses, DisjointClasses, Domain, Transitive, Reflexive, ClassAssertion, PropertyAssertion, EquivalentProperties, SubProperty, name_at, trees, expression, property_name, axiom_tree}
-use Rattle.axioms.specs.Numbering.{States, parts, properties_in, axiom_expressions, axiom_properties, axiom_individuals}
+use Rattle.axioms.specs.Numbering.{DeclaresClass, DeclaresIndividual, DeclaresProperty, States, parts, properties_in, axiom_expressions, axiom_properties, axiom_individuals}
 use Rattle.axioms.specs.WellFormed.{AreDistinct, IsAxiomOf, IsOntology}
 use Rattle.axioms.specs.declared.fault.BuildFault.{BuildFault}
 use Rattle.axioms.specs.declared.fault.BuildFault.TheVariants.{TooManyNames, Memory}
@@ -223,3 +223,17 @@ chain_refused rs s o p Memory h = tt
 pub super_refused : (rs : List Iri) (s : Iri) (o p q : Ontology) (ns : List ℕ) → ReadsProperties rs o p ns → (fault : BuildFault) → PropertyRead (Err fault) s p q → StatementRead (Err fault) (States (tree.SubPropertyOf rs s)) o q
 super_refused rs s o p q ns chain TooManyNames h = overflow_later [] [] rs (s ∷ []) [] [] [] o p chain.adds h
 super_refused rs s o p q ns chain Memory h = tt
+
+-- ---- declarations
+
+pub class_refused : (r : Iri) (o p : Ontology) (fault : BuildFault) → ClassRead (Err fault) (Named r) o p → StatementRead (Err fault) (DeclaresClass r) o p
+class_refused r o p TooManyNames h = h
+class_refused r o p Memory h = tt
+
+pub property_refused : (r : Iri) (o p : Ontology) (fault : BuildFault) → PropertyRead (Err fault) r o p → StatementRead (Err fault) (DeclaresProperty r) o p
+property_refused r o p TooManyNames h = h
+property_refused r o p Memory h = tt
+
+pub individual_refused : (a : Iri) (o p : Ontology) (fault : BuildFault) → IndividualRead (Err fault) a o p → StatementRead (Err fault) (DeclaresIndividual a) o p
+individual_refused a o p TooManyNames h = h
+individual_refused a o p Memory h = tt

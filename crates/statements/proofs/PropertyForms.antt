@@ -10,11 +10,12 @@ use Rattle.axioms.specs.declared.fault.BuildFault.{BuildFault}
 use Rattle.axioms.specs.declared.fault.BuildFault.TheVariants.{TooManyNames, Memory}
 use Rattle.axioms.specs.declared.ids.PropId.{PropId}
 use Rattle.axioms.proofs.Lists.{take_push}
+use Rattle.fs_parser.specs.Tree.{Tree, Name, PlainLiteral, TaggedLiteral, TypedLiteral, Anonymous, Number, Group, Form}
 use Rattle.fs_parser.specs.View.{tree_of, trees_of}
 use Rattle.fs_parser.specs.declared.tree.Tree as code
 use Rattle.statements.specs.Additions.{PropertiesRead, PropertyRead, ReadsProperties, ReadsProperty}
-use Rattle.statements.specs.ClassTrees.{AreNames, IsName}
-use Rattle.statements.specs.Statements.{iri_of, iris_of}
+use Rattle.statements.specs.ClassTrees.{AreNames, IsChain, IsName}
+use Rattle.statements.specs.Statements.{chain_of, iri_of, iris_of}
 use Rattle.statements.proofs.ClassReading.{numbers_kept, numbers_push}
 use Rattle.statements.proofs.Overflowing.{overflow_more, overflow_later}
 use Rattle.statements.proofs.Steps.{adds_join, adds_nothing, keeps_of}
@@ -68,3 +69,24 @@ property_refused ts n t o p q ns read within is TooManyNames h =
     subst P (sym (iris_are ts ∙ split_at ts n t within is))
     (overflow_later [] [] (map tree_name (take n ts)) (tree_name t ∷ rest) [] [] [] o p read.adds (overflow_more [] [] (tree_name t ∷ []) rest [] [] p h))
 property_refused ts n t o p q ns read within is Memory h = tt
+
+-- ---- chains
+
+pub one_property_read : (r : Iri) (o p : Ontology) (n : PropId) → ReadsProperty r o p n.0 → (es fs : List PropId) → es ≡ [] → fs ≡ es ++ n ∷ [] → ReadsProperties (r ∷ []) o p (prop_numbers fs)
+one_property_read r o p n read es fs none is =
+    let P : List PropId → Type 0 = λ xs. ReadsProperties (r ∷ []) o p (prop_numbers xs) in
+    subst P (sym (is ∙ ap (λ xs. xs ++ n ∷ []) none)) (record { adds = read.0; at = ap (λ x. x ∷ []) read.1 })
+
+pub one_property_refused : (r : Iri) (o p : Ontology) (fault : BuildFault) → PropertyRead (Err fault) r o p → PropertiesRead (Err fault) (r ∷ []) o p
+one_property_refused r o p TooManyNames h = h
+one_property_refused r o p Memory h = tt
+
+pub chain_has_one : (t : Tree) → IsChain t → 1 ≤ length (chain_of t)
+chain_has_one (Name at iri) h = omega arith
+chain_has_one (Form at keyword trees) h = h.1
+chain_has_one (PlainLiteral at text) h = absurd h
+chain_has_one (TaggedLiteral at text tag) h = absurd h
+chain_has_one (TypedLiteral at text type) h = absurd h
+chain_has_one (Anonymous at label) h = absurd h
+chain_has_one (Number at digits) h = absurd h
+chain_has_one (Group at trees) h = absurd h

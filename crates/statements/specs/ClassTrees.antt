@@ -17,6 +17,11 @@ abbrev pub AreNames : Trees → Type 0
 AreNames Empty = Unit {0}
 AreNames (Then first rest) = IsName first × AreNames rest
 
+-- two or more names, which are different
+pub record AreManyDistinctNames (trees : Trees) : Type 0 where
+  pub many : 2 ≤ length (iris_of trees)
+  pub distinct : AreDistinct (iris_of trees)
+
 -- a property, or a form of one or more properties
 abbrev pub IsChain : Tree → Type 0
 IsChain (Name at iri) = Unit {0}

@@ -1,15 +1,16 @@
 //! Axioms, each behind what it is about.
-ghost use Rattle.axioms.specs.Axiom.{SubClassOf, EquivalentClasses, DisjointClasses, PropertyDomain, TransitiveProperty, ReflexiveProperty, ClassAssertion, PropertyAssertion};
+ghost use Rattle.axioms.specs.Axiom.{SubClassOf, EquivalentClasses, DisjointClasses, PropertyDomain, TransitiveProperty, ReflexiveProperty, ClassAssertion, PropertyAssertion, EquivalentProperties, SubPropertyOf};
 ghost use Rattle.axioms.specs.Numbering.{States};
 ghost use Rattle.axioms.specs.View.{axiom_of};
 ghost use Rattle.axioms.specs.WellFormed.{IsAxiomOf};
 ghost use Rattle.fs_parser.specs.View.{tree_of, trees_of};
 ghost use Rattle.statements.specs.Additions.{AxiomRead, StatementRead};
-ghost use Rattle.statements.specs.ClassTrees.{AreClassTrees, AreManyDistinct, IsClassTree, IsName};
-ghost use Rattle.statements.specs.Statements.{class_of, classes_of, iri_of};
+ghost use Rattle.statements.specs.ClassTrees.{AreClassTrees, AreManyDistinct, AreManyDistinctNames, AreNames, IsChain, IsClassTree, IsName};
+ghost use Rattle.statements.specs.Statements.{chain_of, class_of, classes_of, iri_of, iris_of};
 
 use crate::expressions::{class_expression, class_expressions};
 use crate::parts::{individual, property};
+use crate::properties::{chain, properties};
 use axioms::{Axiom, BuildFault, Builder};
 use fs_parser::Tree;
 use std::alloc::Global;
@@ -27,7 +28,7 @@ fn state(builder: &mut Builder, axiom: Axiom) -> Result<(), BuildFault>
 }
 
 /// A subclass axiom.
-pub(crate) fn sub_class(
+pub fn sub_class(
     alloc: Global,
     builder: &mut Builder,
     sub: &Tree<'_>,
@@ -49,7 +50,7 @@ pub(crate) fn sub_class(
 }
 
 /// An axiom that classes have the same members.
-pub(crate) fn equivalent_classes(
+pub fn equivalent_classes(
     alloc: Global,
     builder: &mut Builder,
     trees: &[Tree<'_>],
@@ -66,7 +67,7 @@ pub(crate) fn equivalent_classes(
 }
 
 /// An axiom that no two of the classes have a common member.
-pub(crate) fn disjoint_classes(
+pub fn disjoint_classes(
     alloc: Global,
     builder: &mut Builder,
     trees: &[Tree<'_>],
@@ -83,7 +84,7 @@ pub(crate) fn disjoint_classes(
 }
 
 /// An axiom that what has a successor by the property is in the class.
-pub(crate) fn property_domain(
+pub fn property_domain(
     alloc: Global,
     builder: &mut Builder,
     first: &Tree<'_>,
@@ -105,7 +106,7 @@ pub(crate) fn property_domain(
 }
 
 /// An axiom that the property is transitive.
-pub(crate) fn transitive_property(
+pub fn transitive_property(
     alloc: Global,
     builder: &mut Builder,
     tree: &Tree<'_>,
@@ -121,7 +122,7 @@ pub(crate) fn transitive_property(
 }
 
 /// An axiom that the property is reflexive.
-pub(crate) fn reflexive_property(
+pub fn reflexive_property(
     alloc: Global,
     builder: &mut Builder,
     tree: &Tree<'_>,
@@ -137,7 +138,7 @@ pub(crate) fn reflexive_property(
 }
 
 /// An axiom that the individual is in the class.
-pub(crate) fn class_assertion(
+pub fn class_assertion(
     alloc: Global,
     builder: &mut Builder,
     first: &Tree<'_>,
@@ -159,7 +160,7 @@ pub(crate) fn class_assertion(
 }
 
 /// An axiom that the property holds from the source to the target.
-pub(crate) fn property_assertion(
+pub fn property_assertion(
     alloc: Global,
     builder: &mut Builder,
     first: &Tree<'_>,
@@ -184,4 +185,43 @@ pub(crate) fn property_assertion(
         Err(fault) => return Err(fault),
     };
     state(builder, Axiom::PropertyAssertion(property, source, target))
+}
+
+/// An axiom that the properties hold between the same individuals.
+pub fn equivalent_properties(
+    alloc: Global,
+    builder: &mut Builder,
+    trees: &[Tree<'_>],
+) -> Result<(), BuildFault>
+    requires names { AreNames (trees_of trees.now) }
+    requires many { AreManyDistinctNames (trees_of trees.now) }
+    ensures { StatementRead result (States (EquivalentProperties (iris_of (trees_of trees.now)))) builder.old builder.new }
+{
+    let operands = match properties(alloc, builder, trees) {
+        Ok(operands) => operands,
+        Err(fault) => return Err(fault),
+    };
+    state(builder, Axiom::EquivalentProperties(operands))
+}
+
+/// An axiom that what the chain of properties leads to, or the one property, the other property leads to too.
+pub fn sub_property(
+    alloc: Global,
+    builder: &mut Builder,
+    first: &Tree<'_>,
+    second: &Tree<'_>,
+) -> Result<(), BuildFault>
+    requires chain { IsChain (tree_of first.now) }
+    requires property { IsName (tree_of second.now) }
+    ensures { StatementRead result (States (SubPropertyOf (chain_of (tree_of first.now)) (iri_of (tree_of second.now)))) builder.old builder.new }
+{
+    let steps = match chain(alloc, builder, first) {
+        Ok(steps) => steps,
+        Err(fault) => return Err(fault),
+    };
+    let whole = match property(alloc, builder, second) {
+        Ok(whole) => whole,
+        Err(fault) => return Err(fault),
+    };
+    state(builder, Axiom::SubProperty(steps, whole))
 }

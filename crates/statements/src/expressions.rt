@@ -12,7 +12,7 @@ use std::alloc::Global;
 
 /// The class expression that the tree is, with its parts.
 #[cycle(reading)]
-pub(crate) fn class_expression(
+pub fn class_expression(
     alloc: Global,
     builder: &mut Builder,
     tree: &Tree<'_>,

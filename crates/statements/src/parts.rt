@@ -75,3 +75,22 @@ pub(crate) fn individual(
     };
     names::individual(builder, text.as_str())
 }
+
+/// The class that the tree names.
+pub(crate) fn class(
+    alloc: Global,
+    builder: &mut Builder,
+    tree: &Tree<'_>,
+) -> Result<ExprId, BuildFault>
+    requires { IsName (tree_of tree.now) }
+    ensures { ClassRead result (Named (tree_iri (tree_of tree.now))) builder.old builder.new }
+{
+    let Tree::Name { iri, .. } = tree else {
+        unreachable!()
+    };
+    let text = match iri.text(alloc) {
+        Ok(text) => text,
+        Err(_) => return Err(BuildFault::Memory),
+    };
+    names::class(builder, text.as_str())
+}

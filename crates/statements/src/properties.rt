@@ -1,8 +1,9 @@
 //! Lists of properties.
 ghost use Rattle.fs_parser.specs.View.{tree_of, trees_of};
 ghost use Rattle.statements.specs.Additions.{PropertiesRead};
-ghost use Rattle.statements.specs.ClassTrees.{AreNames, IsChain};
-ghost use Rattle.statements.specs.Statements.{chain_of, iris_of};
+ghost use Rattle.statements.specs.ClassTrees.{AreNames, IsChain, IsName};
+ghost use Rattle.statements.specs.Statements.{chain_of, iri_of, iris_of};
+ghost use Rattle.std.specs.Prelude.{[], ◌∷◌};
 
 use crate::parts::property;
 use axioms::{BuildFault, Builder, PropId};
@@ -10,7 +11,7 @@ use fs_parser::Tree;
 use std::alloc::Global;
 
 /// The properties that the trees are, in their order.
-pub fn properties(
+pub(crate) fn properties(
     alloc: Global,
     builder: &mut Builder,
     trees: &[Tree<'_>],
@@ -31,4 +32,40 @@ pub fn properties(
         }
     }
     Ok(properties)
+}
+
+/// The one property that the tree is, in a list.
+fn one_property(
+    alloc: Global,
+    builder: &mut Builder,
+    tree: &Tree<'_>,
+) -> Result<Vec<PropId>, BuildFault>
+    requires { IsName (tree_of tree.now) }
+    ensures { PropertiesRead result (iri_of (tree_of tree.now) ∷ []) builder.old builder.new }
+{
+    let property = match property(alloc, builder, tree) {
+        Ok(property) => property,
+        Err(fault) => return Err(fault),
+    };
+    let mut properties = Vec::new(alloc);
+    match properties.push(property) {
+        Ok(()) => Ok(properties),
+        Err(_) => Err(BuildFault::Memory),
+    }
+}
+
+/// The properties of the chain that the tree is, or the one property.
+pub(crate) fn chain(
+    alloc: Global,
+    builder: &mut Builder,
+    tree: &Tree<'_>,
+) -> Result<Vec<PropId>, BuildFault>
+    requires { IsChain (tree_of tree.now) }
+    ensures { PropertiesRead result (chain_of (tree_of tree.now)) builder.old builder.new }
+{
+    match tree {
+        Tree::Name { .. } => one_property(alloc, builder, tree),
+        Tree::Form { trees, .. } => properties(alloc, builder, trees),
+        _ => unreachable!(),
+    }
 }
