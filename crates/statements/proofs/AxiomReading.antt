@@ -1,13 +1,13 @@
 -- What is read of axioms.
-use Rattle.std.proofs.Common.{◌≡◌, ℕ, ◌<◌, ◌≤◌, List, [], ◌∷◌, ◌++◌, length, map, slice_get, Some, All, Ok, Err, Result, refl, sym, ap, ap₂, ◌∙◌, subst, subst₂, arith}
+use Rattle.std.proofs.Common.{◌≡◌, ℕ, ◌<◌, ◌≤◌, List, [], ◌∷◌, ◌++◌, length, map, slice_get, Some, Ok, Err, Result, sym, ap, ap₂, ◌∙◌, subst, subst₂, arith}
 use Rattle.std.specs.Option.{unwrap_or}
-use Rattle.std.specs.List.{flat_map, filter_map}
+use Rattle.std.specs.List.{flat_map}
 use Rattle.std.proofs.lemmas.List.{append-nil}
 use Rattle.std.proofs.lemmas.Option.{slice_get_within}
 use Rattle.axioms.specs.Axiom as tree
 use Rattle.axioms.specs.Expression.{Iri, ClassExpression, Named}
 use Rattle.axioms.specs.Growth.{with_axiom}
-use Rattle.axioms.specs.Numbered.{Ontology, Axiom, SubClass, EquivalentClasses, DisjointClasses, Domain, Transitive, Reflexive, ClassAssertion, PropertyAssertion, EquivalentProperties, SubProperty, name_at, trees, expression, property_name, axiom_tree}
+use Rattle.axioms.specs.Numbered.{Ontology, Axiom, SubClass, EquivalentClasses, DisjointClasses, Domain, Transitive, Reflexive, ClassAssertion, PropertyAssertion, EquivalentProperties, SubProperty, name_at, trees, expression, axiom_tree}
 use Rattle.axioms.specs.Numbering.{DeclaresClass, DeclaresIndividual, DeclaresProperty, States, parts, properties_in, axiom_expressions, axiom_properties, axiom_individuals}
 use Rattle.axioms.specs.WellFormed.{AreDistinct, IsAxiomOf, IsOntology}
 use Rattle.axioms.specs.declared.fault.BuildFault.{BuildFault}

@@ -1,17 +1,16 @@
 -- What is read of class expressions.
-use Rattle.std.proofs.Common.{◌≡◌, ℕ, zero, suc, ◌+◌, ◌<◌, ◌≤◌, List, [], ◌∷◌, ◌++◌, length, map, take, slice_get, get_or, Some, None, All, Option, Err, Result, refl, sym, ap, ap₂, ◌∙◌, subst, subst₂, arith, append_assoc, length-append}
+use Rattle.std.proofs.Common.{◌≡◌, ℕ, zero, suc, ◌<◌, ◌≤◌, List, [], ◌∷◌, ◌++◌, length, map, slice_get, Some, None, All, refl, sym, ap, ap₂, ◌∙◌, subst, subst₂, arith}
 use Rattle.std.specs.Option.{unwrap_or}
 use Rattle.std.specs.List.{flat_map}
 use Rattle.std.proofs.lemmas.List.{append-nil, map-append, length-map}
 use Rattle.std.proofs.lemmas.List.Elements.{All-nil, All-cons}
-use Rattle.std.proofs.lemmas.Option.{none-some, same_Some, slice_get_within, slice_get-get_or}
+use Rattle.std.proofs.lemmas.Option.{none-some, same_Some, slice_get_within}
 use Rattle.std.proofs.lemmas.Grind.{flat_map-append}
-use Rattle.axioms.specs.Axiom as tree
-use Rattle.axioms.specs.Expression.{Iri, ClassExpression, Operands, Named, Intersection, SomeValues}
-use Rattle.axioms.specs.Numbered.{Ontology, Node, And, Exists, name_at, tree_at, tree_of, trees, intersection, operands_of}
+use Rattle.axioms.specs.Expression.{Iri, ClassExpression, Named, SomeValues}
+use Rattle.axioms.specs.Numbered.{Ontology, And, Exists, tree_of, trees, intersection, operands_of}
 use Rattle.axioms.specs.Numbering.{parts, parts_of_each, properties_in, properties_in_each, class_name}
-use Rattle.axioms.specs.WellFormed.{AreDistinct, AreOperands, IsNodeOf, IsOntology}
-use Rattle.axioms.proofs.Lists.{Keeps, take_push}
+use Rattle.axioms.specs.WellFormed.{AreDistinct, IsNodeOf, IsOntology}
+use Rattle.axioms.proofs.Lists.{Keeps}
 use Rattle.statements.specs.Additions.{Adds, AreNumbers, HasAdded, Overflows, ReadsClass, ReadsClasses, ReadsProperty}
 use Rattle.statements.proofs.Overflowing.{overflow_more, overflow_later}
 use Rattle.statements.proofs.Steps.{adds_join, adds_nothing, keeps_of}

@@ -1,9 +1,9 @@
 -- The code's trees as those of the definitions.
-use Rattle.std.proofs.Common.{◌≡◌, ℕ, zero, suc, ◌+◌, ◌<◌, ◌≤◌, List, [], ◌∷◌, ◌++◌, length, map, take, drop, slice_get, get_or, Some, Err, refl, sym, ap, ap₂, ◌∙◌, subst, subst₂, arith}
+use Rattle.std.proofs.Common.{◌≡◌, ℕ, zero, suc, ◌+◌, ◌<◌, ◌≤◌, List, [], ◌∷◌, ◌++◌, length, map, take, drop, get_or, Some, Err, refl, sym, ap, ◌∙◌, subst, subst₂, arith}
 use Rattle.std.specs.List.{flat_map}
 use Rattle.std.proofs.lemmas.List.{map-append, take_all}
 use Rattle.std.proofs.lemmas.Option.{slice_get-get_or}
-use Rattle.axioms.specs.Expression.{Iri, ClassExpression, SomeValues}
+use Rattle.axioms.specs.Expression.{ClassExpression, SomeValues}
 use Rattle.axioms.specs.Numbered.{Ontology, Exists, intersection, trees, tree_of as node_tree}
 use Rattle.axioms.specs.View.{expr_numbers}
 use Rattle.axioms.specs.WellFormed.{IsNodeOf, IsOntology}
@@ -12,8 +12,8 @@ use Rattle.axioms.specs.declared.fault.BuildFault.TheVariants.{TooManyNames, Mem
 use Rattle.axioms.specs.declared.ids.ExprId.{ExprId}
 use Rattle.axioms.specs.Numbering.{parts, properties_in}
 use Rattle.axioms.proofs.Lists.{take_push}
-use Rattle.fs_parser.specs.Tree.{Tree, Trees, Name, Form, Empty, Then}
-use Rattle.fs_parser.specs.View.{tree_of, trees_of, trees_from}
+use Rattle.fs_parser.specs.Tree.{Trees}
+use Rattle.fs_parser.specs.View.{tree_of, trees_of}
 use Rattle.fs_parser.specs.declared.tree.Tree as code
 use Rattle.statements.specs.Additions.{ClassRead, ClassesRead, HasAdded, Overflows, PropertyRead, ReadsClass, ReadsClasses, ReadsProperty}
 use Rattle.statements.specs.ClassTrees.{IsName, IsClassTree, AreClassTrees, AreSomeTrees}

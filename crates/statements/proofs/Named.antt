@@ -1,5 +1,5 @@
 -- What declaring a name answers.
-use Rattle.std.proofs.Common.{◌≡◌, ℕ, ◌⊎◌, inl, inr, ◌↔◌, List, [], ◌∷◌, Ok, Err, Result, IfOk, refl, ap, ◌∙◌, subst, sym}
+use Rattle.std.proofs.Common.{◌≡◌, inl, inr, ◌↔◌, Err, Result, refl, subst}
 use Rattle.axioms.specs.Expression.{Iri, Named}
 use Rattle.axioms.specs.Growth.{Declares, IsFull}
 use Rattle.axioms.specs.Numbered.{Ontology}

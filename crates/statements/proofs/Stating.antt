@@ -1,16 +1,15 @@
 -- An ontology and one statement more, and what stays where statements are added.
-use Rattle.std.proofs.Common.{◌≡◌, ℕ, Bool, true, false, ◌||◌, List, [], ◌∷◌, ◌++◌, refl, sym, ap, ap₂, ◌∙◌, if◌then◌else◌, append_assoc}
+use Rattle.std.proofs.Common.{◌≡◌, Bool, true, false, ◌||◌, List, [], ◌∷◌, ◌++◌, refl, sym, ap, ◌∙◌, if◌then◌else◌}
 use Rattle.std.specs.List.{list_any, flat_map, filter_map}
 use Rattle.std.specs.Str.{bytes_eq}
 use Rattle.std.proofs.lemmas.List.{append-nil}
 use Rattle.std.proofs.lemmas.List.Elements.{filter_map-append}
 use Rattle.std.proofs.lemmas.Grind.{flat_map-append}
 use Rattle.axioms.specs.Expression.{Iri, ClassExpression, Named, Intersection, SomeValues, owl_thing, owl_nothing}
-use Rattle.axioms.specs.Growth.{empty_ontology}
-use Rattle.axioms.specs.Numbered.{Ontology, trees, axiom_trees}
-use Rattle.axioms.specs.Numbering.{Statement, IsOntologyOf, first_places, first_places_from, same_expression, class_name, logical_axiom, statement_expressions, statement_properties, statement_individuals}
-use Rattle.statements.specs.Additions.{Appends, Adds}
-use Rattle.statements.specs.Theorems.{AreBeginnings, AdditionsChangeNoNumber, OneMoreStatement}
+use Rattle.axioms.specs.Numbered.{trees}
+use Rattle.axioms.specs.Numbering.{Statement, first_places, first_places_from, same_expression, class_name, logical_axiom, statement_expressions, statement_properties, statement_individuals}
+use Rattle.statements.specs.Additions.{Appends}
+use Rattle.statements.specs.Theorems.{AdditionsChangeNoNumber, OneMoreStatement}
 use Rattle.statements.proofs.FirstPlaces.{seen_after}
 use Rattle.statements.proofs.Appending.{places_append, places_join}
 
@@ -49,7 +48,6 @@ names_first : (xs : List ClassExpression) → first_places bytes_eq (filter_map 
 names_first xs = names_from xs [] [] (λ c. refl)
 
 -- ---- one statement more
-
 
 pushed : {A : Type 0} (f : Statement → List A) (ss : List Statement) (s : Statement) → flat_map f (ss ++ s ∷ []) ≡ flat_map f ss ++ f s
 pushed f ss s = flat_map-append f ss (s ∷ []) ∙ ap (λ xs. flat_map f ss ++ xs) (append-nil (f s))

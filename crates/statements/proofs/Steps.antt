@@ -1,22 +1,21 @@
 -- One name or expression more.
-use Rattle.std.proofs.Common.{◌≡◌, ℕ, zero, suc, ◌+◌, ◌<◌, ◌≤◌, ◌⊎◌, inl, inr, List, [], ◌∷◌, ◌++◌, length, map, slice_get, Some, None, Ok, Err, Result, IfOk, All, Contains, refl, sym, ap, ap₂, ◌∙◌, subst, subst₂, arith, length-append, append_assoc}
+use Rattle.std.proofs.Common.{◌≡◌, ℕ, ◌<◌, inl, inr, List, [], ◌∷◌, ◌++◌, length, map, slice_get, Some, None, Ok, Err, Result, IfOk, Contains, refl, sym, ap, ap₂, ◌∙◌, subst, subst₂, arith, append_assoc}
 use Rattle.std.specs.Option.{unwrap_or}
 use Rattle.std.specs.Str.{bytes_eq}
 use Rattle.std.specs.List.{filter_map, cons_option}
 use Rattle.std.proofs.lemmas.List.{append-nil, map-append}
 use Rattle.std.proofs.lemmas.List.Elements.{filter_map-append}
-use Rattle.std.proofs.lemmas.Option.{none-some, same_Some, slice_get_within}
+use Rattle.std.proofs.lemmas.Option.{slice_get_within}
 use Rattle.std.proofs.lemmas.Slice.Eq.{bytes_eq-Decides}
 use Rattle.axioms.specs.Axiom as tree
-use Rattle.axioms.specs.Expression.{Iri, ClassExpression, Named, SomeValues}
+use Rattle.axioms.specs.Expression.{Iri, ClassExpression, Named}
 use Rattle.axioms.specs.Growth.{Numbers, DeclaresClass, DeclaresProperty, DeclaresIndividual, with_axiom}
-use Rattle.axioms.specs.Numbered.{Ontology, Names, Axiom, Node, Class, And, Exists, name_at, tree_at, tree_of, trees_from, trees, expression, axiom_tree, axiom_trees}
-use Rattle.axioms.specs.Numbering.{first_places, same_expression, class_name}
-use Rattle.axioms.specs.WellFormed.{AreDistinct, IsNodeOf, IsAxiomOf, IsOntology}
-use Rattle.axioms.proofs.Lists.{Keeps, slice_get_there, slice_get_push, Contains-from_slice_get, slice_get-from_Contains}
+use Rattle.axioms.specs.Numbered.{Ontology, Names, Axiom, Node, Class, name_at, tree_of, trees_from, trees, expression, axiom_tree, axiom_trees}
+use Rattle.axioms.specs.Numbering.{same_expression, class_name}
+use Rattle.axioms.specs.WellFormed.{AreDistinct, IsOntology}
+use Rattle.axioms.proofs.Lists.{Keeps, slice_get_push, Contains-from_slice_get, slice_get-from_Contains}
 use Rattle.axioms.proofs.Trees.{node_tree, class_named}
 use Rattle.axioms.proofs.Growing.{keeps_numbers, new_class_node}
-use Rattle.axioms.proofs.Unique.{expression_determined}
 use Rattle.axioms.specs.declared.fault.Memory.{Memory}
 use Rattle.axioms.specs.declared.ids.ExprId.{ExprId}
 use Rattle.statements.specs.Additions.{Appends, Adds, HasAdded}

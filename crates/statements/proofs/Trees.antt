@@ -1,13 +1,13 @@
 -- The expressions of an ontology that grows.
-use Rattle.std.proofs.Common.{◌≡◌, ℕ, zero, suc, ◌+◌, ◌<◌, ◌≤◌, ◌⊎◌, inl, inr, List, [], ◌∷◌, ◌++◌, length, slice_get, get_or, Some, All, Contains, map, refl, sym, ap, ap₂, ◌∙◌, subst, arith, length-append}
+use Rattle.std.proofs.Common.{◌≡◌, ℕ, zero, suc, ◌+◌, ◌<◌, List, [], ◌∷◌, ◌++◌, length, slice_get, Some, All, map, refl, sym, ap, ap₂, ◌∙◌, subst, arith, length-append}
 use Rattle.std.specs.Option.{unwrap_or}
-use Rattle.std.proofs.lemmas.Option.{none-some, same_Some, slice_get_within}
+use Rattle.std.proofs.lemmas.Option.{none-some, slice_get_within}
 use Rattle.std.proofs.lemmas.List.Elements.{All-head, All-tail}
 use Rattle.axioms.specs.Axiom as tree
 use Rattle.axioms.specs.Expression.{Iri, ClassExpression, Named, SomeValues}
 use Rattle.axioms.specs.Numbered.{Ontology, Names, Axiom, Node, Class, And, Exists, SubClass, EquivalentClasses, DisjointClasses, SubProperty, EquivalentProperties, Domain, Transitive, Reflexive, ClassAssertion, PropertyAssertion, name_at, tree_at, tree_of, trees_from, trees, expression, expressions, property_name, individual_name, axiom_tree, axiom_trees}
 use Rattle.axioms.specs.WellFormed.{AreDistinct, IsNodeOf, IsAxiomOf, IsOntology}
-use Rattle.axioms.proofs.Lists.{Keeps, slice_get_there, slice_get_push}
+use Rattle.axioms.proofs.Lists.{Keeps, slice_get_there}
 use Rattle.axioms.proofs.Unique.{expression_determined}
 
 -- the node speaks of names that are there

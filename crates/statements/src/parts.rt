@@ -28,7 +28,11 @@ pub(crate) fn add(builder: &mut Builder, expr: Expr) -> Result<ExprId, Memory>
 }
 
 /// The class of this name.
-pub(crate) fn named(alloc: Global, builder: &mut Builder, iri: &Iri<'_>) -> Result<ExprId, BuildFault>
+pub(crate) fn named(
+    alloc: Global,
+    builder: &mut Builder,
+    iri: &Iri<'_>,
+) -> Result<ExprId, BuildFault>
     ensures { ClassRead result (Named (iri_of iri.now)) builder.old builder.new }
 {
     let text = match iri.text(alloc) {

@@ -1,4 +1,4 @@
-use Rattle.std.proofs.Common.{◌≡◌, ◌≤◌, ℕ, length, arith, rules, sym, subst}
+use Rattle.std.proofs.Common.{◌≡◌, ◌≤◌, length, arith, rules, sym, subst}
 use denote.Param.Weighed.{most, at_most}
 use Rattle.fs_parser.specs.declared.tree.Tree.{Tree, size-Tree}
 use Rattle.std.proofs.lemmas.Grind.{common_steps}
@@ -6,7 +6,7 @@ use Rattle.axioms.specs.View.{expr_numbers}
 use Rattle.fs_parser.specs.View.{tree_of, trees_of}
 use Rattle.statements.specs.ClassTrees.{IsClassTree}
 use Rattle.statements.specs.Statements.{classes_of}
-use Rattle.statements.proofs.ClassReading.{and_fits, and_read, and_unnamed}
+use Rattle.statements.proofs.ClassReading.{and_fits, and_read}
 use Rattle.statements.proofs.Forms.{and_refused, class_at, two_trees, read_all, read_none, read_pushed, read_refused, some_of, some_property_refused, some_filler_refused, some_values_fits, some_values_read}
 use Rattle.statements.proofs.expressions.+reading.Goals as goal
 use Rattle.statements.proofs.expressions.+reading.Goals.{some_values-in_default-via-then-trees-lt2, some_values-in_default-via-else-trees-lt2+else-trees-lt3}
