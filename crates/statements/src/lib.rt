@@ -1,4 +1,4 @@
-//! The ontology that the trees of a faultless document state, numbered by first places.
+//! Statements of a document's trees, each added to an ontology with exactly what it brings, numbered by first places.
 #![tactic(auto)]
 
 ghost use Rattle.statements.specs.Theorems.{AdditionsChangeNoNumber, FirstPlacesJoin, OneMoreStatement};
