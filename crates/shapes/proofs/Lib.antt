@@ -2,3 +2,4 @@ pub mod Pieces
 pub mod Lists
 pub mod Worked
 pub mod Apart
+pub mod Placed

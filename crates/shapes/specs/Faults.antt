@@ -100,6 +100,11 @@ annotation_faults (Then first rest) = if is_annotation first then faults Annotat
 abbrev pub front_faults : Expected → Trees → List Fault
 front_faults expected trees = if may_be_annotated expected then annotation_faults trees else []
 
+-- what is wrong with a form whose keyword has no shape where it stands
+abbrev pub misplaced : ℕ → List ℕ → Fault
+misplaced at keyword =
+    if is_refused keyword then RefusedConstruct at keyword else (if not (is_known keyword) then UnknownKeyword at keyword else WrongShape at)
+
 -- ---- of documents
 
 -- where each of the trees is expected to be the same

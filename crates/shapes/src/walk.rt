@@ -4,7 +4,7 @@ ghost use Rattle.std.specs.Prelude.{◌≡◌, ◌≤◌, ◌++◌, ◌∷◌, [
 ghost use Rattle.fs_parser.specs.Tree.{Form};
 ghost use Rattle.fs_parser.specs.View.{iri_of, tree_of, trees_of};
 ghost use Rattle.shapes.specs.Faults as spec;
-ghost use Rattle.shapes.specs.Faults.{behind_annotations, each_faults, faults, faults_in, front_faults, is_annotation, is_name, is_repeated, literal_faults, name_faults, ontology_faults, own_trees};
+ghost use Rattle.shapes.specs.Faults.{behind_annotations, each_faults, faults, faults_in, front_faults, is_annotation, is_name, is_repeated, literal_faults, misplaced, name_faults, ontology_faults, own_trees};
 ghost use Rattle.shapes.specs.View.{fault_of, faults_of, operands_view};
 
 use crate::equality::is_among;
@@ -70,6 +70,19 @@ fn tell<'a>(found: &mut Vec<Fault<'a>>, fault: Fault<'a>) -> Result<(), Memory>
 {
     found.push(fault)?;
     Ok(())
+}
+
+/// What is wrong with a form whose keyword has no shape where it stands.
+fn misplaced<'a>(at: usize, keyword: &'a str) -> Fault<'a>
+    ensures { fault_of result ≡ misplaced at keyword.now }
+{
+    if is_refused(keyword) {
+        Fault::RefusedConstruct { at, keyword }
+    } else if is_known(keyword) {
+        Fault::WrongShape { at }
+    } else {
+        Fault::UnknownKeyword { at, keyword }
+    }
 }
 
 /// Whether the next operand equals an earlier one, and may not.
@@ -144,14 +157,8 @@ fn form_faults<'a>(
 ) -> Result<(), Memory>
     ensures { OnOk result (faults_of found.new.items ≡ faults_of found.old.items ++ faults expected (Form at keyword.now (trees_of trees.now))) }
 {
-    if is_refused(keyword) {
-        return tell(found, Fault::RefusedConstruct { at, keyword });
-    }
-    if !is_known(keyword) {
-        return tell(found, Fault::UnknownKeyword { at, keyword });
-    }
     let Some(operands) = operands_of(expected, keyword) else {
-        return tell(found, Fault::WrongShape { at });
+        return tell(found, misplaced(at, keyword));
     };
     let in_front = annotations_in_front(expected, trees);
     if !operands.fits_count(trees.len() - in_front) {
