@@ -13,8 +13,12 @@ pub struct SystemFiles<'r, R: rt::Files + AllocGlobal> {
 }
 
 impl<'r, R: rt::Files + AllocGlobal> SystemFiles<'r, R> {
-    /// The files that the runtime reaches. Nothing is promised: what lies in them is the system's.
-    pub fn new(runtime: &'r R) -> Self {
+    ghost use Rattle.std.specs.Prelude.{◌≡◌};
+
+    /// The files that this runtime reaches. What lies in them is the system's, and nothing is promised of it.
+    pub fn new(runtime: &'r R) -> Self
+        ensures { result.runtime.now ≡ runtime.now }
+    {
         SystemFiles { runtime }
     }
 
