@@ -1,5 +1,5 @@
 -- What the code's values are as the definitions': without where their texts lie in memory.
-use Rattle.std.specs.Prelude.{ℕ, List, map}
+use Rattle.std.specs.Prelude.{ℕ, List, map, string_bytes}
 use Rattle.shapes.specs.declared.fault.Fault as code
 use Rattle.shapes.specs.declared.fault.Fault.TheVariants as faults
 use Rattle.shapes.specs.declared.expected.Operands as code_operands
@@ -9,8 +9,8 @@ use Rattle.shapes.specs.Faults.{Fault, RefusedConstruct, UnknownKeyword, WrongSh
 use Rattle.shapes.specs.Shapes.{Operands, Each, Many}
 
 abbrev pub fault_of : code.Fault → Fault
-fault_of (faults.RefusedConstruct at keyword) = RefusedConstruct at keyword.now
-fault_of (faults.UnknownKeyword at keyword) = UnknownKeyword at keyword.now
+fault_of (faults.RefusedConstruct at keyword) = RefusedConstruct at (string_bytes keyword)
+fault_of (faults.UnknownKeyword at keyword) = UnknownKeyword at (string_bytes keyword)
 fault_of (faults.WrongShape at) = WrongShape at
 fault_of (faults.RepeatedOperand at) = RepeatedOperand at
 fault_of (faults.ReservedName at) = ReservedName at

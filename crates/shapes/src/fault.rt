@@ -3,14 +3,14 @@
 use thiserror::Error;
 
 /// What is wrong in a document, and the byte of the source where it stands.
-#[derive(Clone, Copy, Debug, PartialEq, Eq, Error)]
-pub enum Fault<'a> {
+#[derive(Debug, Drop, Error)]
+pub enum Fault {
     /// This keyword is one of OWL 2 and not of the profile.
     #[error("F1 at byte {at}: {keyword}")]
-    RefusedConstruct { at: usize, keyword: &'a str },
+    RefusedConstruct { at: usize, keyword: String },
     /// This keyword is none of OWL 2.
     #[error("F2 at byte {at}: {keyword}")]
-    UnknownKeyword { at: usize, keyword: &'a str },
+    UnknownKeyword { at: usize, keyword: String },
     /// This tree may not stand here, or has too few or too many operands.
     #[error("F3 at byte {at}")]
     WrongShape { at: usize },

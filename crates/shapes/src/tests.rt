@@ -29,7 +29,7 @@ fn told_of(alloc: Global, document: &Document<'_>) -> Result<String, AllocError>
     }
 }
 
-fn lines(alloc: Global, faults: &[Fault<'_>]) -> Result<String, AllocError> {
+fn lines(alloc: Global, faults: &[Fault]) -> Result<String, AllocError> {
     let mut out = String::new(alloc);
     for fault in faults {
         let line = format!(in alloc; "{fault}\n")?;
@@ -718,8 +718,6 @@ fn laws() {
 }
 
 #[test]
-fn faults_compare(rt: HostRuntime) {
-    assert!(rt; Fault::WrongShape { at: 1 } == Fault::WrongShape { at: 1 });
-    assert!(rt; Fault::WrongShape { at: 1 } != Fault::RepeatedOperand { at: 1 });
+fn expected_compare(rt: HostRuntime) {
     assert!(rt; Expected::Class != Expected::ClassExpression);
 }

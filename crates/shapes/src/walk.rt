@@ -65,23 +65,25 @@ fn annotations_in_front(expected: Expected, trees: &[Tree<'_>]) -> usize
 }
 
 /// One more fault.
-fn tell<'a>(found: &mut Vec<Fault<'a>>, fault: Fault<'a>) -> Result<(), Memory>
-    ensures { OnOk result (faults_of found.new.items ≡ faults_of found.old.items ++ fault_of fault.entry ∷ []) }
+fn tell(found: &mut Vec<Fault>, fault: Fault) -> Result<(), Memory>
+    ensures { OnOk result (faults_of found.new.items ≡ faults_of found.old.items ++ fault_of fault ∷ []) }
 {
     found.push(fault)?;
     Ok(())
 }
 
 /// What is wrong with a form whose keyword has no shape where it stands.
-fn misplaced<'a>(at: usize, keyword: &'a str) -> Fault<'a>
-    ensures { fault_of result ≡ misplaced at keyword.now }
+fn misplaced(alloc: Global, at: usize, keyword: &str) -> Result<Fault, Memory>
+    ensures { IfOk result (λ fault. fault_of fault ≡ misplaced at keyword.now) }
 {
     if is_refused(keyword) {
-        Fault::RefusedConstruct { at, keyword }
+        let keyword = String::from_str(alloc, keyword)?;
+        Ok(Fault::RefusedConstruct { at, keyword })
     } else if is_known(keyword) {
-        Fault::WrongShape { at }
+        Ok(Fault::WrongShape { at })
     } else {
-        Fault::UnknownKeyword { at, keyword }
+        let keyword = String::from_str(alloc, keyword)?;
+        Ok(Fault::UnknownKeyword { at, keyword })
     }
 }
 
@@ -93,11 +95,11 @@ fn is_repeated(operands: Operands<'_>, next: &Tree<'_>, earlier: &[Tree<'_>]) ->
 }
 
 /// The fault of a name, if it has one.
-fn name_faults<'a>(
-    found: &mut Vec<Fault<'a>>,
+fn name_faults(
+    found: &mut Vec<Fault>,
     expected: Expected,
     at: usize,
-    iri: &Iri<'a>,
+    iri: &Iri<'_>,
 ) -> Result<(), Memory>
     ensures { OnOk result (faults_of found.new.items ≡ faults_of found.old.items ++ name_faults expected at (iri_of iri.now)) }
 {
@@ -111,8 +113,8 @@ fn name_faults<'a>(
 }
 
 /// The fault of a literal, if it has one.
-fn literal_faults<'a>(
-    found: &mut Vec<Fault<'a>>,
+fn literal_faults(
+    found: &mut Vec<Fault>,
     expected: Expected,
     at: usize,
 ) -> Result<(), Memory>
@@ -126,10 +128,11 @@ fn literal_faults<'a>(
 
 /// The faults of a tree, where one is expected.
 #[cycle(faults)]
-fn tree_faults<'a>(
-    found: &mut Vec<Fault<'a>>,
+fn tree_faults(
+    alloc: Global,
+    found: &mut Vec<Fault>,
     expected: Expected,
-    tree: &Tree<'a>,
+    tree: &Tree<'_>,
 ) -> Result<(), Memory>
     ensures { OnOk result (faults_of found.new.items ≡ faults_of found.old.items ++ faults expected (tree_of tree.now)) }
 {
@@ -142,38 +145,40 @@ fn tree_faults<'a>(
         Tree::Number { at, .. } | Tree::Group { at, .. } => {
             tell(found, Fault::WrongShape { at: *at })
         }
-        Tree::Form { at, keyword, trees } => form_faults(found, expected, *at, keyword, trees),
+        Tree::Form { at, keyword, trees } => form_faults(alloc, found, expected, *at, keyword, trees),
     }
 }
 
 /// The faults of a form with these trees in it, where one is expected.
 #[cycle(faults)]
-fn form_faults<'a>(
-    found: &mut Vec<Fault<'a>>,
+fn form_faults(
+    alloc: Global,
+    found: &mut Vec<Fault>,
     expected: Expected,
     at: usize,
-    keyword: &'a str,
-    trees: &[Tree<'a>],
+    keyword: &str,
+    trees: &[Tree<'_>],
 ) -> Result<(), Memory>
     ensures { OnOk result (faults_of found.new.items ≡ faults_of found.old.items ++ faults expected (Form at keyword.now (trees_of trees.now))) }
 {
     let Some(operands) = operands_of(expected, keyword) else {
-        return tell(found, misplaced(at, keyword));
+        return tell(found, misplaced(alloc, at, keyword)?);
     };
     let in_front = annotations_in_front(expected, trees);
     if !operands.fits_count(trees.len() - in_front) {
         return tell(found, Fault::WrongShape { at });
     }
-    annotation_faults(found, expected, trees)?;
-    operand_faults(found, operands, trees, in_front)
+    annotation_faults(alloc, found, expected, trees)?;
+    operand_faults(alloc, found, operands, trees, in_front)
 }
 
 /// The faults of the annotations in front, if there may be any where such a tree is expected.
 #[cycle(faults)]
-fn annotation_faults<'a>(
-    found: &mut Vec<Fault<'a>>,
+fn annotation_faults(
+    alloc: Global,
+    found: &mut Vec<Fault>,
     expected: Expected,
-    trees: &[Tree<'a>],
+    trees: &[Tree<'_>],
 ) -> Result<(), Memory>
     ensures { OnOk result (faults_of found.new.items ≡ faults_of found.old.items ++ front_faults expected (trees_of trees.now)) }
 {
@@ -184,17 +189,18 @@ fn annotation_faults<'a>(
         if !is_annotation(tree) {
             return Ok(());
         }
-        tree_faults(found, Expected::Annotation, tree)?;
+        tree_faults(alloc, found, Expected::Annotation, tree)?;
     }
     Ok(())
 }
 
 /// The faults of the operands behind so many trees. One that equals an earlier one, where none may, gives that alone.
 #[cycle(faults)]
-fn operand_faults<'a>(
-    found: &mut Vec<Fault<'a>>,
+fn operand_faults(
+    alloc: Global,
+    found: &mut Vec<Fault>,
     operands: Operands<'_>,
-    trees: &[Tree<'a>],
+    trees: &[Tree<'_>],
     in_front: usize,
 ) -> Result<(), Memory>
     ensures { OnOk result (faults_of found.new.items ≡ faults_of found.old.items ++ faults_in false [] (operands_view operands.entry) (trees_of (drop in_front trees.now))) }
@@ -205,7 +211,7 @@ fn operand_faults<'a>(
         if is_repeated(left, tree, &trees[in_front..index]) {
             tell(found, Fault::RepeatedOperand { at: tree.at() })?;
         } else {
-            tree_faults(found, left.next(), tree)?;
+            tree_faults(alloc, found, left.next(), tree)?;
         }
         left = left.later();
     }
@@ -213,21 +219,22 @@ fn operand_faults<'a>(
 }
 
 /// The faults of trees that are each expected to be the same.
-fn each_faults<'a>(
-    found: &mut Vec<Fault<'a>>,
+fn each_faults(
+    alloc: Global,
+    found: &mut Vec<Fault>,
     expected: Expected,
-    trees: &[Tree<'a>],
+    trees: &[Tree<'_>],
 ) -> Result<(), Memory>
     ensures { OnOk result (faults_of found.new.items ≡ faults_of found.old.items ++ each_faults expected (trees_of trees.now)) }
 {
     for tree in trees {
-        tree_faults(found, expected, tree)?;
+        tree_faults(alloc, found, expected, tree)?;
     }
     Ok(())
 }
 
 /// The faults of what an ontology holds: at most two names, then annotations, then axioms.
-fn ontology_faults<'a>(found: &mut Vec<Fault<'a>>, trees: &[Tree<'a>]) -> Result<(), Memory>
+fn ontology_faults(alloc: Global, found: &mut Vec<Fault>, trees: &[Tree<'_>]) -> Result<(), Memory>
     ensures { OnOk result (faults_of found.new.items ≡ faults_of found.old.items ++ ontology_faults 2 (trees_of trees.now)) }
 {
     let mut names_left: usize = 2;
@@ -239,27 +246,27 @@ fn ontology_faults<'a>(found: &mut Vec<Fault<'a>>, trees: &[Tree<'a>]) -> Result
                 names_left -= 1;
             }
         } else if is_annotation(tree) {
-            tree_faults(found, Expected::Annotation, tree)?;
+            tree_faults(alloc, found, Expected::Annotation, tree)?;
             names_left = 0;
         } else {
-            return each_faults(found, Expected::Axiom, &trees[index..]);
+            return each_faults(alloc, found, Expected::Axiom, &trees[index..]);
         }
     }
     Ok(())
 }
 
 /// Every fault of a document, in the order of the text.
-pub fn document_faults<'a>(
+pub fn document_faults(
     alloc: Global,
-    document: &Document<'a>,
+    document: &Document<'_>,
     version: Version,
-) -> Result<Vec<Fault<'a>>, Memory>
+) -> Result<Vec<Fault>, Memory>
     ensures { IfOk result (λ found. faults_of found.items ≡ spec.document_faults (trees_of document.now.trees.items)) }
 {
     match version {
         Version::V1 => {
             let mut found = Vec::new(alloc);
-            ontology_faults(&mut found, &document.trees)?;
+            ontology_faults(alloc, &mut found, &document.trees)?;
             Ok(found)
         }
     }

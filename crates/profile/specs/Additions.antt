@@ -1,0 +1,16 @@
+-- How an ontology grows by statements, read in order.
+use Rattle.std.specs.Prelude.{List, Result, Ok, Err}
+use Rattle.std.specs.List.{filter_map, flat_map}
+use Rattle.axioms.specs.Numbered.{Ontology}
+use Rattle.axioms.specs.Numbering.{Statement, logical_axiom, statement_expressions, statement_properties, statement_individuals}
+use Rattle.axioms.specs.declared.fault.BuildFault.{BuildFault}
+use Rattle.axioms.specs.declared.fault.BuildFault.TheVariants.{TooManyNames, Memory}
+use Rattle.statements.specs.Additions.{Adds, Overflows}
+
+-- all that the statements bring is added; or with it a kind has too many names
+abbrev pub StatementsRead : Result (Unit {0}) BuildFault → List Statement → Ontology → Ontology → Type 0
+StatementsRead (Ok _) ss old new =
+    Adds (flat_map statement_expressions ss) (flat_map statement_properties ss) (flat_map statement_individuals ss) (filter_map logical_axiom ss) old new
+StatementsRead (Err TooManyNames) ss old new =
+    Overflows (flat_map statement_expressions ss) (flat_map statement_properties ss) (flat_map statement_individuals ss) old
+StatementsRead (Err Memory) ss old new = Unit {0}

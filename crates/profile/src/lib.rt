@@ -1,0 +1,7 @@
+//! The profile: a document's trees as the one ontology that they state, or every fault in them.
+#![tactic(auto)]
+
+mod acceptance;
+
+pub use acceptance::{Refusal, accept};
+pub use shapes::{Fault, Version};
