@@ -1,0 +1,84 @@
+-- Trees without faults, taken apart: a form has as many operands as its shape says, and each operand has no fault.
+use Rattle.std.proofs.Common.{◌≡◌, ℕ, Bool, true, false, List, [], ◌∷◌, ◌++◌, Option, Some, None, refl, sym, ◌∙◌}
+use Rattle.fs_parser.specs.Tree.{Tree, Trees, Form, Then, place_of}
+use Rattle.shapes.specs.Faults.{Fault, RefusedConstruct, UnknownKeyword, WrongShape, RepeatedOperand, count_of, faults, faults_in, front_faults, is_repeated, own_trees}
+use Rattle.shapes.specs.Keywords.{is_known, is_refused}
+use Rattle.shapes.specs.Shapes.{Operands, fits_count, later_expected, next_expected, operands_of}
+use Rattle.shapes.specs.declared.expected.Expected.{Expected}
+use Rattle.shapes.proofs.Lists.{fitting_form, unfitting_form}
+use Rattle.shapes.proofs.Placed.{placed_is_known, placed_is_not_refused}
+use Rattle.profile.specs.Operands.{AreOperandsOf}
+
+-- ---- of two lists of faults that are none together, each is none
+
+pub none_first : (a b : List Fault) → a ++ b ≡ [] → a ≡ []
+none_first [] b h = refl
+none_first (x ∷ xs) b h = cc
+
+pub none_second : (a b : List Fault) → a ++ b ≡ [] → b ≡ []
+none_second [] b h = h
+none_second (x ∷ xs) b h = cc
+
+one_is_not_none : (fs : List Fault) (f : Fault) → fs ≡ f ∷ [] → fs ≡ [] → ⊥
+one_is_not_none fs f e h = cc
+
+-- ---- forms
+
+module _ (expected : Expected) (at : ℕ) (keyword : List ℕ) (trees : Trees) where
+  abbrev all : List Fault
+  all = faults expected (Form at keyword trees)
+
+  -- where a keyword has no shape, there is a fault
+  no_shape : operands_of expected keyword ≡ None → all ≡ [] → ⊥
+  no_shape none = go (is_refused keyword) (is_known keyword) refl refl
+    where
+      go : (r k : Bool) → is_refused keyword ≡ r → is_known keyword ≡ k → all ≡ [] → ⊥
+      go true k e f = one_is_not_none all (RefusedConstruct at keyword) (rw e refl)
+      go false false e f = one_is_not_none all (UnknownKeyword at keyword) (rw (e, f) refl)
+      go false true e f = one_is_not_none all (WrongShape at) (rw (e, f, none) refl)
+
+  -- behind the annotations in front stand the operands of the keyword
+  pub form_operands : all ≡ [] → AreOperandsOf expected keyword (own_trees expected trees)
+  form_operands h = go (operands_of expected keyword) refl
+    where
+      fit : (operands : Operands) → operands_of expected keyword ≡ Some operands → (b : Bool) → fits_count operands (count_of (own_trees expected trees)) ≡ b → AreOperandsOf expected keyword (own_trees expected trees)
+      fit operands shape false f =
+          absurd (one_is_not_none all (WrongShape at)
+          (unfitting_form expected at keyword trees operands (placed_is_not_refused expected keyword operands shape) (placed_is_known expected keyword operands shape) shape f) h)
+      fit operands shape true f =
+          let is = fitting_form expected at keyword trees operands (placed_is_not_refused expected keyword operands shape) (placed_is_known expected keyword operands shape) shape f in
+          record {
+            operands = operands;
+            shape = shape;
+            count = f;
+            faultless = none_second (front_faults expected trees) (faults_in false [] operands (own_trees expected trees)) (sym is ∙ h);
+          }
+
+      go : (o : Option Operands) → operands_of expected keyword ≡ o → AreOperandsOf expected keyword (own_trees expected trees)
+      go None e = absurd (no_shape e h)
+      go (Some operands) e = fit operands e (fits_count operands (count_of (own_trees expected trees))) refl
+
+-- ---- operands
+
+-- the first of the operands equals none before it, and has no fault, and so on
+pub record AreFaultless (earlier : List Tree) (operands : Operands) (first : Tree) (rest : Trees) : Type 0 where
+  pub fresh : is_repeated operands first earlier ≡ false
+  pub faultless : faults (next_expected operands) first ≡ []
+  pub later : faults_in false (earlier ++ first ∷ []) (later_expected operands) rest ≡ []
+
+pub operand_parts : (earlier : List Tree) (operands : Operands) (first : Tree) (rest : Trees) → faults_in false earlier operands (Then first rest) ≡ [] → AreFaultless earlier operands first rest
+operand_parts earlier operands first rest h = go (is_repeated operands first earlier) refl
+  where
+    go : (b : Bool) → is_repeated operands first earlier ≡ b → AreFaultless earlier operands first rest
+    go true e =
+        let after = faults_in false (earlier ++ first ∷ []) (later_expected operands) rest in
+        let is : faults_in false earlier operands (Then first rest) ≡ (RepeatedOperand (place_of first) ∷ []) ++ after = rw e refl in
+        cc
+    go false e =
+        let after = faults_in false (earlier ++ first ∷ []) (later_expected operands) rest in
+        let is : faults_in false earlier operands (Then first rest) ≡ faults (next_expected operands) first ++ after = rw e refl in
+        record {
+          fresh = e;
+          faultless = none_first (faults (next_expected operands) first) after (sym is ∙ h);
+          later = none_second (faults (next_expected operands) first) after (sym is ∙ h);
+        }
