@@ -1,22 +1,24 @@
 -- What a fault says of a document.
-use Rattle.std.specs.Prelude.{List, ℕ, ◌<◌, ◌≤◌, length, Option, Some, None}
+use Rattle.std.specs.Prelude.{◌≡◌, List, [], ℕ, ◌<◌, ◌≤◌, length, Option, Some, None}
 use Rattle.std.specs.Str.{IsUtf8, IsValidUpTo}
 use Rattle.axioms.specs.Numbered.{Ontology}
-use Rattle.axioms.specs.declared.fault.BuildFault.{BuildFault}
-use Rattle.axioms.specs.declared.fault.BuildFault.TheVariants as building
 use Rattle.fs_lexer.specs.declared.token.LexFault.{LexFault}
 use Rattle.fs_lexer.specs.declared.token.LexFault.TheVariants as lexing
+use Rattle.fs_parser.specs.Document.{Document}
 use Rattle.fs_parser.specs.declared.fault.ParseFault.{ParseFault}
 use Rattle.fs_parser.specs.declared.fault.ParseFault.TheVariants as parsing
+use Rattle.profile.specs.Reading.{HaveTooManyNames}
+use Rattle.profile.specs.declared.acceptance.Refusal.{Refusal}
+use Rattle.profile.specs.declared.acceptance.Refusal.TheVariants as refusing
+use Rattle.shapes.specs.Faults.{document_faults}
+use Rattle.shapes.specs.View.{faults_of}
+use Rattle.shapes.specs.declared.fault.Fault.{Fault}
+use Rattle.statements.specs.Statements.{statements}
 use Rattle.document.specs.declared.fault.DocumentFault.{DocumentFault}
-use Rattle.document.specs.declared.fault.DocumentFault.TheVariants.{NotUtf8, TooLarge, Io, Lex, Parse, WrongShape, TooManyNames, Memory}
-use Rattle.document.specs.Documents.{ReadsAs}
+use Rattle.document.specs.declared.fault.DocumentFault.TheVariants.{NotUtf8, TooLarge, Io, Lex, Parse, Faults, TooManyNames, Memory}
+use Rattle.document.specs.Documents.{AreTextOf, ReadsAs}
 
 -- the faults of the parts as faults of the whole: a refused growth is one thing everywhere
-abbrev pub of_building : BuildFault → DocumentFault
-of_building building.Memory = Memory
-of_building building.TooManyNames = TooManyNames
-
 abbrev pub of_lexing : LexFault → DocumentFault
 of_lexing lexing.Memory = Memory
 of_lexing fault = Lex fault
@@ -25,17 +27,36 @@ abbrev pub of_parsing : ParseFault → DocumentFault
 of_parsing parsing.Memory = Memory
 of_parsing fault = Parse fault
 
+abbrev pub of_refusal : Refusal → DocumentFault
+of_refusal (refusing.Faults found) = Faults found
+of_refusal refusing.TooManyNames = TooManyNames
+of_refusal refusing.Memory = Memory
+
 -- the bytes read as no ontology
 abbrev pub ReadAsNone : List ℕ → Type 0
 ReadAsNone bytes = (o : Ontology) → ReadsAs bytes o → ⊥
+
+-- the bytes are the text of a document, and these are all its faults, in the order of the text
+pub record HaveFaults (bytes : List ℕ) (found : List Fault) : Type 0 where
+  pub document : Document
+  pub text : AreTextOf bytes document
+  pub all : document_faults document.trees ≡ faults_of found
+  pub some : ¬ (found ≡ [])
+
+-- the bytes are the text of a document without faults, whose statements have of a kind more names than there may be
+pub record StateTooManyNames (bytes : List ℕ) : Type 0 where
+  pub document : Document
+  pub text : AreTextOf bytes document
+  pub faultless : document_faults document.trees ≡ []
+  pub many : HaveTooManyNames (statements document.trees)
 
 -- what the fault says of the bytes
 abbrev pub Refuses : DocumentFault → List ℕ → Type 0
 Refuses (NotUtf8 at) bytes = ¬ IsUtf8 bytes × IsValidUpTo bytes at
 Refuses (Lex fault) bytes = ReadAsNone bytes
 Refuses (Parse fault) bytes = ReadAsNone bytes
-Refuses (WrongShape at) bytes = ReadAsNone bytes
-Refuses TooManyNames bytes = ReadAsNone bytes
+Refuses (Faults found) bytes = HaveFaults bytes found.items
+Refuses TooManyNames bytes = StateTooManyNames bytes
 Refuses Memory bytes = Unit {0}
 Refuses TooLarge bytes = ⊥
 Refuses Io bytes = ⊥
@@ -43,7 +64,7 @@ Refuses Io bytes = ⊥
 -- .. of a text, which is UTF-8
 abbrev pub RefusesText : DocumentFault → List ℕ → Type 0
 RefusesText (NotUtf8 at) text = ⊥
-RefusesText fault text = Refuses fault text
+RefusesText fault text = IsUtf8 text → Refuses fault text
 
 -- what a source that tells its bytes says of an answer about them, where at most so many are allowed
 abbrev pub ReadsKnown : Option (List ℕ) → ℕ → Ontology → Type 0

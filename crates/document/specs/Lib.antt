@@ -1,5 +1,3 @@
-pub mod Subclasses
 pub mod Documents
-pub mod Theorems
 pub mod Faults
-pub mod Answers
+pub mod Theorems

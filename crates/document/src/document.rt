@@ -1,85 +1,20 @@
 //! From bytes to an ontology.
-ghost use Rattle.axioms.specs.Growth.{DeclaresClass};
-ghost use Rattle.axioms.specs.WellFormed.{IsOntology};
 ghost use Rattle.device.specs.Device.{HasFailed};
-ghost use Rattle.document.specs.Documents.{ReadsAs, subclass_pairs};
+ghost use Rattle.document.specs.Documents.{IsTaken, ReadsAs};
 ghost use Rattle.document.specs.Faults.{ReadsKnown, Refuses, RefusesKnown, RefusesText};
-ghost use Rattle.document.specs.Answers.{GivesOntology, Grows, HasFewNames, IsDeclaringFault, IsTaken};
-ghost use Rattle.fs_parser.specs.View.{trees_of};
-ghost use Rattle.std.specs.Prelude.{◌≡◌, ◌≤◌, Err, IfErr, IfOk, OnOk, length, ℕ};
+ghost use Rattle.std.specs.Prelude.{◌≡◌, ◌≤◌, Err, IfErr, IfOk, length};
 ghost use Rattle.std.specs.Str.{IsUtf8};
 
 use crate::fault::DocumentFault;
 use crate::limits::Limits;
-use crate::statements::{Subclass, read_subclass};
-use axioms::{Axiom, BuildFault, Builder, ExprId, Kind, Name, Ontology};
+use axioms::Ontology;
 use device::{ReadFault, Source, read_all};
-use fs_lexer::{LexFault, tokens};
-use fs_parser::{Tree, forms};
+use fs_lexer::tokens;
+use fs_parser::forms;
+use profile::{Version, accept};
 use std::alloc::Global;
 use std::hash::RandomState;
 use std::str;
-
-/// The expression of the class of this name, which is declared where it is new.
-fn declare_class(builder: &mut Builder, iri: &str) -> Result<ExprId, DocumentFault>
-    ensures declared { IfOk result (λ e. (c : ℕ) × DeclaresClass builder.old iri.now builder.new c e.0) }
-    ensures few { OnOk result (HasFewNames builder.old → HasFewNames builder.new) }
-    ensures refused { IfErr result (IsDeclaringFault builder.old iri.now) }
-    ensures before { IsOntology builder.old }
-    ensures after { IsOntology builder.new }
-{
-    let _before = builder.ontology();
-    let name = builder.declare(Kind::Class, iri);
-    let _after = builder.ontology();
-    match name {
-        Ok(Name::Class(_, expression)) => Ok(expression),
-        Ok(Name::Property(_) | Name::Individual(_)) => unreachable!(),
-        Err(BuildFault::Memory) => Err(DocumentFault::Memory),
-        Err(BuildFault::TooManyNames) => Err(DocumentFault::TooManyNames),
-    }
-}
-
-/// Declares the two classes and adds the axiom between them.
-fn add_subclass(builder: &mut Builder, subclass: &Subclass) -> Result<(), DocumentFault>
-    ensures { Grows builder.old builder.new subclass.now result }
-{
-    let sub = match declare_class(builder, subclass.sub.as_str()) {
-        Ok(sub) => sub,
-        Err(fault) => return Err(fault),
-    };
-    let superclass = match declare_class(builder, subclass.superclass.as_str()) {
-        Ok(superclass) => superclass,
-        Err(fault) => return Err(fault),
-    };
-    match builder.add_axiom(Axiom::SubClass(sub, superclass)) {
-        Ok(()) => Ok(()),
-        Err(_) => Err(DocumentFault::Memory),
-    }
-}
-
-/// The ontology of a document's trees, which all have to be subclass axioms between named classes.
-fn ontology_of(
-    alloc: Global,
-    trees: &[Tree<'_>],
-    state: RandomState,
-) -> Result<Ontology, DocumentFault>
-    ensures { GivesOntology result (subclass_pairs (trees_of trees.now)) }
-{
-    let mut builder = match Builder::new(alloc, state) {
-        Ok(builder) => builder,
-        Err(_) => return Err(DocumentFault::Memory),
-    };
-    for tree in trees {
-        let subclass = match read_subclass(alloc, tree) {
-            Ok(subclass) => subclass,
-            Err(fault) => return Err(fault),
-        };
-        if let Err(fault) = add_subclass(&mut builder, &subclass) {
-            return Err(fault);
-        }
-    }
-    Ok(builder.finish())
-}
 
 /// The ontology that a text reads as.
 fn read_text(alloc: Global, text: &str, state: RandomState) -> Result<Ontology, DocumentFault>
@@ -89,14 +24,16 @@ fn read_text(alloc: Global, text: &str, state: RandomState) -> Result<Ontology, 
 {
     let tokens = match tokens(alloc, text) {
         Ok(tokens) => tokens,
-        Err(LexFault::Memory) => return Err(DocumentFault::Memory),
-        Err(fault) => return Err(DocumentFault::Lex(fault)),
+        Err(fault) => return Err(DocumentFault::from(fault)),
     };
     let document = match forms(alloc, &tokens) {
         Ok(document) => document,
         Err(fault) => return Err(DocumentFault::from(fault)),
     };
-    ontology_of(alloc, &document.trees, state)
+    match accept(alloc, &document, Version::V1, state) {
+        Ok(ontology) => Ok(ontology),
+        Err(refusal) => Err(DocumentFault::from(refusal)),
+    }
 }
 
 /// The ontology that the bytes of a document read as.

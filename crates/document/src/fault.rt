@@ -1,11 +1,10 @@
 //! Why a document is not read.
 ghost use Rattle.std.specs.Prelude.{◌≡◌};
-ghost use Rattle.document.specs.declared.fault.DocumentFault.TheVariants as faults;
 
-use axioms::{BuildFault, Memory};
 use fs_lexer::LexFault;
 use fs_parser::ParseFault;
-use std::alloc::{AllocError, AllocFailed};
+use profile::{Fault, Refusal};
+use std::fmt;
 use thiserror::Error;
 
 /// Why a document is not read as an ontology. Places count the bytes before them.
@@ -26,52 +25,15 @@ pub enum DocumentFault {
     /// The tokens are no document.
     #[error(transparent)]
     Parse(ParseFault),
-    /// The tree that begins here is no subclass axiom between two classes, or the name is reserved.
-    #[error("F3 at byte {at}")]
-    WrongShape { at: usize },
+    /// The document has these faults, which are all, in the order of the text.
+    #[error("{}", FaultLines(.0))]
+    Faults(Vec<Fault>),
     /// A kind would have more than 1,000,000 names.
     #[error("A2")]
     TooManyNames,
     /// Memory was refused.
     #[error("out of memory")]
     Memory,
-}
-
-impl From<AllocError> for DocumentFault {
-    ghost from_gives = { λ _ e. e ≡ faults.Memory };
-
-    fn from(_error: AllocError) -> DocumentFault {
-        DocumentFault::Memory
-    }
-}
-
-impl<T: Drop> From<AllocFailed<T>> for DocumentFault {
-    ghost from_gives = { λ _ e. e ≡ faults.Memory };
-
-    fn from(_error: AllocFailed<T>) -> DocumentFault {
-        DocumentFault::Memory
-    }
-}
-
-impl From<Memory> for DocumentFault {
-    ghost from_gives = { λ _ e. e ≡ faults.Memory };
-
-    fn from(_error: Memory) -> DocumentFault {
-        DocumentFault::Memory
-    }
-}
-
-impl From<BuildFault> for DocumentFault {
-    ghost use Rattle.document.specs.Faults.{of_building};
-
-    ghost from_gives = { λ b e. e ≡ of_building b };
-
-    fn from(fault: BuildFault) -> DocumentFault {
-        match fault {
-            BuildFault::Memory => DocumentFault::Memory,
-            BuildFault::TooManyNames => DocumentFault::TooManyNames,
-        }
-    }
 }
 
 impl From<LexFault> for DocumentFault {
@@ -97,5 +59,35 @@ impl From<ParseFault> for DocumentFault {
             ParseFault::Memory => DocumentFault::Memory,
             fault => DocumentFault::Parse(fault),
         }
+    }
+}
+
+impl From<Refusal> for DocumentFault {
+    ghost use Rattle.document.specs.Faults.{of_refusal};
+
+    ghost from_gives = { λ r e. e ≡ of_refusal r };
+
+    fn from(refusal: Refusal) -> DocumentFault {
+        match refusal {
+            Refusal::Faults(found) => DocumentFault::Faults(found),
+            Refusal::TooManyNames => DocumentFault::TooManyNames,
+            Refusal::Memory => DocumentFault::Memory,
+        }
+    }
+}
+
+/// Faults as they are printed: each on a line of its own.
+#[derive(Drop)]
+struct FaultLines<'a>(&'a Vec<Fault>);
+
+impl fmt::Display for FaultLines<'_> {
+    fn fmt<W: fmt::Write>(&self, f: &mut fmt::Formatter<W>) -> fmt::Result {
+        for (number, fault) in self.0.iter().enumerate() {
+            if number > 0 {
+                writeln!(f)?;
+            }
+            write!(f, "{fault}")?;
+        }
+        Ok(())
     }
 }

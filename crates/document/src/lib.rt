@@ -1,29 +1,29 @@
-//! Documents of subclass axioms between named classes, from bytes to an ontology.
+//! Documents of the profile, from bytes to the one ontology that they state, or to every fault in them.
 #![tactic(auto)]
 
-ghost use Rattle.document.specs.Theorems.{AxiomsTakeBytes, BytesReadAsOneOntology, FirstPlacesGrow, NoStatementIsEmpty, OneMoreStatement};
+ghost use Rattle.document.specs.Theorems.{AxiomsTakeBytes, BytesHaveOneFaultList, BytesReadAsOneOntology, RefusedBytesReadAsNone, RefusedSourcesReadAsNone};
 
 mod document;
 mod fault;
 mod limits;
-mod statements;
 #[cfg(test)]
 mod tests;
 
 pub use document::{read_bytes, read_document};
 pub use fault::DocumentFault;
 pub use limits::{Limits, MOST_BYTES, MOST_FACTS};
+pub use profile::Fault;
 
-/// How the ontology of a document grows, a statement at a time.
-pub fn statements_one_by_one()
-    ensures places { FirstPlacesGrow }
-    ensures start { NoStatementIsEmpty }
-    ensures more { OneMoreStatement }
+/// Bytes read as at most one ontology, and have at most one list of faults.
+pub fn one_ontology_is_read()
+    ensures ontology { BytesReadAsOneOntology }
+    ensures faults { BytesHaveOneFaultList }
 {}
 
-/// Bytes read as at most one ontology.
-pub fn one_ontology_is_read()
-    ensures { BytesReadAsOneOntology }
+/// What is refused reads as no ontology, unless memory was refused or the source failed.
+pub fn refused_bytes_read_as_none()
+    ensures bytes { RefusedBytesReadAsNone }
+    ensures sources { RefusedSourcesReadAsNone }
 {}
 
 /// A document has at least as many bytes as its ontology has axioms.

@@ -72,7 +72,7 @@ fn refused_documents(rt: HostRuntime) -> Result<(), Fail> {
             &rt,
             b"Ontology(SubClassOf(<x:A> owl:real))",
             36,
-            "F3 at byte 26"
+            "F5 at byte 26"
         )?
     );
     assert!(rt; is_refused(&rt, b"", 1, "P2 at byte 0")?);
@@ -91,6 +91,7 @@ fn limits(rt: HostRuntime) {
 
 #[test]
 fn laws() {
-    statements_one_by_one();
     one_ontology_is_read();
+    refused_bytes_read_as_none();
+    axioms_take_bytes();
 }
