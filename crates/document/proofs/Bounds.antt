@@ -1,14 +1,10 @@
 -- A document has at least as many bytes as its ontology has axioms.
-use Rattle.std.proofs.Common.{◌≡◌, ℕ, suc, ◌+◌, ◌<◌, ◌≤◌, inl, inr, List, [], ◌∷◌, ◌++◌, length, map, Some, refl, sym, ap, arith, length-append, true≢false}
-use Rattle.std.specs.List.{filter_map}
-use Rattle.std.proofs.lemmas.Option.{same_Some}
+use Rattle.std.proofs.Common.{◌≡◌, ℕ, ◌+◌, ◌<◌, ◌≤◌, inl, inr, Bool, true, false, List, [], ◌∷◌, ◌++◌, length, Option, Some, None, if◌then◌else◌, codes, refl, sym, ap, arith, length-append, true≢false}
+use Rattle.std.specs.List.{cons_option, filter_map}
+use Rattle.std.specs.Str.{bytes_eq}
 use Rattle.std.proofs.lemmas.List.{length-map}
-use Rattle.axioms.specs.Expression.{Iri}
 use Rattle.axioms.specs.Numbered.{axiom_tree}
-use Rattle.axioms.specs.Numbering.{logical_axiom}
-use Rattle.document.proofs.Forms.{joined_some}
-use Rattle.document.specs.Documents.{subclass_pair, subclass_pairs}
-use Rattle.document.specs.Subclasses.{subclass_statement}
+use Rattle.axioms.specs.Numbering.{Statement, logical_axiom}
 use Rattle.document.specs.Theorems.{AxiomsTakeBytes}
 use Rattle.fs_lexer.specs.Spelling.{IsOfKind, IsPrefixName, SpellsFrom, Token}
 use Rattle.fs_lexer.specs.declared.token.Kind.{Kind}
@@ -16,6 +12,8 @@ use Rattle.fs_lexer.specs.declared.token.Kind.TheVariants.{Opening, Closing, Equ
 use Rattle.fs_parser.specs.Document.{AreDeclarations}
 use Rattle.fs_parser.specs.Name.{Prefixes}
 use Rattle.fs_parser.specs.Tree.{AreTrees, IsTree, Tree, Trees, Empty, Then, Name, PlainLiteral, TaggedLiteral, TypedLiteral, Anonymous, Number, Group, Form}
+use Rattle.shapes.specs.Faults.{behind_annotations, count_of}
+use Rattle.statements.specs.Statements.{Meanings, axiom_meanings, entity_meanings, entity_statement, operand, said_by, statement_of, statements}
 
 -- ---- tokens take bytes
 
@@ -57,35 +55,77 @@ tree_takes prefixes (Number at digits) tokens h = omega (arith, ap length h.1)
 tree_takes prefixes (Group at trees) tokens h = omega (arith, ap length h.3)
 tree_takes prefixes (Form at keyword trees) tokens h = omega (arith, ap length h.4)
 
-pairs_take : (prefixes : Prefixes) (trees : Trees) (tokens : List Token) (pairs : List (Iri × Iri)) → AreTrees prefixes trees tokens → subclass_pairs trees ≡ Some pairs → length pairs ≤ length tokens
-pairs_take prefixes Empty tokens pairs h read = omega (arith, ap length (same_Some [] pairs read))
-pairs_take prefixes (Then first rest) tokens pairs h read =
-    let j = joined_some (subclass_pair first) (subclass_pairs rest) pairs read in
-    omega (arith, ap length j.4, pairs_take prefixes rest h.1 j.1 h.4 j.3, tree_takes prefixes first h.0 h.3, ap length h.2, length-append h.0 h.1)
+trees_take : (prefixes : Prefixes) (trees : Trees) (tokens : List Token) → AreTrees prefixes trees tokens → count_of trees ≤ length tokens
+trees_take prefixes Empty tokens h = omega arith
+trees_take prefixes (Then first rest) tokens h =
+    omega (arith, trees_take prefixes rest h.1 h.4, tree_takes prefixes first h.0 h.3, ap length h.2, length-append h.0 h.1)
 
 declarations_take : (declared : Prefixes) (tokens rest : List Token) → AreDeclarations declared tokens rest → length rest ≤ length tokens
 declarations_take [] tokens rest h = omega (arith, ap length h)
 declarations_take (d ∷ ds) tokens rest h = omega (arith, ap length h.1.tokens_are, declarations_take ds h.0 rest h.2)
 
--- ---- statements are axioms
+-- ---- a tree states at most one axiom
 
-axioms_stated : (pairs : List (Iri × Iri)) → length (filter_map logical_axiom (map subclass_statement pairs)) ≡ length pairs
-axioms_stated [] = refl
-axioms_stated (pair ∷ pairs) = ap suc (axioms_stated pairs)
+chosen : {A : Type 0} (test : Bool) (xs ys : List A) → length xs ≤ 1 → length ys ≤ 1 → length (if test then xs else ys) ≤ 1
+chosen true xs ys h k = h
+chosen false xs ys h k = k
+
+one_said : (meanings : Meanings) (keyword : List ℕ) (trees : Trees) → length (said_by meanings keyword trees) ≤ 1
+one_said [] keyword trees = omega arith
+one_said (m ∷ ms) keyword trees =
+    chosen (bytes_eq m.0 keyword) (m.1 trees ∷ []) (said_by ms keyword trees) (omega arith) (one_said ms keyword trees)
+
+one_declared : (tree : Tree) → length (entity_statement tree) ≤ 1
+one_declared (Form at keyword trees) = one_said entity_meanings keyword trees
+one_declared (Name at iri) = omega arith
+one_declared (PlainLiteral at text) = omega arith
+one_declared (TaggedLiteral at text tag) = omega arith
+one_declared (TypedLiteral at text type) = omega arith
+one_declared (Anonymous at label) = omega arith
+one_declared (Number at digits) = omega arith
+one_declared (Group at trees) = omega arith
+
+one_stated : (tree : Tree) → length (statement_of tree) ≤ 1
+one_stated (Form at keyword trees) =
+    chosen (bytes_eq keyword (codes "Declaration"))
+    (entity_statement (operand (behind_annotations trees) 0)) (said_by axiom_meanings keyword (behind_annotations trees))
+    (one_declared (operand (behind_annotations trees) 0)) (one_said axiom_meanings keyword (behind_annotations trees))
+one_stated (Name at iri) = omega arith
+one_stated (PlainLiteral at text) = omega arith
+one_stated (TaggedLiteral at text tag) = omega arith
+one_stated (TypedLiteral at text type) = omega arith
+one_stated (Anonymous at label) = omega arith
+one_stated (Number at digits) = omega arith
+one_stated (Group at trees) = omega arith
+
+all_stated : (trees : Trees) → length (statements trees) ≤ count_of trees
+all_stated Empty = omega arith
+all_stated (Then first rest) =
+    omega (arith, one_stated first, all_stated rest, length-append (statement_of first) (statements rest))
+
+one_more : {B : Type 0} (y : Option B) (ys : List B) → length (cons_option y ys) ≤ length ys + 1
+one_more (Some y) ys = omega arith
+one_more None ys = omega arith
+
+filtered : {A B : Type 0} (f : A → Option B) (xs : List A) → length (filter_map f xs) ≤ length xs
+filtered f [] = omega arith
+filtered f (x ∷ xs) = omega (arith, one_more (f x) (filter_map f xs), filtered f xs)
 
 pub axioms_take_bytes : AxiomsTakeBytes
 axioms_take_bytes bytes o r =
-    let ontology = r.written.ontology in
+    let ontology = r.text.written.ontology in
     let closed = ontology.closed in
+    let trees = r.document.trees in
     omega (
       arith,
-      tokens_take 0 bytes r.tokens r.spelled,
-      declarations_take r.document.declared r.tokens r.written.rest r.written.declarations,
+      tokens_take 0 bytes r.text.tokens r.text.spelled,
+      declarations_take r.document.declared r.text.tokens r.text.written.rest r.text.written.declarations,
       ap length ontology.tokens_are,
       ap length closed.tokens_are,
       length-append closed.inner (closed.closing ∷ []),
-      pairs_take _ r.document.trees closed.inner r.pairs closed.are_trees r.statements,
-      axioms_stated r.pairs,
-      ap length r.ontology.axioms,
+      trees_take _ trees closed.inner closed.are_trees,
+      all_stated trees,
+      filtered logical_axiom (statements trees),
+      ap length r.read.ontology.axioms,
       length-map o.axioms (axiom_tree o),
     )

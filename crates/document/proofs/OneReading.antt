@@ -1,35 +1,29 @@
--- Bytes read as at most one ontology.
-use Rattle.std.proofs.Common.{◌≡◌, ℕ, List, map, sym, ap, ◌∙◌, subst}
-use Rattle.std.proofs.lemmas.Option.{same_Some}
+-- Bytes are the text of at most one document, and read as at most one ontology.
+use Rattle.std.proofs.Common.{◌≡◌, ℕ, List, sym, ap, ◌∙◌, subst}
 use Rattle.axioms.proofs.Unique.{statements_determine}
-use Rattle.axioms.specs.Expression.{Iri}
 use Rattle.axioms.specs.Numbered.{Ontology}
 use Rattle.axioms.specs.Numbering.{IsOntologyOf}
 use Rattle.fs_lexer.proofs.Whole.{one_spelling}
 use Rattle.fs_lexer.specs.Spelling.{Token}
-use Rattle.fs_parser.proofs.Documents.{one_document}
+use Rattle.fs_parser.proofs.Documents as parser
 use Rattle.fs_parser.specs.Document.{Document, IsDocument}
-use Rattle.document.specs.Documents.{ReadsAs, subclass_pairs}
-use Rattle.document.specs.Subclasses.{subclass_statement}
-use Rattle.document.specs.Theorems.{BytesReadAsOneOntology}
+use Rattle.shapes.specs.Faults.{document_faults}
+use Rattle.statements.specs.Statements.{statements}
+use Rattle.document.specs.Documents.{AreTextOf}
+use Rattle.document.specs.Theorems.{BytesHaveOneFaultList, BytesReadAsOneOntology}
 
-module _ (bytes : List ℕ) (o p : Ontology) (r : ReadsAs bytes o) (s : ReadsAs bytes p) where
-  same_tokens : r.tokens ≡ s.tokens
-  same_tokens = one_spelling bytes r.tokens s.tokens r.spelled s.spelled
-
-  same_document : r.document ≡ s.document
-  same_document =
-      let P : List Token → Type 0 = IsDocument r.document in
-      one_document s.tokens r.document s.document (subst P same_tokens r.written) s.written
-
-  same_pairs : r.pairs ≡ s.pairs
-  same_pairs =
-      same_Some r.pairs s.pairs (sym r.statements ∙ ap (λ (d : Document). subclass_pairs d.trees) same_document ∙ s.statements)
-
-  of_same_pairs : IsOntologyOf (map subclass_statement s.pairs) o
-  of_same_pairs =
-      let P : List (Iri × Iri) → Type 0 = λ pairs. IsOntologyOf (map subclass_statement pairs) o in
-      subst P same_pairs r.ontology
+pub one_document : (bytes : List ℕ) (d e : Document) → AreTextOf bytes d → AreTextOf bytes e → d ≡ e
+one_document bytes d e h k =
+    let P : List Token → Type 0 = IsDocument d in
+    parser.one_document k.tokens d e (subst P (one_spelling bytes h.tokens k.tokens h.spelled k.spelled) h.written) k.written
 
 pub one_reading : BytesReadAsOneOntology
-one_reading bytes o p w v r s = statements_determine (map subclass_statement s.pairs) o p w v (of_same_pairs bytes o p r s) s.ontology
+one_reading bytes o p w v r s =
+    let P : Document → Type 0 = λ d. IsOntologyOf (statements d.trees) o in
+    let same : r.document ≡ s.document = one_document bytes r.document s.document r.text s.text in
+    statements_determine (statements s.document.trees) o p w v (subst P same r.read.ontology) s.read.ontology
+
+pub one_fault_list : BytesHaveOneFaultList
+one_fault_list bytes xs ys h k =
+    let same : h.document ≡ k.document = one_document bytes h.document k.document h.text k.text in
+    sym h.all ∙ ap (λ (d : Document). document_faults d.trees) same ∙ k.all

@@ -61,11 +61,6 @@ Refuses Memory bytes = Unit {0}
 Refuses TooLarge bytes = ⊥
 Refuses Io bytes = ⊥
 
--- .. of a text, which is UTF-8
-abbrev pub RefusesText : DocumentFault → List ℕ → Type 0
-RefusesText (NotUtf8 at) text = ⊥
-RefusesText fault text = IsUtf8 text → Refuses fault text
-
 -- what a source that tells its bytes says of an answer about them, where at most so many are allowed
 abbrev pub ReadsKnown : Option (List ℕ) → ℕ → Ontology → Type 0
 ReadsKnown None most o = Unit {0}

@@ -1,9 +1,8 @@
 //! From bytes to an ontology.
 ghost use Rattle.device.specs.Device.{HasFailed};
 ghost use Rattle.document.specs.Documents.{IsTaken, ReadsAs};
-ghost use Rattle.document.specs.Faults.{ReadsKnown, Refuses, RefusesKnown, RefusesText};
+ghost use Rattle.document.specs.Faults.{ReadsKnown, Refuses, RefusesKnown};
 ghost use Rattle.std.specs.Prelude.{◌≡◌, ◌≤◌, Err, IfErr, IfOk, length};
-ghost use Rattle.std.specs.Str.{IsUtf8};
 
 use crate::fault::DocumentFault;
 use crate::limits::Limits;
@@ -18,9 +17,9 @@ use std::str;
 
 /// The ontology that a text reads as.
 fn read_text(alloc: Global, text: &str, state: RandomState) -> Result<Ontology, DocumentFault>
-    ensures read { IfOk result (λ o. IsUtf8 text.now → ReadsAs text.now o) }
+    ensures read { IfOk result (ReadsAs text.now) }
     ensures taken { IfOk result IsTaken }
-    ensures refused { IfErr result (λ e. RefusesText e text.now) }
+    ensures refused { IfErr result (λ e. Refuses e text.now) }
 {
     let tokens = match tokens(alloc, text) {
         Ok(tokens) => tokens,
