@@ -1,10 +1,10 @@
 -- A document has at least as many bytes as its ontology has axioms.
-use Rattle.std.proofs.Common.{◌≡◌, ℕ, ◌+◌, ◌<◌, ◌≤◌, inl, inr, Bool, true, false, List, [], ◌∷◌, ◌++◌, length, Option, Some, None, if◌then◌else◌, codes, refl, sym, ap, arith, length-append, true≢false}
+use Rattle.std.proofs.Common.{ℕ, ◌+◌, ◌<◌, ◌≤◌, inl, inr, Bool, true, false, List, [], ◌∷◌, ◌++◌, length, Option, Some, None, if◌then◌else◌, codes, sym, ap, arith, length-append, true≢false}
 use Rattle.std.specs.List.{cons_option, filter_map}
 use Rattle.std.specs.Str.{bytes_eq}
 use Rattle.std.proofs.lemmas.List.{length-map}
 use Rattle.axioms.specs.Numbered.{axiom_tree}
-use Rattle.axioms.specs.Numbering.{Statement, logical_axiom}
+use Rattle.axioms.specs.Numbering.{logical_axiom}
 use Rattle.document.specs.Theorems.{AxiomsTakeBytes}
 use Rattle.fs_lexer.specs.Spelling.{IsOfKind, IsPrefixName, SpellsFrom, Token}
 use Rattle.fs_lexer.specs.declared.token.Kind.{Kind}

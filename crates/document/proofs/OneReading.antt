@@ -1,7 +1,6 @@
 -- Bytes are the text of at most one document, and read as at most one ontology.
 use Rattle.std.proofs.Common.{◌≡◌, ℕ, List, sym, ap, ◌∙◌, subst}
 use Rattle.axioms.proofs.Unique.{statements_determine}
-use Rattle.axioms.specs.Numbered.{Ontology}
 use Rattle.axioms.specs.Numbering.{IsOntologyOf}
 use Rattle.fs_lexer.proofs.Whole.{one_spelling}
 use Rattle.fs_lexer.specs.Spelling.{Token}

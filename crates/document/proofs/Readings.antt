@@ -2,26 +2,17 @@
 use Rattle.std.proofs.Common.{◌≡◌, ℕ, ◌++◌, ◌≤◌, List, length, Some, None, Option, Result, Ok, Err, IfOk, IfErr, sym, ap, ◌∙◌, subst, arith}
 use Rattle.std.proofs.lemmas.List.{append-nil}
 use Rattle.std.specs.Io.KnownBytes.{Consumes, IsAtEnd}
-use Rattle.std.specs.Str.{IsUtf8}
 use Rattle.axioms.specs.Numbered.{Ontology}
 use Rattle.fs_lexer.proofs.Whole.{one_spelling}
 use Rattle.fs_lexer.specs.Spelling.{Token, Spells}
-use Rattle.fs_lexer.specs.Faults as lexer
-use Rattle.fs_lexer.specs.declared.token.LexFault.{LexFault}
-use Rattle.fs_lexer.specs.declared.token.LexFault.TheVariants as lexing
 use Rattle.fs_parser.specs.Document.{Document, IsDocument}
 use Rattle.fs_parser.specs.State.{IsRefusal}
-use Rattle.fs_parser.specs.Tree.{Trees}
 use Rattle.fs_parser.specs.declared.fault.ParseFault.{ParseFault}
 use Rattle.fs_parser.specs.declared.fault.ParseFault.TheVariants as parsing
-use Rattle.profile.specs.Reading as profile
-use Rattle.profile.specs.declared.acceptance.Refusal.{Refusal}
-use Rattle.profile.specs.declared.acceptance.Refusal.TheVariants as refusing
-use Rattle.statements.specs.Statements.{statements}
 use Rattle.document.specs.declared.fault.DocumentFault.{DocumentFault}
 use Rattle.document.specs.declared.fault.DocumentFault.TheVariants as faults
-use Rattle.document.specs.Documents.{AreTextOf, IsTaken, ReadsAs}
-use Rattle.document.specs.Faults.{ReadAsNone, Refuses, RefusesKnown, of_lexing, of_parsing, of_refusal}
+use Rattle.document.specs.Documents.{ReadsAs}
+use Rattle.document.specs.Faults.{ReadAsNone, Refuses, RefusesKnown, of_parsing}
 use Rattle.document.proofs.Bounds.{axioms_take_bytes}
 
 module _ (text : List ℕ) (tokens : List Token) (spelled : Spells text tokens) where
@@ -39,25 +30,6 @@ module _ (text : List ℕ) (tokens : List Token) (spelled : Spells text tokens) 
   parse_fault (parsing.StandardPrefixChanged at) none = no_document (none tt)
   parse_fault (parsing.TooDeep at) none = no_document (none tt)
   parse_fault parsing.Memory none = tt
-
--- a text that spells no tokens
-no_tokens : (text : List ℕ) → ((tokens : List Token) → Spells text tokens → ⊥) → ReadAsNone text
-no_tokens text none o r = none r.text.tokens r.text.spelled
-
-pub lex_fault : (f : LexFault) (text : List ℕ) → (lexer.IsRefusal f → (tokens : List Token) → Spells text tokens → ⊥) → Refuses (of_lexing f) text
-lex_fault (lexing.BadByte at) text none = no_tokens text (none tt)
-lex_fault (lexing.OpenString at) text none = no_tokens text (none tt)
-lex_fault (lexing.OpenIri at) text none = no_tokens text (none tt)
-lex_fault (lexing.WordsTouch at) text none = no_tokens text (none tt)
-lex_fault lexing.Memory text none = tt
-
-pub refusal_fault : (r : Refusal) (text : List ℕ) (document : Document) → AreTextOf text document → profile.Refuses r document.trees → Refuses (of_refusal r) text
-refusal_fault (refusing.Faults found) text document is h = record { document = document; text = is; all = h.0; some = h.1 }
-refusal_fault refusing.TooManyNames text document is h = record { document = document; text = is; faultless = h.0; many = h.1 }
-refusal_fault refusing.Memory text document is h = tt
-
-pub taken : (trees : Trees) (o : Ontology) → profile.AreReadAs trees o → IsTaken o
-taken trees o h = record { statements = statements trees; numbered = h.ontology; few_names = h.few_names }
 
 -- a document has room for its axioms
 pub axioms_fit : (r : Result Ontology DocumentFault) (text bytes : List ℕ) → text ≡ bytes → IfOk r (ReadsAs text) → IfOk r (λ o. length o.axioms ≤ length bytes)

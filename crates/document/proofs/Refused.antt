@@ -1,18 +1,16 @@
 -- What is refused reads as no ontology.
-use Rattle.std.proofs.Common.{◌≡◌, ℕ, ◌<◌, ◌≤◌, inl, inr, List, [], ◌∷◌, length, map, refl, sym, ap, ◌∙◌, subst, arith}
+use Rattle.std.proofs.Common.{◌≡◌, ℕ, inl, inr, List, [], ◌∷◌, length, refl, sym, ap, ◌∙◌, subst, arith}
 use Rattle.std.specs.List.{filter_map}
 use Rattle.axioms.specs.Numbered.{Ontology}
 use Rattle.axioms.specs.Numbering.{IsOntologyOf, Statement, class_name}
 use Rattle.fs_parser.specs.Document.{Document}
-use Rattle.profile.specs.Reading.{AreReadAs, HasFewNames, HaveTooManyNames, class_names}
+use Rattle.profile.specs.Reading.{HasFewNames, HaveTooManyNames, class_names}
 use Rattle.shapes.specs.Faults as shapes
-use Rattle.shapes.specs.View.{fault_of, faults_of}
+use Rattle.shapes.specs.View.{faults_of}
 use Rattle.shapes.specs.declared.fault.Fault.{Fault}
 use Rattle.statements.specs.Statements.{statements}
-use Rattle.document.specs.declared.fault.DocumentFault.{DocumentFault}
 use Rattle.document.specs.declared.fault.DocumentFault.TheVariants as faults
-use Rattle.document.specs.Documents.{ReadsAs}
-use Rattle.document.specs.Faults.{HaveFaults, ReadAsNone, Refuses, StateTooManyNames}
+use Rattle.document.specs.Faults.{HaveFaults, ReadAsNone, StateTooManyNames}
 use Rattle.document.specs.Theorems.{RefusedBytesReadAsNone, RefusedSourcesReadAsNone}
 use Rattle.document.proofs.OneReading.{one_document}
 
