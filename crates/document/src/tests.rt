@@ -80,6 +80,19 @@ fn refused_documents(rt: HostRuntime) -> Result<(), Fail> {
 }
 
 #[test]
+fn every_fault_is_printed(rt: HostRuntime) -> Result<(), Fail> {
+    assert!(rt;
+        is_refused(
+            &rt,
+            b"Ontology(SubClassOf(<x:A> owl:real) SubClassOf(<x:A> ObjectUnionOf(<x:A> <x:B>)))",
+            81,
+            "F5 at byte 26\nF1 at byte 53: ObjectUnionOf"
+        )?
+    );
+    Ok(())
+}
+
+#[test]
 fn limits(rt: HostRuntime) {
     assert!(rt; Limits::new(1, 1).is_some());
     assert!(rt; Limits::new(MOST_BYTES, MOST_FACTS).is_some());
