@@ -36,6 +36,12 @@ fn read_text(alloc: Global, text: &str, state: RandomState) -> Result<Ontology, 
 }
 
 /// The ontology that the bytes of a document read as.
+///
+/// # Errors
+///
+/// `NotUtf8`, `Lex` or `Parse` where the bytes are no document; `Faults`, with every one in the order of the text, where the
+/// document is not of the profile; `TooManyNames` where it is, and has of a kind more than 1,000,000 names; `Memory` where
+/// memory was refused before the answer was there.
 pub fn read_bytes(
     alloc: Global,
     bytes: &[u8],
@@ -57,13 +63,17 @@ pub fn read_bytes(
 /// The ontology of the document that the source gives, within the limit of bytes.
 ///
 /// What is left of the bytes is lost in part where the answer is a fault.
+///
+/// # Errors
+///
+/// `TooLarge` where there are more bytes than the limit, `Io` where the source failed, and those of `read_bytes`.
 pub fn read_document<S: Source>(
     alloc: Global,
     source: &mut S,
     limits: &Limits,
     state: RandomState,
 ) -> Result<Ontology, DocumentFault>
-    // The source's bytes read as this ontology; or they do not, or are too many, or the source failed in this call.
+    // The source's bytes read as this ontology; or they are refused, or too many, or the source failed in this call.
     ensures read { IfOk result (ReadsKnown (S.left source.old) limits.now.max_bytes) }
     ensures taken { IfOk result IsTaken }
     ensures axioms { IfOk result (λ o. length o.axioms ≤ limits.now.max_bytes) }
