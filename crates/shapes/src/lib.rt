@@ -15,7 +15,7 @@ mod walk;
 
 pub use expected::{Expected, Operands};
 pub use fault::Fault;
-pub use walk::{Version, document_faults};
+pub use walk::{Version, annotation_count, document_faults};
 
 /// The faults of small documents.
 pub fn worked_documents()

@@ -721,3 +721,23 @@ fn laws() {
 fn expected_compare(rt: HostRuntime) {
     assert!(rt; Expected::Class != Expected::ClassExpression);
 }
+
+/// How many annotations stand in front in the document's ontology, if the text is one.
+fn annotations_of(alloc: Global, text: &str) -> Option<usize> {
+    let tokens = tokens(alloc, text).ok()?;
+    let document = forms(alloc, &tokens).ok()?;
+    Some(annotation_count(&document.trees))
+}
+
+#[test]
+fn annotations_in_front(rt: HostRuntime) {
+    let alloc = rt.alloc();
+    assert_eq!(rt; annotations_of(alloc, "Ontology()"), Some(0));
+    assert_eq!(rt;
+        annotations_of(
+            alloc,
+            "Ontology(Annotation() Annotation(<x:a>) <x:b> Annotation())"
+        ),
+        Some(2)
+    );
+}

@@ -40,7 +40,7 @@ fn is_annotation(tree: &Tree<'_>) -> bool
 }
 
 /// How many annotations stand in front of the other trees.
-fn annotation_count(trees: &[Tree<'_>]) -> usize
+pub fn annotation_count(trees: &[Tree<'_>]) -> usize
     ensures within { result ≤ length trees.now }
     ensures others { trees_of (drop result trees.now) ≡ behind_annotations (trees_of trees.now) }
 {
@@ -113,11 +113,7 @@ fn name_faults(
 }
 
 /// The fault of a literal, if it has one.
-fn literal_faults(
-    found: &mut Vec<Fault>,
-    expected: Expected,
-    at: usize,
-) -> Result<(), Memory>
+fn literal_faults(found: &mut Vec<Fault>, expected: Expected, at: usize) -> Result<(), Memory>
     ensures { OnOk result (faults_of found.new.items ≡ faults_of found.old.items ++ literal_faults expected at) }
 {
     match expected {
@@ -145,7 +141,9 @@ fn tree_faults(
         Tree::Number { at, .. } | Tree::Group { at, .. } => {
             tell(found, Fault::WrongShape { at: *at })
         }
-        Tree::Form { at, keyword, trees } => form_faults(alloc, found, expected, *at, keyword, trees),
+        Tree::Form { at, keyword, trees } => form_faults(
+            alloc, found, expected, *at, keyword, trees,
+        ),
     }
 }
 

@@ -44,7 +44,7 @@ names_from (Intersection operands ∷ xs) seen names same =
 names_from (SomeValues r d ∷ xs) seen names same =
     other_step (SomeValues r d) xs seen names same (λ c. same c) (λ s ns h. names_from xs s ns h) (list_any (same_expression (SomeValues r d)) seen) (filter_map class_name xs) refl (λ zs. refl)
 
-names_first : (xs : List ClassExpression) → first_places bytes_eq (filter_map class_name xs) ≡ filter_map class_name (first_places same_expression xs)
+pub names_first : (xs : List ClassExpression) → first_places bytes_eq (filter_map class_name xs) ≡ filter_map class_name (first_places same_expression xs)
 names_first xs = names_from xs [] [] (λ c. refl)
 
 -- ---- one statement more
