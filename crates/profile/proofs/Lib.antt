@@ -6,3 +6,7 @@ pub mod DistinctOperands
 pub mod ClassTrees
 pub mod GivenOperands
 pub mod Fits
+pub mod Items
+pub mod Stated
+pub mod Holding
+pub mod Adding

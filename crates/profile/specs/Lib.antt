@@ -1,3 +1,4 @@
 pub mod Reading
 pub mod Operands
+pub mod Parts
 pub mod Additions

@@ -3,9 +3,10 @@ ghost use Rattle.fs_parser.specs.View.{trees_of};
 ghost use Rattle.profile.specs.Reading.{AreReadAs, Refuses};
 ghost use Rattle.std.specs.Prelude.{IfErr, IfOk};
 
-use axioms::Ontology;
+use crate::building::ontology_of;
+use axioms::{BuildFault, Ontology};
 use fs_parser::Document;
-use shapes::{Fault, Version};
+use shapes::{Fault, Version, document_faults};
 use std::alloc::Global;
 use std::hash::RandomState;
 
@@ -35,5 +36,16 @@ pub fn accept(
     ensures read { IfOk result (AreReadAs (trees_of document.now.trees.items)) }
     ensures refused { IfErr result (λ r. Refuses r (trees_of document.now.trees.items)) }
 {
-    Err(Refusal::Memory)
+    let found = match document_faults(alloc, document, version) {
+        Ok(found) => found,
+        Err(_) => return Err(Refusal::Memory),
+    };
+    if !found.is_empty() {
+        return Err(Refusal::Faults(found));
+    }
+    match ontology_of(alloc, &document.trees, state) {
+        Ok(ontology) => Ok(ontology),
+        Err(BuildFault::TooManyNames) => Err(Refusal::TooManyNames),
+        Err(BuildFault::Memory) => Err(Refusal::Memory),
+    }
 }

@@ -2,6 +2,12 @@
 #![tactic(auto)]
 
 mod acceptance;
+mod axiom_operands;
+mod building;
+mod entities;
+mod parts;
+#[cfg(test)]
+mod tests;
 
 pub use acceptance::{Refusal, accept};
 pub use shapes::{Fault, Version};

@@ -1,0 +1,48 @@
+-- What a document's ontology holds, where it has no faults.
+use Rattle.std.proofs.Common.{◌≡◌, ℕ, zero, suc, ◌<◌, ◌-◌, inl, inr, Bool, true, false, List, [], ◌∷◌, ◌++◌, length, get_or, refl, sym, ap, ◌∙◌, subst, arith, if◌then◌else◌, nat_lt}
+use Rattle.fs_parser.specs.Tree.{Tree, Trees, Empty, Then, place_of}
+use Rattle.fs_parser.specs.View.{tree_of, trees_of}
+use Rattle.fs_parser.specs.declared.tree.Tree as code
+use Rattle.shapes.specs.Faults.{Fault, WrongShape, axiom_faults, document_faults, each_faults, faults, is_annotation, is_name, ontology_faults}
+use Rattle.shapes.specs.declared.expected.Expected.TheVariants.{Annotation, Axiom}
+use Rattle.profile.specs.Parts.{IsPartOfOntology}
+
+abbrev ArePartsOfOntology : Trees → Type 0
+ArePartsOfOntology Empty = Unit {0}
+ArePartsOfOntology (Then first rest) = IsPartOfOntology first × ArePartsOfOntology rest
+
+none_left : {A : Type 0} (xs ys : List A) → xs ++ ys ≡ [] → xs ≡ []
+none_left [] ys h = refl
+none_left (x ∷ xs) ys h = absurd (let e : x ∷ (xs ++ ys) ≡ [] = h in cc)
+
+none_right : {A : Type 0} (xs ys : List A) → xs ++ ys ≡ [] → ys ≡ []
+none_right [] ys h = h
+none_right (x ∷ xs) ys h = absurd (let e : x ∷ (xs ++ ys) ≡ [] = h in cc)
+
+axioms_are_parts : (ts : Trees) → axiom_faults ts ≡ [] → ArePartsOfOntology ts
+axioms_are_parts Empty h = tt
+axioms_are_parts (Then first rest) h =
+    (inr (inr (none_left (faults Axiom first) (each_faults Axiom rest) h)), axioms_are_parts rest (none_right (faults Axiom first) (each_faults Axiom rest) h))
+
+parts : (names : ℕ) (ts : Trees) → ontology_faults names ts ≡ [] → ArePartsOfOntology ts
+parts names Empty h = tt
+parts names (Then first rest) h = by_kind names first rest (λ n e. parts n rest e) (is_name first) (is_annotation first) refl refl h
+  where
+    by_kind : (names : ℕ) (first : Tree) (rest : Trees) → ((n : ℕ) → ontology_faults n rest ≡ [] → ArePartsOfOntology rest) → (b d : Bool) → is_name first ≡ b → is_annotation first ≡ d →
+        (if b then (if nat_lt 0 names then [] else WrongShape (place_of first) ∷ []) ++ ontology_faults (names - 1) rest
+        else (if d then faults Annotation first ++ ontology_faults 0 rest
+        else axiom_faults (Then first rest))) ≡ [] →
+        ArePartsOfOntology (Then first rest)
+    by_kind names first rest later true d e f h =
+        (inl e, later (names - 1) (none_right (if nat_lt 0 names then [] else WrongShape (place_of first) ∷ []) (ontology_faults (names - 1) rest) h))
+    by_kind names first rest later false true e f h = (inr (inl f), later 0 (none_right (faults Annotation first) (ontology_faults 0 rest) h))
+    by_kind names first rest later false false e f h = axioms_are_parts (Then first rest) h
+
+-- each tree of a document without faults is a part of its ontology
+pub part_there : (ts : List code.Tree) (n : ℕ) (t : code.Tree) → document_faults (trees_of ts) ≡ [] → n < length ts → t ≡ get_or ts n t → IsPartOfOntology (tree_of t)
+part_there ts n t faultless within is = go ts n within is (parts 2 (trees_of ts) faultless)
+  where
+    go : (us : List code.Tree) (m : ℕ) → m < length us → t ≡ get_or us m t → ArePartsOfOntology (trees_of us) → IsPartOfOntology (tree_of t)
+    go [] m within at all = absurd (omega arith)
+    go (u ∷ us) zero within at all = subst (λ (x : code.Tree). IsPartOfOntology (tree_of x)) (sym at) all.0
+    go (u ∷ us) (suc m) within at all = go us m (omega arith) at all.1

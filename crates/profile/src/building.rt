@@ -1,0 +1,49 @@
+//! The ontology of trees without faults.
+ghost use Rattle.fs_parser.specs.View.{trees_of};
+ghost use Rattle.profile.specs.Additions.{OntologyRead};
+ghost use Rattle.profile.specs.Reading.{HasFewNames};
+ghost use Rattle.shapes.specs.Faults.{document_faults};
+ghost use Rattle.statements.specs.Statements.{statements};
+ghost use Rattle.std.specs.Prelude.{◌≡◌, ◌↔◌, [], true};
+
+use crate::parts::part;
+use axioms::{BuildFault, Builder, MOST_NAMES, Ontology};
+use fs_parser::Tree;
+use std::alloc::Global;
+use std::hash::RandomState;
+
+/// Whether no kind has too many names.
+fn has_few_names(ontology: &Ontology) -> bool
+    ensures { result ≡ true ↔ HasFewNames ontology.now }
+{
+    ontology.classes().len() <= MOST_NAMES
+        && ontology.properties().len() <= MOST_NAMES
+        && ontology.individuals().len() <= MOST_NAMES
+}
+
+/// The ontology that the trees state.
+pub(crate) fn ontology_of(
+    alloc: Global,
+    trees: &[Tree<'_>],
+    state: RandomState,
+) -> Result<Ontology, BuildFault>
+    requires { document_faults (trees_of trees.now) ≡ [] }
+    ensures { OntologyRead result (statements (trees_of trees.now)) }
+{
+    let mut builder = match Builder::new(alloc, state) {
+        Ok(builder) => builder,
+        Err(_) => return Err(BuildFault::Memory),
+    };
+    let _none = builder.ontology();
+    for tree in trees {
+        match part(alloc, &mut builder, tree) {
+            Ok(()) => {}
+            Err(fault) => return Err(fault),
+        }
+    }
+    let ontology = builder.finish();
+    if !has_few_names(&ontology) {
+        return Err(BuildFault::TooManyNames);
+    }
+    Ok(ontology)
+}

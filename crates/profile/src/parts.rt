@@ -1,0 +1,60 @@
+//! The parts of a document's ontology.
+ghost use Rattle.fs_parser.specs.View.{tree_of, trees_of};
+ghost use Rattle.profile.specs.Additions.{StatementsRead};
+ghost use Rattle.profile.specs.Operands.{AreOperandsOf};
+ghost use Rattle.profile.specs.Parts.{IsPartOfOntology, said_of};
+ghost use Rattle.shapes.specs.declared.expected.Expected.TheVariants.{Axiom};
+ghost use Rattle.statements.specs.Statements.{statement_of};
+
+use crate::axiom_operands::{
+    class_assertion, disjoint_classes, equivalent_classes, equivalent_properties,
+    property_assertion, property_domain, reflexive_property, sub_class, sub_property,
+    transitive_property,
+};
+use crate::entities::declaration;
+use axioms::{BuildFault, Builder};
+use fs_parser::Tree;
+use shapes::annotation_count;
+use std::alloc::Global;
+
+/// The axiom of this keyword and these operands, or the declaration. Axioms of annotations state nothing.
+fn axiom(
+    alloc: Global,
+    builder: &mut Builder,
+    keyword: &str,
+    operands: &[Tree<'_>],
+) -> Result<(), BuildFault>
+    requires { AreOperandsOf Axiom keyword.now (trees_of operands.now) }
+    ensures { StatementsRead result (said_of keyword.now (trees_of operands.now)) builder.old builder.new }
+{
+    let _before = builder.ontology();
+    match keyword {
+        "Declaration" => declaration(alloc, builder, operands),
+        "SubClassOf" => sub_class(alloc, builder, operands),
+        "EquivalentClasses" => equivalent_classes(alloc, builder, operands),
+        "DisjointClasses" => disjoint_classes(alloc, builder, operands),
+        "SubObjectPropertyOf" => sub_property(alloc, builder, operands),
+        "EquivalentObjectProperties" => equivalent_properties(alloc, builder, operands),
+        "ObjectPropertyDomain" => property_domain(alloc, builder, operands),
+        "TransitiveObjectProperty" => transitive_property(alloc, builder, operands),
+        "ReflexiveObjectProperty" => reflexive_property(alloc, builder, operands),
+        "ClassAssertion" => class_assertion(alloc, builder, operands),
+        "ObjectPropertyAssertion" => property_assertion(alloc, builder, operands),
+        _ => Ok(()),
+    }
+}
+
+/// What a part of a document's ontology states. Names and annotations in front state nothing.
+pub(crate) fn part(alloc: Global, builder: &mut Builder, tree: &Tree<'_>) -> Result<(), BuildFault>
+    requires { IsPartOfOntology (tree_of tree.now) }
+    ensures { StatementsRead result (statement_of (tree_of tree.now)) builder.old builder.new }
+{
+    let _before = builder.ontology();
+    let Tree::Form { keyword, trees, .. } = tree else {
+        return Ok(());
+    };
+    if *keyword == "Annotation" {
+        return Ok(());
+    }
+    axiom(alloc, builder, keyword, &trees[annotation_count(trees)..])
+}

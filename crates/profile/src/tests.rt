@@ -1,0 +1,29 @@
+//! A document that is accepted.
+
+use super::*;
+use axioms::Ontology;
+use fs_lexer::tokens;
+use fs_parser::forms;
+use std::hash::RandomState;
+use std::process::Abort;
+use std::random::RandomSource;
+
+/// The ontology that the text states, if it is accepted.
+fn accepted<R: AllocGlobal + RandomSource>(rt: &R, text: &str) -> Option<Ontology> {
+    let tokens = tokens(rt.alloc(), text).ok()?;
+    let document = forms(rt.alloc(), &tokens).ok()?;
+    accept(
+        rt.alloc(),
+        &document,
+        Version::V1,
+        RandomState::new(rt).ok()?,
+    )
+    .ok()
+}
+
+#[test]
+fn one_subclass(rt: HostRuntime) {
+    let ontology = accepted(&rt, "Ontology(SubClassOf(<x:A> <x:B>))").unwrap();
+    assert_eq!(rt; ontology.classes().len(), 4);
+    assert_eq!(rt; ontology.axioms().len(), 1);
+}
