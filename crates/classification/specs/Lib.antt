@@ -1,3 +1,4 @@
+pub mod Stated
 pub mod Derivation
 pub mod Relation
 pub mod Classified

@@ -5,9 +5,11 @@ mod classification;
 mod derivation;
 mod listing;
 mod relation;
+mod stated;
 
 pub use classification::{Classification, Summary, classify};
 pub use hierarchy::Stop;
+pub use stated::{stated_hierarchies, states_hierarchy};
 
 #[cfg(test)]
 mod tests;

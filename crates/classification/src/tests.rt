@@ -4,7 +4,7 @@ ghost use Rattle.std.specs.Prelude.{IfOk};
 ghost use Rattle.classification.specs.Classified.{IsClassifiable};
 
 use super::*;
-use axioms::{Axiom, Builder, ExprId, Kind, Ontology};
+use axioms::{Axiom, Builder, Expr, ExprId, Kind, Ontology, PropId};
 use hierarchy::is_hierarchy;
 use std::hash::RandomState;
 use std::process::Abort;
@@ -79,4 +79,41 @@ end
     );
     assert_eq!(rt; made.certificate.as_slice(), certificate.as_slice());
     Ok(())
+}
+
+#[test]
+fn a_declared_property_does_not_matter(rt: HostRuntime) -> Result<(), Fail> {
+    let mut builder = Builder::new(rt.alloc(), RandomState::new(&rt)?)?;
+    builder.declare(Kind::Property, "x:p")?;
+    builder.declare(Kind::Class, "x:A")?;
+    assert!(rt; 2 < builder.ontology().expression_count());
+    builder.add_axiom(Axiom::SubClass(ExprId(2), ExprId(0)))?;
+    assert!(rt; states_hierarchy(builder.ontology()));
+    Ok(())
+}
+
+#[test]
+fn an_existential_operand_is_not_classified(rt: HostRuntime) -> Result<(), Fail> {
+    let mut builder = Builder::new(rt.alloc(), RandomState::new(&rt)?)?;
+    builder.declare(Kind::Property, "x:p")?;
+    assert!(rt; builder.ontology().properties().len() == 1);
+    assert!(rt; 1 < builder.ontology().expression_count());
+    builder.add_expr(Expr::Some(PropId(0), ExprId(0)))?;
+    assert!(rt; 2 < builder.ontology().expression_count());
+    builder.add_axiom(Axiom::SubClass(ExprId(0), ExprId(2)))?;
+    assert!(rt; !states_hierarchy(builder.ontology()));
+    Ok(())
+}
+
+#[test]
+fn an_individual_is_not_classified(rt: HostRuntime) -> Result<(), Fail> {
+    let mut builder = Builder::new(rt.alloc(), RandomState::new(&rt)?)?;
+    builder.declare(Kind::Individual, "x:a")?;
+    assert!(rt; !states_hierarchy(builder.ontology()));
+    Ok(())
+}
+
+#[test]
+fn laws() {
+    stated_hierarchies();
 }
