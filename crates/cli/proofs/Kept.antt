@@ -57,6 +57,7 @@ classified_file file left bytes facts summary texts kept is = record {
   ontology = is.ontology;
   reads = reads_file file left bytes is.ontology kept is.reads;
   well_formed = is.well_formed;
+  hierarchy = is.hierarchy;
   counts = is.counts;
   within = is.within;
   texts_are = is.texts_are;
@@ -65,12 +66,14 @@ classified_file file left bytes facts summary texts kept is = record {
 
 pub fault_of_file : (file left : Option (List ℕ)) (bytes facts : ℕ) (fault : ClassifyFault) → Keeps file left → IsFaultOf bytes facts left fault → IsFaultOf bytes facts file fault
 fault_of_file file left bytes facts (classifying.Document fault) kept is = refuses_file file left bytes fault kept is
+fault_of_file file left bytes facts classifying.NotYet kept is = (is.0, reads_file file left bytes is.0 kept is.1, is.2)
 fault_of_file file left bytes facts classifying.Memory kept is = tt
 fault_of_file file left bytes facts classifying.Limit kept is = (is.0, reads_file file left bytes is.0 kept is.1, is.2)
 fault_of_file file left bytes facts (classifying.Io n) kept is = (is.0, is.1, (is.2.0, is.2.1, classified_file file left bytes facts is.2.0 is.2.1 kept is.2.2))
 
 pub check_fault_of_file : (file left : Option (List ℕ)) (most : ℕ) (fault : CheckFault) → Keeps file left → IsCheckFault most left fault → IsCheckFault most file fault
 check_fault_of_file file left most (checking.Document fault) kept is = refuses_file file left most fault kept is
+check_fault_of_file file left most checking.NotYet kept is = (is.0, reads_file file left most is.0 kept is.1, is.2)
 check_fault_of_file file left most checking.Memory kept is = tt
 check_fault_of_file file left most (checking.Io n) kept is = (is.0, is.1, (is.2.0, reads_file file left most is.2.0 kept is.2.1))
 
@@ -79,6 +82,7 @@ pub checked_files : (most : ℕ) (d d' t t' i i' c c' : Option (List ℕ)) (o : 
 checked_files most d d' t t' i i' c c' o verdict kd kt ki kc checked = record {
   reads = reads_file d d' most o kd checked.reads;
   well_formed = checked.well_formed;
+  hierarchy = checked.hierarchy;
   taxonomy_text = checked.taxonomy_text;
   instances_text = checked.instances_text;
   certificate_text = checked.certificate_text;

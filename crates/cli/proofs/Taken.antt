@@ -1,18 +1,18 @@
--- What a document reads as can be classified.
-use Rattle.std.proofs.Common.{ℕ, ◌<◌, ◌≤◌, ap, arith, ◌∙◌, sym, slice_get, length}
+-- What a document reads as can be classified, where it is a hierarchy.
+use Rattle.std.proofs.Common.{ℕ, ◌≤◌, arith, length}
 use Rattle.axioms.specs.Numbered.{Ontology}
+use Rattle.axioms.specs.WellFormed.{IsOntology}
+use Rattle.classification.proofs.OwnClasses.{stated_hierarchies_are}
 use Rattle.classification.specs.Classified.{IsClassifiable}
-use Rattle.document.proofs.OneMore.{class_node, length_nodes}
-use Rattle.document.specs.Answers.{IsTaken}
+use Rattle.classification.specs.Stated.{StatesHierarchy}
+use Rattle.document.specs.Documents.{IsTaken}
 
-pub classifiable : (o : Ontology) → IsTaken o → (most : ℕ) → length o.axioms ≤ most → most ≤ 268435456 → IsClassifiable o
-classifiable o taken most few within = record {
-  hierarchy = record {
-    classes = λ e node at. class_node (length o.names.classes) e node (ap (λ nodes. slice_get nodes e) (sym taken.shape.nodes) ∙ at);
-    axioms = taken.shape.axioms;
-    individuals = taken.shape.individuals;
-  };
-  classes = length_nodes o taken.shape;
-  few_names = taken.few;
-  few_axioms = omega (arith, few, within);
-}
+pub classifiable : (o : Ontology) → IsOntology o → IsTaken o → StatesHierarchy o → (most : ℕ) → length o.axioms ≤ most → most ≤ 268435456 → IsClassifiable o
+classifiable o whole taken stated most few within =
+    let numbered = stated_hierarchies_are taken.statements o whole taken.numbered stated in
+    record {
+      hierarchy = numbered.0;
+      classes = numbered.1;
+      few_names = taken.few_names.classes;
+      few_axioms = omega (arith, few, within);
+    }

@@ -1,5 +1,5 @@
 -- What the program prints, and the status that goes with it.
-use Rattle.std.specs.Prelude.{◌≡◌, ℕ, zero, suc, ◌⊎◌, List, [], ◌++◌, Bool, true, false, codes, slice_get, unwrap_or, Result, Ok, Err, string_bytes}
+use Rattle.std.specs.Prelude.{◌≡◌, ℕ, zero, suc, ◌⊎◌, List, [], ◌++◌, Bool, true, false, codes, slice_get, unwrap_or, flat_map, Result, Ok, Err, string_bytes}
 use Rattle.std.specs.Fmt.{decimal}
 use Rattle.axioms.specs.Numbered.{Ontology}
 use Rattle.cert_check.specs.declared.verdict.Reason.{Reason}
@@ -17,7 +17,9 @@ use Rattle.command_line.specs.declared.tasks.LineFault.{LineFault}
 use Rattle.command_line.specs.declared.tasks.LineFault.TheVariants as line
 use Rattle.command_line.specs.declared.tasks.Paths.{Paths}
 use Rattle.document.specs.declared.fault.DocumentFault.{DocumentFault}
-use Rattle.document.specs.declared.fault.DocumentFault.TheVariants.{TooLarge, Io, TooManyNames, Memory}
+use Rattle.document.specs.declared.fault.DocumentFault.TheVariants.{TooLarge, Io, Faults, TooManyNames, Memory}
+use Rattle.shapes.specs.Faults.{Fault, RefusedConstruct, UnknownKeyword, WrongShape, RepeatedOperand, ReservedName, AnonymousIndividual}
+use Rattle.shapes.specs.View.{faults_of}
 
 -- ---- statuses
 
@@ -132,12 +134,23 @@ document_status Io = file
 document_status Memory = memory
 document_status fault = refused
 
--- the text is told of the fault of the document at the path; of a document that is refused it is one line that is not said here
+-- the line of what is wrong in a document: its code, its place, and the keyword where that is wrong
+abbrev pub fault_line : Fault → List ℕ
+fault_line (RefusedConstruct at keyword) = codes "F1 at byte " ++ (decimal at ++ (codes ": " ++ (keyword ++ codes "\n")))
+fault_line (UnknownKeyword at keyword) = codes "F2 at byte " ++ (decimal at ++ (codes ": " ++ (keyword ++ codes "\n")))
+fault_line (WrongShape at) = codes "F3 at byte " ++ (decimal at ++ codes "\n")
+fault_line (RepeatedOperand at) = codes "F4 at byte " ++ (decimal at ++ codes "\n")
+fault_line (ReservedName at) = codes "F5 at byte " ++ (decimal at ++ codes "\n")
+fault_line (AnonymousIndividual at) = codes "F6 at byte " ++ (decimal at ++ codes "\n")
+
+-- the text is told of the fault of the document at the path. Of what is wrong with its trees it is a line each, in their
+-- order; of bytes that are no text, no tokens or no trees it is one line that is not said here
 abbrev pub IsDocumentText : (path : List ℕ) → (most : ℕ) → DocumentFault → List ℕ → Type 0
 IsDocumentText path most TooLarge text = text ≡ codes "limit: more than " ++ (decimal most ++ codes " bytes\n")
 IsDocumentText path most TooManyNames text = text ≡ codes "limit: more than 1000000 names\n"
 IsDocumentText path most Io text = text ≡ cannot_read path
 IsDocumentText path most Memory text = text ≡ out_of_memory
+IsDocumentText path most (Faults found) text = text ≡ flat_map fault_line (faults_of found.items)
 IsDocumentText path most fault text = Unit {0}
 
 -- the path of the sink of that number
@@ -154,25 +167,33 @@ read_path paths (suc (suc (suc zero))) = paths.instances.now
 read_path paths (suc (suc (suc (suc zero)))) = paths.certificate.now
 read_path paths n = []
 
+-- the ontology is not one that is classified today
+abbrev pub not_yet : List ℕ
+not_yet = codes "not yet classified\n"
+
 abbrev pub classify_status : ClassifyFault → ℕ
 classify_status (classifying.Document fault) = document_status fault
+classify_status classifying.NotYet = refused
 classify_status classifying.Memory = memory
 classify_status classifying.Limit = limit
 classify_status (classifying.Io n) = file
 
 abbrev pub IsClassifyText : Paths → (max_bytes max_facts : ℕ) → ClassifyFault → List ℕ → Type 0
 IsClassifyText paths bytes facts (classifying.Document fault) text = IsDocumentText paths.document.now bytes fault text
+IsClassifyText paths bytes facts classifying.NotYet text = text ≡ not_yet
 IsClassifyText paths bytes facts classifying.Memory text = text ≡ out_of_memory
 IsClassifyText paths bytes facts classifying.Limit text = text ≡ codes "limit: more than " ++ (decimal facts ++ codes " facts\n")
 IsClassifyText paths bytes facts (classifying.Io n) text = text ≡ cannot_write (written_path paths n)
 
 abbrev pub check_status : CheckFault → ℕ
 check_status (checking.Document fault) = document_status fault
+check_status checking.NotYet = refused
 check_status checking.Memory = memory
 check_status (checking.Io n) = file
 
 abbrev pub IsCheckText : Paths → (max_bytes : ℕ) → CheckFault → List ℕ → Type 0
 IsCheckText paths bytes (checking.Document fault) text = IsDocumentText paths.document.now bytes fault text
+IsCheckText paths bytes checking.NotYet text = text ≡ not_yet
 IsCheckText paths bytes checking.Memory text = text ≡ out_of_memory
 IsCheckText paths bytes (checking.Io n) text = text ≡ cannot_read (read_path paths n)
 

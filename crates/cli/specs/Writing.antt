@@ -4,11 +4,12 @@ use Rattle.axioms.specs.Numbered.{Ontology}
 use Rattle.axioms.specs.WellFormed.{IsOntology}
 use Rattle.cert_check.specs.Acceptable.{IsAcceptable}
 use Rattle.classification.specs.Classified.{AreCountsOf, AreTextsOf}
+use Rattle.classification.specs.Stated.{StatesHierarchy}
 use Rattle.classification.specs.declared.classification.Classification.{Classification}
 use Rattle.classification.specs.declared.classification.Summary.{Summary}
 use Rattle.cli.specs.Devices.{Device, Takes, FailsIn}
 use Rattle.cli.specs.declared.fault.ClassifyFault.{ClassifyFault}
-use Rattle.cli.specs.declared.fault.ClassifyFault.TheVariants.{Document, Memory, Limit, Io}
+use Rattle.cli.specs.declared.fault.ClassifyFault.TheVariants.{Document, NotYet, Memory, Limit, Io}
 use Rattle.document.specs.Faults.{ReadsKnown, RefusesKnown}
 use Rattle.hierarchy.specs.Superclasses.{HasMoreFactsThan}
 
@@ -39,16 +40,21 @@ AreWrittenUntil (suc (suc (suc zero))) old new texts =
     Takes old.taxonomy new.taxonomy texts.taxonomy × Takes old.instances new.instances texts.instances × FailsIn old.certificate new.certificate texts.certificate
 AreWrittenUntil n old new texts = ⊥
 
--- the document, of at most so many bytes, reads as an ontology whose closure has at most so many facts; these are its counts
--- and its texts, and the certificate shows that the other two are right
+-- the document, of at most so many bytes, reads as an ontology that is classified today, and whose closure has at most so
+-- many facts; these are its counts and its texts, and the certificate shows that the other two are right
 pub record IsClassified (most_bytes most_facts : ℕ) (document : Option (List ℕ)) (summary : Summary) (texts : Texts) : Type 0 where
   pub ontology : Ontology
   pub reads : ReadsKnown document most_bytes ontology
   pub well_formed : IsOntology ontology
+  pub hierarchy : StatesHierarchy ontology
   pub counts : AreCountsOf ontology summary
   pub within : summary.facts ≤ most_facts
   pub texts_are : AreTextsOf ontology summary.consistent texts.taxonomy texts.instances
   pub acceptable : IsAcceptable ontology texts.taxonomy texts.instances texts.certificate
+
+-- the document reads as an ontology that is not classified today
+abbrev pub IsNotYetClassified : (most_bytes : ℕ) → (document : Option (List ℕ)) → Type 0
+IsNotYetClassified bytes document = (o : Ontology) × ReadsKnown document bytes o × ¬ StatesHierarchy o
 
 -- the document reads as an ontology whose closure has more facts
 abbrev pub HasTooManyFacts : (most_bytes most_facts : ℕ) → (document : Option (List ℕ)) → Type 0
@@ -57,6 +63,7 @@ HasTooManyFacts bytes facts document = (o : Ontology) × ReadsKnown document byt
 -- what a fault says of the document; it numbers the sinks from 1
 abbrev pub IsFaultOf : (most_bytes most_facts : ℕ) → (document : Option (List ℕ)) → ClassifyFault → Type 0
 IsFaultOf bytes facts document (Document fault) = RefusesKnown document bytes fault
+IsFaultOf bytes facts document NotYet = IsNotYetClassified bytes document
 IsFaultOf bytes facts document Memory = Unit {0}
 IsFaultOf bytes facts document Limit = HasTooManyFacts bytes facts document
 IsFaultOf bytes facts document (Io n) = (1 ≤ n) × (n ≤ 3) × ((summary : Summary) × (texts : Texts) × IsClassified bytes facts document summary texts)

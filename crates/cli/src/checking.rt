@@ -7,6 +7,7 @@ ghost use Rattle.std.specs.Prelude.{◌≡◌, Err, IfErr, IfOk};
 use crate::fault::CheckFault;
 use axioms::{ExprId, Ontology};
 use cert_check::{Verdict, check};
+use classification::states_hierarchy;
 use device::{ReadFault, Source, read_all};
 use document::{Limits, read_document};
 use std::alloc::Global;
@@ -46,6 +47,9 @@ pub(crate) fn checked<D: Source, T: Source, I: Source, C: Source>(
     };
     // What holds of every ontology.
     let _ = ontology.expr(ExprId(0));
+    if !states_hierarchy(&ontology) {
+        return Err(CheckFault::NotYet);
+    }
     let taxonomy = bytes_of(alloc, taxonomy, 2)?;
     let instances = bytes_of(alloc, instances, 3)?;
     let certificate = bytes_of(alloc, certificate, 4)?;

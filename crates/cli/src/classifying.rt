@@ -6,7 +6,7 @@ ghost use Rattle.std.specs.Prelude.{◌≡◌, Err, IfErr, IfOk};
 
 use crate::fault::ClassifyFault;
 use axioms::ExprId;
-use classification::{Classification, Stop, Summary, classify};
+use classification::{Classification, Stop, Summary, classify, states_hierarchy};
 use device::{Sink, Source, write_all};
 use document::{Limits, read_document};
 use std::alloc::Global;
@@ -30,6 +30,9 @@ fn classified<S: Source>(
     };
     // What holds of every ontology.
     let _ = ontology.expr(ExprId(0));
+    if !states_hierarchy(&ontology) {
+        return Err(ClassifyFault::NotYet);
+    }
     match classify(alloc, &ontology, limits.max_facts) {
         Ok(classification) => Ok(classification),
         Err(Stop::Memory) => Err(ClassifyFault::Memory),

@@ -11,6 +11,10 @@ pub enum ClassifyFault {
     /// The document was not read. Nothing is written.
     #[error(transparent)]
     Document(DocumentFault),
+    /// The ontology is not one that is classified today: it says more than that named classes lie below named classes, or
+    /// has individuals. Nothing is written.
+    #[error("not yet classified")]
+    NotYet,
     /// Memory was refused. Nothing is written.
     #[error("out of memory")]
     Memory,
@@ -29,6 +33,9 @@ pub enum CheckFault {
     /// The document was not read.
     #[error(transparent)]
     Document(DocumentFault),
+    /// The ontology is not one that is classified today, so that it has no texts. They are not read.
+    #[error("not yet classified")]
+    NotYet,
     /// Memory was refused.
     #[error("out of memory")]
     Memory,

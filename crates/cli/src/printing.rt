@@ -1,6 +1,7 @@
 //! What the program prints, and its statuses.
-ghost use Rattle.cli.specs.Printed.{Output, IsPrinted, IsToldMessage, IsAnsweredMessage, IsDocumentText, IsClassifyText, IsCheckText, document_status, classify_status, check_status, name_at, reason_text as text_of_reason, summary_text, verdict_text, verdict_status, written_path as path_written, read_path as path_read, done, memory, out_of_memory, usage};
-ghost use Rattle.std.specs.Prelude.{◌≡◌, ℕ, IfOk, Ok, map, string_bytes};
+ghost use Rattle.cli.specs.Printed.{Output, IsPrinted, IsToldMessage, IsAnsweredMessage, IsDocumentText, IsClassifyText, IsCheckText, document_status, fault_line as line_of_fault, classify_status, check_status, name_at, reason_text as text_of_reason, summary_text, verdict_text, verdict_status, written_path as path_written, read_path as path_read, done, memory, out_of_memory, usage};
+ghost use Rattle.shapes.specs.View.{fault_of, faults_of};
+ghost use Rattle.std.specs.Prelude.{◌≡◌, ℕ, IfOk, Ok, flat_map, map, string_bytes};
 
 use crate::fault::{CheckFault, ClassifyFault};
 use axioms::Ontology;
@@ -8,7 +9,7 @@ use cert_check::{Reason, Verdict};
 use classification::Summary;
 use command_line::Paths;
 use device::{Sink, write_all};
-use document::{DocumentFault, Limits};
+use document::{DocumentFault, Fault, Limits};
 use std::alloc::{AllocError, Global};
 
 /// A text for standard output or standard error, and the status that goes with it.
@@ -85,6 +86,34 @@ fn message_of(text: Result<String, AllocError>, status: u8) -> Result<Message, A
     }
 }
 
+/// The line of a fault.
+fn fault_line(alloc: Global, fault: &Fault) -> Result<String, AllocError>
+    ensures { IfOk result (λ text. string_bytes text ≡ line_of_fault (fault_of fault.now)) }
+{
+    match fault {
+        Fault::RefusedConstruct { at, keyword } => {
+            format!(in alloc; "F1 at byte {at}: {keyword}\n")
+        }
+        Fault::UnknownKeyword { at, keyword } => format!(in alloc; "F2 at byte {at}: {keyword}\n"),
+        Fault::WrongShape { at } => format!(in alloc; "F3 at byte {at}\n"),
+        Fault::RepeatedOperand { at } => format!(in alloc; "F4 at byte {at}\n"),
+        Fault::ReservedName { at } => format!(in alloc; "F5 at byte {at}\n"),
+        Fault::Anonymous { at } => format!(in alloc; "F6 at byte {at}\n"),
+    }
+}
+
+/// The lines of faults, in their order.
+fn fault_lines(alloc: Global, faults: &[Fault]) -> Result<String, AllocError>
+    ensures { IfOk result (λ text. string_bytes text ≡ flat_map line_of_fault (faults_of faults.now)) }
+{
+    let mut lines = String::new(alloc);
+    for fault in faults {
+        let line = fault_line(alloc, fault)?;
+        lines.push_str(line.as_str())?;
+    }
+    Ok(lines)
+}
+
 /// What to tell of a document that is not read.
 pub(crate) fn document_message(
     alloc: Global,
@@ -105,10 +134,10 @@ pub(crate) fn document_message(
         ),
         DocumentFault::Io => message_of(format!(in alloc; "cannot read {path}\n"), FILE),
         DocumentFault::Memory => message_of(String::from_str(alloc, "out of memory\n"), MEMORY),
-        DocumentFault::NotUtf8 { .. }
-        | DocumentFault::Lex(_)
-        | DocumentFault::Parse(_)
-        | DocumentFault::WrongShape { .. } => message_of(format!(in alloc; "{fault}\n"), REFUSED),
+        DocumentFault::Faults(found) => message_of(fault_lines(alloc, found), REFUSED),
+        DocumentFault::NotUtf8 { .. } | DocumentFault::Lex(_) | DocumentFault::Parse(_) => {
+            message_of(format!(in alloc; "{fault}\n"), REFUSED)
+        }
     }
 }
 
@@ -135,6 +164,9 @@ pub(crate) fn classify_message(
 {
     match fault {
         ClassifyFault::Document(fault) => document_message(alloc, fault, paths.document, limits),
+        ClassifyFault::NotYet => {
+            message_of(String::from_str(alloc, "not yet classified\n"), REFUSED)
+        }
         ClassifyFault::Memory => message_of(String::from_str(alloc, "out of memory\n"), MEMORY),
         ClassifyFault::Limit => {
             let most = limits.max_facts;
@@ -170,6 +202,9 @@ pub(crate) fn check_message(
 {
     match fault {
         CheckFault::Document(fault) => document_message(alloc, fault, paths.document, limits),
+        CheckFault::NotYet => {
+            message_of(String::from_str(alloc, "not yet classified\n"), REFUSED)
+        }
         CheckFault::Memory => message_of(String::from_str(alloc, "out of memory\n"), MEMORY),
         CheckFault::Io(number) => {
             let path = read_path(paths, *number);
