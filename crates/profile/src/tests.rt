@@ -1,12 +1,14 @@
 //! A document that is accepted.
 
+mod tables;
+
 use super::*;
 use axioms::Ontology;
 use fs_lexer::tokens;
 use fs_parser::forms;
 use std::hash::RandomState;
-use std::process::Abort;
 use std::random::RandomSource;
+use std::test::Fail;
 
 /// The ontology that the text states, if it is accepted.
 fn accepted<R: AllocGlobal + RandomSource>(rt: &R, text: &str) -> Option<Ontology> {
@@ -22,8 +24,9 @@ fn accepted<R: AllocGlobal + RandomSource>(rt: &R, text: &str) -> Option<Ontolog
 }
 
 #[test]
-fn one_subclass(rt: HostRuntime) {
-    let ontology = accepted(&rt, "Ontology(SubClassOf(<x:A> <x:B>))").unwrap();
+fn one_subclass(rt: HostRuntime) -> Result<(), Fail> {
+    let ontology = accepted(&rt, "Ontology(SubClassOf(<x:A> <x:B>))").ok_or("refused")?;
     assert_eq!(rt; ontology.classes().len(), 4);
     assert_eq!(rt; ontology.axioms().len(), 1);
+    Ok(())
 }
