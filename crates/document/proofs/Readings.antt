@@ -2,34 +2,35 @@
 use Rattle.std.proofs.Common.{◌≡◌, ℕ, ◌++◌, ◌≤◌, List, length, Some, None, Option, Result, Ok, Err, IfOk, IfErr, sym, ap, ◌∙◌, subst, arith}
 use Rattle.std.proofs.lemmas.List.{append-nil}
 use Rattle.std.specs.Io.KnownBytes.{Consumes, IsAtEnd}
+use Rattle.std.specs.Str.{IsUtf8}
 use Rattle.axioms.specs.Numbered.{Ontology}
-use Rattle.fs_lexer.proofs.Whole.{one_spelling}
 use Rattle.fs_lexer.specs.Spelling.{Token, Spells}
 use Rattle.fs_parser.specs.Document.{Document, IsDocument}
-use Rattle.fs_parser.specs.State.{IsRefusal}
+use Rattle.fs_parser.specs.Faults.{IsPlaced}
+use Rattle.fs_parser.specs.State as parser
 use Rattle.fs_parser.specs.declared.fault.ParseFault.{ParseFault}
 use Rattle.fs_parser.specs.declared.fault.ParseFault.TheVariants as parsing
 use Rattle.document.specs.declared.fault.DocumentFault.{DocumentFault}
 use Rattle.document.specs.declared.fault.DocumentFault.TheVariants as faults
 use Rattle.document.specs.Documents.{ReadsAs}
-use Rattle.document.specs.Faults.{ReadAsNone, Refuses, RefusesKnown, of_parsing}
+use Rattle.document.specs.Faults.{AreNoDocument, Refuses, RefusesKnown, of_parsing}
 use Rattle.document.proofs.Bounds.{axioms_take_bytes}
 
-module _ (text : List ℕ) (tokens : List Token) (spelled : Spells text tokens) where
+module _ (text : List ℕ) (tokens : List Token) (utf8 : IsUtf8 text) (spelled : Spells text tokens) where
   -- tokens that are no document
-  no_document : ((d : Document) → IsDocument d tokens → ⊥) → ReadAsNone text
-  no_document none o r =
-      let P : List Token → Type 0 = IsDocument r.document in
-      none r.document (subst P (one_spelling text r.text.tokens tokens r.text.spelled spelled) r.text.written)
+  no_document :
+      (f : ParseFault) → parser.IsRefusal f → (parser.IsRefusal f → (d : Document) → IsDocument d tokens → ⊥) → IsPlaced tokens f → AreNoDocument text f
+  no_document f refusal none placed =
+      record { refusal = refusal; utf8 = utf8; tokens = tokens; spelled = spelled; none = none refusal; placed = placed }
 
-  pub parse_fault : (f : ParseFault) → (IsRefusal f → (d : Document) → IsDocument d tokens → ⊥) → Refuses (of_parsing f) text
-  parse_fault (parsing.Unexpected at) none = no_document (none tt)
-  parse_fault (parsing.UnexpectedEnd at) none = no_document (none tt)
-  parse_fault (parsing.UnknownPrefix at) none = no_document (none tt)
-  parse_fault (parsing.PrefixTwice at) none = no_document (none tt)
-  parse_fault (parsing.StandardPrefixChanged at) none = no_document (none tt)
-  parse_fault (parsing.TooDeep at) none = no_document (none tt)
-  parse_fault parsing.Memory none = tt
+  pub parse_fault : (f : ParseFault) → (parser.IsRefusal f → (d : Document) → IsDocument d tokens → ⊥) → IsPlaced tokens f → Refuses (of_parsing f) text
+  parse_fault (parsing.Unexpected at) none placed = no_document (parsing.Unexpected at) tt none placed
+  parse_fault (parsing.UnexpectedEnd at) none placed = no_document (parsing.UnexpectedEnd at) tt none placed
+  parse_fault (parsing.UnknownPrefix at) none placed = no_document (parsing.UnknownPrefix at) tt none placed
+  parse_fault (parsing.PrefixTwice at) none placed = no_document (parsing.PrefixTwice at) tt none placed
+  parse_fault (parsing.StandardPrefixChanged at) none placed = no_document (parsing.StandardPrefixChanged at) tt none placed
+  parse_fault (parsing.TooDeep at) none placed = no_document (parsing.TooDeep at) tt none placed
+  parse_fault parsing.Memory none placed = tt
 
 -- a document has room for its axioms
 pub axioms_fit : (r : Result Ontology DocumentFault) (text bytes : List ℕ) → text ≡ bytes → IfOk r (ReadsAs text) → IfOk r (λ o. length o.axioms ≤ length bytes)

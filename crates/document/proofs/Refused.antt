@@ -3,16 +3,24 @@ use Rattle.std.proofs.Common.{◌≡◌, ℕ, inl, inr, List, [], ◌∷◌, len
 use Rattle.std.specs.List.{filter_map}
 use Rattle.axioms.specs.Numbered.{Ontology}
 use Rattle.axioms.specs.Numbering.{IsOntologyOf, Statement, class_name}
-use Rattle.fs_parser.specs.Document.{Document}
+use Rattle.fs_lexer.proofs.Whole.{one_spelling}
+use Rattle.fs_lexer.specs.Spelling.{Token}
+use Rattle.fs_parser.specs.Document.{Document, IsDocument}
+use Rattle.fs_parser.specs.declared.fault.ParseFault.{ParseFault}
 use Rattle.profile.specs.Reading.{HasFewNames, HaveTooManyNames, class_names}
 use Rattle.shapes.specs.Faults as shapes
 use Rattle.shapes.specs.View.{faults_of}
 use Rattle.shapes.specs.declared.fault.Fault.{Fault}
 use Rattle.statements.specs.Statements.{statements}
 use Rattle.document.specs.declared.fault.DocumentFault.TheVariants as faults
-use Rattle.document.specs.Faults.{HaveFaults, ReadAsNone, StateTooManyNames}
+use Rattle.document.specs.Faults.{AreNoDocument, HaveFaults, ReadAsNone, StateTooManyNames}
 use Rattle.document.specs.Theorems.{RefusedBytesReadAsNone, RefusedSourcesReadAsNone}
 use Rattle.document.proofs.OneReading.{one_document}
+
+no_document : (bytes : List ℕ) (fault : ParseFault) → AreNoDocument bytes fault → ReadAsNone bytes
+no_document bytes fault h o r =
+    let P : List Token → Type 0 = IsDocument r.document in
+    h.none r.document (subst P (one_spelling bytes r.text.tokens h.tokens r.text.spelled h.spelled) r.text.written)
 
 no_faults : (found : List Fault) → [] ≡ faults_of found → found ≡ []
 no_faults [] e = refl
@@ -40,8 +48,8 @@ too_many bytes h o r =
 
 pub bytes_read_as_none : RefusedBytesReadAsNone
 bytes_read_as_none bytes (faults.NotUtf8 at) h not = λ o r. h.0 r.text.utf8
-bytes_read_as_none bytes (faults.Lex fault) h not = h
-bytes_read_as_none bytes (faults.Parse fault) h not = h
+bytes_read_as_none bytes (faults.Lex fault) h not = λ o r. h.none r.text.tokens r.text.spelled
+bytes_read_as_none bytes (faults.Parse fault) h not = no_document bytes fault h
 bytes_read_as_none bytes (faults.Faults found) h not = faulty bytes found.items h
 bytes_read_as_none bytes faults.TooManyNames h not = too_many bytes h
 bytes_read_as_none bytes faults.Memory h not = absurd (not refl)

@@ -2,9 +2,13 @@
 use Rattle.std.specs.Prelude.{◌≡◌, List, [], ℕ, ◌<◌, ◌≤◌, length, Option, Some, None}
 use Rattle.std.specs.Str.{IsUtf8, IsValidUpTo}
 use Rattle.axioms.specs.Numbered.{Ontology}
+use Rattle.fs_lexer.specs.Faults as lexer
+use Rattle.fs_lexer.specs.Spelling.{Token, Spells}
 use Rattle.fs_lexer.specs.declared.token.LexFault.{LexFault}
 use Rattle.fs_lexer.specs.declared.token.LexFault.TheVariants as lexing
-use Rattle.fs_parser.specs.Document.{Document}
+use Rattle.fs_parser.specs.Document.{Document, IsDocument}
+use Rattle.fs_parser.specs.Faults as parser
+use Rattle.fs_parser.specs.State as parser_state
 use Rattle.fs_parser.specs.declared.fault.ParseFault.{ParseFault}
 use Rattle.fs_parser.specs.declared.fault.ParseFault.TheVariants as parsing
 use Rattle.profile.specs.Reading.{HaveTooManyNames}
@@ -36,6 +40,22 @@ of_refusal refusing.Memory = Memory
 abbrev pub ReadAsNone : List ℕ → Type 0
 ReadAsNone bytes = (o : Ontology) → ReadsAs bytes o → ⊥
 
+-- the bytes are a text that spells no tokens, and what the fault says of its place holds
+pub record SpellNoTokens (bytes : List ℕ) (fault : LexFault) : Type 0 where
+  pub refusal : lexer.IsRefusal fault
+  pub utf8 : IsUtf8 bytes
+  pub none : (tokens : List Token) → Spells bytes tokens → ⊥
+  pub placed : lexer.IsPlaced bytes fault
+
+-- the bytes are a text whose tokens are no document, and what the fault says of its place holds
+pub record AreNoDocument (bytes : List ℕ) (fault : ParseFault) : Type 0 where
+  pub refusal : parser_state.IsRefusal fault
+  pub utf8 : IsUtf8 bytes
+  pub tokens : List Token
+  pub spelled : Spells bytes tokens
+  pub none : (document : Document) → IsDocument document tokens → ⊥
+  pub placed : parser.IsPlaced tokens fault
+
 -- the bytes are the text of a document, and these are all its faults, in the order of the text
 pub record HaveFaults (bytes : List ℕ) (found : List Fault) : Type 0 where
   pub document : Document
@@ -53,8 +73,8 @@ pub record StateTooManyNames (bytes : List ℕ) : Type 0 where
 -- what the fault says of the bytes
 abbrev pub Refuses : DocumentFault → List ℕ → Type 0
 Refuses (NotUtf8 at) bytes = ¬ IsUtf8 bytes × IsValidUpTo bytes at
-Refuses (Lex fault) bytes = ReadAsNone bytes
-Refuses (Parse fault) bytes = ReadAsNone bytes
+Refuses (Lex fault) bytes = SpellNoTokens bytes fault
+Refuses (Parse fault) bytes = AreNoDocument bytes fault
 Refuses (Faults found) bytes = HaveFaults bytes found.items
 Refuses TooManyNames bytes = StateTooManyNames bytes
 Refuses Memory bytes = Unit {0}

@@ -12,5 +12,5 @@ returns-in-Err-forms-clause-refused c =
     let text = c.args.text.now in
     let spelled : Spells text (tokens_of c.deref.result.now) =
     subst (λ (ts : List Token). Spells text (tokens_of ts)) (sym c.deref.ensures.value) c.in-Ok.ensures.found in
-    let refuses = parse_fault text (tokens_of c.deref.result.now) spelled c.in-Err-forms.fault c.in-Err-forms.ensures.refused in
+    let refuses = parse_fault text (tokens_of c.deref.result.now) c.utf8.text spelled c.in-Err-forms.fault c.in-Err-forms.ensures.refused c.in-Err-forms.ensures.placed in
     subst (λ (e : DocumentFault). Refuses e text) (sym c.from-in-Err-forms.ensures) refuses
