@@ -1,12 +1,12 @@
 -- An ontology and the statements that it grew by.
-use Rattle.std.proofs.Common.{◌≡◌, ℕ, zero, suc, ◌+◌, ◌<◌, ◌≤◌, ◌⊎◌, inl, inr, Err, Result, List, [], ◌∷◌, ◌++◌, length, take, drop, get_or, refl, sym, ap, ◌∙◌, subst, arith, append_assoc}
+use Rattle.std.proofs.Common.{◌≡◌, ℕ, zero, suc, ◌+◌, ◌<◌, ◌≤◌, inl, inr, Err, Ok, List, [], ◌∷◌, ◌++◌, length, take, drop, get_or, refl, sym, ap, ◌∙◌, subst, arith, append_assoc}
 use Rattle.std.specs.List.{filter_map, flat_map}
 use Rattle.std.proofs.lemmas.Grind.{flat_map-append}
 use Rattle.std.proofs.lemmas.List.{append-nil, take_all}
 use Rattle.std.proofs.lemmas.List.Elements.{filter_map-append}
 use Rattle.axioms.specs.Axiom as tree
 use Rattle.axioms.specs.Expression.{Iri, ClassExpression, Named, owl_thing, owl_nothing}
-use Rattle.axioms.specs.Growth.{empty_ontology, most_names}
+use Rattle.axioms.specs.Growth.{empty_ontology}
 use Rattle.axioms.specs.Numbered.{Ontology}
 use Rattle.axioms.specs.Numbering.{Statement, IsOntologyOf, class_name, logical_axiom, statement_expressions, statement_properties, statement_individuals}
 use Rattle.axioms.specs.WellFormed.{IsOntology}
@@ -68,16 +68,19 @@ module _ (ss us : List Statement) where
 
 -- ---- from nothing
 
-pub is_ontology_of : (ss : List Statement) (o : Ontology) → AddsStatements ss empty_ontology o → IsOntologyOf ss o
+is_ontology_of : (ss : List Statement) (o : Ontology) → AddsStatements ss empty_ontology o → IsOntologyOf ss o
 is_ontology_of ss o adds =
     let standard : List ClassExpression = Named owl_thing ∷ Named owl_nothing ∷ [] in
     record {
-      expressions = adds.trees_grow.places;
-      classes = adds.classes_grow.places ∙ names_first (standard ++ flat_map statement_expressions ss) ∙ ap (filter_map class_name) (sym adds.trees_grow.places);
-      properties = adds.properties_grow.places;
-      individuals = adds.individuals_grow.places;
-      axioms = adds.axioms_grow;
+      expressions = adds.grows.trees_grow.places;
+      classes = adds.grows.classes_grow.places ∙ names_first (standard ++ flat_map statement_expressions ss) ∙ ap (filter_map class_name) (sym adds.grows.trees_grow.places);
+      properties = adds.grows.properties_grow.places;
+      individuals = adds.grows.individuals_grow.places;
+      axioms = adds.grows.axioms_grow;
     }
+
+few_at_first : HasFewNames empty_ontology
+few_at_first = record { classes = omega arith; properties = omega arith; individuals = omega arith }
 
 too_many : (ss : List Statement) → StatementsOverflow ss empty_ontology → HaveTooManyNames ss
 too_many ss (inl h) = inl (subst AreTooMany (names_first (Named owl_thing ∷ Named owl_nothing ∷ flat_map statement_expressions ss)) h)
@@ -123,28 +126,8 @@ module _ (ts : List code.Tree) (n : ℕ) (p : Ontology) (so_far : AddsStatements
       )
   part_refused t q within at Memory h = tt
 
-  pub all_read : length ts ≤ n → IsOntologyOf (statements (trees_of ts)) p
+  pub all_read : length ts ≤ n → OntologyRead (Ok p) (statements (trees_of ts))
   all_read all =
-      is_ontology_of (statements (trees_of ts)) p
-      (subst (λ (us : List code.Tree). AddsStatements (statements (trees_of us)) empty_ontology p) (take_all n ts all) so_far)
-
--- ---- many names
-
-few_or_many : (m n : ℕ) → (m ≤ n) ⊎ (n < m)
-few_or_many zero n = inl (omega arith)
-few_or_many (suc m) zero = inr (omega arith)
-few_or_many (suc m) (suc n) = elim (few_or_many m n) [ inl h ↦ inl (omega (arith, h)) | inr h ↦ inr (omega (arith, h)) ]
-
--- an ontology that has not few names has too many of a kind
-pub not_few : (ss : List Statement) (o : Ontology) → IsOntologyOf ss o → (HasFewNames o → ⊥) → HaveTooManyNames ss
-not_few ss o is many =
-    elim (few_or_many (length o.names.classes) most_names) [
-      | inr h ↦ inl (subst AreTooMany (is.classes ∙ ap (filter_map class_name) is.expressions) h)
-      | inl classes ↦ elim (few_or_many (length o.names.properties) most_names) [
-        | inr h ↦ inr (inl (subst AreTooMany is.properties h))
-        | inl properties' ↦ elim (few_or_many (length o.names.individuals) most_names) [
-          | inr h ↦ inr (inr (subst AreTooMany is.individuals h))
-          | inl individuals' ↦ absurd (many (record { classes = classes; properties = properties'; individuals = individuals' }))
-        ]
-      ]
-    ]
+      let adds : AddsStatements (statements (trees_of ts)) empty_ontology p =
+      subst (λ (us : List code.Tree). AddsStatements (statements (trees_of us)) empty_ontology p) (take_all n ts all) so_far in
+      (is_ontology_of (statements (trees_of ts)) p adds, adds.few_names few_at_first)

@@ -1,9 +1,9 @@
 -- What a document's ontology holds, where it has no faults.
-use Rattle.std.proofs.Common.{◌≡◌, ℕ, zero, suc, ◌<◌, ◌-◌, inl, inr, Bool, true, false, List, [], ◌∷◌, ◌++◌, length, get_or, refl, sym, ap, ◌∙◌, subst, arith, if◌then◌else◌, nat_lt}
+use Rattle.std.proofs.Common.{◌≡◌, ℕ, zero, suc, ◌<◌, ◌-◌, inl, inr, Bool, true, false, List, [], ◌∷◌, ◌++◌, length, get_or, refl, sym, subst, arith, if◌then◌else◌, nat_lt}
 use Rattle.fs_parser.specs.Tree.{Tree, Trees, Empty, Then, place_of}
 use Rattle.fs_parser.specs.View.{tree_of, trees_of}
 use Rattle.fs_parser.specs.declared.tree.Tree as code
-use Rattle.shapes.specs.Faults.{Fault, WrongShape, axiom_faults, document_faults, each_faults, faults, is_annotation, is_name, ontology_faults}
+use Rattle.shapes.specs.Faults.{WrongShape, axiom_faults, document_faults, each_faults, faults, is_annotation, is_name, ontology_faults}
 use Rattle.shapes.specs.declared.expected.Expected.TheVariants.{Annotation, Axiom}
 use Rattle.profile.specs.Parts.{IsPartOfOntology}
 

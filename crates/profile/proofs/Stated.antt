@@ -1,5 +1,5 @@
 -- What forms state, by their keywords.
-use Rattle.std.proofs.Common.{◌≡◌, ℕ, ◌-◌, ◌≤◌, inl, inr, Bool, true, false, Bor, Vec, Global, List, [], ◌∷◌, length, take, drop, get_or, codes, not, refl, sym, ap, ◌∙◌, subst, arith, rules, true≢false, if◌then◌else◌, Result}
+use Rattle.std.proofs.Common.{◌≡◌, ℕ, ◌-◌, ◌≤◌, inl, inr, Bool, true, false, Bor, Vec, Global, List, [], ◌∷◌, length, take, drop, get_or, codes, refl, sym, ap, ◌∙◌, subst, arith, true≢false, if◌then◌else◌, Result}
 use Rattle.std.specs.Str.{bytes_eq}
 use Rattle.std.proofs.lemmas.List.{length-drop, take_all}
 use Rattle.std.proofs.lemmas.Slice.Eq.{bytes_eq-Decides}
@@ -18,7 +18,7 @@ use Rattle.shapes.specs.declared.expected.Expected.TheVariants.{Axiom, Entity}
 use Rattle.statements.specs.Statements.{Meanings, axiom_meanings, entity_meanings, entity_statement, operand, said_by, statement_of}
 use Rattle.statements.proofs.Steps.{adds_nothing}
 use Rattle.profile.specs.Additions.{AddsStatements, StatementsRead}
-use Rattle.profile.specs.Operands.{AreOperandsOf, IsOne}
+use Rattle.profile.specs.Operands.{AreOperandsOf}
 use Rattle.profile.specs.Parts.{IsPartOfOntology, said_of}
 use Rattle.profile.proofs.Fits.{axiom_operands, entity_operands}
 

@@ -1,25 +1,19 @@
 -- The ontology that a document's trees state, where they have no faults (OWL 2 Profiles, section 2.2; OWL 2 Structural
 -- Specification, sections 3 and 5 to 10), and its names.
-use Rattle.std.specs.Prelude.{◌≡◌, ◌≤◌, ◌⊎◌, List, [], ◌∷◌, length}
+use Rattle.std.specs.Prelude.{◌≡◌, ◌⊎◌, List, [], ◌∷◌}
 use Rattle.std.specs.Str.{bytes_eq}
 use Rattle.std.specs.List.{filter_map, flat_map}
 use Rattle.axioms.specs.Expression.{Iri, Named, owl_thing, owl_nothing}
-use Rattle.axioms.specs.Growth.{most_names}
 use Rattle.axioms.specs.Numbered.{Ontology}
 use Rattle.axioms.specs.Numbering.{Statement, IsOntologyOf, first_places, same_expression, class_name, statement_expressions, statement_properties, statement_individuals}
 use Rattle.fs_parser.specs.Tree.{Trees}
 use Rattle.shapes.specs.Faults.{document_faults}
 use Rattle.shapes.specs.View.{faults_of}
+pub use Rattle.statements.specs.Additions.{HasFewNames}
 use Rattle.statements.specs.Additions.{AreTooMany}
 use Rattle.statements.specs.Statements.{statements}
 use Rattle.profile.specs.declared.acceptance.Refusal.{Refusal}
 use Rattle.profile.specs.declared.acceptance.Refusal.TheVariants.{Faults, TooManyNames, Memory}
-
--- of each kind as many names as there may be
-pub record HasFewNames (o : Ontology) : Type 0 where
-  pub classes : length o.names.classes ≤ most_names
-  pub properties : length o.names.properties ≤ most_names
-  pub individuals : length o.names.individuals ≤ most_names
 
 -- the names of each kind in statements, each at its first place; owl:Thing and owl:Nothing come first
 abbrev pub class_names : List Statement → List Iri

@@ -1,25 +1,15 @@
 //! The ontology of trees without faults.
 ghost use Rattle.fs_parser.specs.View.{trees_of};
 ghost use Rattle.profile.specs.Additions.{OntologyRead};
-ghost use Rattle.profile.specs.Reading.{HasFewNames};
 ghost use Rattle.shapes.specs.Faults.{document_faults};
 ghost use Rattle.statements.specs.Statements.{statements};
-ghost use Rattle.std.specs.Prelude.{◌≡◌, ◌↔◌, [], true};
+ghost use Rattle.std.specs.Prelude.{◌≡◌, []};
 
 use crate::parts::part;
-use axioms::{BuildFault, Builder, MOST_NAMES, Ontology};
+use axioms::{BuildFault, Builder, Ontology};
 use fs_parser::Tree;
 use std::alloc::Global;
 use std::hash::RandomState;
-
-/// Whether no kind has too many names.
-fn has_few_names(ontology: &Ontology) -> bool
-    ensures { result ≡ true ↔ HasFewNames ontology.now }
-{
-    ontology.classes().len() <= MOST_NAMES
-        && ontology.properties().len() <= MOST_NAMES
-        && ontology.individuals().len() <= MOST_NAMES
-}
 
 /// The ontology that the trees state.
 pub(crate) fn ontology_of(
@@ -41,9 +31,5 @@ pub(crate) fn ontology_of(
             Err(fault) => return Err(fault),
         }
     }
-    let ontology = builder.finish();
-    if !has_few_names(&ontology) {
-        return Err(BuildFault::TooManyNames);
-    }
-    Ok(ontology)
+    Ok(builder.finish())
 }

@@ -1,12 +1,12 @@
 -- Kinds with too many names.
-use Rattle.std.proofs.Common.{◌≡◌, inl, inr, List, [], ◌∷◌, ◌++◌, length, sym, ap, ◌∙◌, subst, arith, length-append, append_assoc}
+use Rattle.std.proofs.Common.{◌≡◌, ℕ, zero, suc, ◌<◌, ◌≤◌, ◌⊎◌, inl, inr, List, [], ◌∷◌, ◌++◌, length, sym, ap, ◌∙◌, subst, arith, length-append, append_assoc}
 use Rattle.std.specs.Str.{bytes_eq}
 use Rattle.std.specs.List.{filter_map}
 use Rattle.std.proofs.lemmas.List.Elements.{filter_map-append}
 use Rattle.std.proofs.lemmas.Slice.Eq.{bytes_eq-Decides}
 use Rattle.axioms.specs.Axiom as tree
 use Rattle.axioms.specs.Expression.{Iri, ClassExpression}
-use Rattle.axioms.specs.Growth.{IsFull}
+use Rattle.axioms.specs.Growth.{IsFull, Numbers, most_names}
 use Rattle.axioms.specs.Numbered.{Ontology}
 use Rattle.axioms.specs.Numbering.{first_places, first_places_from, class_name}
 use Rattle.axioms.specs.WellFormed.{AreDistinct}
@@ -19,6 +19,20 @@ pub full_overflows : (names : List Iri) (iri : Iri) → AreDistinct names → Is
 full_overflows names iri distinct full =
     let places : names ++ iri ∷ [] ≡ first_places bytes_eq (names ++ iri ∷ []) = (appends_new bytes_eq bytes_eq-Decides names iri distinct full.0).places in
     omega (arith, full.1, length-append names (iri ∷ []), ap length places)
+
+few_or_many : (m n : ℕ) → (m ≤ n) ⊎ (n < m)
+few_or_many zero n = inl (omega arith)
+few_or_many (suc m) zero = inr (omega arith)
+few_or_many (suc m) (suc n) = elim (few_or_many m n) [ inl h ↦ inl (omega (arith, h)) | inr h ↦ inr (omega (arith, h)) ]
+
+-- a kind with room for the name has few names with it
+pub few_with_name : (names : List Iri) (iri : Iri) (new : List Iri) (n : ℕ) → Numbers names iri new n → (IsFull names iri → ⊥) → length names ≤ most_names → length new ≤ most_names
+few_with_name names iri new n (inl (at, same)) room few = subst (λ (xs : List Iri). length xs ≤ most_names) (sym same) few
+few_with_name names iri new n (inr (apart, last, longer)) room few =
+    elim (few_or_many (suc (length names)) most_names) [
+      | inl h ↦ omega (arith, h, ap length longer, length-append names (iri ∷ []))
+      | inr h ↦ absurd (room (apart, omega (arith, h)))
+    ]
 
 -- too many names are too many with more
 more_names : (names more : List Iri) → AreTooMany (first_places bytes_eq names) → AreTooMany (first_places bytes_eq (names ++ more))
@@ -47,6 +61,6 @@ later_names old mid xs ys grow many =
 pub overflow_later : (es fs : List ClassExpression) (rs ss as' bs : List Iri) (xs : List tree.Axiom) (o p : Ontology) → Adds es rs as' xs o p → Overflows fs ss bs p → Overflows (es ++ fs) (rs ++ ss) (as' ++ bs) o
 overflow_later es fs rs ss as' bs xs o p adds (inl h) =
     let P : List Iri → Type 0 = λ ys. AreTooMany (first_places bytes_eq (o.names.classes ++ ys)) in
-    inl (subst P (sym (filter_map-append class_name es fs)) (later_names o.names.classes p.names.classes (filter_map class_name es) (filter_map class_name fs) adds.classes_grow h))
-overflow_later es fs rs ss as' bs xs o p adds (inr (inl h)) = inr (inl (later_names o.names.properties p.names.properties rs ss adds.properties_grow h))
-overflow_later es fs rs ss as' bs xs o p adds (inr (inr h)) = inr (inr (later_names o.names.individuals p.names.individuals as' bs adds.individuals_grow h))
+    inl (subst P (sym (filter_map-append class_name es fs)) (later_names o.names.classes p.names.classes (filter_map class_name es) (filter_map class_name fs) adds.grows.classes_grow h))
+overflow_later es fs rs ss as' bs xs o p adds (inr (inl h)) = inr (inl (later_names o.names.properties p.names.properties rs ss adds.grows.properties_grow h))
+overflow_later es fs rs ss as' bs xs o p adds (inr (inr h)) = inr (inr (later_names o.names.individuals p.names.individuals as' bs adds.grows.individuals_grow h))

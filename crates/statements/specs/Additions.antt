@@ -1,5 +1,5 @@
 -- How an ontology grows by expressions, names and axioms, read in order: what is new comes last, each at its first place.
-use Rattle.std.specs.Prelude.{◌≡◌, ℕ, ◌<◌, ◌⊎◌, List, [], ◌∷◌, ◌++◌, Bool, length, map, slice_get, Some, Result, Ok, Err, Vec}
+use Rattle.std.specs.Prelude.{◌≡◌, ℕ, ◌<◌, ◌≤◌, ◌⊎◌, List, [], ◌∷◌, ◌++◌, Bool, length, map, slice_get, Some, Result, Ok, Err, Vec}
 use Rattle.std.specs.declared.alloc.Global.{Global}
 use Rattle.std.specs.Str.{bytes_eq}
 use Rattle.std.specs.List.{filter_map, flat_map}
@@ -23,12 +23,23 @@ pub record Appends {A : Type 0} (same : A → A → Bool) (old added new : List 
   pub keeps : new ≡ old ++ rest
 
 -- new is old with these expressions, properties, individuals and axioms
-pub record Adds (expressions : List ClassExpression) (properties individuals : List Iri) (axioms : List Axiom) (old new : Ontology) : Type 0 where
+pub record Grows (expressions : List ClassExpression) (properties individuals : List Iri) (axioms : List Axiom) (old new : Ontology) : Type 0 where
   pub trees_grow : Appends same_expression (trees old) expressions (trees new)
   pub classes_grow : Appends bytes_eq old.names.classes (filter_map class_name expressions) new.names.classes
   pub properties_grow : Appends bytes_eq old.names.properties properties new.names.properties
   pub individuals_grow : Appends bytes_eq old.names.individuals individuals new.names.individuals
   pub axioms_grow : axiom_trees new ≡ axiom_trees old ++ axioms
+
+-- of each kind as many names as there may be
+pub record HasFewNames (o : Ontology) : Type 0 where
+  pub classes : length o.names.classes ≤ most_names
+  pub properties : length o.names.properties ≤ most_names
+  pub individuals : length o.names.individuals ≤ most_names
+
+-- new is old with these, and no kind has got too many names
+pub record Adds (expressions : List ClassExpression) (properties individuals : List Iri) (axioms : List Axiom) (old new : Ontology) : Type 0 where
+  pub grows : Grows expressions properties individuals axioms old new
+  pub few_names : HasFewNames old → HasFewNames new
 
 -- each of these has the number beside it
 abbrev pub AreNumbers : {A : Type 0} → List A → List ℕ → List A → Type 0

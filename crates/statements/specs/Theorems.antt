@@ -4,7 +4,7 @@ use Rattle.std.specs.List.{filter_map}
 use Rattle.axioms.specs.Expression.{ClassExpression}
 use Rattle.axioms.specs.Numbered.{Ontology, trees, axiom_trees}
 use Rattle.axioms.specs.Numbering.{Statement, IsOntologyOf, first_places, same_expression, logical_axiom, statement_expressions, statement_properties, statement_individuals}
-use Rattle.statements.specs.Additions.{Adds}
+use Rattle.statements.specs.Additions.{Grows}
 
 -- first places of first places and more are those of all
 abbrev pub FirstPlacesJoin : Type 0
@@ -14,7 +14,7 @@ FirstPlacesJoin = (xs ys : List ClassExpression) → first_places same_expressio
 abbrev pub OneMoreStatement : Type 0
 OneMoreStatement =
     (statements : List Statement) (statement : Statement) (o p : Ontology) → IsOntologyOf statements o →
-    Adds (statement_expressions statement) (statement_properties statement) (statement_individuals statement) (filter_map logical_axiom (statement ∷ [])) o p →
+    Grows (statement_expressions statement) (statement_properties statement) (statement_individuals statement) (filter_map logical_axiom (statement ∷ [])) o p →
     IsOntologyOf (statements ++ statement ∷ []) p
 
 -- the first list is the beginning of the second
