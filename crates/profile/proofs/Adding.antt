@@ -32,39 +32,38 @@ same_overflow : (es es' : List ClassExpression) (rs rs' as' bs : List Iri) (o : 
 same_overflow es es' rs rs' as' bs o e r a h =
     subst (λ (zs : List ClassExpression). Overflows zs rs' bs o) e (subst (λ (zs : List Iri). Overflows es zs bs o) r (subst (λ (zs : List Iri). Overflows es rs zs o) a h))
 
+abbrev expressions_of : List Statement → List ClassExpression
+expressions_of ss = flat_map statement_expressions ss
+
+abbrev properties_of : List Statement → List Iri
+properties_of ss = flat_map statement_properties ss
+
+abbrev individuals_of : List Statement → List Iri
+individuals_of ss = flat_map statement_individuals ss
+
 module _ (ss us : List Statement) where
-  expressions : flat_map statement_expressions ss ++ flat_map statement_expressions us ≡ flat_map statement_expressions (ss ++ us)
+  expressions : expressions_of ss ++ expressions_of us ≡ expressions_of (ss ++ us)
   expressions = sym (flat_map-append statement_expressions ss us)
 
-  properties : flat_map statement_properties ss ++ flat_map statement_properties us ≡ flat_map statement_properties (ss ++ us)
+  properties : properties_of ss ++ properties_of us ≡ properties_of (ss ++ us)
   properties = sym (flat_map-append statement_properties ss us)
 
-  individuals : flat_map statement_individuals ss ++ flat_map statement_individuals us ≡ flat_map statement_individuals (ss ++ us)
+  individuals : individuals_of ss ++ individuals_of us ≡ individuals_of (ss ++ us)
   individuals = sym (flat_map-append statement_individuals ss us)
 
   adds_more : (o p q : Ontology) → AddsStatements ss o p → AddsStatements us p q → AddsStatements (ss ++ us) o q
   adds_more o p q first second =
-      same_adds _ _ _ _ _ _ _ _ o q expressions properties individuals (sym (filter_map-append logical_axiom ss us))
-      (
-      adds_join (flat_map statement_expressions ss) (flat_map statement_expressions us) (flat_map statement_properties ss) (flat_map statement_properties us)
-      (flat_map statement_individuals ss) (flat_map statement_individuals us) (filter_map logical_axiom ss) (filter_map logical_axiom us) o p q first second
-      )
+      same_adds _ _ _ _ _ _ _ _ o q expressions properties individuals (sym (filter_map-append logical_axiom ss us)) (adds_join _ _ _ _ _ _ _ _ o p q first second)
 
   overflows_with_more : (o : Ontology) → StatementsOverflow ss o → StatementsOverflow (ss ++ us) o
   overflows_with_more o h =
       same_overflow _ _ _ _ _ _ o expressions properties individuals
-      (
-      overflow_more (flat_map statement_expressions ss) (flat_map statement_expressions us) (flat_map statement_properties ss) (flat_map statement_properties us)
-      (flat_map statement_individuals ss) (flat_map statement_individuals us) o h
-      )
+      (overflow_more (expressions_of ss) (expressions_of us) (properties_of ss) (properties_of us) (individuals_of ss) (individuals_of us) o h)
 
   overflows_later : (o p : Ontology) → AddsStatements ss o p → StatementsOverflow us p → StatementsOverflow (ss ++ us) o
   overflows_later o p first h =
       same_overflow _ _ _ _ _ _ o expressions properties individuals
-      (
-      overflow_later (flat_map statement_expressions ss) (flat_map statement_expressions us) (flat_map statement_properties ss) (flat_map statement_properties us)
-      (flat_map statement_individuals ss) (flat_map statement_individuals us) (filter_map logical_axiom ss) o p first h
-      )
+      (overflow_later (expressions_of ss) (expressions_of us) (properties_of ss) (properties_of us) (individuals_of ss) (individuals_of us) (filter_map logical_axiom ss) o p first h)
 
 -- ---- from nothing
 
