@@ -2,6 +2,7 @@
 
 mod failing;
 mod hierarchies;
+mod refusals;
 
 use crate::perform;
 use device::BufferSink;
@@ -286,8 +287,8 @@ fn limit_of_bytes(rt: HostRuntime) -> Result<(), Fail> {
 }
 
 #[test]
-fn refused_documents(rt: HostRuntime) -> Result<(), Fail> {
-    let refused: [(&[u8], &str); 7] = [
+fn documents_of_no_trees(rt: HostRuntime) -> Result<(), Fail> {
+    let refused: [(&[u8], &str); 5] = [
         (b"", "P2 at byte 0\n"),
         (b"Ontology(", "P2 at byte 9\n"),
         (b"Ontology(\xff", "U1 at byte 9\n"),
@@ -296,8 +297,6 @@ fn refused_documents(rt: HostRuntime) -> Result<(), Fail> {
             "X4 at byte 20\n",
         ),
         (b"Ontology(SubClassOf(q:A <x:B>))", "P3 at byte 20\n"),
-        (b"Ontology(HasKey(<x:A> (<x:p>) ()))", "F3 at byte 9\n"),
-        (b"Ontology(SubClassOf(<x:A> owl:real))", "F3 at byte 26\n"),
     ];
     for (document, told) in refused {
         assert!(rt; refuses(&rt, &CLASSIFY, document, 3, told)?, "{told}");
