@@ -1,13 +1,11 @@
 -- A keyword that has a shape where it stands is known and not refused.
-use Rattle.std.proofs.Common.{◌≡◌, ℕ, Bool, true, false, ◌||◌, List, [], ◌∷◌, codes, Option, Some, None, refl, sym, ap, ◌∙◌, if◌then◌else◌}
+use Rattle.std.proofs.Common.{◌≡◌, ℕ, Bool, true, false, ◌||◌, List, codes, Some, refl, sym, ap, ◌∙◌}
 use Rattle.std.specs.Option.{is_some}
 use Rattle.std.specs.Str.{bytes_eq}
 use Rattle.std.proofs.lemmas.Bool.{false≢true}
 use Rattle.std.proofs.lemmas.Option.{none-some}
-use Rattle.fs_parser.specs.Tree.{Trees, Form}
 use Rattle.shapes.specs.declared.expected.Expected.{Expected}
 use Rattle.shapes.specs.declared.expected.Expected.TheVariants.{Axiom, Annotation, Entity, ClassExpression, Class, Property, PropertyOrChain, Individual, AnyName, NameOrLiteral}
-use Rattle.shapes.specs.Faults.{faults, misplaced}
 use Rattle.shapes.specs.Keywords.{has_shape, is_known, is_refused}
 use Rattle.shapes.specs.Shapes.{Operands, operands_of}
 use Rattle.shapes.proofs.Apart.{apart}

@@ -1,4 +1,4 @@
-use Rattle.std.proofs.Common.{◌∙◌, ◌++◌, [], ◌∷◌, List, Vec, Global, arith, drop, false, sym, ap}
+use Rattle.std.proofs.Common.{◌∙◌, ◌++◌, [], List, Vec, Global, arith, drop, false, sym, ap}
 use Rattle.fs_parser.specs.Tree.{Form}
 use Rattle.fs_parser.specs.View.{tree_of, trees_of}
 use Rattle.shapes.proofs.Lists.{earlier, fits_behind, fitting_form, form_found, not_repeated, on_ok, operand_step, repeated, unfitting_form}
