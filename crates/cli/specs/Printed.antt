@@ -17,7 +17,11 @@ use Rattle.command_line.specs.declared.tasks.LineFault.{LineFault}
 use Rattle.command_line.specs.declared.tasks.LineFault.TheVariants as line
 use Rattle.command_line.specs.declared.tasks.Paths.{Paths}
 use Rattle.document.specs.declared.fault.DocumentFault.{DocumentFault}
-use Rattle.document.specs.declared.fault.DocumentFault.TheVariants.{TooLarge, Io, Faults, TooManyNames, Memory}
+use Rattle.document.specs.declared.fault.DocumentFault.TheVariants.{NotUtf8, TooLarge, Io, Lex, Parse, Faults, TooManyNames, Memory}
+use Rattle.fs_lexer.specs.declared.token.LexFault.{LexFault}
+use Rattle.fs_lexer.specs.declared.token.LexFault.TheVariants as lexing
+use Rattle.fs_parser.specs.declared.fault.ParseFault.{ParseFault}
+use Rattle.fs_parser.specs.declared.fault.ParseFault.TheVariants as parsing
 use Rattle.shapes.specs.Faults.{Fault, RefusedConstruct, UnknownKeyword, WrongShape, RepeatedOperand, ReservedName, AnonymousIndividual}
 use Rattle.shapes.specs.View.{faults_of}
 
@@ -134,7 +138,24 @@ document_status Io = file
 document_status Memory = memory
 document_status fault = refused
 
--- the line of what is wrong in a document: its code, its place, and the keyword where that is wrong
+-- the line of what stops the reading of tokens, and of trees: its code and its place
+abbrev pub lexing_line : LexFault → List ℕ
+lexing_line (lexing.BadByte at) = codes "X1 at byte " ++ (decimal at ++ codes "\n")
+lexing_line (lexing.OpenString at) = codes "X2 at byte " ++ (decimal at ++ codes "\n")
+lexing_line (lexing.OpenIri at) = codes "X3 at byte " ++ (decimal at ++ codes "\n")
+lexing_line (lexing.WordsTouch at) = codes "X4 at byte " ++ (decimal at ++ codes "\n")
+lexing_line lexing.Memory = out_of_memory
+
+abbrev pub parsing_line : ParseFault → List ℕ
+parsing_line (parsing.Unexpected at) = codes "P1 at byte " ++ (decimal at ++ codes "\n")
+parsing_line (parsing.UnexpectedEnd at) = codes "P2 at byte " ++ (decimal at ++ codes "\n")
+parsing_line (parsing.UnknownPrefix at) = codes "P3 at byte " ++ (decimal at ++ codes "\n")
+parsing_line (parsing.PrefixTwice at) = codes "P4 at byte " ++ (decimal at ++ codes "\n")
+parsing_line (parsing.StandardPrefixChanged at) = codes "P5 at byte " ++ (decimal at ++ codes "\n")
+parsing_line (parsing.TooDeep at) = codes "P6 at byte " ++ (decimal at ++ codes "\n")
+parsing_line parsing.Memory = out_of_memory
+
+-- the line of what is wrong in a document's trees: its code, its place, and the keyword where that is wrong
 abbrev pub fault_line : Fault → List ℕ
 fault_line (RefusedConstruct at keyword) = codes "F1 at byte " ++ (decimal at ++ (codes ": " ++ (keyword ++ codes "\n")))
 fault_line (UnknownKeyword at keyword) = codes "F2 at byte " ++ (decimal at ++ (codes ": " ++ (keyword ++ codes "\n")))
@@ -144,14 +165,16 @@ fault_line (ReservedName at) = codes "F5 at byte " ++ (decimal at ++ codes "\n")
 fault_line (AnonymousIndividual at) = codes "F6 at byte " ++ (decimal at ++ codes "\n")
 
 -- the text is told of the fault of the document at the path. Of what is wrong with its trees it is a line each, in their
--- order; of bytes that are no text, no tokens or no trees it is one line that is not said here
+-- order
 abbrev pub IsDocumentText : (path : List ℕ) → (most : ℕ) → DocumentFault → List ℕ → Type 0
 IsDocumentText path most TooLarge text = text ≡ codes "limit: more than " ++ (decimal most ++ codes " bytes\n")
 IsDocumentText path most TooManyNames text = text ≡ codes "limit: more than 1000000 names\n"
 IsDocumentText path most Io text = text ≡ cannot_read path
 IsDocumentText path most Memory text = text ≡ out_of_memory
 IsDocumentText path most (Faults found) text = text ≡ flat_map fault_line (faults_of found.items)
-IsDocumentText path most fault text = Unit {0}
+IsDocumentText path most (NotUtf8 at) text = text ≡ codes "U1 at byte " ++ (decimal at ++ codes "\n")
+IsDocumentText path most (Lex fault) text = text ≡ lexing_line fault
+IsDocumentText path most (Parse fault) text = text ≡ parsing_line fault
 
 -- the path of the sink of that number
 abbrev pub written_path : Paths → ℕ → List ℕ

@@ -1,5 +1,5 @@
 //! What the program prints, and its statuses.
-ghost use Rattle.cli.specs.Printed.{Output, IsPrinted, IsToldMessage, IsAnsweredMessage, IsDocumentText, IsClassifyText, IsCheckText, document_status, fault_line as line_of_fault, classify_status, check_status, name_at, reason_text as text_of_reason, summary_text, verdict_text, verdict_status, written_path as path_written, read_path as path_read, done, memory, out_of_memory, usage};
+ghost use Rattle.cli.specs.Printed.{Output, IsPrinted, IsToldMessage, IsAnsweredMessage, IsDocumentText, IsClassifyText, IsCheckText, document_status, fault_line as line_of_fault, lexing_line as line_of_lexing, parsing_line as line_of_parsing, classify_status, check_status, name_at, reason_text as text_of_reason, summary_text, verdict_text, verdict_status, written_path as path_written, read_path as path_read, done, memory, out_of_memory, usage};
 ghost use Rattle.shapes.specs.View.{fault_of, faults_of};
 ghost use Rattle.std.specs.Prelude.{◌≡◌, ℕ, IfOk, Ok, flat_map, map, string_bytes};
 
@@ -10,6 +10,8 @@ use classification::Summary;
 use command_line::Paths;
 use device::{Sink, write_all};
 use document::{DocumentFault, Fault, Limits};
+use fs_lexer::LexFault;
+use fs_parser::ParseFault;
 use std::alloc::{AllocError, Global};
 
 /// A text for standard output or standard error, and the status that goes with it.
@@ -86,7 +88,35 @@ fn message_of(text: Result<String, AllocError>, status: u8) -> Result<Message, A
     }
 }
 
-/// The line of a fault.
+/// The line of what stops the reading of tokens.
+fn lexing_line(alloc: Global, fault: &LexFault) -> Result<String, AllocError>
+    ensures { IfOk result (λ text. string_bytes text ≡ line_of_lexing fault.now) }
+{
+    match fault {
+        LexFault::BadByte { at } => format!(in alloc; "X1 at byte {at}\n"),
+        LexFault::OpenString { at } => format!(in alloc; "X2 at byte {at}\n"),
+        LexFault::OpenIri { at } => format!(in alloc; "X3 at byte {at}\n"),
+        LexFault::WordsTouch { at } => format!(in alloc; "X4 at byte {at}\n"),
+        LexFault::Memory => String::from_str(alloc, "out of memory\n"),
+    }
+}
+
+/// The line of what stops the reading of trees.
+fn parsing_line(alloc: Global, fault: &ParseFault) -> Result<String, AllocError>
+    ensures { IfOk result (λ text. string_bytes text ≡ line_of_parsing fault.now) }
+{
+    match fault {
+        ParseFault::Unexpected { at } => format!(in alloc; "P1 at byte {at}\n"),
+        ParseFault::UnexpectedEnd { at } => format!(in alloc; "P2 at byte {at}\n"),
+        ParseFault::UnknownPrefix { at } => format!(in alloc; "P3 at byte {at}\n"),
+        ParseFault::PrefixTwice { at } => format!(in alloc; "P4 at byte {at}\n"),
+        ParseFault::StandardPrefixChanged { at } => format!(in alloc; "P5 at byte {at}\n"),
+        ParseFault::TooDeep { at } => format!(in alloc; "P6 at byte {at}\n"),
+        ParseFault::Memory => String::from_str(alloc, "out of memory\n"),
+    }
+}
+
+/// The line of a fault of the profile.
 fn fault_line(alloc: Global, fault: &Fault) -> Result<String, AllocError>
     ensures { IfOk result (λ text. string_bytes text ≡ line_of_fault (fault_of fault.now)) }
 {
@@ -135,9 +165,11 @@ pub(crate) fn document_message(
         DocumentFault::Io => message_of(format!(in alloc; "cannot read {path}\n"), FILE),
         DocumentFault::Memory => message_of(String::from_str(alloc, "out of memory\n"), MEMORY),
         DocumentFault::Faults(found) => message_of(fault_lines(alloc, found), REFUSED),
-        DocumentFault::NotUtf8 { .. } | DocumentFault::Lex(_) | DocumentFault::Parse(_) => {
-            message_of(format!(in alloc; "{fault}\n"), REFUSED)
+        DocumentFault::NotUtf8 { at } => {
+            message_of(format!(in alloc; "U1 at byte {at}\n"), REFUSED)
         }
+        DocumentFault::Lex(fault) => message_of(lexing_line(alloc, fault), REFUSED),
+        DocumentFault::Parse(fault) => message_of(parsing_line(alloc, fault), REFUSED),
     }
 }
 
