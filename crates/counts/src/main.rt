@@ -9,6 +9,16 @@ use std::alloc::{AllocError, Global};
 use std::hash::RandomState;
 use std::process::ExitCode;
 
+const DONE: u8 = 0;
+
+const REFUSED: u8 = 3;
+
+const MEMORY: u8 = 4;
+
+const LIMIT: u8 = 5;
+
+const FILE: u8 = 6;
+
 /// How many of each the ontology has, `owl:Thing` and `owl:Nothing` among the classes and the expressions.
 fn counts(alloc: Global, ontology: &Ontology) -> Result<String, AllocError> {
     let classes = ontology.classes().len();
@@ -27,8 +37,8 @@ fn shown(
     read: &Result<Ontology, DocumentFault>,
 ) -> Result<(String, u8), AllocError> {
     match read {
-        Ok(ontology) => Ok((counts(alloc, ontology)?, 0)),
-        Err(fault) => Ok((format!(in alloc; "{fault}\n")?, 3)),
+        Ok(ontology) => Ok((counts(alloc, ontology)?, DONE)),
+        Err(fault) => Ok((format!(in alloc; "{fault}\n")?, REFUSED)),
     }
 }
 
@@ -36,17 +46,17 @@ fn main(rt: HostRuntime) -> ExitCode {
     let mut out = WriterSink::new(rt.stdout());
     let mut source = ReaderSource::new(rt.stdin());
     let Some(limits) = Limits::new(MOST_BYTES, 1) else {
-        return ExitCode::from(5);
+        return ExitCode::from(LIMIT);
     };
     let Ok(state) = RandomState::new(&rt) else {
-        return ExitCode::from(6);
+        return ExitCode::from(FILE);
     };
     let read = read_document(rt.alloc(), &mut source, &limits, state);
     let Ok((text, status)) = shown(rt.alloc(), &read) else {
-        return ExitCode::from(4);
+        return ExitCode::from(MEMORY);
     };
     match write_all(&mut out, text.as_bytes()) {
         Ok(()) => ExitCode::from(status),
-        Err(_) => ExitCode::from(6),
+        Err(_) => ExitCode::from(FILE),
     }
 }
