@@ -72,9 +72,13 @@ impl<W: Write> WriterSink<W> {
 }
 
 impl<W: Write> Sink for WriterSink<W> {
+    ghost use Rattle.std.specs.Prelude.{[]};
+
     ghost taken = { λ s. W.contents s.writer };
 
     ghost failures = { λ s. s.failures };
+
+    ghost path = { λ _. [] };
 
     fn write(&mut self, piece: &[u8]) -> Result<usize, Failed> {
         if let Ok(n) = self.writer.write(piece) {

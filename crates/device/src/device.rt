@@ -38,11 +38,15 @@ pub trait Sink {
     /// How many calls have failed, counted to 2^64 - 1.
     ghost failures: { Self → ℕ };
 
+    /// The path of the file that the bytes go to; empty where they go to none.
+    ghost path: { Self → List ℕ };
+
     /// Takes some bytes at the front of the piece and gives their number, at least one of a piece that is not empty.
     /// A call that fails takes nothing.
     fn write(&mut self, piece: &[u8]) -> Result<usize, Failed>
         ensures ok { IfOk result (λ n. Writes (taken self.old) (taken self.new) piece.now n) }
         ensures kept { OnErr result (Keeps (taken self.old) (taken self.new)) }
+        ensures path { path self.new ≡ path self.old }
 
         ensures unfailed { OnOk result (failures self.new ≡ failures self.old) }
         ensures failed { OnErr result (HasFailed (failures self.old) (failures self.new)) }

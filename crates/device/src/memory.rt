@@ -91,11 +91,13 @@ impl BufferSink {
 }
 
 impl Sink for BufferSink {
-    ghost use Rattle.std.specs.Prelude.{Some};
+    ghost use Rattle.std.specs.Prelude.{Some, []};
 
     ghost taken = { λ s. Some s.bytes };
 
     ghost failures = { λ s. s.failures };
+
+    ghost path = { λ _. [] };
 
     fn write(&mut self, piece: &[u8]) -> Result<usize, Failed> {
         match self.bytes.extend_from_slice(piece) {

@@ -31,11 +31,13 @@ struct SlowSink {
 }
 
 impl Sink for SlowSink {
-    ghost use Rattle.std.specs.Prelude.{Some};
+    ghost use Rattle.std.specs.Prelude.{Some, []};
 
     ghost taken = { λ s. Some s.inner.bytes };
 
     ghost failures = { λ s. s.inner.failures };
+
+    ghost path = { λ _. [] };
 
     fn write(&mut self, piece: &[u8]) -> Result<usize, Failed> {
         let n = piece.len().min(1);
@@ -81,11 +83,13 @@ struct FailingSink {
 }
 
 impl Sink for FailingSink {
-    ghost use Rattle.std.specs.Prelude.{Some};
+    ghost use Rattle.std.specs.Prelude.{Some, []};
 
     ghost taken = { λ s. Some s.inner.inner.bytes };
 
     ghost failures = { λ s. s.failures };
+
+    ghost path = { λ _. [] };
 
     fn write(&mut self, piece: &[u8]) -> Result<usize, Failed> {
         if self.calls > 0 {
@@ -112,11 +116,11 @@ fn reads_up_to_the_limit(rt: HostRuntime) -> Result<(), Fail> {
         let whole = read_all(rt.alloc(), &mut SliceSource::new(text), limit);
         let bytes = read_all(rt.alloc(), &mut slow(text), limit);
         if fits {
-            assert_eq!(rt; whole?.as_slice(), text.as_slice(), "at {limit}");
-            assert_eq!(rt; bytes?.as_slice(), text.as_slice(), "at {limit}");
+            assert!(rt; whole?.as_slice() == text.as_slice(), "at {limit}");
+            assert!(rt; bytes?.as_slice() == text.as_slice(), "at {limit}");
         } else {
-            assert_eq!(rt; whole.err(), Some(ReadFault::TooLarge), "at {limit}");
-            assert_eq!(rt; bytes.err(), Some(ReadFault::TooLarge), "at {limit}");
+            assert!(rt; whole.err() == Some(ReadFault::TooLarge), "at {limit}");
+            assert!(rt; bytes.err() == Some(ReadFault::TooLarge), "at {limit}");
         }
     }
     Ok(())
@@ -126,7 +130,7 @@ fn reads_up_to_the_limit(rt: HostRuntime) -> Result<(), Fail> {
 fn reads_more_than_one_buffer(rt: HostRuntime) -> Result<(), Fail> {
     let text = [7u8; 10_000];
     let bytes = read_all(rt.alloc(), &mut SliceSource::new(&text), 10_000)?;
-    assert_eq!(rt; bytes.as_slice(), text.as_slice());
+    assert!(rt; bytes.as_slice() == text.as_slice());
     Ok(())
 }
 
@@ -139,18 +143,18 @@ fn a_read_that_fails_is_told(rt: HostRuntime) -> Result<(), Fail> {
             failures: 0,
         };
         let read = read_all(rt.alloc(), &mut source, 3);
-        assert_eq!(rt; read.err(), Some(ReadFault::Failed), "after {calls} reads");
-        assert_eq!(rt; source.failures, 1);
+        assert!(rt;
+            read.err() == Some(ReadFault::Failed),
+            "after {calls} reads"
+        );
+        assert!(rt; source.failures == 1);
     }
     let mut source = FailingSource {
         inner: slow(b"abc"),
         calls: 4,
         failures: 0,
     };
-    assert_eq!(rt;
-        read_all(rt.alloc(), &mut source, 3)?.as_slice(),
-        b"abc".as_slice()
-    );
+    assert!(rt; read_all(rt.alloc(), &mut source, 3)?.as_slice() == b"abc".as_slice());
     Ok(())
 }
 
@@ -162,7 +166,7 @@ fn each_byte_is_written_once(rt: HostRuntime) -> Result<(), Fail> {
     write_all(&mut sink, b"consistent")?;
     write_all(&mut sink, b"")?;
     write_all(&mut sink, b" classes")?;
-    assert_eq!(rt; sink.inner.bytes(), b"consistent classes".as_slice());
+    assert!(rt; sink.inner.bytes() == b"consistent classes".as_slice());
     Ok(())
 }
 
@@ -176,9 +180,9 @@ fn a_write_that_fails_leaves_a_beginning(rt: HostRuntime) -> Result<(), Fail> {
             calls,
             failures: 0,
         };
-        assert_eq!(rt; write_all(&mut sink, b"abc"), Err(Failed));
-        assert_eq!(rt; sink.inner.inner.bytes(), taken, "after {calls} writes");
-        assert_eq!(rt; sink.failures, 1);
+        assert!(rt; write_all(&mut sink, b"abc") == Err(Failed));
+        assert!(rt; sink.inner.inner.bytes() == taken, "after {calls} writes");
+        assert!(rt; sink.failures == 1);
     }
     Ok(())
 }
@@ -187,12 +191,12 @@ fn a_write_that_fails_leaves_a_beginning(rt: HostRuntime) -> Result<(), Fail> {
 fn adapters_hand_bytes_on(rt: HostRuntime) -> Result<(), Fail> {
     let mut source = ReaderSource::new(b"abc".as_slice());
     let bytes = read_all(rt.alloc(), &mut source, 3)?;
-    assert_eq!(rt; bytes.as_slice(), b"abc".as_slice());
+    assert!(rt; bytes.as_slice() == b"abc".as_slice());
     let mut sink = WriterSink::new(Vec::new(rt.alloc()));
     write_all(&mut sink, &bytes)?;
     let mut full = [0; 2];
     let mut short = WriterSink::new(full.as_mut_slice());
-    assert_eq!(rt; write_all(&mut short, b"abc"), Err(Failed));
+    assert!(rt; write_all(&mut short, b"abc") == Err(Failed));
     Ok(())
 }
 
@@ -200,6 +204,6 @@ fn adapters_hand_bytes_on(rt: HostRuntime) -> Result<(), Fail> {
 fn a_buffer_hands_its_bytes_back(rt: HostRuntime) -> Result<(), Fail> {
     let mut sink = BufferSink::new(rt.alloc());
     write_all(&mut sink, b"abc")?;
-    assert_eq!(rt; sink.into_bytes().as_slice(), b"abc".as_slice());
+    assert!(rt; sink.into_bytes().as_slice() == b"abc".as_slice());
     Ok(())
 }

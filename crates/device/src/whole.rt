@@ -1,7 +1,7 @@
 //! Whole texts through sources and sinks.
-ghost use Rattle.std.specs.Prelude.{◌≡◌, ◌≤◌, IfOk, OnOk, OnErr, IsErrOf, length};
+ghost use Rattle.std.specs.Prelude.{◌≡◌, ◌+◌, ◌<◌, ◌≤◌, IfOk, OnOk, OnErr, IsErrOf, length};
 ghost use Rattle.std.specs.Io.KnownBytes.{Appends, Consumes, IsAtEnd};
-ghost use Rattle.device.specs.Device.{HasFailed, AppendsBeginning, LosesFront, IsLongerThan};
+ghost use Rattle.device.specs.Device.{HasFailed, AppendsBeginning, LosesFront, LosesOnlyFront, IsLongerThan};
 
 use crate::device::{Failed, Sink, Source};
 use std::alloc::Global;
@@ -12,6 +12,7 @@ use std::alloc::Global;
 pub fn write_all<S: Sink>(sink: &mut S, text: &[u8]) -> Result<(), Failed>
     ensures ok { OnOk result (Appends (S.taken sink.old) (S.taken sink.new) text.now) }
     ensures begun { AppendsBeginning (S.taken sink.old) (S.taken sink.new) text.now }
+    ensures path { S.path sink.new ≡ S.path sink.old }
 
     ensures unfailed { OnOk result (S.failures sink.new ≡ S.failures sink.old) }
     ensures failed { OnErr result (HasFailed (S.failures sink.old) (S.failures sink.new)) }
@@ -36,6 +37,11 @@ pub enum ReadFault {
 }
 
 /// Reads all the bytes that are left, unless they are more than `limit`.
+///
+/// # Errors
+///
+/// `TooLarge` where there are more than `limit`, `Failed` where the source failed in this call, and `Memory` where memory
+/// was refused. What was read by then is lost.
 pub fn read_all<S: Source>(
     alloc: Global,
     source: &mut S,
@@ -45,9 +51,14 @@ pub fn read_all<S: Source>(
     ensures end { OnOk result (IsAtEnd (S.left source.new)) }
     ensures within { IfOk result (λ bytes. length bytes.items ≤ limit) }
     ensures large { IsErrOf result ReadFault.TooLarge → IsLongerThan (S.left source.old) limit }
-    ensures lost { LosesFront (S.left source.old) (S.left source.new) }
 
-    ensures unfailed { OnOk result (S.failures source.new ≡ S.failures source.old) }
+    // Of a source that does not tell its bytes, too: it can give as many less as were read.
+    ensures fell { IfOk result (λ bytes. S.most source.new + length bytes.items ≡ S.most source.old) }
+    ensures beyond { IsErrOf result ReadFault.TooLarge → S.most source.new + limit < S.most source.old }
+    ensures lost { LosesFront (S.left source.old) (S.left source.new) (S.most source.old) (S.most source.new) }
+    ensures exact { ¬ IsErrOf result ReadFault.Failed → LosesOnlyFront (S.left source.old) (S.left source.new) (S.most source.old) (S.most source.new) }
+
+    ensures unfailed { ¬ IsErrOf result ReadFault.Failed → S.failures source.new ≡ S.failures source.old }
     ensures failed { IsErrOf result ReadFault.Failed → HasFailed (S.failures source.old) (S.failures source.new) }
     ensures count { S.failures source.old ≤ S.failures source.new }
 {

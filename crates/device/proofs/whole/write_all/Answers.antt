@@ -8,5 +8,6 @@ loop-at-preserved g c =
     record {
       within = at_most_rest c.args.text.now c.loop-at.at c.in_ok-at.field-0 c.loop-at.invariant.within w.within;
       done = Appends-next _ _ _ c.args.text.now c.loop-at.at c.in_ok-at.field-0 c.loop-at.invariant.done w.bytes;
+      path = c.in_ok-at.ensures.path ∙ c.loop-at.invariant.path;
       count = c.in_ok-at.ensures.unfailed ∙ c.loop-at.invariant.count;
     }

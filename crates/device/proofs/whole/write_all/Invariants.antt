@@ -6,6 +6,7 @@ abbrev pub invariant-loop-at : goal.invariant-loop-at
 invariant-loop-at g l = record {
   within : l.at ≤ length l.text;
   done : Appends (g.S.Sink.taken l.fn.sink) (g.S.Sink.taken l.sink) (take l.at l.text);
+  path : g.S.Sink.path l.sink ≡ g.S.Sink.path l.fn.sink;
   count : g.S.Sink.failures l.sink ≡ g.S.Sink.failures l.fn.sink;
 }
 
