@@ -51,8 +51,15 @@ impl Builder {
         ensures valid { IsOntology self.now }
     {
         let ontology = &self.ontology;
-        let _classes = &ontology.classes;
+        ontology.well_formed();
         ontology
+    }
+
+    /// The ontology so far is well formed, as every ontology. This runs nothing.
+    pub fn well_formed(&self)
+        ensures { IsOntology self.now }
+    {
+        self.ontology.well_formed();
     }
 
     /// Gives the number that the IRI has as a name of that kind, or the next one. A new class is a new expression too.

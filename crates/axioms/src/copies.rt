@@ -41,6 +41,56 @@ fn copied_places(places: &Vec<ExprId>) -> Result<Vec<ExprId>, Memory>
     Ok(places.clone()?)
 }
 
+/// The names of an ontology.
+#[derive(Drop)]
+struct Names {
+    classes: IndexSet<String, RandomState>,
+    properties: IndexSet<String, RandomState>,
+    individuals: IndexSet<String, RandomState>,
+}
+
+// The same names of each kind.
+fn copied_signature(
+    classes: &IndexSet<String, RandomState>,
+    properties: &IndexSet<String, RandomState>,
+    individuals: &IndexSet<String, RandomState>,
+) -> Result<Names, Memory>
+    ensures classes { IfOk result (λ n. map string_bytes n.classes.keys ≡ map string_bytes classes.now.keys) }
+    ensures properties { IfOk result (λ n. map string_bytes n.properties.keys ≡ map string_bytes properties.now.keys) }
+    ensures individuals { IfOk result (λ n. map string_bytes n.individuals.keys ≡ map string_bytes individuals.now.keys) }
+{
+    Ok(Names {
+        classes: copied_names(classes)?,
+        properties: copied_names(properties)?,
+        individuals: copied_names(individuals)?,
+    })
+}
+
+/// The expressions and axioms of an ontology.
+#[derive(Drop)]
+struct Terms {
+    expressions: IndexSet<Expr, RandomState>,
+    class_expressions: Vec<ExprId>,
+    axioms: Vec<Axiom>,
+}
+
+// The same expressions and axioms.
+fn copied_terms(
+    expressions: &IndexSet<Expr, RandomState>,
+    class_expressions: &Vec<ExprId>,
+    axioms: &Vec<Axiom>,
+) -> Result<Terms, Memory>
+    ensures expressions { IfOk result (λ t. map node_of t.expressions.keys ≡ map node_of expressions.now.keys) }
+    ensures places { IfOk result (λ t. t.class_expressions.items ≡ class_expressions.now.items) }
+    ensures axioms { IfOk result (λ t. map axiom_of t.axioms.items ≡ map axiom_of axioms.now.items) }
+{
+    Ok(Terms {
+        expressions: copied_expressions(expressions)?,
+        class_expressions: copied_places(class_expressions)?,
+        axioms: copied_axioms(axioms)?,
+    })
+}
+
 impl Ontology {
     /// An equal ontology.
     ///
@@ -50,14 +100,16 @@ impl Ontology {
     pub fn copy(&self) -> Result<Ontology, Memory>
         ensures { IfOk result (λ o. o ≡ self.now) }
     {
+        let names = copied_signature(&self.classes, &self.properties, &self.individuals)?;
+        let terms = copied_terms(&self.expressions, &self.class_expressions, &self.axioms)?;
         Ok(Ontology {
             alloc: self.alloc,
-            classes: copied_names(&self.classes)?,
-            properties: copied_names(&self.properties)?,
-            individuals: copied_names(&self.individuals)?,
-            expressions: copied_expressions(&self.expressions)?,
-            class_expressions: copied_places(&self.class_expressions)?,
-            axioms: copied_axioms(&self.axioms)?,
+            classes: names.classes,
+            properties: names.properties,
+            individuals: names.individuals,
+            expressions: terms.expressions,
+            class_expressions: terms.class_expressions,
+            axioms: terms.axioms,
         })
     }
 }

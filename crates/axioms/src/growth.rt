@@ -52,11 +52,9 @@ fn standard_classes(
 ) -> Result<IndexSet<String, RandomState>, Memory>
     ensures { IfOk result (λ s. map string_bytes s.keys ≡ owl_thing ∷ owl_nothing ∷ []) }
 {
-    let thing = String::from_str(alloc, OWL_THING)?;
-    let nothing = String::from_str(alloc, OWL_NOTHING)?;
     let mut classes = IndexSet::with_hasher(alloc, state);
-    classes.insert(thing)?;
-    classes.insert(nothing)?;
+    classes.insert(String::from_str(alloc, OWL_THING)?)?;
+    classes.insert(String::from_str(alloc, OWL_NOTHING)?)?;
     Ok(classes)
 }
 
@@ -68,8 +66,8 @@ fn standard_expressions(
     ensures { IfOk result (λ s. map node_of s.keys ≡ Class 0 ∷ Class 1 ∷ []) }
 {
     let mut expressions = IndexSet::with_hasher(alloc, state);
-    expressions.insert(Expr::Class(ClassId(0)))?;
-    expressions.insert(Expr::Class(ClassId(1)))?;
+    expressions.insert(Expr::Class(ClassId::THING))?;
+    expressions.insert(Expr::Class(ClassId::NOTHING))?;
     Ok(expressions)
 }
 
@@ -84,7 +82,7 @@ impl Ontology {
             properties: IndexSet::with_hasher(alloc, state),
             individuals: IndexSet::with_hasher(alloc, state),
             expressions: standard_expressions(alloc, state)?,
-            class_expressions: Vec::from_array(alloc, [ExprId(0), ExprId(1)])?,
+            class_expressions: Vec::from_array(alloc, [ExprId::THING, ExprId::NOTHING])?,
             axioms: Vec::new(alloc),
         })
     }

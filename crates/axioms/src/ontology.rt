@@ -1,6 +1,6 @@
 //! An ontology: names, class expressions and logical axioms by number.
-ghost use Rattle.std.specs.Prelude.{◌<◌, ◌≡◌, ◌↔◌, IfSome, IsSome, Some, length, map, option_map, slice_get, string_bytes};
-ghost use Rattle.axioms.specs.Numbered.{Class};
+ghost use Rattle.std.specs.Prelude.{◌<◌, ◌≡◌, ◌↔◌, IfSome, IsSome, MatchOption, Some, length, map, option_map, slice_get, string_bytes, ℕ};
+ghost use Rattle.axioms.specs.Numbered.{Class, IsClassAt};
 ghost use Rattle.axioms.specs.View.{axiom_of, node_of, at_number};
 ghost use Rattle.axioms.specs.WellFormed.{IsOntology};
 
@@ -74,6 +74,25 @@ impl Ontology {
         ensures { result ≡ length self.now.nodes }
     {
         self.expressions.len()
+    }
+
+    /// The class that the expression of that number is.
+    pub fn class_of(&self, id: ExprId) -> Option<ClassId>
+        ensures { MatchOption result ((c : ℕ) → IsClassAt self.now c id.0 → ⊥)
+            (λ class. IsClassAt self.now class.0 id.0 × (class.0 < length self.now.names.classes)) }
+    {
+        match self.expr(id) {
+            Some(Expr::Class(class)) => Some(*class),
+            _ => None,
+        }
+    }
+
+    /// Every ontology is well formed: it begins with the classes of the standard, nothing stands in it twice, and what its numbers
+    /// name is there. This runs nothing.
+    pub fn well_formed(&self)
+        ensures { IsOntology self.now }
+    {
+        let _ = &self.alloc;
     }
 
     /// The axiom of that number, counted from 1 in document order.

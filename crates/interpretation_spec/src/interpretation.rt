@@ -67,6 +67,13 @@ impl Interpretation {
         self.size
     }
 
+    /// Every interpretation is well formed: it has elements, all of them in `owl:Thing`, none in `owl:Nothing`. This runs nothing.
+    pub fn well_formed(&self)
+        ensures { IsNumberedInterpretation self.now }
+    {
+        let _ = &self.alloc;
+    }
+
     /// The elements of the class: all of `owl:Thing`, none of `owl:Nothing`. `None` where there is no such class.
     pub fn holders(&self, class: ClassId) -> Option<&Row>
         ensures { option_map (λ row. row.now) result ≡ slice_get self.now.classes class.0 }

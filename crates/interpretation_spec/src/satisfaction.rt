@@ -2,7 +2,7 @@
 ghost use Rattle.std.specs.Prelude.{◌≡◌, ℕ, ◌<◌, ◌↔◌, IfOk, IsNone, IfSome, IsTrue, length, AllPairs, All, true, slice_index_or};
 ghost use Rattle.axioms.specs.Numbered.{axiom_tree, axiom_trees, expression as expression_of, expressions};
 ghost use Rattle.axioms.specs.View.{axiom_of, expr_numbers, prop_numbers};
-ghost use Rattle.axioms.specs.WellFormed.{IsAxiomOf, IsOntology};
+ghost use Rattle.axioms.specs.WellFormed.{IsAxiomOf};
 ghost use Rattle.interpretation_spec.specs.ByName.{HasNumberedPath, IsFirstUnsatisfied, interpretation_of, is_target};
 ghost use Rattle.interpretation_spec.specs.Interpretation.{IsApart, IsModel, IsSame, IsWithin, Satisfies};
 ghost use Rattle.interpretation_spec.specs.Numbered.{IsMadeFor, targets_of};
@@ -20,8 +20,8 @@ impl Interpretation {
         ensures model { IfOk result (λ found. IsNone found → IsModel (interpretation_of ontology.now.names self.now) (axiom_trees ontology.now)) }
         ensures first { IfOk result (λ found. IfSome found (IsFirstUnsatisfied ontology.now (interpretation_of ontology.now.names self.now))) }
     {
-        well_formed(ontology);
-        let _ = self.size();
+        ontology.well_formed();
+        self.well_formed();
         for (index, axiom) in ontology.axioms().iter().enumerate() {
             if !self.satisfies(ontology, axiom)? {
                 return Ok(Some(index + 1));
@@ -37,7 +37,7 @@ impl Interpretation {
         requires of { IsAxiomOf ontology.now (axiom_of «axiom».now) }
         ensures { IfOk result (λ holds. IsTrue holds ↔ Satisfies (interpretation_of ontology.now.names self.now) (axiom_tree ontology.now (axiom_of «axiom».now))) }
     {
-        well_formed(ontology);
+        ontology.well_formed();
         match axiom {
             Axiom::SubClass(sub, sup) => self.is_within(ontology, *sub, *sup),
             Axiom::EquivalentClasses(operands) => self.are_same(ontology, operands),
@@ -234,11 +234,4 @@ impl Interpretation {
     {
         targets_in(&self.pairs[property.0], element)
     }
-}
-
-/// Every ontology is well formed.
-fn well_formed(ontology: &Ontology)
-    ensures { IsOntology ontology.now }
-{
-    let _ = ontology.expr(ExprId(0));
 }

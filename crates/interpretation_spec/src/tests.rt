@@ -33,7 +33,7 @@ fn is_taken(alloc: Global, n: usize, number: usize) -> Result<bool, Memory> {
 #[test]
 fn numbers_in_range(rt: HostRuntime) -> Result<(), Fail> {
     for (number, in_range) in [(0, true), (63, true), (64, true), (69, true), (70, false)] {
-        assert_eq!(rt; is_taken(rt.alloc(), 70, number)?, in_range, "{number}");
+        assert!(rt; is_taken(rt.alloc(), 70, number)? == in_range, "{number}");
     }
     Ok(())
 }
@@ -41,8 +41,8 @@ fn numbers_in_range(rt: HostRuntime) -> Result<(), Fail> {
 #[test]
 fn members_of_two_words(rt: HostRuntime) -> Result<(), Fail> {
     let row = row_of(rt.alloc(), &[0, 63, 64, 69, 70])?;
-    assert_eq!(rt; row.len(), 70);
-    assert_eq!(rt; row.count(), 4);
+    assert!(rt; row.len() == 70);
+    assert!(rt; row.count() == 4);
     assert!(rt; !row.contains(1));
     assert!(rt; !row.contains(70));
     Ok(())
@@ -51,13 +51,13 @@ fn members_of_two_words(rt: HostRuntime) -> Result<(), Fail> {
 #[test]
 fn all_numbers(rt: HostRuntime) -> Result<(), Fail> {
     let row = Row::full(rt.alloc(), 70)?;
-    assert_eq!(rt; row.count(), 70);
+    assert!(rt; row.count() == 70);
     Ok(())
 }
 
 /// Whether the one set is within the other, and whether no number is in both.
 fn compare<R: Abort>(rt: &R, these: &Row, those: &Row) -> (bool, bool) {
-    assert_eq!(rt; these.len(), those.len());
+    assert!(rt; these.len() == those.len());
     (these.is_subset(those), these.is_disjoint(those))
 }
 
@@ -66,24 +66,24 @@ fn subsets(rt: HostRuntime) -> Result<(), Fail> {
     let small = row_of(rt.alloc(), &[3, 65])?;
     let large = row_of(rt.alloc(), &[3, 65, 66])?;
     let other = row_of(rt.alloc(), &[4, 66])?;
-    assert_eq!(rt; compare(&rt, &small, &large), (true, false));
-    assert_eq!(rt; compare(&rt, &large, &small), (false, false));
-    assert_eq!(rt; compare(&rt, &small, &other), (false, true));
-    assert_eq!(rt; compare(&rt, &large, &other), (false, false));
+    assert!(rt; compare(&rt, &small, &large) == (true, false));
+    assert!(rt; compare(&rt, &large, &small) == (false, false));
+    assert!(rt; compare(&rt, &small, &other) == (false, true));
+    assert!(rt; compare(&rt, &large, &other) == (false, false));
     Ok(())
 }
 
 /// Takes a row of two numbers from one with a third, adds it again, and leaves what both have.
 fn assert_changes<R: Abort>(rt: &R, row: &mut Row, other: &Row) {
-    assert_eq!(rt; row.len(), 70);
-    assert_eq!(rt; other.len(), 70);
+    assert!(rt; row.len() == 70);
+    assert!(rt; other.len() == 70);
     row.minus(other);
     assert!(rt; row.contains(66));
-    assert_eq!(rt; row.count(), 1);
+    assert!(rt; row.count() == 1);
     row.union(other);
-    assert_eq!(rt; row.count(), 3);
+    assert!(rt; row.count() == 3);
     row.intersect(other);
-    assert_eq!(rt; row.count(), 2);
+    assert!(rt; row.count() == 2);
 }
 
 #[test]
@@ -126,8 +126,7 @@ fn empty_interpretation(
 ) -> Result<Interpretation, InterpretationFault>
     ensures { IfOk result (IsMadeFor ontology.now.names) }
 {
-    // What holds of every ontology.
-    let _ = ontology.expr(ExprId(0));
+    ontology.well_formed();
     Interpretation::new(alloc, ontology, size)
 }
 
@@ -151,7 +150,7 @@ fn of_names<R: AllocGlobal + Abort + RandomSource>(
 #[test]
 fn members_of_a_class(rt: HostRuntime) -> Result<(), Fail> {
     let mut i = of_names(&rt, 3)?;
-    assert_eq!(rt; i.size(), 3);
+    assert!(rt; i.size() == 3);
     assert_eq!(rt; i.put_class(ClassId(2), 1), Ok(()));
     assert!(rt;
         i.holders(ClassId(2))
@@ -170,9 +169,9 @@ fn put_pairs<R: Abort>(rt: &R, i: &mut Interpretation) {
 
 /// What 1 was joined to, once and in order, and nothing of what is not there.
 fn assert_targets<R: Abort>(rt: &R, i: &Interpretation) {
-    assert_eq!(rt; i.targets(PropId(0), 1), Some([0, 2].as_slice()));
-    assert_eq!(rt; i.targets(PropId(0), 3), None);
-    assert_eq!(rt; i.targets(PropId(1), 0), None);
+    assert!(rt; i.targets(PropId(0), 1) == Some([0, 2].as_slice()));
+    assert!(rt; i.targets(PropId(0), 3) == None);
+    assert!(rt; i.targets(PropId(1), 0) == None);
 }
 
 #[test]
@@ -186,10 +185,10 @@ fn targets_ascend(rt: HostRuntime) -> Result<(), Fail> {
 #[test]
 fn the_element_of_an_individual(rt: HostRuntime) -> Result<(), Fail> {
     let mut i = of_names(&rt, 3)?;
-    assert_eq!(rt; i.element(IndId(0)), Some(0));
+    assert!(rt; i.element(IndId(0)) == Some(0));
     assert_eq!(rt; i.put_individual(IndId(0), 2), Ok(()));
-    assert_eq!(rt; i.element(IndId(0)), Some(2));
-    assert_eq!(rt; i.element(IndId(1)), None);
+    assert!(rt; i.element(IndId(0)) == Some(2));
+    assert!(rt; i.element(IndId(1)) == None);
     Ok(())
 }
 
@@ -197,7 +196,7 @@ fn the_element_of_an_individual(rt: HostRuntime) -> Result<(), Fail> {
 fn assert_refused<R: Abort>(rt: &R, i: &mut Interpretation) {
     let outside = Err(InterpretationFault::OutOfDomain);
     let fixed = Err(InterpretationFault::FixedClass);
-    assert_eq!(rt; i.put_class(ClassId(1), 0), fixed);
+    assert_eq!(rt; i.put_class(ClassId::NOTHING, 0), fixed);
     assert_eq!(rt; i.put_class(ClassId(2), 2), outside);
     assert_eq!(rt; i.put_pair(PropId(0), 0, 2), outside);
     assert_eq!(rt; i.put_individual(IndId(1), 0), outside);
@@ -213,16 +212,16 @@ fn refused_members(rt: HostRuntime) -> Result<(), Fail> {
 #[test]
 fn a_domain_has_an_element(rt: HostRuntime) -> Result<(), Fail> {
     let none = interpretation_of(rt.alloc(), one_name_of_each_kind(&rt)?, 0);
-    assert_eq!(rt; none.err(), Some(InterpretationFault::EmptyDomain));
+    assert!(rt; none.err() == Some(InterpretationFault::EmptyDomain));
     Ok(())
 }
 
 /// States that all things are none, which no interpretation satisfies.
 fn state_contradiction<R: Abort>(rt: &R, builder: &mut Builder) {
-    assert_eq!(rt; builder.ontology().expression_count(), 2);
+    assert!(rt; builder.ontology().expression_count() == 2);
     assert!(rt;
         builder
-            .add_axiom(Axiom::SubClass(ExprId(0), ExprId(1)))
+            .add_axiom(Axiom::SubClass(ExprId::THING, ExprId::NOTHING))
             .is_ok()
     );
 }
@@ -267,10 +266,10 @@ fn first_unsatisfied(alloc: Global, ontology: &Ontology) -> Result<Option<usize>
 
 /// What holds where all classes but owl:Thing are empty, and the one axiom says that so is owl:Thing.
 fn assert_contradiction<R: AllocGlobal + Abort>(rt: &R, ontology: &Ontology) -> Result<(), Fail> {
-    assert_eq!(rt; count(rt, ontology, 0)?, 70);
-    assert_eq!(rt; count(rt, ontology, 1)?, 0);
+    assert!(rt; count(rt, ontology, 0)? == 70);
+    assert!(rt; count(rt, ontology, 1)? == 0);
     assert!(rt; is_within(rt, ontology, 1, 0)?);
-    assert_eq!(rt; first_unsatisfied(rt.alloc(), ontology)?, Some(1));
+    assert!(rt; first_unsatisfied(rt.alloc(), ontology)? == Some(1));
     Ok(())
 }
 

@@ -22,4 +22,4 @@ returns c =
     let o = c.args.ontology.now in
     let size = c.args.size in
     IfOk-weaker c.new.result (λ (i : NumberedInterpretation). (0 < size) × (i ≡ empty_interpretation o.names size)) (IsMadeFor o.names)
-    (λ i h. subst (IsMadeFor o.names) (sym h.1) (made_for o c.expr.ensures.valid size)) c.new.ensures.made
+    (λ i h. subst (IsMadeFor o.names) (sym h.1) (made_for o c.well_formed-2.ensures size)) c.new.ensures.made

@@ -3,6 +3,8 @@ use Rattle.axioms.proofs.ontology.Ontology.copy.Goals as goal
 
 pub invariant_of-result : goal.invariant_of-result
 invariant_of-result c =
+    let n = c.in_ok-names.ensures in
+    let t = c.in_ok-terms.ensures in
     copy_kept c.self.inside _ c.self.invariant
-    (same_ontology _ _ c.in_ok-copied_names.ensures c.in_ok-copied_names-2.ensures c.in_ok-copied_names-3.ensures c.in_ok-copied_expressions.ensures c.in_ok-copied_axioms.ensures)
-    c.in_ok-copied_places.ensures
+    (same_ontology _ _ n.classes n.properties n.individuals t.expressions t.axioms)
+    t.places

@@ -67,6 +67,6 @@ returns-clause-model c = λ _.
     let items = c.axioms-axiom-items.result.now in
     let many = ap length c.axioms-axiom-items.ensures in
     record {
-      interpretation = stands_well o c.well_formed-2.ensures c.args.self.now c.size.ensures.valid;
+      interpretation = stands_well o c.well_formed-2.ensures c.args.self.now c.well_formed-3.ensures;
       satisfied = All-map (Satisfies i) (axiom_tree o) o.axioms (λ k d l. c.loop-index.invariant k (omega (arith, many, length-map items axiom_of)) (get_or o.axioms k d) (slice_get-get_or o.axioms k d l));
     }
