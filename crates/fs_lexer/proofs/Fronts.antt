@@ -15,11 +15,11 @@ pub record IsFound (bytes : List ℕ) (found : Found) : Type 0 where
   pub of_kind : IsOfKind found.0 found.1
   pub apart : ends_with_word found.1 ≡ true → begins_with_word found.2 ≡ false
 
-begins_same : (text : List ℕ) → begins is_word_byte text ≡ begins_with_word text
+pub begins_same : (text : List ℕ) → begins is_word_byte text ≡ begins_with_word text
 begins_same [] = refl
 begins_same (b ∷ bs) = refl
 
-last_is : (front : List ℕ) (b : ℕ) → ends_with_word (front ++ b ∷ []) ≡ is_word_byte b
+pub last_is : (front : List ℕ) (b : ℕ) → ends_with_word (front ++ b ∷ []) ≡ is_word_byte b
 last_is [] b = refl
 last_is (x ∷ []) b = refl
 last_is (x ∷ y ∷ front) b = last_is (y ∷ front) b

@@ -1,5 +1,5 @@
 -- Reading a whole text: where it stands between two tokens.
-use Rattle.std.proofs.Common.{◌≡◌, ℕ, ◌+◌, ◌-◌, ◌<◌, ◌≤◌, true, List, [], ◌∷◌, ◌++◌, length, get_or, take, drop, Option, Some, None, refl, sym, ap, subst, ◌∙◌, append_assoc, arith}
+use Rattle.std.proofs.Common.{◌≡◌, ℕ, ◌+◌, ◌-◌, ◌<◌, ◌≤◌, true, false, List, [], ◌∷◌, ◌++◌, length, get_or, take, drop, Option, Some, None, refl, sym, ap, subst, ◌∙◌, append_assoc, arith}
 use Rattle.std.specs.Str.{IsUtf8, IsCharBoundary}
 use Rattle.std.proofs.lemmas.Str.{IsCharBoundary-before_ascii, IsCharBoundary-after_ascii}
 use Rattle.std.proofs.lemmas.Bool.{and_parts, false≢true}
@@ -7,11 +7,13 @@ use Rattle.std.proofs.lemmas.Bool.Decides.{nat_tests}
 use Rattle.std.proofs.lemmas.Option.{none-some, same_Some}
 use Rattle.std.proofs.lemmas.List.{length-append, get_or-append-add}
 use Rattle.std.proofs.Math.Seq.{drop-append_seam, take-append_seam}
-use Rattle.fs_lexer.specs.Spelling.{Token, Kind, Opening, Closing, Equals, Carets, FullIri, Quoted, LanguageTag, Keyword, Integer, PrefixName, ShortName, NodeLabel, IsOfKind, is_word_byte, ends_with_word, Spells, SpellsFrom, AreSlicesFrom}
+use Rattle.fs_lexer.specs.Spelling.{Token, Kind, Opening, Closing, Equals, Carets, FullIri, Quoted, LanguageTag, Keyword, Integer, PrefixName, ShortName, NodeLabel, IsOfKind, is_word_byte, begins, ends_with_word, Spells, SpellsFrom, AreSlicesFrom}
 use Rattle.fs_lexer.specs.Reading.{Found, skip, token_at, ahead}
 use Rattle.fs_lexer.proofs.Pieces.{skip_takes}
 use Rattle.fs_lexer.proofs.Words.{IsWordRun, word_runs}
 use Rattle.fs_lexer.proofs.Fronts.{token_takes, run_ends, tag_in_word}
+use Rattle.fs_lexer.specs.Faults.{is_gap_byte, IsNext}
+use Rattle.fs_lexer.proofs.Places.{IsUpTo, up_to_none, up_to_next, up_to_here, skip_is_done}
 use Rattle.fs_lexer.proofs.Whole.{IsReadSoFar, none_yet, one_more, all_read, none_read}
 
 -- ---- a token begins and ends with an ASCII byte
@@ -72,12 +74,14 @@ pub record IsState (text : List ℕ) (tokens : List Token) (rest : List ℕ) : T
   pub here : rest ≡ skip unread
   pub front : List ℕ
   pub whole : text ≡ front ++ rest
+  pub before : List ℕ
+  pub up_to : IsUpTo text before tokens unread
 
 pub skip_shorter : (text : List ℕ) → length (skip text) ≤ length text
 skip_shorter text = let g = skip_takes text in omega (arith, ap length g.whole, length-append g.gap (skip text))
 
 pub first_state : (text : List ℕ) → IsState text [] (skip text)
-first_state text = let g = skip_takes text in record { unread = text; so = none_yet text; here = refl; front = g.gap; whole = g.whole }
+first_state text = let g = skip_takes text in record { unread = text; so = none_yet text; here = refl; front = g.gap; whole = g.whole; before = []; up_to = up_to_none text }
 
 -- the next token, from where the rest begins to where the others do
 abbrev pub next_token : List ℕ → List ℕ → List ℕ → Kind → Token
@@ -105,6 +109,13 @@ ahead_was (Some f) kind others e =
 pub ahead_none : (o : Option Found) → None ≡ ahead o → o ≡ None
 ahead_none None e = refl
 ahead_none (Some f) e = absurd (none-some _ e)
+
+pub nothing : (xs : List ℕ) → length xs ≡ 0 → xs ≡ []
+nothing [] e = refl
+nothing (x ∷ xs) e = absurd (omega arith)
+
+pub something : (xs : List ℕ) → 0 < length xs → xs ≡ [] → ⊥
+something xs l e = absurd (omega (arith, ap length e))
 
 pub next_state : (text : List ℕ) (tokens : List Token) (rest others : List ℕ) (kind : Kind) → IsUtf8 text → IsState text tokens rest → Some (kind, others) ≡ ahead (token_at rest) → IsStep text tokens rest others kind
 next_state text tokens rest others kind utf8 s e =
@@ -138,6 +149,7 @@ next_state text tokens rest others kind utf8 s e =
     let read : token_at (skip s.unread) ≡ Some (kind, take (length text - length others - (length text - length rest)) (drop (length text - length rest) text), others) =
     ap token_at (sym s.here) ∙ w.1 ∙ ap (λ (x : List ℕ). Some (kind, x, others)) (sym piece) in
     let same : length (skip s.unread) ≡ length rest = ap length (sym s.here) in
+    let token = next_token text rest others kind in
     record {
       within = omega arith;
       shorter = omega arith;
@@ -149,6 +161,8 @@ next_state text tokens rest others kind utf8 s e =
         here = refl;
         front = s.front ++ (w.0 ++ g.gap);
         whole = s.whole ∙ ap (λ (x : List ℕ). s.front ++ x) (f.whole ∙ ap (λ (x : List ℕ). w.0 ++ x) g.whole ∙ sym (append_assoc w.0 g.gap (skip others))) ∙ sym (append_assoc s.front (w.0 ++ g.gap) (skip others));
+        before = s.before ++ ((skip_takes s.unread).gap ++ token.text);
+        up_to = up_to_next text s.before tokens s.unread token others s.up_to read (λ n. something w.0 some (sym piece ∙ n)) (omega arith);
       };
     }
 
@@ -158,19 +172,15 @@ last_state text tokens rest s e = all_read text tokens s.unread s.so (sym s.here
 pub stuck_state : (text : List ℕ) (tokens : List Token) (rest : List ℕ) → IsState text tokens rest → (rest ≡ [] → ⊥) → None ≡ ahead (token_at rest) → (all : List Token) → Spells text all → ⊥
 stuck_state text tokens rest s some e = none_read text tokens s.unread s.so (λ h. some (s.here ∙ h)) (ap token_at (sym s.here) ∙ ahead_none (token_at rest) e)
 
--- the rest is what stands at its place
-pub rest_at : (text : List ℕ) (tokens : List Token) (rest : List ℕ) → IsState text tokens rest → drop (length text - length rest) text ≡ rest
-rest_at text tokens rest s =
+-- the text reads well up to the rest
+pub next_at : (text : List ℕ) (tokens : List Token) (rest : List ℕ) → IsState text tokens rest → (rest ≡ [] → ⊥) → IsNext text (length text - length rest) rest
+next_at text tokens rest s some =
     let total : length text ≡ length s.front + length rest = ap length s.whole ∙ length-append s.front rest in
-    let at : length text - length rest ≡ length s.front = omega arith in
-    ap (λ (n : ℕ). drop n text) at ∙ ap (drop (length s.front)) s.whole ∙ drop-append_seam s.front rest
+    let same : length (skip s.unread) ≡ length rest = ap length (sym s.here) in
+    subst (IsNext text (length text - length rest)) (sym s.here) (up_to_here text s.before tokens s.unread (length text - length rest) s.up_to (λ h. some (s.here ∙ h)) (omega arith))
 
-pub nothing : (xs : List ℕ) → length xs ≡ 0 → xs ≡ []
-nothing [] e = refl
-nothing (x ∷ xs) e = absurd (omega arith)
-
-pub something : (xs : List ℕ) → 0 < length xs → xs ≡ [] → ⊥
-something xs l e = absurd (omega (arith, ap length e))
+pub done_at : (text : List ℕ) (tokens : List Token) (rest : List ℕ) → IsState text tokens rest → begins is_gap_byte rest ≡ false
+done_at text tokens rest s = ap (begins is_gap_byte) s.here ∙ skip_is_done s.unread
 
 -- ---- spans
 

@@ -3,6 +3,7 @@
 
 ghost use Rattle.std.specs.Prelude.{◌≡◌, List, ℕ};
 ghost use Rattle.fs_lexer.specs.Spelling as spelling;
+ghost use Rattle.fs_lexer.specs.Faults as faults;
 
 mod bytes;
 mod front;
@@ -17,6 +18,12 @@ pub use token::{Kind, LexFault, Token};
 pub fn texts_spell_one_list()
     ensures one { (text : List ℕ) (xs ys : List spelling.Token) → spelling.Spells text xs → spelling.Spells text ys → xs ≡ ys }
     ensures slices { (text : List ℕ) (xs : List spelling.Token) → spelling.Spells text xs → spelling.AreSlicesFrom 0 text xs }
+{}
+
+/// A law: a text has at most one place at which reading fails, and one fault there. A text that spells tokens has none.
+pub fn texts_have_one_fault()
+    ensures one { (text : List ℕ) (e f : faults.LexFault) → faults.IsFault text e → faults.IsFault text f → e ≡ f }
+    ensures none { (text : List ℕ) (e : faults.LexFault) (all : List spelling.Token) → faults.IsFault text e → spelling.Spells text all → ⊥ }
 {}
 
 #[cfg(test)]

@@ -1,4 +1,4 @@
-use crate::{Kind, LexFault, Token, texts_spell_one_list, tokens};
+use crate::{Kind, LexFault, Token, texts_have_one_fault, texts_spell_one_list, tokens};
 use std::alloc::{AllocError, Global};
 
 /// The tokens, each as its kind, its place and its text, or the fault.
@@ -117,7 +117,7 @@ fn kinds_and_faults_compare(rt: HostRuntime) {
 }
 
 /// Texts, each with its tokens or its fault.
-const TEXTS: [(&str, &str); 82] = [
+const TEXTS: [(&str, &str); 84] = [
     ("", ""),
     (" \t\r\n", ""),
     ("#", ""),
@@ -134,6 +134,8 @@ const TEXTS: [(&str, &str); 82] = [
     ("^^", "Carets@0 ^^ "),
     ("^", "X1 at byte 0"),
     ("^^^", "X1 at byte 2"),
+    ("#^\n ^", "X1 at byte 4"),
+    ("a^ 1a", "X1 at byte 1"),
     ("^^^^", "Carets@0 ^^ Carets@2 ^^ "),
     ("<x:A>", "FullIri@0 <x:A> "),
     ("<x:A><x:B>", "FullIri@0 <x:A> FullIri@5 <x:B> "),
@@ -215,4 +217,5 @@ fn table_of_texts(rt: HostRuntime) {
 #[test]
 fn laws() {
     texts_spell_one_list();
+    texts_have_one_fault();
 }

@@ -43,10 +43,11 @@ pub struct Token<'a> {
     pub at: usize,
 }
 
-/// Why a text spells no tokens, with the byte at which reading stopped. All that stands before it reads well.
+/// Why a text spells no tokens, with the byte `at` at which reading stopped. All that stands before it spells tokens, the
+/// next token is to begin there, and none does: what the fault says holds of the bytes from there on.
 #[derive(Clone, Copy, Debug, PartialEq, Eq, Error)]
 pub enum LexFault {
-    /// The character begins no token and no separator.
+    /// The character begins no token and no separator. Quotes, `<` and word characters have faults of their own.
     #[error("X1 at byte {at}")]
     BadByte { at: usize },
     /// No quoted string begins at this quote.
@@ -55,7 +56,7 @@ pub enum LexFault {
     /// No full IRI begins at this `<`.
     #[error("X3 at byte {at}")]
     OpenIri { at: usize },
-    /// The run of word characters that begins here is not one word.
+    /// The run of word characters that begins here (none stands before it or behind it) is not one word.
     #[error("X4 at byte {at}")]
     WordsTouch { at: usize },
     /// There was no memory for the tokens.

@@ -5,7 +5,8 @@ use Rattle.std.proofs.lemmas.Bool.Decides.{nat_tests}
 use Rattle.fs_lexer.specs.Spelling as spelling
 use Rattle.fs_lexer.specs.Views.{token_of}
 use Rattle.fs_lexer.specs.Reading.{skip}
-use Rattle.fs_lexer.proofs.State.{IsState, next_token, first_state, next_state, last_state, stuck_state, rest_at, skip_shorter, nothing, something}
+use Rattle.fs_lexer.specs.Faults.{IsNext}
+use Rattle.fs_lexer.proofs.State.{IsState, next_token, first_state, next_state, last_state, stuck_state, next_at, done_at, skip_shorter, nothing, something}
 use Rattle.fs_lexer.proofs.reading.tokens.Goals as goal
 
 pub loop-bytes-init : goal.loop-bytes-init
@@ -20,13 +21,16 @@ returns-in_default-clause-refused c =
     let l : 0 < length c.loop-bytes.rest.now = grind (arith, nat_tests, c.is_empty.ensures, c.loop-bytes-test.true) in
     λ _. stuck_state c.args.text.now _ c.loop-bytes.rest.now c.loop-bytes.invariant.1 (something c.loop-bytes.rest.now l) c.in_default.ensures
 
+pub fault_at-requires-clause-here : goal.fault_at-requires-clause-here
+fault_at-requires-clause-here c = done_at c.args.text.now _ c.loop-bytes.rest.now c.loop-bytes.invariant.1
+
 pub returns-in_default-clause-placed : goal.returns-in_default-clause-placed
 returns-in_default-clause-placed c =
     let text = c.args.text.now in
     let rest = c.loop-bytes.rest.now in
-    let at : drop (length c.as_bytes-bytes.result.now - length rest) text ≡ rest =
-    ap (λ (n : ℕ). drop (n - length rest) text) (ap length c.loop-bytes.invariant.0) ∙ rest_at text _ rest c.loop-bytes.invariant.1 in
-    c.fault_at.ensures.placed text at
+    let l : 0 < length rest = grind (arith, nat_tests, c.is_empty.ensures, c.loop-bytes-test.true) in
+    let next = next_at text _ rest c.loop-bytes.invariant.1 (something rest l) in
+    c.fault_at.ensures.placed text (subst (λ (n : ℕ). IsNext text (n - length rest) rest) (sym (ap length c.loop-bytes.invariant.0)) next)
 
 pub overflow_sub-end : goal.overflow_sub-end
 overflow_sub-end c =
