@@ -1,17 +1,23 @@
 -- What stands at the place of a fault.
-use Rattle.std.proofs.Common.{◌≡◌, ℕ, ◌+◌, ◌-◌, ◌≤◌, List, [], ◌∷◌, ◌++◌, Bool, true, false, Option, Some, None, length, get_or, take, drop, refl, sym, ap, ◌∙◌, subst, inl, inr, arith, nat_lt, append_assoc}
+use Rattle.std.proofs.Common.{◌≡◌, ℕ, zero, suc, ◌+◌, ◌-◌, ◌≤◌, List, [], ◌∷◌, ◌++◌, Bool, true, false, Option, Some, None, length, get_or, take, drop, refl, sym, ap, ◌∙◌, subst, ◌⊎◌, inl, inr, arith, nat_lt, append_assoc}
+use Rattle.std.specs.List.{Contains, slice_get}
 use Rattle.std.specs.Prelude.{codes}
 use Rattle.std.specs.Option.{IfSome, IfNone}
-use Rattle.std.proofs.lemmas.Option.{none-some}
-use Rattle.fs_lexer.specs.Spelling.{Token}
+use Rattle.std.proofs.lemmas.List.Elements.{Contains-append_right, Contains-append_cases}
+use Rattle.std.proofs.lemmas.Option.{none-some, same_Some}
+use Rattle.fs_lexer.proofs.State.{spelled_slices}
+use Rattle.fs_lexer.specs.Spelling.{Token, AreSlicesFrom}
 use Rattle.fs_lexer.specs.declared.token.Token as lexer
 use Rattle.fs_lexer.specs.declared.token.Kind.{Kind}
 use Rattle.fs_lexer.specs.declared.token.Kind.TheVariants.{Opening, Closing, Equals, Carets, FullIri, Quoted, LanguageTag, Keyword, Integer, PrefixName, ShortName, NodeLabel}
 use Rattle.fs_lexer.specs.Views.{token_of}
-use Rattle.fs_parser.specs.Faults.{IsNameKind, opens, closes, opened, closed, IsSaid, IsSaidOfTrees, IsSaidOfToken, IsPlain, IsTwiceAt, IsChangedAt, IsTooDeepAt, IsPlaced}
-use Rattle.fs_parser.specs.Front.{BeginsWith, MayBeNamed, MayStandFor}
+use Rattle.fs_parser.specs.Document.{AreDeclarations}
+use Rattle.fs_parser.specs.Faults.{IsStart, end_of, last_place, opens, closes, opened, closed, IsTooMany, BeginsDeclaration, IsPlaced}
+use Rattle.fs_parser.specs.Front.{BeginsWith, IsTaken}
+use Rattle.fs_parser.specs.Laws.{TokensEndInText}
 use Rattle.fs_parser.specs.Machine.{Pending, Nothing, Word, Text, Typed, Frame, State, if_named, enter_if, enter, leave, plain, behind_text, behind_word, step_at, step}
-use Rattle.fs_parser.specs.Name.{Prefixes, standard_prefixes, IsNameOf, IsBracketed}
+use Rattle.fs_parser.specs.Name.{Prefixes, standard_prefixes, IsNameOf, IsShort}
+use Rattle.fs_parser.specs.Said.{IsSaid, IsSaidOfTrees, IsSaidOfToken, IsSaidOfName, IsSaidOfIri, IsPlain}
 use Rattle.fs_parser.specs.State.{frames_of, name_of_code}
 use Rattle.fs_parser.specs.Tree.{Tree, Name, PlainLiteral, TypedLiteral}
 use Rattle.fs_parser.specs.View.{tokens_of, iri_of}
@@ -19,8 +25,13 @@ use Rattle.fs_parser.specs.declared.fault.ParseFault.{ParseFault}
 use Rattle.fs_parser.specs.declared.fault.ParseFault.TheVariants as faults
 use Rattle.fs_parser.specs.declared.iri.Iri as code_iri
 use Rattle.fs_parser.specs.declared.reader.Frame as code_frame
-use Rattle.fs_parser.proofs.Documents.{HasRead, from_there, tokens_from, same_name}
+use Rattle.fs_parser.proofs.Documents.{HasRead, from_there, tokens_from}
+use Rattle.fs_parser.proofs.Names.{Contains-first, Contains-later}
 use Rattle.fs_parser.proofs.Steps.{frames_length, tokens_front}
+
+-- a full IRI or a short name
+abbrev IsNameKind : Kind → Type 0
+IsNameKind kind = (kind ≡ FullIri) ⊎ (kind ≡ ShortName)
 
 -- ---- how many parentheses are open
 
@@ -138,149 +149,207 @@ reads_on limit prefixes all ts d s next r l some e h =
       open_there = omega (arith, h.open_there, opened_push h.before t, closed_push h.before t, k);
     }
 
+-- ---- places
+
+pub start_behind : (at : ℕ) (before rest : List Token) → IsStart at rest → IsStart at (before ++ rest)
+start_behind at before rest s = (s.0, Contains-append_right before rest s.0 s.1, s.2)
+
+pub starts_there : (before : List Token) (t : Token) (rest all : List Token) (at : ℕ) → all ≡ before ++ t ∷ rest → t.at ≡ at → IsStart at all
+starts_there before t rest all at e s = subst (IsStart at) (sym e) (start_behind at before (t ∷ rest) (t, Contains-first t rest, s))
+
+start_dropped : (at i : ℕ) (ts : List Token) → IsStart at (drop i ts) → IsStart at ts
+start_dropped at zero ts s = s
+start_dropped at (suc i) [] s = s
+start_dropped at (suc i) (t ∷ ts) s = let r = start_dropped at i ts s in (r.0, Contains-later t r.0 ts r.1, r.2)
+
+pub first_starts : (ts : List lexer.Token) (d : lexer.Token) → 1 ≤ length ts → IsStart (get_or ts 0 d).at (tokens_of ts)
+first_starts ts d l = starts_there [] (token_of (get_or ts 0 d)) (tokens_of (take (length ts - 1) (drop 1 ts))) (tokens_of ts) (get_or ts 0 d).at (tokens_front ts d l) refl
+
+ends_inside : (at : ℕ) (text : List ℕ) (tokens : List Token) → AreSlicesFrom at text tokens → end_of tokens ≤ length text
+ends_inside at text [] s = omega arith
+ends_inside at text (t ∷ []) s = s.1
+ends_inside at text (t ∷ u ∷ ts) s = ends_inside (t.at + length t.text) text (u ∷ ts) s.3
+
+pub tokens_end_inside : TokensEndInText
+tokens_end_inside text tokens s = ends_inside 0 text tokens (spelled_slices text tokens s)
+
+pub end_at_last : (ts : List lexer.Token) (t : lexer.Token) → Some t ≡ slice_get ts (length ts - 1) → end_of (tokens_of ts) ≡ t.at + length t.text.now
+end_at_last [] t e = absurd (none-some t (sym e))
+end_at_last (u ∷ []) t e = ap (λ (z : lexer.Token). z.at + length z.text.now) (sym (same_Some t u e))
+end_at_last (u ∷ v ∷ ts) t e =
+    let n : length (u ∷ v ∷ ts) - 1 ≡ suc (length (v ∷ ts) - 1) = omega arith in
+    end_at_last (v ∷ ts) t (e ∙ ap (slice_get (u ∷ v ∷ ts)) n)
+
 -- ---- faults of the parts as faults of the whole
 
-pub plain_token : (limit n : ℕ) (name : Option (List ℕ)) (t : Token) (e : ParseFault) → IsPlain e → IsSaidOfToken limit n name t e
-plain_token limit n name t faults.Memory s = tt
-plain_token limit n name t (faults.Unexpected at) s = tt
-plain_token limit n name t (faults.UnexpectedEnd at) s = tt
-plain_token limit n name t (faults.UnknownPrefix at) s = absurd s
-plain_token limit n name t (faults.PrefixTwice at) s = absurd s
-plain_token limit n name t (faults.StandardPrefixChanged at) s = absurd s
-plain_token limit n name t (faults.TooDeep at) s = absurd s
+pub plain_later : (here : ℕ) (before rest all : List Token) (e : ParseFault) → all ≡ before ++ rest → IsPlain here rest e → IsPlain here all e
+plain_later here before rest all faults.Memory same s = tt
+plain_later here before rest all (faults.Unexpected at) same s = subst (IsStart at) (sym same) (start_behind at before rest s)
+plain_later here before rest all (faults.UnexpectedEnd at) same s = s
+plain_later here before rest all (faults.UnknownPrefix at) same s = absurd s
+plain_later here before rest all (faults.PrefixTwice at) same s = absurd s
+plain_later here before rest all (faults.StandardPrefixChanged at) same s = absurd s
+plain_later here before rest all (faults.TooDeep at) same s = absurd s
 
-pub deep_token : (limit n : ℕ) (name : Option (List ℕ)) (t : Token) (e : ParseFault) → t.kind ≡ Opening → IsTooDeepAt limit n t.at e → IsSaidOfToken limit n name t e
-deep_token limit n name t faults.Memory k s = tt
-deep_token limit n name t (faults.Unexpected at) k s = tt
-deep_token limit n name t (faults.UnexpectedEnd at) k s = tt
-deep_token limit n name t (faults.UnknownPrefix at) k s = absurd s
-deep_token limit n name t (faults.PrefixTwice at) k s = absurd s
-deep_token limit n name t (faults.StandardPrefixChanged at) k s = absurd s
-deep_token limit n name t (faults.TooDeep at) k s = (s.0, k, s.1)
+pub plain_trees : (limit here : ℕ) (known : Prefixes) (tokens : List Token) (e : ParseFault) → IsPlain here tokens e → IsSaidOfTrees limit here known tokens e
+plain_trees limit here known tokens faults.Memory s = tt
+plain_trees limit here known tokens (faults.Unexpected at) s = s
+plain_trees limit here known tokens (faults.UnexpectedEnd at) s = s
+plain_trees limit here known tokens (faults.UnknownPrefix at) s = absurd s
+plain_trees limit here known tokens (faults.PrefixTwice at) s = absurd s
+plain_trees limit here known tokens (faults.StandardPrefixChanged at) s = absurd s
+plain_trees limit here known tokens (faults.TooDeep at) s = absurd s
 
-pub plain_trees : (limit : ℕ) (prefixes : Prefixes) (all : List Token) (e : ParseFault) → IsPlain e → IsSaidOfTrees limit prefixes all e
-plain_trees limit prefixes all faults.Memory s = tt
-plain_trees limit prefixes all (faults.Unexpected at) s = tt
-plain_trees limit prefixes all (faults.UnexpectedEnd at) s = tt
-plain_trees limit prefixes all (faults.UnknownPrefix at) s = absurd s
-plain_trees limit prefixes all (faults.PrefixTwice at) s = absurd s
-plain_trees limit prefixes all (faults.StandardPrefixChanged at) s = absurd s
-plain_trees limit prefixes all (faults.TooDeep at) s = absurd s
+-- the faults behind some of the tokens
+pub plain_said : (here : ℕ) (declared : Prefixes) (before rest all : List Token) (e : ParseFault) → all ≡ before ++ rest → IsPlain here rest e → IsSaid here declared all e
+plain_said here declared before rest all e same s = go e (plain_later here before rest all e same s)
+  where
+    go : (e : ParseFault) → IsPlain here all e → IsSaid here declared all e
+    go faults.Memory s = tt
+    go (faults.Unexpected at) s = s
+    go (faults.UnexpectedEnd at) s = s
+    go (faults.UnknownPrefix at) s = absurd s
+    go (faults.PrefixTwice at) s = absurd s
+    go (faults.StandardPrefixChanged at) s = absurd s
+    go (faults.TooDeep at) s = absurd s
 
-pub plain_said : (known : Prefixes) (tokens : List Token) (e : ParseFault) → IsPlain e → IsSaid known tokens e
-plain_said known tokens faults.Memory s = tt
-plain_said known tokens (faults.Unexpected at) s = tt
-plain_said known tokens (faults.UnexpectedEnd at) s = tt
-plain_said known tokens (faults.UnknownPrefix at) s = absurd s
-plain_said known tokens (faults.PrefixTwice at) s = absurd s
-plain_said known tokens (faults.StandardPrefixChanged at) s = absurd s
-plain_said known tokens (faults.TooDeep at) s = absurd s
+no_short : (prefixes : Prefixes) (t : Token) (r : Option code_iri.Iri) → t.kind ≡ ShortName → IfNone r ((iri : List ℕ) → IsNameOf prefixes t iri → ⊥) → name_of_code r ≡ None
+    → (iri : List ℕ) → IsShort prefixes t.text iri → ⊥
+no_short prefixes t None k none e = λ iri h. none iri (inr (k, h))
+no_short prefixes t (Some i) k none e = absurd (none-some (iri_of i) (sym e))
 
-no_name : (prefixes : Prefixes) (t : Token) (r : Option code_iri.Iri) → IfNone r ((iri : List ℕ) → IsNameOf prefixes t iri → ⊥) → name_of_code r ≡ None → (iri : List ℕ) → IsNameOf prefixes t iri → ⊥
-no_name prefixes t None none e = none
-no_name prefixes t (Some i) none e = absurd (none-some (iri_of i) (sym e))
-
-pub token_trees : (limit : ℕ) (prefixes : Prefixes) (all : List Token) (ts : List lexer.Token) (d : lexer.Token) (fs : List code_frame.Frame) (r : Option code_iri.Iri) (e : ParseFault) → 1 ≤ length ts
+pub token_trees : (limit here : ℕ) (prefixes : Prefixes) (all : List Token) (ts : List lexer.Token) (d : lexer.Token) (fs : List code_frame.Frame) (r : Option code_iri.Iri) (e : ParseFault) → 1 ≤ length ts
     → IfNone r ((iri : List ℕ) → IsNameOf prefixes (token_of (get_or ts 0 d)) iri → ⊥) → IsReadTo all (tokens_of ts) (length (frames_of fs))
-    → IsSaidOfToken limit (length fs) (name_of_code r) (token_of (get_or ts 0 d)) e → IsSaidOfTrees limit prefixes all e
-token_trees limit prefixes all ts d fs r faults.Memory l none h s = tt
-token_trees limit prefixes all ts d fs r (faults.Unexpected at) l none h s = tt
-token_trees limit prefixes all ts d fs r (faults.UnexpectedEnd at) l none h s = tt
-token_trees limit prefixes all ts d fs r (faults.PrefixTwice at) l none h s = absurd s
-token_trees limit prefixes all ts d fs r (faults.StandardPrefixChanged at) l none h s = absurd s
-token_trees limit prefixes all ts d fs r (faults.UnknownPrefix at) l none h s =
-    record {
-      before = h.before;
-      name = token_of (get_or ts 0 d);
-      after = tokens_of (take (length ts - 1) (drop 1 ts));
-      tokens_are = h.tokens_are ∙ ap (λ (z : List Token). h.before ++ z) (tokens_front ts d l);
-      place = s.0;
-      kind = s.1;
-      unknown = no_name prefixes (token_of (get_or ts 0 d)) r none s.2;
-    }
-token_trees limit prefixes all ts d fs r (faults.TooDeep at) l none h s =
-    record {
-      before = h.before;
-      parenthesis = token_of (get_or ts 0 d);
-      after = tokens_of (take (length ts - 1) (drop 1 ts));
-      tokens_are = h.tokens_are ∙ ap (λ (z : List Token). h.before ++ z) (tokens_front ts d l);
-      place = s.0;
-      kind = s.1;
-      full = omega (arith, h.open_there, frames_length fs, s.2);
-    }
+    → IsSaidOfToken limit (length fs) (name_of_code r) (token_of (get_or ts 0 d)) e → IsSaidOfTrees limit here prefixes all e
+token_trees limit here prefixes all ts d fs r e l none h = go e
+  where
+    t : Token
+    t = token_of (get_or ts 0 d)
+
+    rest : List Token
+    rest = tokens_of (take (length ts - 1) (drop 1 ts))
+
+    same : all ≡ h.before ++ t ∷ rest
+    same = h.tokens_are ∙ ap (λ (z : List Token). h.before ++ z) (tokens_front ts d l)
+
+    go : (e : ParseFault) → IsSaidOfToken limit (length fs) (name_of_code r) t e → IsSaidOfTrees limit here prefixes all e
+    go faults.Memory s = tt
+    go (faults.Unexpected at) s = starts_there h.before t rest all at same s
+    go (faults.UnexpectedEnd at) s = absurd s
+    go (faults.PrefixTwice at) s = absurd s
+    go (faults.StandardPrefixChanged at) s = absurd s
+    go (faults.UnknownPrefix at) s =
+        let there : Contains all t = subst (λ (z : List Token). Contains z t) (sym same) (Contains-append_right h.before (t ∷ rest) t (Contains-first t rest)) in
+        record { name = t; there = there; place = s.0; kind = s.1; unknown = no_short prefixes t r s.1 none s.2 }
+    go (faults.TooDeep at) s =
+        record { before = h.before; parenthesis = t; after = rest; tokens_are = same; place = s.0; kind = s.1; full = omega (arith, h.open_there, frames_length fs, s.2) }
+
+-- the trees end at a token behind those that were read
+pub end_trees : (limit here : ℕ) (prefixes : Prefixes) (all : List Token) (ts : List lexer.Token) (n : ℕ) (e : ParseFault) → 1 ≤ length ts → IsReadTo all (tokens_of ts) n
+    → IsPlain here (tokens_of (take (length ts - 1) (drop 1 ts))) e → IsSaidOfTrees limit here prefixes all e
+end_trees limit here prefixes all [] n e l h s = absurd (omega arith)
+end_trees limit here prefixes all (t ∷ ts) n e l h s =
+    let rest = tokens_of (take (length (t ∷ ts) - 1) ts) in
+    let same : all ≡ (h.before ++ token_of t ∷ []) ++ rest =
+    h.tokens_are ∙ ap (λ (z : List Token). h.before ++ z) (tokens_front (t ∷ ts) t l) ∙ sym (append_assoc h.before (token_of t ∷ []) rest) in
+    plain_trees limit here prefixes all e (plain_later here (h.before ++ token_of t ∷ []) rest all e same s)
 
 -- ---- declarations, and what stands behind them
 
-pub twice_said : (known : Prefixes) (tokens : List Token) (t u v : Token) (more : List Token) (e : ParseFault) → tokens ≡ t ∷ u ∷ v ∷ more → BeginsWith (codes "Prefix") tokens → v.kind ≡ PrefixName
-    → ((name : List ℕ) → v.text ≡ name ++ codes ":" → MayBeNamed known name → ⊥) → IsTwiceAt v.at e → IsSaid known tokens e
-twice_said known tokens t u v more faults.Memory e b k none s = tt
-twice_said known tokens t u v more (faults.Unexpected at) e b k none s = tt
-twice_said known tokens t u v more (faults.UnexpectedEnd at) e b k none s = tt
-twice_said known tokens t u v more (faults.UnknownPrefix at) e b k none s = absurd s
-twice_said known tokens t u v more (faults.StandardPrefixChanged at) e b k none s = absurd s
-twice_said known tokens t u v more (faults.TooDeep at) e b k none s = absurd s
-twice_said known tokens t u v more (faults.PrefixTwice at) e b k none s =
-    record { word = t; opening = u; name = v; after = more; tokens_are = e; begins = b; place = s; kind = k; declared = none }
+-- a name that is known, and no standard one, was declared
+pub name_taken_before : (declared : Prefixes) (name iri : List ℕ) → ((other : List ℕ) → Contains standard_prefixes (name, other) → ⊥) → Contains (standard_prefixes ++ declared) (name, iri) → IsTaken declared name
+name_taken_before declared name iri none c =
+    elim (Contains-append_cases standard_prefixes declared (name, iri) c) [ inl a ↦ absurd (none iri a) | inr b ↦ ((iri, b), none) ]
 
-pub changed_said : (known : Prefixes) (tokens : List Token) (t u v w x : Token) (more : List Token) (name : List ℕ) (e : ParseFault) → tokens ≡ t ∷ u ∷ v ∷ w ∷ x ∷ more → BeginsWith (codes "Prefix") tokens
-    → v.kind ≡ PrefixName → v.text ≡ name ++ codes ":" → ((iri : List ℕ) → IsBracketed iri x.text → MayStandFor name iri → ⊥) → IsChangedAt v.at e → IsSaid known tokens e
-changed_said known tokens t u v w x more name faults.Memory e b k n none s = tt
-changed_said known tokens t u v w x more name (faults.Unexpected at) e b k n none s = tt
-changed_said known tokens t u v w x more name (faults.UnexpectedEnd at) e b k n none s = tt
-changed_said known tokens t u v w x more name (faults.UnknownPrefix at) e b k n none s = absurd s
-changed_said known tokens t u v w x more name (faults.PrefixTwice at) e b k n none s = absurd s
-changed_said known tokens t u v w x more name (faults.TooDeep at) e b k n none s = absurd s
-changed_said known tokens t u v w x more name (faults.StandardPrefixChanged at) e b k n none s =
-    record {
-      word = t;
-      opening = u;
-      name = v;
-      equals = w;
-      iri = x;
-      after = more;
-      tokens_are = e;
-      begins = b;
-      place = s;
-      kind = k;
-      changed = λ m i same c may. none i c (subst (λ (z : List ℕ). MayStandFor z i) (same_name m name v.text same n) may);
-    }
+pub name_said : (here : ℕ) (declared : Prefixes) (all : List Token) (t u v : Token) (more : List Token) (e : ParseFault) → all ≡ t ∷ u ∷ v ∷ more
+    → (t.kind ≡ Keyword) × (t.text ≡ codes "Prefix") → u.kind ≡ Opening → v.kind ≡ PrefixName → IsSaidOfName declared v e → IsSaid here declared all e
+name_said here declared all t u v more faults.Memory same w o k s = tt
+name_said here declared all t u v more (faults.Unexpected at) same w o k s = starts_there (t ∷ u ∷ []) v more all at same s
+name_said here declared all t u v more (faults.UnexpectedEnd at) same w o k s = absurd s
+name_said here declared all t u v more (faults.UnknownPrefix at) same w o k s = absurd s
+name_said here declared all t u v more (faults.StandardPrefixChanged at) same w o k s = absurd s
+name_said here declared all t u v more (faults.TooDeep at) same w o k s = absurd s
+name_said here declared all t u v more (faults.PrefixTwice at) same w o k (place, prefix, text, taken) =
+    let begins : BeginsDeclaration prefix v all more = record { word = t; opening = u; tokens_are = same; keyword = w; opens = o; name_is = (k, text) } in
+    record { prefix = prefix; name = v; behind = more; begins = begins; place = place; taken = taken }
 
-pub trees_said : (known : Prefixes) (tokens : List Token) (t u : Token) (inside : List Token) (e : ParseFault) → tokens ≡ t ∷ u ∷ inside → t.kind ≡ Keyword → u.kind ≡ Opening
-    → IsSaidOfTrees 64 known inside e → IsSaid known tokens e
-trees_said known tokens t u inside faults.Memory e k o s = tt
-trees_said known tokens t u inside (faults.Unexpected at) e k o s = tt
-trees_said known tokens t u inside (faults.UnexpectedEnd at) e k o s = tt
-trees_said known tokens t u inside (faults.PrefixTwice at) e k o s = absurd s
-trees_said known tokens t u inside (faults.StandardPrefixChanged at) e k o s = absurd s
-trees_said known tokens t u inside (faults.UnknownPrefix at) e k o s =
-    record {
-      before = t ∷ u ∷ s.before;
-      name = s.name;
-      after = s.after;
-      tokens_are = e ∙ ap (λ (z : List Token). t ∷ u ∷ z) s.tokens_are;
-      place = s.place;
-      kind = s.kind;
-      unknown = s.unknown;
-    }
-trees_said known tokens t u inside (faults.TooDeep at) e k o s =
+pub iri_said : (here : ℕ) (declared : Prefixes) (all : List Token) (t u v w x : Token) (more : List Token) (prefix : List ℕ) (e : ParseFault) → all ≡ t ∷ u ∷ v ∷ w ∷ x ∷ more
+    → (t.kind ≡ Keyword) × (t.text ≡ codes "Prefix") → u.kind ≡ Opening → (v.kind ≡ PrefixName) × (v.text ≡ prefix ++ codes ":") → w.kind ≡ Equals → x.kind ≡ FullIri
+    → IsSaidOfIri prefix v.at x e → IsSaid here declared all e
+iri_said here declared all t u v w x more prefix faults.Memory same f o n q k s = tt
+iri_said here declared all t u v w x more prefix (faults.Unexpected at) same f o n q k s = starts_there (t ∷ u ∷ v ∷ w ∷ []) x more all at same s
+iri_said here declared all t u v w x more prefix (faults.UnexpectedEnd at) same f o n q k s = absurd s
+iri_said here declared all t u v w x more prefix (faults.UnknownPrefix at) same f o n q k s = absurd s
+iri_said here declared all t u v w x more prefix (faults.PrefixTwice at) same f o n q k s = absurd s
+iri_said here declared all t u v w x more prefix (faults.TooDeep at) same f o n q k s = absurd s
+iri_said here declared all t u v w x more prefix (faults.StandardPrefixChanged at) same f o n q k (place, iri, bracketed, changed) =
+    let begins : BeginsDeclaration prefix v all (w ∷ x ∷ more) = record { word = t; opening = u; tokens_are = same; keyword = f; opens = o; name_is = n } in
+    record { prefix = prefix; iri = iri; name = v; equals = w; full = x; behind = more; begins = begins; place = place; sign = q; iri_is = (k, bracketed); changed = changed }
+
+pub trees_said : (here : ℕ) (declared : Prefixes) (all : List Token) (t u : Token) (inside : List Token) (e : ParseFault) → all ≡ t ∷ u ∷ inside
+    → (t.kind ≡ Keyword) × (t.text ≡ codes "Ontology") → u.kind ≡ Opening → IsSaidOfTrees 64 here (standard_prefixes ++ declared) inside e → IsSaid here declared all e
+trees_said here declared all t u inside faults.Memory same f o s = tt
+trees_said here declared all t u inside (faults.Unexpected at) same f o s = subst (IsStart at) (sym same) (start_behind at (t ∷ u ∷ []) inside s)
+trees_said here declared all t u inside (faults.UnexpectedEnd at) same f o s = s
+trees_said here declared all t u inside (faults.PrefixTwice at) same f o s = absurd s
+trees_said here declared all t u inside (faults.StandardPrefixChanged at) same f o s = absurd s
+trees_said here declared all t u inside (faults.UnknownPrefix at) same f o s =
+    let there : Contains all s.name = subst (λ (z : List Token). Contains z s.name) (sym same) (Contains-append_right (t ∷ u ∷ []) inside s.name s.there) in (
+      subst (BeginsWith (codes "Ontology")) (sym same) f,
+      record { name = s.name; there = there; place = s.place; kind = s.kind; unknown = s.unknown },
+    )
+trees_said here declared all t u inside (faults.TooDeep at) same f o s =
     let a : opens u.kind ≡ 1 = ap opens o in
     let b : closes u.kind ≡ 0 = ap closes o in
-    let c : closes t.kind ≡ 0 = ap closes k in
+    let c : closes t.kind ≡ 0 = ap closes f.0 in
     record {
       before = t ∷ u ∷ s.before;
       parenthesis = s.parenthesis;
       after = s.after;
-      tokens_are = e ∙ ap (λ (z : List Token). t ∷ u ∷ z) s.tokens_are;
+      tokens_are = same ∙ ap (λ (z : List Token). t ∷ u ∷ z) s.tokens_are;
       place = s.place;
       kind = s.kind;
       full = omega (arith, s.full, a, b, c);
     }
 
-pub placed_there : (ts : List lexer.Token) (i : ℕ) (ds : Prefixes) (e : ParseFault) → HasRead ts i ds → IsSaid (standard_prefixes ++ ds) (from_there ts i) e → IsPlaced (tokens_of ts) e
-placed_there ts i ds e h s =
+-- declarations close what they open
+too_many_behind : (limit at : ℕ) (ds : Prefixes) (tokens rest : List Token) → AreDeclarations ds tokens rest → IsTooMany limit at rest → IsTooMany limit at tokens
+too_many_behind limit at [] tokens rest h s = subst (IsTooMany limit at) (sym h) s
+too_many_behind limit at (d ∷ ds) tokens rest (others, one, more) s =
+    let k = too_many_behind limit at ds others rest more s in
+    let a : opens one.word.kind ≡ 0 = ap opens one.keyword.0 in
+    let a' : closes one.word.kind ≡ 0 = ap closes one.keyword.0 in
+    let b : opens one.opening.kind ≡ 1 = ap opens one.signs.0 in
+    let b' : closes one.opening.kind ≡ 0 = ap closes one.signs.0 in
+    let c : opens one.name.kind ≡ 0 = ap opens one.name_is.0 in
+    let c' : closes one.name.kind ≡ 0 = ap closes one.name_is.0 in
+    let d : opens one.equals.kind ≡ 0 = ap opens one.signs.1 in
+    let d' : closes one.equals.kind ≡ 0 = ap closes one.signs.1 in
+    let f : opens one.iri.kind ≡ 0 = ap opens one.iri_is.0 in
+    let f' : closes one.iri.kind ≡ 0 = ap closes one.iri_is.0 in
+    let g : opens one.closing.kind ≡ 0 = ap opens one.signs.2 in
+    let g' : closes one.closing.kind ≡ 1 = ap closes one.signs.2 in
     record {
-      declared = ds;
-      rest = drop i (tokens_of ts);
-      declarations = h.1;
-      said = subst (λ (x : List Token). IsSaid (standard_prefixes ++ ds) x e) (tokens_from ts i) s;
+      before = one.word ∷ one.opening ∷ one.name ∷ one.equals ∷ one.iri ∷ one.closing ∷ k.before;
+      parenthesis = k.parenthesis;
+      after = k.after;
+      tokens_are = one.tokens_are ∙ ap (λ (z : List Token). one.word ∷ one.opening ∷ one.name ∷ one.equals ∷ one.iri ∷ one.closing ∷ z) k.tokens_are;
+      place = k.place;
+      kind = k.kind;
+      full = omega (arith, k.full, a, a', b, b', c, c', d, d', f, f', g, g');
     }
+
+pub placed_there : (ts : List lexer.Token) (i here : ℕ) (ds : Prefixes) (e : ParseFault) → HasRead ts i ds → here ≡ last_place (tokens_of ts) → IsSaid here ds (from_there ts i) e → IsPlaced (tokens_of ts) e
+placed_there ts i here ds e h k s = go e (subst (λ (x : List Token). IsSaid here ds x e) (tokens_from ts i) s)
+  where
+    rest : List Token
+    rest = drop i (tokens_of ts)
+
+    go : (e : ParseFault) → IsSaid here ds rest e → IsPlaced (tokens_of ts) e
+    go faults.Memory s = tt
+    go (faults.Unexpected at) s = start_dropped at i (tokens_of ts) s
+    go (faults.UnexpectedEnd at) s = sym s ∙ k
+    go (faults.UnknownPrefix at) s = record { declared = ds; rest = rest; declarations = h.1; allowed = h.2; holds = s }
+    go (faults.PrefixTwice at) s = record { declared = ds; rest = rest; declarations = h.1; allowed = h.2; holds = s }
+    go (faults.StandardPrefixChanged at) s = record { declared = ds; rest = rest; declarations = h.1; allowed = h.2; holds = s }
+    go (faults.TooDeep at) s = too_many_behind 65 at ds (tokens_of ts) rest h.1 s

@@ -1,17 +1,33 @@
--- What a refusal of tokens says.
-use Rattle.std.specs.Prelude.{◌≡◌, ℕ, ◌+◌, ◌≤◌, List, [], ◌∷◌, ◌++◌, Option, None, codes, ◌⊎◌}
+-- What a refusal of tokens says of the tokens.
+use Rattle.std.specs.Prelude.{◌≡◌, ℕ, ◌+◌, ◌-◌, ◌^◌, ◌≤◌, List, [], ◌∷◌, ◌++◌, codes, length, min}
+use Rattle.std.specs.List.{Contains}
 use Rattle.fs_lexer.specs.declared.token.Kind.{Kind}
-use Rattle.fs_lexer.specs.declared.token.Kind.TheVariants.{Opening, Closing, FullIri, ShortName, PrefixName}
+use Rattle.fs_lexer.specs.declared.token.Kind.TheVariants.{Opening, Closing, Equals, FullIri, Keyword, PrefixName, ShortName}
 use Rattle.fs_lexer.specs.Spelling.{Token}
 use Rattle.fs_parser.specs.declared.fault.ParseFault.{ParseFault}
-use Rattle.fs_parser.specs.declared.fault.ParseFault.TheVariants.{UnknownPrefix, PrefixTwice, StandardPrefixChanged, TooDeep}
-use Rattle.fs_parser.specs.Document.{AreDeclarations}
-use Rattle.fs_parser.specs.Front.{BeginsWith, MayBeNamed, MayStandFor}
-use Rattle.fs_parser.specs.Name.{Prefixes, standard_prefixes, IsNameOf, IsBracketed}
+use Rattle.fs_parser.specs.declared.fault.ParseFault.TheVariants.{Unexpected, UnexpectedEnd, UnknownPrefix, PrefixTwice, StandardPrefixChanged, TooDeep, Memory}
+use Rattle.fs_parser.specs.Document.{AreDeclarations, AreAllowed}
+use Rattle.fs_parser.specs.Front.{BeginsWith, IsTaken, IsChangedTo}
+use Rattle.fs_parser.specs.Name.{Prefixes, standard_prefixes, IsShort, IsBracketed}
+use Rattle.fs_parser.specs.Tree.{IsSign}
 
--- a full IRI or a short name
-abbrev pub IsNameKind : Kind → Type 0
-IsNameKind kind = (kind ≡ FullIri) ⊎ (kind ≡ ShortName)
+-- ---- places
+
+-- one of the tokens begins at this place
+abbrev pub IsStart : ℕ → List Token → Type 0
+IsStart at tokens = (t : Token) × Contains tokens t × (t.at ≡ at)
+
+-- where the last token ends, and 0 where there is none
+abbrev pub end_of : List Token → ℕ
+end_of [] = 0
+end_of (t ∷ []) = t.at + length t.text
+end_of (t ∷ u ∷ ts) = end_of (u ∷ ts)
+
+-- .. as a place, of which 2 ^ 64 - 1 is the last
+abbrev pub last_place : List Token → ℕ
+last_place tokens = min (end_of tokens) (2 ^ 64 - 1)
+
+-- ---- parentheses
 
 -- how many parentheses a token opens, and how many it closes
 abbrev pub opens : Kind → ℕ
@@ -31,16 +47,6 @@ abbrev pub closed : List Token → ℕ
 closed [] = 0
 closed (t ∷ ts) = closes t.kind + closed ts
 
--- the name at this place is no name by the prefixes
-pub record IsUnknown (known : Prefixes) (at : ℕ) (tokens : List Token) : Type 0 where
-  pub before : List Token
-  pub name : Token
-  pub after : List Token
-  pub tokens_are : tokens ≡ before ++ name ∷ after
-  pub place : name.at ≡ at
-  pub kind : IsNameKind name.kind
-  pub unknown : (iri : List ℕ) → IsNameOf known name iri → ⊥
-
 -- the parenthesis at this place opens where so many are open
 pub record IsTooMany (limit : ℕ) (at : ℕ) (tokens : List Token) : Type 0 where
   pub before : List Token
@@ -51,89 +57,66 @@ pub record IsTooMany (limit : ℕ) (at : ℕ) (tokens : List Token) : Type 0 whe
   pub kind : parenthesis.kind ≡ Opening
   pub full : closed before + limit ≤ opened before
 
--- the tokens begin with a declaration whose name stands at this place and may not be declared
-pub record IsTwice (known : Prefixes) (at : ℕ) (tokens : List Token) : Type 0 where
-  pub word : Token
-  pub opening : Token
-  pub name : Token
-  pub after : List Token
-  pub tokens_are : tokens ≡ word ∷ opening ∷ name ∷ after
-  pub begins : BeginsWith (codes "Prefix") tokens
-  pub place : name.at ≡ at
-  pub kind : name.kind ≡ PrefixName
-  pub declared : (n : List ℕ) → name.text ≡ n ++ codes ":" → MayBeNamed known n → ⊥
+-- ---- prefixes
 
--- .. whose name stands at this place and may not stand for the IRI
-pub record IsChanged (at : ℕ) (tokens : List Token) : Type 0 where
+-- the short name at this place is short for no IRI, since its prefix is none of these
+pub record IsUnknown (known : Prefixes) (at : ℕ) (tokens : List Token) : Type 0 where
+  pub name : Token
+  pub there : Contains tokens name
+  pub place : name.at ≡ at
+  pub kind : name.kind ≡ ShortName
+  pub unknown : (iri : List ℕ) → IsShort known name.text iri → ⊥
+
+-- .. and stands in the ontology, where these and the standard ones are all prefixes
+abbrev pub IsUndeclared : ℕ → Prefixes → List Token → Type 0
+IsUndeclared at declared tokens = BeginsWith (codes "Ontology") tokens × IsUnknown (standard_prefixes ++ declared) at tokens
+
+-- the tokens are Prefix(name and what is behind it, and this prefix has the name
+pub record BeginsDeclaration (prefix : List ℕ) (name : Token) (tokens behind : List Token) : Type 0 where
   pub word : Token
   pub opening : Token
+  pub tokens_are : tokens ≡ word ∷ opening ∷ name ∷ behind
+  pub keyword : (word.kind ≡ Keyword) × (word.text ≡ codes "Prefix")
+  pub opens : IsSign Opening opening
+  pub name_is : (name.kind ≡ PrefixName) × (name.text ≡ prefix ++ codes ":")
+
+-- the tokens begin with a declaration, and one of these declares the prefix whose name stands at this place
+pub record IsTwice (at : ℕ) (declared : Prefixes) (tokens : List Token) : Type 0 where
+  pub prefix : List ℕ
+  pub name : Token
+  pub behind : List Token
+  pub begins : BeginsDeclaration prefix name tokens behind
+  pub place : name.at ≡ at
+  pub taken : IsTaken declared prefix
+
+-- the tokens begin with a declaration, and the standard prefix whose name stands at this place gets another IRI
+pub record IsChanged (at : ℕ) (tokens : List Token) : Type 0 where
+  pub prefix : List ℕ
+  pub iri : List ℕ
   pub name : Token
   pub equals : Token
-  pub iri : Token
-  pub after : List Token
-  pub tokens_are : tokens ≡ word ∷ opening ∷ name ∷ equals ∷ iri ∷ after
-  pub begins : BeginsWith (codes "Prefix") tokens
+  pub full : Token
+  pub behind : List Token
+  pub begins : BeginsDeclaration prefix name tokens (equals ∷ full ∷ behind)
   pub place : name.at ≡ at
-  pub kind : name.kind ≡ PrefixName
-  pub changed : (n i : List ℕ) → name.text ≡ n ++ codes ":" → IsBracketed i iri.text → MayStandFor n i → ⊥
+  pub sign : IsSign Equals equals
+  pub iri_is : (full.kind ≡ FullIri) × IsBracketed iri full.text
+  pub changed : IsChangedTo prefix iri
 
--- what a fault says of tokens behind declarations, where these prefixes are known
-abbrev pub IsSaid : Prefixes → List Token → ParseFault → Type 0
-IsSaid known tokens (UnknownPrefix at) = IsUnknown known at tokens
-IsSaid known tokens (PrefixTwice at) = IsTwice known at tokens
-IsSaid known tokens (StandardPrefixChanged at) = IsChanged at tokens
-IsSaid known tokens (TooDeep at) = IsTooMany 65 at tokens
-IsSaid known tokens _ = Unit {0}
-
--- .. of trees, which end `here`
-abbrev pub IsSaidOfTrees : ℕ → Prefixes → List Token → ParseFault → Type 0
-IsSaidOfTrees limit known tokens (UnknownPrefix at) = IsUnknown known at tokens
-IsSaidOfTrees limit known tokens (TooDeep at) = IsTooMany limit at tokens
-IsSaidOfTrees limit known tokens (PrefixTwice at) = ⊥
-IsSaidOfTrees limit known tokens (StandardPrefixChanged at) = ⊥
-IsSaidOfTrees limit known tokens _ = Unit {0}
-
--- .. of one more token, where so many parentheses are open and the token names the IRI, if any
-abbrev pub IsSaidOfToken : ℕ → ℕ → Option (List ℕ) → Token → ParseFault → Type 0
-IsSaidOfToken limit open' name t (UnknownPrefix at) = (t.at ≡ at) × IsNameKind t.kind × (name ≡ None)
-IsSaidOfToken limit open' name t (TooDeep at) = (t.at ≡ at) × (t.kind ≡ Opening) × (limit ≤ open')
-IsSaidOfToken limit open' name t (PrefixTwice at) = ⊥
-IsSaidOfToken limit open' name t (StandardPrefixChanged at) = ⊥
-IsSaidOfToken limit open' name t _ = Unit {0}
-
--- a fault that says nothing more than its place
-abbrev pub IsPlain : ParseFault → Type 0
-IsPlain (UnknownPrefix at) = ⊥
-IsPlain (TooDeep at) = ⊥
-IsPlain (PrefixTwice at) = ⊥
-IsPlain (StandardPrefixChanged at) = ⊥
-IsPlain _ = Unit {0}
-
--- .. or one of these, at this place
-abbrev pub IsTwiceAt : ℕ → ParseFault → Type 0
-IsTwiceAt place (PrefixTwice at) = place ≡ at
-IsTwiceAt place (UnknownPrefix at) = ⊥
-IsTwiceAt place (TooDeep at) = ⊥
-IsTwiceAt place (StandardPrefixChanged at) = ⊥
-IsTwiceAt place _ = Unit {0}
-
-abbrev pub IsChangedAt : ℕ → ParseFault → Type 0
-IsChangedAt place (StandardPrefixChanged at) = place ≡ at
-IsChangedAt place (UnknownPrefix at) = ⊥
-IsChangedAt place (TooDeep at) = ⊥
-IsChangedAt place (PrefixTwice at) = ⊥
-IsChangedAt place _ = Unit {0}
-
-abbrev pub IsTooDeepAt : ℕ → ℕ → ℕ → ParseFault → Type 0
-IsTooDeepAt limit open' place (TooDeep at) = (place ≡ at) × (limit ≤ open')
-IsTooDeepAt limit open' place (UnknownPrefix at) = ⊥
-IsTooDeepAt limit open' place (PrefixTwice at) = ⊥
-IsTooDeepAt limit open' place (StandardPrefixChanged at) = ⊥
-IsTooDeepAt limit open' place _ = Unit {0}
-
--- what a fault says of tokens, the first of which are declarations
-pub record IsPlaced (tokens : List Token) (e : ParseFault) : Type 0 where
+-- behind declarations that are allowed stands what holds of them and of the rest of the tokens
+pub record IsBehind (tokens : List Token) (Holds : Prefixes → List Token → Type 0) : Type 0 where
   pub declared : Prefixes
   pub rest : List Token
   pub declarations : AreDeclarations declared tokens rest
-  pub said : IsSaid (standard_prefixes ++ declared) rest e
+  pub allowed : AreAllowed standard_prefixes declared
+  pub holds : Holds declared rest
+
+-- what each fault says of the tokens
+abbrev pub IsPlaced : List Token → ParseFault → Type 0
+IsPlaced tokens (Unexpected at) = IsStart at tokens
+IsPlaced tokens (UnexpectedEnd at) = at ≡ last_place tokens
+IsPlaced tokens (UnknownPrefix at) = IsBehind tokens (IsUndeclared at)
+IsPlaced tokens (PrefixTwice at) = IsBehind tokens (IsTwice at)
+IsPlaced tokens (StandardPrefixChanged at) = IsBehind tokens (λ declared. IsChanged at)
+IsPlaced tokens (TooDeep at) = IsTooMany 65 at tokens
+IsPlaced tokens Memory = Unit {0}

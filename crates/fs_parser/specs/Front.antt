@@ -30,3 +30,11 @@ MayBeNamed known name = ((iri : List ℕ) × Contains standard_prefixes (name, i
 -- it may stand for this IRI: if it is a standard one, it is its own
 abbrev pub MayStandFor : List ℕ → List ℕ → Type 0
 MayStandFor name iri = (other : List ℕ) → Contains standard_prefixes (name, other) → iri ≡ other
+
+-- it may not be named: one of these declares it, and it is no standard one
+abbrev pub IsTaken : Prefixes → List ℕ → Type 0
+IsTaken declared name = ((iri : List ℕ) × Contains declared (name, iri)) × ((iri : List ℕ) → Contains standard_prefixes (name, iri) → ⊥)
+
+-- it may not stand for this IRI: it is a standard one, and its own is another
+abbrev pub IsChangedTo : List ℕ → List ℕ → Type 0
+IsChangedTo name iri = (other : List ℕ) × Contains standard_prefixes (name, other) × (iri ≡ other → ⊥)

@@ -1,7 +1,8 @@
 -- What is proved of trees and documents.
-use Rattle.std.specs.Prelude.{◌≡◌, ℕ, List, ◌++◌, codes}
+use Rattle.std.specs.Prelude.{◌≡◌, ℕ, ◌≤◌, List, ◌++◌, codes, length}
 use Rattle.std.specs.List.{Contains}
-use Rattle.fs_lexer.specs.Spelling.{Token, IsPrefixName}
+use Rattle.fs_lexer.specs.Spelling.{Token, IsPrefixName, Spells}
+use Rattle.fs_parser.specs.Faults.{end_of}
 use Rattle.fs_parser.specs.Name.{Prefixes, StandForOne}
 use Rattle.fs_parser.specs.Tree.{Tree, Trees, IsTree, AreTrees}
 use Rattle.fs_parser.specs.Document.{Document, IsDocument, prefixes_of}
@@ -25,3 +26,7 @@ OneDocument = (tokens : List Token) (d e : Document) → IsDocument d tokens →
 -- the name of a prefix, as the lexer has it, holds no colon but the one at its end
 abbrev pub PrefixNamesEndAtColon : Type 0
 PrefixNamesEndAtColon = (text : List ℕ) → IsPrefixName text → (name : List ℕ) × (text ≡ name ++ codes ":") × (Contains name 58 → ⊥)
+
+-- the tokens of a text end in the text, so their end is a place
+abbrev pub TokensEndInText : Type 0
+TokensEndInText = (text : List ℕ) (tokens : List Token) → Spells text tokens → end_of tokens ≤ length text

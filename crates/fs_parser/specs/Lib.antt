@@ -8,4 +8,5 @@ pub mod Machine
 pub mod State
 pub mod Front
 pub mod Faults
+pub mod Said
 pub mod Laws

@@ -5,13 +5,14 @@ ghost use Rattle.fs_lexer.specs.declared.token.Kind.TheVariants.{Keyword};
 ghost use Rattle.fs_lexer.specs.Spelling as spelling;
 ghost use Rattle.fs_lexer.specs.Views.{token_of};
 ghost use Rattle.fs_parser.specs.Document as spec;
-ghost use Rattle.fs_parser.specs.Faults.{IsChangedAt, IsPlaced, IsPlain, IsSaid, IsTwiceAt};
+ghost use Rattle.fs_parser.specs.Faults.{IsPlaced, last_place};
 ghost use Rattle.fs_parser.specs.Front.{BeginsWith, BeginsWithKind, IsWord, MayBeNamed, MayStandFor};
 ghost use Rattle.fs_parser.specs.Name.{StandForOne, IsBracketed};
+ghost use Rattle.fs_parser.specs.Said.{IsPlain, IsSaid, IsSaidOfIri, IsSaidOfName};
 ghost use Rattle.fs_parser.specs.State.{Gives, IsRefusal};
 ghost use Rattle.fs_parser.specs.Tree.{Trees};
 ghost use Rattle.fs_parser.specs.Known.{known_of};
-ghost use Rattle.fs_parser.specs.View.{tokens_of, prefix_of, trees_of, document_of};
+ghost use Rattle.fs_parser.specs.View.{tokens_of, prefix_of, prefixes_of_code, trees_of, document_of};
 
 use crate::fault::ParseFault;
 use crate::known::Known;
@@ -28,7 +29,9 @@ const DEEPEST: usize = 64;
 const DECLARATION: usize = 6;
 
 /// Where the last token ends.
-fn end_of(tokens: &[Token<'_>]) -> usize {
+fn end_of(tokens: &[Token<'_>]) -> usize
+    ensures { result ≡ last_place (tokens_of tokens.now) }
+{
     match tokens.last() {
         Some(token) => token.at.saturating_add(token.text.len()),
         None => 0,
@@ -60,7 +63,7 @@ fn expect_word<'s, 'a>(
 ) -> Result<&'s [Token<'a>], ParseFault>
     ensures found { IfOk result (λ rest. IsWord word.now (tokens_of tokens.now) (tokens_of rest.now)) }
     ensures refused { OnErr result (BeginsWith word.now (tokens_of tokens.now) → ⊥) }
-    ensures said { IfErr result IsPlain }
+    ensures said { IfErr result (IsPlain here (tokens_of tokens.now)) }
 {
     match tokens {
         [token, rest @ ..] => {
@@ -83,7 +86,7 @@ fn expect<'s, 'a>(
     ensures found { IfOk result (λ r. tokens_of tokens.now ≡ token_of r.0 ∷ tokens_of r.1.now) }
     ensures kind { IfOk result (λ r. r.0.kind ≡ kind) }
     ensures refused { OnErr result (BeginsWithKind kind (tokens_of tokens.now) → ⊥) }
-    ensures said { IfErr result IsPlain }
+    ensures said { IfErr result (IsPlain here (tokens_of tokens.now)) }
 {
     match tokens {
         [token, rest @ ..] => {
@@ -102,7 +105,7 @@ fn new_name<'a>(known: &Known<'a>, token: &Token<'a>) -> Result<&'a str, ParseFa
     ensures found { IfOk result (λ name. token.now.text.now ≡ name.now ++ codes ":") }
     ensures allowed { IfOk result (λ name. MayBeNamed (known_of known.now) name.now) }
     ensures refused { OnErr result ((name : List ℕ) → token.now.text.now ≡ name ++ codes ":" → MayBeNamed (known_of known.now) name → ⊥) }
-    ensures said { IfErr result (IsTwiceAt token.now.at) }
+    ensures said { IfErr result (IsSaidOfName (prefixes_of_code known.now.declared.items) (token_of token.now)) }
 {
     let at = token.at;
     let Some(name) = before_colon(token.text) else {
@@ -122,7 +125,7 @@ fn new_iri<'a>(name: &str, at: usize, token: &Token<'a>) -> Result<&'a str, Pars
     ensures found { IfOk result (λ iri. IsBracketed iri.now token.now.text.now) }
     ensures allowed { IfOk result (λ iri. MayStandFor name.now iri.now) }
     ensures refused { OnErr result ((iri : List ℕ) → IsBracketed iri token.now.text.now → MayStandFor name.now iri → ⊥) }
-    ensures said { IfErr result (IsChangedAt at) }
+    ensures said { IfErr result (IsSaidOfIri name.now at (token_of token.now)) }
 {
     let Some(iri) = in_brackets(token.text) else {
         return Err(ParseFault::Unexpected { at: token.at });
@@ -148,7 +151,7 @@ fn declaration<'a>(
     ensures found { IfOk result (λ p. spec.IsDeclaration (prefix_of p) (tokens_of tokens.now) (drop 6 (tokens_of tokens.now))) }
     ensures allowed { IfOk result (λ p. spec.IsAllowed (known_of known.now) (prefix_of p)) }
     ensures refused { OnErr result ((d : List ℕ × List ℕ) (rest : List spelling.Token) → spec.IsDeclaration d (tokens_of tokens.now) rest → spec.IsAllowed (known_of known.now) d → ⊥) }
-    ensures said { IfErr result (IsSaid (known_of known.now) (tokens_of tokens.now)) }
+    ensures said { IfErr result (IsSaid here (prefixes_of_code known.now.declared.items) (tokens_of tokens.now)) }
 {
     let rest = expect_word("Prefix", tokens, here)?;
     let (_opening, rest) = expect(Kind::Opening, rest, here)?;
@@ -171,7 +174,7 @@ fn ontology<'a>(
     requires { StandForOne (known_of known.now) }
     ensures found { IfOk result (λ v. spec.IsOntology 64 (known_of known.now) (trees_of v.items) (tokens_of tokens.now)) }
     ensures only { (ts : Trees) → spec.IsOntology 64 (known_of known.now) ts (tokens_of tokens.now) → Gives (λ v. trees_of v.items) result (Some ts) }
-    ensures said { IfErr result (IsSaid (known_of known.now) (tokens_of tokens.now)) }
+    ensures said { IfErr result (IsSaid here (prefixes_of_code known.now.declared.items) (tokens_of tokens.now)) }
 {
     let rest = expect_word("Ontology", tokens, here)?;
     let (_opening, rest) = expect(Kind::Opening, rest, here)?;
@@ -184,7 +187,7 @@ pub fn forms<'a>(alloc: Global, tokens: &[Token<'a>]) -> Result<Document<'a>, Pa
     ensures found { IfOk result (λ d. spec.IsDocument (document_of d) (tokens_of tokens.now)) }
     // Tokens that are refused, other than for want of memory, are no document.
     ensures refused { IfErr result (λ e. IsRefusal e → (document : spec.Document) → spec.IsDocument document (tokens_of tokens.now) → ⊥) }
-    // What stands at the place of a refusal is what the refusal speaks of.
+    // What a fault says of its place holds.
     ensures placed { IfErr result (IsPlaced (tokens_of tokens.now)) }
 {
     let here = end_of(tokens);

@@ -1,7 +1,7 @@
 //! Reads the tokens of a document in the functional-style syntax of OWL 2 as trees, with names expanded.
 #![tactic(auto)]
 
-ghost use Rattle.fs_parser.specs.Laws.{OneTree, OneListOfTrees, DocumentsHavePrefixes, OneDocument, PrefixNamesEndAtColon};
+ghost use Rattle.fs_parser.specs.Laws.{OneTree, OneListOfTrees, DocumentsHavePrefixes, OneDocument, PrefixNamesEndAtColon, TokensEndInText};
 
 mod document;
 mod fault;
@@ -18,13 +18,14 @@ pub use prefix::Prefix;
 pub use tree::{Document, Tree};
 
 /// A law: tokens are at most one document. With prefixes that each stand for one IRI they are at most one list of trees,
-/// and the prefixes of a document are such.
+/// and the prefixes of a document are such. The tokens of a text end in the text.
 pub fn tokens_are_one_document()
     ensures document { OneDocument }
     ensures prefixes { DocumentsHavePrefixes }
     ensures trees { OneListOfTrees }
     ensures tree { OneTree }
     ensures names { PrefixNamesEndAtColon }
+    ensures ends { TokensEndInText }
 {}
 
 #[cfg(test)]

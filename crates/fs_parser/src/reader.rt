@@ -3,10 +3,10 @@
 ghost use Rattle.std.specs.Prelude.{◌≡◌, ℕ, Some, None, length, map};
 ghost use Rattle.std.specs.Result.{IfErr, IfOk, OnOk};
 ghost use Rattle.fs_lexer.specs.Views.{token_of};
-ghost use Rattle.fs_parser.specs.Faults.{IsPlain, IsSaidOfToken, IsSaidOfTrees, IsTooDeepAt};
 ghost use Rattle.fs_parser.specs.Machine as machine;
 ghost use Rattle.fs_parser.specs.Machine.{add, enter, leave, plain, behind_text, step, ends, finish, finish_before};
 ghost use Rattle.fs_parser.specs.Name.{StandForOne};
+ghost use Rattle.fs_parser.specs.Said.{IsEnd, IsMemory, IsPlain, IsPlainAt, IsSaidOfToken, IsSaidOfTrees, IsTooDeepAt};
 ghost use Rattle.fs_parser.specs.State.{Gives, Fails, whole_of, frames_of, keyword_of, name_of_code, state_of};
 ghost use Rattle.fs_parser.specs.Tree.{Trees, AreClosed};
 ghost use Rattle.fs_parser.specs.Known.{known_of};
@@ -50,7 +50,7 @@ pub struct State<'a> {
 fn push<'a>(state: &mut State<'a>, tree: Tree<'a>) -> Result<(), ParseFault>
     ensures given { Gives (λ _. state_of state.new) result (Some (add (frames_of state.old.frames.items) (map tree_of state.old.done.items) (tree_of tree.entry))) }
     ensures kept { OnOk result (state.new.frames ≡ state.old.frames) }
-    ensures said { IfErr result IsPlain }
+    ensures said { IfErr result IsMemory }
 {
     state.done.push(tree)?;
     state.pending = Pending::Nothing;
@@ -95,7 +95,7 @@ fn whole<'a>(at: usize, keyword: Option<&'a str>, trees: Vec<Tree<'a>>) -> Tree<
 /// One open parenthesis less.
 fn close(state: &mut State<'_>, here: usize) -> Result<(), ParseFault>
     ensures given { Gives (λ _. state_of state.new) result (leave (frames_of state.old.frames.items) (map tree_of state.old.done.items)) }
-    ensures said { IfErr result IsPlain }
+    ensures said { IfErr result (IsPlainAt here) }
 {
     match state.frames.pop() {
         Some(frame) => {
@@ -106,13 +106,13 @@ fn close(state: &mut State<'_>, here: usize) -> Result<(), ParseFault>
     }
 }
 
-/// Why the token names no IRI: its prefix is not known, or it is no name.
+/// Why the token names no IRI: its prefix is not known, or it is no short name.
 fn unnamed(token: &Token<'_>) -> ParseFault
     ensures given { Fails {Y = machine.State} result None }
     ensures said { (limit open' : ℕ) → IsSaidOfToken limit open' None (token_of token.now) result }
 {
     match token.kind {
-        Kind::FullIri | Kind::ShortName => ParseFault::UnknownPrefix { at: token.at },
+        Kind::ShortName => ParseFault::UnknownPrefix { at: token.at },
         _ => ParseFault::Unexpected { at: token.at },
     }
 }
@@ -234,7 +234,7 @@ fn take<'a>(
 /// The trees, at the end of the tokens.
 fn end(state: State<'_>, here: usize) -> Result<Vec<Tree<'_>>, ParseFault>
     ensures given { Gives (λ v. map tree_of v.items) result (finish (state_of state.entry)) }
-    ensures said { IfErr result IsPlain }
+    ensures said { IfErr result (IsEnd here) }
 {
     if !state.frames.is_empty() {
         return Err(ParseFault::UnexpectedEnd { at: here });
@@ -270,7 +270,7 @@ fn end_before<'a>(
     here: usize,
 ) -> Result<Vec<Tree<'a>>, ParseFault>
     ensures given { Gives (λ v. map tree_of v.items) result (finish_before (tokens_of rest.now) (state_of state.entry)) }
-    ensures said { IfErr result IsPlain }
+    ensures said { IfErr result (IsPlain here (tokens_of rest.now)) }
 {
     match rest {
         [] => end(state, here),
@@ -292,7 +292,7 @@ pub fn trees_inside<'a>(
     // Where they are such trees these are found, unless memory runs out.
     ensures only { (ts : Trees) → AreClosed limit (known_of known.now) ts (tokens_of tokens.now) → Gives (λ v. trees_of v.items) result (Some ts) }
     // What a refusal speaks of stands at its place.
-    ensures said { IfErr result (IsSaidOfTrees limit (known_of known.now) (tokens_of tokens.now)) }
+    ensures said { IfErr result (IsSaidOfTrees limit here (known_of known.now) (tokens_of tokens.now)) }
 {
     let mut state = State {
         frames: Vec::new(alloc),

@@ -118,7 +118,7 @@ const ROWS: [(&str, &str, &str); 11] = [
 ];
 
 /// Texts, each with what it is.
-const TEXTS: [(&str, &str); 92] = [
+const TEXTS: [(&str, &str); 95] = [
     // What ends too early stands where its last token ends.
     (" # Ontology()\n", "P2 at byte 0"),
     ("Ontology", "P2 at byte 8"),
@@ -181,6 +181,19 @@ const TEXTS: [(&str, &str); 92] = [
     ("Ontology(OWL:Thing)", "P3 at byte 9"),
     ("Ontology(\"a\"^^q:A)", "P3 at byte 14"),
     ("Prefix(:=<x:>)Ontology(:A q:A)", "P3 at byte 26"),
+    // Every declared prefix is known, wherever the document fails.
+    (
+        "Prefix(a:=<x:>)Prefix(b:=<y:>)Ontology(a:A b:B c:C)",
+        "P3 at byte 47",
+    ),
+    (
+        "Prefix(a:=<x:>)Prefix(b:=<y:>)Ontology(a:A b:B K)",
+        "P1 at byte 48",
+    ),
+    (
+        "Prefix(a:=<x:>)Prefix(b:=<y:>)Ontology(a:A b:B",
+        "P2 at byte 46",
+    ),
     // A prefix that is declared again is told at its name, as soon as the name is read.
     ("Prefix(:=<x:>)Prefix(:=<x:>) Ontology()", "P4 at byte 21"),
     ("Prefix(:=<x:>)Prefix(:=<y:>)Ontology()", "P4 at byte 21"),
@@ -366,6 +379,10 @@ fn deepest_expression(rt: HostRuntime) -> Result<(), Fail> {
     }
     let deeper = deep(alloc, 64)?;
     assert!(rt; is_shown(alloc, deeper.as_str(), "P6 at byte 1747")?);
+    // A declaration closes its parenthesis.
+    let mut declared = String::from_str(alloc, "Prefix(:=<x:>)")?;
+    declared.push_str(deeper.as_str())?;
+    assert!(rt; is_shown(alloc, declared.as_str(), "P6 at byte 1761")?);
     Ok(())
 }
 

@@ -36,11 +36,11 @@ returns-clause-found c =
 pub returns-in_err-prefix-clause-placed : goal.returns-in_err-prefix-clause-placed
 returns-in_err-prefix-clause-placed c =
     let p = err_from_is_err_and c.from_residual.result c.from_residual.ensures.1 in
-    rw (p.1, p.2) (placed_there c.args.tokens.now c.declarations.read (prefixes_of_code c.declarations.known.declared.items) c.in_err-prefix.field-0.0 c.declarations.invariant
-    c.in_err-prefix.ensures.said)
+    rw (p.1, p.2) (placed_there c.args.tokens.now c.declarations.read c.end_of-here.result (prefixes_of_code c.declarations.known.declared.items) c.in_err-prefix.field-0.0 c.declarations.invariant
+    c.end_of-here.ensures c.in_err-prefix.ensures.said)
 
 pub returns-in_err-trees-clause-placed : goal.returns-in_err-trees-clause-placed
 returns-in_err-trees-clause-placed c =
     let p = err_from_is_err_and c.from_residual-in_err-trees.result c.from_residual-in_err-trees.ensures.1 in
-    rw (p.1, p.2) (placed_there c.args.tokens.now c.declarations.read (prefixes_of_code c.declarations.known.declared.items) c.in_err-trees.field-0.0 c.declarations.invariant
-    c.in_err-trees.ensures.said)
+    rw (p.1, p.2) (placed_there c.args.tokens.now c.declarations.read c.end_of-here.result (prefixes_of_code c.declarations.known.declared.items) c.in_err-trees.field-0.0 c.declarations.invariant
+    c.end_of-here.ensures c.in_err-trees.ensures.said)

@@ -1,12 +1,12 @@
-use Rattle.std.proofs.Common.{map, sym, ◌∙◌, arith}
+use Rattle.std.proofs.Common.{◌-◌, length, take, drop, map, sym, ◌∙◌, arith}
 use Rattle.std.proofs.lemmas.Result.{err_from_is_err_and}
 use Rattle.fs_parser.specs.Known.{known_of}
+use Rattle.fs_parser.specs.Said.{IsPlain, IsSaidOfTrees}
 use Rattle.fs_parser.specs.View.{tree_of, tokens_of}
-use Rattle.fs_parser.specs.State.{state_of}
+use Rattle.fs_parser.specs.State.{state_of, frames_of}
 use Rattle.fs_parser.proofs.Run.{inside, start}
 use Rattle.fs_parser.proofs.Inside.{found_by, only_by}
-use Rattle.fs_parser.proofs.Faults.{reads_on, token_trees, plain_trees}
-use Rattle.fs_parser.specs.Faults.{IsPlain, IsSaidOfTrees}
+use Rattle.fs_parser.proofs.Faults.{reads_on, token_trees, end_trees}
 use Rattle.std.proofs.lemmas.Result.{IfErr-weaker}
 use Rattle.fs_parser.proofs.Steps.{loop_goes_on, loop_stops, loop_ends, loop_none}
 use Rattle.fs_parser.proofs.reader.trees_inside.Goals as goal
@@ -54,10 +54,12 @@ pub returns-in_err-take-clause-said : goal.returns-in_err-take-clause-said
 returns-in_err-take-clause-said c =
     let prefixes = known_of c.args.known.now in
     let p = err_from_is_err_and c.from_residual.result c.from_residual.ensures.1 in
-    rw (p.1, p.2) (token_trees c.args.limit prefixes (tokens_of c.args.tokens.now) c.loop-rest.rest.now _ c.loop-rest.state.frames.items c.expand.result
+    rw (p.1, p.2) (token_trees c.args.limit c.args.here prefixes (tokens_of c.args.tokens.now) c.loop-rest.rest.now _ c.loop-rest.state.frames.items c.expand.result
     c.in_err-take.field-0.0 c.in-len1-up.len_at_least c.expand.ensures.none c.loop-rest.invariant.1 c.in_err-take.ensures.said)
 
 pub returns-then-is_ended_by-clause-said : goal.returns-then-is_ended_by-clause-said
 returns-then-is_ended_by-clause-said c =
-    let prefixes = known_of c.args.known.now in
-    IfErr-weaker c.end_before.result IsPlain (IsSaidOfTrees c.args.limit prefixes (tokens_of c.args.tokens.now)) (plain_trees c.args.limit prefixes (tokens_of c.args.tokens.now)) c.end_before.ensures.said
+    let all = tokens_of c.args.tokens.now in
+    let ts = c.loop-rest.rest.now in
+    IfErr-weaker c.end_before.result (IsPlain c.args.here (tokens_of (take (length ts - 1) (drop 1 ts)))) (IsSaidOfTrees c.args.limit c.args.here (known_of c.args.known.now) all)
+    (λ e s. end_trees c.args.limit c.args.here (known_of c.args.known.now) all ts (length (frames_of c.loop-rest.state.frames.items)) e c.in-len1-up.len_at_least c.loop-rest.invariant.1 s) c.end_before.ensures.said
