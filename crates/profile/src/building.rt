@@ -24,7 +24,7 @@ pub(crate) fn ontology_of(
         Ok(builder) => builder,
         Err(_) => return Err(BuildFault::Memory),
     };
-    let _none = builder.ontology();
+    builder.well_formed();
     for tree in trees {
         match part(alloc, &mut builder, tree) {
             Ok(()) => {}

@@ -49,7 +49,7 @@ fn entity(
     requires { AreOperandsOf Entity keyword.now (trees_of operands.now) }
     ensures { StatementsRead result (said_by entity_meanings keyword.now (trees_of operands.now)) builder.old builder.new }
 {
-    let _before = builder.ontology();
+    builder.well_formed();
     match keyword {
         "Class" => class(alloc, builder, operands),
         "ObjectProperty" => property(alloc, builder, operands),

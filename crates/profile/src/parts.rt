@@ -27,7 +27,7 @@ fn axiom(
     requires { AreOperandsOf Axiom keyword.now (trees_of operands.now) }
     ensures { StatementsRead result (said_of keyword.now (trees_of operands.now)) builder.old builder.new }
 {
-    let _before = builder.ontology();
+    builder.well_formed();
     match keyword {
         "Declaration" => declaration(alloc, builder, operands),
         "SubClassOf" => sub_class(alloc, builder, operands),
@@ -49,7 +49,7 @@ pub(crate) fn part(alloc: Global, builder: &mut Builder, tree: &Tree<'_>) -> Res
     requires { IsPartOfOntology (tree_of tree.now) }
     ensures { StatementsRead result (statement_of (tree_of tree.now)) builder.old builder.new }
 {
-    let _before = builder.ontology();
+    builder.well_formed();
     let Tree::Form { keyword, trees, .. } = tree else {
         return Ok(());
     };

@@ -20,7 +20,7 @@ fn state(builder: &mut Builder, axiom: Axiom) -> Result<(), BuildFault>
     requires { IsAxiomOf builder.old (axiom_of «axiom») }
     ensures { AxiomRead result (axiom_of «axiom») builder.old builder.new }
 {
-    let _before = builder.ontology();
+    builder.well_formed();
     match builder.add_axiom(axiom) {
         Ok(()) => Ok(()),
         Err(_) => Err(BuildFault::Memory),

@@ -64,7 +64,7 @@ pub(crate) fn class_expressions(
     requires { AreClassTrees (trees_of trees.now) }
     ensures { ClassesRead result (classes_of (trees_of trees.now)) builder.old builder.new }
 {
-    let _before = builder.ontology();
+    builder.well_formed();
     let mut expressions = Vec::new(alloc);
     for tree in trees {
         let expression = match class_expression(alloc, builder, tree) {

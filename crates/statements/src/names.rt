@@ -8,12 +8,12 @@ use axioms::{BuildFault, Builder, ExprId, IndId, Kind, Name, PropId};
 pub(crate) fn class(builder: &mut Builder, iri: &str) -> Result<ExprId, BuildFault>
     ensures { ClassRead result (Named iri.now) builder.old builder.new }
 {
-    let _before = builder.ontology();
+    builder.well_formed();
     let name = match builder.declare(Kind::Class, iri) {
         Ok(name) => name,
         Err(fault) => return Err(fault),
     };
-    let _after = builder.ontology();
+    builder.well_formed();
     let Name::Class(_, expression) = name else {
         unreachable!()
     };
@@ -24,12 +24,12 @@ pub(crate) fn class(builder: &mut Builder, iri: &str) -> Result<ExprId, BuildFau
 pub(crate) fn property(builder: &mut Builder, iri: &str) -> Result<PropId, BuildFault>
     ensures { PropertyRead result iri.now builder.old builder.new }
 {
-    let _before = builder.ontology();
+    builder.well_formed();
     let name = match builder.declare(Kind::Property, iri) {
         Ok(name) => name,
         Err(fault) => return Err(fault),
     };
-    let _after = builder.ontology();
+    builder.well_formed();
     let Name::Property(property) = name else {
         unreachable!()
     };
@@ -40,12 +40,12 @@ pub(crate) fn property(builder: &mut Builder, iri: &str) -> Result<PropId, Build
 pub(crate) fn individual(builder: &mut Builder, iri: &str) -> Result<IndId, BuildFault>
     ensures { IndividualRead result iri.now builder.old builder.new }
 {
-    let _before = builder.ontology();
+    builder.well_formed();
     let name = match builder.declare(Kind::Individual, iri) {
         Ok(name) => name,
         Err(fault) => return Err(fault),
     };
-    let _after = builder.ontology();
+    builder.well_formed();
     let Name::Individual(individual) = name else {
         unreachable!()
     };

@@ -21,9 +21,9 @@ pub(crate) fn add(builder: &mut Builder, expr: Expr) -> Result<ExprId, Memory>
     requires unnamed { class_name (node_tree builder.old.names (trees builder.old) (node_of expr)) ≡ None }
     ensures { IfOk result (λ e. HasAdded builder.old builder.new e.0 (node_tree builder.old.names (trees builder.old) (node_of expr))) }
 {
-    let _before = builder.ontology();
+    builder.well_formed();
     let number = builder.add_expr(expr);
-    let _after = builder.ontology();
+    builder.well_formed();
     number
 }
 

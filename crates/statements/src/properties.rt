@@ -19,7 +19,7 @@ pub(crate) fn properties(
     requires { AreNames (trees_of trees.now) }
     ensures { PropertiesRead result (iris_of (trees_of trees.now)) builder.old builder.new }
 {
-    let _before = builder.ontology();
+    builder.well_formed();
     let mut properties = Vec::new(alloc);
     for tree in trees {
         let property = match property(alloc, builder, tree) {

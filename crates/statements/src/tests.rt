@@ -41,11 +41,11 @@ fn add_member(
 
 /// That there are so many classes, properties, individuals, expressions and axioms.
 fn assert_counts<R: Abort>(rt: &R, ontology: &Ontology, counts: [usize; 5]) {
-    assert_eq!(rt; ontology.classes().len(), counts[0]);
-    assert_eq!(rt; ontology.properties().len(), counts[1]);
-    assert_eq!(rt; ontology.individuals().len(), counts[2]);
-    assert_eq!(rt; ontology.expression_count(), counts[3]);
-    assert_eq!(rt; ontology.axioms().len(), counts[4]);
+    assert!(rt; ontology.classes().len() == counts[0]);
+    assert!(rt; ontology.properties().len() == counts[1]);
+    assert!(rt; ontology.individuals().len() == counts[2]);
+    assert!(rt; ontology.expression_count() == counts[3]);
+    assert!(rt; ontology.axioms().len() == counts[4]);
 }
 
 #[test]

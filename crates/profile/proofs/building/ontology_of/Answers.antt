@@ -8,7 +8,7 @@ use Rattle.profile.proofs.Holding.{part_there}
 use Rattle.profile.proofs.building.ontology_of.Goals as goal
 
 pub loop-tree-init : goal.loop-tree-init
-loop-tree-init c = none_read c.in-Ok.builder c.ontology-none.ensures.valid c.in-Ok.ensures
+loop-tree-init c = none_read c.in-Ok.builder c.well_formed-2.ensures c.in-Ok.ensures
 
 pub part-requires : goal.part-requires
 part-requires c = part_there c.args.trees.now c.loop-tree.tree-index c.tree-item.result c.requires c.loop-tree-test.true c.tree-item.is

@@ -2,11 +2,11 @@ use Rattle.profile.proofs.Stated.{annotation_states_nothing, form_states, operan
 use Rattle.profile.proofs.parts.part.Goals as goal
 
 pub returns-in_default : goal.returns-in_default
-returns-in_default c = other_states_nothing c.args.tree.now c.in_default.not-Form c.args.builder.now c.ontology-before.ensures.valid
+returns-in_default c = other_states_nothing c.args.tree.now c.in_default.not-Form c.args.builder.now c.well_formed-2.ensures
 
 pub returns-then-eq : goal.returns-then-eq
 returns-then-eq c =
-    annotation_states_nothing c.args.tree.now c.in-Form.at c.in-Form.keyword c.in-Form.trees c.in-Form.is c.args.builder.now c.ontology-before.ensures.valid c.if-eq.ensures
+    annotation_states_nothing c.args.tree.now c.in-Form.at c.in-Form.keyword c.in-Form.trees c.in-Form.is c.args.builder.now c.well_formed-2.ensures c.if-eq.ensures
 
 pub axiom-requires : goal.axiom-requires
 axiom-requires c =

@@ -64,7 +64,7 @@ class_expressions-class_expression-requires t c =
     (first_of (omega (arith, least, c.decreases), grind (arith, common_steps, least, c.decreases)), class_at c.args.trees.now c.loop-tree.tree-index c.tree-item.result c.requires c.loop-tree-test.true c.tree-item.is)
 
 pub class_expressions-loop-tree-init : goal.class_expressions-loop-tree-init
-class_expressions-loop-tree-init t c = read_none c.args.builder.now c.ontology-before.ensures.valid _ c.new-expressions.ensures.items
+class_expressions-loop-tree-init t c = read_none c.args.builder.now c.well_formed-2.ensures _ c.new-expressions.ensures.items
 
 pub class_expressions-returns-in-Err : goal.class_expressions-returns-in-Err
 class_expressions-returns-in-Err t c =

@@ -3,8 +3,8 @@ use Rattle.statements.proofs.names.class.Goals as goal
 
 pub returns : goal.returns
 returns c =
-    class_answer c.args.builder.now c.declare.new.self c.args.iri.now c.ontology-before.ensures.valid c.ontology-after.ensures.valid c.in-Ok.name c.in-Class.field-0 c.in-Class.expression c.in-Class.is c.in-Ok.ensures.full c.in-Ok.ensures.ok
+    class_answer c.args.builder.now c.declare.new.self c.args.iri.now c.well_formed-2.ensures c.well_formed-3.ensures c.in-Ok.name c.in-Class.field-0 c.in-Class.expression c.in-Class.is c.in-Ok.ensures.full c.in-Ok.ensures.ok
 
 pub returns-in-Err : goal.returns-in-Err
 returns-in-Err c =
-    class_refused c.args.builder.now c.declare.new.self c.args.iri.now c.ontology-before.ensures.valid c.in-Err.fault c.in-Err.ensures.full
+    class_refused c.args.builder.now c.declare.new.self c.args.iri.now c.well_formed-2.ensures c.in-Err.fault c.in-Err.ensures.full

@@ -3,8 +3,8 @@ use Rattle.statements.proofs.names.property.Goals as goal
 
 pub returns : goal.returns
 returns c =
-    property_answer c.args.builder.now c.declare.new.self c.args.iri.now c.ontology-before.ensures.valid c.in-Ok.name c.in-Property.property c.in-Property.is c.in-Ok.ensures.full c.in-Ok.ensures.ok
+    property_answer c.args.builder.now c.declare.new.self c.args.iri.now c.well_formed-2.ensures c.in-Ok.name c.in-Property.property c.in-Property.is c.in-Ok.ensures.full c.in-Ok.ensures.ok
 
 pub returns-in-Err : goal.returns-in-Err
 returns-in-Err c =
-    property_refused c.args.builder.now c.declare.new.self c.args.iri.now c.ontology-before.ensures.valid c.in-Err.fault c.in-Err.ensures.full
+    property_refused c.args.builder.now c.declare.new.self c.args.iri.now c.well_formed-2.ensures c.in-Err.fault c.in-Err.ensures.full

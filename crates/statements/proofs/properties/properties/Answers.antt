@@ -6,7 +6,7 @@ pub property-requires : goal.property-requires
 property-requires c = name_there c.args.trees.now c.loop-tree.tree-index c.tree-item.result c.requires c.loop-tree-test.true c.tree-item.is
 
 pub loop-tree-init : goal.loop-tree-init
-loop-tree-init c = no_property c.args.builder.now c.ontology-before.ensures.valid _ c.new-properties.ensures.items
+loop-tree-init c = no_property c.args.builder.now c.well_formed-2.ensures _ c.new-properties.ensures.items
 
 pub returns-in-Err : goal.returns-in-Err
 returns-in-Err c =
