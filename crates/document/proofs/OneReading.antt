@@ -17,10 +17,10 @@ one_document bytes d e h k =
     parser.one_document k.tokens d e (subst P (one_spelling bytes h.tokens k.tokens h.spelled k.spelled) h.written) k.written
 
 pub one_reading : BytesReadAsOneOntology
-one_reading bytes o p w v r s =
+one_reading bytes o p r s =
     let P : Document → Type 0 = λ d. IsOntologyOf (statements d.trees) o in
     let same : r.document ≡ s.document = one_document bytes r.document s.document r.text s.text in
-    statements_determine (statements s.document.trees) o p w v (subst P same r.read.ontology) s.read.ontology
+    statements_determine (statements s.document.trees) o p r.well_formed s.well_formed (subst P same r.read.ontology) s.read.ontology
 
 pub one_fault_list : BytesHaveOneFaultList
 one_fault_list bytes xs ys h k =

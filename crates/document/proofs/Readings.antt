@@ -39,24 +39,27 @@ axioms_fit (Ok o) text bytes same h = omega (arith, axioms_take_bytes text o h, 
 
 -- ---- all the bytes of a source
 
-not_read : (xs : List ℕ) (most : ℕ) (e : DocumentFault) → Refuses e xs → RefusesKnown (Some xs) most e
-not_read xs most (faults.NotUtf8 at) h = h
-not_read xs most (faults.Lex f) h = h
-not_read xs most (faults.Parse f) h = h
-not_read xs most (faults.Faults found) h = h
-not_read xs most faults.TooManyNames h = h
-not_read xs most faults.Memory h = h
-not_read xs most faults.TooLarge h = absurd h
-not_read xs most faults.Io h = absurd h
+not_read : (xs : List ℕ) (most : ℕ) (e : DocumentFault) → Refuses e xs → length xs ≤ most → RefusesKnown (Some xs) most e
+not_read xs most (faults.NotUtf8 at) h fit = (h, fit)
+not_read xs most (faults.Lex f) h fit = (h, fit)
+not_read xs most (faults.Parse f) h fit = (h, fit)
+not_read xs most (faults.Faults found) h fit = (h, fit)
+not_read xs most faults.TooManyNames h fit = (h, fit)
+not_read xs most faults.Memory h fit = tt
+not_read xs most faults.TooLarge h fit = absurd h
+not_read xs most faults.Io h fit = absurd h
 
-known_refused : (left rest : Option (List ℕ)) (bytes : List ℕ) (most : ℕ) (e : DocumentFault) → Consumes left rest bytes → IsAtEnd rest → Refuses e bytes → RefusesKnown left most e
-known_refused None rest bytes most e all end h = tt
-known_refused (Some xs) None bytes most e all end h = absurd all
-known_refused (Some xs) (Some ys) bytes most e all end h =
+known_refused :
+    (left rest : Option (List ℕ)) (bytes : List ℕ) (most : ℕ) (e : DocumentFault) → Consumes left rest bytes → IsAtEnd rest → Refuses e bytes → length bytes ≤ most → RefusesKnown left most e
+known_refused None rest bytes most e all end h fit = tt
+known_refused (Some xs) None bytes most e all end h fit = absurd all
+known_refused (Some xs) (Some ys) bytes most e all end h fit =
     let same : bytes ≡ xs = sym (all ∙ ap (λ zs. bytes ++ zs) end ∙ append-nil bytes) in
-    let P : List ℕ → Type 0 = Refuses e in not_read xs most e (subst P same h)
+    let P : List ℕ → Type 0 = Refuses e in not_read xs most e (subst P same h) (omega (arith, ap length same, fit))
 
-pub answer_refused : (r : Result Ontology DocumentFault) (left rest : Option (List ℕ)) (bytes text : List ℕ) (most : ℕ) → Consumes left rest bytes → IsAtEnd rest → text ≡ bytes → IfErr r (λ e. Refuses e text) → IfErr r (RefusesKnown left most)
-answer_refused (Ok o) left rest bytes text most all end same h = tt
-answer_refused (Err e) left rest bytes text most all end same h =
-    let P : List ℕ → Type 0 = Refuses e in known_refused left rest bytes most e all end (subst P same h)
+pub answer_refused :
+    (r : Result Ontology DocumentFault) (left rest : Option (List ℕ)) (bytes text : List ℕ) (most : ℕ) → Consumes left rest bytes → IsAtEnd rest → length bytes ≤ most → text ≡ bytes →
+    IfErr r (λ e. Refuses e text) → IfErr r (RefusesKnown left most)
+answer_refused (Ok o) left rest bytes text most all end fit same h = tt
+answer_refused (Err e) left rest bytes text most all end fit same h =
+    let P : List ℕ → Type 0 = Refuses e in known_refused left rest bytes most e all end (subst P same h) fit

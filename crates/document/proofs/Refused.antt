@@ -59,9 +59,9 @@ bytes_read_as_none bytes faults.Io h not = absurd h
 pub sources_read_as_none : RefusedSourcesReadAsNone
 sources_read_as_none bytes most faults.TooLarge h memory io = λ o r. omega (arith, h, r.1)
 sources_read_as_none bytes most faults.Io h memory io = absurd (io refl)
-sources_read_as_none bytes most (faults.NotUtf8 at) h memory io = λ o r. bytes_read_as_none bytes (faults.NotUtf8 at) h memory o r.0
-sources_read_as_none bytes most (faults.Lex fault) h memory io = λ o r. bytes_read_as_none bytes (faults.Lex fault) h memory o r.0
-sources_read_as_none bytes most (faults.Parse fault) h memory io = λ o r. bytes_read_as_none bytes (faults.Parse fault) h memory o r.0
-sources_read_as_none bytes most (faults.Faults found) h memory io = λ o r. bytes_read_as_none bytes (faults.Faults found) h memory o r.0
-sources_read_as_none bytes most faults.TooManyNames h memory io = λ o r. bytes_read_as_none bytes faults.TooManyNames h memory o r.0
+sources_read_as_none bytes most (faults.NotUtf8 at) h memory io = λ o r. bytes_read_as_none bytes (faults.NotUtf8 at) h.0 memory o r.0
+sources_read_as_none bytes most (faults.Lex fault) h memory io = λ o r. bytes_read_as_none bytes (faults.Lex fault) h.0 memory o r.0
+sources_read_as_none bytes most (faults.Parse fault) h memory io = λ o r. bytes_read_as_none bytes (faults.Parse fault) h.0 memory o r.0
+sources_read_as_none bytes most (faults.Faults found) h memory io = λ o r. bytes_read_as_none bytes (faults.Faults found) h.0 memory o r.0
+sources_read_as_none bytes most faults.TooManyNames h memory io = λ o r. bytes_read_as_none bytes faults.TooManyNames h.0 memory o r.0
 sources_read_as_none bytes most faults.Memory h memory io = absurd (memory refl)

@@ -81,7 +81,7 @@ Refuses Memory bytes = Unit {0}
 Refuses TooLarge bytes = ⊥
 Refuses Io bytes = ⊥
 
--- what a source that tells its bytes says of an answer about them, where at most so many are allowed
+-- what an answer says of the bytes of a source that tells them, where at most so many are allowed
 abbrev pub ReadsKnown : Option (List ℕ) → ℕ → Ontology → Type 0
 ReadsKnown None most o = Unit {0}
 ReadsKnown (Some bytes) most o = ReadsAs bytes o × (length bytes ≤ most)
@@ -90,4 +90,5 @@ abbrev pub RefusesKnown : Option (List ℕ) → ℕ → DocumentFault → Type 0
 RefusesKnown None most e = Unit {0}
 RefusesKnown (Some bytes) most TooLarge = most < length bytes
 RefusesKnown (Some bytes) most Io = Unit {0}
-RefusesKnown (Some bytes) most e = Refuses e bytes
+RefusesKnown (Some bytes) most Memory = Unit {0}
+RefusesKnown (Some bytes) most e = Refuses e bytes × (length bytes ≤ most)

@@ -1,7 +1,6 @@
 -- What is proved of documents.
 use Rattle.std.specs.Prelude.{◌≡◌, ◌≤◌, ℕ, length, List, Some}
 use Rattle.axioms.specs.Numbered.{Ontology}
-use Rattle.axioms.specs.WellFormed.{IsOntology}
 use Rattle.shapes.specs.View.{faults_of}
 use Rattle.shapes.specs.declared.fault.Fault.{Fault}
 use Rattle.document.specs.declared.fault.DocumentFault.{DocumentFault}
@@ -11,7 +10,7 @@ use Rattle.document.specs.Faults.{HaveFaults, ReadAsNone, ReadsKnown, Refuses, R
 
 -- bytes read as at most one ontology
 abbrev pub BytesReadAsOneOntology : Type 0
-BytesReadAsOneOntology = (bytes : List ℕ) (o p : Ontology) → IsOntology o → IsOntology p → ReadsAs bytes o → ReadsAs bytes p → o ≡ p
+BytesReadAsOneOntology = (bytes : List ℕ) (o p : Ontology) → ReadsAs bytes o → ReadsAs bytes p → o ≡ p
 
 -- .. and have at most one list of faults
 abbrev pub BytesHaveOneFaultList : Type 0

@@ -1,12 +1,13 @@
 //! From bytes to an ontology.
-ghost use Rattle.device.specs.Device.{HasFailed};
+ghost use Rattle.device.specs.Device.{HasFailed, LosesFront, LosesOnlyFront};
 ghost use Rattle.document.specs.Documents.{IsTaken, ReadsAs};
 ghost use Rattle.document.specs.Faults.{ReadsKnown, Refuses, RefusesKnown};
-ghost use Rattle.std.specs.Prelude.{◌≡◌, ◌≤◌, Err, IfErr, IfOk, length};
+ghost use Rattle.std.specs.Io.KnownBytes.{IsAtEnd};
+ghost use Rattle.std.specs.Prelude.{◌≡◌, ◌≤◌, IfErr, IfOk, IsErrOf, OnOk, length};
 
 use crate::fault::DocumentFault;
 use crate::limits::Limits;
-use axioms::Ontology;
+use axioms::{ExprId, Ontology};
 use device::{ReadFault, Source, read_all};
 use fs_lexer::tokens;
 use fs_parser::forms;
@@ -30,7 +31,11 @@ fn read_text(alloc: Global, text: &str, state: RandomState) -> Result<Ontology, 
         Err(fault) => return Err(DocumentFault::from(fault)),
     };
     match accept(alloc, &document, Version::V1, state) {
-        Ok(ontology) => Ok(ontology),
+        Ok(ontology) => {
+            // What holds of every ontology.
+            let _ = ontology.expr(ExprId(0));
+            Ok(ontology)
+        }
         Err(refusal) => Err(DocumentFault::from(refusal)),
     }
 }
@@ -62,11 +67,11 @@ pub fn read_bytes(
 
 /// The ontology of the document that the source gives, within the limit of bytes.
 ///
-/// What is left of the bytes is lost in part where the answer is a fault.
+/// What was read of the source by then is lost where the answer is a fault.
 ///
 /// # Errors
 ///
-/// `TooLarge` where there are more bytes than the limit, `Io` where the source failed, and those of `read_bytes`.
+/// `TooLarge` where there are more bytes than the limit, `Io` where the source failed in this call, and those of `read_bytes`.
 pub fn read_document<S: Source>(
     alloc: Global,
     source: &mut S,
@@ -78,7 +83,12 @@ pub fn read_document<S: Source>(
     ensures taken { IfOk result IsTaken }
     ensures axioms { IfOk result (λ o. length o.axioms ≤ limits.now.max_bytes) }
     ensures refused { IfErr result (RefusesKnown (S.left source.old) limits.now.max_bytes) }
-    ensures failed { result ≡ Err DocumentFault.Io → HasFailed (S.failures source.old) (S.failures source.new) }
+    // What was read of the source, and whether a read failed.
+    ensures end { OnOk result (IsAtEnd (S.left source.new)) }
+    ensures lost { LosesFront (S.left source.old) (S.left source.new) (S.most source.old) (S.most source.new) }
+    ensures exact { ¬ IsErrOf result DocumentFault.Io → LosesOnlyFront (S.left source.old) (S.left source.new) (S.most source.old) (S.most source.new) }
+    ensures unfailed { ¬ IsErrOf result DocumentFault.Io → S.failures source.new ≡ S.failures source.old }
+    ensures failed { IsErrOf result DocumentFault.Io → HasFailed (S.failures source.old) (S.failures source.new) }
 {
     let most = limits.max_bytes as usize;
     match read_all(alloc, source, most) {

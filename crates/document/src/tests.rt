@@ -2,7 +2,7 @@
 
 use super::*;
 use axioms::{Axiom, ExprId, OWL_NOTHING, OWL_THING, Ontology};
-use device::SliceSource;
+use device::{Failed, SliceSource, Source};
 use std::hash::RandomState;
 use std::process::Abort;
 use std::random::RandomSource;
@@ -49,6 +49,36 @@ fn is_refused<R: AllocGlobal + RandomSource>(
     }
 }
 
+/// A source that gives at most seven bytes a read, and fails after some reads.
+#[derive(Drop)]
+struct FailingSource<'a> {
+    inner: SliceSource<'a>,
+    reads: usize,
+    failures: u64,
+}
+
+impl<'a> Source for FailingSource<'a> {
+    ghost use Rattle.std.specs.Prelude.{Some, length};
+
+    ghost left = { λ s. Some s.inner };
+
+    ghost failures = { λ s. s.failures };
+
+    ghost most = { λ s. length s.inner };
+
+    fn read(&mut self, buffer: &mut [u8]) -> Result<usize, Failed> {
+        let n = buffer.len().min(7);
+        if self.reads > 0 {
+            if let Ok(n) = self.inner.read(&mut buffer[..n]) {
+                self.reads -= 1;
+                return Ok(n);
+            }
+        }
+        self.failures = self.failures.saturating_add(1);
+        Err(Failed)
+    }
+}
+
 #[test]
 fn one_subclass(rt: HostRuntime) -> Result<(), Fail> {
     let ontology = read_bytes(rt.alloc(), ONE_SUBCLASS, RandomState::new(&rt)?)?;
@@ -76,6 +106,30 @@ fn refused_documents(rt: HostRuntime) -> Result<(), Fail> {
         )?
     );
     assert!(rt; is_refused(&rt, b"", 1, "P2 at byte 0")?);
+    Ok(())
+}
+
+/// The 33 bytes take five reads of seven, and one more that finds their end.
+#[test]
+fn a_read_that_fails_is_told(rt: HostRuntime) -> Result<(), Fail> {
+    let limits = Limits::new(33, 1).ok_or("limits")?;
+    for reads in 0..7 {
+        let mut source = FailingSource {
+            inner: SliceSource::new(ONE_SUBCLASS),
+            reads,
+            failures: 0,
+        };
+        let read = read_document(rt.alloc(), &mut source, &limits, RandomState::new(&rt)?);
+        let failed = matches!(&read, Err(DocumentFault::Io));
+        assert!(rt;
+            failed == (reads < 6) && read.is_ok() == (reads == 6),
+            "after {reads} reads"
+        );
+        assert!(rt;
+            (source.failures == 1) == (reads < 6),
+            "after {reads} reads"
+        );
+    }
     Ok(())
 }
 
