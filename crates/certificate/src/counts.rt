@@ -4,7 +4,7 @@ ghost use Rattle.std.specs.Prelude.{◌≡◌, length, slice_get};
 ghost use Rattle.certificate.specs.Fitting.{is_class, is_named};
 
 use crate::number::is_small;
-use axioms::{Expr, ExprId, Ontology};
+use axioms::{ExprId, Ontology};
 
 pub fn property_count(ontology: &Ontology) -> usize
     ensures { result ≡ length ontology.now.names.properties }
@@ -27,12 +27,7 @@ pub fn axiom_count(ontology: &Ontology) -> usize
 fn is_class(ontology: &Ontology, expression: ExprId) -> bool
     ensures { result ≡ is_class (slice_get ontology.now.nodes expression.0) }
 {
-    match ontology.expr(expression) {
-        Some(Expr::Class(_)) => true,
-        Some(Expr::And(_)) => false,
-        Some(Expr::Some(_, _)) => false,
-        None => false,
-    }
+    ontology.class_of(expression).is_some()
 }
 
 /// Whether the expression is a class whose number fits a text.

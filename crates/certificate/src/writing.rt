@@ -225,8 +225,8 @@ pub fn certificate_bytes(alloc: Global, certificate: &Certificate) -> Result<Vec
 
 /// Writes the certificate's text; the certificate was made or read for this ontology.
 ///
-/// `Io` comes only where the sink failed in this call, and after `Memory` it has taken nothing. After either the sink
-/// has taken a beginning of the text.
+/// `Io` comes only where the sink failed in this call. After `Memory` it did not fail and has taken nothing. After either
+/// it has taken a beginning of the text.
 pub fn write_certificate<S: Sink>(
     alloc: Global,
     ontology: &Ontology,
@@ -238,6 +238,7 @@ pub fn write_certificate<S: Sink>(
     ensures begun { AppendsBeginning (S.taken sink.old) (S.taken sink.new) (text.certificate_text certificate.now) }
     ensures io { IsErrOf result WriteFault.Io → HasFailed (S.failures sink.old) (S.failures sink.new) }
     ensures untouched { IsErrOf result WriteFault.Memory → Keeps (S.taken sink.old) (S.taken sink.new) }
+    ensures untried { IsErrOf result WriteFault.Memory → S.failures sink.new ≡ S.failures sink.old }
     ensures unfailed { OnOk result (S.failures sink.new ≡ S.failures sink.old) }
     ensures count { S.failures sink.old ≤ S.failures sink.new }
 {

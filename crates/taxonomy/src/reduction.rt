@@ -8,13 +8,10 @@ ghost use Rattle.taxonomy.specs.Relation.{HasNearest, IsReduction, IsSquare, IsS
 ghost use Rattle.taxonomy.specs.Texts.{is_directly_above, is_same, is_strictly_above, numbers_below};
 
 use crate::rows::{add_row, lies_below, put_each, row_members};
-use axioms::Memory;
+use axioms::{ClassId, Memory};
 use interpretation_spec::Row;
 use std::alloc::Global;
 use std::marker::Model;
-
-/// The number of owl:Nothing.
-pub(crate) const NOTHING: usize = 1;
 
 /// For each class, by number, the row of the classes that it lies below.
 #[derive(Drop)]
@@ -210,8 +207,9 @@ fn next_row(alloc: Global, above: &[Row], rows: &[Row], c: usize) -> Result<Row,
         (λ r. (length r ≡ length above.now)
         × ((k : ℕ) → has r k ≡ is_nearest (lies_below above.now) (length above.now) c k)) }
 {
-    if NOTHING < rows.len() && NOTHING < above.len() && are_alike(above, c, NOTHING) {
-        Ok(rows[NOTHING].copy(alloc)?)
+    let nothing = ClassId::NOTHING.0;
+    if nothing < rows.len() && nothing < above.len() && are_alike(above, c, nothing) {
+        Ok(rows[nothing].copy(alloc)?)
     } else {
         nearest_row(alloc, above, c)
     }

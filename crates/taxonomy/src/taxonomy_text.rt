@@ -9,8 +9,8 @@ ghost use Rattle.taxonomy.specs.Texts.{is_no_bottom, line_of, taxonomy_text, tex
 use crate::groups::{Groups, group_of, groups_in};
 use crate::names::write_names;
 use crate::order::in_byte_order;
-use crate::reduction::{NOTHING, Taxonomy};
-use axioms::Memory;
+use crate::reduction::Taxonomy;
+use axioms::{ClassId, Memory};
 use std::alloc::Global;
 
 /// Adds the line of these members of a group, with what stands for the groups directly above it.
@@ -42,7 +42,7 @@ fn write_groups(
         (filter (is_no_bottom (lies_below taxonomy.now)) groups.now.leaders.items)) }
 {
     for g in &groups.leaders {
-        if !taxonomy.is_same(*g, NOTHING) {
+        if !taxonomy.is_same(*g, ClassId::NOTHING.0) {
             write_line(out, names, groups.members.at(*g), groups.above.at(*g))?;
         }
     }
@@ -66,7 +66,7 @@ fn write_in_order(
     let groups = groups_in(alloc, taxonomy, order)?;
     out.extend_from_slice(b"eltax 1 consistent\n")?;
     write_groups(out, names, taxonomy, &groups)?;
-    let bottom = group_of(alloc, taxonomy, order, NOTHING)?;
+    let bottom = group_of(alloc, taxonomy, order, ClassId::NOTHING.0)?;
     write_names(out, names, b"bottom ", b" = ", &bottom)?;
     out.push(b'\n')?;
     Ok(())

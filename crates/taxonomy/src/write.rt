@@ -42,8 +42,8 @@ impl From<Failed> for WriteFault {
 
 /// Writes the taxonomy text.
 ///
-/// `Io` comes only where the sink failed in this call, and after `Memory` it has taken nothing. After either the sink
-/// has taken a beginning of the text.
+/// `Io` comes only where the sink failed in this call. After `Memory` it did not fail and has taken nothing. After either
+/// it has taken a beginning of the text.
 pub fn write_taxonomy<S: Sink>(
     alloc: Global,
     ontology: &Ontology,
@@ -55,6 +55,7 @@ pub fn write_taxonomy<S: Sink>(
     ensures begun { AppendsBeginning (S.taken sink.old) (S.taken sink.new) (taxonomy_of ontology.now outcome.now) }
     ensures io { IsErrOf result WriteFault.Io → HasFailed (S.failures sink.old) (S.failures sink.new) }
     ensures untouched { IsErrOf result WriteFault.Memory → Keeps (S.taken sink.old) (S.taken sink.new) }
+    ensures untried { IsErrOf result WriteFault.Memory → S.failures sink.new ≡ S.failures sink.old }
     ensures unfailed { OnOk result (S.failures sink.new ≡ S.failures sink.old) }
     ensures count { S.failures sink.old ≤ S.failures sink.new }
 {
@@ -65,8 +66,8 @@ pub fn write_taxonomy<S: Sink>(
 
 /// Writes the instances text.
 ///
-/// `Io` comes only where the sink failed in this call, and after `Memory` it has taken nothing. After either the sink
-/// has taken a beginning of the text.
+/// `Io` comes only where the sink failed in this call. After `Memory` it did not fail and has taken nothing. After either
+/// it has taken a beginning of the text.
 pub fn write_instances<S: Sink>(
     alloc: Global,
     ontology: &Ontology,
@@ -78,6 +79,7 @@ pub fn write_instances<S: Sink>(
     ensures begun { AppendsBeginning (S.taken sink.old) (S.taken sink.new) (instances_of ontology.now outcome.now) }
     ensures io { IsErrOf result WriteFault.Io → HasFailed (S.failures sink.old) (S.failures sink.new) }
     ensures untouched { IsErrOf result WriteFault.Memory → Keeps (S.taken sink.old) (S.taken sink.new) }
+    ensures untried { IsErrOf result WriteFault.Memory → S.failures sink.new ≡ S.failures sink.old }
     ensures unfailed { OnOk result (S.failures sink.new ≡ S.failures sink.old) }
     ensures count { S.failures sink.old ≤ S.failures sink.new }
 {
