@@ -211,7 +211,7 @@ accepted_exactly o w t i text (Rejected reason) j = (λ e. cc, λ a. absurd (rej
 pub accepted_right : (o : Ontology) → IsOntology o → (t i text : List ℕ) (v : Verdict) → IsVerdict o t i text v → v ≡ Accepted → AreRight o t i text
 accepted_right o w t i text v j e =
     let a = (accepted_exactly o w t i text v j).0 e in
-    record { certificate = a.certificate; text_is = a.text_is; says = acceptable_says o w t i text a }
+    record { certificate = a.certificate; text_is = a.text_is; derivation = a.derivation; says = acceptable_says o w t i text a }
 
 -- ---- lines that were passed
 

@@ -1,14 +1,15 @@
 -- What an acceptable certificate shows.
 use Rattle.std.proofs.Common.{◌≡◌, ℕ, ◌<◌, List, length, get_or, slice_get, true, false, true≢false, Some, None, MatchOption, IfSome, Option, refl, sym, ◌∙◌, subst, ◌⊎◌, inl, inr}
+use Rattle.std.specs.List.{Contains}
 use Rattle.std.proofs.lemmas.Option.{slice_get-get_or}
 use Rattle.std.proofs.lemmas.List.Elements.{All-contains}
 use Rattle.axioms.specs.Expression.{Named}
-use Rattle.interpretation_spec.specs.Interpretation.{Interpretation, IsIn, IsContradictory, SomeElement}
+use Rattle.interpretation_spec.specs.Interpretation.{Interpretation, IsIn, IsContradictory}
 use Rattle.axioms.specs.Numbered.{Ontology, name_at, expression, individual_name, axiom_trees, IsClassAt, nothing}
 use Rattle.certificate.specs.Certificate.{Subject, Expression, Individual, Sub, Line, Listed}
 use Rattle.cert_check.specs.Derivation.{IsDerivation, HasLine}
 use Rattle.certificate.specs.HasText.{IsListedOf, IsNamedClass}
-use Rattle.cert_check.specs.Acceptable.{Agrees, ClaimHolds, IsConsistentShown, IsTop, of_thing, of_individual, IsContradictionShown, IsAcceptable, ClassBelow, HasType, SaysConsistent, SaysContradictory, Says}
+use Rattle.cert_check.specs.Acceptable.{Agrees, ClaimHolds, IsConsistentShown, IsTop, of_thing, of_individual, IsContradictionShown, IsAcceptable, ClassBelow, HasType, IsRefutedByClaim, SaysConsistent, SaysContradictory, Says}
 use Rattle.axioms.specs.WellFormed.{IsOntology}
 use Rattle.axioms.proofs.Trees.{class_tree}
 use Rattle.interpretation_spec.proofs.Extensions.{in_thing, not_in_nothing}
@@ -51,11 +52,11 @@ module _ (o : Ontology) (w : IsOntology o) (lines : List Line) (derivation : IsD
   -- ---- what a listed interpretation shows
 
   module _ (taxonomy instances : List ℕ) (listed : Listed) (fits : IsListedOf o listed) (s : IsConsistentShown o taxonomy instances lines listed) where
-    satisfiable : (c e : ℕ) → IsClassAt o c e → (HasLine lines (Sub (Expression e) nothing) → ⊥) → (x : ℕ) × (x < s.i.size) × ClaimHolds o s.i lines (e, x)
+    satisfiable : (c e : ℕ) → IsClassAt o c e → (HasLine lines (Sub (Expression e) nothing) → ⊥) → (x : ℕ) × Contains listed.claims (e, x) × (x < s.i.size) × ClaimHolds o s.i lines (e, x)
     satisfiable c e g h =
         let (x, k) = s.claimed c e g h in
         let within : x < listed.domain = (All-contains (λ c. IsNamedClass o c.0 × (c.1 < listed.domain)) listed.claims (e, x) fits.claims k).1 in
-        (x, rw s.listing.size within, All-contains (ClaimHolds o s.i lines) listed.claims (e, x) s.claims k)
+        (x, k, rw s.listing.size within, All-contains (ClaimHolds o s.i lines) listed.claims (e, x) s.claims k)
 
     individual_at : (a : ℕ) → a < length o.names.individuals → Agrees o s.i lines (Individual a) (s.i.individual (individual_name o a))
     individual_at a l =
@@ -86,7 +87,7 @@ module _ (o : Ontology) (w : IsOntology o) (lines : List Line) (derivation : IsD
         elim (has_line_or_not lines (Sub (Expression e) nothing)) [
           | inl empty ↦ s.relation.unsatisfiable c e d ge ld empty
           | inr some ↦
-              let (x, l, claim) = satisfiable c e ge some in
+              let (x, _, l, claim) = satisfiable c e ge some in
               (s.relation.by_line c e d f ge gf some).1
               ((claim.agrees d f gf).0 (from_name o s.i d f x gf (h s.i s.model x l (to_name o s.i c e x ge claim.member))))
         ]
@@ -101,19 +102,21 @@ module _ (o : Ontology) (w : IsOntology o) (lines : List Line) (derivation : IsD
         let (f, gf) = w.class_nodes d ld in
         (s.types a d f la gf).1 ((individual_at a la d f gf).0 (from_name o s.i d f (s.i.individual (individual_name o a)) gf h))
 
-    refuted_below : (c d : ℕ) → c < length o.names.classes → d < length o.names.classes → s.lies_below c d ≡ false → SomeElement s.i (λ x. IsIn s.i (Named (name_at o.names.classes c)) x × (IsIn s.i (Named (name_at o.names.classes d)) x → ⊥))
+    refuted_below : (c d : ℕ) → c < length o.names.classes → d < length o.names.classes → s.lies_below c d ≡ false → IsRefutedByClaim o listed s.i c d
     refuted_below c d lc ld h =
         let (e, ge) = w.class_nodes c lc in
         let (f, gf) = w.class_nodes d ld in
         let some : HasLine lines (Sub (Expression e) nothing) → ⊥ = λ empty. true≢false (sym (s.relation.unsatisfiable c e d ge ld empty) ∙ h) in
-        let (x, l, claim) = satisfiable c e ge some in (
-          x,
-          l,
-          (
-            to_name o s.i c e x ge claim.member,
-            λ k. true≢false (sym ((s.relation.by_line c e d f ge gf some).1 ((claim.agrees d f gf).0 (from_name o s.i d f x gf k))) ∙ h),
-          ),
-        )
+        let (x, claimed, l, claim) = satisfiable c e ge some in
+        record {
+          class = e;
+          class_is = ge;
+          element = x;
+          claimed = claimed;
+          within = l;
+          member = to_name o s.i c e x ge claim.member;
+          outside = λ k. true≢false (sym ((s.relation.by_line c e d f ge gf some).1 ((claim.agrees d f gf).0 (from_name o s.i d f x gf k))) ∙ h);
+        }
 
     says_consistent : SaysConsistent o taxonomy instances lines listed
     says_consistent = record {

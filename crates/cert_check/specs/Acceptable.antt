@@ -2,7 +2,7 @@
 use Rattle.std.specs.Prelude.{◌≡◌, ℕ, ◌<◌, ◌↔◌, List, [], ◌∷◌, Bool, true, false, ◌⊎◌, length, slice_get, Some, MatchOption, ◌≤◌, if◌then◌else◌, ◌==◌, ◌&&◌}
 use Rattle.std.specs.List.{All, Contains}
 use Rattle.axioms.specs.Expression.{Named}
-use Rattle.interpretation_spec.specs.Interpretation.{Interpretation, IsModel, IsIn, IsBelow, IsMember, IsContradictory, SomeElement}
+use Rattle.interpretation_spec.specs.Interpretation.{Interpretation, IsModel, IsIn, IsBelow, IsMember, IsContradictory}
 use Rattle.axioms.specs.Numbered.{Ontology, IsClassAt, name_at, expression, individual_name, axiom_trees, thing, nothing}
 use Rattle.certificate.specs.Certificate.{Subject, Expression, Individual, Sub, Line, Listed, Certificate}
 use Rattle.cert_check.specs.Derivation.{IsDerivation, HasLine}
@@ -105,9 +105,19 @@ pub record AreDetermined (o : Ontology) (taxonomy instances : List ℕ) (lies_be
   pub taxonomy_is : taxonomy ≡ taxonomy_text o.names.classes lies_below
   pub instances_is : instances ≡ instances_text o.names.classes o.names.individuals lies_below belongs
 
--- each no has an element of the interpretation that refutes it
-pub record AreRefuted (o : Ontology) (i : Interpretation) (lies_below belongs : ℕ → ℕ → Bool) : Type 0 where
-  pub below : (c d : ℕ) → c < length o.names.classes → d < length o.names.classes → lies_below c d ≡ false → SomeElement i (λ x. IsIn i (Named (name_at o.names.classes c)) x × (IsIn i (Named (name_at o.names.classes d)) x → ⊥))
+-- a no is refuted for a class by its claim: the element that is claimed for class c is in c and not in d
+pub record IsRefutedByClaim (o : Ontology) (listed : Listed) (i : Interpretation) (c d : ℕ) : Type 0 where
+  pub class : ℕ
+  pub class_is : IsClassAt o c class
+  pub element : ℕ
+  pub claimed : Contains listed.claims (class, element)
+  pub within : element < i.size
+  pub member : IsIn i (Named (name_at o.names.classes c)) element
+  pub outside : IsIn i (Named (name_at o.names.classes d)) element → ⊥
+
+-- each no is refuted: for a class by its claim, and for an individual by its element
+pub record AreRefuted (o : Ontology) (listed : Listed) (i : Interpretation) (lies_below belongs : ℕ → ℕ → Bool) : Type 0 where
+  pub below : (c d : ℕ) → c < length o.names.classes → d < length o.names.classes → lies_below c d ≡ false → IsRefutedByClaim o listed i c d
   pub types : (a d : ℕ) → a < length o.names.individuals → d < length o.names.classes → belongs a d ≡ false → IsIn i (Named (name_at o.names.classes d)) (i.individual (individual_name o a)) → ⊥
 
 -- each yes has a line
@@ -115,7 +125,7 @@ pub record AreDerived (o : Ontology) (lines : List Line) (lies_below belongs : �
   pub below : (c d e f : ℕ) → IsClassAt o c e → IsClassAt o d f → lies_below c d ≡ true → HasLine lines (Sub (Expression e) nothing) ⊎ HasLine lines (Sub (Expression e) f)
   pub types : (a d f : ℕ) → a < length o.names.individuals → IsClassAt o d f → belongs a d ≡ true → HasLine lines (Sub (Individual a) f)
 
--- the texts are those of a consistent ontology: each yes has a derivation, and each no is refuted by the one listed interpretation
+-- the texts are those of a consistent ontology: each yes has a line, and each no is refuted by the one listed interpretation
 pub record SaysConsistent (o : Ontology) (taxonomy instances : List ℕ) (lines : List Line) (listed : Listed) : Type 0 where
   pub lies_below : ℕ → ℕ → Bool
   pub belongs : ℕ → ℕ → Bool
@@ -125,9 +135,9 @@ pub record SaysConsistent (o : Ontology) (taxonomy instances : List ℕ) (lines 
   pub i : Interpretation
   pub listing : IsListing o listed i
   pub model : IsModel i (axiom_trees o)
-  pub refuted : AreRefuted o i lies_below belongs
+  pub refuted : AreRefuted o listed i lies_below belongs
 
--- the texts are those of a contradictory ontology, and a derivation shows that it is one
+-- the texts are those of a contradictory ontology, and a line shows that it is one
 pub record SaysContradictory (o : Ontology) (taxonomy instances : List ℕ) (lines : List Line) : Type 0 where
   pub contradictory : IsContradictory (axiom_trees o)
   pub shown : IsContradictionShown taxonomy instances lines
@@ -137,8 +147,10 @@ abbrev pub Says : Ontology → List ℕ → List ℕ → Certificate → Type 0
 Says o taxonomy instances certificate =
     MatchOption certificate.listed (SaysContradictory o taxonomy instances certificate.lines) (SaysConsistent o taxonomy instances certificate.lines)
 
--- the taxonomy and instances texts say what follows from the axioms, as the certificate of the text shows
+-- the taxonomy and instances texts say what follows from the axioms, as the certificate of the text shows: its lines are a
+-- derivation, which has each yes or the contradiction, and its listed interpretation refutes each no
 pub record AreRight (o : Ontology) (taxonomy instances text : List ℕ) : Type 0 where
   pub certificate : Certificate
   pub text_is : IsTextOf o text certificate
+  pub derivation : IsDerivation o certificate.lines
   pub says : Says o taxonomy instances certificate

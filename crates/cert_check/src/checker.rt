@@ -46,8 +46,7 @@ pub fn check(
     ensures says { IfOk result (λ v. v ≡ Verdict.Accepted → AreRight ontology.now taxonomy.now instances.now certificate.now) }
 {
     let verdict = verdict_on(alloc, ontology, taxonomy, instances, certificate)?;
-    // What holds of every ontology.
-    let _ = ontology.expr(ExprId(0));
+    ontology.well_formed();
     Ok(verdict)
 }
 
@@ -146,10 +145,9 @@ fn first_failing_axiom(
     ensures { IfOk result (λ found. (i : Interpretation) × IsListing ontology.now (listed_of listed.now) i × IsInterpretation i
         × MatchOption found (IsModel i (axiom_trees ontology.now)) (IsFirstUnsatisfied ontology.now i)) }
 {
-    // What holds of every ontology, and of every interpretation.
-    let _ = ontology.expr(ExprId(0));
+    ontology.well_formed();
     let interpretation = interpretation_of(alloc, ontology, listed)?;
-    let _ = interpretation.size();
+    interpretation.well_formed();
     interpretation.first_unsatisfied(ontology)
 }
 
@@ -168,8 +166,7 @@ fn against_claims(
     ensures { (i : Interpretation) → IsListing ontology.now (listed_of listed.now) i → IsInterpretation i →
         IfOk result (ClaimsAgainst ontology.now i (lines_of _lines.now) (listed_of listed.now)) }
 {
-    // What holds of every ontology.
-    let _ = ontology.expr(ExprId(0));
+    ontology.well_formed();
     let claimed = claimed_elements(alloc, ontology, &listed.claims)?;
     if let Some(class) = first_unclaimed(above, &claimed) {
         return Ok(Some(Reason::ClaimMissing { class }));
@@ -198,8 +195,7 @@ fn against_relation(
     requires types { AreTypeRows ontology.now (lines_of _lines.now) types.items }
     ensures { IfOk result (RelationAgainst ontology.now taxonomy.now instances.now (lines_of _lines.now)) }
 {
-    // What holds of every ontology.
-    let _ = ontology.expr(ExprId(0));
+    ontology.well_formed();
     let filled = filled_rows(alloc, &above)?;
     let relation = Relation::new(filled);
     let reduced = reduce(alloc, &relation)?;
@@ -240,8 +236,9 @@ fn is_contradiction(conclusion: Conclusion) -> bool
     ensures { IsTrue result ↔ IsContradiction (conclusion_of conclusion) }
 {
     match conclusion {
-        Conclusion::Sub(Subject::Expr(expression), above) => expression.0 == 0 && above.0 == 1,
-        Conclusion::Sub(Subject::Individual(_), above) => above.0 == 1,
+        Conclusion::Sub(Subject::Expr(expression), above) => expression == ExprId::THING
+            && above == ExprId::NOTHING,
+        Conclusion::Sub(Subject::Individual(_), above) => above == ExprId::NOTHING,
         Conclusion::Edge(..) => false,
     }
 }

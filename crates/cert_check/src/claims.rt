@@ -9,18 +9,11 @@ ghost use Rattle.std.specs.Prelude.{◌↔◌, ◌<◌, ◌≡◌, ◌⊎◌, Al
 ghost use Rattle.taxonomy.specs.Relation.{AreOver, lies_below};
 ghost use Rattle.taxonomy.specs.Texts.{nothing_class};
 
-use crate::listing::class_of;
 use crate::superclasses::put_at;
-use axioms::{ClassId, ExprId, IndId, Memory, Ontology};
+use axioms::{ClassId, IndId, Memory, Ontology};
 use certificate::{Claim, ClassRow};
 use interpretation_spec::Row;
 use std::alloc::Global;
-
-// The number of owl:Thing among the classes.
-const THING: usize = 0;
-
-// The number of owl:Nothing among the classes.
-const NOTHING: usize = 1;
 
 /// The claimed element for each class, by number, where there is a claim.
 pub(crate) fn claimed_elements(
@@ -31,11 +24,11 @@ pub(crate) fn claimed_elements(
     requires { Ascends (map (λ c. c.0) (map claim_of claims.now)) }
     ensures { IfOk result (λ claimed. AreClaimed ontology.now (map claim_of claims.now) claimed.items) }
 {
-    // What holds of every ontology: a class is one expression.
-    let _ = ontology.expr(ExprId(0));
+    // A class is one expression.
+    ontology.well_formed();
     let mut elements = vec![in alloc; None; ontology.classes().len()]?;
     for claim in claims {
-        if let Some(class) = class_of(ontology, claim.class) {
+        if let Some(class) = ontology.class_of(claim.class) {
             elements[class.0] = Some(claim.element);
         }
     }
@@ -49,7 +42,7 @@ fn thing_rows(alloc: Global, count: usize, width: usize) -> Result<Vec<Row>, Mem
     let mut rows = Vec::new(alloc);
     for _ in 0..count {
         let mut row = Row::new(alloc, width)?;
-        row.put(THING);
+        row.put(ClassId::THING.0);
         rows.push(row)?;
     }
     Ok(rows)
@@ -62,7 +55,7 @@ fn put_holders(ontology: &Ontology, rows: &mut Vec<Row>, listed: &ClassRow)
     ensures kept { AreRows (length rows.old.items) (length ontology.now.names.classes) rows.new.items }
     ensures added { Adds (λ x c. ListsMember ontology.now (class_row_of listed.now) c x) rows.old.items rows.new.items }
 {
-    if let Some(class) = class_of(ontology, listed.class) {
+    if let Some(class) = ontology.class_of(listed.class) {
         for element in &listed.elements {
             put_at(rows, *element as usize, class.0);
         }
@@ -79,8 +72,8 @@ pub(crate) fn element_rows(
     requires { All (λ row. AreElements domain row.elements.items) classes.now }
     ensures { IfOk result (λ rows. AreElementRows ontology.now domain (map class_row_of classes.now) rows.items) }
 {
-    // What holds of every ontology: owl:Thing is among its classes.
-    let _ = ontology.expr(ExprId(0));
+    // Owl:Thing is among its classes.
+    ontology.well_formed();
     let mut rows = thing_rows(alloc, domain as usize, ontology.classes().len())?;
     for listed in classes {
         put_holders(ontology, &mut rows, listed);
@@ -92,7 +85,7 @@ pub(crate) fn element_rows(
 fn is_claimed(row: &Row, claim: Option<u32>) -> bool
     ensures { IsTrue result ↔ ((has row.now nothing_class ≡ true) ⊎ ((x : ℕ) × (claim ≡ Some x))) }
 {
-    row.contains(NOTHING) || claim.is_some()
+    row.contains(ClassId::NOTHING.0) || claim.is_some()
 }
 
 /// The least class that has no owl:Nothing in its row and for which nothing is claimed.

@@ -1,28 +1,16 @@
 //! The interpretation that a certificate lists.
-ghost use Rattle.axioms.specs.Numbered.{IsClassAt};
 ghost use Rattle.cert_check.specs.Acceptable.{IsListing};
 ghost use Rattle.cert_check.specs.Additions.{AddsMembers, AddsPairs, IsListedMember, IsListedPair, PutsIndividuals, ListsMember, ListsPair};
 ghost use Rattle.certificate.specs.HasText.{IsListedOf};
 ghost use Rattle.certificate.specs.View.{class_row_of, listed_of, pair_row_of};
 ghost use Rattle.interpretation_spec.specs.ByName.{interpretation_of as by_names};
 ghost use Rattle.interpretation_spec.specs.Numbered.{IsMadeFor};
-ghost use Rattle.std.specs.Prelude.{◌<◌, ◌≡◌, IfOk, MatchOption, OnOk, length, map, ℕ};
+ghost use Rattle.std.specs.Prelude.{◌<◌, IfOk, OnOk, map};
 
-use axioms::{ClassId, Expr, ExprId, IndId, Memory, Ontology};
+use axioms::{IndId, Memory, Ontology};
 use certificate::{ClassRow, Listed, PairRow};
 use interpretation_spec::Interpretation;
 use std::alloc::Global;
-
-/// The class that the expression is.
-pub(crate) fn class_of(ontology: &Ontology, expression: ExprId) -> Option<ClassId>
-    ensures { MatchOption result ((c : ℕ) → IsClassAt ontology.now c expression.0 → ⊥)
-        (λ class. IsClassAt ontology.now class.0 expression.0 × (class.0 < length ontology.now.names.classes)) }
-{
-    match ontology.expr(expression) {
-        Some(Expr::Class(class)) => Some(*class),
-        _ => None,
-    }
-}
 
 // Adds the elements of a class.
 fn put_elements(
@@ -32,12 +20,11 @@ fn put_elements(
 ) -> Result<(), Memory>
     ensures { OnOk result (AddsMembers (ListsMember ontology.now (class_row_of row.now)) interpretation.old interpretation.new) }
 {
-    let Some(class) = class_of(ontology, row.class) else {
+    let Some(class) = ontology.class_of(row.class) else {
         return Ok(());
     };
     for element in &row.elements {
-        // What holds of every interpretation.
-        let _ = interpretation.size();
+        interpretation.well_formed();
         // What is listed is in range, so nothing but memory is refused.
         if interpretation.put_class(class, *element as usize).is_err() {
             return Err(Memory);
@@ -51,8 +38,7 @@ fn put_targets(interpretation: &mut Interpretation, row: &PairRow) -> Result<(),
     ensures { OnOk result (AddsPairs (ListsPair (pair_row_of row.now)) interpretation.old interpretation.new) }
 {
     for target in &row.targets {
-        // What holds of every interpretation.
-        let _ = interpretation.size();
+        interpretation.well_formed();
         if interpretation
             .put_pair(row.property, row.source as usize, *target as usize)
             .is_err()
@@ -109,8 +95,8 @@ pub(crate) fn interpretation_of(
     ensures made { IfOk result (IsMadeFor ontology.now.names) }
     ensures listing { IfOk result (λ i. IsListing ontology.now (listed_of listed.now) (by_names ontology.now.names i)) }
 {
-    // What holds of every ontology: owl:Thing and owl:Nothing are among its classes.
-    let _ = ontology.expr(ExprId(0));
+    // Owl:Thing and owl:Nothing are among its classes.
+    ontology.well_formed();
     let mut interpretation = match Interpretation::new(alloc, ontology, listed.domain as usize) {
         Ok(interpretation) => interpretation,
         Err(_) => return Err(Memory),

@@ -5,18 +5,15 @@ ghost use Rattle.certificate.specs.Certificate.{Line};
 ghost use Rattle.std.specs.Prelude.{◌≡◌, IfOk, List, length};
 ghost use Rattle.taxonomy.specs.Relation.{AreOver, lies_below};
 
-use axioms::{Memory, Ontology};
+use axioms::{ClassId, Memory, Ontology};
 use interpretation_spec::Row;
 use std::alloc::Global;
-
-// The number of owl:Nothing among the classes.
-const NOTHING: usize = 1;
 
 // The row of a class; one that has owl:Nothing has all classes.
 fn filled_row(alloc: Global, row: &Row) -> Result<Row, Memory>
     ensures { IfOk result (IsFilledRow row.now) }
 {
-    if row.contains(NOTHING) {
+    if row.contains(ClassId::NOTHING.0) {
         Row::full(alloc, row.len())
     } else {
         row.copy(alloc)

@@ -10,10 +10,6 @@ use crate::operands::{are_in_each, at_two_places, has_expression, has_property, 
 use axioms::{Axiom, Expr, ExprId, Ontology, PropId};
 use certificate::{Conclusion, Rule, Subject};
 
-const THING: ExprId = ExprId(0);
-
-const NOTHING: ExprId = ExprId(1);
-
 /// Whether the conclusion follows by the rule from the premises, in their order, and the stated axiom, if there is one.
 pub fn follows(
     ontology: &Ontology,
@@ -69,7 +65,7 @@ fn by_k2(
     ensures { IsTrue result ↔ FollowsFrom ontology.now certificate.K2 premises.now (option_map (λ a. axiom_of a.now) stated.entry) conclusion }
 {
     match (premises, stated, conclusion) {
-        ([], None, Conclusion::Sub(_, c)) => c == THING,
+        ([], None, Conclusion::Sub(_, c)) => c == ExprId::THING,
         _ => false,
     }
 }
@@ -84,7 +80,7 @@ fn by_k3(
     ensures { IsTrue result ↔ FollowsFrom ontology.now certificate.K3 premises.now (option_map (λ a. axiom_of a.now) stated.entry) conclusion }
 {
     match (premises, stated, conclusion) {
-        ([Conclusion::Sub(x, c)], None, Conclusion::Sub(y, _)) => *x == y && *c == NOTHING,
+        ([Conclusion::Sub(x, c)], None, Conclusion::Sub(y, _)) => *x == y && *c == ExprId::NOTHING,
         _ => false,
     }
 }
@@ -174,7 +170,7 @@ fn by_k7(
             [Conclusion::Sub(x, c), Conclusion::Sub(y, d)],
             Some(Axiom::DisjointClasses(operands)),
             Conclusion::Sub(z, e),
-        ) => { x == y && *x == z && at_two_places(operands, *c, *d) && e == NOTHING }
+        ) => { x == y && *x == z && at_two_places(operands, *c, *d) && e == ExprId::NOTHING }
         _ => false,
     }
 }
@@ -245,7 +241,7 @@ fn by_k11(
 {
     match (premises, stated, conclusion) {
         ([Conclusion::Edge(x, _, y), Conclusion::Sub(z, c)], None, Conclusion::Sub(w, d)) => {
-            *x == w && y == z && *c == NOTHING && d == NOTHING
+            *x == w && y == z && *c == ExprId::NOTHING && d == ExprId::NOTHING
         }
         _ => false,
     }

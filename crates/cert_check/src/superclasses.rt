@@ -1,11 +1,9 @@
 //! The classes that lines put above each class and each individual.
-ghost use Rattle.axioms.specs.Numbered.{IsClassAt};
 ghost use Rattle.cert_check.specs.Rows.{Adds, AreClassRows, AreRows, AreTypeRows, PutsBelow, PutsInto, with_number_at};
 ghost use Rattle.certificate.specs.HasText.{IsLineOf};
 ghost use Rattle.certificate.specs.View.{conclusion_of, line_of, lines_of};
 ghost use Rattle.std.specs.Prelude.{◌<◌, ◌≡◌, All, IfOk, MatchOption, false, length, replicate, ℕ};
 
-use crate::listing::class_of;
 use axioms::{Memory, Ontology};
 use certificate::{Conclusion, Line, Subject};
 use interpretation_spec::Row;
@@ -40,8 +38,8 @@ fn class_pair(ontology: &Ontology, conclusion: Conclusion) -> Option<(usize, usi
 {
     match conclusion {
         Conclusion::Sub(Subject::Expr(expression), above) => {
-            let class = class_of(ontology, expression)?;
-            let above = class_of(ontology, above)?;
+            let class = ontology.class_of(expression)?;
+            let above = ontology.class_of(above)?;
             Some((class.0, above.0))
         }
         _ => None,
@@ -55,7 +53,7 @@ fn type_pair(ontology: &Ontology, conclusion: Conclusion) -> Option<(usize, usiz
 {
     match conclusion {
         Conclusion::Sub(Subject::Individual(individual), above) => {
-            let above = class_of(ontology, above)?;
+            let above = ontology.class_of(above)?;
             Some((individual.0, above.0))
         }
         _ => None,

@@ -19,7 +19,7 @@ returns-in-Some c = λ i listing good.
     let claimed = c.in_ok-claimed.claimed.items in
     let claims = subst (λ (cs : List Claim). AreClaimed o (map claim_of cs) claimed) c.deref.ensures.value c.in_ok-claimed.ensures in
     let n = c.in-Some.class.0 in
-    first_as (IsClaimed above claimed) (HasClaim o lines l) (claimed_as o c.expr.ensures.valid lines above c.requires.above l claimed claims) n
+    first_as (IsClaimed above claimed) (HasClaim o lines l) (claimed_as o c.well_formed-2.ensures lines above c.requires.above l claimed claims) n
     (subst (λ (v : List (Option ℕ)). IsFirstWithout (IsClaimed above v) n) c.deref-2.ensures.value c.in-Some.ensures)
 
 pub element_rows-requires : goal.element_rows-requires
@@ -34,12 +34,12 @@ first_disagreeing_class-requires-clause-there c =
     let l = listed_of c.args.listed.now in
     let claims = subst₂ (λ (cs : List Claim) (v : List (Option ℕ)). AreClaimed o (map claim_of cs) v) c.deref.ensures.value (sym c.deref-4.ensures.value) c.in_ok-claimed.ensures in
     let rows = subst₂ (λ (rs : List ClassRow) (v : List (List Bool)). AreElementRows o l.domain (map class_row_of rs) v) c.deref-3.ensures.value (sym c.deref-5.ensures.value) c.in_ok-holding.ensures in
-    element_there o c.expr.ensures.valid l c.requires.listed c.deref-4.result.now claims c.deref-5.result.now rows
+    element_there o c.well_formed-2.ensures l c.requires.listed c.deref-4.result.now claims c.deref-5.result.now rows
 
 pub returns-in-Some-first_disagreeing_class : goal.returns-in-Some-first_disagreeing_class
 returns-in-Some-first_disagreeing_class c = λ i listing good.
     let o = c.args.ontology.now in
-    let w = c.expr.ensures.valid in
+    let w = c.well_formed-2.ensures in
     let l = listed_of c.args.listed.now in
     let lines = lines_of c.args._lines.now in
     let above = c.args.above.now in
@@ -57,7 +57,7 @@ returns-in-Some-first_disagreeing_class c = λ i listing good.
 pub returns-in-Some-first_disagreeing_individual : goal.returns-in-Some-first_disagreeing_individual
 returns-in-Some-first_disagreeing_individual c = λ i listing good.
     let o = c.args.ontology.now in
-    let w = c.expr.ensures.valid in
+    let w = c.well_formed-2.ensures in
     let l = listed_of c.args.listed.now in
     let lines = lines_of c.args._lines.now in
     let above = c.args.above.now in
@@ -78,7 +78,7 @@ returns-in-Some-first_disagreeing_individual c = λ i listing good.
 pub returns : goal.returns
 returns c = λ i listing good.
     let o = c.args.ontology.now in
-    let w = c.expr.ensures.valid in
+    let w = c.well_formed-2.ensures in
     let l = listed_of c.args.listed.now in
     let lines = lines_of c.args._lines.now in
     let above = c.args.above.now in

@@ -21,6 +21,6 @@ returns c =
     IfOk-weaker c.against_texts.result
     (TextsAgainst t i (taxonomy_text o.names.classes (lies_below c.in_ok-reduced.reduced)) (instances_text o.names.classes o.names.individuals (lies_below c.in_ok-reduced.reduced) (lies_below types)))
     (RelationAgainst o t i lines)
-    (λ reason h. relation_against o c.expr.ensures.valid lines c.args.above.items filled types c.requires.above c.requires.types fill t i reason
+    (λ reason h. relation_against o c.well_formed-2.ensures lines c.args.above.items filled types c.requires.above c.requires.types fill t i reason
     (subst (λ rows. TextsAgainst t i (taxonomy_text o.names.classes (lies_below rows)) (instances_text o.names.classes o.names.individuals (lies_below rows) (lies_below types)) reason) same h))
     c.against_texts.ensures

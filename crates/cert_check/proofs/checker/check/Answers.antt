@@ -10,7 +10,7 @@ returns c =
     let verdict = c.in_ok-verdict.ensures in
     record {
       verdict = verdict;
-      accepted = accepted_exactly o c.expr.ensures.valid t i text c.in_ok-verdict.verdict verdict;
-      lines = passed_lines o c.expr.ensures.valid t i text c.in_ok-verdict.verdict verdict;
-      says = accepted_right o c.expr.ensures.valid t i text c.in_ok-verdict.verdict verdict;
+      accepted = accepted_exactly o c.well_formed-2.ensures t i text c.in_ok-verdict.verdict verdict;
+      lines = passed_lines o c.well_formed-2.ensures t i text c.in_ok-verdict.verdict verdict;
+      says = accepted_right o c.well_formed-2.ensures t i text c.in_ok-verdict.verdict verdict;
     }

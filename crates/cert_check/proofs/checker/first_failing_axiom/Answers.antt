@@ -21,5 +21,5 @@ returns c =
     IfOk-weaker c.first_unsatisfied.result
     (λ found. (IsNone found → M) × IfSome found P)
     (λ found. (j : Interpretation) × IsListing o l j × IsInterpretation j × MatchOption found (IsModel j (axiom_trees o)) (IsFirstUnsatisfied o j))
-    (λ found h. (i, c.in_ok-interpretation.ensures.listing, stands_well o c.expr.ensures.valid made c.size.ensures.valid, one_or_none found M P h.0 h.1))
+    (λ found h. (i, c.in_ok-interpretation.ensures.listing, stands_well o c.well_formed-2.ensures made c.well_formed-3.ensures, one_or_none found M P h.0 h.1))
     (IfOk-both (λ found. IsNone found → M) (λ found. IfSome found P) c.first_unsatisfied.result c.first_unsatisfied.ensures.model c.first_unsatisfied.ensures.first)

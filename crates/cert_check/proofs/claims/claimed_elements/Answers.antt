@@ -18,8 +18,8 @@ loop-claim-preserved c =
     elim c.match-class_of.branch [
       | in-Some w ↦
           subst (λ v. AreClaimed o (map claim_of (take (k + 1) claims)) v.items) (sym w.elements-is)
-          (claim_step o c.expr.ensures.valid claims c.requires k claim there c.loop-claim.elements.items c.loop-claim.invariant w.in-Some.class.0 w.in-Some.ensures.0)
+          (claim_step o c.well_formed-2.ensures claims c.requires k claim there c.loop-claim.elements.items c.loop-claim.invariant w.in-Some.class.0 w.in-Some.ensures.0)
       | in_default w ↦
           subst (λ v. AreClaimed o (map claim_of (take (k + 1) claims)) v.items) (sym w.elements-is)
-          (no_claim_step o c.expr.ensures.valid claims c.requires k claim there c.loop-claim.elements.items c.loop-claim.invariant w.in_default.ensures)
+          (no_claim_step o c.well_formed-2.ensures claims c.requires k claim there c.loop-claim.elements.items c.loop-claim.invariant w.in_default.ensures)
     ]

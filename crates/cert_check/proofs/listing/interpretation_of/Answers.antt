@@ -18,6 +18,6 @@ returns c =
     let pairs = subst (λ (rows : List PairRow). AddsPairs (IsListedPair (map pair_row_of rows)) first second) c.deref-2.ensures.value c.in_ok-put_pairs.ensures in
     let individuals = subst (λ (xs : List ℕ). PutsIndividuals xs second third) c.deref-3.ensures.value c.in_ok-put_individuals.ensures in
     record {
-      made = listing_made o c.expr.ensures.valid (listed_of c.args.listed.now) c.requires first second third members pairs individuals;
-      listing = listing_is o c.expr.ensures.valid (listed_of c.args.listed.now) c.requires first second third members pairs individuals;
+      made = listing_made o c.well_formed-2.ensures (listed_of c.args.listed.now) c.requires first second third members pairs individuals;
+      listing = listing_is o c.well_formed-2.ensures (listed_of c.args.listed.now) c.requires first second third members pairs individuals;
     }

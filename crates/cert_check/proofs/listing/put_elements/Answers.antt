@@ -19,7 +19,7 @@ loop-element-preserved c =
     let taken = c.put_class.ensures.taken.0 well.0 in
     member_step o row.class.0 c.in-Some.class.0 c.in-Some.ensures.0 row.elements.items k x there
     c.args.interpretation.now c.loop-element.interpretation c.put_class.new.self
-    c.size.ensures.valid taken.1 taken.2 well.1 c.loop-element.invariant
+    c.well_formed-in-loop-element.ensures taken.1 taken.2 well.1 c.loop-element.invariant
 
 pub returns : goal.returns
 returns c =

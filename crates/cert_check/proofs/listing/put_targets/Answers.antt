@@ -17,7 +17,7 @@ loop-target-preserved c =
     let taken = (went_well c.put_pair.result c.is_err.result c.is_err.ensures.negation c.if-is_err.false c.put_pair.ensures.taken).1 in
     pair_step row.property.0 row.source row.targets.items k y there
     c.args.interpretation.now c.loop-target.interpretation c.put_pair.new.self
-    c.size.ensures.valid taken.0 taken.1 well.1 c.loop-target.invariant
+    c.well_formed-in-loop-target.ensures taken.0 taken.1 well.1 c.loop-target.invariant
 
 pub returns : goal.returns
 returns c =
