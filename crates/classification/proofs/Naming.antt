@@ -1,37 +1,59 @@
 -- Which expressions are named classes, by their nodes, and what lists of the code say of an ontology.
-use Rattle.std.proofs.Common.{◌≡◌, ℕ, ◌<◌, ◌≤◌, List, [], ◌∷◌, map, length, slice_get, Some, None, All, refl, sym, ap, ◌∙◌, subst, arith}
+use Rattle.std.proofs.Common.{◌≡◌, ℕ, ◌<◌, ◌≤◌, List, [], ◌∷◌, map, length, get_or, slice_get, Some, None, Option, MatchOption, is_some, true, ◌↔◌, All, refl, sym, ap, ◌∙◌, subst, arith}
+use Rattle.std.proofs.lemmas.Bool.{false≢true}
 use Rattle.std.proofs.lemmas.List.{nil_from_length, length-map}
 use Rattle.std.proofs.lemmas.List.Elements.{All-map}
-use Rattle.std.proofs.lemmas.Option.{none-some}
 use Rattle.axioms.specs.Expression.{ClassExpression}
-use Rattle.axioms.specs.Numbered.{Ontology, And, intersection, expression, expressions, axiom_tree, axiom_trees}
-use Rattle.axioms.specs.View.{node_of, axiom_of, expr_numbers}
+use Rattle.axioms.specs.Numbered.{Ontology, Axiom, Node, Class, And, Exists, IsClassAt, intersection, expression, expressions, axiom_tree, axiom_trees}
+use Rattle.axioms.specs.View.{axiom_of}
 use Rattle.axioms.specs.WellFormed.{IsOntology, IsAxiomOf}
 use Rattle.axioms.specs.declared.ids.ClassId.{ClassId}
 use Rattle.axioms.specs.declared.terms.Axiom as code_axiom
-use Rattle.axioms.specs.declared.terms.Expr as code_expr
-use Rattle.axioms.specs.declared.terms.Expr.TheVariants as exprs
 use Rattle.axioms.proofs.Lists.{All-from_map, slice_get_there}
 use Rattle.axioms.proofs.Trees.{class_tree, and_tree, some_tree}
+use Rattle.hierarchy.specs.Hierarchy.{IsHierarchy, IsSubclassAxiom}
 use Rattle.classification.specs.Stated.{IsNamed, IsNamedSubclass, StatesHierarchy}
 
-pub named_class : (o : Ontology) (e : ℕ) (x : code_expr.Expr) (k : ClassId) → Some (node_of x) ≡ slice_get o.nodes e → x ≡ exprs.Class k → IsNamed (expression o e)
-named_class o e x k at is = subst IsNamed (sym (class_tree o k.0 e (sym at ∙ ap (λ y. Some (node_of y)) is))) tt
+named_class : (o : Ontology) (e k : ℕ) → IsClassAt o k e → IsNamed (expression o e)
+named_class o e k at = subst IsNamed (sym (class_tree o k e at)) tt
 
 not_named : (ts : List ClassExpression) → 2 ≤ length ts → IsNamed (intersection ts) → ⊥
 not_named [] many h = omega arith
 not_named (t ∷ []) many h = omega arith
 not_named (t ∷ u ∷ ts) many h = h
 
-pub other_expression : (o : Ontology) → IsOntology o → (e : ℕ) (x : code_expr.Expr) → Some (node_of x) ≡ slice_get o.nodes e → ((k : ClassId) → x ≡ exprs.Class k → ⊥) → IsNamed (expression o e) → ⊥
-other_expression o w e (exprs.Class k) at other h = other k refl
-other_expression o w e (exprs.And ds) at other h =
-    let es = expr_numbers ds.items in
-    not_named (expressions o es) (omega (arith, length-map es (expression o), (w.nodes e (And es) (sym at)).many)) (subst IsNamed (and_tree o w e es (sym at)) h)
-other_expression o w e (exprs.Some r d) at other h = subst IsNamed (some_tree o w e r.0 d.0 (sym at)) h
+other_node : (o : Ontology) → IsOntology o → (e : ℕ) (node : Node) → slice_get o.nodes e ≡ Some node → ((k : ℕ) → IsClassAt o k e → ⊥) → IsNamed (expression o e) → ⊥
+other_node o w e (Class k) at other h = other k at
+other_node o w e (And es) at other h = not_named (expressions o es) (omega (arith, length-map es (expression o), (w.nodes e (And es) at).many)) (subst IsNamed (and_tree o w e es at) h)
+other_node o w e (Exists r d) at other h = subst IsNamed (some_tree o w e r d at) h
 
-pub there : (o : Ontology) (e : ℕ) → e < length o.nodes → None ≡ slice_get o.nodes e → ⊥
-there o e within none = let at = slice_get_there o.nodes e within in none-some at.0 (none ∙ at.1)
+other_expression : (o : Ontology) → IsOntology o → (e : ℕ) → e < length o.nodes → ((k : ℕ) → IsClassAt o k e → ⊥) → IsNamed (expression o e) → ⊥
+other_expression o w e within other = let at = slice_get_there o.nodes e within in other_node o w e at.0 at.1 other
+
+-- it is named where a class was found
+pub named_if_found : (o : Ontology) → IsOntology o → (e : ℕ) → e < length o.nodes → (found : Option ClassId)
+    → MatchOption found ((k : ℕ) → IsClassAt o k e → ⊥) (λ k. IsClassAt o k.0 e × (k.0 < length o.names.classes)) → (is_some found ≡ true) ↔ IsNamed (expression o e)
+named_if_found o w e within None none = (λ t. absurd (false≢true t), λ h. absurd (other_expression o w e within none h))
+named_if_found o w e within (Some k) at = (λ t. named_class o e k.0 at.0, λ h. refl)
+
+-- ---- a hierarchy by its numbers says so
+
+module _ (o : Ontology) (w : IsOntology o) (h : IsHierarchy o) where
+  own_named : (e : ℕ) → e < length o.nodes → IsNamed (expression o e)
+  own_named e within =
+      let (node, at) = slice_get_there o.nodes e within in
+      subst IsNamed (sym (class_tree o e e (at ∙ ap (λ n. Some n) (h.classes e node at)))) tt
+
+  says_subclass : (a : Axiom) → IsSubclassAxiom a → IsAxiomOf o a → IsNamedSubclass (axiom_tree o a)
+  says_subclass a (c, d, is) there =
+      let within = subst (IsAxiomOf o) is there in
+      subst (λ a. IsNamedSubclass (axiom_tree o a)) (sym is) (own_named c within.0, own_named d within.1)
+
+  pub states_itself : StatesHierarchy o
+  states_itself = record {
+    axioms = All-map IsNamedSubclass (axiom_tree o) o.axioms (λ k a within. says_subclass (get_or o.axioms k a) (h.axioms k a within) (w.axioms k a within));
+    individuals = h.individuals;
+  }
 
 -- ---- the axioms and the individuals as lists of the code
 

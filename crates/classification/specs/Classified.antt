@@ -3,9 +3,10 @@ use Rattle.std.specs.Prelude.{◌≡◌, ◌<◌, ◌≤◌, ◌↔◌, ◌⊎�
 use Rattle.axioms.specs.Numbered.{Ontology, thing, nothing}
 use Rattle.axioms.specs.Growth.{most_names}
 use Rattle.classification.specs.Relation.{related_rows}
+use Rattle.classification.specs.Stated.{StatesHierarchy}
 use Rattle.classification.specs.declared.classification.Summary.{Summary}
 use Rattle.hierarchy.specs.Hierarchy.{IsHierarchy}
-use Rattle.hierarchy.specs.Superclasses.{IsSuperclass, HasFacts}
+use Rattle.hierarchy.specs.Superclasses.{IsSuperclass, HasFacts, HasMoreFactsThan}
 use Rattle.taxonomy.specs.Texts.{taxonomy_text, instances_text, inconsistent_taxonomy_text, inconsistent_instances_text}
 use Rattle.taxonomy.specs.declared.outcome.Outcome.{Outcome}
 use Rattle.taxonomy.specs.declared.outcome.Outcome.TheVariants.{Consistent, Inconsistent}
@@ -33,6 +34,11 @@ pub record AreCountsOf (o : Ontology) (s : Summary) : Type 0 where
   pub classes : s.classes ≡ length o.names.classes
   pub individuals : s.individuals ≡ length o.names.individuals
   pub facts : HasFacts o s.facts
+
+-- the ontology is one that is classified today, and its closure has more than so many facts
+pub record HasTooManyFacts (o : Ontology) (most : ℕ) : Type 0 where
+  pub hierarchy : StatesHierarchy o
+  pub more : HasMoreFactsThan o most
 
 -- the texts of the relation of superclasses, in which an unsatisfiable class lies below all; no individual belongs to a class
 pub record AreTextsOfSuperclasses (o : Ontology) (taxonomy instances : List ℕ) : Type 0 where

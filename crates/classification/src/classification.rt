@@ -2,15 +2,14 @@
 ghost use Rattle.axioms.specs.Numbered.{nothing, thing};
 ghost use Rattle.cert_check.specs.Acceptable.{IsAcceptable};
 ghost use Rattle.certificate.specs.HasText.{HasText};
-ghost use Rattle.classification.specs.Classified.{AreCountsOf, AreTextsOf, IsClassifiable, IsOutcomeOf};
+ghost use Rattle.classification.specs.Classified.{AreCountsOf, AreTextsOf, HasTooManyFacts, IsClassifiable, IsOutcomeOf};
 ghost use Rattle.classification.specs.Shown.{AreLinesOf, IsListedWhere};
 ghost use Rattle.hierarchy.specs.Contexts.{AreSuperclasses};
-ghost use Rattle.hierarchy.specs.Superclasses.{HasMoreFactsThan};
 ghost use Rattle.std.specs.Prelude.{◌≡◌, ◌<◌, ◌≤◌, Err, IfOk, length, not};
 ghost use Rattle.taxonomy.specs.Relation.{IsSquare, lies_below};
 
 use crate::derivation::derivation_lines;
-use crate::listing::{NOTHING, listed};
+use crate::listing::listed;
 use crate::relation::relation_rows;
 use axioms::{ExprId, Memory, Ontology};
 use certificate::{Certificate, certificate_bytes};
@@ -18,9 +17,6 @@ use hierarchy::{Hierarchy, Stop, close};
 use interpretation_spec::Row;
 use std::alloc::Global;
 use taxonomy::{Outcome, Relation, instances_bytes, reduce, taxonomy_bytes};
-
-/// The expression of `owl:Thing`.
-const THING: usize = 0;
 
 /// What a classification counts.
 #[derive(Clone, Copy, Debug, PartialEq, Eq)]
@@ -48,7 +44,7 @@ fn is_consistent(rows: &[Row]) -> bool
     requires { thing < length rows.now }
     ensures { result ≡ not (lies_below rows.now thing nothing) }
 {
-    !rows[THING].contains(NOTHING)
+    !rows[ExprId::THING.0].contains(ExprId::NOTHING.0)
 }
 
 /// What the superclasses say: the relation of the classes, or that there is no interpretation.
@@ -105,10 +101,9 @@ pub fn classify(alloc: Global, ontology: &Ontology, max_facts: u64) -> Result<Cl
     // The certificate shows that the taxonomy and the instances are right.
     ensures acceptable { IfOk result
         (λ c. IsAcceptable ontology.now c.taxonomy.items c.instances.items c.certificate.items) }
-    ensures limit { result ≡ Err Stop.Limit → HasMoreFactsThan ontology.now max_facts }
+    ensures limit { result ≡ Err Stop.Limit → HasTooManyFacts ontology.now max_facts }
 {
-    // Each look-up says that the ontology is well formed.
-    let _thing = ontology.expr(ExprId(THING));
+    ontology.well_formed();
     let hierarchy = close(alloc, ontology, max_facts)?;
     let consistent = is_consistent(&hierarchy.rows);
     let certificate = certificate_of(alloc, ontology, &hierarchy, consistent)?;

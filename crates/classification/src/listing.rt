@@ -16,16 +16,13 @@ use hierarchy::{Hierarchy, Superclass};
 use interpretation_spec::Row;
 use std::alloc::Global;
 
-/// The expression of `owl:Nothing`.
-pub(crate) const NOTHING: usize = 1;
-
 /// The satisfiable classes, ascending: their places are the elements.
 fn elements(alloc: Global, rows: &[Row]) -> Result<Vec<ExprId>, Memory>
     ensures { IfOk result (λ v. expr_numbers v.items ≡ satisfiable rows.now) }
 {
     let mut elements = Vec::new(alloc);
     for (class, row) in rows.iter().enumerate() {
-        if !row.contains(NOTHING) {
+        if !row.contains(ExprId::NOTHING.0) {
             elements.push(ExprId(class))?;
         }
     }
@@ -92,7 +89,7 @@ fn class_rows(alloc: Global, members: Vec<Vec<u32>>) -> Result<Vec<ClassRow>, Me
 {
     let mut rows = Vec::new(alloc);
     for (class, elements) in members.into_iter().enumerate() {
-        if class > NOTHING && !elements.is_empty() {
+        if class > ExprId::NOTHING.0 && !elements.is_empty() {
             rows.push(ClassRow {
                 class: ExprId(class),
                 elements,
@@ -132,8 +129,7 @@ pub(crate) fn listed(
     ensures text { IfOk result (λ l. IsListedOf ontology.now (listed_of l)) }
     ensures numbers { IfOk result (λ l. All (λ n. n < 2 ^ 32) (listed_numbers (Some (listed_of l)))) }
 {
-    // A look-up says that the ontology is well formed.
-    let _thing = ontology.expr(ExprId(0));
+    ontology.well_formed();
     let elements = elements(alloc, &hierarchy.rows)?;
     let members = members(alloc, &hierarchy.contexts, &elements)?;
     let domain = elements.len() as u32;

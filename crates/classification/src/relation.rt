@@ -2,8 +2,7 @@
 ghost use Rattle.classification.specs.Relation.{related_row, related_rows};
 ghost use Rattle.std.specs.Prelude.{◌≡◌, IfOk, replicate, true, ℕ};
 
-use crate::listing::NOTHING;
-use axioms::Memory;
+use axioms::{ExprId, Memory};
 use interpretation_spec::Row;
 use std::alloc::Global;
 
@@ -22,7 +21,7 @@ fn all_classes(alloc: Global, classes: usize) -> Result<Row, Memory>
 fn related_row(alloc: Global, row: Row, all: &Row) -> Result<Row, Memory>
     ensures { IfOk result (λ r. (k : ℕ) → all.now ≡ replicate k true → r ≡ related_row k row) }
 {
-    if row.contains(NOTHING) {
+    if row.contains(ExprId::NOTHING.0) {
         all.copy(alloc)
     } else {
         Ok(row)

@@ -5,17 +5,15 @@ ghost use Rattle.axioms.specs.WellFormed.{IsAxiomOf};
 ghost use Rattle.classification.specs.Stated.{IsNamed, IsNamedSubclass, StatedHierarchiesAreHierarchies, StatesHierarchy};
 ghost use Rattle.std.specs.Prelude.{◌<◌, ◌≡◌, ◌↔◌, All, IsTrue, length, true};
 
-use axioms::{Axiom, Expr, ExprId, Ontology};
+use axioms::{Axiom, ExprId, Ontology};
 
 /// Whether the expression of that number is a named class.
 fn is_named(ontology: &Ontology, number: ExprId) -> bool
     requires { number.0 < length ontology.now.nodes }
     ensures { IsTrue result ↔ IsNamed (expression ontology.now number.0) }
 {
-    match ontology.expr(number) {
-        Some(expression) => matches!(expression, Expr::Class(_)),
-        None => false,
-    }
+    ontology.well_formed();
+    ontology.class_of(number).is_some()
 }
 
 /// Whether the axiom says that a named class lies below a named class.
@@ -48,8 +46,7 @@ fn are_named_subclasses(ontology: &Ontology, axioms: &[Axiom]) -> bool
 pub fn states_hierarchy(ontology: &Ontology) -> bool
     ensures { IsTrue result ↔ StatesHierarchy ontology.now }
 {
-    // Each look-up says that the ontology is well formed.
-    let _thing = ontology.expr(ExprId(0));
+    ontology.well_formed();
     ontology.individuals().is_empty() && are_named_subclasses(ontology, ontology.axioms())
 }
 

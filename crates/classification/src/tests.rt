@@ -87,7 +87,7 @@ fn a_declared_property_does_not_matter(rt: HostRuntime) -> Result<(), Fail> {
     builder.declare(Kind::Property, "x:p")?;
     builder.declare(Kind::Class, "x:A")?;
     assert!(rt; 2 < builder.ontology().expression_count());
-    builder.add_axiom(Axiom::SubClass(ExprId(2), ExprId(0)))?;
+    builder.add_axiom(Axiom::SubClass(ExprId(2), ExprId::THING))?;
     assert!(rt; states_hierarchy(builder.ontology()));
     Ok(())
 }
@@ -98,9 +98,9 @@ fn an_existential_operand_is_not_classified(rt: HostRuntime) -> Result<(), Fail>
     builder.declare(Kind::Property, "x:p")?;
     assert!(rt; builder.ontology().properties().len() == 1);
     assert!(rt; 1 < builder.ontology().expression_count());
-    builder.add_expr(Expr::Some(PropId(0), ExprId(0)))?;
+    builder.add_expr(Expr::Some(PropId(0), ExprId::THING))?;
     assert!(rt; 2 < builder.ontology().expression_count());
-    builder.add_axiom(Axiom::SubClass(ExprId(0), ExprId(2)))?;
+    builder.add_axiom(Axiom::SubClass(ExprId::THING, ExprId(2)))?;
     assert!(rt; !states_hierarchy(builder.ontology()));
     Ok(())
 }

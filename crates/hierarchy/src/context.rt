@@ -78,7 +78,7 @@ pub(crate) fn superclasses(alloc: Global, told: &Index, class: ExprId) -> Result
         reason: Reason::Itself,
     })?;
     found.add(Superclass {
-        class: ExprId(0),
+        class: ExprId::THING,
         reason: Reason::Thing,
     })?;
     for next in 0..told.len() {

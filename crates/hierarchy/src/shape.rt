@@ -4,15 +4,15 @@ ghost use Rattle.axioms.specs.Numbered.{Class};
 ghost use Rattle.axioms.specs.View.{axiom_of};
 ghost use Rattle.hierarchy.specs.Hierarchy.{IsHierarchy, IsSubclassAxiom};
 
-use axioms::{Axiom, Expr, ExprId, Ontology};
+use axioms::{Axiom, ExprId, Ontology};
 
 /// Whether the expression of that number is the class of that number.
 fn is_own_class(ontology: &Ontology, number: usize) -> bool
     ensures { IsTrue result ↔ (slice_get ontology.now.nodes number ≡ Some (Class number)) }
 {
-    match ontology.expr(ExprId(number)) {
-        Some(Expr::Class(class)) => class.0 == number,
-        _ => false,
+    match ontology.class_of(ExprId(number)) {
+        Some(class) => class.0 == number,
+        None => false,
     }
 }
 

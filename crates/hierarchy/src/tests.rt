@@ -4,6 +4,7 @@ ghost use Rattle.hierarchy.specs.Hierarchy.{IsHierarchy};
 
 use super::*;
 use axioms::{Axiom, Builder, ExprId, Kind, Ontology};
+use std::alloc::Global;
 use std::hash::RandomState;
 use std::process::Abort;
 use std::random::RandomSource;
@@ -33,64 +34,106 @@ fn hierarchy_of<R: AllocGlobal + Abort + RandomSource>(
     Ok(ontology)
 }
 
+/// How many facts an ontology has.
+fn facts_of(alloc: Global, ontology: &Ontology, max_facts: u64) -> Result<u64, Stop>
+    requires { IsHierarchy ontology.now }
+{
+    let hierarchy = close(alloc, ontology, max_facts)?;
+    Ok(hierarchy.facts)
+}
+
 /// How many facts there are.
 fn facts<R: AllocGlobal + Abort + RandomSource>(
     rt: &R,
     classes: usize,
     stated: &[(usize, usize)],
-) -> Result<u64, Fail> {
+    max_facts: u64,
+) -> Result<Result<u64, Stop>, Fail> {
     let ontology = hierarchy_of(rt, classes, stated)?;
-    let hierarchy = close(rt.alloc(), &ontology, 1000)?;
-    Ok(hierarchy.facts)
+    Ok(facts_of(rt.alloc(), &ontology, max_facts))
 }
 
 #[test]
 fn counts_facts(rt: HostRuntime) -> Result<(), Fail> {
-    assert_eq!(rt; facts(&rt, 0, &[])?, 3, "empty ontology");
-    assert_eq!(rt; facts(&rt, 2, &[(2, 3)])?, 8, "one subclass");
-    assert_eq!(rt; facts(&rt, 2, &[(2, 3), (2, 3)])?, 8, "an axiom twice");
-    assert_eq!(rt; facts(&rt, 1, &[(2, 2)])?, 5, "a class below itself");
-    assert_eq!(rt; facts(&rt, 2, &[(2, 3), (3, 2)])?, 9, "a cycle of two");
-    assert_eq!(rt; facts(&rt, 2, &[(0, 2)])?, 10, "owl:Thing below a class");
-    assert_eq!(rt; facts(&rt, 1, &[(2, 1)])?, 6, "a class below owl:Nothing");
-    Ok(())
-}
-
-#[test]
-fn gives_reasons_in_a_diamond(rt: HostRuntime) -> Result<(), Fail> {
-    let ontology = hierarchy_of(&rt, 4, &[(2, 3), (2, 4), (3, 5), (4, 5)])?;
-    let hierarchy = close(rt.alloc(), &ontology, 16)?;
-    let by_axiom = |class, number, from| Superclass {
-        class: ExprId(class),
-        reason: Reason::Axiom { number, from },
-    };
-    let of_a = [
-        Superclass {
-            class: ExprId(2),
-            reason: Reason::Itself,
-        },
-        Superclass {
-            class: ExprId(0),
-            reason: Reason::Thing,
-        },
-        by_axiom(3, 1, 0),
-        by_axiom(4, 2, 0),
-        by_axiom(5, 3, 2),
-    ];
-    assert_eq!(rt; hierarchy.facts, 16);
-    assert!(rt; 2 < hierarchy.contexts.len() && 2 < hierarchy.rows.len());
-    assert_eq!(rt; hierarchy.contexts[2].as_slice(), of_a.as_slice());
-    assert_eq!(rt; hierarchy.rows[2].count(), 5);
+    assert!(rt; facts(&rt, 0, &[], 1000)? == Ok(3), "empty ontology");
+    assert!(rt; facts(&rt, 2, &[(2, 3)], 1000)? == Ok(8), "one subclass");
+    assert!(rt;
+        facts(&rt, 2, &[(2, 3), (2, 3)], 1000)? == Ok(8),
+        "an axiom twice"
+    );
+    assert!(rt;
+        facts(&rt, 1, &[(2, 2)], 1000)? == Ok(5),
+        "a class below itself"
+    );
+    assert!(rt;
+        facts(&rt, 2, &[(2, 3), (3, 2)], 1000)? == Ok(9),
+        "a cycle of two"
+    );
+    assert!(rt;
+        facts(&rt, 2, &[(0, 2)], 1000)? == Ok(10),
+        "owl:Thing below a class"
+    );
+    assert!(rt;
+        facts(&rt, 1, &[(2, 1)], 1000)? == Ok(6),
+        "a class below owl:Nothing"
+    );
     Ok(())
 }
 
 #[test]
 fn stops_at_the_limit_of_facts(rt: HostRuntime) -> Result<(), Fail> {
-    let ontology = hierarchy_of(&rt, 2, &[(2, 3)])?;
-    let at_most = |limit| close(rt.alloc(), &ontology, limit).map(|hierarchy| hierarchy.facts);
-    assert_eq!(rt; at_most(8), Ok(8));
-    assert_eq!(rt; at_most(7), Err(Stop::Limit));
-    assert_eq!(rt; at_most(0), Err(Stop::Limit));
+    assert!(rt; facts(&rt, 2, &[(2, 3)], 8)? == Ok(8));
+    assert!(rt; facts(&rt, 2, &[(2, 3)], 7)? == Err(Stop::Limit));
+    assert!(rt; facts(&rt, 2, &[(2, 3)], 0)? == Err(Stop::Limit));
+    Ok(())
+}
+
+/// The superclasses of A, which lies below B and C, as they below D.
+const OF_A: [Superclass; 5] = [
+    Superclass {
+        class: ExprId(2),
+        reason: Reason::Itself,
+    },
+    Superclass {
+        class: ExprId(0),
+        reason: Reason::Thing,
+    },
+    Superclass {
+        class: ExprId(3),
+        reason: Reason::Axiom { number: 1, from: 0 },
+    },
+    Superclass {
+        class: ExprId(4),
+        reason: Reason::Axiom { number: 2, from: 0 },
+    },
+    Superclass {
+        class: ExprId(5),
+        reason: Reason::Axiom { number: 3, from: 2 },
+    },
+];
+
+/// Whether the closure of the diamond is as worked out.
+fn is_diamond(hierarchy: &Hierarchy) -> bool {
+    match (hierarchy.contexts.get(2), hierarchy.rows.get(2)) {
+        (Some(of_a), Some(row)) => {
+            hierarchy.facts == 16 && of_a.as_slice() == OF_A.as_slice() && row.count() == 5
+        }
+        _ => false,
+    }
+}
+
+/// Whether the ontology is closed to the diamond.
+fn closes_to_a_diamond(alloc: Global, ontology: &Ontology) -> Result<bool, Stop>
+    requires { IsHierarchy ontology.now }
+{
+    let hierarchy = close(alloc, ontology, 16)?;
+    Ok(is_diamond(&hierarchy))
+}
+
+#[test]
+fn gives_reasons_in_a_diamond(rt: HostRuntime) -> Result<(), Fail> {
+    let ontology = hierarchy_of(&rt, 4, &[(2, 3), (2, 4), (3, 5), (4, 5)])?;
+    assert!(rt; closes_to_a_diamond(rt.alloc(), &ontology) == Ok(true));
     Ok(())
 }
 

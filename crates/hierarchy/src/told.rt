@@ -73,8 +73,7 @@ pub(crate) fn told_superclasses(alloc: Global, ontology: &Ontology) -> Result<In
     ensures { IfOk result (λ t. IsIndexOf ontology.now (length ontology.now.axioms) t) }
 {
     let mut index = Index::new(alloc, ontology.expression_count())?;
-    // Each look-up says that the ontology is well formed.
-    let _thing = ontology.expr(ExprId(0));
+    ontology.well_formed();
     for (place, axiom) in ontology.axioms().iter().enumerate() {
         if let Axiom::SubClass(sub, superclass) = axiom {
             let told = Told {

@@ -3,18 +3,18 @@ use Rattle.std.proofs.lemmas.Iterator.Consumers.{YieldsList-at, YieldsList-end, 
 use Rattle.std.proofs.lemmas.Iterator.Adapters.{YieldsList-from_vec}
 use Rattle.classification.proofs.Pushing.{row_in, row_out, row_passes, row_fails_empty, row_fails_first, rows_at_end}
 use Rattle.classification.proofs.listing.class_rows.Goals as goal
-use Rattle.classification.proofs.listing.class_rows.Goals.{else-class-gt-NOTHING-via-then-class-gt-NOTHING+else-not-is_empty, else-class-gt-NOTHING-via-else-class-gt-NOTHING}
+use Rattle.classification.proofs.listing.class_rows.Goals.{else-class-via-then-class+else-not-is_empty, else-class-via-else-class}
 
 pub loop-class-preserved-then-not-is_empty : goal.loop-class-preserved-then-not-is_empty
 loop-class-preserved-then-not-is_empty c =
-    row_in c.loop-class.yielded _ c.loop-class.rows.items c.push.new.self.items _ (row_passes c.in-Some.class c.in-Some.elements c.is_empty.result c.if-class-gt-NOTHING.true c.is_empty.ensures c.if-not-is_empty.true) c.in_ok-push.ensures.items refl c.loop-class.invariant
+    row_in c.loop-class.yielded _ c.loop-class.rows.items c.push.new.self.items _ (row_passes c.in-Some.class c.in-Some.elements c.is_empty.result c.if-class.true c.is_empty.ensures c.if-not-is_empty.true) c.in_ok-push.ensures.items refl c.loop-class.invariant
 
 pub loop-class-preserved : goal.loop-class-preserved
-loop-class-preserved c = elim c.else-class-gt-NOTHING.branch [
-  | else-class-gt-NOTHING-via-then-class-gt-NOTHING+else-not-is_empty w ↦
+loop-class-preserved c = elim c.else-class.branch [
+  | else-class-via-then-class+else-not-is_empty w ↦
       row_out c.loop-class.yielded _ c.loop-class.rows.items (row_fails_empty c.in-Some.class c.in-Some.elements w.is_empty.result w.is_empty.ensures w.if-not-is_empty.false) c.loop-class.invariant
-  | else-class-gt-NOTHING-via-else-class-gt-NOTHING w ↦
-      row_out c.loop-class.yielded _ c.loop-class.rows.items (row_fails_first c.in-Some.class c.in-Some.elements w.if-class-gt-NOTHING.false) c.loop-class.invariant
+  | else-class-via-else-class w ↦
+      row_out c.loop-class.yielded _ c.loop-class.rows.items (row_fails_first c.in-Some.class c.in-Some.elements w.if-class.false) c.loop-class.invariant
 ]
 
 pub returns : goal.returns

@@ -50,7 +50,7 @@ claims-requires c =
 pub returns : goal.returns
 returns c =
     let o = c.args.ontology.now in
-    let w = c.expr-thing.ensures.valid in
+    let w = c.well_formed-2.ensures in
     let k = c.requires.classifiable in
     let h = c.args.hierarchy.now in
     let s = c.requires.superclasses in

@@ -1,19 +1,11 @@
-use Rattle.std.proofs.Common.{refl}
-use Rattle.std.proofs.lemmas.Bool.{false≢true}
-use Rattle.classification.proofs.Naming.{named_class, other_expression, there}
+use Rattle.std.proofs.Common.{◌↔◌, ◌≡◌, sym, subst, true}
+use Rattle.axioms.specs.Numbered.{expression}
+use Rattle.classification.specs.Stated.{IsNamed}
+use Rattle.classification.proofs.Naming.{named_if_found}
 use Rattle.classification.proofs.stated.is_named.Goals as goal
 
-pub returns-in-Class : goal.returns-in-Class
-returns-in-Class c = (
-  λ t. named_class c.args.ontology.now c.args.number.0 c.in-Some.expression.now c.in-Class.field-0 c.in-Some.ensures.node c.in-Class.is,
-  λ h. refl,
-)
-
-pub returns-in_default : goal.returns-in_default
-returns-in_default c = (
-  λ t. absurd (false≢true t),
-  λ h. absurd (other_expression c.args.ontology.now c.expr.ensures.valid c.args.number.0 c.in-Some.expression.now c.in-Some.ensures.node c.in_default.not-Class h),
-)
-
-pub returns-in-None : goal.returns-in-None
-returns-in-None c = absurd (there c.args.ontology.now c.args.number.0 c.requires c.in-None.ensures.node)
+pub returns : goal.returns
+returns c =
+    let o = c.args.ontology.now in
+    let e = c.args.number.0 in
+    subst (λ b. (b ≡ true) ↔ IsNamed (expression o e)) (sym c.is_some.ensures) (named_if_found o c.well_formed-2.ensures e c.requires c.class_of.result c.class_of.ensures)

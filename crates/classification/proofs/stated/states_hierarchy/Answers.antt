@@ -4,7 +4,7 @@ use Rattle.classification.proofs.Naming.{well_formed, states_hierarchy, its_axio
 use Rattle.classification.proofs.stated.states_hierarchy.Goals as goal
 
 pub are_named_subclasses-requires : goal.are_named_subclasses-requires
-are_named_subclasses-requires c = well_formed c.args.ontology.now c.axioms.result.now c.axioms.ensures c.expr-thing.ensures.valid
+are_named_subclasses-requires c = well_formed c.args.ontology.now c.axioms.result.now c.axioms.ensures c.well_formed-2.ensures
 
 pub returns-then-is_empty : goal.returns-then-is_empty
 returns-then-is_empty c =
