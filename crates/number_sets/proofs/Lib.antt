@@ -1,0 +1,3 @@
+pub mod Piece
+pub mod Epochs
+pub mod Growing

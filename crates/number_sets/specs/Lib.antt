@@ -1,0 +1,4 @@
+pub mod Members
+pub mod Marks
+pub mod Pieces
+pub mod Turned
