@@ -1,0 +1,24 @@
+-- Items that are popped context by context.
+use Rattle.std.specs.Prelude.{◌≡◌, ℕ, List, [], Contains, Option, Some, None}
+use Rattle.work_list.specs.declared.item.Item.{Item}
+use Rattle.work_list.specs.Bag.{bag_of, Adds}
+
+-- the items that wait, and the context of the one that was popped last
+pub record Grouped : Type 0 where
+  pub items : List Item
+  pub last : Option ℕ
+
+-- the item is of the context popped last, if any of the items is
+abbrev pub StaysWith : Option ℕ → List Item → Item → Type 0
+StaysWith last items item = (other : Item) → Contains items other → last ≡ Some other.context → last ≡ Some item.context
+
+-- new is old without the item, which is of the context popped last if any is, and whose context is now the last
+pub record PopsNext (item : Item) (old new : Grouped) : Type 0 where
+  pub items : Adds item (bag_of new.items) (bag_of old.items)
+  pub together : StaysWith old.last old.items item
+  pub last : new.last ≡ Some item.context
+
+-- .. and none is popped exactly where none was there
+abbrev pub PopsTogether : Option Item → (old new : Grouped) → Type 0
+PopsTogether (Some item) old new = PopsNext item old new
+PopsTogether None old new = (old.items ≡ []) × (new ≡ old)

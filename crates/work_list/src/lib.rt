@@ -1,0 +1,17 @@
+//! Lists of pending work, which give their items back in any order.
+#![tactic(auto)]
+
+mod by_context;
+mod fifo;
+mod item;
+mod lifo;
+mod list;
+
+pub use by_context::ByContext;
+pub use fifo::Fifo;
+pub use item::Item;
+pub use lifo::Lifo;
+pub use list::{WorkList, drain};
+
+#[cfg(test)]
+mod tests;

@@ -1,0 +1,41 @@
+//! The trait of lists of pending work.
+ghost use Rattle.std.specs.Prelude.{◌≡◌, OnOk, OnErr, IfOk, IfErr};
+ghost use Rattle.work_list.specs.Bag.{Bag, Adds, Pops, IsEmpty, IsBagOf};
+
+use crate::item::Item;
+use std::alloc::{AllocError, Global};
+
+/// Items that wait, seen as a bag: each list has its own order in which it pops them.
+pub trait WorkList {
+    /// The items that wait.
+    ghost pending: { Self → Bag };
+
+    /// Adds the item, or hands it back and changes nothing where memory is refused.
+    fn push(&mut self, item: Item) -> Result<(), Item>
+        ensures ok { OnOk result (Adds item (pending self.old) (pending self.new)) }
+        ensures back { IfErr result (λ back. back ≡ item) }
+        ensures same { OnErr result (pending self.new ≡ pending self.old) };
+
+    /// Takes out some item, or gives none, exactly where none waits.
+    fn pop(&mut self) -> Option<Item>
+        ensures { Pops result (pending self.old) (pending self.new) };
+
+    /// How many items wait.
+    fn len(&self) -> usize
+        ensures value { result ≡ (pending self.now).total }
+        ensures empty { result ≡ 0 → IsEmpty (pending self.now) };
+}
+
+/// Takes out all items, in the order in which the list pops them: whatever was pushed is popped or still there.
+/// Where memory is refused nothing is taken.
+pub fn drain<W: WorkList>(list: &mut W, alloc: Global) -> Result<Vec<Item>, AllocError>
+    ensures all { IfOk result (λ popped. IsBagOf popped.items (W.pending list.old)) }
+    ensures empty { OnOk result (IsEmpty (W.pending list.new)) }
+    ensures same { OnErr result (W.pending list.new ≡ W.pending list.old) }
+{
+    let mut popped = Vec::with_capacity(alloc, list.len())?;
+    while let Some(item) = list.pop() {
+        popped.push(item)?;
+    }
+    Ok(popped)
+}
