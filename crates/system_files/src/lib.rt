@@ -9,4 +9,4 @@ mod tests;
 
 pub use files::Files;
 pub use memory::{MemoryFiles, MemorySink, MemorySource};
-pub use system::{FileReader, FileWriter, SystemFiles};
+pub use system::{FileReader, FileSink, SystemFiles};

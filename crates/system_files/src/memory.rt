@@ -1,84 +1,219 @@
 //! Files in memory.
-ghost use Rattle.std.specs.Prelude.{◌≡◌, option_map};
-ghost use Rattle.system_files.specs.Stored.{file_at};
+ghost use Rattle.std.specs.Prelude.{◌≡◌, ◌≤◌, ℕ, List, true, OnOk, OnErr, find, option_map, position, vec_len};
+ghost use Rattle.std.specs.Option.{option_copied};
+ghost use Rattle.system_files.specs.Contents.{IsPut};
+ghost use Rattle.system_files.specs.Stored.{file_at, has_place_at, is_at};
 
 use crate::files::Files;
 use axioms::Memory;
-use device::{Failed, Sink, SliceSource, Source};
+use device::{Failed, Sink, Source};
+use std::alloc::Global;
 
-/// Files that can be read and files that can be written, each by its path. All others are missing, and can not be
-/// written. A file can be written once; what was written stands in its bytes.
+/// A file, or a place for one that is not yet made.
 #[derive(Drop)]
-pub struct MemoryFiles<'a> {
-    inputs: &'a [(&'a str, &'a [u8])],
-    outputs: Vec<(&'a str, &'a mut Vec<u8>)>,
+struct MemoryFile {
+    path: String,
+    bytes: Option<Vec<u8>>,
 }
 
-impl<'a> MemoryFiles<'a> {
-    ghost use Rattle.std.specs.Prelude.{◌≡◌, ℕ, List};
-    ghost use Rattle.system_files.specs.Stored.{file_at};
+/// Files in memory. A file that is missing can not be read; none can be written once they are locked.
+#[derive(Drop)]
+pub struct MemoryFiles {
+    alloc: Global,
+    files: Vec<MemoryFile>,
+    is_locked: bool,
+}
 
-    /// These files to be read, and these to be written.
-    pub fn new(inputs: &'a [(&'a str, &'a [u8])], outputs: Vec<(&'a str, &'a mut Vec<u8>)>) -> Self
-        ensures { (path : List ℕ) → ⟦<MemoryFiles<'a> as Files>⟧.content result path ≡ file_at inputs.entry.now path }
-    {
-        MemoryFiles { inputs, outputs }
+/// The number of the first place of the path.
+fn place_of(files: &[MemoryFile], path: &str) -> Option<usize>
+    ensures { result ≡ position (is_at path.now) files.now }
+{
+    files.iter().position(|file| file.path.as_str() == path)
+}
+
+/// The first place of the path.
+fn file_of<'a>(files: &'a [MemoryFile], path: &str) -> Option<&'a MemoryFile>
+    ensures { option_copied result ≡ find (is_at path.now) files.now }
+{
+    files.iter().find(|file| file.path.as_str() == path)
+}
+
+/// The bytes of the file, if it is made.
+fn bytes_of(file: &MemoryFile) -> Option<&[u8]>
+    ensures { option_map (λ bytes. bytes.now) result ≡ option_map (λ bytes. bytes.items) file.now.bytes }
+{
+    match &file.bytes {
+        Some(bytes) => Some(bytes.as_slice()),
+        None => None,
     }
 }
 
-fn find_file<'a>(files: &'a [(&'a str, &'a [u8])], path: &str) -> Option<&'a [u8]>
-    ensures { option_map (λ bytes. bytes.now) result ≡ file_at files.entry.now path.now }
-{
-    let file = files.iter().find(|file| file.0 == path)?;
-    Some(file.1)
+impl MemoryFiles {
+    ghost use Rattle.std.specs.Prelude.{◌≡◌, None, Some, IfOk, OnOk, OnErr, option_map};
+    ghost use Rattle.system_files.specs.Contents.{IsPut};
+
+    /// No files, which are not locked.
+    pub fn new(alloc: Global) -> Self
+        ensures { (path : List ℕ) → ⟦<MemoryFiles as Files>⟧.content result path ≡ None }
+    {
+        MemoryFiles {
+            alloc,
+            files: Vec::new(alloc),
+            is_locked: false,
+        }
+    }
+
+    /// From now on no file can be written.
+    pub fn lock(&mut self)
+        ensures { (path : List ℕ) → ⟦<MemoryFiles as Files>⟧.content self.new path ≡ ⟦<MemoryFiles as Files>⟧.content self.old path }
+    {
+        self.is_locked = true;
+    }
+
+    /// The bytes of the file at the path, if there is one.
+    pub fn bytes(&self, path: &str) -> Option<&[u8]>
+        ensures { option_map (λ bytes. bytes.now) result ≡ ⟦<MemoryFiles as Files>⟧.content self.now path.now }
+    {
+        match file_of(&self.files, path) {
+            Some(file) => bytes_of(file),
+            None => None,
+        }
+    }
+
+    /// Makes sure that there is a place of the path.
+    fn add_place(&mut self, path: &str) -> Result<(), Memory>
+        ensures place { OnOk result (has_place_at self.new.files.items path.now ≡ true) }
+        ensures places { (other : List ℕ) → has_place_at self.old.files.items other ≡ true → has_place_at self.new.files.items other ≡ true }
+        ensures kept { (other : List ℕ) → file_at self.new.files.items other ≡ file_at self.old.files.items other }
+    {
+        if place_of(&self.files, path).is_some() {
+            return Ok(());
+        }
+        let path = String::from_str(self.alloc, path)?;
+        self.files.push(MemoryFile { path, bytes: None })?;
+        Ok(())
+    }
+
+    /// Puts the bytes at the place of the path.
+    fn store(&mut self, path: &str, bytes: Vec<u8>)
+        requires { has_place_at self.old.files.items path.now ≡ true }
+        ensures put { IsPut (file_at self.old.files.items) (file_at self.new.files.items) path.now bytes.items }
+        ensures places { (other : List ℕ) → has_place_at self.old.files.items other ≡ true → has_place_at self.new.files.items other ≡ true }
+    {
+        match place_of(&self.files, path) {
+            Some(place) => {
+                let file = &mut self.files[place];
+                file.bytes = Some(bytes);
+            }
+            None => unreachable!(),
+        }
+    }
+
+    /// Puts a file with these bytes at the path, also where the files are locked.
+    pub fn put(&mut self, path: &str, bytes: &[u8]) -> Result<(), Memory>
+        ensures put { OnOk result (IsPut (⟦<MemoryFiles as Files>⟧.content self.old) (⟦<MemoryFiles as Files>⟧.content self.new) path.now bytes.now) }
+        ensures kept { OnErr result ((other : List ℕ) → ⟦<MemoryFiles as Files>⟧.content self.new other ≡ ⟦<MemoryFiles as Files>⟧.content self.old other) }
+    {
+        let bytes = bytes.to_vec(self.alloc)?;
+        self.add_place(path)?;
+        self.store(path, bytes);
+        Ok(())
+    }
 }
 
-impl<'a> Files for MemoryFiles<'a> {
-    ghost use Rattle.system_files.specs.Stored.{file_at};
+impl Files for MemoryFiles {
+    ghost use Rattle.std.specs.Prelude.{true};
+    ghost use Rattle.system_files.specs.Stored.{file_at, has_place_at};
 
-    type In = MemorySource<'a>;
+    type In = MemorySource;
 
-    type Out = MemorySink<'a>;
+    type Out = MemorySink;
 
-    ghost content = { λ f path. file_at f.inputs.now path };
+    ghost is_known = { λ _. true };
 
-    fn reader(&self, path: &str) -> Result<MemorySource<'a>, Memory> {
-        let bytes = match find_file(self.inputs, path) {
-            Some(bytes) => Some(SliceSource::new(bytes)),
+    ghost content = { λ f path. file_at f.files.items path };
+
+    ghost has_place = { λ f path. has_place_at f.files.items path };
+
+    fn reader(&self, path: &str) -> Result<MemorySource, Memory> {
+        let source = match self.bytes(path) {
+            Some(bytes) => Some(OwnedSource {
+                bytes: bytes.to_vec(self.alloc)?,
+                at: 0,
+            }),
             None => None,
         };
-        Ok(MemorySource { bytes, failures: 0 })
-    }
-
-    fn writer(&mut self, path: &str) -> Result<MemorySink<'a>, Memory> {
-        let place = self.outputs.iter().position(|file| file.0 == path);
-        Ok(MemorySink {
-            bytes: place.map(|place| self.outputs.swap_remove(place).1),
-            is_begun: false,
+        Ok(MemorySource {
+            source,
             failures: 0,
         })
+    }
+
+    fn writer(&mut self, path: &str) -> Result<MemorySink, Memory> {
+        let owned = String::from_str(self.alloc, path)?;
+        self.add_place(path)?;
+        Ok(MemorySink {
+            path: owned,
+            bytes: Vec::new(self.alloc),
+            is_locked: self.is_locked,
+            failures: 0,
+        })
+    }
+
+    fn close(&mut self, sink: MemorySink) {
+        if sink.bytes.is_empty() {
+            return;
+        }
+        let MemorySink { path, bytes, .. } = sink;
+        self.store(path.as_str(), bytes);
+    }
+}
+
+/// A source of bytes of its own, which never fails.
+#[derive(Drop)]
+struct OwnedSource {
+    bytes: Vec<u8>,
+    at: usize,
+    ghost within: { at ≤ vec_len bytes },
+}
+
+impl Source for OwnedSource {
+    ghost use Rattle.std.specs.Prelude.{Some, drop, length};
+
+    ghost left = { λ s. Some (drop s.at s.bytes.items) };
+
+    ghost failures = { λ _. 0 };
+
+    ghost most = { λ s. length (drop s.at s.bytes.items) };
+
+    fn read(&mut self, buffer: &mut [u8]) -> Result<usize, Failed> {
+        let rest = &self.bytes[self.at..];
+        let n = buffer.len().min(rest.len());
+        buffer[..n].copy_from_slice(&rest[..n]);
+        self.at += n;
+        Ok(n)
     }
 }
 
 /// A source of a file in memory, which fails where there is none.
 #[derive(Drop)]
-pub struct MemorySource<'a> {
-    bytes: Option<SliceSource<'a>>,
+pub struct MemorySource {
+    source: Option<OwnedSource>,
     failures: u64,
 }
 
-impl<'a> Source for MemorySource<'a> {
-    ghost use Rattle.std.specs.Prelude.{length};
+impl Source for MemorySource {
+    ghost use Rattle.std.specs.Prelude.{Some, drop, length, option_map};
     ghost use Rattle.std.specs.Option.{option_map_or};
 
-    ghost left = { λ s. s.bytes };
+    ghost left = { λ s. option_map (λ o. drop o.at o.bytes.items) s.source };
 
     ghost failures = { λ s. s.failures };
 
-    ghost most = { λ s. option_map_or (λ bytes. length bytes) s.bytes 0 };
+    ghost most = { λ s. option_map_or (λ o. length (drop o.at o.bytes.items)) s.source 0 };
 
     fn read(&mut self, buffer: &mut [u8]) -> Result<usize, Failed> {
-        if let Some(source) = &mut self.bytes {
+        if let Some(source) = &mut self.source {
             if let Ok(n) = source.read(buffer) {
                 return Ok(n);
             }
@@ -88,31 +223,27 @@ impl<'a> Source for MemorySource<'a> {
     }
 }
 
-/// A sink of a file in memory, which fails where the file can not be written or memory was refused.
+/// A sink of a file in memory, which fails where the files are locked or memory was refused.
 #[derive(Drop)]
-pub struct MemorySink<'a> {
-    bytes: Option<&'a mut Vec<u8>>,
-    is_begun: bool,
+pub struct MemorySink {
+    path: String,
+    bytes: Vec<u8>,
+    is_locked: bool,
     failures: u64,
 }
 
-impl<'a> Sink for MemorySink<'a> {
-    ghost use Rattle.std.specs.Prelude.{Some, [], if◌then◌else◌};
-    ghost use Rattle.std.specs.Option.{option_map_or};
+impl Sink for MemorySink {
+    ghost use Rattle.std.specs.Prelude.{Some, string_bytes};
 
-    ghost taken = { λ s. Some (if s.is_begun then option_map_or (λ v. v.now.items) s.bytes [] else []) };
+    ghost taken = { λ s. Some s.bytes.items };
 
     ghost failures = { λ s. s.failures };
 
+    ghost path = { λ s. string_bytes s.path };
+
     fn write(&mut self, piece: &[u8]) -> Result<usize, Failed> {
-        if let Some(bytes) = &mut self.bytes {
-            if !self.is_begun {
-                bytes.clear();
-                self.is_begun = true;
-            }
-            if bytes.extend_from_slice(piece).is_ok() {
-                return Ok(piece.len());
-            }
+        if !self.is_locked && self.bytes.extend_from_slice(piece).is_ok() {
+            return Ok(piece.len());
         }
         self.failures = self.failures.saturating_add(1);
         Err(Failed)

@@ -1,8 +1,9 @@
 //! The files of the system.
+ghost use Rattle.std.specs.Prelude.{◌≡◌, ◌≤◌, IfOk, length, string_bytes};
 
 use crate::files::Files;
 use axioms::Memory;
-use device::{ReaderSource, WriterSink};
+use device::{Failed, ReaderSource, Sink};
 use std::io::{Read, Write};
 use std::{fs, io, rt};
 
@@ -22,19 +23,25 @@ impl<'r, R: rt::Files + AllocGlobal> SystemFiles<'r, R> {
         SystemFiles { runtime }
     }
 
-    fn owned(&self, path: &str) -> Result<String, Memory> {
+    fn owned(&self, path: &str) -> Result<String, Memory>
+        ensures { IfOk result (λ text. string_bytes text ≡ path.now) }
+    {
         Ok(String::from_str(self.runtime.alloc(), path)?)
     }
 }
 
 impl<'r, R: rt::Files + AllocGlobal> Files for SystemFiles<'r, R> {
-    ghost use Rattle.std.specs.Prelude.{None};
+    ghost use Rattle.std.specs.Prelude.{None, true, false};
 
     type In = ReaderSource<FileReader<'r, R>>;
 
-    type Out = WriterSink<FileWriter<'r, R>>;
+    type Out = FileSink<'r, R>;
+
+    ghost is_known = { λ _. false };
 
     ghost content = { λ _ _. None };
+
+    ghost has_place = { λ _ _. true };
 
     fn reader(&self, path: &str) -> Result<Self::In, Memory> {
         let file = FileReader {
@@ -46,12 +53,16 @@ impl<'r, R: rt::Files + AllocGlobal> Files for SystemFiles<'r, R> {
     }
 
     fn writer(&mut self, path: &str) -> Result<Self::Out, Memory> {
-        let file = FileWriter {
+        Ok(FileSink {
             runtime: self.runtime,
             path: self.owned(path)?,
             file: None,
-        };
-        Ok(WriterSink::new(file))
+            failures: 0,
+        })
+    }
+
+    fn close(&mut self, sink: Self::Out) {
+        drop(sink);
     }
 }
 
@@ -73,27 +84,47 @@ impl<'r, R: rt::Files> Read for FileReader<'r, R> {
     }
 }
 
-/// A writer of the file at a path, which is made anew at the first write.
+/// A sink of the file at a path, which is made anew at the first write. An error of any kind is a failure and is not
+/// tried again, and so is a write that takes nothing of a piece that is not empty.
 #[derive(Drop)]
-pub struct FileWriter<'r, R: rt::Files> {
+pub struct FileSink<'r, R: rt::Files> {
     runtime: &'r R,
     path: String,
     file: Option<R::File>,
+    failures: u64,
 }
 
-impl<'r, R: rt::Files> Write for FileWriter<'r, R> {
-    fn write(&mut self, piece: &[u8]) -> io::Result<usize> {
+impl<'r, R: rt::Files> FileSink<'r, R> {
+    /// Hands the piece on to the file, which is made at the first call.
+    fn hand_on(&mut self, piece: &[u8]) -> io::Result<usize>
+        ensures within { IfOk result (λ n. n ≤ length piece.now) }
+        ensures path { self.new.path ≡ self.old.path }
+        ensures failures { self.new.failures ≡ self.old.failures }
+    {
         if let Some(file) = &mut self.file {
             return file.write(piece);
         }
         let file = fs::create(self.runtime, self.path.as_str())?;
         self.file.insert(file).write(piece)
     }
+}
 
-    fn flush(&mut self) -> io::Result<()> {
-        match &mut self.file {
-            Some(file) => file.flush(),
-            None => Ok(()),
+impl<'r, R: rt::Files> Sink for FileSink<'r, R> {
+    ghost use Rattle.std.specs.Prelude.{None, string_bytes};
+
+    ghost taken = { λ _. None };
+
+    ghost failures = { λ s. s.failures };
+
+    ghost path = { λ s. string_bytes s.path };
+
+    fn write(&mut self, piece: &[u8]) -> Result<usize, Failed> {
+        if let Ok(n) = self.hand_on(piece) {
+            if n > 0 || piece.is_empty() {
+                return Ok(n);
+            }
         }
+        self.failures = self.failures.saturating_add(1);
+        Err(Failed)
     }
 }

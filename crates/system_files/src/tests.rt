@@ -9,15 +9,25 @@ const PATH: &str = "system_files_test.txt";
 
 const ABSENT: &str = "system_files_absent/file.txt";
 
+/// What the file at the path holds, if it can be read.
+fn read<R: AllocGlobal, F: Files>(
+    rt: &R,
+    files: &F,
+    path: &str,
+) -> Result<Result<Vec<u8>, ReadFault>, Fail> {
+    let mut source = files.reader(path)?;
+    Ok(read_all(rt.alloc(), &mut source, 100))
+}
+
 #[test]
 fn a_file_is_written_and_read_back(rt: HostRuntime) -> Result<(), Fail> {
     let mut files = SystemFiles::new(&rt);
     for text in ["consistent classes 4\n".as_bytes(), b"short\n"] {
         let mut sink = files.writer(PATH)?;
         write_all(&mut sink, text)?;
-        let mut source = files.reader(PATH)?;
-        let bytes = read_all(rt.alloc(), &mut source, 100)?;
-        assert_eq!(rt; bytes.as_slice(), text);
+        files.close(sink);
+        let bytes = read(&rt, &files, PATH)??;
+        assert!(rt; bytes.as_slice() == text);
     }
     fs::remove_file(&rt, PATH)?;
     Ok(())
@@ -27,11 +37,9 @@ fn a_file_is_written_and_read_back(rt: HostRuntime) -> Result<(), Fail> {
 fn a_file_is_made_at_its_first_write(rt: HostRuntime) -> Result<(), Fail> {
     let path = "system_files_unmade.txt";
     let mut files = SystemFiles::new(&rt);
-    {
-        let _sink = files.writer(path)?;
-    }
-    let read = read_all(rt.alloc(), &mut files.reader(path)?, 100);
-    assert_eq!(rt; read.err(), Some(ReadFault::Failed));
+    let sink = files.writer(path)?;
+    files.close(sink);
+    assert!(rt; read(&rt, &files, path)?.err() == Some(ReadFault::Failed));
     Ok(())
 }
 
@@ -39,35 +47,53 @@ fn a_file_is_made_at_its_first_write(rt: HostRuntime) -> Result<(), Fail> {
 fn what_can_not_be_opened_fails(rt: HostRuntime) -> Result<(), Fail> {
     let mut files = SystemFiles::new(&rt);
     for path in [ABSENT, "."] {
-        let read = read_all(rt.alloc(), &mut files.reader(path)?, 100);
-        assert_eq!(rt; read.err(), Some(ReadFault::Failed), "{path}");
+        assert!(rt;
+            read(&rt, &files, path)?.err() == Some(ReadFault::Failed),
+            "{path}"
+        );
         let written = write_all(&mut files.writer(path)?, b"text");
-        assert_eq!(rt; written, Err(Failed), "{path}");
+        assert!(rt; written == Err(Failed), "{path}");
     }
     Ok(())
 }
 
 #[test]
-fn files_in_memory(rt: HostRuntime) -> Result<(), Fail> {
-    let mut first = b"old".to_vec(rt.alloc())?;
-    let mut second = b"old".to_vec(rt.alloc())?;
-    {
-        let mut outputs = Vec::new(rt.alloc());
-        outputs.push(("first", &mut first))?;
-        outputs.push(("second", &mut second))?;
-        let inputs = [("a", b"one".as_slice()), ("b", b"two")];
-        let mut files = MemoryFiles::new(&inputs, outputs);
-        let bytes = read_all(rt.alloc(), &mut files.reader("b")?, 3)?;
-        assert_eq!(rt; bytes.as_slice(), b"two".as_slice());
-        let missing = read_all(rt.alloc(), &mut files.reader("c")?, 3);
-        assert_eq!(rt; missing.err(), Some(ReadFault::Failed));
-        let mut sink = files.writer("first")?;
-        write_all(&mut sink, b"new")?;
-        write_all(&mut sink, b"er")?;
-        let _unused = files.writer("second")?;
-        assert_eq!(rt; write_all(&mut files.writer("third")?, b"new"), Err(Failed));
-    }
-    assert_eq!(rt; first.as_slice(), b"newer".as_slice());
-    assert_eq!(rt; second.as_slice(), b"old".as_slice());
+fn files_in_memory_are_read(rt: HostRuntime) -> Result<(), Fail> {
+    let mut files = MemoryFiles::new(rt.alloc());
+    files.put("a", b"one")?;
+    files.put("b", b"two")?;
+    files.put("a", b"three")?;
+    let bytes = read(&rt, &files, "b")??;
+    assert!(rt; bytes.as_slice() == b"two".as_slice());
+    assert!(rt; files.bytes("a") == Some(b"three".as_slice()));
+    assert!(rt; read(&rt, &files, "c")?.err() == Some(ReadFault::Failed));
+    Ok(())
+}
+
+#[test]
+fn files_in_memory_are_written(rt: HostRuntime) -> Result<(), Fail> {
+    let mut files = MemoryFiles::new(rt.alloc());
+    files.put("old", b"old")?;
+    let mut sink = files.writer("old")?;
+    write_all(&mut sink, b"new")?;
+    write_all(&mut sink, b"er")?;
+    let unused = files.writer("unused")?;
+    assert!(rt; files.bytes("old") == Some(b"old".as_slice()));
+    files.close(sink);
+    files.close(unused);
+    assert!(rt; files.bytes("old") == Some(b"newer".as_slice()));
+    assert!(rt; files.bytes("unused").is_none());
+    Ok(())
+}
+
+#[test]
+fn locked_files_are_not_written(rt: HostRuntime) -> Result<(), Fail> {
+    let mut files = MemoryFiles::new(rt.alloc());
+    files.put("old", b"old")?;
+    files.lock();
+    let mut sink = files.writer("old")?;
+    assert!(rt; write_all(&mut sink, b"new") == Err(Failed));
+    files.close(sink);
+    assert!(rt; files.bytes("old") == Some(b"old".as_slice()));
     Ok(())
 }

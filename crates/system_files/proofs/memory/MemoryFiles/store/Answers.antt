@@ -1,0 +1,34 @@
+use Rattle.std.proofs.Common.{◌≡◌, ◌∙◌, sym, ap, subst, set, true, None, Some}
+use Rattle.std.proofs.lemmas.List.Quantifiers.{position-Some}
+use Rattle.system_files.specs.Contents.{IsPut}
+use Rattle.system_files.specs.declared.memory.MemoryFile.{MemoryFile}
+use Rattle.std.specs.List.{position}
+use Rattle.system_files.specs.Stored.{file_at, has_place_at, is_at}
+use Rattle.system_files.proofs.Places.{bytes_put, missing_place, places_kept}
+use Rattle.system_files.proofs.memory.MemoryFiles.store.Goals as goal
+
+pub unreachable-requires : goal.unreachable-requires
+unreachable-requires c =
+    let files = c.args.self.now.files.items in
+    let path = c.args.path.now in
+    let none : position (is_at path) files ≡ None = ap (position (is_at path)) (sym c.deref.ensures.value) ∙ sym c.place_of.ensures ∙ c.in-None.is in
+    missing_place files path c.requires none
+
+pub returns-clause-put : goal.returns-clause-put
+returns-clause-put c =
+    let files = c.args.self.now.files.items in
+    let path = c.args.path.now in
+    let is : position (is_at path) files ≡ Some c.in-Some.place = ap (position (is_at path)) (sym c.deref.ensures.value) ∙ sym c.place_of.ensures ∙ c.in-Some.is in
+    let file = c.index_mut-file.result.now in
+    let P : MemoryFile → Type 0 = λ f. IsPut (file_at files) (file_at (set files c.in-Some.place (record { path = f.path; bytes = Some c.args.bytes }))) path c.args.bytes.items in
+    subst P (sym c.index_mut-file.ensures.value) (bytes_put files path c.in-Some.place c.args.bytes file is)
+
+pub returns-clause-places : goal.returns-clause-places
+returns-clause-places c = λ other has.
+    let files = c.args.self.now.files.items in
+    let path = c.args.path.now in
+    let is : position (is_at path) files ≡ Some c.in-Some.place = ap (position (is_at path)) (sym c.deref.ensures.value) ∙ sym c.place_of.ensures ∙ c.in-Some.is in
+    let file = c.index_mut-file.result.now in
+    let within = (position-Some (is_at path) files c.in-Some.place file is).0 in
+    let P : MemoryFile → Type 0 = λ f. has_place_at (set files c.in-Some.place (record { path = f.path; bytes = Some c.args.bytes })) other ≡ true in
+    subst P (sym c.index_mut-file.ensures.value) (places_kept files c.in-Some.place other c.args.bytes file within has)
