@@ -1,8 +1,9 @@
 -- What the words ask for, and the run that they get.
-use Rattle.std.proofs.Common.{◌≡◌, ◌<◌, ◌≤◌, ℕ, arith, inl, subst}
+use Rattle.std.proofs.Common.{◌≡◌, ◌<◌, ◌≤◌, ℕ, Bool, arith, inl, subst}
 use Rattle.clap.specs.Words.{Text}
 use Rattle.std.specs.Prelude.{List}
-use Rattle.cli.specs.Performed.{Content, IsCheckRun, IsClassifyRun, IsPerformed}
+use Rattle.system_files.specs.Contents.{Content}
+use Rattle.cli.specs.Performed.{IsCheckRun, IsClassifyRun, IsPerformed}
 use Rattle.cli.specs.Printed.{Output}
 use Rattle.command_line.specs.CommandLine.{IsNumber, IsTaskOf, most_bytes, most_facts}
 use Rattle.command_line.specs.declared.tasks.Paths.{Paths}
@@ -24,13 +25,13 @@ classify_limits words paths facts bytes of =
     let b2 : bytes ≤ 268435456 = b.within in
     (omega arith, b2, omega arith, f2)
 
-pub classified : (words : List Text) (content : Content) (old new : Output) (status : ℕ) (paths : Paths) (facts bytes max_facts max_bytes : ℕ) → IsTaskOf words (Classify paths facts bytes) → (max_bytes ≡ bytes) × (max_facts ≡ facts) → IsClassifyRun paths max_facts max_bytes content old new status → IsPerformed words content old new status
-classified words content old new status paths facts bytes max_facts max_bytes of these run =
-    let P : ℕ → Type 0 = λ b. IsClassifyRun paths max_facts b content old new status in
-    let Q : ℕ → Type 0 = λ f. IsClassifyRun paths f bytes content old new status in
+pub classified : (words : List Text) (known : Bool) (content content' : Content) (old new : Output) (status : ℕ) (paths : Paths) (facts bytes max_facts max_bytes : ℕ) → IsTaskOf words (Classify paths facts bytes) → (max_bytes ≡ bytes) × (max_facts ≡ facts) → IsClassifyRun paths max_facts max_bytes known content content' old new status → IsPerformed words known content content' old new status
+classified words known content content' old new status paths facts bytes max_facts max_bytes of these run =
+    let P : ℕ → Type 0 = λ b. IsClassifyRun paths max_facts b known content content' old new status in
+    let Q : ℕ → Type 0 = λ f. IsClassifyRun paths f bytes known content content' old new status in
     inl (Classify paths facts bytes, of, subst Q these.1 (subst P these.0 run))
 
-pub checked : (words : List Text) (content : Content) (old new : Output) (status : ℕ) (paths : Paths) (bytes max_bytes : ℕ) → IsTaskOf words (Check paths bytes) → max_bytes ≡ bytes → IsCheckRun paths max_bytes content old new status → IsPerformed words content old new status
-checked words content old new status paths bytes max_bytes of same run =
+pub checked : (words : List Text) (known : Bool) (content content' : Content) (old new : Output) (status : ℕ) (paths : Paths) (bytes max_bytes : ℕ) → IsTaskOf words (Check paths bytes) → max_bytes ≡ bytes → IsCheckRun paths max_bytes content old new status → IsPerformed words known content content' old new status
+checked words known content content' old new status paths bytes max_bytes of same run =
     let P : ℕ → Type 0 = λ b. IsCheckRun paths b content old new status in
     inl (Check paths bytes, of, subst P same run)

@@ -15,17 +15,6 @@ use Rattle.document.specs.Documents.{ReadsAs}
 use Rattle.document.specs.Faults.{ReadsKnown, RefusesKnown}
 use Rattle.document.specs.declared.fault.DocumentFault.{DocumentFault}
 
-pub keeps_same : (known : Option (List ℕ)) → Keeps known known
-keeps_same None = tt
-keeps_same (Some xs) = refl
-
--- what stays in one call and in the next stays in both
-pub keeps_twice : (a b c : Option (List ℕ)) → Keeps a b → Keeps b c → Keeps a c
-keeps_twice None b c h k = tt
-keeps_twice (Some xs) None c h k = absurd h
-keeps_twice (Some xs) (Some ys) None h k = absurd k
-keeps_twice (Some xs) (Some ys) (Some zs) h k = k ∙ h
-
 pub all_known : (left rest : Option (List ℕ)) (bytes : List ℕ) → Consumes left rest bytes → IsAtEnd rest → AreKnown left bytes
 all_known None rest bytes all end = tt
 all_known (Some xs) None bytes all end = absurd all
@@ -73,7 +62,6 @@ fault_of_file file left bytes facts (classifying.Io n) kept is = (is.0, is.1, (i
 
 pub check_fault_of_file : (file left : Option (List ℕ)) (most : ℕ) (fault : CheckFault) → Keeps file left → IsCheckFault most left fault → IsCheckFault most file fault
 check_fault_of_file file left most (checking.Document fault) kept is = refuses_file file left most fault kept is
-check_fault_of_file file left most checking.NotYet kept is = (is.0, reads_file file left most is.0 kept is.1, is.2)
 check_fault_of_file file left most checking.Memory kept is = tt
 check_fault_of_file file left most (checking.Io n) kept is = (is.0, is.1, (is.2.0, reads_file file left most is.2.0 kept is.2.1))
 
@@ -82,7 +70,6 @@ pub checked_files : (most : ℕ) (d d' t t' i i' c c' : Option (List ℕ)) (o : 
 checked_files most d d' t t' i i' c c' o verdict kd kt ki kc checked = record {
   reads = reads_file d d' most o kd checked.reads;
   well_formed = checked.well_formed;
-  hierarchy = checked.hierarchy;
   taxonomy_text = checked.taxonomy_text;
   instances_text = checked.instances_text;
   certificate_text = checked.certificate_text;

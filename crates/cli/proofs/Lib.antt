@@ -2,5 +2,9 @@ pub mod Taken
 pub mod Kept
 pub mod Telling
 pub mod Outcomes
+pub mod Stored
+pub mod SomeTexts
+pub mod Left
 pub mod Asked
 pub mod WrittenAccepted
+pub mod FilesAccepted

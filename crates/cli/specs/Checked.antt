@@ -1,33 +1,26 @@
 -- What a check of the texts of a document says.
-use Rattle.std.specs.Prelude.{◌≡◌, ◌≤◌, ◌↔◌, ℕ, zero, suc, List, Option, Some, None}
+use Rattle.std.specs.Prelude.{◌≡◌, ◌≤◌, ◌↔◌, ℕ, zero, suc, List, Option, Some, None, Result, Ok, Err}
 use Rattle.axioms.specs.Numbered.{Ontology}
 use Rattle.axioms.specs.WellFormed.{IsOntology}
 use Rattle.cert_check.specs.Acceptable.{AreRight, IsAcceptable}
 use Rattle.cert_check.specs.Verdict.{HasTrueLines, IsVerdict, PassesLines}
 use Rattle.cert_check.specs.declared.verdict.Verdict.{Verdict}
 use Rattle.cert_check.specs.declared.verdict.Verdict.TheVariants.{Accepted}
-use Rattle.classification.specs.Stated.{StatesHierarchy}
-use Rattle.cli.specs.Devices.{Device}
-use Rattle.cli.specs.Writing.{IsNotYetClassified}
+use Rattle.cli.specs.Devices.{SourceState, IsReadOn, IsReadToItsEnd, IsReadUntil, FailsInReading}
 use Rattle.cli.specs.declared.fault.CheckFault.{CheckFault}
-use Rattle.cli.specs.declared.fault.CheckFault.TheVariants.{Document, NotYet, Memory, Io}
-use Rattle.device.specs.Device.{HasFailed}
+use Rattle.cli.specs.declared.fault.CheckFault.TheVariants.{Document, Memory, Io}
 use Rattle.document.specs.Faults.{ReadsKnown, RefusesKnown}
-use Rattle.document.specs.declared.fault.DocumentFault.{DocumentFault}
-use Rattle.document.specs.declared.fault.DocumentFault.TheVariants as reading
 
 -- the bytes are those of a source that tells its bytes
 abbrev pub AreKnown : Option (List ℕ) → List ℕ → Type 0
 AreKnown None bytes = Unit {0}
 AreKnown (Some left) bytes = left ≡ bytes
 
--- the document reads as an ontology that is classified today, and the verdict is on the three texts and that ontology: they
--- are accepted exactly where they are acceptable, and then they say what follows from the axioms; lines that were passed are
--- true
+-- the document reads as this ontology, and the verdict is on the three texts and that ontology: they are accepted exactly
+-- where they are acceptable, and then they say what follows from the axioms; lines that were passed are true
 pub record IsChecked (most : ℕ) (document taxonomy instances certificate : Option (List ℕ)) (o : Ontology) (verdict : Verdict) : Type 0 where
   pub reads : ReadsKnown document most o
   pub well_formed : IsOntology o
-  pub hierarchy : StatesHierarchy o
   pub taxonomy_text : List ℕ
   pub instances_text : List ℕ
   pub certificate_text : List ℕ
@@ -42,36 +35,57 @@ pub record IsChecked (most : ℕ) (document taxonomy instances certificate : Opt
 -- what a fault says of the document; it numbers the sources of the texts from 2
 abbrev pub IsCheckFault : (most : ℕ) → (document : Option (List ℕ)) → CheckFault → Type 0
 IsCheckFault most document (Document fault) = RefusesKnown document most fault
-IsCheckFault most document NotYet = IsNotYetClassified most document
 IsCheckFault most document Memory = Unit {0}
 IsCheckFault most document (Io n) = (2 ≤ n) × (n ≤ 4) × ((o : Ontology) × ReadsKnown document most o)
 
+-- what an answer says: the document reads as some ontology, and this is the verdict on it and the texts; or a fault
+abbrev pub IsCheckAnswer : (most : ℕ) → (document taxonomy instances certificate : Option (List ℕ)) → Result Verdict CheckFault → Type 0
+IsCheckAnswer most document taxonomy instances certificate (Ok verdict) = (o : Ontology) × IsChecked most document taxonomy instances certificate o verdict
+IsCheckAnswer most document taxonomy instances certificate (Err fault) = IsCheckFault most document fault
+
+-- ---- what was read
+
 -- the sources of the document and of the three texts
 pub record Sources : Type 0 where
-  pub document : Device
-  pub taxonomy : Device
-  pub instances : Device
-  pub certificate : Device
+  pub document : SourceState
+  pub taxonomy : SourceState
+  pub instances : SourceState
+  pub certificate : SourceState
 
--- the document's source failed where the fault says so
-abbrev pub FailsWith : DocumentFault → (old new : Device) → Type 0
-FailsWith reading.Io old new = HasFailed old.1 new.1
-FailsWith fault old new = Unit {0}
+abbrev pub sources : (document taxonomy instances certificate : SourceState) → Sources
+sources d t i c = record { document = d; taxonomy = t; instances = i; certificate = c }
 
--- a source is named only where it failed, and those behind it are not read
+-- the sources of the texts are not touched
+abbrev pub AreTextsUnread : (old new : Sources) → Type 0
+AreTextsUnread old new = (new.taxonomy ≡ old.taxonomy) × (new.instances ≡ old.instances) × (new.certificate ≡ old.certificate)
+
+-- each source is read to its end
+abbrev pub AreReadToTheirEnds : (old new : Sources) → Type 0
+AreReadToTheirEnds old new =
+    IsReadToItsEnd old.document new.document × IsReadToItsEnd old.taxonomy new.taxonomy × IsReadToItsEnd old.instances new.instances × IsReadToItsEnd old.certificate new.certificate
+
+-- what was read where the answer is this fault. A source is named only where it failed; those before it were read to their
+-- ends, and those behind it are not touched. Where another fault is told, none failed
 abbrev pub AreReadUntil : CheckFault → (old new : Sources) → Type 0
-AreReadUntil (Document fault) old new =
-    FailsWith fault old.document new.document × (new.taxonomy ≡ old.taxonomy) × (new.instances ≡ old.instances) × (new.certificate ≡ old.certificate)
-AreReadUntil NotYet old new = (new.taxonomy ≡ old.taxonomy) × (new.instances ≡ old.instances) × (new.certificate ≡ old.certificate)
-AreReadUntil Memory old new = Unit {0}
-AreReadUntil (Io (suc (suc zero))) old new = HasFailed old.taxonomy.1 new.taxonomy.1 × (new.instances ≡ old.instances) × (new.certificate ≡ old.certificate)
-AreReadUntil (Io (suc (suc (suc zero)))) old new = HasFailed old.instances.1 new.instances.1 × (new.certificate ≡ old.certificate)
-AreReadUntil (Io (suc (suc (suc (suc zero))))) old new = HasFailed old.certificate.1 new.certificate.1
+AreReadUntil (Document fault) old new = IsReadUntil fault old.document new.document × AreTextsUnread old new
+AreReadUntil Memory old new =
+    IsReadOn old.document new.document × IsReadOn old.taxonomy new.taxonomy × IsReadOn old.instances new.instances × IsReadOn old.certificate new.certificate
+AreReadUntil (Io (suc (suc zero))) old new =
+    IsReadToItsEnd old.document new.document × FailsInReading old.taxonomy new.taxonomy × (new.instances ≡ old.instances) × (new.certificate ≡ old.certificate)
+AreReadUntil (Io (suc (suc (suc zero)))) old new =
+    IsReadToItsEnd old.document new.document × IsReadToItsEnd old.taxonomy new.taxonomy × FailsInReading old.instances new.instances × (new.certificate ≡ old.certificate)
+AreReadUntil (Io (suc (suc (suc (suc zero))))) old new =
+    IsReadToItsEnd old.document new.document × IsReadToItsEnd old.taxonomy new.taxonomy × IsReadToItsEnd old.instances new.instances × FailsInReading old.certificate new.certificate
 AreReadUntil (Io n) old new = ⊥
 
--- memory was refused, or the fault is the number of a source, and it failed
-abbrev pub IsSourceFault : (number failures_old failures_new : ℕ) → CheckFault → Type 0
-IsSourceFault number old new (Document fault) = ⊥
-IsSourceFault number old new NotYet = ⊥
-IsSourceFault number old new Memory = Unit {0}
-IsSourceFault number old new (Io n) = (n ≡ number) × HasFailed old new
+-- .. where it is any answer
+abbrev pub AreRead : {X : Type 0} → Result X CheckFault → (old new : Sources) → Type 0
+AreRead (Ok x) old new = AreReadToTheirEnds old new
+AreRead (Err fault) old new = AreReadUntil fault old new
+
+-- what was read of the source of a text: all; or memory was refused; or the fault is the number of the source, and it failed
+abbrev pub IsTextRead : {X : Type 0} → (number : ℕ) → Result X CheckFault → (old new : SourceState) → Type 0
+IsTextRead number (Ok x) old new = IsReadToItsEnd old new
+IsTextRead number (Err (Document fault)) old new = ⊥
+IsTextRead number (Err Memory) old new = IsReadOn old new
+IsTextRead number (Err (Io n)) old new = (n ≡ number) × FailsInReading old new

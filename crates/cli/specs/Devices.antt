@@ -1,9 +1,13 @@
 -- Sources and sinks as far as they can be seen.
 use Rattle.std.specs.Prelude.{◌≡◌, ℕ, List, Option}
-use Rattle.std.specs.Io.KnownBytes.{Appends}
-use Rattle.device.specs.Device.{AppendsBeginning, HasFailed}
+use Rattle.std.specs.Io.KnownBytes.{Appends, IsAtEnd}
+use Rattle.device.specs.Device.{AppendsBeginning, HasFailed, LosesFront, LosesOnlyFront}
+use Rattle.document.specs.declared.fault.DocumentFault.{DocumentFault}
+use Rattle.document.specs.declared.fault.DocumentFault.TheVariants.{Io}
 
--- the bytes that a source has left or that a sink has taken, where these are known, and how many of its calls have failed
+-- ---- sinks
+
+-- the bytes that a sink has taken, where these are known, and how many of its calls have failed
 abbrev pub Device : Type 0
 Device = Option (List ℕ) × ℕ
 
@@ -14,3 +18,34 @@ Takes old new text = Appends old.0 new.0 text × (new.1 ≡ old.1)
 -- the sink failed, and has taken a beginning of the text
 abbrev pub FailsIn : (old new : Device) → List ℕ → Type 0
 FailsIn old new text = AppendsBeginning old.0 new.0 text × HasFailed old.1 new.1
+
+-- ---- sources
+
+-- the bytes that a source has left, where these are known, how many it can still give, and how many of its calls have failed
+pub record SourceState : Type 0 where
+  pub left : Option (List ℕ)
+  pub most : ℕ
+  pub failures : ℕ
+
+abbrev pub source_state : Option (List ℕ) → (most failures : ℕ) → SourceState
+source_state left most failures = record { left = left; most = most; failures = failures }
+
+-- the source has lost some of its first bytes, or none, and nothing else: it can give as many less, and no call of it failed
+pub record IsReadOn (old new : SourceState) : Type 0 where
+  pub lost : LosesOnlyFront old.left new.left old.most new.most
+  pub unfailed : new.failures ≡ old.failures
+
+-- .. and all of them
+pub record IsReadToItsEnd (old new : SourceState) : Type 0 where
+  pub on : IsReadOn old new
+  pub end : IsAtEnd new.left
+
+-- a call of it failed, and it has lost some of its first bytes, or none
+pub record FailsInReading (old new : SourceState) : Type 0 where
+  pub lost : LosesFront old.left new.left old.most new.most
+  pub failed : HasFailed old.failures new.failures
+
+-- what was read of a document where this is its fault: its source failed where that is told, and otherwise no call failed
+abbrev pub IsReadUntil : DocumentFault → (old new : SourceState) → Type 0
+IsReadUntil Io old new = FailsInReading old new
+IsReadUntil fault old new = IsReadOn old new

@@ -1,5 +1,5 @@
 -- What a run of the program does.
-use Rattle.std.specs.Prelude.{◌≡◌, ℕ, ◌⊎◌, List, Option}
+use Rattle.std.specs.Prelude.{◌≡◌, ℕ, zero, suc, ◌⊎◌, List, Bool, true, false, Option, Some, take}
 use Rattle.axioms.specs.Numbered.{Ontology}
 use Rattle.cert_check.specs.declared.verdict.Verdict.{Verdict}
 use Rattle.classification.specs.declared.classification.Summary.{Summary}
@@ -14,16 +14,78 @@ use Rattle.cli.specs.Printed.{Output, IsAnswered, IsTold, verdict_text, verdict_
 use Rattle.cli.specs.Writing.{IsClassified, IsFaultOf, Texts}
 use Rattle.cli.specs.declared.fault.CheckFault.{CheckFault}
 use Rattle.cli.specs.declared.fault.ClassifyFault.{ClassifyFault}
+use Rattle.cli.specs.declared.fault.ClassifyFault.TheVariants.{Io}
+use Rattle.system_files.specs.Contents.{Content}
 
--- the bytes of the files, by their paths, where they are known
-abbrev pub Content : Type 0
-Content = List ℕ → Option (List ℕ)
+-- ---- which file holds which text
 
--- a run of `classify`: the document is classified, and its counts are printed; or a fault is told
-abbrev pub IsClassifyRun : Paths → (facts bytes : ℕ) → Content → (old new : Output) → (status : ℕ) → Type 0
-IsClassifyRun paths facts bytes content old new status =
-    ((summary : Summary) × (texts : Texts) × IsClassified bytes facts (content paths.document.now) summary texts × IsAnswered old new (summary_text summary) done status)
-    ⊎ ((fault : ClassifyFault) × IsFaultOf bytes facts (content paths.document.now) fault × (new.out ≡ old.out) × IsTold old.err new.err (IsClassifyText paths bytes facts fault) (classify_status fault) status)
+-- the file holds the text, as far as it is known what files hold
+abbrev pub Holds : Bool → Option (List ℕ) → List ℕ → Type 0
+Holds true held text = held ≡ Some text
+Holds false held text = Unit {0}
+
+-- .. what it held
+abbrev pub Stays : Bool → (old new : Option (List ℕ)) → Type 0
+Stays true old new = new ≡ old
+Stays false old new = Unit {0}
+
+-- .. a beginning of the text, or what it held
+abbrev pub HoldsBeginning : Bool → (old new : Option (List ℕ)) → List ℕ → Type 0
+HoldsBeginning true old new text = (new ≡ old) ⊎ ((n : ℕ) × (new ≡ Some (take n text)))
+HoldsBeginning false old new text = Unit {0}
+
+-- the three texts have three paths
+pub record AreApart (paths : Paths) : Type 0 where
+  pub taxonomy_instances : ¬ (paths.taxonomy.now ≡ paths.instances.now)
+  pub taxonomy_certificate : ¬ (paths.taxonomy.now ≡ paths.certificate.now)
+  pub instances_certificate : ¬ (paths.instances.now ≡ paths.certificate.now)
+
+-- each path holds its text
+pub record HoldTexts (known : Bool) (paths : Paths) (texts : Texts) (new : Content) : Type 0 where
+  pub taxonomy : Holds known (new paths.taxonomy.now) texts.taxonomy
+  pub instances : Holds known (new paths.instances.now) texts.instances
+  pub certificate : Holds known (new paths.certificate.now) texts.certificate
+
+-- where the sink of that number failed, the paths before it hold their texts, its own a beginning of its text or what it
+-- held, and those behind it what they held
+abbrev pub HoldTextsUntil : ℕ → Bool → Paths → Texts → (old new : Content) → Type 0
+HoldTextsUntil (suc zero) known paths texts old new =
+    HoldsBeginning known (old paths.taxonomy.now) (new paths.taxonomy.now) texts.taxonomy × Stays known (old paths.instances.now) (new paths.instances.now)
+    × Stays known (old paths.certificate.now) (new paths.certificate.now)
+HoldTextsUntil (suc (suc zero)) known paths texts old new =
+    Holds known (new paths.taxonomy.now) texts.taxonomy × HoldsBeginning known (old paths.instances.now) (new paths.instances.now) texts.instances
+    × Stays known (old paths.certificate.now) (new paths.certificate.now)
+HoldTextsUntil (suc (suc (suc zero))) known paths texts old new =
+    Holds known (new paths.taxonomy.now) texts.taxonomy × Holds known (new paths.instances.now) texts.instances
+    × HoldsBeginning known (old paths.certificate.now) (new paths.certificate.now) texts.certificate
+HoldTextsUntil n known paths texts old new = ⊥
+
+-- what the files hold where the answer is a fault: all that they held where it came before the writing
+abbrev pub AreLeft : Paths → (facts bytes : ℕ) → Bool → (content content' : Content) → ClassifyFault → Type 0
+AreLeft paths facts bytes known content content' (Io n) =
+    (summary : Summary) × (texts : Texts) × IsClassified bytes facts (content paths.document.now) summary texts
+    × (AreApart paths → HoldTextsUntil n known paths texts content content')
+AreLeft paths facts bytes known content content' fault = (path : List ℕ) → Stays known (content path) (content' path)
+
+-- files at other paths than the three are as they were
+abbrev pub AreOthersKept : Paths → (content content' : Content) → Type 0
+AreOthersKept paths content content' =
+    (path : List ℕ) → ¬ (path ≡ paths.taxonomy.now) → ¬ (path ≡ paths.instances.now) → ¬ (path ≡ paths.certificate.now) → content' path ≡ content path
+
+-- ---- runs
+
+-- the document is classified, each path holds its text, and the counts are printed; or a fault is told
+abbrev pub IsClassifyAnswered : Paths → (facts bytes : ℕ) → Bool → (content content' : Content) → (old new : Output) → (status : ℕ) → Type 0
+IsClassifyAnswered paths facts bytes known content content' old new status =
+    ((summary : Summary) × (texts : Texts) × IsClassified bytes facts (content paths.document.now) summary texts
+    × (AreApart paths → HoldTexts known paths texts content') × IsAnswered old new (summary_text summary) done status)
+    ⊎ ((fault : ClassifyFault) × IsFaultOf bytes facts (content paths.document.now) fault × AreLeft paths facts bytes known content content' fault
+    × (new.out ≡ old.out) × IsTold old.err new.err (IsClassifyText paths bytes facts fault) (classify_status fault) status)
+
+-- a run of `classify`: what is answered, and that no other file is written
+pub record IsClassifyRun (paths : Paths) (facts bytes : ℕ) (known : Bool) (content content' : Content) (old new : Output) (status : ℕ) : Type 0 where
+  pub answered : IsClassifyAnswered paths facts bytes known content content' old new status
+  pub others : AreOthersKept paths content content'
 
 -- a run of `check`: the verdict on the four files is printed; or a fault is told
 abbrev pub IsCheckRun : Paths → (bytes : ℕ) → Content → (old new : Output) → (status : ℕ) → Type 0
@@ -33,14 +95,14 @@ IsCheckRun paths bytes content old new status =
     × IsAnswered old new (verdict_text o verdict) (verdict_status verdict) status)
     ⊎ ((fault : CheckFault) × IsCheckFault bytes (content paths.document.now) fault × (new.out ≡ old.out) × IsTold old.err new.err (IsCheckText paths bytes fault) (check_status fault) status)
 
-abbrev pub IsTaskRun : Task → Content → (old new : Output) → (status : ℕ) → Type 0
-IsTaskRun (Classify paths facts bytes) content old new status = IsClassifyRun paths facts bytes content old new status
-IsTaskRun (Check paths bytes) content old new status = IsCheckRun paths bytes content old new status
+abbrev pub IsTaskRun : Task → Bool → (content content' : Content) → (old new : Output) → (status : ℕ) → Type 0
+IsTaskRun (Classify paths facts bytes) known content content' old new status = IsClassifyRun paths facts bytes known content content' old new status
+IsTaskRun (Check paths bytes) known content content' old new status = IsCheckRun paths bytes content old new status
 
 -- a run of the program: of the task that the words ask for; or the words are no task, which is told
-abbrev pub IsPerformed : List Text → Content → (old new : Output) → (status : ℕ) → Type 0
-IsPerformed words content old new status =
-    ((task : Task) × IsTaskOf words task × IsTaskRun task content old new status)
+abbrev pub IsPerformed : List Text → Bool → (content content' : Content) → (old new : Output) → (status : ℕ) → Type 0
+IsPerformed words known content content' old new status =
+    ((task : Task) × IsTaskOf words task × IsTaskRun task known content content' old new status)
     ⊎ ((fault : LineFault) × Refuses words fault × (new.out ≡ old.out) × IsLineTold fault old.err new.err status)
 
 -- the words do not ask for a classification

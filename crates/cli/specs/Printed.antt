@@ -210,13 +210,11 @@ IsClassifyText paths bytes facts (classifying.Io n) text = text ≡ cannot_write
 
 abbrev pub check_status : CheckFault → ℕ
 check_status (checking.Document fault) = document_status fault
-check_status checking.NotYet = refused
 check_status checking.Memory = memory
 check_status (checking.Io n) = file
 
 abbrev pub IsCheckText : Paths → (max_bytes : ℕ) → CheckFault → List ℕ → Type 0
 IsCheckText paths bytes (checking.Document fault) text = IsDocumentText paths.document.now bytes fault text
-IsCheckText paths bytes checking.NotYet text = text ≡ not_yet
 IsCheckText paths bytes checking.Memory text = text ≡ out_of_memory
 IsCheckText paths bytes (checking.Io n) text = text ≡ cannot_read (read_path paths n)
 

@@ -1,16 +1,74 @@
 -- What is proved of classifications and checks together.
-use Rattle.std.specs.Prelude.{◌≡◌, ℕ, List, Some}
-use Rattle.axioms.specs.Numbered.{Ontology}
+use Rattle.std.specs.Prelude.{◌≡◌, ◌<◌, ℕ, ◌⊎◌, List, Result, Ok, Err, Some, true, codes, length}
 use Rattle.cert_check.specs.declared.verdict.Verdict.{Verdict}
 use Rattle.cert_check.specs.declared.verdict.Verdict.TheVariants.{Accepted}
 use Rattle.classification.specs.declared.classification.Summary.{Summary}
-use Rattle.cli.specs.Checked.{IsChecked}
+use Rattle.command_line.specs.declared.tasks.Paths.{Paths}
+use Rattle.cli.specs.Checked.{IsCheckAnswer}
+use Rattle.clap.specs.Words.{Text, takes}
+use Rattle.command_line.specs.CommandLine.{IsTaskOf, elc_app}
+use Rattle.command_line.specs.declared.tasks.Task.TheVariants.{Check, Classify}
+use Rattle.cli.specs.Performed.{AreApart, IsPerformed}
+use Rattle.cli.specs.Printed.{Output, IsAnswered, IsCheckText, IsTold, check_status, done}
 use Rattle.cli.specs.Writing.{Texts, IsClassified}
+use Rattle.cli.specs.declared.fault.CheckFault.{CheckFault}
+use Rattle.cli.specs.declared.fault.CheckFault.TheVariants.{Document, Memory, Io}
+use Rattle.document.specs.declared.fault.DocumentFault.TheVariants as reading
+use Rattle.system_files.specs.Contents.{Content}
+
+-- a check that is stopped by this fault says nothing of the texts: memory was refused, a source failed, or the document has
+-- more bytes than this checker reads
+abbrev pub IsStop : (most : ℕ) → (document : List ℕ) → CheckFault → Type 0
+IsStop most document (Document reading.TooLarge) = most < length document
+IsStop most document (Document reading.Io) = Unit {0}
+IsStop most document (Document reading.Memory) = Unit {0}
+IsStop most document (Document fault) = ⊥
+IsStop most document Memory = Unit {0}
+IsStop most document (Io n) = Unit {0}
+
+-- the answer of a check is that the texts are accepted, unless the check is stopped
+abbrev pub AcceptsUnlessStopped : (most : ℕ) → (document : List ℕ) → Result Verdict CheckFault → Type 0
+AcceptsUnlessStopped most document (Ok verdict) = verdict ≡ Accepted
+AcceptsUnlessStopped most document (Err fault) = IsStop most document fault
 
 -- the texts that a classification of a document writes are accepted where the same document is checked
 abbrev pub WhatIsWrittenIsAccepted : Type 0
 WhatIsWrittenIsAccepted =
-    (most_written most_checked facts : ℕ) (bytes : List ℕ) (texts : Texts) (summary : Summary) (o : Ontology) (verdict : Verdict) →
+    (most_written most_checked facts : ℕ) (bytes : List ℕ) (texts : Texts) (summary : Summary) (answer : Result Verdict CheckFault) →
     IsClassified most_written facts (Some bytes) summary texts →
-    IsChecked most_checked (Some bytes) (Some texts.taxonomy) (Some texts.instances) (Some texts.certificate) o verdict →
-    verdict ≡ Accepted
+    IsCheckAnswer most_checked (Some bytes) (Some texts.taxonomy) (Some texts.instances) (Some texts.certificate) answer →
+    AcceptsUnlessStopped most_checked bytes answer
+
+-- ---- .. through files
+
+-- both name the same four paths
+pub record AreSamePaths (p q : Paths) : Type 0 where
+  pub document : p.document.now ≡ q.document.now
+  pub taxonomy : p.taxonomy.now ≡ q.taxonomy.now
+  pub instances : p.instances.now ≡ q.instances.now
+  pub certificate : p.certificate.now ≡ q.certificate.now
+
+-- the document's path is none of the texts'
+pub record IsDocumentApart (paths : Paths) : Type 0 where
+  pub taxonomy : ¬ (paths.document.now ≡ paths.taxonomy.now)
+  pub instances : ¬ (paths.document.now ≡ paths.instances.now)
+  pub certificate : ¬ (paths.document.now ≡ paths.certificate.now)
+
+abbrev pub accepted : List ℕ
+accepted = codes "accepted\n"
+
+-- `accepted` is printed, unless the check is stopped, which is told
+abbrev pub IsAcceptedRun : (most : ℕ) → (document : List ℕ) → (old new : Output) → (status : ℕ) → Type 0
+IsAcceptedRun most document old new status =
+    IsAnswered old new accepted done status
+    ⊎ ((paths : Paths) × (fault : CheckFault) × IsStop most document fault × (new.out ≡ old.out) × IsTold old.err new.err (IsCheckText paths most fault) (check_status fault) status)
+
+-- after a run of `classify` with status 0, over files whose content is known, a run of `check` on the same four paths prints
+-- `accepted`. The words of both are taken by clap's function of the program's commands
+abbrev pub WrittenFilesAreAccepted : Type 0
+WrittenFilesAreAccepted =
+    (written checked : List Text) (paths paths' : Paths) (facts bytes most : ℕ) (content content' content'' : Content) (old new old' new' : Output) (status : ℕ) (document : List ℕ) →
+    IsTaskOf written (Classify paths facts bytes) → IsTaskOf checked (Check paths' most) → takes elc_app checked ≡ true →
+    AreSamePaths paths paths' → AreApart paths → IsDocumentApart paths → content paths.document.now ≡ Some document →
+    IsPerformed written true content content' old new done → IsPerformed checked true content' content'' old' new' status →
+    IsAcceptedRun most document old' new' status

@@ -3,15 +3,14 @@ use Rattle.std.specs.Prelude.{◌≡◌, ◌≤◌, ℕ, zero, suc, List, Option
 use Rattle.axioms.specs.Numbered.{Ontology}
 use Rattle.axioms.specs.WellFormed.{IsOntology}
 use Rattle.cert_check.specs.Acceptable.{IsAcceptable}
-use Rattle.classification.specs.Classified.{AreCountsOf, AreTextsOf}
+use Rattle.classification.specs.Classified.{AreCountsOf, AreTextsOf, HasTooManyFacts}
 use Rattle.classification.specs.Stated.{StatesHierarchy}
 use Rattle.classification.specs.declared.classification.Classification.{Classification}
 use Rattle.classification.specs.declared.classification.Summary.{Summary}
-use Rattle.cli.specs.Devices.{Device, Takes, FailsIn}
+use Rattle.cli.specs.Devices.{Device, Takes, FailsIn, SourceState, IsReadOn, IsReadToItsEnd, IsReadUntil}
 use Rattle.cli.specs.declared.fault.ClassifyFault.{ClassifyFault}
 use Rattle.cli.specs.declared.fault.ClassifyFault.TheVariants.{Document, NotYet, Memory, Limit, Io}
 use Rattle.document.specs.Faults.{ReadsKnown, RefusesKnown}
-use Rattle.hierarchy.specs.Superclasses.{HasMoreFactsThan}
 
 -- what takes the three texts
 pub record Sinks : Type 0 where
@@ -56,16 +55,16 @@ pub record IsClassified (most_bytes most_facts : ℕ) (document : Option (List �
 abbrev pub IsNotYetClassified : (most_bytes : ℕ) → (document : Option (List ℕ)) → Type 0
 IsNotYetClassified bytes document = (o : Ontology) × ReadsKnown document bytes o × ¬ StatesHierarchy o
 
--- the document reads as an ontology whose closure has more facts
-abbrev pub HasTooManyFacts : (most_bytes most_facts : ℕ) → (document : Option (List ℕ)) → Type 0
-HasTooManyFacts bytes facts document = (o : Ontology) × ReadsKnown document bytes o × HasMoreFactsThan o facts
+-- the document reads as an ontology that is classified today, and whose closure has more facts
+abbrev pub IsBeyondLimit : (most_bytes most_facts : ℕ) → (document : Option (List ℕ)) → Type 0
+IsBeyondLimit bytes facts document = (o : Ontology) × ReadsKnown document bytes o × HasTooManyFacts o facts
 
 -- what a fault says of the document; it numbers the sinks from 1
 abbrev pub IsFaultOf : (most_bytes most_facts : ℕ) → (document : Option (List ℕ)) → ClassifyFault → Type 0
 IsFaultOf bytes facts document (Document fault) = RefusesKnown document bytes fault
 IsFaultOf bytes facts document NotYet = IsNotYetClassified bytes document
 IsFaultOf bytes facts document Memory = Unit {0}
-IsFaultOf bytes facts document Limit = HasTooManyFacts bytes facts document
+IsFaultOf bytes facts document Limit = IsBeyondLimit bytes facts document
 IsFaultOf bytes facts document (Io n) = (1 ≤ n) × (n ≤ 3) × ((summary : Summary) × (texts : Texts) × IsClassified bytes facts document summary texts)
 
 -- what was written where the answer is this fault: nothing where it came before the writing
@@ -82,6 +81,16 @@ IsClassification bytes facts document old new (Err fault) = IsFaultOf bytes fact
 -- the texts of a classification in memory
 abbrev pub texts_of : Classification → Texts
 texts_of c = record { taxonomy = c.taxonomy.items; instances = c.instances.items; certificate = c.certificate.items }
+
+-- what was read of the document: all of it, where it was read as an ontology; otherwise some of it; and the fault of a source
+-- is told only where it failed
+abbrev pub IsDocumentRead : {X : Type 0} → Result X ClassifyFault → (old new : SourceState) → Type 0
+IsDocumentRead (Ok x) old new = IsReadToItsEnd old new
+IsDocumentRead (Err (Document fault)) old new = IsReadUntil fault old new
+IsDocumentRead (Err NotYet) old new = IsReadToItsEnd old new
+IsDocumentRead (Err Memory) old new = IsReadOn old new
+IsDocumentRead (Err Limit) old new = IsReadToItsEnd old new
+IsDocumentRead (Err (Io n)) old new = IsReadToItsEnd old new
 
 -- the answer came before anything was written
 abbrev pub IsBeforeWriting : ClassifyFault → Type 0

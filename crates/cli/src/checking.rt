@@ -1,13 +1,11 @@
 //! The check of a document's texts.
-ghost use Rattle.axioms.specs.Numbered.{Ontology};
-ghost use Rattle.cli.specs.Checked.{AreKnown, AreReadUntil, IsChecked, IsCheckFault, IsSourceFault, Sources};
-ghost use Rattle.device.specs.Device.{HasFailed};
-ghost use Rattle.std.specs.Prelude.{◌≡◌, Err, IfErr, IfOk};
+ghost use Rattle.cli.specs.Checked.{AreKnown, AreRead, IsCheckAnswer, IsChecked, IsCheckFault, IsTextRead, Sources, sources};
+ghost use Rattle.cli.specs.Devices.{SourceState, source_state};
+ghost use Rattle.std.specs.Prelude.{IfErr, IfOk};
 
 use crate::fault::CheckFault;
-use axioms::{ExprId, Ontology};
+use axioms::Ontology;
 use cert_check::{Verdict, check};
-use classification::states_hierarchy;
 use device::{ReadFault, Source, read_all};
 use document::{Limits, read_document};
 use std::alloc::Global;
@@ -16,7 +14,9 @@ use std::hash::RandomState;
 /// All the bytes of the source of that number.
 fn bytes_of<S: Source>(alloc: Global, source: &mut S, number: usize) -> Result<Vec<u8>, CheckFault>
     ensures known { IfOk result (λ v. AreKnown (S.left source.old) v.items) }
-    ensures fault { IfErr result (IsSourceFault number (S.failures source.old) (S.failures source.new)) }
+    ensures read { let old : SourceState = source_state (S.left source.old) (S.most source.old) (S.failures source.old) in
+        let new : SourceState = source_state (S.left source.new) (S.most source.new) (S.failures source.new) in
+        IsTextRead number result old new }
 {
     match read_all(alloc, source, usize::MAX) {
         Ok(bytes) => Ok(bytes),
@@ -37,22 +37,35 @@ pub(crate) fn checked<D: Source, T: Source, I: Source, C: Source>(
 ) -> Result<(Ontology, Verdict), CheckFault>
     ensures checked { IfOk result (λ p. IsChecked limits.now.max_bytes (D.left document.old) (T.left taxonomy.old) (I.left instances.old) (C.left certificate.old) p.0 p.1) }
     ensures fault { IfErr result (IsCheckFault limits.now.max_bytes (D.left document.old)) }
-    ensures until { let old : Sources = record { document = (D.left document.old, D.failures document.old); taxonomy = (T.left taxonomy.old, T.failures taxonomy.old); instances = (I.left instances.old, I.failures instances.old); certificate = (C.left certificate.old, C.failures certificate.old) } in
-        let new : Sources = record { document = (D.left document.new, D.failures document.new); taxonomy = (T.left taxonomy.new, T.failures taxonomy.new); instances = (I.left instances.new, I.failures instances.new); certificate = (C.left certificate.new, C.failures certificate.new) } in
-        IfErr result (λ fault. AreReadUntil fault old new) }
+    ensures read { let old : Sources = sources
+        (source_state (D.left document.old) (D.most document.old) (D.failures document.old))
+        (source_state (T.left taxonomy.old) (T.most taxonomy.old) (T.failures taxonomy.old))
+        (source_state (I.left instances.old) (I.most instances.old) (I.failures instances.old))
+        (source_state (C.left certificate.old) (C.most certificate.old) (C.failures certificate.old)) in
+        let new : Sources = sources
+        (source_state (D.left document.new) (D.most document.new) (D.failures document.new))
+        (source_state (T.left taxonomy.new) (T.most taxonomy.new) (T.failures taxonomy.new))
+        (source_state (I.left instances.new) (I.most instances.new) (I.failures instances.new))
+        (source_state (C.left certificate.new) (C.most certificate.new) (C.failures certificate.new)) in
+        AreRead result old new }
 {
     let ontology = match read_document(alloc, document, limits, state) {
         Ok(ontology) => ontology,
         Err(fault) => return Err(CheckFault::Document(fault)),
     };
-    // What holds of every ontology.
-    let _ = ontology.expr(ExprId(0));
-    if !states_hierarchy(&ontology) {
-        return Err(CheckFault::NotYet);
-    }
-    let taxonomy = bytes_of(alloc, taxonomy, 2)?;
-    let instances = bytes_of(alloc, instances, 3)?;
-    let certificate = bytes_of(alloc, certificate, 4)?;
+    ontology.well_formed();
+    let taxonomy = match bytes_of(alloc, taxonomy, 2) {
+        Ok(taxonomy) => taxonomy,
+        Err(fault) => return Err(fault),
+    };
+    let instances = match bytes_of(alloc, instances, 3) {
+        Ok(instances) => instances,
+        Err(fault) => return Err(fault),
+    };
+    let certificate = match bytes_of(alloc, certificate, 4) {
+        Ok(certificate) => certificate,
+        Err(fault) => return Err(fault),
+    };
     match check(alloc, &ontology, &taxonomy, &instances, &certificate) {
         Ok(verdict) => Ok((ontology, verdict)),
         Err(_) => Err(CheckFault::Memory),
@@ -61,6 +74,11 @@ pub(crate) fn checked<D: Source, T: Source, I: Source, C: Source>(
 
 /// Reads the document and the three texts, in this order up to the first fault, and answers whether the certificate
 /// shows that the other two are right.
+///
+/// # Errors
+///
+/// `Document` where the document is refused or its source failed; `Io` with the number of a text's source that failed;
+/// `Memory` where memory was refused. No verdict is given after a failed read.
 pub fn check_document<D: Source, T: Source, I: Source, C: Source>(
     alloc: Global,
     document: &mut D,
@@ -70,13 +88,22 @@ pub fn check_document<D: Source, T: Source, I: Source, C: Source>(
     limits: &Limits,
     state: RandomState,
 ) -> Result<Verdict, CheckFault>
-    // The document reads as an ontology, and the verdict is on that ontology and the three texts.
-    ensures checked { IfOk result (λ v. (o : Ontology) × IsChecked limits.now.max_bytes (D.left document.old) (T.left taxonomy.old) (I.left instances.old) (C.left certificate.old) o v) }
-    // A fault of the document is one; a source is named only where it failed; and no source behind the fault is read.
-    ensures fault { IfErr result (IsCheckFault limits.now.max_bytes (D.left document.old)) }
-    ensures until { let old : Sources = record { document = (D.left document.old, D.failures document.old); taxonomy = (T.left taxonomy.old, T.failures taxonomy.old); instances = (I.left instances.old, I.failures instances.old); certificate = (C.left certificate.old, C.failures certificate.old) } in
-        let new : Sources = record { document = (D.left document.new, D.failures document.new); taxonomy = (T.left taxonomy.new, T.failures taxonomy.new); instances = (I.left instances.new, I.failures instances.new); certificate = (C.left certificate.new, C.failures certificate.new) } in
-        IfErr result (λ fault. AreReadUntil fault old new) }
+    // The document reads as an ontology, and the verdict is on that ontology and the three texts; or a fault of the
+    // document is one.
+    ensures answered { IsCheckAnswer limits.now.max_bytes (D.left document.old) (T.left taxonomy.old) (I.left instances.old) (C.left certificate.old) result }
+    // After a verdict each source was read to its end, and none failed. A fault names a source only where it failed: those
+    // before it were read to their ends, and those behind it are not touched.
+    ensures read { let old : Sources = sources
+        (source_state (D.left document.old) (D.most document.old) (D.failures document.old))
+        (source_state (T.left taxonomy.old) (T.most taxonomy.old) (T.failures taxonomy.old))
+        (source_state (I.left instances.old) (I.most instances.old) (I.failures instances.old))
+        (source_state (C.left certificate.old) (C.most certificate.old) (C.failures certificate.old)) in
+        let new : Sources = sources
+        (source_state (D.left document.new) (D.most document.new) (D.failures document.new))
+        (source_state (T.left taxonomy.new) (T.most taxonomy.new) (T.failures taxonomy.new))
+        (source_state (I.left instances.new) (I.most instances.new) (I.failures instances.new))
+        (source_state (C.left certificate.new) (C.most certificate.new) (C.failures certificate.new)) in
+        AreRead result old new }
 {
     match checked(
         alloc,

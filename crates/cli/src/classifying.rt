@@ -1,11 +1,9 @@
 //! Classification of a document.
-ghost use Rattle.cli.specs.Writing.{IsBeforeWriting, IsClassification, IsClassified, IsFaultOf, Sinks, texts_of};
-ghost use Rattle.device.specs.Device.{HasFailed};
-ghost use Rattle.document.specs.declared.fault.DocumentFault.TheVariants as reading;
-ghost use Rattle.std.specs.Prelude.{◌≡◌, Err, IfErr, IfOk};
+ghost use Rattle.cli.specs.Devices.{SourceState, source_state};
+ghost use Rattle.cli.specs.Writing.{IsBeforeWriting, IsClassification, IsClassified, IsDocumentRead, IsFaultOf, Sinks, texts_of};
+ghost use Rattle.std.specs.Prelude.{◌≡◌, IfErr, IfOk};
 
 use crate::fault::ClassifyFault;
-use axioms::ExprId;
 use classification::{Classification, Stop, Summary, classify, states_hierarchy};
 use device::{Sink, Source, write_all};
 use document::{Limits, read_document};
@@ -22,14 +20,15 @@ fn classified<S: Source>(
     ensures classified { IfOk result (λ c. IsClassified limits.now.max_bytes limits.now.max_facts (S.left source.old) c.summary (texts_of c)) }
     ensures fault { IfErr result (IsFaultOf limits.now.max_bytes limits.now.max_facts (S.left source.old)) }
     ensures before { IfErr result IsBeforeWriting }
-    ensures failed { result ≡ Err (ClassifyFault.Document reading.Io) → HasFailed (S.failures source.old) (S.failures source.new) }
+    ensures read { let old : SourceState = source_state (S.left source.old) (S.most source.old) (S.failures source.old) in
+        let new : SourceState = source_state (S.left source.new) (S.most source.new) (S.failures source.new) in
+        IsDocumentRead result old new }
 {
     let ontology = match read_document(alloc, source, limits, state) {
         Ok(ontology) => ontology,
         Err(fault) => return Err(ClassifyFault::Document(fault)),
     };
-    // What holds of every ontology.
-    let _ = ontology.expr(ExprId(0));
+    ontology.well_formed();
     if !states_hierarchy(&ontology) {
         return Err(ClassifyFault::NotYet);
     }
@@ -55,7 +54,11 @@ pub fn classify_document<S: Source, T: Sink, I: Sink, C: Sink>(
     ensures answered { let old : Sinks = record { taxonomy = (T.taken taxonomy.old, T.failures taxonomy.old); instances = (I.taken instances.old, I.failures instances.old); certificate = (C.taken certificate.old, C.failures certificate.old) } in
         let new : Sinks = record { taxonomy = (T.taken taxonomy.new, T.failures taxonomy.new); instances = (I.taken instances.new, I.failures instances.new); certificate = (C.taken certificate.new, C.failures certificate.new) } in
         IsClassification limits.now.max_bytes limits.now.max_facts (S.left source.old) old new result }
-    ensures failed { result ≡ Err (ClassifyFault.Document reading.Io) → HasFailed (S.failures source.old) (S.failures source.new) }
+    // What was read of the document; its source has not failed but where that is the fault.
+    ensures read { let old : SourceState = source_state (S.left source.old) (S.most source.old) (S.failures source.old) in
+        let new : SourceState = source_state (S.left source.new) (S.most source.new) (S.failures source.new) in
+        IsDocumentRead result old new }
+    ensures paths { (T.path taxonomy.new ≡ T.path taxonomy.old) × (I.path instances.new ≡ I.path instances.old) × (C.path certificate.new ≡ C.path certificate.old) }
 {
     let made = match classified(alloc, source, limits, state) {
         Ok(made) => made,

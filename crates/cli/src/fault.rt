@@ -33,14 +33,11 @@ pub enum CheckFault {
     /// The document was not read.
     #[error(transparent)]
     Document(DocumentFault),
-    /// The ontology is not one that is classified today, so that it has no texts. They are not read.
-    #[error("not yet classified")]
-    NotYet,
     /// Memory was refused.
     #[error("out of memory")]
     Memory,
     /// The source of that number failed: 2 is the taxonomy's, 3 the instances', 4 the certificate's. (That of the
-    /// document, the first, is told inside `Document`.)
+    /// document, the first, is told inside `Document`.) Those before it were read to their ends, those behind it not at all.
     #[error("source {0} failed")]
     Io(usize),
 }

@@ -1,7 +1,7 @@
 //! Documents in, texts and verdicts out: the calls that the program `elc` makes.
 #![tactic(auto)]
 
-ghost use Rattle.cli.specs.Theorems.{WhatIsWrittenIsAccepted};
+ghost use Rattle.cli.specs.Theorems.{WhatIsWrittenIsAccepted, WrittenFilesAreAccepted};
 
 mod checking;
 mod classifying;
@@ -23,7 +23,14 @@ pub use run::perform;
 pub use system_files::Files;
 
 /// The texts that a classification of a document writes are accepted where the same document is checked: whatever
-/// `classify_document` wrote, `check_document` answers `Accepted` on it.
+/// `classify_document` wrote, `check_document` answers `Accepted` on it, unless memory is refused, a source fails, or the
+/// document has more bytes than this checker reads.
 pub fn what_is_written_is_accepted()
     ensures { WhatIsWrittenIsAccepted }
+{}
+
+/// Two runs of `perform` over files whose content is known: after one that classifies and ends with status 0, one that
+/// checks the same four paths prints `accepted`, unless it is stopped so.
+pub fn written_files_are_accepted()
+    ensures { WrittenFilesAreAccepted }
 {}

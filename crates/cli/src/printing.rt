@@ -234,9 +234,6 @@ pub(crate) fn check_message(
 {
     match fault {
         CheckFault::Document(fault) => document_message(alloc, fault, paths.document, limits),
-        CheckFault::NotYet => {
-            message_of(String::from_str(alloc, "not yet classified\n"), REFUSED)
-        }
         CheckFault::Memory => message_of(String::from_str(alloc, "out of memory\n"), MEMORY),
         CheckFault::Io(number) => {
             let path = read_path(paths, *number);

@@ -1,8 +1,8 @@
 //! A whole run of the program.
 ghost use Rattle.cli.specs.Performed.{AskForNoClassification, IsCheckRun, IsClassifyRun, IsPerformed};
 ghost use Rattle.cli.specs.Printed.{IsLineTold, Output};
-ghost use Rattle.std.specs.Io.KnownBytes.{Keeps};
-ghost use Rattle.std.specs.Prelude.{◌≡◌, ℕ, List, map};
+ghost use Rattle.cli.specs.Stored.{AreFresh};
+ghost use Rattle.std.specs.Prelude.{◌≡◌, ℕ, List, IfOk, map};
 
 use crate::checking::checked;
 use crate::classifying::classify_document;
@@ -10,12 +10,37 @@ use crate::printing::{
     answer, check_message, classify_message, summary_message, tell, tell_out_of_memory,
     usage_message, verdict_message,
 };
+use axioms::Memory;
 use command_line::{LineFault, Paths, Task, task};
 use device::Sink;
 use document::{Limits, MOST_FACTS};
 use std::alloc::Global;
 use std::hash::RandomState;
 use system_files::Files;
+
+/// The sinks of the three texts.
+#[derive(Drop)]
+struct TextSinks<S: Drop> {
+    taxonomy: S,
+    instances: S,
+    certificate: S,
+}
+
+/// Sinks of the files of the three texts, which have taken nothing. The files hold what they did.
+fn sinks_of<F: Files>(files: &mut F, paths: &Paths<'_>) -> Result<TextSinks<F::Out>, Memory>
+    ensures fresh { IfOk result (λ s. AreFresh (F.is_known files.old) paths.now (F.has_place files.new) (F.Out.path s.taxonomy, F.Out.taken s.taxonomy) (F.Out.path s.instances, F.Out.taken s.instances) (F.Out.path s.certificate, F.Out.taken s.certificate)) }
+    ensures kept { (path : List ℕ) → F.content files.new path ≡ F.content files.old path }
+    ensures known { F.is_known files.new ≡ F.is_known files.old }
+{
+    let taxonomy = files.writer(paths.taxonomy)?;
+    let instances = files.writer(paths.instances)?;
+    let certificate = files.writer(paths.certificate)?;
+    Ok(TextSinks {
+        taxonomy,
+        instances,
+        certificate,
+    })
+}
 
 /// Classifies the document, writes its texts, and prints the counts.
 fn perform_classify<F: Files, O: Sink, E: Sink>(
@@ -29,30 +54,26 @@ fn perform_classify<F: Files, O: Sink, E: Sink>(
 ) -> u8
     ensures run { let old : Output = record { out = (O.taken out.old, O.failures out.old); err = (E.taken err.old, E.failures err.old) } in
         let new : Output = record { out = (O.taken out.new, O.failures out.new); err = (E.taken err.new, E.failures err.new) } in
-        IsClassifyRun paths.now limits.now.max_facts limits.now.max_bytes (F.content files.old) old new result }
-    ensures kept { (path : List ℕ) → Keeps (F.content files.old path) (F.content files.new path) }
+        IsClassifyRun paths.now limits.now.max_facts limits.now.max_bytes (F.is_known files.old) (F.content files.old) (F.content files.new) old new result }
 {
     let Ok(mut document) = files.reader(paths.document) else {
         return tell_out_of_memory(err);
     };
-    let Ok(mut taxonomy) = files.writer(paths.taxonomy) else {
-        return tell_out_of_memory(err);
-    };
-    let Ok(mut instances) = files.writer(paths.instances) else {
-        return tell_out_of_memory(err);
-    };
-    let Ok(mut certificate) = files.writer(paths.certificate) else {
+    let Ok(mut sinks) = sinks_of(files, paths) else {
         return tell_out_of_memory(err);
     };
     let classified = classify_document(
         alloc,
         &mut document,
-        &mut taxonomy,
-        &mut instances,
-        &mut certificate,
+        &mut sinks.taxonomy,
+        &mut sinks.instances,
+        &mut sinks.certificate,
         limits,
         state,
     );
+    files.close(sinks.taxonomy);
+    files.close(sinks.instances);
+    files.close(sinks.certificate);
     match classified {
         Ok(summary) => answer(out, err, summary_message(alloc, &summary)),
         Err(fault) => tell(err, classify_message(alloc, &fault, paths, limits)),
@@ -120,13 +141,12 @@ pub fn perform<F: Files, O: Sink, E: Sink>(
     err: &mut E,
     state: RandomState,
 ) -> u8
-    // What the words ask for, what is printed, and the status.
+    // What the words ask for, which file holds which text, what is printed, and the status.
     ensures performed { let old : Output = record { out = (O.taken out.old, O.failures out.old); err = (E.taken err.old, E.failures err.old) } in
         let new : Output = record { out = (O.taken out.new, O.failures out.new); err = (E.taken err.new, E.failures err.new) } in
-        IsPerformed (map (λ w. w.now) words.entry.now) (F.content files.old) old new result }
-    // Only a classification writes files, and none that was there to be read changes.
+        IsPerformed (map (λ w. w.now) words.entry.now) (F.is_known files.old) (F.content files.old) (F.content files.new) old new result }
+    // Only a classification writes files.
     ensures untouched { AskForNoClassification (map (λ w. w.now) words.entry.now) → files.new ≡ files.old }
-    ensures kept { (path : List ℕ) → Keeps (F.content files.old path) (F.content files.new path) }
 {
     match task(alloc, words) {
         Ok(

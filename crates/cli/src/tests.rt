@@ -1,10 +1,12 @@
 //! Whole runs over files in memory, on documents worked out by hand.
 
+mod checking;
 mod failing;
 mod hierarchies;
 mod refusals;
 
 use crate::perform;
+use axioms::Memory;
 use device::BufferSink;
 use std::alloc::{AllocError, Global};
 use std::hash::RandomState;
@@ -61,27 +63,35 @@ fn no_texts(alloc: Global) -> Texts {
     }
 }
 
-/// The files that a classification writes.
-fn outputs_of<'a>(
-    alloc: Global,
-    texts: &'a mut Texts,
-) -> Result<Vec<(&'a str, &'a mut Vec<u8>)>, AllocError> {
-    let mut outputs = Vec::new(alloc);
-    outputs.push(("tax", &mut texts.taxonomy))?;
-    outputs.push(("inst", &mut texts.instances))?;
-    outputs.push(("cert", &mut texts.certificate))?;
-    Ok(outputs)
+/// What the file at the path holds, or nothing where there is none.
+fn held(alloc: Global, files: &MemoryFiles, path: &str) -> Result<Vec<u8>, AllocError> {
+    match files.bytes(path) {
+        Some(bytes) => bytes.to_vec(alloc),
+        None => Ok(Vec::new(alloc)),
+    }
 }
 
-/// A run that reads these files and writes the texts.
-fn run_writing<'a, R: AllocGlobal + RandomSource>(
-    rt: &R,
-    words: &[&str],
-    inputs: &'a [(&'a str, &'a [u8])],
-    texts: &'a mut Texts,
-) -> Result<Run, Fail> {
-    let mut files = MemoryFiles::new(inputs, outputs_of(rt.alloc(), texts)?);
-    run_of(rt, words, &mut files)
+/// The texts that the files hold.
+fn texts_in(alloc: Global, files: &MemoryFiles) -> Result<Texts, AllocError> {
+    Ok(Texts {
+        taxonomy: held(alloc, files, "tax")?,
+        instances: held(alloc, files, "inst")?,
+        certificate: held(alloc, files, "cert")?,
+    })
+}
+
+/// Files of which one holds the document.
+fn files_with(alloc: Global, document: &[u8]) -> Result<MemoryFiles, Memory> {
+    let mut files = MemoryFiles::new(alloc);
+    files.put("doc", document)?;
+    Ok(files)
+}
+
+/// Puts the texts into the files.
+fn put_texts(files: &mut MemoryFiles, texts: &Texts) -> Result<(), Memory> {
+    files.put("tax", &texts.taxonomy)?;
+    files.put("inst", &texts.instances)?;
+    files.put("cert", &texts.certificate)
 }
 
 /// A run on the document, and what it wrote.
@@ -90,8 +100,9 @@ fn written_by<R: AllocGlobal + RandomSource>(
     words: &[&str],
     document: &[u8],
 ) -> Result<(Run, Texts), Fail> {
-    let mut texts = no_texts(rt.alloc());
-    let run = run_writing(rt, words, &[("doc", document)], &mut texts)?;
+    let mut files = files_with(rt.alloc(), document)?;
+    let run = run_of(rt, words, &mut files)?;
+    let texts = texts_in(rt.alloc(), &files)?;
     Ok((run, texts))
 }
 
@@ -101,13 +112,8 @@ fn check<R: AllocGlobal + RandomSource>(
     document: &[u8],
     texts: &Texts,
 ) -> Result<Run, Fail> {
-    let inputs = [
-        ("doc", document),
-        ("tax", texts.taxonomy.as_slice()),
-        ("inst", texts.instances.as_slice()),
-        ("cert", texts.certificate.as_slice()),
-    ];
-    let mut files = MemoryFiles::new(&inputs, Vec::new(rt.alloc()));
+    let mut files = files_with(rt.alloc(), document)?;
+    put_texts(&mut files, texts)?;
     run_of(rt, &CHECK, &mut files)
 }
 
@@ -117,17 +123,7 @@ fn are_texts(texts: &Texts, taxonomy: &str, instances: &str) -> bool {
         && texts.instances.as_slice() == instances.as_bytes()
 }
 
-/// Whether the checker accepts the texts of the document.
-fn is_accepted<R: AllocGlobal + RandomSource>(
-    rt: &R,
-    document: &[u8],
-    texts: &Texts,
-) -> Result<bool, Fail> {
-    let run = check(rt, document, texts)?;
-    Ok(is_run(&run, 0, "accepted\n", ""))
-}
-
-/// Whether the document is classified so, and the checker accepts what was written.
+/// Whether the document is classified so, and the checker accepts what was written, in the same files.
 fn gives<R: AllocGlobal + RandomSource>(
     rt: &R,
     document: &[u8],
@@ -135,9 +131,15 @@ fn gives<R: AllocGlobal + RandomSource>(
     instances: &str,
     counts: &str,
 ) -> Result<bool, Fail> {
-    let (run, texts) = written_by(rt, &CLASSIFY, document)?;
-    let is_accepted = is_accepted(rt, document, &texts)?;
-    Ok(is_run(&run, 0, counts, "") && are_texts(&texts, taxonomy, instances) && is_accepted)
+    let mut files = files_with(rt.alloc(), document)?;
+    let run = run_of(rt, &CLASSIFY, &mut files)?;
+    let check = run_of(rt, &CHECK, &mut files)?;
+    let texts = texts_in(rt.alloc(), &files)?;
+    Ok(
+        is_run(&run, 0, counts, "")
+            && are_texts(&texts, taxonomy, instances)
+            && is_run(&check, 0, "accepted\n", ""),
+    )
 }
 
 /// Whether the words or the document are refused so, and nothing is written.
@@ -169,14 +171,14 @@ fn limited<'a>(option: &'a str, number: &'a str) -> [&'a str; 8] {
     ]
 }
 
-/// A run on a document alone, with no place for texts.
+/// A run on a document alone, where nothing can be written.
 fn alone<R: AllocGlobal + RandomSource>(
     rt: &R,
     words: &[&str],
     document: &[u8],
 ) -> Result<Run, Fail> {
-    let inputs = [("doc", document)];
-    let mut files = MemoryFiles::new(&inputs, Vec::new(rt.alloc()));
+    let mut files = files_with(rt.alloc(), document)?;
+    files.lock();
     run_of(rt, words, &mut files)
 }
 
@@ -271,7 +273,7 @@ fn hash_in_iri_and_comment_at_end(rt: HostRuntime) -> Result<(), Fail> {
 #[test]
 fn limit_of_facts(rt: HostRuntime) -> Result<(), Fail> {
     let (enough, less) = (limited("--max-facts", "3"), limited("--max-facts", "2"));
-    assert_eq!(rt; status(&rt, &enough, b"Ontology()")?, 0);
+    assert!(rt; status(&rt, &enough, b"Ontology()")? == 0);
     let told = "limit: more than 2 facts\n";
     assert!(rt; refuses(&rt, &less, b"Ontology()", 5, told)?);
     Ok(())
@@ -280,7 +282,7 @@ fn limit_of_facts(rt: HostRuntime) -> Result<(), Fail> {
 #[test]
 fn limit_of_bytes(rt: HostRuntime) -> Result<(), Fail> {
     let (enough, less) = (limited("--max-bytes", "33"), limited("--max-bytes", "32"));
-    assert_eq!(rt; status(&rt, &enough, ONE_DOCUMENT)?, 0);
+    assert!(rt; status(&rt, &enough, ONE_DOCUMENT)? == 0);
     let told = "limit: more than 32 bytes\n";
     assert!(rt; refuses(&rt, &less, ONE_DOCUMENT, 5, told)?);
     Ok(())
@@ -307,11 +309,11 @@ fn documents_of_no_trees(rt: HostRuntime) -> Result<(), Fail> {
 #[test]
 fn refused_words(rt: HostRuntime) -> Result<(), Fail> {
     let none = limited("--max-facts", "0");
-    assert_eq!(rt; status(&rt, &none, b"Ontology()")?, 2);
+    assert!(rt; status(&rt, &none, b"Ontology()")? == 2);
     let more = limited("--max-bytes", "268435457");
-    assert_eq!(rt; status(&rt, &more, b"Ontology()")?, 2);
+    assert!(rt; status(&rt, &more, b"Ontology()")? == 2);
     let words = ["elc", "classify", "doc", "tax", "inst", "cert", "more"];
-    assert_eq!(rt; status(&rt, &words, b"Ontology()")?, 2);
+    assert!(rt; status(&rt, &words, b"Ontology()")? == 2);
     Ok(())
 }
 

@@ -5,7 +5,6 @@ use crate::{
     CheckFault, ClassifyFault, DocumentFault, Limits, Summary, Verdict, check_document,
     classify_document,
 };
-use axioms::Memory;
 use device::{Failed, Sink, SliceSource, Source};
 use std::process::Abort;
 use system_files::{MemorySink, MemorySource};
@@ -51,6 +50,8 @@ impl<S: Sink + Drop> Sink for FailingSink<S> {
 
     ghost failures = { λ s. s.failures };
 
+    ghost path = { λ s. S.path s.inner };
+
     fn write(&mut self, piece: &[u8]) -> Result<usize, Failed> {
         let n = piece.len().min(1);
         if self.writes > 0 {
@@ -64,15 +65,71 @@ impl<S: Sink + Drop> Sink for FailingSink<S> {
     }
 }
 
+/// A sink of a file in memory that takes one byte a write, and fails after some writes.
+#[derive(Drop)]
+struct FailingFileSink {
+    inner: MemorySink,
+    writes: usize,
+    failures: u64,
+}
+
+impl Sink for FailingFileSink {
+    ghost taken = { λ s. ⟦<MemorySink as Sink>⟧.taken s.inner };
+
+    ghost failures = { λ s. s.failures };
+
+    ghost path = { λ s. ⟦<MemorySink as Sink>⟧.path s.inner };
+
+    fn write(&mut self, piece: &[u8]) -> Result<usize, Failed> {
+        let n = piece.len().min(1);
+        if self.writes > 0 {
+            if let Ok(n) = self.inner.write(&piece[..n]) {
+                self.writes -= 1;
+                return Ok(n);
+            }
+        }
+        self.failures = self.failures.saturating_add(1);
+        Err(Failed)
+    }
+}
+
+/// A source of a file in memory that gives at most seven bytes a read, and fails after some reads.
+#[derive(Drop)]
+struct FailingFileSource {
+    inner: MemorySource,
+    reads: usize,
+    failures: u64,
+}
+
+impl Source for FailingFileSource {
+    ghost left = { λ s. ⟦<MemorySource as Source>⟧.left s.inner };
+
+    ghost failures = { λ s. s.failures };
+
+    ghost most = { λ s. ⟦<MemorySource as Source>⟧.most s.inner };
+
+    fn read(&mut self, buffer: &mut [u8]) -> Result<usize, Failed> {
+        let n = buffer.len().min(7);
+        if self.reads > 0 {
+            if let Ok(n) = self.inner.read(&mut buffer[..n]) {
+                self.reads -= 1;
+                return Ok(n);
+            }
+        }
+        self.failures = self.failures.saturating_add(1);
+        Err(Failed)
+    }
+}
+
 /// Files in memory, of which that at the path fails after some calls.
 #[derive(Drop)]
-struct FailingFiles<'a> {
-    inner: MemoryFiles<'a>,
-    path: &'a str,
+struct FailingFiles {
+    inner: MemoryFiles,
+    path: &'static str,
     calls: usize,
 }
 
-impl<'a> FailingFiles<'a> {
+impl FailingFiles {
     /// How many calls the file at the path answers.
     fn calls_of(&self, path: &str) -> usize {
         if path == self.path {
@@ -83,16 +140,20 @@ impl<'a> FailingFiles<'a> {
     }
 }
 
-impl<'a> Files for FailingFiles<'a> {
-    type In = FailingSource<MemorySource<'a>>;
+impl Files for FailingFiles {
+    type In = FailingFileSource;
 
-    type Out = FailingSink<MemorySink<'a>>;
+    type Out = FailingFileSink;
 
-    ghost content = { λ f. ⟦<MemoryFiles<'a> as Files>⟧.content f.inner };
+    ghost is_known = { λ f. ⟦<MemoryFiles as Files>⟧.is_known f.inner };
+
+    ghost content = { λ f. ⟦<MemoryFiles as Files>⟧.content f.inner };
+
+    ghost has_place = { λ f. ⟦<MemoryFiles as Files>⟧.has_place f.inner };
 
     fn reader(&self, path: &str) -> Result<Self::In, Memory> {
         let reads = self.calls_of(path);
-        Ok(FailingSource {
+        Ok(FailingFileSource {
             inner: self.inner.reader(path)?,
             reads,
             failures: 0,
@@ -101,11 +162,16 @@ impl<'a> Files for FailingFiles<'a> {
 
     fn writer(&mut self, path: &str) -> Result<Self::Out, Memory> {
         let writes = self.calls_of(path);
-        Ok(FailingSink {
+        Ok(FailingFileSink {
             inner: self.inner.writer(path)?,
             writes,
             failures: 0,
         })
+    }
+
+    fn close(&mut self, sink: Self::Out) {
+        let FailingFileSink { inner, .. } = sink;
+        self.inner.close(inner);
     }
 }
 
@@ -214,18 +280,18 @@ fn checked<R: AllocGlobal + RandomSource>(
     Ok((answer, unread))
 }
 
-/// A run that reads these files and writes the texts, where the file at the path fails after some calls.
-fn run_failing<'a, R: AllocGlobal + RandomSource>(
+/// A run over the files, where that at the path fails after some calls, and what the files then hold.
+fn run_failing<R: AllocGlobal + RandomSource>(
     rt: &R,
     words: &[&str],
-    inputs: &'a [(&'a str, &'a [u8])],
-    texts: &'a mut Texts,
-    path: &'a str,
+    inner: MemoryFiles,
+    path: &'static str,
     calls: usize,
-) -> Result<Run, Fail> {
-    let inner = MemoryFiles::new(inputs, outputs_of(rt.alloc(), texts)?);
+) -> Result<(Run, Texts), Fail> {
     let mut files = FailingFiles { inner, path, calls };
-    run_of(rt, words, &mut files)
+    let run = run_of(rt, words, &mut files)?;
+    let texts = texts_in(rt.alloc(), &files.inner)?;
+    Ok((run, texts))
 }
 
 /// Whether the sinks have taken the whole texts before the place, there so many bytes, and nothing behind it.
@@ -257,26 +323,33 @@ fn is_stopped<R: AllocGlobal + RandomSource>(
     Ok(answer == Err(place) && are_cut(&texts, whole, place, calls))
 }
 
-/// Whether a run over the document and its texts is stopped so by the file at the path that fails after some calls, the
-/// file being that of the sink at the place, or at place 0 one that is read.
+/// Whether a classifying run is stopped so by the file at the path that fails after some calls, the file being that of the
+/// sink at the place, or at place 0 the document.
 fn is_run_stopped<R: AllocGlobal + RandomSource>(
     rt: &R,
-    words: &[&str],
     whole: &Texts,
     place: usize,
-    path: &str,
+    path: &'static str,
     told: &str,
     calls: usize,
 ) -> Result<bool, Fail> {
-    let inputs = [
-        ("doc", ONE_DOCUMENT),
-        ("tax", whole.taxonomy.as_slice()),
-        ("inst", whole.instances.as_slice()),
-        ("cert", whole.certificate.as_slice()),
-    ];
-    let mut texts = no_texts(rt.alloc());
-    let run = run_failing(rt, words, &inputs, &mut texts, path, calls)?;
+    let files = files_with(rt.alloc(), ONE_DOCUMENT)?;
+    let (run, texts) = run_failing(rt, &CLASSIFY, files, path, calls)?;
     Ok(is_run(&run, 6, "", told) && are_cut(&texts, whole, place, calls))
+}
+
+/// Whether a checking run is stopped so by the file at the path that fails after some reads.
+fn is_checking_run_stopped<R: AllocGlobal + RandomSource>(
+    rt: &R,
+    texts: &Texts,
+    path: &'static str,
+    told: &str,
+    reads: usize,
+) -> Result<bool, Fail> {
+    let mut files = files_with(rt.alloc(), ONE_DOCUMENT)?;
+    put_texts(&mut files, texts)?;
+    let (run, _texts) = run_failing(rt, &CHECK, files, path, reads)?;
+    Ok(is_run(&run, 6, "", told))
 }
 
 /// Fails each sink after each number of bytes that is less than its text.
@@ -293,7 +366,7 @@ fn fail_each_write<R: AllocGlobal + Abort + RandomSource>(
         for bytes in 0..length {
             assert!(rt; is_stopped(rt, whole, place, bytes)?, "{path} at {bytes}");
             assert!(rt;
-                is_run_stopped(rt, &CLASSIFY, whole, place, path, told, bytes)?,
+                is_run_stopped(rt, whole, place, path, told, bytes)?,
                 "{path} at {bytes}"
             );
         }
@@ -331,7 +404,7 @@ fn fail_each_read<R: AllocGlobal + Abort + RandomSource>(
                 "{path} at {reads}"
             );
             assert!(rt;
-                is_run_stopped(rt, &CHECK, texts, 0, path, told, reads)?,
+                is_checking_run_stopped(rt, texts, path, told, reads)?,
                 "{path} at {reads}"
             );
         }
@@ -348,7 +421,7 @@ fn a_sink_that_fails(rt: HostRuntime) -> Result<(), Fail> {
         individuals: 0,
         facts: 8,
     };
-    assert_eq!(rt; answer, Ok(counts));
+    assert!(rt; answer == Ok(counts));
     assert!(rt; are_texts(&whole, ONE, NO_INSTANCES));
     fail_each_write(&rt, &whole)
 }
@@ -357,8 +430,8 @@ fn a_sink_that_fails(rt: HostRuntime) -> Result<(), Fail> {
 fn a_source_that_fails(rt: HostRuntime) -> Result<(), Fail> {
     let (_answer, texts) = classified(&rt, NOWHERE, 0)?;
     let (verdict, unread) = checked(&rt, &texts, NOWHERE, 0)?;
-    assert_eq!(rt; verdict, Ok(Verdict::Accepted));
-    assert_eq!(rt; unread, [false; 3]);
+    assert!(rt; verdict == Ok(Verdict::Accepted));
+    assert!(rt; unread == [false; 3]);
     fail_each_read(&rt, &texts)
 }
 
@@ -371,7 +444,7 @@ fn fail_each_read_of_the_document<R: AllocGlobal + Abort + RandomSource>(
     for reads in 0..=ONE_DOCUMENT.len().div_ceil(7) {
         assert!(rt; is_stopped(rt, whole, 0, reads)?, "at {reads}");
         assert!(rt;
-            is_run_stopped(rt, &CLASSIFY, whole, 0, "doc", told, reads)?,
+            is_run_stopped(rt, whole, 0, "doc", told, reads)?,
             "at {reads}"
         );
     }

@@ -1,4 +1,4 @@
-//! Documents with faults, all of which are told, and documents that are read and not classified today.
+//! Documents with faults, all of which are told, and documents that are read and checked, but not classified today.
 
 use super::*;
 
@@ -56,10 +56,10 @@ fn documents_beyond_named_subclasses(rt: HostRuntime) -> Result<(), Fail> {
     ];
     for document in documents {
         let told = "not yet classified\n";
-        assert!(rt;
-            is_told_by_both(&rt, document.as_bytes(), told)?,
-            "{document}"
-        );
+        let document = document.as_bytes();
+        assert!(rt; refuses(&rt, &CLASSIFY, document, 3, told)?);
+        let checked = check(&rt, document, &no_texts(rt.alloc()))?;
+        assert!(rt; is_run(&checked, 1, "rejected: C1 at byte 0\n", ""));
     }
     Ok(())
 }

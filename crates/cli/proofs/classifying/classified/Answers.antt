@@ -4,7 +4,7 @@ use Rattle.cli.proofs.classifying.classified.Goals as goal
 
 pub classify-requires : goal.classify-requires
 classify-requires g c =
-    classifiable c.in-Ok.ontology c.expr.ensures.valid c.in-Ok.ensures.taken (c.if-not-states_hierarchy.ensures.0 refl) c.args.limits.now.max_bytes c.in-Ok.ensures.axioms c.args.limits.now.bytes
+    classifiable c.in-Ok.ontology c.well_formed-2.ensures c.in-Ok.ensures.taken (c.if-not-states_hierarchy.ensures.0 refl) c.args.limits.now.max_bytes c.in-Ok.ensures.axioms c.args.limits.now.bytes
 
 pub returns-in-Ok-classify-clause-classified : goal.returns-in-Ok-classify-clause-classified
 returns-in-Ok-classify-clause-classified g c =
@@ -12,7 +12,7 @@ returns-in-Ok-classify-clause-classified g c =
     record {
       ontology = c.in-Ok.ontology;
       reads = c.in-Ok.ensures.read;
-      well_formed = c.expr.ensures.valid;
+      well_formed = c.well_formed-2.ensures;
       hierarchy = c.if-not-states_hierarchy.ensures.0 refl;
       counts = made.counts;
       within = made.within;

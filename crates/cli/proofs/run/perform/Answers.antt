@@ -19,7 +19,7 @@ returns-in-Some-clause-performed g c =
     let of = asked words t.field-0 (Classify t.paths t.max_facts t.max_bytes) t.field-0-is t.ensures.asked in
     let old : Output = record { out = (g.O.Sink.taken c.args.out.now, g.O.Sink.failures c.args.out.now); err = (g.E.Sink.taken c.args.err.now, g.E.Sink.failures c.args.err.now) } in
     let new : Output = record { out = (g.O.Sink.taken c.perform_classify.new.out, g.O.Sink.failures c.perform_classify.new.out); err = (g.E.Sink.taken c.perform_classify.new.err, g.E.Sink.failures c.perform_classify.new.err) } in
-    classified words (g.F.Files.content c.args.files.now) old new c.perform_classify.result t.paths t.max_facts t.max_bytes c.in-Some.limits.max_facts c.in-Some.limits.max_bytes of c.in-Some.ensures.these c.perform_classify.ensures.run
+    classified words (g.F.Files.is_known c.args.files.now) (g.F.Files.content c.args.files.now) (g.F.Files.content c.perform_classify.new.files) old new c.perform_classify.result t.paths t.max_facts t.max_bytes c.in-Some.limits.max_facts c.in-Some.limits.max_bytes of c.in-Some.ensures.these c.perform_classify.ensures.run
 
 pub returns-in-Some-clause-untouched : goal.returns-in-Some-clause-untouched
 returns-in-Some-clause-untouched g c none =
@@ -34,4 +34,4 @@ returns-in-Some-new-clause-performed g c =
     let of = asked words t.field-0 (Check t.paths t.max_bytes) t.field-0-is t.ensures.asked in
     let old : Output = record { out = (g.O.Sink.taken c.args.out.now, g.O.Sink.failures c.args.out.now); err = (g.E.Sink.taken c.args.err.now, g.E.Sink.failures c.args.err.now) } in
     let new : Output = record { out = (g.O.Sink.taken c.perform_check.new.out, g.O.Sink.failures c.perform_check.new.out); err = (g.E.Sink.taken c.perform_check.new.err, g.E.Sink.failures c.perform_check.new.err) } in
-    checked words (g.F.Files.content c.args.files.now) old new c.perform_check.result t.paths t.max_bytes c.in-Some-new.limits.max_bytes of c.in-Some-new.ensures.these.0 c.perform_check.ensures
+    checked words (g.F.Files.is_known c.args.files.now) (g.F.Files.content c.args.files.now) (g.F.Files.content c.args.files.now) old new c.perform_check.result t.paths t.max_bytes c.in-Some-new.limits.max_bytes of c.in-Some-new.ensures.these.0 c.perform_check.ensures

@@ -1,0 +1,27 @@
+-- What files hold where a classification ended with a fault.
+use Rattle.std.proofs.Common.{◌≡◌, ℕ, List, Bool, Option, subst}
+use Rattle.std.specs.Io.KnownBytes.{Keeps}
+use Rattle.command_line.specs.declared.tasks.Paths.{Paths}
+use Rattle.cli.proofs.Kept.{classified_file}
+use Rattle.cli.proofs.SomeTexts.{acceptable_are_some}
+use Rattle.cli.proofs.Stored.{AreNew, AreSinksClosed, nothing_stored, texts_held_until}
+use Rattle.cli.specs.Performed.{AreLeft}
+use Rattle.cli.specs.Writing.{IsUnwritten, Sinks}
+use Rattle.cli.specs.declared.fault.ClassifyFault.{ClassifyFault}
+use Rattle.cli.specs.declared.fault.ClassifyFault.TheVariants.{Document, NotYet, Memory, Limit, Io}
+use Rattle.system_files.specs.Contents.{Content, IsClosed}
+
+-- a sink that is closed is that of the path
+pub at_path : (old new : Content) (p q : List ℕ) (taken : Option (List ℕ)) → p ≡ q → IsClosed old new p taken → IsClosed old new q taken
+at_path old new p q taken same closed = let P : List ℕ → Type 0 = λ path. IsClosed old new path taken in subst P same closed
+
+pub files_left : (paths : Paths) (facts bytes : ℕ) (known : Bool) (content content' : Content) (left : Option (List ℕ)) (old new : Sinks) (fault : ClassifyFault) → Keeps (content paths.document.now) left → AreNew known old → IsUnwritten bytes facts left old new fault → AreSinksClosed paths new content content' → AreLeft paths facts bytes known content content' fault
+files_left paths facts bytes known content content' left old new (Document fault) kept fresh unwritten closed = λ path. nothing_stored known paths old new content content' fresh unwritten closed path
+files_left paths facts bytes known content content' left old new NotYet kept fresh unwritten closed = λ path. nothing_stored known paths old new content content' fresh unwritten closed path
+files_left paths facts bytes known content content' left old new Memory kept fresh unwritten closed = λ path. nothing_stored known paths old new content content' fresh unwritten closed path
+files_left paths facts bytes known content content' left old new Limit kept fresh unwritten closed = λ path. nothing_stored known paths old new content content' fresh unwritten closed path
+files_left paths facts bytes known content content' left old new (Io n) kept fresh unwritten closed =
+    let summary = unwritten.0 in
+    let texts = unwritten.1 in
+    let is = classified_file (content paths.document.now) left bytes facts summary texts kept unwritten.2 in
+    (summary, texts, is, λ apart. texts_held_until n known paths old new texts content content' (acceptable_are_some is.ontology texts is.acceptable) fresh unwritten.3 closed apart)

@@ -1,0 +1,20 @@
+-- Sinks of files, and what the files hold once they are closed.
+use Rattle.std.specs.Prelude.{◌≡◌, ℕ, List, Bool, true, Option}
+use Rattle.command_line.specs.declared.tasks.Paths.{Paths}
+use Rattle.system_files.specs.Contents.{nothing_taken}
+
+-- a sink: the path of its file, and the bytes that it has taken, where these are known
+abbrev pub FileSink : Type 0
+FileSink = List ℕ × Option (List ℕ)
+
+-- the sink has taken nothing, is that of the path, and there is a place for its file
+pub record IsFresh (known : Bool) (path : List ℕ) (has_place : List ℕ → Bool) (sink : FileSink) : Type 0 where
+  pub path_is : sink.0 ≡ path
+  pub taken : sink.1 ≡ nothing_taken known
+  pub place : has_place path ≡ true
+
+-- .. and so are those of the three texts
+pub record AreFresh (known : Bool) (paths : Paths) (has_place : List ℕ → Bool) (taxonomy instances certificate : FileSink) : Type 0 where
+  pub taxonomy_is : IsFresh known paths.taxonomy.now has_place taxonomy
+  pub instances_is : IsFresh known paths.instances.now has_place instances
+  pub certificate_is : IsFresh known paths.certificate.now has_place certificate
