@@ -31,6 +31,16 @@ fn counts(alloc: Global, ontology: &Ontology) -> Result<String, AllocError> {
     )
 }
 
+/// The status that goes with a fault.
+fn status_of(fault: &DocumentFault) -> u8 {
+    match fault {
+        DocumentFault::TooLarge | DocumentFault::TooManyNames => LIMIT,
+        DocumentFault::Io => FILE,
+        DocumentFault::Memory => MEMORY,
+        _ => REFUSED,
+    }
+}
+
 /// What is printed, and the status.
 fn shown(
     alloc: Global,
@@ -38,7 +48,7 @@ fn shown(
 ) -> Result<(String, u8), AllocError> {
     match read {
         Ok(ontology) => Ok((counts(alloc, ontology)?, DONE)),
-        Err(fault) => Ok((format!(in alloc; "{fault}\n")?, REFUSED)),
+        Err(fault) => Ok((format!(in alloc; "{fault}\n")?, status_of(fault))),
     }
 }
 
