@@ -1,7 +1,7 @@
 -- Sources and sinks as far as they can be seen.
 use Rattle.std.specs.Prelude.{◌≡◌, ℕ, List, Option}
 use Rattle.std.specs.Io.KnownBytes.{Appends, IsAtEnd}
-use Rattle.device.specs.Device.{AppendsBeginning, HasFailed, LosesFront, LosesOnlyFront}
+use Rattle.device.specs.Device.{AppendsBeginning, HasFailed, LosesFront}
 use Rattle.document.specs.declared.fault.DocumentFault.{DocumentFault}
 use Rattle.document.specs.declared.fault.DocumentFault.TheVariants.{Io}
 
@@ -32,7 +32,7 @@ source_state left most failures = record { left = left; most = most; failures = 
 
 -- the source has lost some of its first bytes, or none, and nothing else: it can give as many less, and no call of it failed
 pub record IsReadOn (old new : SourceState) : Type 0 where
-  pub lost : LosesOnlyFront old.left new.left old.most new.most
+  pub lost : LosesFront old.left new.left old.most new.most
   pub unfailed : new.failures ≡ old.failures
 
 -- .. and all of them

@@ -4,7 +4,7 @@ use Rattle.std.proofs.lemmas.List.{length-take-le}
 use Rattle.std.proofs.lemmas.Grind.{common_steps}
 use Rattle.std.proofs.Math.Seq.{take-add}
 use Rattle.std.specs.Io.KnownBytes.{Appends, Consumes}
-use Rattle.device.specs.Device.{LosesFront, LosesOnlyFront, Reads}
+use Rattle.device.specs.Device.{LosesFront, Reads}
 
 -- two reads, one after the other
 pub Consumes-append : (a b c : Option (List ℕ)) (xs ys : List ℕ) → Consumes a b xs → Consumes b c ys → Consumes a c (xs ++ ys)
@@ -14,13 +14,10 @@ Consumes-append (Some all) (Some rest) None xs ys h k = absurd k
 Consumes-append (Some all) (Some rest) (Some left) xs ys h k = h ∙ ap (λ r. xs ++ r) k ∙ sym (append_assoc xs ys left)
 
 -- one read more
-pub read_more : (a b c : Option (List ℕ)) (old now new : ℕ) (xs buffer : List ℕ) (n : ℕ) → Consumes a b xs → now + length xs ≡ old → Reads b c now new buffer n → LosesOnlyFront a c old new
+pub read_more : (a b c : Option (List ℕ)) (old now new : ℕ) (xs buffer : List ℕ) (n : ℕ) → Consumes a b xs → now + length xs ≡ old → Reads b c now new buffer n → LosesFront a c old new
 read_more a b c old now new xs buffer n h fell read =
     let front = xs ++ take n buffer in
     (front, Consumes-append a b c xs (take n buffer) h read.bytes, omega (arith, length-append xs (take n buffer), length-take-le n buffer read.within, fell, read.most))
-
-pub front_only : (a b : Option (List ℕ)) (old new : ℕ) → LosesOnlyFront a b old new → LosesFront a b old new
-front_only a b old new (front, consumed, fell) = (front, consumed, omega (arith, fell))
 
 -- two writes, one after the other
 pub Appends-append : (a b c : Option (List ℕ)) (xs ys : List ℕ) → Appends a b xs → Appends b c ys → Appends a c (xs ++ ys)

@@ -23,13 +23,9 @@ pub record Writes (taken_old taken_new : Option (List ℕ)) (piece : List ℕ) (
   pub some : 0 < length piece → 0 < n
   pub bytes : Appends taken_old taken_new (take n piece)
 
--- known bytes lose some at their front, and the count of those that can still come falls by as many, or by more
+-- known bytes lose some at their front, and the count of those that can still come falls by as many
 abbrev pub LosesFront : (left_old left_new : Option (List ℕ)) → (most_old most_new : ℕ) → Type 0
-LosesFront left_old left_new most_old most_new = (front : List ℕ) × Consumes left_old left_new front × (most_new + length front ≤ most_old)
-
--- .. by just as many
-abbrev pub LosesOnlyFront : (left_old left_new : Option (List ℕ)) → (most_old most_new : ℕ) → Type 0
-LosesOnlyFront left_old left_new most_old most_new = (front : List ℕ) × Consumes left_old left_new front × (most_new + length front ≡ most_old)
+LosesFront left_old left_new most_old most_new = (front : List ℕ) × Consumes left_old left_new front × (most_new + length front ≡ most_old)
 
 -- known bytes grow by a beginning of the text
 abbrev pub AppendsBeginning : Option (List ℕ) → Option (List ℕ) → List ℕ → Type 0

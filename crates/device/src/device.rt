@@ -23,7 +23,7 @@ pub trait Source {
     fn read(&mut self, buffer: &mut [u8]) -> Result<usize, Failed>
         ensures ok { IfOk result (λ n. Reads (left self.old) (left self.new) (most self.old) (most self.new) buffer.new n) }
         ensures kept { OnErr result (Keeps (left self.old) (left self.new)) }
-        ensures most { OnErr result (most self.new ≤ most self.old) }
+        ensures most { OnErr result (most self.new ≡ most self.old) }
 
         ensures unfailed { OnOk result (failures self.new ≡ failures self.old) }
         ensures failed { OnErr result (HasFailed (failures self.old) (failures self.new)) }

@@ -1,7 +1,7 @@
 //! Whole texts through sources and sinks.
 ghost use Rattle.std.specs.Prelude.{◌≡◌, ◌+◌, ◌<◌, ◌≤◌, IfOk, OnOk, OnErr, IsErrOf, length};
 ghost use Rattle.std.specs.Io.KnownBytes.{Appends, Consumes, IsAtEnd};
-ghost use Rattle.device.specs.Device.{HasFailed, AppendsBeginning, LosesFront, LosesOnlyFront, IsLongerThan};
+ghost use Rattle.device.specs.Device.{HasFailed, AppendsBeginning, LosesFront, IsLongerThan};
 
 use crate::device::{Failed, Sink, Source};
 use std::alloc::Global;
@@ -56,7 +56,6 @@ pub fn read_all<S: Source>(
     ensures fell { IfOk result (λ bytes. S.most source.new + length bytes.items ≡ S.most source.old) }
     ensures beyond { IsErrOf result ReadFault.TooLarge → S.most source.new + limit < S.most source.old }
     ensures lost { LosesFront (S.left source.old) (S.left source.new) (S.most source.old) (S.most source.new) }
-    ensures exact { ¬ IsErrOf result ReadFault.Failed → LosesOnlyFront (S.left source.old) (S.left source.new) (S.most source.old) (S.most source.new) }
 
     ensures unfailed { ¬ IsErrOf result ReadFault.Failed → S.failures source.new ≡ S.failures source.old }
     ensures failed { IsErrOf result ReadFault.Failed → HasFailed (S.failures source.old) (S.failures source.new) }

@@ -1,5 +1,5 @@
 //! From bytes to an ontology.
-ghost use Rattle.device.specs.Device.{HasFailed, LosesFront, LosesOnlyFront};
+ghost use Rattle.device.specs.Device.{HasFailed, LosesFront};
 ghost use Rattle.document.specs.Documents.{IsTaken, ReadsAs};
 ghost use Rattle.document.specs.Faults.{ReadsKnown, Refuses, RefusesKnown};
 ghost use Rattle.std.specs.Io.KnownBytes.{IsAtEnd};
@@ -86,7 +86,6 @@ pub fn read_document<S: Source>(
     // What was read of the source, and whether a read failed.
     ensures end { OnOk result (IsAtEnd (S.left source.new)) }
     ensures lost { LosesFront (S.left source.old) (S.left source.new) (S.most source.old) (S.most source.new) }
-    ensures exact { ¬ IsErrOf result DocumentFault.Io → LosesOnlyFront (S.left source.old) (S.left source.new) (S.most source.old) (S.most source.new) }
     ensures unfailed { ¬ IsErrOf result DocumentFault.Io → S.failures source.new ≡ S.failures source.old }
     ensures failed { IsErrOf result DocumentFault.Io → HasFailed (S.failures source.old) (S.failures source.new) }
 {
