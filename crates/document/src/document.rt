@@ -7,7 +7,7 @@ ghost use Rattle.std.specs.Prelude.{◌≡◌, ◌≤◌, IfErr, IfOk, IsErrOf, 
 
 use crate::fault::DocumentFault;
 use crate::limits::Limits;
-use axioms::{ExprId, Ontology};
+use axioms::Ontology;
 use device::{ReadFault, Source, read_all};
 use fs_lexer::tokens;
 use fs_parser::forms;
@@ -32,8 +32,7 @@ fn read_text(alloc: Global, text: &str, state: RandomState) -> Result<Ontology, 
     };
     match accept(alloc, &document, Version::V1, state) {
         Ok(ontology) => {
-            // What holds of every ontology.
-            let _ = ontology.expr(ExprId(0));
+            ontology.well_formed();
             Ok(ontology)
         }
         Err(refusal) => Err(DocumentFault::from(refusal)),
