@@ -3,12 +3,12 @@
 
 mod adapter;
 mod device;
+mod fault;
 mod memory;
-#[cfg(test)]
-mod tests;
 mod whole;
 
 pub use adapter::{ReaderSource, WriterSink};
 pub use device::{Failed, Sink, Source};
+pub use fault::{Memory, WriteFault};
 pub use memory::{BufferSink, SliceSource};
 pub use whole::{ReadFault, read_all, write_all};

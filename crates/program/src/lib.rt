@@ -1,0 +1,10 @@
+//! What programs over the library share: the limits that a caller sets, and the exit statuses.
+#![tactic(auto)]
+
+mod limits;
+mod status;
+#[cfg(test)]
+mod tests;
+
+pub use limits::{Limits, MOST_BYTES, MOST_FACTS};
+pub use status::Status;
