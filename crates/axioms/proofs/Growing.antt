@@ -1,15 +1,14 @@
 -- An ontology stays well formed where it grows.
-use Rattle.std.proofs.Common.{◌≡◌, ℕ, ◌+◌, ◌<◌, ◌≤◌, ◌⊎◌, inl, inr, List, [], ◌∷◌, ◌++◌, length, slice_get, Some, All, Contains, sym, ap, ◌∙◌, subst, arith, length-append}
+use Rattle.std.proofs.Common.{◌≡◌, ℕ, ◌<◌, ◌≤◌, ◌⊎◌, inl, inr, List, [], ◌∷◌, ◌++◌, length, slice_get, Some, All, Contains, sym, ap, ◌∙◌, subst, arith}
 use Rattle.std.proofs.lemmas.List.Elements.{All-weaker, All-push}
 use Rattle.std.proofs.lemmas.Bool.{cases_eq}
+use Rattle.std.proofs.lemmas.List.{length_push}
+use Rattle.lemmas.proofs.Members.{Contains-from_slice_get, slice_get-from_Contains}
+use Rattle.lemmas.proofs.Places.{slice_get_push, slice_get_push_cases, Keeps, keeps_push}
 use Rattle.axioms.specs.Expression.{Iri, owl_thing, owl_nothing}
 use Rattle.axioms.specs.Growth.{Numbers, with_axiom, with_class}
 use Rattle.axioms.specs.Numbered.{Ontology, Axiom, Node, Class, And, Exists, IsClassAt, SubClass, EquivalentClasses, DisjointClasses, SubProperty, EquivalentProperties, Domain, Transitive, Reflexive, ClassAssertion, PropertyAssertion}
 use Rattle.axioms.specs.WellFormed.{AreDistinct, AreOperands, IsNodeOf, IsAxiomOf, IsOntology}
-use Rattle.axioms.proofs.Lists.{Keeps, slice_get_push, slice_get_push_cases, keeps_push, Contains-from_slice_get, slice_get-from_Contains}
-
-pub length_push : {X : Type 0} (xs : List X) (x : X) → length (xs ++ x ∷ []) ≡ length xs + 1
-length_push xs x = length-append xs (x ∷ [])
 
 pub AreDistinct-push : {X : Type 0} (xs : List X) (x : X) → AreDistinct xs → (Contains xs x → ⊥) → AreDistinct (xs ++ x ∷ [])
 AreDistinct-push xs x distinct new m n y gm gn =

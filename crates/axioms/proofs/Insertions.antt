@@ -1,6 +1,6 @@
 -- What a look-up and an insertion in a numbered set give, by a view of its keys.
-use Rattle.std.proofs.Common.{◌≡◌, ℕ, zero, suc, Bool, true, false, ◌||◌, inl, inr, List, [], ◌∷◌, ◌++◌, if◌then◌else◌, map, position, slice_get, Some, Contains, String, string_bytes, bytes_eq, refl, sym, ap, ap₂, ◌∙◌, subst, arith, nat_eq}
-use Rattle.std.proofs.lemmas.Bool.{true≢false, both_ways}
+use Rattle.std.proofs.Common.{◌≡◌, ℕ, zero, suc, Bool, true, false, inl, inr, List, [], ◌∷◌, ◌++◌, if◌then◌else◌, map, position, slice_get, Some, Contains, String, string_bytes, bytes_eq, refl, sym, ap, ap₂, ◌∙◌, subst, arith, nat_eq}
+use Rattle.std.proofs.lemmas.Bool.{true≢false, both_ways, or_left, or_right}
 use Rattle.std.proofs.lemmas.Bool.Decides.{Decides-eqb, Decides-like, Decides-and}
 use Rattle.std.proofs.lemmas.List.{map-append, length-map}
 use Rattle.std.proofs.lemmas.List.Quantifiers.{position-Some}
@@ -11,6 +11,8 @@ use Rattle.std.specs.Cmp.Lexicographic.{pointwise}
 use Rattle.std.specs.List.{list_any}
 use Rattle.std.specs.String.{string_eq}
 use Rattle.std.specs.declared.alloc.Global.{Global}
+use Rattle.lemmas.proofs.Mapped.{slice_get_map}
+use Rattle.lemmas.proofs.Places.{slice_get_push_cases}
 use Rattle.indexmap.specs.IndexSet.{insert_key}
 use Rattle.axioms.specs.Growth.{Numbers}
 use Rattle.axioms.specs.Numbered.{Class, And, Exists}
@@ -19,14 +21,6 @@ use Rattle.axioms.specs.contracts.terms.ExprPartialEq.TheImpl.{ghosts}
 use Rattle.axioms.specs.declared.ids.ExprId.{ExprId}
 use Rattle.axioms.specs.declared.terms.Expr.{Expr}
 use Rattle.axioms.specs.declared.terms.Expr.TheVariants as expr
-use Rattle.axioms.proofs.Lists.{slice_get_map, slice_get_push_cases}
-
-or_left : (b c : Bool) → b ≡ true → b || c ≡ true
-or_left b c h = ap (λ d. d || c) h
-
-or_right : (b c : Bool) → c ≡ true → b || c ≡ true
-or_right true c h = refl
-or_right false c h = h
 
 -- a test that passes the keys that stand for x
 module _ {K X : Type 0} (test : K → Bool) (view : K → X) (x : X) (says : (k : K) → Decides (test k) (view k ≡ x)) where

@@ -1,26 +1,28 @@
 -- The fields of an ontology, by the ontology that they stand for.
-use Rattle.std.proofs.Common.{◌≡◌, ℕ, zero, suc, inl, inr, ◌++◌, ◌∷◌, [], List, length, map, slice_get, Some, Contains, string_bytes, refl, sym, ap, ◌∙◌, subst, arith}
-use Rattle.std.proofs.lemmas.List.{length-map}
-use Rattle.std.proofs.lemmas.Option.{none-some, same_Some}
+use Rattle.std.proofs.Common.{◌≡◌, ℕ, ◌+◌, ◌^◌, ◌<◌, ◌≤◌, zero, suc, inl, inr, ◌++◌, ◌∷◌, [], List, length, map, slice_get, Some, Contains, string_bytes, refl, sym, ap, ◌∙◌, subst, arith}
+use Rattle.std.proofs.lemmas.List.{length-map, length_push}
+use Rattle.std.proofs.lemmas.Option.{none-some, same_Some, slice_get_within}
+use Rattle.lemmas.proofs.Members.{Contains-from_slice_get}
+use Rattle.lemmas.proofs.Places.{slice_get_push, slice_get_push_cases, keeps_push}
 use Rattle.axioms.specs.Expression.{owl_thing, owl_nothing}
-use Rattle.axioms.specs.Growth.{DeclaresClass, Numbers, empty_ontology, with_class}
+use Rattle.axioms.specs.Growth.{DeclaresClass, IsBounded, Numbers, empty_ontology, most_names, with_axiom, with_class}
 use Rattle.axioms.specs.Kept.{kept_ontology, IsKept}
 use Rattle.axioms.specs.Numbered.{Ontology, Node, Axiom, Class, IsClassAt}
 use Rattle.axioms.specs.View.{node_of, axiom_of}
 use Rattle.axioms.specs.WellFormed.{IsOntology}
 use Rattle.axioms.specs.declared.ids.ExprId.{ExprId}
 use Rattle.axioms.specs.declared.ontology.Ontology.TheInside.{Inside}
-use Rattle.axioms.proofs.Growing.{length_push, new_class_node}
-use Rattle.axioms.proofs.Lists.{slice_get_push, slice_get_push_cases, keeps_push, Contains-from_slice_get}
+use Rattle.axioms.proofs.Growing.{new_class_node}
 use Rattle.axioms.proofs.TwoClasses.{empty_is_ontology}
 
 -- a table of classes has the expression of each
 abbrev pub IsTable : Ontology → List ExprId → Type 0
 IsTable o table = (length table ≡ length o.names.classes) × ((c : ℕ) (e : ExprId) → slice_get table c ≡ Some e → IsClassAt o c e.0)
 
-pub kept_as : (inside : Inside) (o : Ontology) → kept_ontology inside ≡ o → IsOntology o → IsTable o inside.class_expressions.items → IsKept inside
-kept_as inside o is whole table = record {
+pub kept_as : (inside : Inside) (o : Ontology) → kept_ontology inside ≡ o → IsOntology o → IsBounded o → IsTable o inside.class_expressions.items → IsKept inside
+kept_as inside o is whole bounded table = record {
   ontology = subst IsOntology (sym is) whole;
+  bounded = subst IsBounded (sym is) bounded;
   long = table.0 ∙ ap (λ p. length p.names.classes) (sym is) ∙ length-map inside.classes.keys _;
   each = λ c e g. subst (λ p. IsClassAt p c e.0) (sym is) (table.1 c e g);
 }
@@ -63,12 +65,15 @@ same_ontology o p e f g h i =
         → ◌≡◌ {A = Ontology} (record { names = record { classes = cs; properties = ps; individuals = is }; nodes = ns; axioms = xs }) (record { names = record { classes = cs'; properties = ps'; individuals = is' }; nodes = ns'; axioms = xs' })
     parts e f g h i = rw (e, f, g, h, i)
 
+empty_is_bounded : IsBounded empty_ontology
+empty_is_bounded = record { classes = omega arith; properties = omega arith; individuals = omega arith; expressions = omega arith; axioms = omega arith }
+
 -- the fields of the ontology of no statements
 pub empty_kept : (inside : Inside) → map string_bytes inside.classes.keys ≡ owl_thing ∷ owl_nothing ∷ [] → inside.properties.keys ≡ [] → inside.individuals.keys ≡ []
     → map node_of inside.expressions.keys ≡ Class 0 ∷ Class 1 ∷ [] → inside.axioms.items ≡ [] → inside.class_expressions.items ≡ record { 0 = 0 } ∷ record { 0 = 1 } ∷ [] → IsKept inside
 empty_kept inside classes properties individuals nodes axioms table =
     let is = same_ontology (kept_ontology inside) empty_ontology classes (ap (map string_bytes) properties) (ap (map string_bytes) individuals) nodes (ap (map axiom_of) axioms) in
-    kept_as inside empty_ontology is empty_is_ontology (empty_table _ table)
+    kept_as inside empty_ontology is empty_is_ontology empty_is_bounded (empty_table _ table)
 
 -- a name that was not there has the next number
 pub next_number : {X : Type 0} (old : List X) (x : X) (new : List X) (n : ℕ) → Numbers old x new n → (Contains old x → ⊥) → (n ≡ length old) × (new ≡ old ++ x ∷ [])
@@ -84,6 +89,31 @@ class_grown o whole iri absent classes nodes n place named stated =
     let fresh : Contains o.nodes (Class n) → ⊥ = λ there. new_class_node o whole (subst (λ m. Contains o.nodes (Class m)) a.0 there) in
     let b = next_number o.nodes (Class n) nodes place stated fresh in
     (a.0, b.0, same_ontology _ (with_class o iri) a.1 refl refl (b.1 ∙ ap (λ m. o.nodes ++ Class m ∷ []) a.0) refl)
+
+-- an ontology with one more class is bounded where there was room for it
+pub bounded_with_class : (o : Ontology) (iri : List ℕ) → IsBounded o → length o.names.classes < most_names → length o.nodes < 2 ^ 32 → IsBounded (with_class o iri)
+bounded_with_class o iri bounded room place = record {
+  classes = omega (arith, length_push o.names.classes iri);
+  properties = bounded.properties;
+  individuals = bounded.individuals;
+  expressions = omega (arith, length_push o.nodes (Class (length o.names.classes)));
+  axioms = bounded.axioms;
+}
+
+-- .. or with one more axiom
+pub bounded_with_axiom : (o : Ontology) (axiom' : Axiom) → IsBounded o → length o.axioms + 1 < 2 ^ 32 → IsBounded (with_axiom o axiom')
+bounded_with_axiom o axiom' bounded room = record {
+  classes = bounded.classes;
+  properties = bounded.properties;
+  individuals = bounded.individuals;
+  expressions = bounded.expressions;
+  axioms = omega (arith, length_push o.axioms axiom');
+}
+
+-- what has a number in a list that has x at most once more is below its length
+pub number_below : {X : Type 0} (old : List X) (x : X) (new : List X) (n : ℕ) → Numbers old x new n → (n < length new) × (length new ≤ length old + 1)
+number_below old x new n (inl (at, same)) = (slice_get_within new n x (subst (λ xs. slice_get xs n ≡ Some x) (sym same) at), omega (arith, ap length same))
+number_below old x new n (inr (apart, at, longer)) = (omega (arith, ap length longer, length_push old x), omega (arith, ap length longer, length_push old x))
 
 -- what a declaration of a class says where the name is there ..
 pub declares_present : (o : Ontology) (iri : List ℕ) (class place : ℕ) → slice_get o.names.classes class ≡ Some iri → IsClassAt o class place → DeclaresClass o iri o class place
@@ -101,4 +131,4 @@ declares_new o whole iri absent new class place class-is place-is is = subst (λ
 -- fields that stand for the same as those of an ontology
 pub copy_kept : (from copy : Inside) → IsKept from → kept_ontology copy ≡ kept_ontology from → copy.class_expressions.items ≡ from.class_expressions.items → IsKept copy
 copy_kept from copy kept same table =
-    kept_as copy (kept_ontology from) same kept.ontology (subst (IsTable (kept_ontology from)) (sym table) (table_of from kept))
+    kept_as copy (kept_ontology from) same kept.ontology kept.bounded (subst (IsTable (kept_ontology from)) (sym table) (table_of from kept))

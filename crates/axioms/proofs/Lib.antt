@@ -1,4 +1,4 @@
-pub mod Lists
+pub mod Clones
 pub mod Trees
 pub mod FourClasses
 pub mod Counted

@@ -1,18 +1,18 @@
 -- Statements determine the ontology that is kept for them.
-use Rattle.std.proofs.Common.{◌≡◌, ℕ, zero, suc, ◌+◌, ◌<◌, ◌≤◌, List, [], ◌∷◌, ◌++◌, length, map, slice_get, Some, All, refl, sym, ap, ap₂, ◌∙◌, subst, arith, length-append}
+use Rattle.std.proofs.Common.{◌≡◌, ℕ, zero, suc, ◌<◌, ◌≤◌, List, [], ◌∷◌, length, map, slice_get, Some, All, refl, sym, ap, ap₂, ◌∙◌, subst, arith}
 use Rattle.std.specs.Option.{unwrap_or}
 use Rattle.std.specs.List.{filter_map}
 use Rattle.std.proofs.lemmas.Option.{slice_get_within}
 use Rattle.std.proofs.lemmas.List.{length-map}
 use Rattle.std.proofs.lemmas.List.Elements.{All-head, All-tail, All-weaker}
+use Rattle.lemmas.proofs.Places.{slice_get_there}
 use Rattle.axioms.specs.Expression.{Iri, ClassExpression, Operands, Named, Intersection, SomeValues, operand_list}
-use Rattle.axioms.specs.Numbered.{Ontology, Names, Axiom, Node, Class, And, Exists, SubClass, EquivalentClasses, DisjointClasses, SubProperty, EquivalentProperties, Domain, Transitive, Reflexive, ClassAssertion, PropertyAssertion, name_at, tree_at, tree_of, trees_from, trees, intersection, operands_of, expression, property_name, individual_name, axiom_tree, axiom_trees}
+use Rattle.axioms.specs.Numbered.{Ontology, Names, Axiom, Node, Class, And, Exists, SubClass, EquivalentClasses, DisjointClasses, SubProperty, EquivalentProperties, Domain, Transitive, Reflexive, ClassAssertion, PropertyAssertion, name_at, tree_at, tree_of, trees, intersection, operands_of, expression, property_name, individual_name, axiom_tree, axiom_trees}
 use Rattle.axioms.specs.Numbering.{class_name}
 use Rattle.axioms.specs.Theorems.{StatementsDetermineOntology}
 use Rattle.axioms.specs.WellFormed.{AreDistinct, IsNodeOf, IsAxiomOf, IsOntology}
 use Rattle.axioms.proofs.Keeping.{same_ontology}
-use Rattle.axioms.proofs.Lists.{slice_get_there}
-use Rattle.axioms.proofs.Trees.{node_tree}
+use Rattle.axioms.proofs.Trees.{node_tree, length_trees}
 
 -- below a bound, a number is determined by what it stands for
 abbrev Determined : {X : Type 0} → (ℕ → X) → ℕ → Type 0
@@ -108,15 +108,6 @@ pub expression_determined : (o : Ontology) → IsOntology o → Determined (expr
 expression_determined o whole = expression_below o whole (length o.nodes) (omega arith)
 
 -- ---- the nodes of two ontologies with the same names and trees
-
-length_trees_from : (names : Names) (ts : List ClassExpression) (nodes : List Node) → length (trees_from names ts nodes) ≡ length ts + length nodes
-length_trees_from names ts [] = omega arith
-length_trees_from names ts (node ∷ nodes) =
-    let t = tree_of names ts node in
-    omega (arith, length_trees_from names (ts ++ t ∷ []) nodes, length-append ts (t ∷ []))
-
-length_trees : (o : Ontology) → length (trees o) ≡ length o.nodes
-length_trees o = omega (arith, length_trees_from o.names [] o.nodes)
 
 same_by_place : {X : Type 0} (xs ys : List X) → length xs ≡ length ys → ((n : ℕ) (x y : X) → slice_get xs n ≡ Some x → slice_get ys n ≡ Some y → x ≡ y) → xs ≡ ys
 same_by_place [] [] l h = refl

@@ -1,5 +1,5 @@
 -- How an ontology grows: by a name, an expression or an axiom at a time.
-use Rattle.std.specs.Prelude.{◌≡◌, ℕ, ◌≤◌, ◌⊎◌, List, [], ◌∷◌, ◌++◌, length, slice_get, Some}
+use Rattle.std.specs.Prelude.{◌≡◌, ℕ, ◌<◌, ◌≤◌, ◌^◌, ◌⊎◌, List, [], ◌∷◌, ◌++◌, length, slice_get, Some}
 use Rattle.std.specs.List.{Contains}
 use Rattle.axioms.specs.declared.terms.Kind.{Kind}
 use Rattle.axioms.specs.declared.terms.Kind.TheVariants as kinds
@@ -23,6 +23,14 @@ Numbers old x new n = ((slice_get old n ≡ Some x) × (new ≡ old)) ⊎ ((Cont
 -- the most names that a kind may have
 abbrev pub most_names : ℕ
 most_names = 1000000
+
+-- expressions have the numbers from 0 and axioms those from 1, all below 2 ^ 32
+pub record IsBounded (o : Ontology) : Type 0 where
+  pub classes : length o.names.classes ≤ most_names
+  pub properties : length o.names.properties ≤ most_names
+  pub individuals : length o.names.individuals ≤ most_names
+  pub expressions : length o.nodes ≤ 2 ^ 32
+  pub axioms : length o.axioms < 2 ^ 32
 
 -- a kind with these names has no room for that one
 abbrev pub IsFull : List Iri → Iri → Type 0

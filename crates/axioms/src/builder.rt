@@ -5,10 +5,11 @@ ghost use Rattle.axioms.specs.Growth.{empty_ontology, names_of, Numbers, IsFull,
 ghost use Rattle.axioms.specs.View.{axiom_of, node_of};
 ghost use Rattle.axioms.specs.WellFormed.{IsAxiomOf, IsNodeOf, IsOntology};
 
-use crate::fault::{BuildFault, Memory};
+use crate::fault::BuildFault;
 use crate::ids::ExprId;
 use crate::ontology::Ontology;
 use crate::terms::{Axiom, Expr, Kind, Name};
+use device::Memory;
 use std::alloc::Global;
 use std::hash::RandomState;
 use std::marker::Model;
@@ -67,7 +68,8 @@ impl Builder {
     /// # Errors
     ///
     /// `TooManyNames` where the name is new and the kind has [`MOST_NAMES`](crate::MOST_NAMES) names, and `Memory` where memory
-    /// was refused. Either changes nothing.
+    /// was refused, or a new class would be an expression past [`MOST_EXPRESSIONS`](crate::MOST_EXPRESSIONS). Either changes
+    /// nothing.
     pub fn declare(&mut self, kind: Kind, iri: &str) -> Result<Name, BuildFault>
         ensures ok { IfOk result (Declares self.old kind iri.now self.new) }
         ensures err { OnErr result (self.new ≡ self.old) }
@@ -88,7 +90,8 @@ impl Builder {
     ///
     /// # Errors
     ///
-    /// `Memory` where memory was refused. Then nothing changes.
+    /// `Memory` where memory was refused, or the ontology has [`MOST_EXPRESSIONS`](crate::MOST_EXPRESSIONS) expressions. Then
+    /// nothing changes.
     pub fn add_expr(&mut self, expr: Expr) -> Result<ExprId, Memory>
         requires { IsNodeOf self.old (length self.old.nodes) (node_of expr) }
         ensures ok { IfOk result (λ e. Numbers self.old.nodes (node_of expr) self.new.nodes e.0) }
@@ -103,7 +106,7 @@ impl Builder {
     ///
     /// # Errors
     ///
-    /// `Memory` where memory was refused. Then nothing changes.
+    /// `Memory` where memory was refused, or the ontology has [`MOST_AXIOMS`](crate::MOST_AXIOMS) axioms. Then nothing changes.
     pub fn add_axiom(&mut self, axiom: Axiom) -> Result<(), Memory>
         requires { IsAxiomOf self.old (axiom_of «axiom») }
         ensures ok { OnOk result (self.new ≡ with_axiom self.old (axiom_of «axiom»)) }

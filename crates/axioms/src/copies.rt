@@ -2,10 +2,10 @@
 ghost use Rattle.std.specs.Prelude.{◌≡◌, map, IfOk, string_bytes};
 ghost use Rattle.axioms.specs.View.{axiom_of, node_of};
 
-use crate::fault::Memory;
 use crate::ids::ExprId;
 use crate::ontology::Ontology;
 use crate::terms::{Axiom, Expr};
+use device::Memory;
 use indexmap::IndexSet;
 use std::hash::RandomState;
 

@@ -2,23 +2,8 @@
 ghost use Rattle.std.specs.Prelude.{◌≡◌};
 ghost use Rattle.axioms.specs.declared.fault.BuildFault.TheVariants as faults;
 
+use device::Memory;
 use std::alloc::{AllocError, AllocFailed};
-
-/// A growth of memory was refused.
-#[derive(Clone, Copy, Debug, PartialEq, Eq)]
-pub struct Memory;
-
-impl From<AllocError> for Memory {
-    fn from(_error: AllocError) -> Memory {
-        Memory
-    }
-}
-
-impl<T: Drop> From<AllocFailed<T>> for Memory {
-    fn from(_error: AllocFailed<T>) -> Memory {
-        Memory
-    }
-}
 
 /// Why a name was not declared.
 #[derive(Clone, Copy, Debug, PartialEq, Eq)]

@@ -1,16 +1,17 @@
 //! How an ontology grows: each growth gives the number of what was there, or makes room first and then adds it.
-ghost use Rattle.std.specs.Prelude.{◌≡◌, ◌↔◌, [], ◌∷◌, length, map, Contains, Err, IfOk, OnOk, OnErr, string_bytes};
+ghost use Rattle.std.specs.Prelude.{◌≡◌, ◌<◌, ◌≤◌, ◌↔◌, [], ◌∷◌, length, map, Contains, Err, IfOk, OnOk, OnErr, string_bytes};
 ghost use Rattle.axioms.specs.declared.fault.BuildFault.TheVariants as faults;
-ghost use Rattle.axioms.specs.Growth.{empty_ontology, Numbers, IsFull, DeclaresClass, DeclaresProperty, DeclaresIndividual, with_axiom, with_class};
+ghost use Rattle.axioms.specs.Growth.{empty_ontology, most_names, Numbers, IsFull, DeclaresClass, DeclaresProperty, DeclaresIndividual, with_axiom, with_class};
 ghost use Rattle.axioms.specs.Expression.{owl_thing, owl_nothing};
 ghost use Rattle.axioms.specs.Numbered.{Class};
 ghost use Rattle.axioms.specs.View.{axiom_of, node_of};
 ghost use Rattle.axioms.specs.WellFormed.{IsAxiomOf, IsNodeOf};
 
-use crate::fault::{BuildFault, Memory};
+use crate::fault::BuildFault;
 use crate::ids::{ClassId, ExprId, IndId, PropId};
 use crate::ontology::Ontology;
 use crate::terms::{Axiom, Expr};
+use device::Memory;
 use indexmap::IndexSet;
 use std::alloc::{AllocError, Global};
 use std::hash::RandomState;
@@ -24,25 +25,34 @@ pub const OWL_NOTHING: &str = "http://www.w3.org/2002/07/owl#Nothing";
 /// The most names that a kind may have; `owl:Thing` and `owl:Nothing` count among the classes.
 pub const MOST_NAMES: usize = 1_000_000;
 
+/// The most expressions that an ontology may have, since their numbers are below 2^32. No document of at most 2^28 bytes has as
+/// many.
+pub const MOST_EXPRESSIONS: usize = 4_294_967_296;
+
+/// The most axioms that an ontology may have, since their numbers are from 1 and below 2^32.
+pub const MOST_AXIOMS: usize = 4_294_967_295;
+
 // The number of the name; a new one goes last.
 fn number_of(
     alloc: Global,
     names: &mut IndexSet<String, RandomState>,
     iri: &str,
-) -> Result<usize, BuildFault>
+) -> Result<u32, BuildFault>
+    requires { length names.old.keys ≤ most_names }
+    ensures few { length names.new.keys ≤ most_names }
     ensures ok { IfOk result (λ n. Numbers (map string_bytes names.old.keys) iri.now (map string_bytes names.new.keys) n) }
     ensures err { OnErr result (names.new.keys ≡ names.old.keys) }
     ensures full { (result ≡ Err faults.TooManyNames) ↔ IsFull (map string_bytes names.old.keys) iri.now }
 {
     if let Some(number) = names.get_index_of(iri) {
-        return Ok(number);
+        return Ok(number as u32);
     }
     if names.len() >= MOST_NAMES {
         return Err(BuildFault::TooManyNames);
     }
     let text = String::from_str(alloc, iri)?;
     let (number, _) = names.insert_full(text)?;
-    Ok(number)
+    Ok(number as u32)
 }
 
 // The classes of the standard, in their order.
@@ -114,7 +124,7 @@ impl Ontology {
         ensures full { (result ≡ Err faults.TooManyNames) ↔ IsFull self.old.names.classes iri.now }
     {
         if let Some(number) = self.classes.get_index_of(iri) {
-            return Ok((ClassId(number), self.class_expressions[number]));
+            return Ok((ClassId(number as u32), self.class_expressions[number]));
         }
         if self.classes.len() >= MOST_NAMES {
             return Err(BuildFault::TooManyNames);
@@ -125,39 +135,49 @@ impl Ontology {
 
     // Adds the class and its expression. Room for all of it comes first, so that nothing is half done.
     fn new_class(&mut self, text: String) -> Result<(ClassId, ExprId), Memory>
-        requires { Contains self.old.names.classes (string_bytes text) → ⊥ }
+        requires new { Contains self.old.names.classes (string_bytes text) → ⊥ }
+        requires room { length self.old.names.classes < most_names }
         ensures number { IfOk result (λ r. r.0.0 ≡ length self.old.names.classes) }
         ensures place { IfOk result (λ r. r.1.0 ≡ length self.old.nodes) }
         ensures ok { OnOk result (self.new ≡ with_class self.old (string_bytes text)) }
         ensures err { OnErr result (self.new ≡ self.old) }
     {
+        if self.expressions.len() >= MOST_EXPRESSIONS {
+            return Err(Memory);
+        }
         self.expressions.reserve(1)?;
         self.class_expressions.reserve(1)?;
         let (number, _) = self.classes.insert_full(text)?;
-        let class = ClassId(number);
+        let class = ClassId(number as u32);
         let (place, _) = self.expressions.insert_full(Expr::Class(class)).unwrap();
-        let expr = ExprId(place);
+        let expr = ExprId(place as u32);
         self.class_expressions.push(expr).unwrap();
         Ok((class, expr))
     }
 
-    // The number of the expression, which is added where it is new.
+    // The number of the expression, which is added where it is new and has one.
     pub(crate) fn expression(&mut self, expr: Expr) -> Result<ExprId, Memory>
         requires { IsNodeOf self.old (length self.old.nodes) (node_of expr) }
         ensures ok { IfOk result (λ e. Numbers self.old.nodes (node_of expr) self.new.nodes e.0) }
         ensures others { self.new ≡ record self.old { nodes = self.new.nodes } }
         ensures err { OnErr result (self.new ≡ self.old) }
     {
+        if self.expressions.len() >= MOST_EXPRESSIONS {
+            return Err(Memory);
+        }
         let (number, _) = self.expressions.insert_full(expr)?;
-        Ok(ExprId(number))
+        Ok(ExprId(number as u32))
     }
 
-    // Adds the axiom at the end.
+    // Adds the axiom at the end, where it has a number.
     pub(crate) fn state(&mut self, axiom: Axiom) -> Result<(), Memory>
         requires { IsAxiomOf self.old (axiom_of «axiom») }
         ensures ok { OnOk result (self.new ≡ with_axiom self.old (axiom_of «axiom»)) }
         ensures err { OnErr result (self.new ≡ self.old) }
     {
+        if self.axioms.len() >= MOST_AXIOMS {
+            return Err(Memory);
+        }
         self.axioms.push(axiom)?;
         Ok(())
     }

@@ -1,8 +1,9 @@
-//! Numbers of names and of expressions, each in a type of its own.
+//! Numbers of names and of expressions, each in a type of its own and below 2^32.
+ghost use Rattle.std.specs.Prelude.{◌≡◌};
 
 /// The number of a class name: `owl:Thing` is 0, `owl:Nothing` 1, the others follow by first place.
 #[derive(Clone, Copy, Debug, PartialEq, Eq, PartialOrd, Ord, Hash)]
-pub struct ClassId(pub usize);
+pub struct ClassId(pub u32);
 
 impl ClassId {
     /// `owl:Thing`.
@@ -10,19 +11,47 @@ impl ClassId {
 
     /// `owl:Nothing`.
     pub const NOTHING: ClassId = ClassId(1);
+
+    /// The number, as a place in a list.
+    pub fn index(self) -> usize
+        ensures { result ≡ self.0 }
+    {
+        let ClassId(number) = self;
+        number as usize
+    }
 }
 
 /// The number of an object property name, from 0, by first place.
 #[derive(Clone, Copy, Debug, PartialEq, Eq, PartialOrd, Ord, Hash)]
-pub struct PropId(pub usize);
+pub struct PropId(pub u32);
+
+impl PropId {
+    /// The number, as a place in a list.
+    pub fn index(self) -> usize
+        ensures { result ≡ self.0 }
+    {
+        let PropId(number) = self;
+        number as usize
+    }
+}
 
 /// The number of an individual name, from 0, by first place.
 #[derive(Clone, Copy, Debug, PartialEq, Eq, PartialOrd, Ord, Hash)]
-pub struct IndId(pub usize);
+pub struct IndId(pub u32);
+
+impl IndId {
+    /// The number, as a place in a list.
+    pub fn index(self) -> usize
+        ensures { result ≡ self.0 }
+    {
+        let IndId(number) = self;
+        number as usize
+    }
+}
 
 /// The number of a class expression: `owl:Thing` is 0, `owl:Nothing` 1, each part has a smaller number than the whole.
 #[derive(Clone, Copy, Debug, PartialEq, Eq, PartialOrd, Ord, Hash)]
-pub struct ExprId(pub usize);
+pub struct ExprId(pub u32);
 
 impl ExprId {
     /// The class `owl:Thing`.
@@ -30,4 +59,12 @@ impl ExprId {
 
     /// The class `owl:Nothing`.
     pub const NOTHING: ExprId = ExprId(1);
+
+    /// The number, as a place in a list.
+    pub fn index(self) -> usize
+        ensures { result ≡ self.0 }
+    {
+        let ExprId(number) = self;
+        number as usize
+    }
 }

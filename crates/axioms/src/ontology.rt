@@ -1,5 +1,6 @@
 //! An ontology: names, class expressions and logical axioms by number.
 ghost use Rattle.std.specs.Prelude.{◌<◌, ◌≡◌, ◌↔◌, IfSome, IsSome, MatchOption, Some, length, map, option_map, slice_get, string_bytes, ℕ};
+ghost use Rattle.axioms.specs.Growth.{IsBounded};
 ghost use Rattle.axioms.specs.Numbered.{Class, IsClassAt};
 ghost use Rattle.axioms.specs.View.{axiom_of, node_of, at_number};
 ghost use Rattle.axioms.specs.WellFormed.{IsOntology};
@@ -66,7 +67,7 @@ impl Ontology {
         // Every ontology is well formed.
         ensures valid { IsOntology self.now }
     {
-        self.expressions.get_index(id.0)
+        self.expressions.get_index(id.index())
     }
 
     /// How many expressions there are.
@@ -95,6 +96,13 @@ impl Ontology {
         let _ = &self.alloc;
     }
 
+    /// No ontology holds more than numbers below 2^32 count. This runs nothing.
+    pub fn bounded(&self)
+        ensures { IsBounded self.now }
+    {
+        let _ = &self.alloc;
+    }
+
     /// The axiom of that number, counted from 1 in document order.
     pub fn axiom(&self, number: usize) -> Option<&Axiom>
         ensures { option_map (λ a. axiom_of a.now) result ≡ at_number self.now.axioms number }
@@ -117,6 +125,6 @@ impl Ontology {
         ensures found { IfSome result (λ e. slice_get self.now.nodes e.0 ≡ Some (Class class.0)) }
         ensures only { IsSome result ↔ (class.0 < length self.now.names.classes) }
     {
-        self.class_expressions.get(class.0).copied()
+        self.class_expressions.get(class.index()).copied()
     }
 }

@@ -1,25 +1,15 @@
 -- Ascending numbers with one more.
-use Rattle.std.proofs.Common.{◌≡◌, ℕ, zero, suc, ◌+◌, ◌<◌, ◌≤◌, List, [], ◌∷◌, ◌++◌, length, get_or, take, drop, All, AllPairs, Contains, refl, sym, ap, ◌∙◌, subst, arith, inl, inr, ◌⊎◌}
+use Rattle.std.proofs.Common.{◌≡◌, ℕ, zero, suc, ◌+◌, ◌<◌, ◌≤◌, List, [], ◌∷◌, length, get_or, All, AllPairs, refl, sym, ap, arith, inl, inr}
 use Rattle.std.specs.List.{insert}
 use Rattle.std.specs.List.Sorted.{IsStrictlyIncreasing}
-use Rattle.std.proofs.lemmas.Bool.{cases_eq, cases_lt, cases_order, lt-ltb, le-ltb, eq-eqb, ne_eqb}
+use Rattle.std.proofs.lemmas.Bool.{cases_lt, cases_order, lt-ltb, le-ltb, eq-eqb, ne_eqb}
 use Rattle.std.proofs.lemmas.List.Elements.{All-nil, All-cons, All-head, All-tail}
-use Rattle.std.proofs.lemmas.List.Kept.{AllPairs-from_increasing}
+use Rattle.std.proofs.lemmas.List.Kept.{AllPairs-from_increasing, AllPairs-cons}
+use Rattle.lemmas.proofs.Pairs.{AllPairs-head, AllPairs-tail}
 use Rattle.interpretation_spec.specs.Numbered.{with_number, AreElements}
 
 abbrev Rises : List ℕ → Type 0
 Rises xs = AllPairs (λ x y. x < y) xs
-
-rest_rises : (x : ℕ) (xs : List ℕ) → Rises (x ∷ xs) → Rises xs
-rest_rises x xs h i j d l k = h (suc i) (suc j) d (omega arith) (omega arith)
-
-first_least : (x : ℕ) (xs : List ℕ) → Rises (x ∷ xs) → All (λ y. x < y) xs
-first_least x xs h k d l = h 0 (suc k) d (omega arith) (omega arith)
-
-rises-cons : (x : ℕ) (xs : List ℕ) → All (λ y. x < y) xs → Rises xs → Rises (x ∷ xs)
-rises-cons x xs all pairs i zero d l k = absurd (omega arith)
-rises-cons x xs all pairs zero (suc j) d l k = all j d (omega arith)
-rises-cons x xs all pairs (suc i) (suc j) d l k = pairs i j d (omega arith) (omega arith)
 
 -- which of the three cases the head is
 data Head (n x : ℕ) (xs : List ℕ) : Type 0 where
@@ -46,14 +36,14 @@ All-with_number P n (x ∷ xs) p h =
     ]
 
 rises-with_number : (n : ℕ) (xs : List ℕ) → Rises xs → Rises (with_number n xs)
-rises-with_number n [] h = rises-cons n [] (All-nil (λ y. n < y)) h
+rises-with_number n [] h = AllPairs-cons (λ a b. a < b) n [] (All-nil (λ y. n < y)) h
 rises-with_number n (x ∷ xs) h =
-    let least = first_least x xs h in
-    let rest = rises-with_number n xs (rest_rises x xs h) in
+    let least = AllPairs-head (λ a b. a < b) x xs h in
+    let rest = rises-with_number n xs (AllPairs-tail (λ a b. a < b) x xs h) in
     elim (head n x xs) [
-      | before l e ↦ rw e (rises-cons n (x ∷ xs) (All-cons (λ y. n < y) x xs l (λ k d b. let m = least k d b in omega arith)) h)
+      | before l e ↦ rw e (AllPairs-cons (λ a b. a < b) n (x ∷ xs) (All-cons (λ y. n < y) x xs l (λ k d b. let m = least k d b in omega arith)) h)
       | here s e ↦ rw e h
-      | after l e ↦ rw e (rises-cons x (with_number n xs) (All-with_number (λ y. x < y) n xs l least) rest)
+      | after l e ↦ rw e (AllPairs-cons (λ a b. a < b) x (with_number n xs) (All-with_number (λ y. x < y) n xs l least) rest)
     ]
 
 increasing : (xs : List ℕ) → Rises xs → IsStrictlyIncreasing xs
@@ -76,8 +66,8 @@ there n (x ∷ xs) zero h l e =
       | after m f ↦ absurd (omega arith)
     ]
 there n (x ∷ xs) (suc k) h l e =
-    let m : x < get_or xs k 0 = first_least x xs h k 0 (omega arith) in
-    let rest = there n xs k (rest_rises x xs h) (omega arith) e in
+    let m : x < get_or xs k 0 = AllPairs-head (λ a b. a < b) x xs h k 0 (omega arith) in
+    let rest = there n xs k (AllPairs-tail (λ a b. a < b) x xs h) (omega arith) e in
     elim (head n x xs) [
       | before b f ↦ absurd (omega arith)
       | here s f ↦ absurd (omega arith)

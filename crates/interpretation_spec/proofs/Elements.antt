@@ -1,17 +1,17 @@
 -- The elements of expressions, level by level.
-use Rattle.std.proofs.Common.{◌≡◌, ℕ, ◌<◌, ◌≤◌, ◌↔◌, List, length, map, get_or, slice_get, Some, Bool, true, All, eqb, sym, ap, ◌∙◌, subst, arith}
-use Rattle.std.specs.List.{list_any, Any}
+use Rattle.std.proofs.Common.{◌≡◌, ℕ, ◌<◌, ◌≤◌, ◌↔◌, List, length, get_or, slice_get, Some, Bool, true, All, eqb, sym, ◌∙◌, subst, arith}
+use Rattle.std.specs.List.{list_any}
 use Rattle.std.proofs.lemmas.Bool.{eq-eqb, eqb-true}
 use Rattle.std.proofs.lemmas.List.{length-map}
 use Rattle.std.proofs.lemmas.List.Elements.{All-map}
 use Rattle.std.proofs.lemmas.List.Folds.{Any-from_list_any, list_any-from_Any}
-use Rattle.axioms.specs.Numbered.{Ontology, Class, And, Exists, IsClassAt, expression, expressions, property_name}
+use Rattle.lemmas.proofs.Mapped.{All-from_map}
+use Rattle.axioms.specs.Numbered.{Ontology, Class, And, Exists, IsClassAt, expression, expressions}
 use Rattle.axioms.specs.WellFormed.{IsOntology}
-use Rattle.axioms.proofs.Lists.{All-from_map}
 use Rattle.axioms.proofs.Trees.{class_tree, some_tree, and_tree}
-use Rattle.interpretation_spec.specs.Interpretation.{Interpretation, IsIn, HasPair}
+use Rattle.interpretation_spec.specs.Interpretation.{IsIn}
 use Rattle.interpretation_spec.specs.Numbered.{NumberedInterpretation, IsNumberedInterpretation, IsMadeFor, members_of, targets_of}
-use Rattle.interpretation_spec.specs.ByName.{is_target, interpretation_of, IsExtension}
+use Rattle.interpretation_spec.specs.ByName.{interpretation_of, IsExtension}
 use Rattle.interpretation_spec.specs.Row.{has}
 use Rattle.interpretation_spec.proofs.Extensions.{in_intersection, each_of_intersection}
 use Rattle.interpretation_spec.proofs.Names.{StandsFor, stands}

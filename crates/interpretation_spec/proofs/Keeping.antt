@@ -1,10 +1,9 @@
 -- What is kept of pairs, after one more.
-use Rattle.std.proofs.Common.{◌≡◌, ◌≢◌, ℕ, ◌<◌, List, [], map, length, get_or, set, if◌then◌else◌, ◌==◌, slice_index_or, refl, sym, ap, ap₂, ◌∙◌, subst, arith, inl, inr}
+use Rattle.std.proofs.Common.{◌≡◌, ◌≢◌, ℕ, ◌<◌, List, [], map, length, get_or, set, if◌then◌else◌, ◌==◌, refl, sym, ap, ap₂, ◌∙◌}
 use Rattle.std.specs.BTreeMap.{BTreeMap}
 use Rattle.std.specs.Global.{Vec}
 use Rattle.std.proofs.lemmas.Bool.{eq-eqb, ne_eqb}
-use Rattle.std.proofs.lemmas.List.{map-set, get_or-map, set-get_or, length-map}
-use Rattle.std.proofs.lemmas.List.{get_or_default}
+use Rattle.std.proofs.lemmas.List.{map-set, get_or-map, set-get_or}
 use Rattle.interpretation_spec.specs.Kept.{kept_targets, kept_pairs}
 use Rattle.interpretation_spec.specs.Numbered.{with_number}
 use Rattle.interpretation_spec.proofs.Tables.{table_set, table_same, get_or-table}

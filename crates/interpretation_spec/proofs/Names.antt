@@ -1,16 +1,16 @@
 -- An interpretation says of each name what is said of its number.
-use Rattle.std.proofs.Common.{◌≡◌, ℕ, zero, suc, ◌+◌, ◌<◌, List, [], ◌∷◌, length, get_or, slice_get, Some, Option, unwrap_or, true, false, refl, sym, ap, ◌∙◌, subst, arith, inl, inr}
+use Rattle.std.proofs.Common.{◌≡◌, ℕ, zero, suc, ◌<◌, List, [], ◌∷◌, length, get_or, slice_get, Some, Option, unwrap_or, false, refl, ap, ◌∙◌, arith, inl, inr}
 use Rattle.std.proofs.lemmas.Bool.{false_from_ne_true, cases_lt}
 use Rattle.std.proofs.lemmas.List.{get_or_past}
 use Rattle.std.proofs.lemmas.Option.{none-some, same_Some}
 use Rattle.std.proofs.lemmas.Slice.Eq.{bytes_eq-Decides}
 use Rattle.std.specs.Str.{bytes_eq}
+use Rattle.lemmas.proofs.Places.{slice_get_there}
 use Rattle.axioms.specs.Expression.{Iri, owl_thing, owl_nothing}
 use Rattle.axioms.specs.Numbered.{Names, Ontology, name_at}
 use Rattle.axioms.specs.WellFormed.{IsOntology, AreDistinct}
-use Rattle.axioms.proofs.Lists.{slice_get_there}
 use Rattle.interpretation_spec.specs.Interpretation.{Interpretation, IsInterpretation}
-use Rattle.interpretation_spec.specs.Numbered.{NumberedInterpretation, IsNumberedInterpretation, IsMadeFor, members_of, targets_of}
+use Rattle.interpretation_spec.specs.Numbered.{NumberedInterpretation, IsNumberedInterpretation, members_of}
 use Rattle.interpretation_spec.specs.ByName.{number_of, is_target, interpretation_of}
 use Rattle.interpretation_spec.specs.Row.{has}
 

@@ -1,22 +1,23 @@
 -- What rows and targets say of axioms, shape by shape.
-use Rattle.std.proofs.Common.{◌≡◌, ℕ, zero, suc, ◌+◌, ◌<◌, ◌≤◌, ◌↔◌, ◌||◌, List, [], ◌∷◌, ◌++◌, length, map, replicate, get_or, slice_get, Some, Bool, true, false, All, AllPairs, eqb, true≢false, refl, sym, ap, ap₂, ◌∙◌, subst, subst₂, arith, inl, inr}
+use Rattle.std.proofs.Common.{◌≡◌, ℕ, zero, suc, ◌<◌, ◌↔◌, List, [], ◌∷◌, ◌++◌, length, map, replicate, get_or, Bool, true, false, All, AllPairs, eqb, true≢false, refl, sym, ap, ap₂, ◌∙◌, subst, subst₂, arith, inl, inr}
 use Rattle.std.specs.List.{list_any}
-use Rattle.std.proofs.lemmas.Bool.{eq-eqb, eqb-true, ne_eqb, or_cases, or_left, or_right, cases_order, cases_lt}
+use Rattle.std.proofs.lemmas.Bool.{eq-eqb, eqb-true, or_cases, or_left, or_right, cases_order, cases_lt}
 use Rattle.std.proofs.lemmas.List.{length-map, get_or-map, get_or_past}
-use Rattle.std.proofs.lemmas.List.Elements.{All-head, All-tail, All-contains}
+use Rattle.std.proofs.lemmas.List.Elements.{All-head, All-tail}
 use Rattle.std.proofs.lemmas.List.Kept.{AllPairs-from_increasing}
 use Rattle.std.proofs.lemmas.Option.{get_or_from_slice_get, slice_get_within}
+use Rattle.std.proofs.lemmas.Simd.{map-map}
+use Rattle.lemmas.proofs.Pairs.{AllPairs-map, AllPairs-from_map, AllPairs-head, AllPairs-tail}
 use Rattle.axioms.specs.Axiom as tree
 use Rattle.axioms.specs.Expression.{ClassExpression}
-use Rattle.axioms.specs.Numbered.{Ontology, expression, property_name, individual_name}
+use Rattle.axioms.specs.Numbered.{Ontology, property_name, individual_name}
 use Rattle.axioms.specs.WellFormed.{IsOntology}
-use Rattle.axioms.proofs.Lists.{AllPairs-map, AllPairs-from_map, same_bools}
-use Rattle.interpretation_spec.specs.Interpretation.{Interpretation, IsIn, IsWithin, IsSame, IsSubProperty, IsSameProperty, HasPath, HasPair, Satisfies}
-use Rattle.interpretation_spec.specs.Numbered.{NumberedInterpretation, IsNumberedInterpretation, IsMadeFor, targets_of}
+use Rattle.interpretation_spec.specs.Interpretation.{Interpretation, IsIn, IsWithin, IsSubProperty, IsSameProperty, HasPath, Satisfies}
+use Rattle.interpretation_spec.specs.Numbered.{NumberedInterpretation, IsNumberedInterpretation, targets_of}
 use Rattle.interpretation_spec.specs.ByName.{is_target, interpretation_of, IsExtension, HasNumberedPath}
 use Rattle.interpretation_spec.specs.Row.{has}
 use Rattle.interpretation_spec.proofs.Names.{StandsFor, stands}
-use Rattle.interpretation_spec.proofs.Elements.{target_within, target_from}
+use Rattle.interpretation_spec.proofs.Elements.{target_within}
 
 -- ---- rows
 
@@ -36,10 +37,6 @@ rows_within i c d r s p q = (
 )
 
 -- ---- pairs of a list
-
-map-map : {A B C : Type 0} (f : B → C) (g : A → B) (xs : List A) → map f (map g xs) ≡ map (λ x. f (g x)) xs
-map-map f g [] = refl
-map-map f g (x ∷ xs) = ap (λ ys. f (g x) ∷ ys) (map-map f g xs)
 
 pub pairs_of_places : {A B : Type 0} (R : B → B → Type 0) (h : A → B) (xs : List A) (d : A) → ((m k : ℕ) → m < k → k < length xs → R (h (get_or xs m d)) (h (get_or xs k d))) → AllPairs R (map h xs)
 pairs_of_places R h xs d p m k e l lk =
@@ -63,12 +60,6 @@ places_of_pairs_twice {A} {B} R f g xs d p = places_of_pairs R (λ (x : A). f (g
 
 abbrev In : List ℕ → ℕ → Type 0
 In ts y = list_any (λ z. eqb z y) ts ≡ true
-
-above : (x : ℕ) (xs : List ℕ) → AllPairs (λ a b. a < b) (x ∷ xs) → All (λ y. x < y) xs
-above x xs h k d l = h 0 (suc k) d (omega arith) (omega arith)
-
-rest : (x : ℕ) (xs : List ℕ) → AllPairs (λ a b. a < b) (x ∷ xs) → AllPairs (λ a b. a < b) xs
-rest x xs h i j d l k = h (suc i) (suc j) d (omega arith) (omega arith)
 
 in_all : (P : ℕ → Type 0) (ts : List ℕ) (y : ℕ) → All P ts → In ts y → P y
 in_all P [] y all h = absurd (true≢false (sym h))
@@ -96,21 +87,21 @@ same_members (x ∷ xs) (y ∷ ys) p q h =
     elim (cases_order x y) [
       | inl e ↦
           let tails : (z : ℕ) → In xs z ↔ In ys z = λ z. (
-            λ m. (let l : x < z = in_all (λ v. x < v) xs z (above x xs p) m in in_rest y z ys (omega arith) ((h z).0 (or_right (eqb x z) (list_any (λ v. eqb v z) xs) m))),
-            λ m. (let l : y < z = in_all (λ v. y < v) ys z (above y ys q) m in in_rest x z xs (omega arith) ((h z).1 (or_right (eqb y z) (list_any (λ v. eqb v z) ys) m))),
+            λ m. (let l : x < z = in_all (λ v. x < v) xs z (AllPairs-head (λ a b. a < b) x xs p) m in in_rest y z ys (omega arith) ((h z).0 (or_right (eqb x z) (list_any (λ v. eqb v z) xs) m))),
+            λ m. (let l : y < z = in_all (λ v. y < v) ys z (AllPairs-head (λ a b. a < b) y ys q) m in in_rest x z xs (omega arith) ((h z).1 (or_right (eqb y z) (list_any (λ v. eqb v z) ys) m))),
           ) in
-          ap₂ (λ a b. a ∷ b) e (same_members xs ys (rest x xs p) (rest y ys q) tails)
+          ap₂ (λ a b. a ∷ b) e (same_members xs ys (AllPairs-tail (λ a b. a < b) x xs p) (AllPairs-tail (λ a b. a < b) y ys q) tails)
       | inr (inl l) ↦
           (let m : In (y ∷ ys) x = (h x).0 (in_head x xs) in
           elim (or_cases (eqb y x) (list_any (λ v. eqb v x) ys) m) [
             | inl e ↦ (let same = eqb-true y x e in absurd (omega arith))
-            | inr k ↦ (let b : y < x = in_all (λ v. y < v) ys x (above y ys q) k in absurd (omega arith))
+            | inr k ↦ (let b : y < x = in_all (λ v. y < v) ys x (AllPairs-head (λ a b. a < b) y ys q) k in absurd (omega arith))
           ])
       | inr (inr l) ↦
           (let m : In (x ∷ xs) y = (h y).1 (in_head y ys) in
           elim (or_cases (eqb x y) (list_any (λ v. eqb v y) xs) m) [
             | inl e ↦ (let same = eqb-true x y e in absurd (omega arith))
-            | inr k ↦ (let b : x < y = in_all (λ v. x < v) xs y (above x xs p) k in absurd (omega arith))
+            | inr k ↦ (let b : x < y = in_all (λ v. x < v) xs y (AllPairs-head (λ a b. a < b) x xs p) k in absurd (omega arith))
           ])
     ]
 

@@ -1,6 +1,5 @@
 -- A finite interpretation by the numbers of an ontology's names.
-use Rattle.std.specs.Prelude.{◌≡◌, ℕ, ◌-◌, ◌<◌, List, [], ◌∷◌, Bool, true, false, if◌then◌else◌, nat_lt, ◌==◌, length, slice_get, slice_set, slice_index_or, replicate, All}
-use Rattle.std.specs.List.{list_any}
+use Rattle.std.specs.Prelude.{◌≡◌, ℕ, ◌-◌, ◌<◌, List, [], ◌∷◌, Bool, true, false, if◌then◌else◌, nat_lt, ◌==◌, length, slice_set, slice_index_or, replicate, All}
 use Rattle.std.specs.List.Sorted.{IsStrictlyIncreasing}
 use Rattle.axioms.specs.Numbered.{Names}
 use Rattle.interpretation_spec.specs.Row.{has}

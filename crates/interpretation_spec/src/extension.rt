@@ -19,7 +19,7 @@ impl Interpretation {
         ensures { IfOk result (λ row. IsExtension (interpretation_of ontology.now.names self.now) (expression_of ontology.now expression.0) row) }
     {
         match ontology.expr(expression) {
-            Some(Expr::Class(class)) => self.classes[class.0].copy(self.alloc),
+            Some(Expr::Class(class)) => self.classes[class.0 as usize].copy(self.alloc),
             Some(Expr::And(operands)) => {
                 let mut row = Row::full(self.alloc, self.size)?;
                 for operand in operands {
@@ -42,6 +42,11 @@ impl Interpretation {
         ensures long { IfOk result (λ row. length row ≡ self.now.size) }
         ensures members { IfOk result (λ row. (x : ℕ) → x < self.now.size → has row x ≡ list_any (has fillers.now) (targets_of self.now property.0 x)) }
     {
-        sources_in(self.alloc, &self.pairs[property.0], self.size, fillers)
+        sources_in(
+            self.alloc,
+            &self.pairs[property.0 as usize],
+            self.size,
+            fillers,
+        )
     }
 }

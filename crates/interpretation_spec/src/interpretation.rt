@@ -78,14 +78,14 @@ impl Interpretation {
     pub fn holders(&self, class: ClassId) -> Option<&Row>
         ensures { option_map (λ row. row.now) result ≡ slice_get self.now.classes class.0 }
     {
-        self.classes.get(class.0)
+        self.classes.get(class.0 as usize)
     }
 
     /// The element of the individual. `None` where there is no such individual.
     pub fn element(&self, individual: IndId) -> Option<usize>
         ensures { result ≡ slice_get self.now.individuals individual.0 }
     {
-        self.individuals.get(individual.0).copied()
+        self.individuals.get(individual.0 as usize).copied()
     }
 
     /// The elements that the property joins `source` to, ascending. `None` where there is no such property or element.
@@ -93,7 +93,7 @@ impl Interpretation {
         ensures { option_map (λ targets. targets.now) result
             ≡ option_and_then (λ sources. slice_get sources source) (slice_get self.now.pairs property.0) }
     {
-        let pairs = self.pairs.get(property.0)?;
+        let pairs = self.pairs.get(property.0 as usize)?;
         if source >= self.size {
             return None;
         }
@@ -110,10 +110,10 @@ impl Interpretation {
         ensures after { OnOk result (self.new ≡ with_individual self.old individual.0 element) }
         ensures refused { IfErr result (λ e. (e ≡ faults.OutOfDomain) × (self.new ≡ self.old)) }
     {
-        if individual.0 >= self.individuals.len() || element >= self.size {
+        if individual.0 as usize >= self.individuals.len() || element >= self.size {
             return Err(InterpretationFault::OutOfDomain);
         }
-        self.individuals[individual.0] = element;
+        self.individuals[individual.0 as usize] = element;
         Ok(())
     }
 
@@ -123,13 +123,13 @@ impl Interpretation {
         ensures after { OnOk result (self.new ≡ with_member self.old class.0 element) }
         ensures refused { IfErr result (λ e. (self.new ≡ self.old) × (e ≡ (if nat_lt class.0 (length self.old.classes) && nat_lt element self.old.size then faults.FixedClass else faults.OutOfDomain))) }
     {
-        if class.0 >= self.classes.len() || element >= self.size {
+        if class.0 as usize >= self.classes.len() || element >= self.size {
             return Err(InterpretationFault::OutOfDomain);
         }
-        if class.0 < 2 {
+        if class.0 <= ClassId::NOTHING.0 {
             return Err(InterpretationFault::FixedClass);
         }
-        let row = &mut self.classes[class.0];
+        let row = &mut self.classes[class.0 as usize];
         row.put(element);
         Ok(())
     }
@@ -145,10 +145,15 @@ impl Interpretation {
         ensures after { OnOk result (self.new ≡ with_pair self.old property.0 source target) }
         ensures refused { IfErr result (λ e. (self.new ≡ self.old) × (e ≡ (if nat_lt property.0 (length self.old.pairs) && nat_lt source self.old.size && nat_lt target self.old.size then faults.Memory else faults.OutOfDomain))) }
     {
-        if property.0 >= self.pairs.len() || source >= self.size || target >= self.size {
+        if property.0 as usize >= self.pairs.len() || source >= self.size || target >= self.size {
             return Err(InterpretationFault::OutOfDomain);
         }
-        put_target(self.alloc, &mut self.pairs[property.0], source, target)?;
+        put_target(
+            self.alloc,
+            &mut self.pairs[property.0 as usize],
+            source,
+            target,
+        )?;
         Ok(())
     }
 }

@@ -7,8 +7,6 @@ mod interpretation;
 mod pairs;
 mod row;
 mod satisfaction;
-#[cfg(test)]
-mod tests;
 mod theory;
 mod words;
 

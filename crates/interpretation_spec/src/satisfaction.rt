@@ -52,7 +52,7 @@ impl Interpretation {
             Axiom::Reflexive(property) => Ok(self.is_reflexive(*property)),
             Axiom::ClassAssertion(class, individual) => {
                 let members = self.extension(ontology, *class)?;
-                Ok(members.contains(self.individuals[individual.0]))
+                Ok(members.contains(self.individuals[individual.0 as usize]))
             }
             Axiom::PropertyAssertion(property, source, target) => {
                 Ok(self.joins(*property, *source, *target))
@@ -118,8 +118,8 @@ impl Interpretation {
         requires target_there { target.0 < length self.now.individuals }
         ensures { result ≡ is_target self.now property.0 (slice_index_or self.now.individuals source.0 0) (slice_index_or self.now.individuals target.0 0) }
     {
-        let target = self.individuals[target.0];
-        self.targets_at(property, self.individuals[source.0])
+        let target = self.individuals[target.0 as usize];
+        self.targets_at(property, self.individuals[source.0 as usize])
             .contains(&target)
     }
 
@@ -232,6 +232,6 @@ impl Interpretation {
         requires element_there { element < self.now.size }
         ensures { result.now ≡ targets_of self.now property.0 element }
     {
-        targets_in(&self.pairs[property.0], element)
+        targets_in(&self.pairs[property.0 as usize], element)
     }
 }

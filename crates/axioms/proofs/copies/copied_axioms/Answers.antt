@@ -1,5 +1,5 @@
 use Rattle.axioms.specs.View.{axiom_of}
-use Rattle.axioms.proofs.Lists.{same_views}
+use Rattle.axioms.proofs.Clones.{same_views}
 use Rattle.axioms.proofs.copies.copied_axioms.Goals as goal
 
 pub returns : goal.returns

@@ -1,5 +1,5 @@
 use Rattle.std.proofs.Common.{string_bytes}
-use Rattle.axioms.proofs.Lists.{same_views}
+use Rattle.axioms.proofs.Clones.{same_views}
 use Rattle.axioms.proofs.copies.copied_names.Goals as goal
 
 pub returns : goal.returns

@@ -1,8 +1,8 @@
 use Rattle.std.proofs.Common.{◌≡◌, inl, string_bytes, refl, sym, arith}
 use Rattle.std.specs.String.{string_eq}
 use Rattle.std.proofs.lemmas.List.{length-map}
+use Rattle.lemmas.proofs.Members.{Contains-from_slice_get}
 use Rattle.axioms.proofs.Insertions.{text_placed, text_absent, inserted, same_text}
-use Rattle.axioms.proofs.Lists.{Contains-from_slice_get}
 use Rattle.axioms.proofs.growth.number_of.Goals as goal
 
 pub returns-in-Some-clause-ok : goal.returns-in-Some-clause-ok

@@ -1,4 +1,4 @@
-use Rattle.std.proofs.Common.{◌≡◌, ℕ, ◌+◌, ◌-◌, List, Bool, ◌++◌, ◌∷◌, [], ap, sym, ◌∙◌, replicate, true, false, arith, inl, inr}
+use Rattle.std.proofs.Common.{◌≡◌, ℕ, ◌+◌, ◌-◌, List, Bool, ◌++◌, ◌∷◌, [], ap, ◌∙◌, replicate, true, false, arith, inl, inr}
 use Rattle.std.proofs.lemmas.Bool.{cases_lt}
 use Rattle.std.proofs.lemmas.List.{replicate_more}
 use Rattle.interpretation_spec.proofs.interpretation.empty_classes.Goals as goal

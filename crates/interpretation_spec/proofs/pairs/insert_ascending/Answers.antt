@@ -1,4 +1,4 @@
-use Rattle.std.proofs.Common.{Ok, Err, sym, ap, ◌∙◌, ◌≡◌, length}
+use Rattle.std.proofs.Common.{Ok, Err, ◌∙◌}
 use Rattle.std.proofs.lemmas.List.Sorted.{searched}
 use Rattle.interpretation_spec.proofs.Ascending.{with_number_there, with_number_inserted, no_descent}
 use Rattle.interpretation_spec.proofs.pairs.insert_ascending.Goals as goal

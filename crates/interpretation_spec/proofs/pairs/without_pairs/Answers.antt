@@ -1,8 +1,5 @@
-use Rattle.std.proofs.Common.{◌≡◌, ℕ, [], List, ap, ap₂, ◌∙◌, ◌++◌, ◌∷◌, None, replicate, map, refl}
+use Rattle.std.proofs.Common.{◌≡◌, ℕ, [], List, ap, ap₂, ◌∙◌, ◌++◌, ◌∷◌, replicate, map, refl}
 use Rattle.std.proofs.lemmas.List.{map_push, replicate_more}
-use Rattle.std.specs.Map.{lookup}
-use Rattle.std.specs.Ordering.{nat_cmp}
-use Rattle.std.specs.BTreeMap.{is_at}
 use Rattle.interpretation_spec.specs.Kept.{kept_pairs, kept_targets}
 use Rattle.interpretation_spec.proofs.Tables.{table_one}
 use Rattle.interpretation_spec.proofs.pairs.without_pairs.Goals as goal

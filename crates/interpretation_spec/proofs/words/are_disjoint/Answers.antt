@@ -1,4 +1,4 @@
-use Rattle.std.proofs.Common.{◌≡◌, ◌<◌, true≢false, sym, refl, arith}
+use Rattle.std.proofs.Common.{true≢false, sym, refl, arith}
 use Rattle.interpretation_spec.proofs.Bits.{disjoint_bits, disjoint_words}
 use Rattle.interpretation_spec.proofs.words.are_disjoint.Goals as goal
 

@@ -1,4 +1,4 @@
-use Rattle.std.proofs.Common.{◌≡◌, ◌<◌, true≢false, sym, refl, arith}
+use Rattle.std.proofs.Common.{true≢false, sym, refl, arith}
 use Rattle.interpretation_spec.proofs.Bits.{within_bits, within_words}
 use Rattle.interpretation_spec.proofs.words.is_within.Goals as goal
 

@@ -1,11 +1,11 @@
 use Rattle.std.proofs.Common.{◌≡◌, ◌<◌, Contains, Some, slice_get, length, string_bytes, refl, sym, subst, ap, ◌∙◌, arith}
 use Rattle.std.proofs.lemmas.List.{length-map}
+use Rattle.lemmas.proofs.Members.{Contains-from_slice_get}
 use Rattle.axioms.specs.Kept.{kept_ontology}
 use Rattle.axioms.specs.WellFormed.{IsOntology}
 use Rattle.std.proofs.lemmas.Option.{slice_get-get_or}
 use Rattle.axioms.proofs.Keeping.{declares_present, declares_new}
 use Rattle.axioms.proofs.Insertions.{text_placed, text_absent}
-use Rattle.axioms.proofs.Lists.{Contains-from_slice_get}
 use Rattle.axioms.proofs.ontology.Ontology.class.Goals as goal
 
 pub returns-in-Some-clause-ok : goal.returns-in-Some-clause-ok
@@ -28,8 +28,10 @@ returns-then-len-ge-MOST_NAMES-clause-full c =
     rw (← c.self.view_is) (λ h. (absent, omega (arith, length-map c.self.inside.classes.keys string_bytes)), λ full. refl)
 
 pub new_class-requires : goal.new_class-requires
-new_class-requires c =
-    rw (← c.self.view_is, c.in_ok-text.ensures.ok) (text_absent c.args.iri.now c.self.inside.classes.keys (sym c.in_default.ensures.found))
+new_class-requires c = record {
+  new = rw (← c.self.view_is, c.in_ok-text.ensures.ok) (text_absent c.args.iri.now c.self.inside.classes.keys (sym c.in_default.ensures.found));
+  room = rw (← c.self.view_is) (omega (arith, length-map c.self.inside.classes.keys string_bytes));
+}
 
 pub returns-clause-ok : goal.returns-clause-ok
 returns-clause-ok c =

@@ -1,10 +1,12 @@
-use Rattle.std.proofs.Common.{length, map, sym, subst}
+use Rattle.std.proofs.Common.{length, map, sym, subst, arith}
+use Rattle.std.proofs.lemmas.List.{length-map}
 use Rattle.axioms.specs.Growth.{Numbers}
 use Rattle.axioms.specs.Kept.{kept_ontology}
 use Rattle.axioms.specs.View.{node_of}
 use Rattle.axioms.specs.WellFormed.{IsNodeOf}
 use Rattle.axioms.specs.contracts.terms.ExprPartialEq.TheImpl.{ghosts}
 use Rattle.axioms.proofs.Growing.{grown_node, keeps_numbers}
+use Rattle.axioms.proofs.Keeping.{number_below}
 use Rattle.axioms.proofs.Insertions.{inserted, same_expr}
 use Rattle.axioms.proofs.ontology.Ontology.expression.Goals as goal
 use Rattle.axioms.proofs.ontology.Ontology.expression.Goals.{In_ok-number}
@@ -18,6 +20,13 @@ invariant_of-self-2 c =
     let fits = subst (λ p. IsNodeOf p (length p.nodes) (node_of c.args.expr)) (sym c.self.view_is) c.requires in
     record {
       ontology = grown_node o c.self.invariant.ontology (node_of c.args.expr) fits _ c.in_ok-number.number (numbers c);
+      bounded = record {
+        classes = c.self.invariant.bounded.classes;
+        properties = c.self.invariant.bounded.properties;
+        individuals = c.self.invariant.bounded.individuals;
+        expressions = omega (arith, (number_below o.nodes (node_of c.args.expr) _ c.in_ok-number.number (numbers c)).1, length-map c.self.inside.expressions.keys node_of);
+        axioms = c.self.invariant.bounded.axioms;
+      };
       long = c.self.invariant.long;
       each = λ k e g. keeps_numbers o.nodes (node_of c.args.expr) _ c.in_ok-number.number (numbers c) e.0 _ (c.self.invariant.each k e g);
     }

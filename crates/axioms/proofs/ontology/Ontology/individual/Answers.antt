@@ -1,3 +1,5 @@
+use Rattle.std.proofs.Common.{string_bytes, arith}
+use Rattle.std.proofs.lemmas.List.{length-map}
 use Rattle.axioms.specs.Kept.{kept_ontology}
 use Rattle.axioms.proofs.Growing.{grown_individual}
 use Rattle.axioms.proofs.ontology.Ontology.individual.Goals as goal
@@ -5,6 +7,13 @@ use Rattle.axioms.proofs.ontology.Ontology.individual.Goals as goal
 pub invariant_of-self-2 : goal.invariant_of-self-2
 invariant_of-self-2 c = record {
   ontology = grown_individual (kept_ontology c.self.inside) c.self.invariant.ontology c.args.iri.now _ c.in_ok-number.number c.in_ok-number.ensures.ok;
+  bounded = record {
+    classes = c.self.invariant.bounded.classes;
+    properties = c.self.invariant.bounded.properties;
+    individuals = omega (arith, length-map c.number_of.new.names.keys string_bytes, c.in_ok-number.ensures.few);
+    expressions = c.self.invariant.bounded.expressions;
+    axioms = c.self.invariant.bounded.axioms;
+  };
   long = c.self.invariant.long;
   each = c.self.invariant.each;
 }

@@ -1,7 +1,8 @@
-use Rattle.std.proofs.Common.{◌≡◌, ◌++◌, ◌∷◌, [], Contains, Some, slice_get, true, length, map, string_bytes, sym, subst, ap, ◌∙◌}
+use Rattle.std.proofs.Common.{◌≡◌, ◌<◌, ◌++◌, ◌∷◌, [], Contains, Some, slice_get, true, length, map, string_bytes, sym, subst, ap, ◌∙◌, arith}
+use Rattle.std.proofs.lemmas.List.{length-map}
 use Rattle.std.specs.String.{string_eq}
 use Rattle.indexmap.specs.IndexSet.{insert_key}
-use Rattle.axioms.specs.Growth.{Numbers, with_class}
+use Rattle.axioms.specs.Growth.{Numbers, most_names, with_class}
 use Rattle.axioms.specs.Kept.{kept_ontology}
 use Rattle.axioms.specs.Numbered.{Class}
 use Rattle.axioms.specs.View.{node_of}
@@ -10,7 +11,7 @@ use Rattle.axioms.specs.declared.terms.Expr.{Expr}
 use Rattle.axioms.specs.declared.terms.Expr.TheVariants as exprs
 use Rattle.axioms.proofs.Growing.{with_class_is}
 use Rattle.axioms.proofs.Insertions.{inserted, same_text, same_expr}
-use Rattle.axioms.proofs.Keeping.{kept_as, table_of, grown_table, class_grown}
+use Rattle.axioms.proofs.Keeping.{bounded_with_class, kept_as, table_of, grown_table, class_grown}
 use Rattle.axioms.proofs.ontology.Ontology.new_class.Goals as goal
 use Rattle.axioms.proofs.ontology.Ontology.new_class.Goals.{After-unwrap}
 
@@ -28,7 +29,7 @@ stated c =
     rw (← c.in_ok-reserve.ensures.keys) (inserted ghosts.eq node_of same_expr (expr_of c) c.reserve.new.self.keys _ c.unwrap-place.result.0 keys found)
 
 absent : (c : After-unwrap) → Contains (map string_bytes c.self.inside.classes.keys) (string_bytes c.args.text) → ⊥
-absent c = subst (λ o. Contains o.names.classes (string_bytes c.args.text) → ⊥) (sym c.self.view_is) c.requires
+absent c = subst (λ o. Contains o.names.classes (string_bytes c.args.text) → ⊥) (sym c.self.view_is) c.requires.new
 
 table_is : (c : After-unwrap) → c.push.new.self.items ≡ c.self.inside.class_expressions.items ++ record { 0 = c.unwrap-place.result.0 } ∷ []
 table_is c = let pushed = rw c.unwrap.ensures at c.push.ensures.items in pushed ∙ ap (λ es. es ++ record { 0 = c.unwrap-place.result.0 } ∷ []) c.in_ok-reserve-2.ensures.items
@@ -44,7 +45,8 @@ invariant_of-self-2 c =
     let o = kept_ontology c.self.inside in
     let iri = string_bytes c.args.text in
     let table = grown_table o iri c.self.inside.class_expressions.items (record { 0 = c.unwrap-place.result.0 }) (table_of c.self.inside c.self.invariant) (grown c).1 in
-    kept_as _ (with_class o iri) (grown c).2 (with_class_is o c.self.invariant.ontology iri (absent c)) (rw (table_is c) table)
+    kept_as _ (with_class o iri) (grown c).2 (with_class_is o c.self.invariant.ontology iri (absent c))
+    (bounded_with_class o iri c.self.invariant.bounded (subst (λ p. length p.names.classes < most_names) (sym c.self.view_is) c.requires.room) (omega (arith, length-map c.self.inside.expressions.keys node_of))) (rw (table_is c) table)
 
 pub returns-clause-number : goal.returns-clause-number
 returns-clause-number c = rw (← c.self.view_is) (grown c).0

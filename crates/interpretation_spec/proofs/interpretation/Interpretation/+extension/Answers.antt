@@ -1,14 +1,15 @@
-use Rattle.std.proofs.Common.{◌≡◌, ◌<◌, ◌+◌, ◌↔◌, ℕ, List, [], Bool, Some, None, true, All, get_or, take, sym, ap, ◌∙◌, subst, length, map, arith, slice_get}
+use Rattle.std.proofs.Common.{◌≡◌, ◌<◌, ℕ, List, [], Bool, Some, All, sym, ap, ◌∙◌, subst, length, arith}
 use Rattle.std.specs.List.{list_any}
 use Rattle.std.proofs.lemmas.Bool.{and_parts, and_from}
 use Rattle.std.proofs.lemmas.List.{get_or_default, take_all}
 use Rattle.std.proofs.lemmas.List.Elements.{All-more, All-map}
 use Rattle.std.proofs.lemmas.Option.{none-some}
 use Rattle.std.proofs.lemmas.Result.{IfOk-weaker}
+use Rattle.lemmas.proofs.Mapped.{All-from_map}
+use Rattle.lemmas.proofs.Places.{slice_get_there}
 use Rattle.axioms.specs.declared.ids.ExprId.{ExprId}
 use Rattle.axioms.specs.View.{expr_numbers, node_of}
 use Rattle.axioms.specs.Numbered.{Class, And, Exists, expression}
-use Rattle.axioms.proofs.Lists.{slice_get_there, All-from_map}
 use Rattle.interpretation_spec.specs.Interpretation.{IsIn}
 use Rattle.interpretation_spec.specs.Numbered.{NumberedInterpretation, IsNumberedInterpretation, members_of, targets_of}
 use Rattle.interpretation_spec.specs.ByName.{IsExtension, interpretation_of}

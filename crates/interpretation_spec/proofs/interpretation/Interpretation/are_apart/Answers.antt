@@ -1,10 +1,10 @@
-use Rattle.std.proofs.Common.{◌≡◌, ◌<◌, ◌+◌, ℕ, List, Bool, true, false, All, AllPairs, sym, ap, ◌∙◌, subst, length, get_or, refl, true≢false, arith, inl, inr}
+use Rattle.std.proofs.Common.{◌≡◌, ◌<◌, ℕ, sym, ◌∙◌, subst, length, get_or, refl, true≢false, arith, inl, inr}
 use Rattle.std.proofs.lemmas.Bool.{cases_lt, false_from_ne_true, or_cases, or_left, or_right}
+use Rattle.lemmas.proofs.Mapped.{All-from_map}
 use Rattle.axioms.specs.declared.ids.ExprId.{ExprId}
 use Rattle.axioms.specs.Numbered.{expression}
-use Rattle.axioms.proofs.Lists.{All-from_map}
 use Rattle.interpretation_spec.specs.Interpretation.{IsIn, IsApart}
-use Rattle.interpretation_spec.specs.ByName.{IsExtension, interpretation_of}
+use Rattle.interpretation_spec.specs.ByName.{interpretation_of}
 use Rattle.interpretation_spec.specs.Row.{has}
 use Rattle.interpretation_spec.proofs.Names.{size_of}
 use Rattle.interpretation_spec.proofs.Shapes.{member_below, pairs_of_places_twice, places_of_pairs_twice}

@@ -1,8 +1,7 @@
-use Rattle.std.proofs.Common.{◌≡◌, ◌<◌, ◌+◌, ◌||◌, ℕ, List, Bool, true, false, eqb, sym, ap, ◌∙◌, subst, length, replicate, true≢false, below_more, arith, inl, inr}
+use Rattle.std.proofs.Common.{◌≡◌, ◌<◌, ℕ, List, Bool, true, false, eqb, sym, ap, ◌∙◌, subst, length, true≢false, below_more, arith, inl, inr}
 use Rattle.std.specs.List.{list_any}
-use Rattle.std.proofs.lemmas.Bool.{cases_lt, or_right, or_cases}
+use Rattle.std.proofs.lemmas.Bool.{or_right, or_cases}
 use Rattle.std.proofs.lemmas.List.{length-replicate}
-use Rattle.interpretation_spec.specs.ByName.{is_target}
 use Rattle.interpretation_spec.specs.Row.{has}
 use Rattle.interpretation_spec.proofs.Shapes.{member_below, empty_row}
 use Rattle.interpretation_spec.proofs.interpretation.Interpretation.is_sub_property.Goals as goal

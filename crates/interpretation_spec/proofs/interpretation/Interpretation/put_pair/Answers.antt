@@ -1,9 +1,9 @@
-use Rattle.std.proofs.Common.{◌≡◌, ◌<◌, ℕ, List, Some, sym, ap, ◌∙◌, subst, length, arith, refl, get_or, map}
+use Rattle.std.proofs.Common.{◌<◌, ℕ, List, sym, ap, subst, length, arith, refl, map}
 use Rattle.std.proofs.lemmas.Bool.{lt-ltb}
 use Rattle.std.proofs.lemmas.List.{length-map}
 use Rattle.std.proofs.lemmas.Result.{err_from_is_err_and}
-use Rattle.interpretation_spec.specs.Kept.{kept_targets, kept_pairs, kept_interpretation}
-use Rattle.interpretation_spec.specs.Numbered.{NumberedInterpretation, IsNumberedInterpretation, AreElements, with_pair}
+use Rattle.interpretation_spec.specs.Kept.{kept_pairs, kept_interpretation}
+use Rattle.interpretation_spec.specs.Numbered.{IsNumberedInterpretation, AreElements}
 use Rattle.interpretation_spec.proofs.Keeping.{targets, same_view, more_view}
 use Rattle.interpretation_spec.proofs.Wholes.{IsNumbered-with_pair}
 use Rattle.interpretation_spec.proofs.interpretation.Interpretation.put_pair.Goals as goal

@@ -1,10 +1,10 @@
-use Rattle.std.proofs.Common.{◌≡◌, ◌<◌, ◌+◌, ◌↔◌, ℕ, List, [], ◌∷◌, ◌++◌, true, All, sym, ap, ◌∙◌, subst, length, get_or, take, arith}
+use Rattle.std.proofs.Common.{◌<◌, ℕ, List, sym, subst, length, get_or, take}
 use Rattle.std.proofs.lemmas.List.{map_more}
+use Rattle.lemmas.proofs.Mapped.{All-from_map}
 use Rattle.axioms.specs.declared.ids.PropId.{PropId}
 use Rattle.axioms.specs.View.{prop_numbers}
-use Rattle.axioms.proofs.Lists.{All-from_map}
 use Rattle.interpretation_spec.specs.ByName.{HasNumberedPath}
-use Rattle.interpretation_spec.proofs.Shapes.{path_more, member_below}
+use Rattle.interpretation_spec.proofs.Shapes.{path_more}
 use Rattle.interpretation_spec.proofs.interpretation.Interpretation.reached.Goals as goal
 
 pub successors-requires : goal.successors-requires

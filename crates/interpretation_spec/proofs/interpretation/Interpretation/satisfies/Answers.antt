@@ -1,8 +1,8 @@
-use Rattle.std.proofs.Common.{◌≡◌, ◌<◌, ℕ, [], ◌∷◌, sym, ap, ◌∙◌, subst, length, get_or, refl, arith}
+use Rattle.std.proofs.Common.{◌<◌, ℕ, [], ◌∷◌, sym, ap, ◌∙◌, subst, length, get_or, arith}
 use Rattle.std.proofs.lemmas.List.{get_or_default}
 use Rattle.std.proofs.lemmas.List.Elements.{All-cons, All-nil}
-use Rattle.axioms.specs.Numbered.{expression, property_name}
-use Rattle.axioms.specs.View.{expr_numbers, prop_numbers}
+use Rattle.axioms.specs.Numbered.{expression}
+use Rattle.axioms.specs.View.{prop_numbers}
 use Rattle.interpretation_spec.specs.Numbered.{NumberedInterpretation, IsNumberedInterpretation}
 use Rattle.interpretation_spec.specs.Row.{has}
 use Rattle.interpretation_spec.proofs.Steps.{said_by}

@@ -1,6 +1,6 @@
 use Rattle.std.proofs.Common.{◌≡◌, ◌<◌, ℕ, List, Some, sym, ap, ◌∙◌, length, slice_get, option_and_then, arith}
 use Rattle.std.proofs.lemmas.Option.{slice_get-get_or}
-use Rattle.axioms.proofs.Lists.{slice_get_map}
+use Rattle.lemmas.proofs.Mapped.{slice_get_map}
 use Rattle.interpretation_spec.specs.Kept.{kept_targets, kept_pairs}
 use Rattle.interpretation_spec.proofs.Tables.{slice_get-table}
 use Rattle.interpretation_spec.proofs.interpretation.Interpretation.targets.Goals as goal

@@ -1,4 +1,4 @@
-use Rattle.std.proofs.Common.{◌≡◌, ◌<◌, ℕ, sym, ap, ◌∙◌, length, arith}
+use Rattle.std.proofs.Common.{◌<◌, sym, ap, ◌∙◌, length, arith}
 use Rattle.std.proofs.lemmas.List.{length-map}
 use Rattle.interpretation_spec.specs.Numbered.{NumberedInterpretation, targets_of}
 use Rattle.interpretation_spec.specs.Kept.{kept_pairs}

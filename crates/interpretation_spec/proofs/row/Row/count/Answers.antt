@@ -1,4 +1,4 @@
-use Rattle.std.proofs.Common.{◌≡◌, ◌≤◌, ℕ, List, Bool, length, count_by, ap, ◌∙◌, arith}
+use Rattle.std.proofs.Common.{◌≤◌, Bool, length, count_by, ap, ◌∙◌, arith}
 use Rattle.std.proofs.lemmas.List.{take_all}
 use Rattle.interpretation_spec.proofs.Bits.{length_bits}
 use Rattle.interpretation_spec.proofs.row.Row.count.Goals as goal

@@ -1,4 +1,4 @@
-use Rattle.std.proofs.Common.{◌≡◌, ◌<◌, ℕ, true, false, length, replicate, sym, ◌∙◌, arith}
+use Rattle.std.proofs.Common.{◌<◌, true, false, replicate, sym, ◌∙◌, arith}
 use Rattle.std.proofs.lemmas.List.{same_lists, length-replicate, get_or-replicate, get_or_default}
 use Rattle.interpretation_spec.proofs.row.Row.full.Goals as goal
 

@@ -1,8 +1,8 @@
-use Rattle.std.proofs.Common.{◌≡◌, ◌<◌, ℕ, List, Bool, ◌&&◌, bit_and, bit_or, bit_xor, length, get_or, refl, sym, ap, ap₂, ◌∙◌, subst, arith}
+use Rattle.std.proofs.Common.{◌≡◌, ℕ, List, Bool, ◌&&◌, bit_and, length, get_or, refl, sym, ap, ap₂, ◌∙◌, subst, arith}
 use Rattle.std.proofs.lemmas.List.{with_items_is}
 use Rattle.interpretation_spec.specs.Row.{has}
 use Rattle.interpretation_spec.specs.Words.{bits_of, IsRow}
-use Rattle.interpretation_spec.proofs.Bits.{length_bits, as_many_words, Combined, combined, and_bit}
+use Rattle.interpretation_spec.proofs.Bits.{length_bits, as_many_words, combined, and_bit}
 use Rattle.interpretation_spec.proofs.row.Row.intersect.Goals as goal
 
 pub intersect_words-requires : goal.intersect_words-requires

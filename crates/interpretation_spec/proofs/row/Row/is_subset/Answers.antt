@@ -1,4 +1,4 @@
-use Rattle.std.proofs.Common.{◌≡◌, ℕ, length, sym, ap, ◌∙◌, arith}
+use Rattle.std.proofs.Common.{◌≡◌, length, sym, ap, ◌∙◌, arith}
 use Rattle.interpretation_spec.proofs.Bits.{has_bits, length_bits, as_many_words}
 use Rattle.interpretation_spec.proofs.row.Row.is_subset.Goals as goal
 

@@ -1,5 +1,5 @@
 use Rattle.interpretation_spec.specs.Words.{bit_of}
-use Rattle.std.proofs.Common.{false, ℕ}
+use Rattle.std.proofs.Common.{false}
 use Rattle.interpretation_spec.proofs.Bits.{no_bits}
 use Rattle.interpretation_spec.proofs.Tables.{table_one}
 use Rattle.interpretation_spec.proofs.row.Row.new.Goals as goal

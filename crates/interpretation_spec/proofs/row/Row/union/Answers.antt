@@ -1,8 +1,8 @@
-use Rattle.std.proofs.Common.{◌≡◌, ◌<◌, ℕ, List, Bool, ◌||◌, bit_and, bit_or, bit_xor, length, get_or, refl, sym, ap, ap₂, ◌∙◌, subst, arith}
+use Rattle.std.proofs.Common.{◌≡◌, ℕ, List, Bool, ◌||◌, bit_or, length, get_or, refl, sym, ap, ap₂, ◌∙◌, subst, arith}
 use Rattle.std.proofs.lemmas.List.{with_items_is}
 use Rattle.interpretation_spec.specs.Row.{has}
 use Rattle.interpretation_spec.specs.Words.{bits_of, IsRow}
-use Rattle.interpretation_spec.proofs.Bits.{length_bits, as_many_words, Combined, combined, or_bit}
+use Rattle.interpretation_spec.proofs.Bits.{length_bits, as_many_words, combined, or_bit}
 use Rattle.interpretation_spec.proofs.row.Row.union.Goals as goal
 
 pub union_words-requires : goal.union_words-requires
