@@ -6,12 +6,12 @@ ghost use Rattle.std.specs.Io.KnownBytes.{IsAtEnd};
 ghost use Rattle.std.specs.Prelude.{◌≡◌, ◌≤◌, IfErr, IfOk, IsErrOf, OnOk, length};
 
 use crate::fault::DocumentFault;
-use crate::limits::Limits;
 use axioms::Ontology;
 use device::{ReadFault, Source, read_all};
 use fs_lexer::tokens;
 use fs_parser::forms;
 use profile::{Version, accept};
+use program::Limits;
 use std::alloc::Global;
 use std::hash::RandomState;
 use std::str;

@@ -4,36 +4,94 @@ ghost use Rattle.std.specs.Prelude.{◌≡◌};
 use fs_lexer::LexFault;
 use fs_parser::ParseFault;
 use profile::{Fault, Refusal};
+use program::Status;
+use std::error::Error;
 use std::fmt;
-use thiserror::Error;
 
 /// Why a document is not read as an ontology. Places count the bytes before them.
-#[derive(Debug, Drop, Error)]
+#[derive(Debug, Drop)]
 pub enum DocumentFault {
     /// The bytes are not UTF-8: the length of the longest beginning that is.
-    #[error("U1 at byte {at}")]
     NotUtf8 { at: usize },
     /// There are more bytes than the limit.
-    #[error("U2")]
     TooLarge,
     /// The source failed.
-    #[error("U3")]
     Io,
     /// The text spells no tokens.
-    #[error(transparent)]
     Lex(LexFault),
     /// The tokens are no document.
-    #[error(transparent)]
     Parse(ParseFault),
     /// The document has these faults, which are all, in the order of the text.
-    #[error("{}", FaultLines(.0))]
     Faults(Vec<Fault>),
     /// A kind would have more than 1,000,000 names.
-    #[error("A2")]
     TooManyNames,
     /// Memory was refused.
-    #[error("out of memory")]
     Memory,
+}
+
+impl DocumentFault {
+    ghost use Rattle.document.specs.Printed.{status_of};
+
+    /// The status of a program that is stopped by this fault.
+    pub fn status(&self) -> Status
+        ensures { result ≡ status_of self.now }
+    {
+        match self {
+            DocumentFault::TooLarge | DocumentFault::TooManyNames => Status::Limit,
+            DocumentFault::Io => Status::File,
+            DocumentFault::Memory => Status::Memory,
+            DocumentFault::NotUtf8 { .. }
+            | DocumentFault::Lex(_)
+            | DocumentFault::Parse(_)
+            | DocumentFault::Faults(_) => Status::Refused,
+        }
+    }
+}
+
+impl fmt::Display for DocumentFault {
+    ghost use Rattle.std.specs.Prelude.{Some};
+    ghost use Rattle.document.specs.Printed.{fault_text};
+
+    ghost output = { λ fault. Some (fault_text fault) };
+
+    fn fmt<W: fmt::Write>(&self, f: &mut fmt::Formatter<W>) -> fmt::Result {
+        match self {
+            DocumentFault::NotUtf8 { at } => write!(f, "U1 at byte {at}"),
+            DocumentFault::TooLarge => write!(f, "U2"),
+            DocumentFault::Io => write!(f, "U3"),
+            DocumentFault::Lex(fault) => write!(f, "{fault}"),
+            DocumentFault::Parse(fault) => write!(f, "{fault}"),
+            DocumentFault::Faults(found) => match found.split_first() {
+                Some((first, later)) => {
+                    let later = LaterLines(later);
+                    write!(f, "{first}{later}")
+                }
+                None => Ok(()),
+            },
+            DocumentFault::TooManyNames => write!(f, "A2"),
+            DocumentFault::Memory => write!(f, "out of memory"),
+        }
+    }
+}
+
+impl Error for DocumentFault {}
+
+/// Faults behind the first one: each on a line of its own.
+#[derive(Drop)]
+struct LaterLines<'a>(&'a [Fault]);
+
+impl fmt::Display for LaterLines<'_> {
+    ghost use Rattle.std.specs.Prelude.{Some, flat_map};
+    ghost use Rattle.document.specs.Printed.{later_line};
+
+    ghost output = { λ lines. Some (flat_map later_line lines.0.now) };
+
+    fn fmt<W: fmt::Write>(&self, f: &mut fmt::Formatter<W>) -> fmt::Result {
+        for fault in self.0 {
+            write!(f, "\n{fault}")?;
+        }
+        Ok(())
+    }
 }
 
 impl From<LexFault> for DocumentFault {
@@ -73,21 +131,5 @@ impl From<Refusal> for DocumentFault {
             Refusal::TooManyNames => DocumentFault::TooManyNames,
             Refusal::Memory => DocumentFault::Memory,
         }
-    }
-}
-
-/// Faults as they are printed: each on a line of its own.
-#[derive(Drop)]
-struct FaultLines<'a>(&'a Vec<Fault>);
-
-impl fmt::Display for FaultLines<'_> {
-    fn fmt<W: fmt::Write>(&self, f: &mut fmt::Formatter<W>) -> fmt::Result {
-        for (number, fault) in self.0.iter().enumerate() {
-            if number > 0 {
-                writeln!(f)?;
-            }
-            write!(f, "{fault}")?;
-        }
-        Ok(())
     }
 }

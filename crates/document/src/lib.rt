@@ -5,14 +5,11 @@ ghost use Rattle.document.specs.Theorems.{AxiomsTakeBytes, BytesHaveOneFaultList
 
 mod document;
 mod fault;
-mod limits;
-#[cfg(test)]
-mod tests;
 
 pub use document::{read_bytes, read_document};
 pub use fault::DocumentFault;
-pub use limits::{Limits, MOST_BYTES, MOST_FACTS};
 pub use profile::Fault;
+pub use program::{Limits, MOST_BYTES, MOST_FACTS, Status};
 
 /// Bytes read as at most one ontology, and have at most one list of faults.
 pub fn one_ontology_is_read()

@@ -5,9 +5,10 @@ use Rattle.std.specs.List.{list_all}
 use Rattle.std.specs.Char.{is_ascii_alphabetic, is_ascii_digit}
 use Rattle.std.proofs.lemmas.Bool.{and_parts, and_from, or_cases, not-true, false≢true, true≢false, false_from_ne_true, eqb-true}
 use Rattle.std.proofs.lemmas.Option.{none-some, same_Some}
+use Rattle.lemmas.proofs.Choices.{chosen, passed}
 use Rattle.fs_lexer.specs.Spelling.{begins, Kind, Opening, Closing, Equals, Carets, FullIri, Quoted, LanguageTag, Keyword, Integer, PrefixName, ShortName, NodeLabel, IsOfKind, is_run, is_tag_body, is_word_byte, is_iri_byte, is_white, is_line_end, ends_with_word, begins_with_word}
 use Rattle.fs_lexer.specs.Reading.{Found, is_empty, span, string_at, word_kind, of_kind, word_at, tag_at, iri_at, iri_ends, quoted, carets_at, token_at}
-use Rattle.fs_lexer.proofs.Pieces.{chosen, passed, IsSpan, span_takes, span_again, string_takes, string_again, more_pass, Stands}
+use Rattle.fs_lexer.proofs.Pieces.{IsSpan, span_takes, span_again, string_takes, string_again, more_pass, Stands}
 use Rattle.fs_lexer.proofs.Words.{IsWordKind, IsWordRun, letter_in_word, same_in_word, letter_or_digit, word_runs, word_again, word_takes, all_of_run}
 
 pub record IsFound (bytes : List ℕ) (found : Found) : Type 0 where

@@ -5,12 +5,13 @@ use Rattle.std.proofs.lemmas.Bool.Decides.{nat_tests}
 use Rattle.std.proofs.lemmas.Option.{none-some, same_Some}
 use Rattle.std.proofs.lemmas.List.{length-append, length-drop, take-append-drop, append-nil}
 use Rattle.std.proofs.Math.Seq.{take-append_seam}
+use Rattle.lemmas.proofs.Choices.{passed}
 use Rattle.fs_lexer.specs.Spelling.{Token, Kind, Opening, FullIri, Quoted, IsOfKind, is_white, is_word_byte, is_iri_byte, begins, begins_with_word, ends_with_word, SpellsFrom, Spells}
 use Rattle.fs_lexer.specs.Reading.{Found, skip, span, string_at, quoted, iri_ends, word_kind, of_kind, word_at, token_at, AreReadFrom}
 use Rattle.fs_lexer.specs.Faults.{IsRefusal, is_gap_byte, is_quote, is_angle, is_other, BeginsWith, BeginsToken, IsNoWord, IsReached, IsPlaced, IsFault}
 use Rattle.fs_lexer.specs.declared.token.LexFault.{LexFault}
 use Rattle.fs_lexer.specs.declared.token.LexFault.TheVariants.{BadByte, OpenString, OpenIri, WordsTouch, Memory}
-use Rattle.fs_lexer.proofs.Pieces.{passed, skip_again, span_again, Stands}
+use Rattle.fs_lexer.proofs.Pieces.{skip_again, span_again, Stands}
 use Rattle.fs_lexer.proofs.Words.{word_takes}
 use Rattle.fs_lexer.proofs.Fronts.{begins_same, token_again, token_takes, token_stands}
 use Rattle.fs_lexer.proofs.Whole.{spelling_is_reading}

@@ -7,11 +7,12 @@ use Rattle.std.proofs.lemmas.Bool.Decides.{nat_tests}
 use Rattle.std.proofs.lemmas.Option.{none-some}
 use Rattle.std.proofs.lemmas.List.{length-append, append-nil}
 use Rattle.std.proofs.Math.Seq.{drop-append_seam, take-append_seam}
+use Rattle.lemmas.proofs.Choices.{chosen}
 use Rattle.fs_lexer.specs.Spelling.{Token, Opening, FullIri, Quoted, is_white, is_line_end, is_word_byte, is_run, is_separator, is_comment, begins, begins_with_word, ends_with_word, SpellsFrom, Spells}
 use Rattle.fs_lexer.specs.Reading.{skip, skip_comment, span, token_at}
 use Rattle.fs_lexer.specs.Faults.{is_gap_byte, is_quote, is_angle, is_other, BeginsWith, BeginsToken, IsBadByte, IsOpenString, IsOpenIri, IsNoWord, IsPlaced, IsNext}
 use Rattle.fs_lexer.specs.declared.token.LexFault.TheVariants.{BadByte, OpenString, OpenIri, WordsTouch}
-use Rattle.fs_lexer.proofs.Pieces.{chosen, skip_takes, span_takes}
+use Rattle.fs_lexer.proofs.Pieces.{skip_takes, span_takes}
 use Rattle.fs_lexer.proofs.Fronts.{begins_same, last_is, token_again, token_takes}
 use Rattle.fs_lexer.proofs.Whole.{not_empty}
 

@@ -110,10 +110,6 @@ pub ahead_none : (o : Option Found) → None ≡ ahead o → o ≡ None
 ahead_none None e = refl
 ahead_none (Some f) e = absurd (none-some _ e)
 
-pub nothing : (xs : List ℕ) → length xs ≡ 0 → xs ≡ []
-nothing [] e = refl
-nothing (x ∷ xs) e = absurd (omega arith)
-
 pub something : (xs : List ℕ) → 0 < length xs → xs ≡ [] → ⊥
 something xs l e = absurd (omega (arith, ap length e))
 

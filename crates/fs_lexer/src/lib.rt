@@ -25,6 +25,3 @@ pub fn texts_have_one_fault()
     ensures one { (text : List ℕ) (e f : faults.LexFault) → faults.IsFault text e → faults.IsFault text f → e ≡ f }
     ensures none { (text : List ℕ) (e : faults.LexFault) (all : List spelling.Token) → faults.IsFault text e → spelling.Spells text all → ⊥ }
 {}
-
-#[cfg(test)]
-mod tests;

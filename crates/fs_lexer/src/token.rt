@@ -4,7 +4,8 @@ ghost use Rattle.std.specs.Prelude.{◌≡◌};
 ghost use Rattle.fs_lexer.specs.declared.token.LexFault.TheVariants.{Memory};
 
 use std::alloc::{AllocError, AllocFailed};
-use thiserror::Error;
+use std::error::Error;
+use std::fmt;
 
 /// The kinds of tokens of the functional-style syntax.
 #[derive(Clone, Copy, Debug, PartialEq, Eq)]
@@ -45,24 +46,38 @@ pub struct Token<'a> {
 
 /// Why a text spells no tokens, with the byte `at` at which reading stopped. All that stands before it spells tokens, the
 /// next token is to begin there, and none does: what the fault says holds of the bytes from there on.
-#[derive(Clone, Copy, Debug, PartialEq, Eq, Error)]
+#[derive(Clone, Copy, Debug, PartialEq, Eq)]
 pub enum LexFault {
     /// The character begins no token and no separator. Quotes, `<` and word characters have faults of their own.
-    #[error("X1 at byte {at}")]
     BadByte { at: usize },
     /// No quoted string begins at this quote.
-    #[error("X2 at byte {at}")]
     OpenString { at: usize },
     /// No full IRI begins at this `<`.
-    #[error("X3 at byte {at}")]
     OpenIri { at: usize },
     /// The run of word characters that begins here (none stands before it or behind it) is not one word.
-    #[error("X4 at byte {at}")]
     WordsTouch { at: usize },
     /// There was no memory for the tokens.
-    #[error("out of memory")]
     Memory,
 }
+
+impl fmt::Display for LexFault {
+    ghost use Rattle.std.specs.Prelude.{Some};
+    ghost use Rattle.fs_lexer.specs.Printed.{fault_text};
+
+    ghost output = { λ fault. Some (fault_text fault) };
+
+    fn fmt<W: fmt::Write>(&self, f: &mut fmt::Formatter<W>) -> fmt::Result {
+        match self {
+            LexFault::BadByte { at } => write!(f, "X1 at byte {at}"),
+            LexFault::OpenString { at } => write!(f, "X2 at byte {at}"),
+            LexFault::OpenIri { at } => write!(f, "X3 at byte {at}"),
+            LexFault::WordsTouch { at } => write!(f, "X4 at byte {at}"),
+            LexFault::Memory => write!(f, "out of memory"),
+        }
+    }
+}
+
+impl Error for LexFault {}
 
 impl From<AllocError> for LexFault {
     ghost from_gives = { λ _ e. e ≡ Memory };

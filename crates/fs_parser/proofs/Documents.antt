@@ -3,8 +3,9 @@ use Rattle.std.proofs.Common.{◌≡◌, ℕ, zero, suc, ◌+◌, ◌*◌, ◌-�
 use Rattle.std.specs.Prelude.{codes}
 use Rattle.std.specs.List.{Contains}
 use Rattle.std.proofs.lemmas.Bool.{ltb-true}
-use Rattle.std.proofs.lemmas.List.{append_cancel_right, append-nil, length-drop, drop-drop}
-use Rattle.std.proofs.lemmas.List.Elements.{Contains-append_left}
+use Rattle.std.proofs.lemmas.List.{append_cancel_right, append-nil, length-drop, drop-drop, same_from_push, take_rest}
+use Rattle.std.proofs.lemmas.List.Elements.{Contains-append_left, Contains-push_cases}
+use Rattle.lemmas.proofs.Members.{Contains-cons_cases, Contains-none}
 use Rattle.fs_lexer.specs.Spelling.{Token}
 use Rattle.fs_lexer.specs.declared.token.Token as lexer
 use Rattle.fs_parser.specs.Name.{Prefixes, StandForOne, standard_prefixes, IsBracketed}
@@ -15,20 +16,19 @@ use Rattle.fs_parser.specs.State.{Fails, IsRefusal}
 use Rattle.fs_parser.specs.View.{tokens_of}
 use Rattle.fs_parser.specs.declared.fault.ParseFault.{ParseFault}
 use Rattle.fs_parser.specs.declared.fault.ParseFault.TheVariants as faults
-use Rattle.fs_parser.proofs.Names.{Contains-cases, Contains-none}
 use Rattle.fs_parser.proofs.Complete.{one_reading}
-use Rattle.fs_parser.proofs.Steps.{push_cases, same_brackets, take_all}
+use Rattle.fs_parser.proofs.Steps.{same_brackets}
 
 -- ---- what is allowed stands for one IRI
 
 one_more : (known : Prefixes) (d : List ℕ × List ℕ) → StandForOne known → ((iri : List ℕ) → Contains known (d.0, iri) → ⊥) → StandForOne (known ++ d ∷ [])
 one_more known d one fresh name iri other c k =
-    elim (push_cases known d (name, iri) c) [
-      | inl m ↦ elim (push_cases known d (name, other) k) [
+    elim (Contains-push_cases known d (name, iri) c) [
+      | inl m ↦ elim (Contains-push_cases known d (name, other) k) [
         | inl n ↦ one name iri other m n
         | inr f ↦ absurd (fresh iri (subst (λ (z : List ℕ). Contains known (z, iri)) (sym (ap (λ (p : List ℕ × List ℕ). p.0) f)) m))
       ]
-      | inr e ↦ elim (push_cases known d (name, other) k) [
+      | inr e ↦ elim (Contains-push_cases known d (name, other) k) [
         | inl n ↦ absurd (fresh other (subst (λ (z : List ℕ). Contains known (z, other)) (sym (ap (λ (p : List ℕ × List ℕ). p.0) e)) n))
         | inr f ↦ ap (λ (p : List ℕ × List ℕ). p.1) (sym e ∙ f)
       ]
@@ -38,7 +38,7 @@ again : (known : Prefixes) (d : List ℕ × List ℕ) → StandForOne known → 
 again known d one there name iri other c k = one name iri other (inside (name, iri) c) (inside (name, other) k)
   where
     inside : (p : List ℕ × List ℕ) → Contains (known ++ d ∷ []) p → Contains known p
-    inside p c = elim (push_cases known d p c) [ inl l ↦ l | inr e ↦ subst (Contains known) e there ]
+    inside p c = elim (Contains-push_cases known d p c) [ inl l ↦ l | inr e ↦ subst (Contains known) e there ]
 
 all_one : (known ds : Prefixes) → StandForOne known → ((d : List ℕ × List ℕ) → Contains standard_prefixes d → Contains known d) → AreAllowed known ds → StandForOne (known ++ ds)
 all_one known [] one has allowed = subst StandForOne (sym (append-nil known)) one
@@ -53,7 +53,7 @@ fresh_none name iri c = Contains-none (name, iri) c
 
 fresh_more : (known : Prefixes) (p : List ℕ × List ℕ) (name : List ℕ) → (p.0 ≡ name → ⊥) → ((iri : List ℕ) → Contains known (name, iri) → ⊥) → (iri : List ℕ) → Contains (p ∷ known) (name, iri) → ⊥
 fresh_more known p name apart none iri c =
-    elim (Contains-cases p (name, iri) known c) [ inl e ↦ apart (ap (λ (r : List ℕ × List ℕ). r.0) e) | inr l ↦ none iri l ]
+    elim (Contains-cons_cases p (name, iri) known c) [ inl e ↦ apart (ap (λ (r : List ℕ × List ℕ). r.0) e) | inr l ↦ none iri l ]
 
 -- tells the standard names apart
 abbrev key : List ℕ → ℕ
@@ -209,23 +209,12 @@ refusal_fails (faults.TooDeep at) y r f = let k : Some y ≡ None = f in cc
 
 -- ---- there is one
 
-nothing_last : (y : Token) (ys : List Token) → [] ≡ ys ++ y ∷ [] → ⊥
-nothing_last y [] e = cc
-nothing_last y (z ∷ ys) e = cc
-
--- all but the last
-same_inner : (xs ys : List Token) (x y : Token) → xs ++ x ∷ [] ≡ ys ++ y ∷ [] → xs ≡ ys
-same_inner [] [] x y e = refl
-same_inner [] (b ∷ ys) x y e = absurd (nothing_last y ys (cc))
-same_inner (a ∷ xs) [] x y e = absurd (nothing_last x xs (cc))
-same_inner (a ∷ xs) (b ∷ ys) x y e = let rest : xs ≡ ys = same_inner xs ys x y (cc) in cc
-
 one_ontology : (limit : ℕ) (prefixes : Prefixes) → StandForOne prefixes → (tokens : List Token) (a b : Trees) → IsOntology limit prefixes a tokens → IsOntology limit prefixes b tokens → a ≡ b
 one_ontology limit prefixes are tokens a b h k =
     let all : h.word ∷ h.opening ∷ h.inside ≡ k.word ∷ k.opening ∷ k.inside = sym h.tokens_are ∙ k.tokens_are in
     let inside : h.inside ≡ k.inside = cc in
     let ends = sym h.closed.tokens_are ∙ inside ∙ k.closed.tokens_are in
-    let inner = same_inner h.closed.inner k.closed.inner h.closed.closing k.closed.closing ends in
+    let inner = (same_from_push h.closed.inner k.closed.inner h.closed.closing k.closed.closing ends).0 in
     one_reading prefixes are h.closed.inner a b h.closed.are_trees (subst (λ (ts : List Token). AreTrees prefixes b ts) (sym inner) k.closed.are_trees)
 
 pub one_document : (tokens : List Token) (d e : Document) → IsDocument d tokens → IsDocument e tokens → d ≡ e
@@ -247,7 +236,7 @@ tokens-drop (t ∷ ts) zero = refl
 tokens-drop (t ∷ ts) (suc i) = tokens-drop ts i
 
 pub tokens_from : (ts : List lexer.Token) (i : ℕ) → tokens_of (take (length ts - i) (drop i ts)) ≡ drop i (tokens_of ts)
-tokens_from ts i = ap tokens_of (take_all (drop i ts) (length ts - i) (omega (arith, length-drop i ts))) ∙ tokens-drop ts i
+tokens_from ts i = ap tokens_of (take_rest ts i) ∙ tokens-drop ts i
 
 pub six_behind : (ts : List Token) (i : ℕ) → drop 6 (drop i ts) ≡ drop (i + 6) ts
 six_behind ts i = drop-drop 6 i ts ∙ ap (λ (n : ℕ). drop n ts) (omega arith)

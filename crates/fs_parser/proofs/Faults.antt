@@ -5,6 +5,7 @@ use Rattle.std.specs.Prelude.{codes}
 use Rattle.std.specs.Option.{IfSome, IfNone}
 use Rattle.std.proofs.lemmas.List.Elements.{Contains-append_right, Contains-append_cases}
 use Rattle.std.proofs.lemmas.Option.{none-some, same_Some}
+use Rattle.lemmas.proofs.Members.{Contains-first, Contains-later}
 use Rattle.fs_lexer.proofs.State.{spelled_slices}
 use Rattle.fs_lexer.specs.Spelling.{Token, AreSlicesFrom}
 use Rattle.fs_lexer.specs.declared.token.Token as lexer
@@ -26,7 +27,6 @@ use Rattle.fs_parser.specs.declared.fault.ParseFault.TheVariants as faults
 use Rattle.fs_parser.specs.declared.iri.Iri as code_iri
 use Rattle.fs_parser.specs.declared.reader.Frame as code_frame
 use Rattle.fs_parser.proofs.Documents.{HasRead, from_there, tokens_from}
-use Rattle.fs_parser.proofs.Names.{Contains-first, Contains-later}
 use Rattle.fs_parser.proofs.Steps.{frames_length, tokens_front}
 
 -- a full IRI or a short name

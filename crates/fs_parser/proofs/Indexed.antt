@@ -9,9 +9,9 @@ use Rattle.std.specs.Prelude.{option_map}
 use Rattle.std.specs.Str.{bytes_eq}
 use Rattle.std.proofs.lemmas.Map.Text.{btree_map_updates_str}
 use Rattle.std.proofs.lemmas.Option.{none-some, same_Some}
+use Rattle.lemmas.proofs.Members.{Contains-first, Contains-later, Contains-cons_cases, Contains-none}
 use Rattle.fs_parser.specs.Index.{iri_at, or_first, last_iri}
 use Rattle.fs_parser.specs.Name.{Prefixes}
-use Rattle.fs_parser.proofs.Names.{Contains-first, Contains-later, Contains-cases, Contains-none}
 use Rattle.fs_parser.proofs.Steps.{same_bytes, other_bytes}
 
 -- ---- one more prefix
@@ -60,7 +60,7 @@ last_none (p ∷ ps) name e iri c = go (λ k. last_none ps name k iri) (last_iri
     go later (Some x) k b t f = none-some x (sym f)
     go later None k true t f = none-some p.1 (sym f ∙ ap (λ (c : Bool). if c then Some p.1 else None) t)
     go later None k false t f =
-        elim (Contains-cases p (name, iri) ps c) [
+        elim (Contains-cons_cases p (name, iri) ps c) [
           | inl same ↦ other_bytes p.0 name false (sym t) refl (ap (λ (q : List ℕ × List ℕ). q.0) same)
           | inr d ↦ later k d
         ]

@@ -1,5 +1,5 @@
 -- The IRI that a token names: there is one at most, and it can be found.
-use Rattle.std.proofs.Common.{◌≡◌, ℕ, zero, suc, ◌<◌, List, [], ◌∷◌, ◌++◌, Bool, true, false, Option, Some, None, length, get_or, refl, sym, ap, ◌∙◌, subst, ◌⊎◌, inl, inr, arith, append_assoc}
+use Rattle.std.proofs.Common.{◌≡◌, ℕ, List, [], ◌∷◌, ◌++◌, Bool, true, false, Option, Some, None, refl, sym, ap, ◌∙◌, subst, ◌⊎◌, inl, inr, append_assoc}
 use Rattle.std.specs.List.{Contains, list_all}
 use Rattle.std.specs.Prelude.{codes, ◌||◌, ◌==◌}
 use Rattle.std.specs.Char.{is_ascii_alphabetic, is_ascii_digit}
@@ -7,6 +7,7 @@ use Rattle.std.proofs.lemmas.Bool.{cases_eq, and_parts}
 use Rattle.std.proofs.lemmas.List.{append_cancel_left, append_cancel_right}
 use Rattle.std.proofs.lemmas.List.Elements.{Contains-append_right}
 use Rattle.std.proofs.lemmas.Option.{none-some, same_Some}
+use Rattle.lemmas.proofs.Members.{Contains-first, Contains-later, Contains-cons_cases, Contains-none}
 use Rattle.fs_lexer.specs.declared.token.Kind.{Kind}
 use Rattle.fs_lexer.specs.declared.token.Kind.TheVariants.{FullIri, ShortName}
 use Rattle.fs_lexer.specs.Spelling.{Token, IsPrefixName}
@@ -63,25 +64,6 @@ before_last c (b ∷ d ∷ bs) =
 
 -- ---- prefixes
 
-pub Contains-first : {X : Type 0} (x : X) (xs : List X) → Contains (x ∷ xs) x
-Contains-first x xs = (0, omega arith, refl)
-
-pub Contains-later : {X : Type 0} (x y : X) (xs : List X) → Contains xs y → Contains (x ∷ xs) y
-Contains-later x y xs c = (suc c.0, omega (arith, c.1), c.2)
-
-pub Contains-cases : {X : Type 0} (x y : X) (xs : List X) → Contains (x ∷ xs) y → (x ≡ y) ⊎ Contains xs y
-Contains-cases {X} x y xs c = go c.0 c.1 c.2
-  where
-    go : (k : ℕ) → k < length (x ∷ xs) → get_or (x ∷ xs) k y ≡ y → (x ≡ y) ⊎ Contains xs y
-    go zero l e = inl e
-    go (suc k) l e = inr (k, omega arith, e)
-
-pub Contains-none : {X : Type 0} (y : X) → Contains [] y → ⊥
-Contains-none y c = absurd (omega (arith, c.1))
-
-pub Contains-last : {X : Type 0} (x : X) (xs : List X) → Contains (xs ++ x ∷ []) x
-Contains-last x xs = Contains-append_right xs (x ∷ []) x (Contains-first x [])
-
 same_text : (a b : List ℕ) → (a ≡ b) ⊎ (a ≡ b → ⊥)
 same_text [] [] = inl refl
 same_text [] (b ∷ bs) = inr (λ e. cc)
@@ -99,7 +81,7 @@ decide_iri (p ∷ prefixes) name =
       | inl e ↦ yes p.1 (subst (λ (n : List ℕ). Contains (p ∷ prefixes) (n, p.1)) e (Contains-first p prefixes))
       | inr apart ↦ elim (decide_iri prefixes name) [
         | yes iri c ↦ yes iri (Contains-later p (name, iri) prefixes c)
-        | no none ↦ no (λ iri c. elim (Contains-cases p (name, iri) prefixes c) [
+        | no none ↦ no (λ iri c. elim (Contains-cons_cases p (name, iri) prefixes c) [
           | inl e ↦ apart (ap (λ (q : List ℕ × List ℕ). q.0) e)
           | inr d ↦ none iri d
         ])
@@ -113,7 +95,7 @@ pub data Split (text : List ℕ) : Type 0 where
   whole : (free : Contains text 58 → ⊥) → Split text
 
 free_first : (b : ℕ) (bs : List ℕ) → (b ≡ 58 → ⊥) → (Contains bs 58 → ⊥) → Contains (b ∷ bs) 58 → ⊥
-free_first b bs apart free c = elim (Contains-cases b 58 bs c) [ inl e ↦ apart e | inr d ↦ free d ]
+free_first b bs apart free c = elim (Contains-cons_cases b 58 bs c) [ inl e ↦ apart e | inr d ↦ free d ]
 
 split_text : (text : List ℕ) → Split text
 split_text [] = whole (λ c. Contains-none 58 c)

@@ -1,14 +1,15 @@
 -- What the functions of the code give, as the machine has it.
-use Rattle.std.proofs.Common.{◌≡◌, ◌≢◌, ℕ, zero, suc, ◌-◌, ◌≤◌, ◌<◌, List, [], ◌∷◌, ◌++◌, Bool, true, false, Option, Some, None, Bor, length, get_or, take, drop, refl, sym, ap, ◌∙◌, subst, ◌⊎◌, inl, inr, arith, nat_lt, append_assoc}
+use Rattle.std.proofs.Common.{◌≡◌, ◌≢◌, ℕ, suc, ◌-◌, ◌≤◌, ◌<◌, List, [], ◌∷◌, ◌++◌, Bool, true, false, Option, Some, None, Bor, length, get_or, take, drop, refl, sym, ap, ◌∙◌, subst, inl, inr, arith, nat_lt, append_assoc}
 use Rattle.std.specs.List.{Contains}
 use Rattle.std.specs.Prelude.{codes, IsTrue, ◌↔◌}
 use Rattle.std.specs.Str.{bytes_eq}
 use Rattle.std.proofs.lemmas.Slice.Eq.{bytes_eq-Decides}
 use Rattle.std.specs.Option.{IfSome, IfNone, MatchOption}
 use Rattle.std.proofs.lemmas.Bool.{lt-ltb, ltb-true, false≢true}
-use Rattle.std.proofs.lemmas.List.{length-append, append_cancel_left, append_cancel_right}
+use Rattle.std.proofs.lemmas.List.{length-append, append_cancel_left, append_cancel_right, take_all}
 use Rattle.std.proofs.lemmas.List.Elements.{Contains-append_right, Contains-append_cases}
 use Rattle.std.proofs.lemmas.Option.{none-some}
+use Rattle.lemmas.proofs.Members.{Contains-first, Contains-cons_cases, Contains-none}
 use Rattle.fs_lexer.specs.Spelling.{Token}
 use Rattle.fs_lexer.specs.declared.token.Token as lexer
 use Rattle.fs_lexer.specs.declared.token.Kind.TheVariants.{FullIri, ShortName, Keyword}
@@ -30,7 +31,7 @@ use Rattle.fs_parser.specs.declared.tree.Tree as code
 use Rattle.fs_parser.specs.declared.tree.Tree.TheOpen as layer
 use Rattle.fs_parser.specs.declared.tree.Tree.TheFolds.{fold-roll-Tree}
 use Rattle.fs_parser.specs.declared.tree.Tree.TheVariants.{rolls-PlainLiteral}
-use Rattle.fs_parser.proofs.Names.{Contains-first, Contains-later, Contains-cases, Contains-none, short_parts, same_front, name_of, name_found, name_none}
+use Rattle.fs_parser.proofs.Names.{short_parts, same_front, name_of, name_found, name_none}
 
 -- ---- names
 
@@ -42,14 +43,6 @@ not_bracketed text rest (Some y) e h = tt
 pub none_before : (b : ℕ) (text : List ℕ) (r : Option (Bor (List ℕ))) → MatchOption r ((front : List ℕ) → text ≢ front ++ b ∷ []) (λ x. text ≡ x.now ++ b ∷ []) → IfNone r ((front : List ℕ) → text ≡ front ++ b ∷ [] → ⊥)
 none_before b text None h = λ front e. h front e
 none_before b text (Some x) h = tt
-
-pub push_cases : {X : Type 0} (xs : List X) (x y : X) → Contains (xs ++ x ∷ []) y → Contains xs y ⊎ (x ≡ y)
-push_cases [] x y c = elim (Contains-cases x y [] c) [ inl e ↦ inr e | inr d ↦ absurd (Contains-none y d) ]
-push_cases (z ∷ xs) x y c =
-    elim (Contains-cases z y (xs ++ x ∷ []) c) [
-      | inl e ↦ inl (subst (Contains (z ∷ xs)) e (Contains-first z xs))
-      | inr d ↦ elim (push_cases xs x y d) [ inl f ↦ inl (Contains-later z y xs f) | inr e ↦ inr e ]
-    ]
 
 -- ---- texts that are compared
 
@@ -68,7 +61,7 @@ same_behind base local rest text false e q = (λ t. absurd (false≢true t), λ 
 
 free_from : (xs : List ℕ) → ((i : ℕ) → i < length xs → get_or xs i 0 ≡ 58 → ⊥) → Contains xs 58 → ⊥
 free_from [] f c = Contains-none 58 c
-free_from (x ∷ xs) f c = elim (Contains-cases x 58 xs c) [ inl e ↦ f 0 (omega arith) e | inr d ↦ free_from xs (λ i l. f (suc i) (omega arith)) d ]
+free_from (x ∷ xs) f c = elim (Contains-cons_cases x 58 xs c) [ inl e ↦ f 0 (omega arith) e | inr d ↦ free_from xs (λ i l. f (suc i) (omega arith)) d ]
 
 pub short_some : (known : Prefixes) (text front local base : List ℕ) → text ≡ front ++ 58 ∷ local → ((i : ℕ) → i < length front → get_or front i 0 ≡ 58 → ⊥)
     → Contains known (front, base) → IsShort known text (base ++ local)
@@ -152,12 +145,6 @@ pub ended : (fs : List code_frame.Frame) (done : List Tree) (at : ℕ) (text : L
 ended [] done at text e = refl
 ended (f ∷ fs) done at text e = absurd (omega arith)
 
-pub take_all : {X : Type 0} (xs : List X) (i : ℕ) → length xs ≤ i → take i xs ≡ xs
-take_all [] zero l = refl
-take_all [] (suc i) l = refl
-take_all (x ∷ xs) zero l = absurd (omega arith)
-take_all {X} (x ∷ xs) (suc i) l = ap (λ (z : List X). x ∷ z) (take_all xs i (omega arith))
-
 pub not_named : (prefixes : Prefixes) (t : Token) (r : Option code_iri.Iri) → t.kind ≡ ShortName → IfNone r ((iri : List ℕ) → IsShort prefixes t.text iri → ⊥)
     → IfNone r ((iri : List ℕ) → IsNameOf prefixes t iri → ⊥)
 not_named prefixes t None e none = λ iri h. elim h [ inl a ↦ absurd (let f : t.kind ≡ FullIri = a.0 in cc) | inr b ↦ none iri b.1 ]
@@ -170,7 +157,7 @@ pub tokens_front : (ts : List lexer.Token) (d : lexer.Token) → 1 ≤ length ts
 tokens_front [] d l = absurd (omega arith)
 tokens_front (t ∷ ts) d l =
     let e : length (t ∷ ts) - 1 ≡ length ts = omega arith in
-    ap (λ (z : List lexer.Token). token_of t ∷ tokens_of z) (sym (ap (λ (n : ℕ). take n ts) e ∙ take_all ts (length ts) (omega arith)))
+    ap (λ (z : List lexer.Token). token_of t ∷ tokens_of z) (sym (ap (λ (n : ℕ). take n ts) e ∙ take_all (length ts) ts (omega arith)))
 
 pub loop_goes_on : (limit : ℕ) (prefixes : Prefixes) → StandForOne prefixes → (ts : List lexer.Token) (d : lexer.Token) (s next : machine.State) (r : Option code_iri.Iri) (total : Option (List Tree)) → 1 ≤ length ts
     → IfSome r (λ i. IsNameOf prefixes (token_of (get_or ts 0 d)) (iri_of i)) → IfNone r ((iri : List ℕ) → IsNameOf prefixes (token_of (get_or ts 0 d)) iri → ⊥)

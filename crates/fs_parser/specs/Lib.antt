@@ -10,3 +10,4 @@ pub mod Front
 pub mod Faults
 pub mod Said
 pub mod Laws
+pub mod Printed

@@ -27,6 +27,3 @@ pub fn tokens_are_one_document()
     ensures names { PrefixNamesEndAtColon }
     ensures ends { TokensEndInText }
 {}
-
-#[cfg(test)]
-mod tests;

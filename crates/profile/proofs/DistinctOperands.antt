@@ -4,9 +4,9 @@ use Rattle.std.specs.List.{list_any}
 use Rattle.std.proofs.lemmas.Bool.{both_ways, or_parts}
 use Rattle.std.proofs.lemmas.List.{append-nil, append_assoc, map-append}
 use Rattle.std.proofs.lemmas.Option.{none-some, same_Some}
+use Rattle.lemmas.proofs.Members.{slice_get-from_Contains}
 use Rattle.axioms.specs.WellFormed.{AreDistinct}
 use Rattle.axioms.proofs.Growing.{AreDistinct-push}
-use Rattle.axioms.proofs.Lists.{slice_get-from_Contains}
 use Rattle.fs_parser.specs.Tree.{Tree, Trees, Empty, Then}
 use Rattle.shapes.specs.Faults.{faults, faults_in}
 use Rattle.shapes.specs.SameTree.{same_tree}

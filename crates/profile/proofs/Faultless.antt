@@ -9,15 +9,15 @@ use Rattle.shapes.proofs.Lists.{fitting_form, unfitting_form}
 use Rattle.shapes.proofs.Placed.{placed_is_known, placed_is_not_refused}
 use Rattle.profile.specs.Operands.{AreOperandsOf}
 
--- ---- of two lists of faults that are none together, each is none
+-- ---- of two lists that are empty together, each is empty
 
-pub none_first : (a b : List Fault) → a ++ b ≡ [] → a ≡ []
-none_first [] b h = refl
-none_first (x ∷ xs) b h = cc
+pub none_first : {A : Type 0} (xs ys : List A) → xs ++ ys ≡ [] → xs ≡ []
+none_first [] ys h = refl
+none_first (x ∷ xs) ys h = absurd (let e : x ∷ (xs ++ ys) ≡ [] = h in cc)
 
-pub none_second : (a b : List Fault) → a ++ b ≡ [] → b ≡ []
-none_second [] b h = h
-none_second (x ∷ xs) b h = cc
+pub none_second : {A : Type 0} (xs ys : List A) → xs ++ ys ≡ [] → ys ≡ []
+none_second [] ys h = h
+none_second (x ∷ xs) ys h = absurd (let e : x ∷ (xs ++ ys) ≡ [] = h in cc)
 
 one_is_not_none : (fs : List Fault) (f : Fault) → fs ≡ f ∷ [] → fs ≡ [] → ⊥
 one_is_not_none fs f e h = cc

@@ -6,23 +6,16 @@ use Rattle.fs_parser.specs.declared.tree.Tree as code
 use Rattle.shapes.specs.Faults.{WrongShape, axiom_faults, document_faults, each_faults, faults, is_annotation, is_name, ontology_faults}
 use Rattle.shapes.specs.declared.expected.Expected.TheVariants.{Annotation, Axiom}
 use Rattle.profile.specs.Parts.{IsPartOfOntology}
+use Rattle.profile.proofs.Faultless.{none_first, none_second}
 
 abbrev ArePartsOfOntology : Trees → Type 0
 ArePartsOfOntology Empty = Unit {0}
 ArePartsOfOntology (Then first rest) = IsPartOfOntology first × ArePartsOfOntology rest
 
-none_left : {A : Type 0} (xs ys : List A) → xs ++ ys ≡ [] → xs ≡ []
-none_left [] ys h = refl
-none_left (x ∷ xs) ys h = absurd (let e : x ∷ (xs ++ ys) ≡ [] = h in cc)
-
-none_right : {A : Type 0} (xs ys : List A) → xs ++ ys ≡ [] → ys ≡ []
-none_right [] ys h = h
-none_right (x ∷ xs) ys h = absurd (let e : x ∷ (xs ++ ys) ≡ [] = h in cc)
-
 axioms_are_parts : (ts : Trees) → axiom_faults ts ≡ [] → ArePartsOfOntology ts
 axioms_are_parts Empty h = tt
 axioms_are_parts (Then first rest) h =
-    (inr (inr (none_left (faults Axiom first) (each_faults Axiom rest) h)), axioms_are_parts rest (none_right (faults Axiom first) (each_faults Axiom rest) h))
+    (inr (inr (none_first (faults Axiom first) (each_faults Axiom rest) h)), axioms_are_parts rest (none_second (faults Axiom first) (each_faults Axiom rest) h))
 
 parts : (names : ℕ) (ts : Trees) → ontology_faults names ts ≡ [] → ArePartsOfOntology ts
 parts names Empty h = tt
@@ -34,8 +27,8 @@ parts names (Then first rest) h = by_kind names first rest (λ n e. parts n rest
         else axiom_faults (Then first rest))) ≡ [] →
         ArePartsOfOntology (Then first rest)
     by_kind names first rest later true d e f h =
-        (inl e, later (names - 1) (none_right (if nat_lt 0 names then [] else WrongShape (place_of first) ∷ []) (ontology_faults (names - 1) rest) h))
-    by_kind names first rest later false true e f h = (inr (inl f), later 0 (none_right (faults Annotation first) (ontology_faults 0 rest) h))
+        (inl e, later (names - 1) (none_second (if nat_lt 0 names then [] else WrongShape (place_of first) ∷ []) (ontology_faults (names - 1) rest) h))
+    by_kind names first rest later false true e f h = (inr (inl f), later 0 (none_second (faults Annotation first) (ontology_faults 0 rest) h))
     by_kind names first rest later false false e f h = axioms_are_parts (Then first rest) h
 
 -- each tree of a document without faults is a part of its ontology

@@ -6,8 +6,6 @@ mod axiom_operands;
 mod building;
 mod entities;
 mod parts;
-#[cfg(test)]
-mod tests;
 
 pub use acceptance::{Refusal, accept};
 pub use shapes::{Fault, Version};

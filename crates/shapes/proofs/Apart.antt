@@ -1,8 +1,8 @@
 -- No keyword is both refused and known, and each tree equals itself.
-use Rattle.std.proofs.Common.{◌≡◌, ℕ, Bool, true, false, ◌&&◌, ◌||◌, not, List, [], ◌∷◌, refl, sym, ap, ap₂, ◌∙◌}
+use Rattle.std.proofs.Common.{◌≡◌, ℕ, Bool, true, false, ◌&&◌, ◌||◌, not, List, [], ◌∷◌, refl, sym, ap, ◌∙◌}
 use Rattle.std.specs.List.{list_any, list_all}
 use Rattle.std.specs.Str.{bytes_eq}
-use Rattle.std.proofs.lemmas.Bool.{false≢true}
+use Rattle.std.proofs.lemmas.Bool.{false≢true, not-true, and_from}
 use Rattle.std.proofs.lemmas.Slice.Eq.{bytes_eq-Decides}
 use Rattle.fs_parser.specs.Tree.{Trees, Name, PlainLiteral, TaggedLiteral, TypedLiteral, Anonymous, Number, Group, Form, Empty, Then}
 use Rattle.shapes.specs.Keywords.{is_known, is_refused, refused_keywords}
@@ -23,31 +23,24 @@ refused_are_unknown : list_all (λ k. not (is_known k)) refused_keywords ≡ tru
 unfolding is_known
 refused_are_unknown = refl
 
-from_not : (b : Bool) → not b ≡ true → b ≡ false
-from_not true h = absurd (false≢true h)
-from_not false h = refl
-
 pub apart : KeywordsAreApart
 unfolding is_refused
-apart keyword h = from_not (is_known keyword) (of_one (λ k. not (is_known k)) refused_keywords keyword refused_are_unknown h)
+apart keyword h = not-true (is_known keyword) (of_one (λ k. not (is_known k)) refused_keywords keyword refused_are_unknown h)
 
 same : (a : List ℕ) → bytes_eq a a ≡ true
 same a = (bytes_eq-Decides a a).1 refl
-
-both : (a b : Bool) → a ≡ true → b ≡ true → (a && b) ≡ true
-both a b e f = ap₂ (λ x y. x && y) e f
 
 mutual
   pub itself : EachTreeIsItself
   itself (Name at iri) = same iri
   itself (PlainLiteral at text) = same text
-  itself (TaggedLiteral at text tag) = both _ _ (same text) (same tag)
-  itself (TypedLiteral at text type) = both _ _ (same text) (same type)
+  itself (TaggedLiteral at text tag) = and_from _ _ (same text) (same tag)
+  itself (TypedLiteral at text type) = and_from _ _ (same text) (same type)
   itself (Anonymous at label) = same label
   itself (Number at digits) = same digits
   itself (Group at trees) = all_itself trees
-  itself (Form at keyword trees) = both _ _ (same keyword) (all_itself trees)
+  itself (Form at keyword trees) = and_from _ _ (same keyword) (all_itself trees)
 
   all_itself : (ts : Trees) → same_trees ts ts ≡ true
   all_itself Empty = refl
-  all_itself (Then t ts) = both _ _ (itself t) (all_itself ts)
+  all_itself (Then t ts) = and_from _ _ (itself t) (all_itself ts)

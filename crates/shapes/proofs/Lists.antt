@@ -1,7 +1,7 @@
 -- Lists of trees, one tree after the other.
-use Rattle.std.proofs.Common.{◌≡◌, ℕ, zero, suc, ◌+◌, ◌-◌, ◌<◌, ◌≤◌, Bool, true, false, ◌&&◌, List, [], ◌∷◌, ◌++◌, map, take, drop, length, get_or, refl, sym, ap, ap₂, ◌∙◌, arith, add-one, Some, Result, Ok, Err, if◌then◌else◌}
-use Rattle.std.proofs.lemmas.List.{drop_more, get_or-drop, length-drop, map-append, take_more}
-use Rattle.std.specs.Result.{OnOk}
+use Rattle.std.proofs.Common.{◌≡◌, ℕ, suc, ◌+◌, ◌-◌, ◌<◌, ◌≤◌, Bool, true, false, ◌&&◌, List, [], ◌∷◌, ◌++◌, map, take, drop, length, get_or, refl, sym, ap, ap₂, ◌∙◌, arith, add-one, Some, if◌then◌else◌}
+use Rattle.std.proofs.lemmas.List.{drop_more, get_or-drop, length-drop, map-append, take_more, drop_all, append_assoc, append-nil}
+use Rattle.std.proofs.Math.Bool.{and-false}
 use Rattle.fs_parser.specs.Tree.{Tree, Trees, Empty, Then, Form, place_of}
 use Rattle.fs_parser.specs.View.{tree_of, trees_of}
 use Rattle.fs_parser.specs.declared.tree.Tree as code
@@ -14,48 +14,30 @@ use Rattle.shapes.specs.declared.expected.Expected.TheVariants.{Annotation}
 
 -- ---- what is left of a list
 
-pub drop_all : {A : Type 0} (xs : List A) (i : ℕ) → length xs ≤ i → drop i xs ≡ []
-drop_all [] zero h = refl
-drop_all [] (suc i) h = refl
-drop_all (x ∷ xs) zero h = absurd (omega arith)
-drop_all (x ∷ xs) (suc i) h = drop_all xs i (omega arith)
-
 -- the trees from the place on
 pub left_at : (ts : List code.Tree) (i : ℕ) (t : code.Tree) → i < length ts → t ≡ get_or ts i t → trees_of (drop i ts) ≡ Then (tree_of t) (trees_of (drop (i + 1) ts))
 left_at ts i t h e = ap trees_of (drop_more ts i t h ∙ ap (λ (s : code.Tree). s ∷ drop (i + 1) ts) (sym e))
 
 pub none_left : (ts : List code.Tree) (i : ℕ) → length ts ≤ i → trees_of (drop i ts) ≡ Empty
-none_left ts i h = ap trees_of (drop_all ts i h)
+none_left ts i h = ap trees_of (drop_all i ts h)
 
 -- ---- one more piece of a list of faults
 
-pub join : (a b c : List Fault) → (a ++ b) ++ c ≡ a ++ (b ++ c)
-join [] b c = refl
-join (x ∷ xs) b c = ap (λ t. x ∷ t) (join xs b c)
-
-pub no_more : (a : List Fault) → a ++ [] ≡ a
-no_more [] = refl
-no_more (x ∷ xs) = ap (λ t. x ∷ t) (no_more xs)
-
 -- what was found, and what is left to be found, are all
 pub one_more : (all found new piece rest left : List Fault) → found ++ left ≡ all → left ≡ piece ++ rest → new ≡ found ++ piece → new ++ rest ≡ all
-one_more all found new piece rest left h e f = ap (λ t. t ++ rest) f ∙ join found piece rest ∙ ap (λ t. found ++ t) (sym e) ∙ h
+one_more all found new piece rest left h e f = ap (λ t. t ++ rest) f ∙ append_assoc found piece rest ∙ ap (λ t. found ++ t) (sym e) ∙ h
 
 pub found_all : (all found left : List Fault) → found ++ left ≡ all → left ≡ [] → found ≡ all
-found_all all found left h e = sym (no_more found) ∙ ap (λ t. found ++ t) (sym e) ∙ h
+found_all all found left h e = sym (append-nil found) ∙ ap (λ t. found ++ t) (sym e) ∙ h
 
 -- ---- operands
-
-and_false : (b : Bool) → (b && false) ≡ false
-and_false true = refl
-and_false false = refl
 
 pub lengths_differ : (as' bs : List code.Tree) → (length as' ≡ length bs → ⊥) → same_trees (trees_of as') (trees_of bs) ≡ false
 lengths_differ [] [] h = absurd (h refl)
 lengths_differ [] (b ∷ bs) h = refl
 lengths_differ (a ∷ as') [] h = refl
 lengths_differ (a ∷ as') (b ∷ bs) h =
-    ap (λ t. same_tree (tree_of a) (tree_of b) && t) (lengths_differ as' bs (λ e. h (ap suc e))) ∙ and_false (same_tree (tree_of a) (tree_of b))
+    ap (λ t. same_tree (tree_of a) (tree_of b) && t) (lengths_differ as' bs (λ e. h (ap suc e))) ∙ and-false (same_tree (tree_of a) (tree_of b))
 
 -- the operands before the place, where the first stands behind n trees
 abbrev pub earlier : List code.Tree → ℕ → ℕ → List Tree
@@ -99,7 +81,7 @@ in_front operands (Then t ts) = go (is_annotation t) refl (in_front operands ts)
   where
     go : (b : Bool) → is_annotation t ≡ b → faults_in true [] operands ts ≡ annotation_faults ts ++ faults_in false [] operands (behind_annotations ts) →
         faults_in true [] operands (Then t ts) ≡ annotation_faults (Then t ts) ++ faults_in false [] operands (behind_annotations (Then t ts))
-    go true e more = rw e (ap (λ fs. faults Annotation t ++ fs) more ∙ sym (join (faults Annotation t) (annotation_faults ts) (faults_in false [] operands (behind_annotations ts))))
+    go true e more = rw e (ap (λ fs. faults Annotation t ++ fs) more ∙ sym (append_assoc (faults Annotation t) (annotation_faults ts) (faults_in false [] operands (behind_annotations ts))))
     go false e more = rw e refl
 
 inside : (expected : Expected) (operands : Operands) (ts : Trees) →
@@ -129,11 +111,7 @@ pub form_found :
     (found front mid new all : List Fault) (operands : Operands) (left own : Trees) →
     left ≡ own → all ≡ front ++ faults_in false [] operands own → mid ≡ found ++ front → new ≡ mid ++ faults_in false [] operands left → new ≡ found ++ all
 form_found found front mid new all operands left own e f g h =
-    h ∙ ap₂ (λ (m : List Fault) (l : Trees). m ++ faults_in false [] operands l) g e ∙ join found front (faults_in false [] operands own) ∙ ap (λ (t : List Fault). found ++ t) (sym f)
-
-pub on_ok : {T E : Type 0} {P Q : Type 0} (r : Result T E) → (P → Q) → OnOk r P → OnOk r Q
-on_ok (Ok x) f h = f h
-on_ok (Err e) f h = tt
+    h ∙ ap₂ (λ (m : List Fault) (l : Trees). m ++ faults_in false [] operands l) g e ∙ append_assoc found front (faults_in false [] operands own) ∙ ap (λ (t : List Fault). found ++ t) (sym f)
 
 pub repeated : (before : List Tree) (operands : Operands) (next : Tree) (at : ℕ) → true ≡ is_repeated operands next before → at ≡ place_of next → RepeatedOperand at ∷ [] ≡ operand_faults before operands next
 repeated before operands next at h e = rw (sym h) (ap (λ (n : ℕ). RepeatedOperand n ∷ []) e)

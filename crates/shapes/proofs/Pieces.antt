@@ -3,6 +3,7 @@ use Rattle.std.proofs.Common.{◌≡◌, ℕ, Bool, true, false, ◌&&◌, List,
 use Rattle.std.specs.List.{starts_with}
 use Rattle.std.specs.Str.{bytes_eq}
 use Rattle.std.specs.Cmp.{unsigned_Decides}
+use Rattle.std.proofs.lemmas.List.{append_assoc}
 
 same : (x : ℕ) → nat_eq x x ≡ true
 same x = (unsigned_Decides x x).1 refl
@@ -21,10 +22,6 @@ begins_before (b ∷ bs) (f ∷ fs) local h = go (nat_eq f b) refl (λ e. begins
     go : (t : Bool) → nat_eq f b ≡ t → (f ≡ b → starts_with nat_eq (bs ++ local) fs ≡ starts_with nat_eq bs fs) → starts_with nat_eq (b ∷ bs ++ local) (f ∷ fs) ≡ starts_with nat_eq (b ∷ bs) (f ∷ fs)
     go true e more = rw e (more ((unsigned_Decides f b).0 e))
     go false e more = rw e refl
-
-append_assoc : (a b c : List ℕ) → (a ++ b) ++ c ≡ a ++ (b ++ c)
-append_assoc [] b c = refl
-append_assoc (x ∷ xs) b c = ap (λ t. x ∷ t) (append_assoc xs b c)
 
 behind_same : (x y z : List ℕ) → bytes_eq (x ++ y) (x ++ z) ≡ bytes_eq y z
 behind_same [] y z = refl

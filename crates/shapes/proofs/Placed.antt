@@ -2,20 +2,13 @@
 use Rattle.std.proofs.Common.{◌≡◌, ℕ, Bool, true, false, ◌||◌, List, codes, Some, refl, sym, ap, ◌∙◌}
 use Rattle.std.specs.Option.{is_some}
 use Rattle.std.specs.Str.{bytes_eq}
-use Rattle.std.proofs.lemmas.Bool.{false≢true}
+use Rattle.std.proofs.lemmas.Bool.{false≢true, or_left, or_right}
 use Rattle.std.proofs.lemmas.Option.{none-some}
 use Rattle.shapes.specs.declared.expected.Expected.{Expected}
 use Rattle.shapes.specs.declared.expected.Expected.TheVariants.{Axiom, Annotation, Entity, ClassExpression, Class, Property, PropertyOrChain, Individual, AnyName, NameOrLiteral}
 use Rattle.shapes.specs.Keywords.{has_shape, is_known, is_refused}
 use Rattle.shapes.specs.Shapes.{Operands, operands_of}
 use Rattle.shapes.proofs.Apart.{apart}
-
-left : (a b : Bool) → a ≡ true → (a || b) ≡ true
-left a b e = ap (λ (x : Bool). x || b) e
-
-right : (a b : Bool) → b ≡ true → (a || b) ≡ true
-right true b e = refl
-right false b e = e
 
 abbrev prefix : List ℕ → Bool
 prefix k = bytes_eq k (codes "Prefix")
@@ -37,23 +30,23 @@ from_axioms k = has_shape Axiom k || from_annotations k
 
 of_shape : (k : List ℕ) → from_axioms k ≡ true → is_known k ≡ true
 unfolding is_known
-of_shape k e = right (prefix k) (ontology k || from_axioms k) (right (ontology k) (from_axioms k) e)
+of_shape k e = or_right (prefix k) (ontology k || from_axioms k) (or_right (ontology k) (from_axioms k) e)
 
 of_later : (k : List ℕ) → from_annotations k ≡ true → is_known k ≡ true
-of_later k e = of_shape k (right (has_shape Axiom k) (from_annotations k) e)
+of_later k e = of_shape k (or_right (has_shape Axiom k) (from_annotations k) e)
 
 of_entity : (k : List ℕ) → from_entities k ≡ true → is_known k ≡ true
-of_entity k e = of_later k (right (has_shape Annotation k) (from_entities k) e)
+of_entity k e = of_later k (or_right (has_shape Annotation k) (from_entities k) e)
 
 of_expression : (k : List ℕ) → from_expressions k ≡ true → is_known k ≡ true
-of_expression k e = of_entity k (right (has_shape Entity k) (from_expressions k) e)
+of_expression k e = of_entity k (or_right (has_shape Entity k) (from_expressions k) e)
 
 pub placed_is_known : (expected : Expected) (k : List ℕ) (operands : Operands) → operands_of expected k ≡ Some operands → is_known k ≡ true
-placed_is_known Axiom k operands e = of_shape k (left (has_shape Axiom k) (from_annotations k) (ap is_some e))
-placed_is_known Annotation k operands e = of_later k (left (has_shape Annotation k) (from_entities k) (ap is_some e))
-placed_is_known Entity k operands e = of_entity k (left (has_shape Entity k) (from_expressions k) (ap is_some e))
-placed_is_known ClassExpression k operands e = of_expression k (left (has_shape ClassExpression k) (has_shape PropertyOrChain k) (ap is_some e))
-placed_is_known PropertyOrChain k operands e = of_expression k (right (has_shape ClassExpression k) (has_shape PropertyOrChain k) (ap is_some e))
+placed_is_known Axiom k operands e = of_shape k (or_left (has_shape Axiom k) (from_annotations k) (ap is_some e))
+placed_is_known Annotation k operands e = of_later k (or_left (has_shape Annotation k) (from_entities k) (ap is_some e))
+placed_is_known Entity k operands e = of_entity k (or_left (has_shape Entity k) (from_expressions k) (ap is_some e))
+placed_is_known ClassExpression k operands e = of_expression k (or_left (has_shape ClassExpression k) (has_shape PropertyOrChain k) (ap is_some e))
+placed_is_known PropertyOrChain k operands e = of_expression k (or_right (has_shape ClassExpression k) (has_shape PropertyOrChain k) (ap is_some e))
 placed_is_known Class k operands e = absurd (none-some operands e)
 placed_is_known Property k operands e = absurd (none-some operands e)
 placed_is_known Individual k operands e = absurd (none-some operands e)

@@ -6,3 +6,4 @@ pub mod Faults
 pub mod View
 pub mod Examples
 pub mod Laws
+pub mod Printed

@@ -1,26 +1,42 @@
 //! What is wrong in a document.
 
-use thiserror::Error;
+use std::error::Error;
+use std::fmt;
 
 /// What is wrong in a document, and the byte of the source where it stands.
-#[derive(Debug, Drop, Error)]
+#[derive(Debug, Drop)]
 pub enum Fault {
     /// This keyword is one of OWL 2 and not of the profile.
-    #[error("F1 at byte {at}: {keyword}")]
     RefusedConstruct { at: usize, keyword: String },
     /// This keyword is none of OWL 2.
-    #[error("F2 at byte {at}: {keyword}")]
     UnknownKeyword { at: usize, keyword: String },
     /// This tree may not stand here, or has too few or too many operands.
-    #[error("F3 at byte {at}")]
     WrongShape { at: usize },
     /// This operand equals an earlier one, where all have to be distinct.
-    #[error("F4 at byte {at}")]
     RepeatedOperand { at: usize },
     /// This name is reserved.
-    #[error("F5 at byte {at}")]
     ReservedName { at: usize },
     /// Anonymous individuals are not in the profile.
-    #[error("F6 at byte {at}")]
     Anonymous { at: usize },
 }
+
+impl fmt::Display for Fault {
+    ghost use Rattle.std.specs.Prelude.{Some};
+    ghost use Rattle.shapes.specs.Printed.{fault_text};
+    ghost use Rattle.shapes.specs.View.{fault_of};
+
+    ghost output = { λ fault. Some (fault_text (fault_of fault)) };
+
+    fn fmt<W: fmt::Write>(&self, f: &mut fmt::Formatter<W>) -> fmt::Result {
+        match self {
+            Fault::RefusedConstruct { at, keyword } => write!(f, "F1 at byte {at}: {keyword}"),
+            Fault::UnknownKeyword { at, keyword } => write!(f, "F2 at byte {at}: {keyword}"),
+            Fault::WrongShape { at } => write!(f, "F3 at byte {at}"),
+            Fault::RepeatedOperand { at } => write!(f, "F4 at byte {at}"),
+            Fault::ReservedName { at } => write!(f, "F5 at byte {at}"),
+            Fault::Anonymous { at } => write!(f, "F6 at byte {at}"),
+        }
+    }
+}
+
+impl Error for Fault {}

@@ -9,8 +9,6 @@ mod expected;
 mod fault;
 mod keywords;
 mod names;
-#[cfg(test)]
-mod tests;
 mod walk;
 
 pub use expected::{Expected, Operands};

@@ -3,12 +3,12 @@ use Rattle.std.proofs.Common.{◌≡◌, ℕ, zero, suc, Bool, true, false, inl,
 use Rattle.std.specs.Bool.{Decides}
 use Rattle.std.specs.List.{list_any}
 use Rattle.std.proofs.lemmas.List.{append-nil}
+use Rattle.lemmas.proofs.Members.{Contains-from_slice_get, Contains-cons_cases}
 use Rattle.axioms.specs.Growth.{Numbers}
 use Rattle.axioms.specs.Numbering.{first_places, first_places_from}
 use Rattle.axioms.specs.WellFormed.{AreDistinct}
-use Rattle.axioms.proofs.Lists.{Contains-from_slice_get}
 use Rattle.statements.specs.Additions.{Appends}
-use Rattle.statements.proofs.FirstPlaces.{seen_after, found, first_or_later, grows}
+use Rattle.statements.proofs.FirstPlaces.{seen_after, found, grows}
 
 module _ {A : Type 0} (same : A → A → Bool) where
   append_step : (seen : List A) (x : A) (xs ys : List A) →
@@ -80,7 +80,7 @@ module _ {A : Type 0} (same : A → A → Bool) (one : (a b : A) → Decides (sa
   once_from (x ∷ xs) seen apart distinct =
       ap (λ b. if b then first_places_from same seen xs else x ∷ first_places_from same (x ∷ seen) xs) (not_seen x seen (apart zero x refl) (list_any (same x) seen) refl)
       ∙ ap (λ ys. x ∷ ys) (once_from xs (x ∷ seen)
-      (λ n y g c. elim (first_or_later x y seen c) [
+      (λ n y g c. elim (Contains-cons_cases x y seen c) [
         | inl e ↦ let h : zero ≡ suc n = distinct zero (suc n) y (ap Some e) g in omega arith
         | inr older ↦ apart (suc n) y g older
       ])

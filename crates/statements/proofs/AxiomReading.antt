@@ -4,6 +4,7 @@ use Rattle.std.specs.Option.{unwrap_or}
 use Rattle.std.specs.List.{flat_map}
 use Rattle.std.proofs.lemmas.List.{append-nil}
 use Rattle.std.proofs.lemmas.Option.{slice_get_within}
+use Rattle.axioms.proofs.Trees.{length_trees}
 use Rattle.axioms.specs.Axiom as tree
 use Rattle.axioms.specs.Expression.{Iri, ClassExpression, Named}
 use Rattle.axioms.specs.Growth.{with_axiom}
@@ -16,7 +17,6 @@ use Rattle.statements.specs.Additions.{Adds, AxiomRead, ClassRead, ClassesRead, 
 use Rattle.statements.proofs.ClassReading.{IsReadSome, numbers_distinct, numbers_kept, numbers_long, numbers_stand, numbers_within, some_parts}
 use Rattle.statements.proofs.Overflowing.{overflow_more, overflow_later}
 use Rattle.statements.proofs.Steps.{adds_join, axiom_stated, keeps_of}
-use Rattle.statements.proofs.Trees.{length_trees}
 
 pub state_answer : (o p : Ontology) (a : Axiom) → IsOntology o → p ≡ with_axiom o a → Adds [] [] [] (axiom_tree o a ∷ []) o p
 state_answer o p a whole is = let P : Ontology → Type 0 = Adds [] [] [] (axiom_tree o a ∷ []) o in subst P (sym is) (axiom_stated o a whole)

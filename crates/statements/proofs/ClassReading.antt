@@ -6,15 +6,15 @@ use Rattle.std.proofs.lemmas.List.{append-nil, map-append, length-map}
 use Rattle.std.proofs.lemmas.List.Elements.{All-nil, All-cons}
 use Rattle.std.proofs.lemmas.Option.{none-some, same_Some, slice_get_within}
 use Rattle.std.proofs.lemmas.Grind.{flat_map-append}
+use Rattle.axioms.proofs.Trees.{length_trees}
+use Rattle.lemmas.proofs.Places.{Keeps}
 use Rattle.axioms.specs.Expression.{Iri, ClassExpression, Named, SomeValues}
 use Rattle.axioms.specs.Numbered.{Ontology, And, Exists, tree_of, trees, intersection, operands_of}
 use Rattle.axioms.specs.Numbering.{parts, parts_of_each, properties_in, properties_in_each, class_name}
 use Rattle.axioms.specs.WellFormed.{AreDistinct, IsNodeOf, IsOntology}
-use Rattle.axioms.proofs.Lists.{Keeps}
 use Rattle.statements.specs.Additions.{Adds, AreNumbers, HasAdded, Overflows, ReadsClass, ReadsClasses, ReadsProperty}
 use Rattle.statements.proofs.Overflowing.{overflow_more, overflow_later}
 use Rattle.statements.proofs.Steps.{adds_join, adds_nothing, keeps_of}
-use Rattle.statements.proofs.Trees.{length_trees}
 
 -- ---- numbers of several
 

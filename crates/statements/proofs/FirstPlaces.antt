@@ -5,6 +5,8 @@ use Rattle.std.proofs.lemmas.List.{append-nil}
 use Rattle.std.specs.Bool.{Decides}
 use Rattle.std.specs.List.{list_any}
 use Rattle.std.proofs.lemmas.Bool.Decides.{Decides-like, Decides-and}
+use Rattle.std.proofs.lemmas.Bool.{or_left, or_right}
+use Rattle.lemmas.proofs.Members.{Contains-later, Contains-cons_cases}
 use Rattle.axioms.specs.Expression.{ClassExpression, Operands, Named, Intersection, SomeValues, Pair, Before}
 use Rattle.axioms.specs.Numbering.{first_places, first_places_from, same_expression, same_operands}
 
@@ -30,13 +32,6 @@ mutual
   same_list (Before c cs) (Pair e f) = differ (λ h. cc)
   same_list (Before c cs) (Before e es) = Decides-like _ (λ e. ap₂ Before e.0 e.1) (λ e. (cc, cc)) (Decides-and _ _ (one_expression c e) (same_list cs es))
 
-or_right : (b c : Bool) → c ≡ true → b || c ≡ true
-or_right true c h = refl
-or_right false c h = h
-
-or_left : (b c : Bool) → b ≡ true → b || c ≡ true
-or_left b c h = ap (λ d. d || c) h
-
 module _ {A : Type 0} (same : A → A → Bool) (one : (a b : A) → Decides (same a b) (a ≡ b)) (y : A) where
   there_or_later : (x : A) (xs : List A) → (list_any (same y) xs ≡ true → Contains xs y) → (b : Bool) → same y x ≡ b → b || list_any (same y) xs ≡ true → Contains (x ∷ xs) y
   there_or_later x xs later true e h = (0, omega arith, sym ((one y x).0 e))
@@ -55,16 +50,6 @@ module _ {A : Type 0} (same : A → A → Bool) (one : (a b : A) → Decides (sa
 abbrev pub seen_after : {A : Type 0} → (A → A → Bool) → List A → List A → List A
 seen_after same seen [] = seen
 seen_after same seen (x ∷ xs) = if list_any (same x) seen then seen_after same seen xs else seen_after same (x ∷ seen) xs
-
-pub at_first : {A : Type 0} (x : A) (xs : List A) → Contains (x ∷ xs) x
-at_first x xs = (0, omega arith, refl)
-
-pub at_later : {A : Type 0} (x y : A) (xs : List A) → Contains xs y → Contains (x ∷ xs) y
-at_later x y xs h = (suc h.0, omega (arith, h.1), h.2)
-
-pub first_or_later : {A : Type 0} (x y : A) (xs : List A) → Contains (x ∷ xs) y → (x ≡ y) ⊎ Contains xs y
-first_or_later x y xs (zero, lt, e) = inl e
-first_or_later x y xs (suc i, lt, e) = inr (i, omega arith, e)
 
 -- what was seen is what was seen before, and the first places
 pub record AreSeen {A : Type 0} (y : A) (after seen places : List A) : Type 0 where
@@ -93,11 +78,11 @@ module _ {A : Type 0} (same : A → A → Bool) (y : A) where
   seen_step seen x xs later true known = later seen
   seen_step seen x xs later false known = record {
     only = λ h. elim ((later (x ∷ seen)).only h) [
-      | inl old ↦ elim (first_or_later x y seen old) [ inl e ↦ inr (0, omega arith, e) | inr older ↦ inl older ]
-      | inr new ↦ inr (at_later x y (first_places_from same (x ∷ seen) xs) new)
+      | inl old ↦ elim (Contains-cons_cases x y seen old) [ inl e ↦ inr (0, omega arith, e) | inr older ↦ inl older ]
+      | inr new ↦ inr (Contains-later x y (first_places_from same (x ∷ seen) xs) new)
     ];
-    before = λ h. (later (x ∷ seen)).before (at_later x y seen h);
-    placed = λ h. elim (first_or_later x y (first_places_from same (x ∷ seen) xs) h) [
+    before = λ h. (later (x ∷ seen)).before (Contains-later x y seen h);
+    placed = λ h. elim (Contains-cons_cases x y (first_places_from same (x ∷ seen) xs) h) [
       | inl e ↦ (later (x ∷ seen)).before (0, omega arith, e)
       | inr new ↦ (later (x ∷ seen)).placed new
     ];

@@ -3,6 +3,7 @@ use Rattle.std.proofs.Common.{◌≡◌, ℕ, zero, suc, ◌+◌, ◌<◌, ◌�
 use Rattle.std.specs.List.{flat_map}
 use Rattle.std.proofs.lemmas.List.{map-append, take_all}
 use Rattle.std.proofs.lemmas.Option.{slice_get-get_or}
+use Rattle.lemmas.proofs.Places.{take_push}
 use Rattle.axioms.specs.Expression.{ClassExpression, SomeValues}
 use Rattle.axioms.specs.Numbered.{Ontology, Exists, intersection, trees, tree_of as node_tree}
 use Rattle.axioms.specs.View.{expr_numbers}
@@ -11,7 +12,6 @@ use Rattle.axioms.specs.declared.fault.BuildFault.{BuildFault}
 use Rattle.axioms.specs.declared.fault.BuildFault.TheVariants.{TooManyNames, Memory}
 use Rattle.axioms.specs.declared.ids.ExprId.{ExprId}
 use Rattle.axioms.specs.Numbering.{parts, properties_in}
-use Rattle.axioms.proofs.Lists.{take_push}
 use Rattle.fs_parser.specs.Tree.{Trees}
 use Rattle.fs_parser.specs.View.{tree_of, trees_of}
 use Rattle.fs_parser.specs.declared.tree.Tree as code

@@ -1,9 +1,10 @@
 -- Kinds with too many names.
-use Rattle.std.proofs.Common.{◌≡◌, ℕ, zero, suc, ◌<◌, ◌≤◌, ◌⊎◌, inl, inr, List, [], ◌∷◌, ◌++◌, length, sym, ap, ◌∙◌, subst, arith, length-append, append_assoc}
+use Rattle.std.proofs.Common.{◌≡◌, ℕ, suc, ◌≤◌, inl, inr, List, [], ◌∷◌, ◌++◌, length, sym, ap, ◌∙◌, subst, arith, length-append, append_assoc}
 use Rattle.std.specs.Str.{bytes_eq}
 use Rattle.std.specs.List.{filter_map}
 use Rattle.std.proofs.lemmas.List.Elements.{filter_map-append}
 use Rattle.std.proofs.lemmas.Slice.Eq.{bytes_eq-Decides}
+use Rattle.std.proofs.lemmas.Bool.{cases_lt}
 use Rattle.axioms.specs.Axiom as tree
 use Rattle.axioms.specs.Expression.{Iri, ClassExpression}
 use Rattle.axioms.specs.Growth.{IsFull, Numbers, most_names}
@@ -20,18 +21,13 @@ full_overflows names iri distinct full =
     let places : names ++ iri ∷ [] ≡ first_places bytes_eq (names ++ iri ∷ []) = (appends_new bytes_eq bytes_eq-Decides names iri distinct full.0).places in
     omega (arith, full.1, length-append names (iri ∷ []), ap length places)
 
-few_or_many : (m n : ℕ) → (m ≤ n) ⊎ (n < m)
-few_or_many zero n = inl (omega arith)
-few_or_many (suc m) zero = inr (omega arith)
-few_or_many (suc m) (suc n) = elim (few_or_many m n) [ inl h ↦ inl (omega (arith, h)) | inr h ↦ inr (omega (arith, h)) ]
-
 -- a kind with room for the name has few names with it
 pub few_with_name : (names : List Iri) (iri : Iri) (new : List Iri) (n : ℕ) → Numbers names iri new n → (IsFull names iri → ⊥) → length names ≤ most_names → length new ≤ most_names
 few_with_name names iri new n (inl (at, same)) room few = subst (λ (xs : List Iri). length xs ≤ most_names) (sym same) few
 few_with_name names iri new n (inr (apart, last, longer)) room few =
-    elim (few_or_many (suc (length names)) most_names) [
-      | inl h ↦ omega (arith, h, ap length longer, length-append names (iri ∷ []))
-      | inr h ↦ absurd (room (apart, omega (arith, h)))
+    elim (cases_lt most_names (suc (length names))) [
+      | inl h ↦ absurd (room (apart, omega (arith, h)))
+      | inr h ↦ omega (arith, h, ap length longer, length-append names (iri ∷ []))
     ]
 
 -- too many names are too many with more

@@ -2,6 +2,7 @@
 use Rattle.std.proofs.Common.{◌≡◌, ℕ, zero, suc, ◌+◌, ◌<◌, ◌≤◌, List, [], ◌∷◌, ◌++◌, length, map, take, drop, get_or, Some, Err, refl, sym, ap, ◌∙◌, subst, arith}
 use Rattle.std.proofs.lemmas.List.{map-append, take_all}
 use Rattle.std.proofs.lemmas.Option.{slice_get-get_or}
+use Rattle.lemmas.proofs.Places.{take_push}
 use Rattle.axioms.specs.Expression.{Iri}
 use Rattle.axioms.specs.Numbered.{Ontology}
 use Rattle.axioms.specs.View.{prop_numbers}
@@ -9,7 +10,6 @@ use Rattle.axioms.specs.WellFormed.{IsOntology}
 use Rattle.axioms.specs.declared.fault.BuildFault.{BuildFault}
 use Rattle.axioms.specs.declared.fault.BuildFault.TheVariants.{TooManyNames, Memory}
 use Rattle.axioms.specs.declared.ids.PropId.{PropId}
-use Rattle.axioms.proofs.Lists.{take_push}
 use Rattle.fs_parser.specs.Tree.{Tree, Name, PlainLiteral, TaggedLiteral, TypedLiteral, Anonymous, Number, Group, Form}
 use Rattle.fs_parser.specs.View.{tree_of, trees_of}
 use Rattle.fs_parser.specs.declared.tree.Tree as code

@@ -7,22 +7,23 @@ use Rattle.std.proofs.lemmas.List.{append-nil, map-append}
 use Rattle.std.proofs.lemmas.List.Elements.{filter_map-append}
 use Rattle.std.proofs.lemmas.Option.{slice_get_within}
 use Rattle.std.proofs.lemmas.Slice.Eq.{bytes_eq-Decides}
+use Rattle.lemmas.proofs.Members.{Contains-from_slice_get, slice_get-from_Contains}
+use Rattle.lemmas.proofs.Places.{slice_get_push, Keeps}
 use Rattle.axioms.specs.Axiom as tree
 use Rattle.axioms.specs.Expression.{Iri, ClassExpression, Named}
 use Rattle.axioms.specs.Growth.{IsFull, Numbers, most_names, DeclaresClass, DeclaresProperty, DeclaresIndividual, with_axiom}
 use Rattle.axioms.specs.Numbered.{Ontology, Names, Axiom, Node, Class, name_at, tree_of, trees_from, trees, expression, axiom_tree, axiom_trees}
 use Rattle.axioms.specs.Numbering.{same_expression, class_name}
 use Rattle.axioms.specs.WellFormed.{AreDistinct, IsOntology}
-use Rattle.axioms.proofs.Lists.{Keeps, slice_get_push, Contains-from_slice_get, slice_get-from_Contains}
-use Rattle.axioms.proofs.Trees.{node_tree, class_named}
+use Rattle.axioms.proofs.Trees.{node_tree, class_named, length_trees}
 use Rattle.axioms.proofs.Growing.{keeps_numbers, new_class_node}
-use Rattle.axioms.specs.declared.fault.Memory.{Memory}
+use Rattle.device.specs.declared.fault.Memory.{Memory}
 use Rattle.axioms.specs.declared.ids.ExprId.{ExprId}
 use Rattle.statements.specs.Additions.{Appends, Adds, Grows, HasAdded, HasFewNames}
 use Rattle.statements.proofs.FirstPlaces.{one_expression}
 use Rattle.statements.proofs.Appending.{appends_nothing, appends_join, appends_number, appends_old, appends_new, once}
 use Rattle.statements.proofs.Overflowing.{few_with_name}
-use Rattle.statements.proofs.Trees.{KeepsNames, KeepsAll, keeps_append, axioms_kept, trees_kept, trees_pushed, distinct_trees, length_trees, tree_there}
+use Rattle.statements.proofs.Trees.{KeepsNames, KeepsAll, keeps_append, axioms_kept, trees_kept, trees_pushed, distinct_trees, tree_there}
 
 -- the expression is added, and now has this number
 record IsGrownAt (old new : Ontology) (number : ℕ) (c : ClassExpression) : Type 0 where

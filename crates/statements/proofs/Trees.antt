@@ -1,13 +1,14 @@
 -- The expressions of an ontology that grows.
-use Rattle.std.proofs.Common.{◌≡◌, ℕ, zero, suc, ◌+◌, ◌<◌, List, [], ◌∷◌, ◌++◌, length, slice_get, Some, All, map, refl, sym, ap, ap₂, ◌∙◌, subst, arith, length-append}
+use Rattle.std.proofs.Common.{◌≡◌, ℕ, zero, suc, ◌<◌, List, [], ◌∷◌, ◌++◌, length, slice_get, Some, All, map, refl, sym, ap, ap₂, ◌∙◌, subst, arith}
 use Rattle.std.specs.Option.{unwrap_or}
 use Rattle.std.proofs.lemmas.Option.{none-some, slice_get_within}
 use Rattle.std.proofs.lemmas.List.Elements.{All-head, All-tail}
+use Rattle.axioms.proofs.Trees.{length_trees}
+use Rattle.lemmas.proofs.Places.{slice_get_there, Keeps}
 use Rattle.axioms.specs.Axiom as tree
 use Rattle.axioms.specs.Expression.{Iri, ClassExpression, Named, SomeValues}
 use Rattle.axioms.specs.Numbered.{Ontology, Names, Axiom, Node, Class, And, Exists, SubClass, EquivalentClasses, DisjointClasses, SubProperty, EquivalentProperties, Domain, Transitive, Reflexive, ClassAssertion, PropertyAssertion, name_at, tree_at, tree_of, trees_from, trees, expression, expressions, property_name, individual_name, axiom_tree, axiom_trees}
 use Rattle.axioms.specs.WellFormed.{AreDistinct, IsNodeOf, IsAxiomOf, IsOntology}
-use Rattle.axioms.proofs.Lists.{Keeps, slice_get_there}
 use Rattle.axioms.proofs.Unique.{expression_determined}
 
 -- the node speaks of names that are there
@@ -42,16 +43,6 @@ pub trees_push : (names : Names) (ts : List ClassExpression) (nodes : List Node)
     trees_from names ts (nodes ++ node ∷ []) ≡ trees_from names ts nodes ++ tree_of names (trees_from names ts nodes) node ∷ []
 trees_push names ts [] node = refl
 trees_push names ts (m ∷ nodes) node = trees_push names (ts ++ tree_of names ts m ∷ []) nodes node
-
-length_trees_from : (names : Names) (ts : List ClassExpression) (nodes : List Node) → length (trees_from names ts nodes) ≡ length ts + length nodes
-length_trees_from names ts [] = omega arith
-length_trees_from names ts (node ∷ nodes) =
-    let t = tree_of names ts node in
-    omega (arith, length_trees_from names (ts ++ t ∷ []) nodes, length-append ts (t ∷ []))
-
--- there are as many expressions as nodes
-pub length_trees : (o : Ontology) → length (trees o) ≡ length o.nodes
-length_trees o = omega (arith, length_trees_from o.names [] o.nodes)
 
 has_names : (o : Ontology) (e : ℕ) (node : Node) → IsNodeOf o e node → HasNames o.names node
 has_names o e (Class c) h = h

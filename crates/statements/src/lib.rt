@@ -9,8 +9,6 @@ mod expressions;
 mod names;
 mod parts;
 mod properties;
-#[cfg(test)]
-mod tests;
 
 pub use axiom_forms::{
     class_assertion, disjoint_classes, equivalent_classes, equivalent_properties,

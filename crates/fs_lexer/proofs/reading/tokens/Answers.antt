@@ -1,12 +1,12 @@
 use Rattle.std.proofs.Common.{◌≡◌, ◌∙◌, ◌-◌, ◌<◌, List, [], ◌∷◌, ◌++◌, ℕ, length, map, take, drop, ap, sym, subst, arith}
 use Rattle.std.specs.Str.{IsCharBoundary}
-use Rattle.std.proofs.lemmas.List.{map-append}
+use Rattle.std.proofs.lemmas.List.{map-append, nil_from_length}
 use Rattle.std.proofs.lemmas.Bool.Decides.{nat_tests}
 use Rattle.fs_lexer.specs.Spelling as spelling
 use Rattle.fs_lexer.specs.Views.{token_of}
 use Rattle.fs_lexer.specs.Reading.{skip}
 use Rattle.fs_lexer.specs.Faults.{IsNext}
-use Rattle.fs_lexer.proofs.State.{IsState, next_token, first_state, next_state, last_state, stuck_state, next_at, done_at, skip_shorter, nothing, something}
+use Rattle.fs_lexer.proofs.State.{IsState, next_token, first_state, next_state, last_state, stuck_state, next_at, done_at, skip_shorter, something}
 use Rattle.fs_lexer.proofs.reading.tokens.Goals as goal
 
 pub loop-bytes-init : goal.loop-bytes-init
@@ -77,4 +77,4 @@ loop-bytes-preserved c =
 pub returns-clause-found : goal.returns-clause-found
 returns-clause-found c =
     let l : length c.loop-bytes.rest.now ≡ 0 = grind (arith, nat_tests, c.is_empty.ensures, c.loop-bytes-test.false) in
-    last_state c.args.text.now _ c.loop-bytes.rest.now c.loop-bytes.invariant.1 (nothing c.loop-bytes.rest.now l)
+    last_state c.args.text.now _ c.loop-bytes.rest.now c.loop-bytes.invariant.1 (nil_from_length c.loop-bytes.rest.now l)

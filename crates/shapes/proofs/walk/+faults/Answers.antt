@@ -1,7 +1,8 @@
 use Rattle.std.proofs.Common.{◌∙◌, ◌++◌, [], List, Vec, Global, arith, drop, false, sym, ap}
+use Rattle.std.proofs.lemmas.Result.{on_ok_weaker}
 use Rattle.fs_parser.specs.Tree.{Form}
 use Rattle.fs_parser.specs.View.{tree_of, trees_of}
-use Rattle.shapes.proofs.Lists.{earlier, fits_behind, fitting_form, form_found, not_repeated, on_ok, operand_step, repeated, unfitting_form}
+use Rattle.shapes.proofs.Lists.{earlier, fits_behind, fitting_form, form_found, not_repeated, operand_step, repeated, unfitting_form}
 use Rattle.shapes.specs.declared.fault.Fault as code
 use Rattle.shapes.proofs.Placed.{placed_is_known, placed_is_not_refused}
 use Rattle.shapes.specs.Faults.{Fault, faults, faults_in, own_trees, front_faults}
@@ -16,7 +17,7 @@ form_faults-returns-then-not-fits_count t c =
     let operands = operands_view c.in-Some.operands in
     let n = c.annotations_in_front-in_front.result in
     let fits = fits_behind expected operands ts n _ c.annotations_in_front-in_front.ensures.others c.if-not-fits_count.ensures in
-    on_ok c.tell-then-not-fits_count.result
+    on_ok_weaker c.tell-then-not-fits_count.result
     (λ h. h ∙ ap (λ (fs : List Fault). faults_of c.args.found.now.items ++ fs)
     (sym (unfitting_form expected c.args.at c.args.keyword.now (trees_of ts) operands (placed_is_not_refused expected c.args.keyword.now operands (sym c.in-Some.ensures)) (placed_is_known expected c.args.keyword.now operands (sym c.in-Some.ensures)) (sym c.in-Some.ensures) fits)))
     c.tell-then-not-fits_count.ensures
@@ -29,7 +30,7 @@ form_faults-returns t c =
     let n = c.annotations_in_front-in_front.result in
     let fits = fits_behind expected operands ts n _ c.annotations_in_front-in_front.ensures.others c.if-not-fits_count.ensures in
     let all = fitting_form expected c.args.at c.args.keyword.now (trees_of ts) operands (placed_is_not_refused expected c.args.keyword.now operands (sym c.in-Some.ensures)) (placed_is_known expected c.args.keyword.now operands (sym c.in-Some.ensures)) (sym c.in-Some.ensures) fits in
-    on_ok c.operand_faults.result
+    on_ok_weaker c.operand_faults.result
     (form_found (faults_of c.args.found.now.items) (front_faults expected (trees_of ts)) _ _ (faults expected (Form c.args.at c.args.keyword.now (trees_of ts))) operands _ (own_trees expected (trees_of ts))
     c.annotations_in_front-in_front.ensures.others all c.in_ok-annotation_faults.ensures) c.operand_faults.ensures
 
