@@ -5,8 +5,9 @@ use Rattle.std.specs.Result.{is_ok}
 use Rattle.std.proofs.lemmas.Bool.{cases_eq, cases_order, lt-ltb, le-ltb, eq-eqb, ne_eqb, false≢true}
 use Rattle.std.proofs.lemmas.List.{length-set, get_or-set_same, get_or-set_other, map-append}
 use Rattle.std.proofs.lemmas.Option.{none-some, same_Some}
+use Rattle.lemmas.proofs.Members.{Contains-from_slice_get, slice_get-from_Contains}
+use Rattle.lemmas.proofs.Places.{slice_get_push, slice_get_push_cases, keeps_push, take_push, slice_get_take, take_slice_get}
 use Rattle.axioms.specs.Numbered.{Ontology, IsClassAt}
-use Rattle.axioms.proofs.Lists.{Contains-from_slice_get, slice_get-from_Contains, slice_get_push, slice_get_push_cases, keeps_push, take_push, slice_get_take, take_slice_get}
 use Rattle.axioms.proofs.Trees.{one_class}
 use Rattle.interpretation_spec.specs.ByName.{is_target}
 use Rattle.interpretation_spec.specs.Numbered.{NumberedInterpretation, IsNumberedInterpretation, targets_of, with_member, with_pair, with_individual, with_number}

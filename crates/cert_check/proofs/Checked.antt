@@ -2,9 +2,10 @@
 use Rattle.std.proofs.Common.{◌≡◌, ◌↔◌, ℕ, zero, suc, ◌+◌, Bool, true, List, map, take, slice_get, Some, None, Option, sym, ◌∙◌, subst, subst₂, arith}
 use Rattle.std.proofs.lemmas.List.{take-map}
 use Rattle.std.proofs.lemmas.Option.{same_Some, none-some}
+use Rattle.lemmas.proofs.Mapped.{slice_get_map}
+use Rattle.lemmas.proofs.Choices.{one_value}
 use Rattle.axioms.specs.Numbered.{Ontology, Axiom}
 use Rattle.axioms.specs.View.{at_number}
-use Rattle.axioms.proofs.Lists.{slice_get_map, one_value}
 use Rattle.certificate.specs.Certificate.{Line, Conclusion}
 use Rattle.certificate.specs.declared.line.Line as code
 use Rattle.certificate.specs.HasText.{IsLineOf}

@@ -4,9 +4,12 @@ use Rattle.std.proofs.lemmas.Bool.{cases_eq, false≢true}
 use Rattle.std.proofs.lemmas.List.{length-set, length-replicate, take-map}
 use Rattle.std.proofs.lemmas.List.Elements.{All-contains}
 use Rattle.std.proofs.lemmas.Option.{none-some, same_Some, slice_get_within, slice_get-get_or, slice_get_read, get_or_from_slice_get}
+use Rattle.std.specs.Cmp.{both_ways}
+use Rattle.lemmas.proofs.Mapped.{slice_get_map}
+use Rattle.lemmas.proofs.Members.{Contains-from_slice_get, slice_get-from_Contains}
+use Rattle.lemmas.proofs.Places.{slice_get_take}
 use Rattle.axioms.specs.Numbered.{Ontology, Class, IsClassAt, expression, name_at, nothing}
 use Rattle.axioms.specs.WellFormed.{IsOntology}
-use Rattle.axioms.proofs.Lists.{same_bools, Contains-from_slice_get, slice_get-from_Contains, slice_get_map, slice_get_take}
 use Rattle.axioms.proofs.Trees.{class_tree, one_class}
 use Rattle.certificate.specs.Certificate.{Subject, Expression, Individual, Sub, Line, Listed}
 use Rattle.certificate.specs.HasText.{IsListedOf, IsNamedClass, AreElements, Ascends}
@@ -229,7 +232,7 @@ module _ (o : Ontology) (w : IsOntology o) (lines : List Line) (l : Listed) (fit
 
   agrees_to : (subject : Subject) (row : List Bool) → SaysAbove subject row → (x : ℕ) → x < l.domain → Agrees o i lines subject x → IsInExactly holding x row
   agrees_to subject row says x lx agrees d =
-      same_bools (lies_below holding x d) (has row d)
+      both_ways (lies_below holding x d) (has row d)
       (λ t. let (e, g, h) = has_class x d lx t in (says.line d e g).1 ((agrees d e g).0 h))
       (λ t. let (f, g) = says.some d t in in_row x d f lx g ((agrees d f g).1 ((says.line d f g).0 t)))
 

@@ -3,13 +3,14 @@ use Rattle.std.proofs.Common.{zero, suc, ◌<◌, ◌≤◌, List, [], ◌∷◌
 use Rattle.std.specs.Fmt.{digits}
 use Rattle.std.proofs.lemmas.Option.{none-some, same_Some}
 use Rattle.std.proofs.lemmas.List.Elements.{All-nil, All-from_recursion}
-use Rattle.certificate.specs.Certificate.{Individual, Sub, K7, K15, Line, Certificate}
+use Rattle.cert_check.proofs.Places.{All-from_test}
+use Rattle.certificate.specs.Certificate.{Individual, Sub, Line, Certificate}
+use Rattle.certificate.specs.declared.line.Rule.TheVariants.{K7, K15}
 use Rattle.certificate.specs.HasText.{certificate_numbers, IsLineOf, HasText}
 use Rattle.cert_check.specs.Derivation.{IsDerived, IsDerivation}
 use Rattle.cert_check.specs.Acceptable.{of_individual}
 use Rattle.cert_check.specs.Examples.{ContradictionIsAccepted}
 use Rattle.axioms.specs.Examples.{contradiction}
-use Rattle.axioms.proofs.Lists.{All-from_test}
 
 abbrev lines : List Line
 lines =

@@ -1,17 +1,17 @@
 -- The two texts are determined: where two pairs of texts are acceptable, they are the same.
 use Rattle.std.proofs.Common.{◌≡◌, ℕ, ◌<◌, ◌↔◌, List, length, Bool, true, sym, ◌∙◌, MatchOption, Option, Some, None}
 use Rattle.std.proofs.lemmas.Option.{slice_get_within}
+use Rattle.std.specs.Cmp.{both_ways}
 use Rattle.axioms.specs.Expression.{owl_nothing}
 use Rattle.axioms.specs.Numbered.{Ontology}
 use Rattle.certificate.specs.Certificate.{Line, Listed}
 use Rattle.cert_check.specs.Acceptable.{AreDetermined, SaysConsistent, SaysContradictory, IsAcceptable, ClassBelow, HasType}
 use Rattle.axioms.specs.WellFormed.{IsOntology}
-use Rattle.axioms.proofs.Lists.{same_bools}
 use Rattle.taxonomy.proofs.Agreement.{same_taxonomy, same_instances}
 use Rattle.cert_check.proofs.Headline.{acceptable_says}
 
 pub same_answer : (a b : Bool) (P : Type 0) → (a ≡ true) ↔ P → (b ≡ true) ↔ P → a ≡ b
-same_answer a b P e f = same_bools a b (λ h. f.1 (e.0 h)) (λ h. e.1 (f.0 h))
+same_answer a b P e f = both_ways a b (λ h. f.1 (e.0 h)) (λ h. e.1 (f.0 h))
 
 pub determined_once : (o : Ontology) → IsOntology o → (taxonomy instances taxonomy' instances' : List ℕ) (r p s q : ℕ → ℕ → Bool) → AreDetermined o taxonomy instances r p → AreDetermined o taxonomy' instances' s q → (taxonomy ≡ taxonomy') × (instances ≡ instances')
 determined_once o w taxonomy instances taxonomy' instances' r p s q a b =

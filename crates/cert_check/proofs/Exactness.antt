@@ -2,11 +2,12 @@
 use Rattle.std.proofs.Common.{◌≡◌, ◌↔◌, ℕ, zero, suc, ◌<◌, List, length, get_or, slice_get, Option, Some, None, IfSome, IsSomeAnd, MatchOption, Bool, refl, sym, ap, ◌∙◌, subst, inl, inr}
 use Rattle.std.proofs.lemmas.List.Elements.{All-contains}
 use Rattle.std.proofs.lemmas.Option.{slice_get-get_or, slice_get_within}
+use Rattle.lemmas.proofs.Mapped.{slice_get_map}
+use Rattle.lemmas.proofs.Members.{Contains-from_slice_get}
 use Rattle.axioms.specs.Expression.{owl_nothing}
 use Rattle.axioms.specs.Numbered.{Ontology, Axiom, axiom_tree, axiom_trees, thing, nothing}
 use Rattle.axioms.specs.View.{at_number}
 use Rattle.axioms.specs.WellFormed.{IsOntology}
-use Rattle.axioms.proofs.Lists.{Contains-from_slice_get, slice_get_map}
 use Rattle.certificate.specs.Certificate.{Subject, Expression, Individual, Conclusion, Sub, Edge, Line, Listed, Certificate}
 use Rattle.certificate.specs.HasText.{IsListedOf, IsNamedClass}
 use Rattle.certificate.proofs.Meaning.{same_certificate}

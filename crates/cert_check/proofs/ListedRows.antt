@@ -3,9 +3,11 @@ use Rattle.std.proofs.Common.{◌≡◌, ◌≢◌, ◌↔◌, ℕ, zero, suc, �
 use Rattle.std.specs.List.{list_any}
 use Rattle.std.proofs.lemmas.Bool.{cases_eq, eq-eqb, ne_eqb, false≢true}
 use Rattle.std.proofs.lemmas.Option.{none-some, same_Some, slice_get_within, get_or_from_slice_get}
+use Rattle.lemmas.proofs.Pairs.{AllPairs-tail}
+use Rattle.lemmas.proofs.Members.{Contains-none}
+use Rattle.lemmas.proofs.Mapped.{slice_get_map}
 use Rattle.axioms.specs.Numbered.{Ontology, Class, IsClassAt}
 use Rattle.axioms.specs.WellFormed.{IsOntology}
-use Rattle.axioms.proofs.Lists.{slice_get_map}
 use Rattle.certificate.specs.Certificate.{Listed}
 use Rattle.certificate.specs.HasText.{IsListedOf, Ascends, IsPairBefore}
 use Rattle.interpretation_spec.specs.ByName.{interpretation_of, is_target}
@@ -49,11 +51,8 @@ one_place (z ∷ zs) h (suc k) (suc l) x g f = ap suc (one_place zs (rest_ascend
 abbrev pub HasMember : List (ℕ × List ℕ) → ℕ → ℕ → Type 0
 HasMember rows e x = SomeRow rows (λ row. (row.0 ≡ e) × Contains row.1 x)
 
-contains_none : (x : ℕ) → Contains [] x → ⊥
-contains_none x c = let l = c.1 in omega arith
-
 pub listed_member : (rows : List (ℕ × List ℕ)) → Ascends (map (λ r. r.0) rows) → (e x : ℕ) → Contains (elements_of rows e) x ↔ HasMember rows e x
-listed_member [] h e x = (λ c. absurd (contains_none x c), λ s. absurd (none-some s.1 s.2))
+listed_member [] h e x = (λ c. absurd (Contains-none x c), λ s. absurd (none-some s.1 s.2))
 listed_member (row ∷ rows) h e x = elim (cases_eq row.0 e) [
   | inl f ↦ rw (eq-eqb row.0 e f) (λ c. (0, row, refl, (f, c)), λ s. this_one row rows h e x f s)
   | inr ne ↦ rw (ne_eqb row.0 e ne) (
@@ -72,9 +71,6 @@ listed_member (row ∷ rows) h e x = elim (cases_eq row.0 e) [
     later row rows e x ne (zero, r, g, (p, c)) = absurd (ne (ap (λ (w : ℕ × List ℕ). w.0) (same_Some row r g) ∙ p))
     later row rows e x ne (suc k, r, g, (p, c)) = (k, r, g, (p, c))
 
-rest_before : (p : ℕ × ℕ × List ℕ) (ps : List (ℕ × ℕ × List ℕ)) → AllPairs IsPairBefore (p ∷ ps) → AllPairs IsPairBefore ps
-rest_before p ps h i j d l k = h (suc i) (suc j) d (omega arith) (omega arith)
-
 first_before : (p : ℕ × ℕ × List ℕ) (ps : List (ℕ × ℕ × List ℕ)) → AllPairs IsPairBefore (p ∷ ps) → (k : ℕ) (q : ℕ × ℕ × List ℕ) → slice_get ps k ≡ Some q → IsPairBefore p q
 first_before p ps h k q g =
     let l : k < length ps = slice_get_within ps k q g in
@@ -85,11 +81,11 @@ not_same_pair p q (inl l) e f = omega arith
 not_same_pair p q (inr s) e f = let l = s.1 in omega arith
 
 pub listed_target : (rows : List (ℕ × ℕ × List ℕ)) → AllPairs IsPairBefore rows → (r x y : ℕ) → Contains (listed_targets rows r x) y ↔ IsListedPair rows r x y
-listed_target [] h r x y = (λ c. absurd (contains_none y c), λ s. absurd (none-some s.1 s.2))
+listed_target [] h r x y = (λ c. absurd (Contains-none y c), λ s. absurd (none-some s.1 s.2))
 listed_target (p ∷ ps) h r x y = elim (cases_eq p.0 r) [
-  | inr ne ↦ rw (ne_eqb p.0 r ne) (other p ps r x y (λ e f. ne e) (listed_target ps (rest_before p ps h) r x y))
+  | inr ne ↦ rw (ne_eqb p.0 r ne) (other p ps r x y (λ e f. ne e) (listed_target ps (AllPairs-tail IsPairBefore p ps h) r x y))
   | inl e ↦ elim (cases_eq p.1 x) [
-    | inr ne ↦ rw (eq-eqb p.0 r e, ne_eqb p.1 x ne) (other p ps r x y (λ e f. ne f) (listed_target ps (rest_before p ps h) r x y))
+    | inr ne ↦ rw (eq-eqb p.0 r e, ne_eqb p.1 x ne) (other p ps r x y (λ e f. ne f) (listed_target ps (AllPairs-tail IsPairBefore p ps h) r x y))
     | inl f ↦ rw (eq-eqb p.0 r e, eq-eqb p.1 x f) (λ c. (0, p, refl, (e, f, c)), λ s. this_one p ps h r x y e f s)
   ]
 ]

@@ -9,15 +9,17 @@ use Rattle.axioms.specs.Expression.{owl_thing}
 use Rattle.axioms.specs.Numbered.{Ontology, Class, SubClass, IsClassAt, axiom_trees, axiom_tree, name_at, nothing}
 use Rattle.interpretation_spec.specs.Interpretation.{Interpretation, IsModel, Satisfies}
 use Rattle.taxonomy.specs.Texts.{taxonomy_text, instances_text}
-use Rattle.certificate.specs.Certificate.{Expression, Conclusion, Sub, Rule, K1, K2, K4, Line, Listed, Certificate}
+use Rattle.certificate.specs.Certificate.{Expression, Conclusion, Sub, Line, Listed, Certificate}
+use Rattle.certificate.specs.declared.line.Rule.{Rule}
+use Rattle.certificate.specs.declared.line.Rule.TheVariants.{K1, K2, K4}
 use Rattle.cert_check.specs.Lines.{Follows}
 use Rattle.certificate.specs.HasText.{certificate_numbers, IsConclusionOf, IsLineOf, HasText, AreElements, IsNamedClass}
 use Rattle.cert_check.specs.Derivation.{IsDerived, IsDerivation, HasLine}
 use Rattle.cert_check.specs.Acceptable.{elements_of, IsListing, Agrees, ClaimHolds, LiesBelow, IsConsistentShown}
 use Rattle.cert_check.specs.Examples.{OneSubclassIsAccepted}
+use Rattle.cert_check.proofs.Places.{All-from_test}
 use Rattle.axioms.specs.Examples.{one_subclass}
 use Rattle.axioms.proofs.FourClasses.{number_at}
-use Rattle.axioms.proofs.Lists.{All-from_test}
 
 abbrev small : Ontology
 small = one_subclass

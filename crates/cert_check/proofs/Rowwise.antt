@@ -1,6 +1,8 @@
 -- Rows to which numbers are added line by line.
 use Rattle.std.proofs.Common.{◌≡◌, ◌≢◌, ◌↔◌, ℕ, zero, suc, ◌+◌, ◌<◌, List, [], ◌∷◌, ◌++◌, length, map, take, get_or, set, replicate, slice_get, Some, Bool, true, false, ◌⊎◌, inl, inr, refl, sym, ap, ◌∙◌, subst, arith}
 use Rattle.std.proofs.lemmas.Bool.{cases_eq, cases_lt, false≢true}
+use Rattle.interpretation_spec.proofs.Shapes.{empty_row}
+use Rattle.lemmas.proofs.Places.{slice_get_push, keeps_push, slice_get_push_cases}
 use Rattle.axioms.proofs.Trees.{one_class}
 use Rattle.axioms.specs.Numbered.{Ontology, IsClassAt}
 use Rattle.std.proofs.lemmas.List.{get_or-set_same, get_or-set_other, take_more, map-append, length-set, length-replicate, get_or-replicate, length-map}
@@ -17,30 +19,15 @@ use Rattle.cert_check.specs.Rows.{AreRows, AreClassRows, AreTypeRows, Adds, Some
 pub none_of_none : (P : Conclusion → Type 0) → SomeLine [] P → ⊥
 none_of_none P (k, line, g, p) = none-some line g
 
-in_front : (lines : List Line) (last : Line) (k : ℕ) (line : Line) → slice_get lines k ≡ Some line → slice_get (lines ++ last ∷ []) k ≡ Some line
-in_front [] last k line g = absurd (none-some line g)
-in_front (l ∷ lines) last zero line g = g
-in_front (l ∷ lines) last (suc k) line g = in_front lines last k line g
-
-at_end : (lines : List Line) (last : Line) → slice_get (lines ++ last ∷ []) (length lines) ≡ Some last
-at_end [] last = refl
-at_end (l ∷ lines) last = at_end lines last
-
-where_it_is : (lines : List Line) (last : Line) (k : ℕ) (line : Line) → slice_get (lines ++ last ∷ []) k ≡ Some line → (slice_get lines k ≡ Some line) ⊎ (last ≡ line)
-where_it_is [] last zero line g = inr (same_Some last line g)
-where_it_is [] last (suc k) line g = absurd (none-some line g)
-where_it_is (l ∷ lines) last zero line g = inl g
-where_it_is (l ∷ lines) last (suc k) line g = where_it_is lines last k line g
-
 pub one_more_line : (P : Conclusion → Type 0) (lines : List Line) (last : Line) → SomeLine (lines ++ last ∷ []) P ↔ (SomeLine lines P ⊎ P last.conclusion)
 one_more_line P lines last = (
-  λ (k, line, g, p). elim (where_it_is lines last k line g) [
+  λ (k, line, g, p). elim (slice_get_push_cases lines last k line g) [
     | inl h ↦ inl (k, line, h, p)
-    | inr e ↦ inr (subst (λ (l : Line). P l.conclusion) (sym e) p)
+    | inr e ↦ inr (subst (λ (l : Line). P l.conclusion) (sym e.1) p)
   ],
   λ h. elim h [
-    | inl s ↦ (s.0, s.1, in_front lines last s.0 s.1 s.2, s.3)
-    | inr p ↦ (length lines, last, at_end lines last, p)
+    | inl s ↦ (s.0, s.1, keeps_push lines last s.0 s.1 s.2, s.3)
+    | inr p ↦ (length lines, last, slice_get_push lines last, p)
   ],
 )
 
@@ -110,14 +97,9 @@ adds_none puts rows none c d = (λ t. inl t, λ s. elim s [ inl u ↦ u | inr p 
 
 -- ---- empty rows
 
-no_bit : (width d : ℕ) → has (replicate width false) d ≡ false
-no_bit zero d = refl
-no_bit (suc width) zero = refl
-no_bit (suc width) (suc d) = no_bit width d
-
 pub no_number : (count width c d : ℕ) → lies_below (replicate count (replicate width false)) c d ≡ false
 no_number zero width c d = refl
-no_number (suc count) width zero d = no_bit width d
+no_number (suc count) width zero d = empty_row width d
 no_number (suc count) width (suc c) d = no_number count width c d
 
 pub empty_are_rows : (count width : ℕ) → AreRows count width (replicate count (replicate width false))

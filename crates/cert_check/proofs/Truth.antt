@@ -3,14 +3,17 @@ use Rattle.std.proofs.Common.{◌≡◌, ℕ, ◌<◌, ◌≤◌, List, [], ◌�
 use Rattle.std.specs.List.{AllByRecursion}
 use Rattle.std.proofs.lemmas.List.{length-map}
 use Rattle.std.proofs.lemmas.List.Elements.{All-cons, All-nil}
+use Rattle.lemmas.proofs.Pairs.{AllPairs-from_map}
 use Rattle.axioms.specs.Numbered.{Ontology, Axiom, And, SubClass, EquivalentClasses, DisjointClasses, SubProperty, EquivalentProperties, Domain, Transitive, Reflexive, ClassAssertion, PropertyAssertion, thing, nothing, expression, expressions, property_name, individual_name, axiom_tree}
 use Rattle.axioms.specs.WellFormed.{IsOntology}
 use Rattle.axioms.proofs.Trees.{and_tree, some_tree}
-use Rattle.axioms.proofs.Lists.{at_places, of_elements, AllPairs-from_map, mapped_member}
 use Rattle.interpretation_spec.specs.Interpretation.{Interpretation, IsInterpretation, IsIn, HasPair, HasPath, IsSame, IsApart, IsSameProperty, Satisfies}
 use Rattle.interpretation_spec.proofs.Extensions.{in_intersection, each_of_intersection, in_thing, not_in_nothing}
-use Rattle.certificate.specs.Certificate.{Subject, Expression, Individual, Conclusion, Sub, Edge, Rule, K1, K2, K3, K4, K5, K6, K7, K8, K9, K10, K11, K12, K13, K14, K15, K16}
+use Rattle.certificate.specs.Certificate.{Subject, Expression, Individual, Conclusion, Sub, Edge}
+use Rattle.certificate.specs.declared.line.Rule.{Rule}
+use Rattle.certificate.specs.declared.line.Rule.TheVariants.{K1, K2, K3, K4, K5, K6, K7, K8, K9, K10, K11, K12, K13, K14, K15, K16}
 use Rattle.cert_check.specs.Lines.{IsOf, IsTrueIn, IsWalk, Follows}
+use Rattle.cert_check.proofs.Places.{mapped_member, at_places, of_elements}
 
 -- the interpretation satisfies the axiom, if there is one
 abbrev pub Holds : Ontology → Interpretation → Option Axiom → Type 0

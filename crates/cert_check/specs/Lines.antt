@@ -4,7 +4,9 @@ use Rattle.std.specs.declared.option.Option.{Option}
 use Rattle.std.specs.List.{Contains}
 use Rattle.axioms.specs.Numbered.{Ontology, Axiom, And, Exists, SubClass, EquivalentClasses, DisjointClasses, SubProperty, EquivalentProperties, Domain, Transitive, Reflexive, ClassAssertion, PropertyAssertion, AtTwoPlaces, thing, nothing, expression, property_name, individual_name}
 use Rattle.interpretation_spec.specs.Interpretation.{Interpretation, IsIn, HasPair}
-use Rattle.certificate.specs.Certificate.{Subject, Expression, Individual, Conclusion, Sub, Edge, Rule, K1, K2, K3, K4, K5, K6, K7, K8, K9, K10, K11, K12, K13, K14, K15, K16}
+use Rattle.certificate.specs.Certificate.{Subject, Expression, Individual, Conclusion, Sub, Edge}
+use Rattle.certificate.specs.declared.line.Rule.{Rule}
+use Rattle.certificate.specs.declared.line.Rule.TheVariants.{K1, K2, K3, K4, K5, K6, K7, K8, K9, K10, K11, K12, K13, K14, K15, K16}
 
 -- the set of a subject: the extension of an expression, or the one element of an individual
 abbrev pub IsOf : Ontology → Interpretation → Subject → ℕ → Type 0

@@ -5,7 +5,8 @@ use Rattle.std.specs.List.{Contains, AllByRecursion}
 use Rattle.interpretation_spec.specs.Interpretation.{Interpretation, IsInterpretation, IsModel}
 use Rattle.axioms.specs.Numbered.{Ontology, Axiom, axiom_trees}
 use Rattle.interpretation_spec.specs.Agreement.{AgreeOn}
-use Rattle.certificate.specs.Certificate.{Conclusion, Rule, Line, Listed}
+use Rattle.certificate.specs.Certificate.{Conclusion, Line, Listed}
+use Rattle.certificate.specs.declared.line.Rule.{Rule}
 use Rattle.cert_check.specs.Lines.{IsTrueIn, Follows}
 use Rattle.certificate.specs.HasText.{IsListedOf}
 use Rattle.cert_check.specs.Derivation.{IsDerivation}

@@ -14,7 +14,7 @@ use Rattle.cert_check.specs.declared.verdict.Verdict.{Verdict}
 use Rattle.cert_check.specs.declared.verdict.Verdict.TheVariants.{Accepted, Rejected}
 use Rattle.cert_check.specs.Derivation.{IsDerivation, HasLine}
 use Rattle.cert_check.specs.Acceptable.{IsListing, Agrees, ClaimHolds, LiesBelow, Belongs}
-use Rattle.cert_check.specs.Rows.{SomeLine}
+use Rattle.cert_check.specs.Rows.{SomeLine, AreClassRows, AreTypeRows}
 use Rattle.cert_check.specs.Faults.{IsFirstBadLine, DifferFirstAt}
 use Rattle.cert_check.specs.Lines.{IsTrueIn}
 
@@ -48,6 +48,10 @@ pub record RelationAgainst (o : Ontology) (t i : List ℕ) (lines : List Line) (
   pub types : Belongs o lines belongs
   pub texts : TextsAgainst t i (taxonomy_text o.names.classes lies_below) (instances_text o.names.classes o.names.individuals lies_below belongs) reason
 
+-- .. for whichever lines these are the rows of
+abbrev pub RelationAgainstRows : Ontology → (t i : List ℕ) → (above types : List (List Bool)) → Option Reason → Type 0
+RelationAgainstRows o t i above types reason = (lines : List Line) → AreClassRows o lines above → AreTypeRows o lines types → RelationAgainst o t i lines reason
+
 -- ---- the claims and the individuals of a listed interpretation
 
 -- the class, unless a line puts it below owl:Nothing, has a claimed element
@@ -79,6 +83,11 @@ ClaimsAgainst o i lines listed (Some (IndividualDisagrees a)) =
 ClaimsAgainst o i lines listed None =
     Each (HasClaim o lines listed) × Each (ClaimsHold o i lines listed) × Each (IndividualAgrees o i lines listed)
 ClaimsAgainst _ _ _ _ _ = ⊥
+
+-- .. for whichever lines these are the rows of, and whichever interpretation is listed
+abbrev pub ClaimsAgainstRows : Ontology → Listed → (above types : List (List Bool)) → Option Reason → Type 0
+ClaimsAgainstRows o listed above types reason =
+    (lines : List Line) → AreClassRows o lines above → AreTypeRows o lines types → (i : Interpretation) → IsListing o listed i → IsInterpretation i → ClaimsAgainst o i lines listed reason
 
 -- what speaks against the texts where the listed interpretation is i: an axiom that it does not satisfy, else a claim or an
 -- individual, else the texts

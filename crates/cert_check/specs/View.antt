@@ -6,7 +6,8 @@ use Rattle.axioms.specs.declared.ids.PropId.{PropId}
 use Rattle.axioms.specs.Numbered as numbered
 use Rattle.certificate.specs.declared.line.Conclusion as code
 use Rattle.certificate.specs.declared.line.Subject as code_subject
-use Rattle.certificate.specs.Certificate.{Rule, Subject, Conclusion, Sub, Edge}
+use Rattle.certificate.specs.Certificate.{Subject, Conclusion, Sub, Edge}
+use Rattle.certificate.specs.declared.line.Rule.{Rule}
 use Rattle.certificate.specs.View.{conclusion_of, subject_of}
 use Rattle.cert_check.specs.Lines.{Follows}
 

@@ -1,8 +1,8 @@
 //! The checker.
 ghost use Rattle.axioms.specs.Numbered.{axiom_trees};
 ghost use Rattle.cert_check.specs.Acceptable.{AreRight, IsAcceptable, IsListing};
-ghost use Rattle.cert_check.specs.Rows.{AreClassRows, AreTypeRows};
-ghost use Rattle.cert_check.specs.Verdict.{Against, ClaimsAgainst, ConsistentAgainst, ContradictionAgainst, HasContradiction, HasTrueLines, IsContradiction, IsVerdict, PassesLines, RelationAgainst, TextsAgainst, verdict_of_reason};
+ghost use Rattle.cert_check.specs.Rows.{AreRows};
+ghost use Rattle.cert_check.specs.Verdict.{Against, ClaimsAgainstRows, ConsistentAgainst, ContradictionAgainst, HasContradiction, HasTrueLines, IsContradiction, IsVerdict, PassesLines, RelationAgainstRows, TextsAgainst, verdict_of_reason};
 ghost use Rattle.certificate.specs.HasText.{IsLineOf, IsListedOf};
 ghost use Rattle.certificate.specs.View.{conclusion_of, lines_of, listed_of};
 ghost use Rattle.interpretation_spec.specs.ByName.{IsFirstUnsatisfied};
@@ -128,11 +128,11 @@ fn against_consistent(
     }
     let above = class_rows(alloc, ontology, lines)?;
     let types = type_rows(alloc, ontology, lines)?;
-    let claims = against_claims(alloc, ontology, listed, &above, &types, lines)?;
+    let claims = against_claims(alloc, ontology, listed, &above, &types)?;
     if claims.is_some() {
         return Ok(claims);
     }
-    against_relation(alloc, ontology, taxonomy, instances, above, types, lines)
+    against_relation(alloc, ontology, taxonomy, instances, above, types)
 }
 
 // The least number of an axiom that the listed interpretation does not satisfy.
@@ -158,15 +158,14 @@ fn against_claims(
     listed: &Listed,
     above: &[Row],
     types: &[Row],
-    _lines: &[Line],
 ) -> Result<Option<Reason>, Memory>
     requires listed { IsListedOf ontology.now (listed_of listed.now) }
-    requires above { AreClassRows ontology.now (lines_of _lines.now) above.now }
-    requires types { AreTypeRows ontology.now (lines_of _lines.now) types.now }
-    ensures { (i : Interpretation) → IsListing ontology.now (listed_of listed.now) i → IsInterpretation i →
-        IfOk result (ClaimsAgainst ontology.now i (lines_of _lines.now) (listed_of listed.now)) }
+    requires above { AreRows (length ontology.now.names.classes) (length ontology.now.names.classes) above.now }
+    requires types { AreRows (length ontology.now.names.individuals) (length ontology.now.names.classes) types.now }
+    ensures { IfOk result (ClaimsAgainstRows ontology.now (listed_of listed.now) above.now types.now) }
 {
     ontology.well_formed();
+    ontology.bounded();
     let claimed = claimed_elements(alloc, ontology, &listed.claims)?;
     if let Some(class) = first_unclaimed(above, &claimed) {
         return Ok(Some(Reason::ClaimMissing { class }));
@@ -189,11 +188,10 @@ fn against_relation(
     instances: &[u8],
     above: Vec<Row>,
     types: Vec<Row>,
-    _lines: &[Line],
 ) -> Result<Option<Reason>, Memory>
-    requires above { AreClassRows ontology.now (lines_of _lines.now) above.items }
-    requires types { AreTypeRows ontology.now (lines_of _lines.now) types.items }
-    ensures { IfOk result (RelationAgainst ontology.now taxonomy.now instances.now (lines_of _lines.now)) }
+    requires above { AreRows (length ontology.now.names.classes) (length ontology.now.names.classes) above.items }
+    requires types { AreRows (length ontology.now.names.individuals) (length ontology.now.names.classes) types.items }
+    ensures { IfOk result (RelationAgainstRows ontology.now taxonomy.now instances.now above.items types.items) }
 {
     ontology.well_formed();
     let filled = filled_rows(alloc, &above)?;

@@ -5,7 +5,7 @@ ghost use Rattle.cert_check.specs.Verdict.{Each, IsFirstWithout};
 ghost use Rattle.certificate.specs.HasText.{AreElements, Ascends};
 ghost use Rattle.certificate.specs.View.{claim_of, class_row_of};
 ghost use Rattle.interpretation_spec.specs.Row.{has};
-ghost use Rattle.std.specs.Prelude.{◌↔◌, ◌<◌, ◌≡◌, ◌⊎◌, All, IfOk, IsTrue, MatchOption, Some, false, length, map, replicate, slice_get, slice_set, true, ℕ};
+ghost use Rattle.std.specs.Prelude.{◌↔◌, ◌<◌, ◌≤◌, ◌^◌, ◌≡◌, ◌⊎◌, All, IfOk, IsTrue, MatchOption, Some, false, length, map, replicate, slice_get, slice_set, true, ℕ};
 ghost use Rattle.taxonomy.specs.Relation.{AreOver, lies_below};
 ghost use Rattle.taxonomy.specs.Texts.{nothing_class};
 
@@ -29,7 +29,7 @@ pub(crate) fn claimed_elements(
     let mut elements = vec![in alloc; None; ontology.classes().len()]?;
     for claim in claims {
         if let Some(class) = ontology.class_of(claim.class) {
-            elements[class.0] = Some(claim.element);
+            elements[class.0 as usize] = Some(claim.element);
         }
     }
     Ok(elements)
@@ -42,7 +42,7 @@ fn thing_rows(alloc: Global, count: usize, width: usize) -> Result<Vec<Row>, Mem
     let mut rows = Vec::new(alloc);
     for _ in 0..count {
         let mut row = Row::new(alloc, width)?;
-        row.put(ClassId::THING.0);
+        row.put(ClassId::THING.0 as usize);
         rows.push(row)?;
     }
     Ok(rows)
@@ -57,7 +57,7 @@ fn put_holders(ontology: &Ontology, rows: &mut Vec<Row>, listed: &ClassRow)
 {
     if let Some(class) = ontology.class_of(listed.class) {
         for element in &listed.elements {
-            put_at(rows, *element as usize, class.0);
+            put_at(rows, *element as usize, class.0 as usize);
         }
     }
 }
@@ -85,17 +85,18 @@ pub(crate) fn element_rows(
 fn is_claimed(row: &Row, claim: Option<u32>) -> bool
     ensures { IsTrue result ↔ ((has row.now nothing_class ≡ true) ⊎ ((x : ℕ) × (claim ≡ Some x))) }
 {
-    row.contains(ClassId::NOTHING.0) || claim.is_some()
+    row.contains(ClassId::NOTHING.0 as usize) || claim.is_some()
 }
 
 /// The least class that has no owl:Nothing in its row and for which nothing is claimed.
 pub(crate) fn first_unclaimed(above: &[Row], claimed: &[Option<u32>]) -> Option<ClassId>
-    requires { length claimed.now ≡ length above.now }
+    requires claimed { length claimed.now ≡ length above.now }
+    requires few { length above.now ≤ 2 ^ 32 }
     ensures { MatchOption result (Each (IsClaimed above.now claimed.now)) (λ class. IsFirstWithout (IsClaimed above.now claimed.now) class.0) }
 {
     for (class, row) in above.iter().enumerate() {
         if !is_claimed(row, claimed[class]) {
-            return Some(ClassId(class));
+            return Some(ClassId(class as u32));
         }
     }
     None
@@ -131,6 +132,7 @@ pub(crate) fn first_disagreeing_class(
     holding: &[Row],
 ) -> Option<ClassId>
     requires claimed { length claimed.now ≡ length above.now }
+    requires few { length above.now ≤ 2 ^ 32 }
     requires there { (c x : ℕ) → slice_get claimed.now c ≡ Some (Some x) → x < length holding.now }
     requires above { AreOver (length above.now) above.now }
     requires holding { AreOver (length above.now) holding.now }
@@ -138,7 +140,7 @@ pub(crate) fn first_disagreeing_class(
 {
     for (class, row) in above.iter().enumerate() {
         if !agrees(holding, class, claimed[class], row) {
-            return Some(ClassId(class));
+            return Some(ClassId(class as u32));
         }
     }
     None
@@ -151,13 +153,14 @@ pub(crate) fn first_disagreeing_individual(
     holding: &[Row],
 ) -> Option<IndId>
     requires elements { length elements.now ≡ length types.now }
+    requires few { length types.now ≤ 2 ^ 32 }
     requires there { All (λ x. x < length holding.now) elements.now }
     requires over { (width : ℕ) × AreOver width types.now × AreOver width holding.now }
     ensures { MatchOption result (Each (ElementAgrees types.now elements.now holding.now)) (λ individual. IsFirstWithout (ElementAgrees types.now elements.now holding.now) individual.0) }
 {
     for (individual, row) in types.iter().enumerate() {
         if !is_in_exactly(holding, elements[individual], row) {
-            return Some(IndId(individual));
+            return Some(IndId(individual as u32));
         }
     }
     None

@@ -16,6 +16,3 @@ mod verdict;
 pub use checker::check;
 pub use theory::{soundness, worked_certificates};
 pub use verdict::{Reason, Verdict};
-
-#[cfg(test)]
-mod tests;

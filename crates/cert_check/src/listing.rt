@@ -5,7 +5,7 @@ ghost use Rattle.certificate.specs.HasText.{IsListedOf};
 ghost use Rattle.certificate.specs.View.{class_row_of, listed_of, pair_row_of};
 ghost use Rattle.interpretation_spec.specs.ByName.{interpretation_of as by_names};
 ghost use Rattle.interpretation_spec.specs.Numbered.{IsMadeFor};
-ghost use Rattle.std.specs.Prelude.{◌<◌, IfOk, OnOk, map};
+ghost use Rattle.std.specs.Prelude.{◌<◌, ◌≤◌, ◌^◌, length, IfOk, OnOk, map};
 
 use axioms::{IndId, Memory, Ontology};
 use certificate::{ClassRow, Listed, PairRow};
@@ -72,11 +72,12 @@ fn put_pairs(interpretation: &mut Interpretation, rows: &[PairRow]) -> Result<()
 }
 
 fn put_individuals(interpretation: &mut Interpretation, elements: &[u32]) -> Result<(), Memory>
+    requires { length elements.now ≤ 2 ^ 32 }
     ensures { OnOk result (PutsIndividuals elements.now interpretation.old interpretation.new) }
 {
     for (i, element) in elements.iter().enumerate() {
         if interpretation
-            .put_individual(IndId(i), *element as usize)
+            .put_individual(IndId(i as u32), *element as usize)
             .is_err()
         {
             return Err(Memory);
@@ -97,6 +98,7 @@ pub(crate) fn interpretation_of(
 {
     // Owl:Thing and owl:Nothing are among its classes.
     ontology.well_formed();
+    ontology.bounded();
     let mut interpretation = match Interpretation::new(alloc, ontology, listed.domain as usize) {
         Ok(interpretation) => interpretation,
         Err(_) => return Err(Memory),

@@ -13,7 +13,7 @@ use std::alloc::Global;
 fn filled_row(alloc: Global, row: &Row) -> Result<Row, Memory>
     ensures { IfOk result (IsFilledRow row.now) }
 {
-    if row.contains(ClassId::NOTHING.0) {
+    if row.contains(ClassId::NOTHING.0 as usize) {
         Row::full(alloc, row.len())
     } else {
         row.copy(alloc)

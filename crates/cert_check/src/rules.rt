@@ -3,7 +3,8 @@ ghost use Rattle.axioms.specs.Numbered as numbered;
 ghost use Rattle.axioms.specs.View.{axiom_of};
 ghost use Rattle.cert_check.specs.View.{FollowsFrom};
 ghost use Rattle.certificate.specs.Certificate as certificate;
-ghost use Rattle.certificate.specs.View.{conclusion_of, rule_of, subject_of};
+ghost use Rattle.certificate.specs.declared.line.Rule.TheVariants as rules;
+ghost use Rattle.certificate.specs.View.{conclusion_of, subject_of};
 ghost use Rattle.std.specs.Prelude.{◌↔◌, ◌≡◌, IsTrue, List, Some, map, option_map, slice_get, ℕ};
 
 use crate::operands::{are_in_each, at_two_places, has_expression, has_property, is_only, is_walk};
@@ -18,7 +19,7 @@ pub fn follows(
     stated: Option<&Axiom>,
     conclusion: Conclusion,
 ) -> bool
-    ensures { IsTrue result ↔ FollowsFrom ontology.now (rule_of rule) premises.now (option_map (λ a. axiom_of a.now) stated.entry) conclusion }
+    ensures { IsTrue result ↔ FollowsFrom ontology.now rule premises.now (option_map (λ a. axiom_of a.now) stated.entry) conclusion }
 {
     match rule {
         Rule::K1 => by_k1(ontology, premises, stated, conclusion),
@@ -47,7 +48,7 @@ fn by_k1(
     stated: Option<&Axiom>,
     conclusion: Conclusion,
 ) -> bool
-    ensures { IsTrue result ↔ FollowsFrom ontology.now certificate.K1 premises.now (option_map (λ a. axiom_of a.now) stated.entry) conclusion }
+    ensures { IsTrue result ↔ FollowsFrom ontology.now rules.K1 premises.now (option_map (λ a. axiom_of a.now) stated.entry) conclusion }
 {
     match (premises, stated, conclusion) {
         ([], None, Conclusion::Sub(Subject::Expr(x), c)) => x == c,
@@ -62,7 +63,7 @@ fn by_k2(
     stated: Option<&Axiom>,
     conclusion: Conclusion,
 ) -> bool
-    ensures { IsTrue result ↔ FollowsFrom ontology.now certificate.K2 premises.now (option_map (λ a. axiom_of a.now) stated.entry) conclusion }
+    ensures { IsTrue result ↔ FollowsFrom ontology.now rules.K2 premises.now (option_map (λ a. axiom_of a.now) stated.entry) conclusion }
 {
     match (premises, stated, conclusion) {
         ([], None, Conclusion::Sub(_, c)) => c == ExprId::THING,
@@ -77,7 +78,7 @@ fn by_k3(
     stated: Option<&Axiom>,
     conclusion: Conclusion,
 ) -> bool
-    ensures { IsTrue result ↔ FollowsFrom ontology.now certificate.K3 premises.now (option_map (λ a. axiom_of a.now) stated.entry) conclusion }
+    ensures { IsTrue result ↔ FollowsFrom ontology.now rules.K3 premises.now (option_map (λ a. axiom_of a.now) stated.entry) conclusion }
 {
     match (premises, stated, conclusion) {
         ([Conclusion::Sub(x, c)], None, Conclusion::Sub(y, _)) => *x == y && *c == ExprId::NOTHING,
@@ -92,7 +93,7 @@ fn by_k4(
     stated: Option<&Axiom>,
     conclusion: Conclusion,
 ) -> bool
-    ensures { IsTrue result ↔ FollowsFrom ontology.now certificate.K4 premises.now (option_map (λ a. axiom_of a.now) stated.entry) conclusion }
+    ensures { IsTrue result ↔ FollowsFrom ontology.now rules.K4 premises.now (option_map (λ a. axiom_of a.now) stated.entry) conclusion }
 {
     match (premises, stated, conclusion) {
         ([Conclusion::Sub(x, c)], Some(Axiom::SubClass(a, b)), Conclusion::Sub(y, d)) => *x == y
@@ -130,7 +131,7 @@ fn by_k5(
     stated: Option<&Axiom>,
     conclusion: Conclusion,
 ) -> bool
-    ensures { IsTrue result ↔ FollowsFrom ontology.now certificate.K5 premises.now (option_map (λ a. axiom_of a.now) stated.entry) conclusion }
+    ensures { IsTrue result ↔ FollowsFrom ontology.now rules.K5 premises.now (option_map (λ a. axiom_of a.now) stated.entry) conclusion }
 {
     match (stated, conclusion) {
         (None, Conclusion::Sub(x, c)) => is_in_each_operand(ontology, premises, x, c),
@@ -145,7 +146,7 @@ fn by_k6(
     stated: Option<&Axiom>,
     conclusion: Conclusion,
 ) -> bool
-    ensures { IsTrue result ↔ FollowsFrom ontology.now certificate.K6 premises.now (option_map (λ a. axiom_of a.now) stated.entry) conclusion }
+    ensures { IsTrue result ↔ FollowsFrom ontology.now rules.K6 premises.now (option_map (λ a. axiom_of a.now) stated.entry) conclusion }
 {
     match (premises, stated, conclusion) {
         ([Conclusion::Sub(x, c)], None, Conclusion::Sub(y, d)) => match ontology.expr(*c) {
@@ -163,7 +164,7 @@ fn by_k7(
     stated: Option<&Axiom>,
     conclusion: Conclusion,
 ) -> bool
-    ensures { IsTrue result ↔ FollowsFrom ontology.now certificate.K7 premises.now (option_map (λ a. axiom_of a.now) stated.entry) conclusion }
+    ensures { IsTrue result ↔ FollowsFrom ontology.now rules.K7 premises.now (option_map (λ a. axiom_of a.now) stated.entry) conclusion }
 {
     match (premises, stated, conclusion) {
         (
@@ -182,7 +183,7 @@ fn by_k8(
     stated: Option<&Axiom>,
     conclusion: Conclusion,
 ) -> bool
-    ensures { IsTrue result ↔ FollowsFrom ontology.now certificate.K8 premises.now (option_map (λ a. axiom_of a.now) stated.entry) conclusion }
+    ensures { IsTrue result ↔ FollowsFrom ontology.now rules.K8 premises.now (option_map (λ a. axiom_of a.now) stated.entry) conclusion }
 {
     match (premises, stated, conclusion) {
         ([Conclusion::Sub(x, e)], None, Conclusion::Edge(y, r, Subject::Expr(c))) =>
@@ -201,7 +202,7 @@ fn by_k9(
     stated: Option<&Axiom>,
     conclusion: Conclusion,
 ) -> bool
-    ensures { IsTrue result ↔ FollowsFrom ontology.now certificate.K9 premises.now (option_map (λ a. axiom_of a.now) stated.entry) conclusion }
+    ensures { IsTrue result ↔ FollowsFrom ontology.now rules.K9 premises.now (option_map (λ a. axiom_of a.now) stated.entry) conclusion }
 {
     match (premises, stated, conclusion) {
         ([Conclusion::Edge(x, r, y), Conclusion::Sub(z, c)], None, Conclusion::Sub(w, e)) =>
@@ -220,7 +221,7 @@ fn by_k10(
     stated: Option<&Axiom>,
     conclusion: Conclusion,
 ) -> bool
-    ensures { IsTrue result ↔ FollowsFrom ontology.now certificate.K10 premises.now (option_map (λ a. axiom_of a.now) stated.entry) conclusion }
+    ensures { IsTrue result ↔ FollowsFrom ontology.now rules.K10 premises.now (option_map (λ a. axiom_of a.now) stated.entry) conclusion }
 {
     match (premises, stated, conclusion) {
         ([Conclusion::Edge(x, r, _)], Some(Axiom::Domain(s, c)), Conclusion::Sub(z, d)) => *x == z
@@ -237,7 +238,7 @@ fn by_k11(
     stated: Option<&Axiom>,
     conclusion: Conclusion,
 ) -> bool
-    ensures { IsTrue result ↔ FollowsFrom ontology.now certificate.K11 premises.now (option_map (λ a. axiom_of a.now) stated.entry) conclusion }
+    ensures { IsTrue result ↔ FollowsFrom ontology.now rules.K11 premises.now (option_map (λ a. axiom_of a.now) stated.entry) conclusion }
 {
     match (premises, stated, conclusion) {
         ([Conclusion::Edge(x, _, y), Conclusion::Sub(z, c)], None, Conclusion::Sub(w, d)) => {
@@ -254,7 +255,7 @@ fn by_k12(
     stated: Option<&Axiom>,
     conclusion: Conclusion,
 ) -> bool
-    ensures { IsTrue result ↔ FollowsFrom ontology.now certificate.K12 premises.now (option_map (λ a. axiom_of a.now) stated.entry) conclusion }
+    ensures { IsTrue result ↔ FollowsFrom ontology.now rules.K12 premises.now (option_map (λ a. axiom_of a.now) stated.entry) conclusion }
 {
     match (premises, stated, conclusion) {
         (
@@ -278,7 +279,7 @@ fn by_k13(
     stated: Option<&Axiom>,
     conclusion: Conclusion,
 ) -> bool
-    ensures { IsTrue result ↔ FollowsFrom ontology.now certificate.K13 premises.now (option_map (λ a. axiom_of a.now) stated.entry) conclusion }
+    ensures { IsTrue result ↔ FollowsFrom ontology.now rules.K13 premises.now (option_map (λ a. axiom_of a.now) stated.entry) conclusion }
 {
     match (stated, conclusion) {
         (Some(Axiom::SubProperty(chain, t)), Conclusion::Edge(x, s, y)) => {
@@ -301,7 +302,7 @@ fn by_k14(
     stated: Option<&Axiom>,
     conclusion: Conclusion,
 ) -> bool
-    ensures { IsTrue result ↔ FollowsFrom ontology.now certificate.K14 premises.now (option_map (λ a. axiom_of a.now) stated.entry) conclusion }
+    ensures { IsTrue result ↔ FollowsFrom ontology.now rules.K14 premises.now (option_map (λ a. axiom_of a.now) stated.entry) conclusion }
 {
     match (premises, stated, conclusion) {
         ([], Some(Axiom::Reflexive(r)), Conclusion::Edge(x, s, y)) => x == y && *r == s,
@@ -316,7 +317,7 @@ fn by_k15(
     stated: Option<&Axiom>,
     conclusion: Conclusion,
 ) -> bool
-    ensures { IsTrue result ↔ FollowsFrom ontology.now certificate.K15 premises.now (option_map (λ a. axiom_of a.now) stated.entry) conclusion }
+    ensures { IsTrue result ↔ FollowsFrom ontology.now rules.K15 premises.now (option_map (λ a. axiom_of a.now) stated.entry) conclusion }
 {
     match (premises, stated, conclusion) {
         ([], Some(Axiom::ClassAssertion(c, a)), Conclusion::Sub(x, d)) => x
@@ -333,7 +334,7 @@ fn by_k16(
     stated: Option<&Axiom>,
     conclusion: Conclusion,
 ) -> bool
-    ensures { IsTrue result ↔ FollowsFrom ontology.now certificate.K16 premises.now (option_map (λ a. axiom_of a.now) stated.entry) conclusion }
+    ensures { IsTrue result ↔ FollowsFrom ontology.now rules.K16 premises.now (option_map (λ a. axiom_of a.now) stated.entry) conclusion }
 {
     match (premises, stated, conclusion) {
         ([], Some(Axiom::PropertyAssertion(r, a, b)), Conclusion::Edge(x, s, y)) => {

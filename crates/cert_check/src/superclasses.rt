@@ -40,7 +40,7 @@ fn class_pair(ontology: &Ontology, conclusion: Conclusion) -> Option<(usize, usi
         Conclusion::Sub(Subject::Expr(expression), above) => {
             let class = ontology.class_of(expression)?;
             let above = ontology.class_of(above)?;
-            Some((class.0, above.0))
+            Some((class.0 as usize, above.0 as usize))
         }
         _ => None,
     }
@@ -54,7 +54,7 @@ fn type_pair(ontology: &Ontology, conclusion: Conclusion) -> Option<(usize, usiz
     match conclusion {
         Conclusion::Sub(Subject::Individual(individual), above) => {
             let above = ontology.class_of(above)?;
-            Some((individual.0, above.0))
+            Some((individual.0 as usize, above.0 as usize))
         }
         _ => None,
     }

@@ -7,8 +7,8 @@ use Rattle.std.proofs.lemmas.Bool.{eqb-true, eqb-false, ne_eqb, ltb-true, leb-tr
 use Rattle.std.proofs.lemmas.Option.{none-some, same_Some}
 use Rattle.std.proofs.lemmas.Str.Parse.{IsNumeralModel, numerals_by_fold}
 use Rattle.std.proofs.lemmas.Fmt.{decimal_digit, first_decimal, decimal_nonempty, digits_decimal, digits_value-decimal, decimal-digits_value}
+use Rattle.lemmas.proofs.Choices.{passed, chosen}
 use Rattle.certificate.specs.Reading.{more_digits, number_at}
-use Rattle.certificate.proofs.Words.{passed, chosen}
 
 -- the bytes do not go on with a digit
 abbrev pub IsApart : List ℕ → Type 0

@@ -102,9 +102,6 @@ conclusion_reads =
 
 -- ---- rules
 
-found : {A : Type 0} (x y : A) → Some x ≡ Some y → x ≡ y
-found x y e = same_Some x y e
-
 rule_is : (n : ℕ) (rule : Rule) → numbered_rule n ≡ Some rule → n ≡ rule_number rule
 unfolding numbered_rule
 rule_is zero rule e = absurd (none-some rule e)

@@ -1,10 +1,7 @@
 -- What holds of each of a list, for lists put together and for tests.
-use Rattle.std.proofs.Common.{◌≡◌, Bool, true, ◌&&◌, List, [], ◌∷◌, ◌++◌, map, refl}
+use Rattle.std.proofs.Common.{◌≡◌, Bool, true, List, [], ◌∷◌, ◌++◌, map, refl}
 use Rattle.std.specs.List.{AllByRecursion, list_all, flat_map}
-use Rattle.std.proofs.lemmas.Bool.{and_parts}
-
-pub both_true : (a b : Bool) → a ≡ true → b ≡ true → (a && b) ≡ true
-both_true a b p q = rw (p, q) refl
+use Rattle.std.proofs.lemmas.Bool.{and_parts, and_from}
 
 pub every_append : {A : Type 0} (P : A → Type 0) (xs ys : List A) → AllByRecursion P xs → AllByRecursion P ys → AllByRecursion P (xs ++ ys)
 every_append P [] ys h k = k
@@ -48,4 +45,4 @@ every_passes test (x ∷ xs) t = let p = and_parts (test x) (list_all test xs) t
 
 pub passes_every : {A : Type 0} (test : A → Bool) (xs : List A) → AllByRecursion (λ x. test x ≡ true) xs → list_all test xs ≡ true
 passes_every test [] h = refl
-passes_every test (x ∷ xs) h = both_true (test x) (list_all test xs) h.0 (passes_every test xs h.1)
+passes_every test (x ∷ xs) h = and_from (test x) (list_all test xs) h.0 (passes_every test xs h.1)

@@ -3,15 +3,10 @@ use Rattle.std.proofs.Common.{◌≡◌, ℕ, suc, Option, Some, None, ◌-◌, 
 use Rattle.std.specs.List.{flat_map, enumerate_from}
 use Rattle.std.proofs.lemmas.List.{take_more, append-nil, length-take}
 use Rattle.std.proofs.lemmas.List.Concat.{flat_map-append}
+use Rattle.lemmas.proofs.Ranges.{enumerate_push}
 use Rattle.certificate.specs.Text.{individual_text}
 use Rattle.certificate.specs.Reading.{◌>>=◌}
 use Rattle.certificate.specs.ListedReading.{individual_at, individuals_from}
-
-enumerate_push : (n : ℕ) (xs : List ℕ) (x : ℕ) → enumerate_from n (xs ++ x ∷ []) ≡ enumerate_from n xs ++ (n + length xs, x) ∷ []
-enumerate_push n [] x = ap (λ k. (k, x) ∷ []) (omega arith)
-enumerate_push n (y ∷ ys) x =
-    let k : (n + 1) + length ys ≡ n + length (y ∷ ys) = omega arith in
-    ap (λ (r : List (ℕ × ℕ)). (n, y) ∷ r) (enumerate_push (n + 1) ys x ∙ ap (λ k. enumerate_from (n + 1) ys ++ (k, x) ∷ []) k)
 
 pub individuals_more : (xs : List ℕ) (i : ℕ) → i < length xs
     → flat_map individual_text (enumerate_from 0 (take (i + 1) xs)) ≡ flat_map individual_text (enumerate_from 0 (take i xs)) ++ individual_text (i, get_or xs i 0)

@@ -1,9 +1,10 @@
 -- Readers and texts: what is read was written so, and what was written is read again.
 use Rattle.std.proofs.Common.{◌≡◌, ℕ, Bool, true, cond, List, ◌++◌, Option, Some, None, refl, sym, ap, subst, ◌∙◌, inl, inr, ◌⊎◌, append_assoc}
 use Rattle.std.proofs.lemmas.Option.{none-some, same_Some}
+use Rattle.lemmas.proofs.Choices.{passed}
 use Rattle.certificate.specs.Reading.{Reader, ◌>>=◌, after, behind, both, such, made, by_word, ended}
 use Rattle.certificate.specs.ListedReading.{in_turn}
-use Rattle.certificate.proofs.Words.{passed, after_takes, after_again}
+use Rattle.certificate.proofs.Words.{after_takes, after_again}
 
 -- The reader reads just the texts of valid values. MayFollow says before which bytes it reads no further than the text.
 pub record Reads {A : Type 0} (MayFollow : List ℕ → Type 0) (IsValid : A → Type 0) (text : A → List ℕ) (read : Reader A) : Type 0 where

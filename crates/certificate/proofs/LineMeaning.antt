@@ -1,12 +1,12 @@
 -- What the test of a line says.
 use Rattle.std.proofs.Common.{◌≡◌, ℕ, ◌^◌, ◌<◌, ◌≤◌, true, ltb, leb, ◌&&◌, List, [], ◌∷◌, length, Option, Some, None, refl}
 use Rattle.std.specs.List.{AllByRecursion, list_all}
-use Rattle.std.proofs.lemmas.Bool.{ltb-true, lt-ltb, leb-true, le-leb, and_parts}
+use Rattle.std.proofs.lemmas.Bool.{ltb-true, lt-ltb, leb-true, le-leb, and_parts, and_from}
 use Rattle.axioms.specs.Numbered.{Ontology}
 use Rattle.certificate.specs.Certificate.{Subject, Expression, Individual, Conclusion, Sub, Edge, Line}
 use Rattle.certificate.specs.HasText.{IsSubjectOf, IsConclusionOf, IsAxiomNumberOf, IsLineOf, subject_number, conclusion_numbers, axiom_numbers, line_numbers}
 use Rattle.certificate.specs.Fitting.{is_small, fits_subject, fits_property, fits_conclusion, fits_axiom, is_premise, fits_line}
-use Rattle.certificate.proofs.Every.{both_true, every_append, every_left, every_right, every_weaker, every_passes, passes_every}
+use Rattle.certificate.proofs.Every.{every_append, every_left, every_right, every_weaker, every_passes, passes_every}
 use Rattle.certificate.proofs.Many.{Chain}
 use Rattle.certificate.proofs.Derivations.{IsNumber, IsSmall, FitsSubject, FitsConclusion, FitsAxiom, FitsLine}
 
@@ -15,7 +15,7 @@ pub below_means : (n bound : ℕ) → (ltb n bound && is_small n) ≡ true → (
 below_means n bound t = let p = and_parts (ltb n bound) (is_small n) t in (ltb-true n bound p.0, ltb-true n (2 ^ 32) p.1)
 
 pub below_tests : (n bound : ℕ) → n < bound → IsSmall n → (ltb n bound && is_small n) ≡ true
-below_tests n bound lt small = both_true (ltb n bound) (is_small n) (lt-ltb n bound lt) (lt-ltb n (2 ^ 32) small)
+below_tests n bound lt small = and_from (ltb n bound) (is_small n) (lt-ltb n bound lt) (lt-ltb n (2 ^ 32) small)
 
 subject_means : (o : Ontology) (x : Subject) → fits_subject o x ≡ true → IsSubjectOf o x × IsSmall (subject_number x)
 subject_means o (Expression e) t = below_means e (length o.nodes) t
@@ -46,12 +46,12 @@ conclusion_tests : (o : Ontology) (c : Conclusion) → IsConclusionOf o c → Al
 conclusion_tests o (Sub x c) h small =
     let a = subject_tests o x h.0 small.0 in
     let b = subject_tests o (Expression c) h.1 small.1.0 in
-    ((a.0, b.0), both_true (fits_subject o x) (fits_subject o (Expression c)) a.1 b.1)
+    ((a.0, b.0), and_from (fits_subject o x) (fits_subject o (Expression c)) a.1 b.1)
 conclusion_tests o (Edge x r y) h small =
     let a = subject_tests o x h.0 small.0 in
     let b = below_tests r (length o.names.properties) h.1 small.1.0 in
     let c = subject_tests o y h.2 small.1.1.0 in
-    ((a.0, (small.1.0, c.0)), both_true (fits_subject o x && fits_property o r) (fits_subject o y) (both_true (fits_subject o x) (fits_property o r) a.1 b) c.1)
+    ((a.0, (small.1.0, c.0)), and_from (fits_subject o x && fits_property o r) (fits_subject o y) (and_from (fits_subject o x) (fits_property o r) a.1 b) c.1)
 
 axiom_means : (o : Ontology) (a : Option ℕ) → fits_axiom o a ≡ true → IsAxiomNumberOf o a × AllSmall (axiom_numbers a)
 axiom_means o None t = (tt, tt)
@@ -64,7 +64,7 @@ axiom_tests : (o : Ontology) (a : Option ℕ) → IsAxiomNumberOf o a → AllSma
 axiom_tests o None h small = (tt, refl)
 axiom_tests o (Some n) h small = (
   small.0,
-  both_true (leb 1 n && leb n (length o.axioms)) (is_small n) (both_true (leb 1 n) (leb n (length o.axioms)) (le-leb 1 n h.0) (le-leb n (length o.axioms) h.1)) (lt-ltb n (2 ^ 32) small.0),
+  and_from (leb 1 n && leb n (length o.axioms)) (is_small n) (and_from (leb 1 n) (leb n (length o.axioms)) (le-leb 1 n h.0) (le-leb n (length o.axioms) h.1)) (lt-ltb n (2 ^ 32) small.0),
 )
 
 abbrev pub IsPremise : ℕ → Type 0
@@ -74,7 +74,7 @@ premise_means : (n : ℕ) → is_premise n ≡ true → IsPremise n
 premise_means n t = let p = and_parts (leb 1 n) (ltb n (2 ^ 64)) t in (leb-true 1 n p.0, ltb-true n (2 ^ 64) p.1)
 
 premise_tests : (n : ℕ) → IsPremise n → is_premise n ≡ true
-premise_tests n h = both_true (leb 1 n) (ltb n (2 ^ 64)) (le-leb 1 n h.0) (lt-ltb n (2 ^ 64) h.1)
+premise_tests n h = and_from (leb 1 n) (ltb n (2 ^ 64)) (le-leb 1 n h.0) (lt-ltb n (2 ^ 64) h.1)
 
 premises_fit : (last : Option ℕ) (ns : List ℕ) → AllByRecursion IsPremise ns → Chain (λ (last : Option ℕ). IsNumber) last ns
 premises_fit last [] h = tt
@@ -104,5 +104,5 @@ line_tests o line h =
     let b = axiom_tests o line.axiom' h.within.axiom' (every_right IsSmall (conclusion_numbers line.conclusion) (axiom_numbers line.axiom') h.small) in
     let c = passes_every is_premise line.premises (every_weaker IsPremise (λ n. is_premise n ≡ true) premise_tests line.premises h.premises) in (
       record { conclusion = a.0; axiom' = b.0; premises = premises_fit None line.premises h.premises },
-      both_true (fits_conclusion o line.conclusion && fits_axiom o line.axiom') (list_all is_premise line.premises) (both_true (fits_conclusion o line.conclusion) (fits_axiom o line.axiom') a.1 b.1) c,
+      and_from (fits_conclusion o line.conclusion && fits_axiom o line.axiom') (list_all is_premise line.premises) (and_from (fits_conclusion o line.conclusion) (fits_axiom o line.axiom') a.1 b.1) c,
     )

@@ -2,7 +2,7 @@
 use Rattle.std.proofs.Common.{◌≡◌, ℕ, ◌+◌, ◌^◌, ◌<◌, ◌≤◌, Bool, true, eqb, ltb, leb, ◌&&◌, List, [], ◌∷◌, ◌++◌, length, map, Option, Some, None, refl, sym, ap, ◌∙◌, arith}
 use Rattle.std.specs.Prelude.{IfSome}
 use Rattle.std.specs.List.{AllByRecursion, list_all, flat_map, enumerate_from}
-use Rattle.std.proofs.lemmas.Bool.{ltb-true, lt-ltb, leb-true, le-leb, eqb-true, eq-eqb, and_parts}
+use Rattle.std.proofs.lemmas.Bool.{ltb-true, lt-ltb, leb-true, le-leb, eqb-true, eq-eqb, and_parts, and_from}
 use Rattle.std.proofs.lemmas.List.Elements.{All-from_recursion, recursion_from_All}
 use Rattle.std.proofs.lemmas.Option.{same_Some}
 use Rattle.axioms.specs.Numbered.{Ontology}
@@ -10,7 +10,7 @@ use Rattle.certificate.specs.Certificate.{Line, Listed, Certificate}
 use Rattle.certificate.specs.HasText.{IsLineOf, IsListedOf, line_numbers, listed_numbers, certificate_numbers, HasText, IsTextOf}
 use Rattle.certificate.specs.Fitting.{is_small, fits_line, fits_class, fits_pairs, fits_claim, fits_domain, fit_individuals, fits_listed, fits_option, fits_certificate, fit_classes, fit_pairs, fit_claims, key, pair_key}
 use Rattle.certificate.specs.ListedReading.{whole}
-use Rattle.certificate.proofs.Every.{both_true, every_append, every_left, every_right, every_flat, every_from_flat, every_map, every_from_map, every_both, every_weaker, every_passes, passes_every}
+use Rattle.certificate.proofs.Every.{every_append, every_left, every_right, every_flat, every_from_flat, every_map, every_from_map, every_both, every_weaker, every_passes, passes_every}
 use Rattle.certificate.proofs.Ordered.{chain_from_test, test_from_chain, chain_each, chain_ascends, chain_made, first_made}
 use Rattle.certificate.proofs.LineMeaning.{IsPremise, IsWritable, line_means, line_tests}
 use Rattle.certificate.proofs.RowMeaning.{IsClassOf, class_parts, class_means, class_tests, IsClaimOf, claim_parts, claim_means, claim_tests, PairRow, IsPairOf, pair_parts, pair_means, before_means, pairs_ordered, pairs_made, first_pair, elements_numbered, elements_within, elements_few, elements_from}
@@ -94,8 +94,8 @@ individuals_test o d xs h =
     let n = length o.names.individuals in
     let few : 0 + length xs ≤ 2 ^ 32 = elements_few d 0 xs (omega arith) h.0 in
     let within = elements_within d 0 xs h.0 in
-    both_true (eqb (length xs) n && leb (length xs) (2 ^ 32)) (list_all (λ x. ltb x d) xs)
-    (both_true (eqb (length xs) n) (leb (length xs) (2 ^ 32)) (eq-eqb (length xs) n h.1) (le-leb (length xs) (2 ^ 32) (omega arith)))
+    and_from (eqb (length xs) n && leb (length xs) (2 ^ 32)) (list_all (λ x. ltb x d) xs)
+    (and_from (eqb (length xs) n) (leb (length xs) (2 ^ 32)) (eq-eqb (length xs) n h.1) (le-leb (length xs) (2 ^ 32) (omega arith)))
     (passes_every (λ x. ltb x d) xs (every_weaker (λ x. x < d) (λ x. ltb x d ≡ true) (λ x u. lt-ltb x d u) xs within))
 
 passed_of : (o : Ontology) (l : Listed) → Passes o l → AreGiven o l.domain l.individuals → IsListedOf o l
@@ -154,7 +154,7 @@ listed_fits o l i numbers =
     let IsClass : ℕ × List ℕ → Type 0 = λ c. IsClassOf o d c × IsSmall c.0 in
     let IsClaim : ℕ × ℕ → Type 0 = λ c. IsClaimOf o d c × IsSmall c.0 in
     record {
-      domain = (first.0, both_true (leb 1 d) (is_small d) (le-leb 1 d i.domain) (lt-ltb d (2 ^ 32) first.0));
+      domain = (first.0, and_from (leb 1 d) (is_small d) (le-leb 1 d i.domain) (lt-ltb d (2 ^ 32) first.0));
       classes = chain_made (FitsClassAfter o d) IsClass class_key (λ x y v lt. class_tests o d (Some x) y small v (lt-ltb x.0 y.0 lt)) None l.classes
           (first_made (FitsClassAfter o d None) IsClass (λ x v. class_tests o d None x small v refl) l.classes classes) classes i.classes_ascend;
       pairs = pairs_made o d None l.pairs small pairs i.pairs_ascend (first_pair l.pairs);
@@ -172,8 +172,8 @@ listed_tests o l f =
     let a : classes ≡ true = test_from_chain (FitsClassAfter o d) class_key (fits_class o d) (λ last c v. v.1) None l.classes f.classes in
     let b : pairs ≡ true = test_from_chain (FitsPairsAfter o d) pair_place (fits_pairs o d) (λ last p v. v.1) None l.pairs f.pairs in
     let c : claims ≡ true = test_from_chain (FitsClaimAfter o d) claim_key (fits_claim o d) (λ last c v. v.1) None l.claims f.claims in
-    both_true (fits_domain d && classes && pairs && fit_individuals o d l.individuals) claims
-    (both_true (fits_domain d && classes && pairs) (fit_individuals o d l.individuals) (both_true (fits_domain d && classes) pairs (both_true (fits_domain d) classes f.domain.1 a) b) (individuals_test o d l.individuals f.individuals)) c
+    and_from (fits_domain d && classes && pairs && fit_individuals o d l.individuals) claims
+    (and_from (fits_domain d && classes && pairs) (fit_individuals o d l.individuals) (and_from (fits_domain d && classes) pairs (and_from (fits_domain d) classes f.domain.1 a) b) (individuals_test o d l.individuals f.individuals)) c
 
 -- ---- certificates
 
@@ -230,10 +230,10 @@ certificate_fits o c h =
 
 lines_pass : (o : Ontology) (last : Option Line) (lines : List Line) → Chain (FitsLineOf o) last lines → list_all (fits_line o) lines ≡ true
 lines_pass o last [] c = refl
-lines_pass o last (line ∷ lines) c = both_true (fits_line o line) (list_all (fits_line o) lines) c.0.1 (lines_pass o (Some line) lines c.1)
+lines_pass o last (line ∷ lines) c = and_from (fits_line o line) (list_all (fits_line o) lines) c.0.1 (lines_pass o (Some line) lines c.1)
 
 certificate_tests : (o : Ontology) (c : Certificate) → FitsCertificate o c → fits_certificate o c ≡ true
-certificate_tests o c f = both_true (list_all (fits_line o) c.lines) (fits_option o c.listed) (lines_pass o None c.lines f.lines) (option_tests o c.listed f.listed)
+certificate_tests o c f = and_from (list_all (fits_line o) c.lines) (fits_option o c.listed) (lines_pass o None c.lines f.lines) (option_tests o c.listed f.listed)
 
 pub text_tests : (o : Ontology) (c : Certificate) → HasText o c → fits_certificate o c ≡ true
 text_tests o c h = certificate_tests o c (certificate_fits o c h)

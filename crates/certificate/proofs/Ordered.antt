@@ -1,12 +1,12 @@
 -- Rows in order: each is tested behind the one before it.
-use Rattle.std.proofs.Common.{◌≡◌, ℕ, ◌^◌, ◌<◌, ◌≤◌, Bool, true, ltb, ◌&&◌, List, [], ◌∷◌, length, map, Option, Some, None, refl, sym, ap, subst, arith}
+use Rattle.std.proofs.Common.{◌≡◌, ℕ, ◌^◌, ◌<◌, ◌≤◌, Bool, true, ltb, ◌&&◌, List, [], ◌∷◌, length, map, Option, Some, None, refl, sym, subst, arith}
 use Rattle.std.specs.Prelude.{option_map}
 use Rattle.std.specs.List.{AllByRecursion}
-use Rattle.std.proofs.lemmas.Bool.{ltb-true, lt-ltb, and_parts}
+use Rattle.std.proofs.lemmas.Bool.{ltb-true, lt-ltb, and_parts, and_from}
 use Rattle.std.proofs.lemmas.List.Elements.{All-from_recursion, recursion_from_All}
+use Rattle.std.proofs.lemmas.List.{map-id}
 use Rattle.certificate.specs.HasText.{Ascends, AreElements}
 use Rattle.certificate.specs.Fitting.{is_after, ascend, are_elements, all_after}
-use Rattle.certificate.proofs.Every.{both_true}
 use Rattle.certificate.proofs.Many.{Chain}
 use Rattle.certificate.proofs.Derivations.{IsSmall}
 use Rattle.certificate.proofs.RowLaws.{AreSmall}
@@ -19,7 +19,7 @@ chain_from_test of test last (x ∷ xs) t =
 
 pub test_from_chain : {A K : Type 0} (V : Option A → A → Type 0) (of : A → K) (test : Option K → A → Bool) → ((last : Option A) (x : A) → V last x → test (option_map of last) x ≡ true) → (last : Option A) (xs : List A) → Chain V last xs → all_after of test (option_map of last) xs ≡ true
 test_from_chain V of test to last [] c = refl
-test_from_chain V of test to last (x ∷ xs) c = both_true (test (option_map of last) x) (all_after of test (Some (of x)) xs) (to last x c.0) (test_from_chain V of test to (Some x) xs c.1)
+test_from_chain V of test to last (x ∷ xs) c = and_from (test (option_map of last) x) (all_after of test (Some (of x)) xs) (to last x c.0) (test_from_chain V of test to (Some x) xs c.1)
 
 -- a row's own part, and that it comes after the one before
 pub chain_each : {A : Type 0} (V : Option A → A → Type 0) (P : A → Type 0) → ((last : Option A) (x : A) → V last x → P x) → (last : Option A) (xs : List A) → Chain V last xs → AllByRecursion P xs
@@ -59,11 +59,7 @@ ascend_means d last (x ∷ xs) t =
 ascend_tests : (d : ℕ) (last : Option ℕ) (xs : List ℕ) → Chain (IsNext d) last xs → ascend d last xs ≡ true
 ascend_tests d last [] c = refl
 ascend_tests d last (x ∷ xs) c =
-    both_true (ltb x d && is_after last x) (ascend d (Some x) xs) (both_true (ltb x d) (is_after last x) (lt-ltb x d c.0.0) c.0.1) (ascend_tests d (Some x) xs c.1)
-
-same_map : (xs : List ℕ) → map (λ x. x) xs ≡ xs
-same_map [] = refl
-same_map (x ∷ xs) = ap (λ (ys : List ℕ). x ∷ ys) (same_map xs)
+    and_from (ltb x d && is_after last x) (ascend d (Some x) xs) (and_from (ltb x d) (is_after last x) (lt-ltb x d c.0.0) c.0.1) (ascend_tests d (Some x) xs c.1)
 
 pub elements_mean : (d : ℕ) (xs : List ℕ) → are_elements d xs ≡ true → AreElements d xs
 elements_mean d xs t =
@@ -72,7 +68,7 @@ elements_mean d xs t =
     record {
       some = ltb-true 0 (length xs) p.0;
       within = All-from_recursion (λ x. x < d) xs (chain_each (IsNext d) (λ x. x < d) (λ last x v. v.0) None xs c);
-      ascend = subst Ascends (same_map xs) (chain_ascends (IsNext d) (λ x. x) (λ x y v. ltb-true x y v.1) None xs c);
+      ascend = subst Ascends (map-id xs) (chain_ascends (IsNext d) (λ x. x) (λ x y v. ltb-true x y v.1) None xs c);
     }
 
 small_chain : (d : ℕ) (last : Option ℕ) (xs : List ℕ) → d ≤ 2 ^ 32 → AllByRecursion (λ x. x < d) xs → Chain (λ (last : Option ℕ). IsSmall) last xs
@@ -82,5 +78,5 @@ small_chain d last (x ∷ xs) small a = (omega (arith, a.0), small_chain d (Some
 pub elements_test : (d : ℕ) (xs : List ℕ) → d ≤ 2 ^ 32 → AreElements d xs → AreSmall xs × (are_elements d xs ≡ true)
 elements_test d xs small h =
     let within = recursion_from_All (λ x. x < d) xs h.within in
-    let c = chain_made (IsNext d) (λ x. x < d) (λ x. x) (λ x y v lt. (v, lt-ltb x y lt)) None xs (first_made (IsNext d None) (λ x. x < d) (λ x v. (v, refl)) xs within) within (subst Ascends (sym (same_map xs)) h.ascend) in
-    (small_chain d None xs small within, both_true (ltb 0 (length xs)) (ascend d None xs) (lt-ltb 0 (length xs) h.some) (ascend_tests d None xs c))
+    let c = chain_made (IsNext d) (λ x. x < d) (λ x. x) (λ x y v lt. (v, lt-ltb x y lt)) None xs (first_made (IsNext d None) (λ x. x < d) (λ x v. (v, refl)) xs within) within (subst Ascends (sym (map-id xs)) h.ascend) in
+    (small_chain d None xs small within, and_from (ltb 0 (length xs)) (ascend d None xs) (lt-ltb 0 (length xs) h.some) (ascend_tests d None xs c))

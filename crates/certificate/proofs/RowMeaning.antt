@@ -1,26 +1,19 @@
 -- What the tests of the rows of a listed interpretation say.
-use Rattle.std.proofs.Common.{◌≡◌, ℕ, zero, suc, ◌+◌, ◌^◌, ◌<◌, ◌≤◌, Bool, true, false, eqb, ltb, leb, ◌&&◌, ◌||◌, List, [], ◌∷◌, length, map, Option, Some, None, refl, ap, ◌∙◌, inl, inr, ◌⊎◌, arith, lit<}
+use Rattle.std.proofs.Common.{◌≡◌, ℕ, ◌+◌, ◌^◌, ◌<◌, ◌≤◌, true, eqb, ltb, leb, ◌&&◌, List, [], ◌∷◌, length, map, Option, Some, None, refl, ap, ◌∙◌, inl, inr, arith, lit<}
 use Rattle.std.specs.Prelude.{slice_get}
 use Rattle.std.specs.List.{AllPairs, AllByRecursion, enumerate_from}
-use Rattle.std.proofs.lemmas.Bool.{ltb-true, lt-ltb, leb-true, le-leb, eqb-true, eq-eqb, and_parts}
+use Rattle.std.proofs.lemmas.Bool.{ltb-true, lt-ltb, leb-true, le-leb, eqb-true, eq-eqb, and_parts, and_from, or_right, or_cases}
 use Rattle.std.proofs.lemmas.List.Elements.{All-from_recursion}
+use Rattle.std.proofs.lemmas.List.Kept.{AllPairs-cons}
+use Rattle.lemmas.proofs.Pairs.{AllPairs-tail}
 use Rattle.axioms.specs.Numbered.{Ontology, Node, Class, And, Exists}
 use Rattle.certificate.specs.HasText.{IsNamedClass, AreElements, IsPairBefore}
 use Rattle.certificate.specs.Fitting.{is_small, is_after, are_elements, is_class, is_named, fits_property, fits_class, is_pair_after, fits_pairs, fits_claim, key, pair_key}
-use Rattle.certificate.proofs.Every.{both_true}
 use Rattle.certificate.proofs.Ordered.{FirstIs, elements_mean, elements_test}
 use Rattle.certificate.proofs.LineMeaning.{below_means, below_tests}
 use Rattle.certificate.proofs.Many.{Chain}
 use Rattle.certificate.proofs.Derivations.{IsSmall}
 use Rattle.certificate.proofs.RowLaws.{FitsClassAfter, FitsPairsAfter, FitsClaimAfter, IsElementOf}
-
-or_parts : (a b : Bool) → (a || b) ≡ true → (a ≡ true) ⊎ (b ≡ true)
-or_parts true b e = inl refl
-or_parts false b e = inr e
-
-or_right : (a b : Bool) → b ≡ true → (a || b) ≡ true
-or_right true b e = refl
-or_right false b e = e
 
 -- ---- named classes
 
@@ -36,7 +29,7 @@ named_means o e t =
     (class_found (slice_get o.nodes e) p.0, ltb-true e (2 ^ 32) p.1)
 
 named_tests : (o : Ontology) (e : ℕ) → IsNamedClass o e → IsSmall e → is_named o e ≡ true
-named_tests o e h small = both_true (is_class (slice_get o.nodes e)) (is_small e) (ap is_class h.1) (lt-ltb e (2 ^ 32) small)
+named_tests o e h small = and_from (is_class (slice_get o.nodes e)) (is_small e) (ap is_class h.1) (lt-ltb e (2 ^ 32) small)
 
 -- ---- classes
 
@@ -60,8 +53,8 @@ pub class_tests : (o : Ontology) (d : ℕ) (last : Option (ℕ × List ℕ)) (c 
 class_tests o d last c small i after =
     let e = elements_test d c.1 small i.0.2 in (
       (i.1, e.0),
-      both_true (is_named o c.0 && leb 2 c.0 && is_after (key last) c.0) (are_elements d c.1)
-          (both_true (is_named o c.0 && leb 2 c.0) (is_after (key last) c.0) (both_true (is_named o c.0) (leb 2 c.0) (named_tests o c.0 i.0.0 i.1) (le-leb 2 c.0 i.0.1)) after) e.1,
+      and_from (is_named o c.0 && leb 2 c.0 && is_after (key last) c.0) (are_elements d c.1)
+          (and_from (is_named o c.0 && leb 2 c.0) (is_after (key last) c.0) (and_from (is_named o c.0) (leb 2 c.0) (named_tests o c.0 i.0.0 i.1) (le-leb 2 c.0 i.0.1)) after) e.1,
     )
 
 -- ---- claims
@@ -84,7 +77,7 @@ claim_means o d last c t =
 pub claim_tests : (o : Ontology) (d : ℕ) (last : Option (ℕ × ℕ)) (c : ℕ × ℕ) → d ≤ 2 ^ 32 → IsClaimOf o d c × IsSmall c.0 → is_after (key last) c.0 ≡ true → FitsClaimAfter o d last c
 claim_tests o d last c small i after = (
   (i.1, omega (arith, i.0.1)),
-  both_true (is_named o c.0 && ltb c.1 d) (is_after (key last) c.0) (both_true (is_named o c.0) (ltb c.1 d) (named_tests o c.0 i.0.0 i.1) (lt-ltb c.1 d i.0.1)) after,
+  and_from (is_named o c.0 && ltb c.1 d) (is_after (key last) c.0) (and_from (is_named o c.0) (ltb c.1 d) (named_tests o c.0 i.0.0 i.1) (lt-ltb c.1 d i.0.1)) after,
 )
 
 -- ---- pairs
@@ -112,21 +105,21 @@ pair_tests : (o : Ontology) (d : ℕ) (last : Option PairRow) (p : PairRow) → 
 pair_tests o d last p small i after =
     let e = elements_test d p.2 small i.0.2 in (
       (i.1, omega (arith, i.0.1), e.0),
-      both_true (fits_property o p.0 && ltb p.1 d && is_pair_after (pair_key last) p.0 p.1) (are_elements d p.2)
-          (both_true (fits_property o p.0 && ltb p.1 d) (is_pair_after (pair_key last) p.0 p.1)
-          (both_true (fits_property o p.0) (ltb p.1 d) (below_tests p.0 (length o.names.properties) i.0.0 i.1) (lt-ltb p.1 d i.0.1)) after) e.1,
+      and_from (fits_property o p.0 && ltb p.1 d && is_pair_after (pair_key last) p.0 p.1) (are_elements d p.2)
+          (and_from (fits_property o p.0 && ltb p.1 d) (is_pair_after (pair_key last) p.0 p.1)
+          (and_from (fits_property o p.0) (ltb p.1 d) (below_tests p.0 (length o.names.properties) i.0.0 i.1) (lt-ltb p.1 d i.0.1)) after) e.1,
     )
 
 pub before_means : (p q : PairRow) → is_pair_after (Some (p.0, p.1)) q.0 q.1 ≡ true → IsPairBefore p q
 before_means p q t =
-    elim (or_parts (ltb p.0 q.0) (eqb p.0 q.0 && ltb p.1 q.1) t) [
+    elim (or_cases (ltb p.0 q.0) (eqb p.0 q.0 && ltb p.1 q.1) t) [
       | inl a ↦ inl (ltb-true p.0 q.0 a)
       | inr b ↦ let c = and_parts (eqb p.0 q.0) (ltb p.1 q.1) b in inr (eqb-true p.0 q.0 c.0, ltb-true p.1 q.1 c.1)
     ]
 
 before_tests : (p q : PairRow) → IsPairBefore p q → is_pair_after (Some (p.0, p.1)) q.0 q.1 ≡ true
 before_tests p q (inl a) = rw (lt-ltb p.0 q.0 a) refl
-before_tests p q (inr b) = or_right (ltb p.0 q.0) (eqb p.0 q.0 && ltb p.1 q.1) (both_true (eqb p.0 q.0) (ltb p.1 q.1) (eq-eqb p.0 q.0 b.0) (lt-ltb p.1 q.1 b.1))
+before_tests p q (inr b) = or_right (ltb p.0 q.0) (eqb p.0 q.0 && ltb p.1 q.1) (and_from (eqb p.0 q.0) (ltb p.1 q.1) (eq-eqb p.0 q.0 b.0) (lt-ltb p.1 q.1 b.1))
 
 before_trans : (p q r : PairRow) → IsPairBefore p q → IsPairBefore q r → IsPairBefore p r
 before_trans p q r (inl a) (inl b) = inl (omega (arith, a, b))
@@ -142,25 +135,16 @@ later : (p : PairRow) (qs : List PairRow) (V : Option PairRow → PairRow → Ty
 later p [] V to c = tt
 later p (q ∷ qs) V to c = (to p q c.0, all_later p q qs (to p q c.0) (later q qs V to c.1))
 
-pairs_cons : (p : PairRow) (qs : List PairRow) → AllByRecursion (IsPairBefore p) qs → AllPairs IsPairBefore qs → AllPairs IsPairBefore (p ∷ qs)
-pairs_cons p qs a h zero zero d lt le = absurd (omega arith)
-pairs_cons p qs a h zero (suc j) d lt le = All-from_recursion (IsPairBefore p) qs a j d (omega arith)
-pairs_cons p qs a h (suc i) zero d lt le = absurd (omega arith)
-pairs_cons p qs a h (suc i) (suc j) d lt le = h i j d (omega arith) (omega arith)
-
 pub pairs_ordered : (V : Option PairRow → PairRow → Type 0) → ((x y : PairRow) → V (Some x) y → IsPairBefore x y) → (last : Option PairRow) (qs : List PairRow) → Chain V last qs → AllPairs IsPairBefore qs
 pairs_ordered V to last [] c = λ i j d lt le. absurd (omega arith)
-pairs_ordered V to last (q ∷ qs) c = pairs_cons q qs (later q qs V to c.1) (pairs_ordered V to (Some q) qs c.1)
-
-pairs_tail : (p : PairRow) (qs : List PairRow) → AllPairs IsPairBefore (p ∷ qs) → AllPairs IsPairBefore qs
-pairs_tail p qs h = λ i j d lt le. h (suc i) (suc j) d (omega arith) (omega arith)
+pairs_ordered V to last (q ∷ qs) c = AllPairs-cons IsPairBefore q qs (All-from_recursion (IsPairBefore q) qs (later q qs V to c.1)) (pairs_ordered V to (Some q) qs c.1)
 
 pub pairs_made : (o : Ontology) (d : ℕ) (last : Option PairRow) (qs : List PairRow) → d ≤ 2 ^ 32 → AllByRecursion (λ p. IsPairOf o d p × IsSmall p.0) qs → AllPairs IsPairBefore qs → FirstIs (λ q. is_pair_after (pair_key last) q.0 q.1 ≡ true) qs → Chain (FitsPairsAfter o d) last qs
 pairs_made o d last [] small a b first = tt
 pairs_made o d last (q ∷ []) small a b first = (pair_tests o d last q small a.0 first, tt)
 pairs_made o d last (q ∷ r ∷ rs) small a b first =
     let next : IsPairBefore q r = b 0 1 q (lit< tt) (omega arith) in
-    (pair_tests o d last q small a.0 first, pairs_made o d (Some q) (r ∷ rs) small a.1 (pairs_tail q (r ∷ rs) b) (before_tests q r next))
+    (pair_tests o d last q small a.0 first, pairs_made o d (Some q) (r ∷ rs) small a.1 (AllPairs-tail IsPairBefore q (r ∷ rs) b) (before_tests q r next))
 
 pub first_pair : (qs : List PairRow) → FirstIs (λ q. is_pair_after None q.0 q.1 ≡ true) qs
 first_pair [] = tt

@@ -1,7 +1,10 @@
--- Certificates: derivation lines, and the interpretation that one of a consistent ontology lists.
+-- Certificates: derivation lines, each by one of the sixteen rules of format 1, and the interpretation that one of a consistent
+-- ontology lists.
 -- Expressions, properties, individuals, axioms and elements stand as their numbers.
 use Rattle.std.specs.Prelude.{ℕ, List}
 use Rattle.std.specs.declared.option.Option.{Option}
+pub use Rattle.certificate.specs.declared.line.Rule.{Rule}
+pub use Rattle.certificate.specs.declared.line.Rule.TheVariants.{K1, K2, K3, K4, K5, K6, K7, K8, K9, K10, K11, K12, K13, K14, K15, K16}
 
 -- an expression or an individual
 pub data Subject : Type 0 where
@@ -12,25 +15,6 @@ pub data Subject : Type 0 where
 pub data Conclusion : Type 0 where
   Sub : (subject : Subject) (class : ℕ) → Conclusion
   Edge : (source : Subject) (property : ℕ) (target : Subject) → Conclusion
-
--- the sixteen rules of certificates, format 1
-pub data Rule : Type 0 where
-  K1 : Rule
-  K2 : Rule
-  K3 : Rule
-  K4 : Rule
-  K5 : Rule
-  K6 : Rule
-  K7 : Rule
-  K8 : Rule
-  K9 : Rule
-  K10 : Rule
-  K11 : Rule
-  K12 : Rule
-  K13 : Rule
-  K14 : Rule
-  K15 : Rule
-  K16 : Rule
 
 -- a conclusion by a rule, from an axiom or none and from earlier lines, counted from 1
 pub record Line : Type 0 where

@@ -3,7 +3,6 @@
 ghost use Rattle.std.specs.Prelude.{◌≡◌, length, slice_get};
 ghost use Rattle.certificate.specs.Fitting.{is_class, is_named};
 
-use crate::number::is_small;
 use axioms::{ExprId, Ontology};
 
 pub fn property_count(ontology: &Ontology) -> usize
@@ -30,9 +29,9 @@ fn is_class(ontology: &Ontology, expression: ExprId) -> bool
     ontology.class_of(expression).is_some()
 }
 
-/// Whether the expression is a class whose number fits a text.
+/// Whether the expression is a class, whose number then fits a text.
 pub fn is_named(ontology: &Ontology, expression: ExprId) -> bool
     ensures { result ≡ is_named ontology.now expression.0 }
 {
-    is_class(ontology, expression) && is_small(expression.0)
+    is_class(ontology, expression)
 }

@@ -1,11 +1,8 @@
-//! Why a certificate is not made, read or written.
+//! Why a certificate is not made or read.
 
 ghost use Rattle.std.specs.Prelude.{◌≡◌, length};
 ghost use Rattle.certificate.specs.declared.fault.ReadFault.TheVariants as read_faults;
-ghost use Rattle.certificate.specs.declared.fault.WriteFault.TheVariants as write_faults;
 
-use axioms::Memory;
-use device::Failed;
 use std::alloc::{AllocError, AllocFailed};
 
 /// Why there is no certificate of some lines and an interpretation.
@@ -25,31 +22,6 @@ pub enum CertFault {
     BadText { at: usize },
     /// A growth of memory was refused.
     Memory,
-}
-
-/// Why a text was not written whole.
-#[derive(Clone, Copy, Debug, PartialEq, Eq)]
-pub enum WriteFault {
-    /// The sink failed.
-    Io,
-    /// A growth of memory was refused.
-    Memory,
-}
-
-impl From<Memory> for WriteFault {
-    ghost from_gives = { λ _ e. e ≡ write_faults.Memory };
-
-    fn from(_error: Memory) -> WriteFault {
-        WriteFault::Memory
-    }
-}
-
-impl From<Failed> for WriteFault {
-    ghost from_gives = { λ _ e. e ≡ write_faults.Io };
-
-    fn from(_error: Failed) -> WriteFault {
-        WriteFault::Io
-    }
 }
 
 /// Why reading stopped.

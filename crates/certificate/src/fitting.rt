@@ -8,24 +8,21 @@ ghost use Rattle.certificate.specs.View.{subject_of, conclusion_of, line_of, lin
 use crate::counts::{axiom_count, individual_count, is_named, property_count};
 use crate::line::{Conclusion, Line, Subject};
 use crate::listed::{Claim, ClassRow, Listed, PairRow};
-use crate::number::is_small;
 use axioms::{Ontology, PropId};
 
 fn fits_subject(ontology: &Ontology, subject: Subject) -> bool
     ensures { result ≡ fits_subject ontology.now (subject_of subject) }
 {
     match subject {
-        Subject::Expr(expr) => expr.0 < ontology.expression_count() && is_small(expr.0),
-        Subject::Individual(individual) => {
-            individual.0 < individual_count(ontology) && is_small(individual.0)
-        }
+        Subject::Expr(expr) => expr.index() < ontology.expression_count(),
+        Subject::Individual(individual) => { individual.index() < individual_count(ontology) }
     }
 }
 
 fn fits_property(ontology: &Ontology, property: PropId) -> bool
     ensures { result ≡ fits_property ontology.now property.0 }
 {
-    property.0 < property_count(ontology) && is_small(property.0)
+    property.index() < property_count(ontology)
 }
 
 fn fits_conclusion(ontology: &Ontology, conclusion: Conclusion) -> bool
@@ -46,9 +43,10 @@ fn fits_conclusion(ontology: &Ontology, conclusion: Conclusion) -> bool
 fn fits_axiom(ontology: &Ontology, number: Option<usize>) -> bool
     ensures { result ≡ fits_axiom ontology.now number }
 {
+    ontology.bounded();
     match number {
         None => true,
-        Some(number) => 1 <= number && number <= axiom_count(ontology) && is_small(number),
+        Some(number) => 1 <= number && number <= axiom_count(ontology),
     }
 }
 
@@ -73,7 +71,7 @@ pub fn fits_line(ontology: &Ontology, line: &Line) -> bool
         && are_premises(&line.premises)
 }
 
-fn is_after(last: Option<usize>, number: usize) -> bool
+fn is_after(last: Option<u32>, number: u32) -> bool
     ensures { result ≡ is_after last number }
 {
     match last {
@@ -82,21 +80,12 @@ fn is_after(last: Option<usize>, number: usize) -> bool
     }
 }
 
-fn is_element_after(last: Option<u32>, element: u32) -> bool
-    ensures { result ≡ is_after last element }
-{
-    match last {
-        None => true,
-        Some(last) => last < element,
-    }
-}
-
 fn ascend(domain: u32, elements: &[u32]) -> bool
     ensures { result ≡ ascend domain None elements.now }
 {
     let mut last = None;
     for element in elements {
-        if *element >= domain || !is_element_after(last, *element) {
+        if *element >= domain || !is_after(last, *element) {
             return false;
         }
         last = Some(*element);
@@ -111,7 +100,7 @@ fn are_elements(domain: u32, elements: &[u32]) -> bool
 }
 
 /// Whether the row may stand after one of the class `last`.
-pub fn fits_class(ontology: &Ontology, domain: u32, last: Option<usize>, row: &ClassRow) -> bool
+pub fn fits_class(ontology: &Ontology, domain: u32, last: Option<u32>, row: &ClassRow) -> bool
     ensures { result ≡ fits_class ontology.now domain last (class_row_of row.now) }
 {
     is_named(ontology, row.class)
@@ -120,7 +109,7 @@ pub fn fits_class(ontology: &Ontology, domain: u32, last: Option<usize>, row: &C
         && are_elements(domain, &row.elements)
 }
 
-fn is_pair_after(last: Option<(usize, u32)>, property: usize, source: u32) -> bool
+fn is_pair_after(last: Option<(u32, u32)>, property: u32, source: u32) -> bool
     ensures { result ≡ is_pair_after last property source }
 {
     match last {
@@ -130,12 +119,7 @@ fn is_pair_after(last: Option<(usize, u32)>, property: usize, source: u32) -> bo
 }
 
 /// Whether the row may stand after one of the property and the source `last`.
-pub fn fits_pairs(
-    ontology: &Ontology,
-    domain: u32,
-    last: Option<(usize, u32)>,
-    row: &PairRow,
-) -> bool
+pub fn fits_pairs(ontology: &Ontology, domain: u32, last: Option<(u32, u32)>, row: &PairRow) -> bool
     ensures { result ≡ fits_pairs ontology.now domain last (pair_row_of row.now) }
 {
     fits_property(ontology, row.property)
@@ -145,7 +129,7 @@ pub fn fits_pairs(
 }
 
 /// Whether the claim may stand after one of the class `last`.
-pub fn fits_claim(ontology: &Ontology, domain: u32, last: Option<usize>, claim: Claim) -> bool
+pub fn fits_claim(ontology: &Ontology, domain: u32, last: Option<u32>, claim: Claim) -> bool
     ensures { result ≡ fits_claim ontology.now domain last (claim_of claim) }
 {
     is_named(ontology, claim.class) && claim.element < domain && is_after(last, claim.class.0)

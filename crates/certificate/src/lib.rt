@@ -11,12 +11,11 @@ mod listed;
 mod listed_reading;
 mod number;
 mod reading;
-#[cfg(test)]
-mod tests;
 mod writing;
 
 pub use certificate::Certificate;
-pub use fault::{CertFault, MakeFault, WriteFault};
+pub use device::WriteFault;
+pub use fault::{CertFault, MakeFault};
 pub use line::{Conclusion, Line, Rule, Subject};
 pub use listed::{Claim, ClassRow, Listed, PairRow};
 pub use reading::{one_certificate, one_text, read_certificate};

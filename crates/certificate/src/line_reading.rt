@@ -2,7 +2,7 @@
 
 ghost use Rattle.std.specs.Prelude.{◌≡◌, Some, option_map, IfOk};
 ghost use Rattle.certificate.specs.LineReading.{subject_at, conclusion_at, numbered_rule, rule_at, axiom_at, premise_at, premises_at, line_at};
-ghost use Rattle.certificate.specs.View.{subject_of, conclusion_of, rule_of, line_of};
+ghost use Rattle.certificate.specs.View.{subject_of, conclusion_of, line_of};
 ghost use Rattle.certificate.specs.Outcome.{Gives};
 
 use crate::fault::{ReadFault, stopped};
@@ -17,10 +17,10 @@ fn subject_at(bytes: &[u8]) -> Option<(Subject, &[u8])>
 {
     if let Some(rest) = after(b"e", bytes) {
         let (number, rest) = small_at(rest)?;
-        return Some((Subject::Expr(ExprId(number as usize)), rest));
+        return Some((Subject::Expr(ExprId(number)), rest));
     }
     let (number, rest) = small_at(after(b"i", bytes)?)?;
-    Some((Subject::Individual(IndId(number as usize)), rest))
+    Some((Subject::Individual(IndId(number)), rest))
 }
 
 #[tactic(auto, unfolding(crate::specs::LineReading::conclusion_at))]
@@ -30,20 +30,17 @@ fn conclusion_at(bytes: &[u8]) -> Option<(Conclusion, &[u8])>
     if let Some(rest) = after(b"sub ", bytes) {
         let (subject, rest) = subject_at(rest)?;
         let (class, rest) = small_at(after(b" e", rest)?)?;
-        return Some((Conclusion::Sub(subject, ExprId(class as usize)), rest));
+        return Some((Conclusion::Sub(subject, ExprId(class)), rest));
     }
     let (source, rest) = subject_at(after(b"edge ", bytes)?)?;
     let (property, rest) = small_at(after(b" p", rest)?)?;
     let (target, rest) = subject_at(after(b" ", rest)?)?;
-    Some((
-        Conclusion::Edge(source, PropId(property as usize), target),
-        rest,
-    ))
+    Some((Conclusion::Edge(source, PropId(property), target), rest))
 }
 
 #[tactic(auto, unfolding(crate::specs::LineReading::numbered_rule))]
 fn numbered_rule(number: u64) -> Option<Rule>
-    ensures { option_map rule_of result ≡ numbered_rule number }
+    ensures { result ≡ numbered_rule number }
 {
     match number {
         1 => Some(Rule::K1),
@@ -68,7 +65,7 @@ fn numbered_rule(number: u64) -> Option<Rule>
 
 #[tactic(auto, unfolding(crate::specs::LineReading::rule_at))]
 fn rule_at(bytes: &[u8]) -> Option<(Rule, &[u8])>
-    ensures { option_map (λ x. (rule_of x.0, x.1.now)) result ≡ rule_at bytes.now }
+    ensures { option_map (λ x. (x.0, x.1.now)) result ≡ rule_at bytes.now }
 {
     let (number, rest) = number_at(after(b" K", bytes)?)?;
     Some((numbered_rule(number)?, rest))

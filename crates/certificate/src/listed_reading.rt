@@ -57,7 +57,7 @@ fn class_row_at(alloc: Global, bytes: &[u8]) -> Result<(ClassRow, &[u8]), ReadFa
     let (class, rest) = small_at(rest).ok_or(stopped(bytes))?;
     let (elements, rest) = elements_at(alloc, rest)?;
     let rest = after(b"\n", rest).ok_or(stopped(bytes))?;
-    let class = ExprId(class as usize);
+    let class = ExprId(class);
     Ok((ClassRow { class, elements }, rest))
 }
 
@@ -66,7 +66,7 @@ fn fitting_class_at<'a>(
     alloc: Global,
     ontology: &Ontology,
     domain: u32,
-    last: Option<usize>,
+    last: Option<u32>,
     bytes: &'a [u8],
 ) -> Result<(ClassRow, &'a [u8]), ReadFault>
     ensures { Gives (λ x. (class_row_of x.0, x.1.now)) result (fitting_class_at ontology.now domain last bytes.now) }
@@ -87,7 +87,7 @@ fn pair_row_at(alloc: Global, bytes: &[u8]) -> Result<(PairRow, &[u8]), ReadFaul
     let (source, rest) = element_at(rest).ok_or(stopped(bytes))?;
     let (targets, rest) = elements_at(alloc, rest)?;
     let rest = after(b"\n", rest).ok_or(stopped(bytes))?;
-    let property = PropId(property as usize);
+    let property = PropId(property);
     Ok((
         PairRow {
             property,
@@ -103,7 +103,7 @@ fn fitting_pairs_at<'a>(
     alloc: Global,
     ontology: &Ontology,
     domain: u32,
-    last: Option<(usize, u32)>,
+    last: Option<(u32, u32)>,
     bytes: &'a [u8],
 ) -> Result<(PairRow, &'a [u8]), ReadFault>
     ensures { Gives (λ x. (pair_row_of x.0, x.1.now)) result (fitting_pairs_at ontology.now domain last bytes.now) }
@@ -135,7 +135,7 @@ fn claim_row_at(bytes: &[u8]) -> Option<(Claim, &[u8])>
     let (class, rest) = small_at(after(b"claim e", bytes)?)?;
     let (element, rest) = element_at(rest)?;
     let rest = after(b"\n", rest)?;
-    let class = ExprId(class as usize);
+    let class = ExprId(class);
     Some((Claim { class, element }, rest))
 }
 
@@ -143,7 +143,7 @@ fn claim_row_at(bytes: &[u8]) -> Option<(Claim, &[u8])>
 fn fitting_claim_at<'a>(
     ontology: &Ontology,
     domain: u32,
-    last: Option<usize>,
+    last: Option<u32>,
     bytes: &'a [u8],
 ) -> Option<(Claim, &'a [u8])>
     ensures { option_map (λ x. (claim_of x.0, x.1.now)) result ≡ fitting_claim_at ontology.now domain last bytes.now }

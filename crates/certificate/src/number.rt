@@ -1,16 +1,8 @@
 //! Words and decimal numbers at the front of bytes.
 
 ghost use Rattle.std.specs.Prelude.{◌≡◌, length, option_map};
-ghost use Rattle.certificate.specs.Fitting.{is_small};
 ghost use Rattle.certificate.specs.LineReading.{small_at};
 ghost use Rattle.certificate.specs.Reading.{after, more_digits, number_at};
-
-/// Whether the number has 32 bits, as those of a text.
-pub fn is_small(number: usize) -> bool
-    ensures { result ≡ is_small number }
-{
-    number < 1 << 32
-}
 
 /// The bytes after the word, where they begin with it.
 pub fn after<'a>(word: &[u8], bytes: &'a [u8]) -> Option<&'a [u8]>

@@ -6,14 +6,13 @@ ghost use Rattle.std.specs.List.{flat_map, enumerate_from};
 ghost use Rattle.device.specs.Device.{AppendsBeginning, HasFailed};
 ghost use Rattle.certificate.specs.HasText.{HasText};
 ghost use Rattle.certificate.specs.Text as text;
-ghost use Rattle.certificate.specs.View.{subject_of, conclusion_of, rule_of, line_of, lines_of, class_row_of, pair_row_of, claim_of, listed_of};
+ghost use Rattle.certificate.specs.View.{subject_of, conclusion_of, line_of, lines_of, class_row_of, pair_row_of, claim_of, listed_of};
 
 use crate::certificate::Certificate;
-use crate::fault::WriteFault;
 use crate::line::{Conclusion, Line, Rule, Subject};
 use crate::listed::{Claim, ClassRow, Listed, PairRow};
 use axioms::{Memory, Ontology};
-use device::{Sink, write_all};
+use device::{Sink, WriteFault, write_all};
 use itoa::Buffer;
 use std::alloc::{AllocError, Global};
 
@@ -55,7 +54,7 @@ fn push_conclusion(out: &mut Vec<u8>, conclusion: Conclusion) -> Result<(), Allo
 }
 
 fn rule_number(rule: Rule) -> u64
-    ensures { result ≡ text.rule_number (rule_of rule) }
+    ensures { result ≡ text.rule_number rule }
 {
     match rule {
         Rule::K1 => 1,

@@ -2,7 +2,7 @@
 use Rattle.std.proofs.Common.{◌≡◌, ◌↔◌, ℕ, ◌<◌, Bool, true, false, inl, inr, List, length, get_or, slice_get, Some, None, Option, All, Contains, refl, sym, subst, subst₂, arith}
 use Rattle.std.specs.Prelude.{MatchOption}
 use Rattle.std.proofs.lemmas.Option.{none-some, slice_get_within, slice_get-get_or}
-use Rattle.axioms.proofs.Lists.{Contains-from_slice_get}
+use Rattle.lemmas.proofs.Members.{Contains-from_slice_get}
 use Rattle.axioms.specs.Numbered.{Ontology, Class, IsClassAt, thing, nothing}
 use Rattle.axioms.specs.WellFormed.{IsOntology}
 use Rattle.certificate.specs.Certificate.{Expression, Sub, Line, Listed, Certificate}

@@ -4,41 +4,35 @@ use Rattle.std.specs.Global.{Vec}
 use Rattle.std.proofs.lemmas.Bool.{cases_eq, cases_Bool, eq-eqb, false≢true, eqb-true, ne_eqb, or_cases, false_from_ne_true}
 use Rattle.std.proofs.lemmas.List.{length-set, get_or-set_same, get_or-set_other, get_or-replicate, length-replicate, map_push, get_or-map}
 use Rattle.std.proofs.lemmas.List.Folds.{list_any-append}
-use Rattle.axioms.proofs.Lists.{Contains-first, slice_get-from_Contains, slice_get_map, slice_get_map_from, mapped, take_push, slice_get_take}
+use Rattle.std.proofs.Math.Bool.{or-false, or-true}
+use Rattle.lemmas.proofs.Mapped.{slice_get_map, slice_get_map_from, mapped}
+use Rattle.lemmas.proofs.Members.{slice_get-from_Contains, Contains-first, Contains-later, Contains-cons_cases}
+use Rattle.lemmas.proofs.Places.{take_push, slice_get_take}
 use Rattle.hierarchy.specs.Contexts.{classes}
 use Rattle.hierarchy.specs.declared.context.Superclass.{Superclass}
-use Rattle.hierarchy.proofs.Members.{Contains-tail, Contains-cons_cases}
 use Rattle.classification.specs.Elements.{list_at, is_among, AreOnce, IsAddedTo, is_listed, members_of, AreMembers}
 use Rattle.classification.proofs.Kept.{kept_in, kept_out}
 
 -- ---- the test
-
-or_false : (b : Bool) → (b || false) ≡ b
-or_false true = refl
-or_false false = refl
-
-or_true : (b : Bool) → (b || true) ≡ true
-or_true true = refl
-or_true false = refl
 
 pub among_has : (xs : List ℕ) (d : ℕ) → is_among xs d ≡ true → Contains xs d
 among_has [] d h = absurd (false≢true h)
 among_has (x ∷ xs) d h =
     elim (or_cases (eqb x d) (is_among xs d) h) [
       | inl e ↦ subst (λ (y : ℕ). Contains (x ∷ xs) y) (eqb-true x d e) (Contains-first x xs)
-      | inr e ↦ Contains-tail x xs d (among_has xs d e)
+      | inr e ↦ Contains-later x d xs (among_has xs d e)
     ]
 
 pub has_among : (xs : List ℕ) (d : ℕ) → Contains xs d → is_among xs d ≡ true
 has_among [] d c = absurd (omega (arith, c.1))
 has_among (x ∷ xs) d c =
-    elim (Contains-cons_cases x xs d c) [
+    elim (Contains-cons_cases x d xs c) [
       | inl e ↦ ap (λ b. b || is_among xs d) (eq-eqb x d e)
-      | inr e ↦ ap (λ b. eqb x d || b) (has_among xs d e) ∙ or_true (eqb x d)
+      | inr e ↦ ap (λ b. eqb x d || b) (has_among xs d e) ∙ or-true (eqb x d)
     ]
 
 among_more : (xs : List ℕ) (x d : ℕ) → is_among (xs ++ x ∷ []) d ≡ (is_among xs d || eqb x d)
-among_more xs x d = list_any-append (λ e. eqb e d) xs (x ∷ []) ∙ ap (λ b. is_among xs d || b) (or_false (eqb x d))
+among_more xs x d = list_any-append (λ e. eqb e d) xs (x ∷ []) ∙ ap (λ b. is_among xs d || b) (or-false (eqb x d))
 
 abbrev class_of : Superclass → ℕ
 class_of s = s.class.0
@@ -73,7 +67,7 @@ IsAddedTo-more numbers element b old lists new inside added = record {
         ∙ ap (λ t. if t then list_at old b ++ element ∷ [] else list_at old b) (sym there)
 
     elsewhere : (d : ℕ) → (d ≡ b → ⊥) → is_among (numbers ++ b ∷ []) d ≡ is_among numbers d
-    elsewhere d apart = among_more numbers b d ∙ ap (λ t. is_among numbers d || t) (ne_eqb b d (λ e. apart (sym e))) ∙ or_false (is_among numbers d)
+    elsewhere d apart = among_more numbers b d ∙ ap (λ t. is_among numbers d || t) (ne_eqb b d (λ e. apart (sym e))) ∙ or-false (is_among numbers d)
 
 -- the next of a list of superclasses
 pub added_next : (list : List Superclass) (place element n : ℕ) (s : Superclass) (old lists next : List (List ℕ)) → AreOnce n (classes list) → n ≡ length old → slice_get list place ≡ Some s

@@ -3,7 +3,8 @@ use Rattle.std.proofs.Common.{◌≡◌, ℕ, zero, suc, ◌+◌, ◌<◌, ◌�
 use Rattle.std.specs.List.{filter, enumerate_from}
 use Rattle.std.proofs.lemmas.Bool.{eq-eqb, ne_eqb, lt-ltb}
 use Rattle.std.proofs.lemmas.Option.{none-some, same_Some}
-use Rattle.axioms.proofs.Lists.{slice_get_map, slice_get_map_from, slice_get-from_Contains, Contains-from_slice_get}
+use Rattle.lemmas.proofs.Mapped.{slice_get_map, slice_get_map_from}
+use Rattle.lemmas.proofs.Members.{Contains-from_slice_get, slice_get-from_Contains}
 use Rattle.certificate.specs.Certificate.{Listed}
 use Rattle.cert_check.specs.Acceptable.{elements_of}
 use Rattle.classification.specs.Elements.{is_row, class_rows_of, claims_of, list_at}

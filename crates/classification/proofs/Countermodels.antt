@@ -3,10 +3,10 @@ use Rattle.std.proofs.Common.{◌≡◌, ℕ, suc, ◌<◌, ◌≤◌, ◌↔◌
 use Rattle.std.proofs.lemmas.Bool.{both_ways, false_from_ne_true, false≢true}
 use Rattle.std.proofs.lemmas.List.Elements.{All-map}
 use Rattle.std.proofs.lemmas.Option.{slice_get-get_or, get_or_from_slice_get, slice_get_within, none-some}
+use Rattle.lemmas.proofs.Places.{slice_get_there}
 use Rattle.axioms.specs.Expression.{Named}
 use Rattle.axioms.specs.Numbered.{Ontology, Axiom, Class, SubClass, IsClassAt, name_at, expression, axiom_tree, axiom_trees, thing, nothing}
 use Rattle.axioms.specs.WellFormed.{IsOntology}
-use Rattle.axioms.proofs.Lists.{slice_get_there}
 use Rattle.axioms.proofs.Trees.{class_tree, class_number}
 use Rattle.interpretation_spec.specs.Interpretation.{Interpretation, IsIn, IsModel, Satisfies}
 use Rattle.interpretation_spec.specs.Numbered.{NumberedInterpretation}

@@ -3,20 +3,16 @@ use Rattle.std.proofs.Common.{◌≡◌, ℕ, zero, suc, ◌+◌, ◌<◌, ◌�
 use Rattle.std.specs.List.{filter, range_with_len}
 use Rattle.std.proofs.lemmas.Bool.{cases_eq}
 use Rattle.std.proofs.lemmas.List.Elements.{filter-append, All-nil, All-cons, All-head, All-filter, All-weaker, Contains-append_left, Contains-append_cases, Contains-push, Contains-get_or}
-use Rattle.axioms.proofs.Lists.{Contains-one}
+use Rattle.lemmas.proofs.Ranges.{range_push}
+use Rattle.lemmas.proofs.Members.{Contains-one}
 use Rattle.certificate.specs.HasText.{Ascends}
-
-range_next : (a n : ℕ) → range_with_len a (suc n) ≡ range_with_len a n ++ (a + n) ∷ []
-range_next a zero = ap (λ x. x ∷ []) (omega arith)
-range_next a (suc n) =
-    let last : (a + 1) + n ≡ a + suc n = omega arith in
-    ap (λ xs. a ∷ xs) (range_next (a + 1) n) ∙ ap (λ x. a ∷ (range_with_len (a + 1) n ++ x ∷ [])) last
 
 -- one number more
 pub kept_next : (p : ℕ → Bool) (n : ℕ) → filter p (range_with_len 0 (suc n)) ≡ filter p (range_with_len 0 n) ++ cond (p n) (n ∷ []) []
 kept_next p n =
-    let last : 0 + n ≡ n = omega arith in
-    ap (filter p) (range_next 0 n ∙ ap (λ x. range_with_len 0 n ++ x ∷ []) last)
+    let step : suc n ≡ n + 1 = omega arith in
+    ap (λ m. filter p (range_with_len 0 m)) step
+    ∙ ap (filter p) (range_push n)
     ∙ filter-append p (range_with_len 0 n) (n ∷ [])
 
 pub kept_in : (p : ℕ → Bool) (n : ℕ) → p n ≡ true → filter p (range_with_len 0 (n + 1)) ≡ filter p (range_with_len 0 n) ++ n ∷ []

@@ -3,7 +3,7 @@ use Rattle.std.proofs.Common.{◌≡◌, ℕ, zero, suc, ◌+◌, ◌-◌, ◌�
 use Rattle.std.proofs.lemmas.List.{length-map}
 use Rattle.std.proofs.lemmas.Option.{none-some, same_Some}
 use Rattle.std.specs.Global.{Vec}
-use Rattle.axioms.proofs.Lists.{slice_get_map, slice_get_map_from}
+use Rattle.lemmas.proofs.Mapped.{slice_get_map, slice_get_map_from}
 use Rattle.certificate.specs.Certificate.{Line}
 use Rattle.hierarchy.specs.declared.context.Superclass.{Superclass}
 use Rattle.classification.specs.Derivation.{superclass_line, class_lines, lines_from}

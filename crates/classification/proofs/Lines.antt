@@ -1,8 +1,10 @@
 -- The lines of superclasses are a derivation, and say of each class exactly its superclasses.
-use Rattle.std.proofs.Common.{◌≡◌, ◌↔◌, ℕ, zero, suc, ◌+◌, ◌<◌, ◌≤◌, List, [], ◌∷◌, map, length, take, slice_get, Some, Option, refl, sym, ap, ◌∙◌, subst, subst₂, arith, add-one}
+use Rattle.std.proofs.Common.{◌≡◌, ◌↔◌, ℕ, zero, suc, ◌+◌, ◌<◌, ◌≤◌, List, [], ◌∷◌, map, length, take, slice_get, Some, Option, refl, sym, ap, ◌∙◌, subst, subst₂, arith}
 use Rattle.std.proofs.lemmas.Option.{none-some, slice_get_within}
 use Rattle.std.specs.Global.{Vec}
-use Rattle.axioms.proofs.Lists.{slice_get_map, slice_get_map_from, slice_get_there, slice_get-from_Contains, Contains-from_slice_get, take_slice_get}
+use Rattle.lemmas.proofs.Mapped.{slice_get_map, slice_get_map_from}
+use Rattle.lemmas.proofs.Members.{Contains-from_slice_get, slice_get-from_Contains}
+use Rattle.lemmas.proofs.Places.{slice_get_there, take_slice_get}
 use Rattle.axioms.specs.Numbered.{Ontology, Axiom, SubClass, thing}
 use Rattle.axioms.specs.View.{at_number}
 use Rattle.certificate.specs.Certificate.{Expression, Individual, Conclusion, Sub, Line}
@@ -14,13 +16,11 @@ use Rattle.hierarchy.specs.declared.context.Reason.{Reason}
 use Rattle.hierarchy.specs.declared.context.Reason.TheVariants as reasons
 use Rattle.hierarchy.specs.Superclasses.{States, IsSuperclass}
 use Rattle.hierarchy.specs.Contexts.{classes, IsReason, AreSuperclasses}
-use Rattle.hierarchy.proofs.Members.{has_within}
+use Rattle.hierarchy.proofs.Indexing.{at_next}
 use Rattle.classification.specs.Shown.{AreLinesOf}
 use Rattle.classification.specs.Derivation.{rule_of, axiom_of, premises_of, superclass_line, lines_from}
 use Rattle.classification.proofs.LinePlaces.{IsPlace, place_of, line_for}
-
-at_next : {X : Type 0} (xs : List X) (n : ℕ) → at_number xs (n + 1) ≡ slice_get xs n
-at_next xs n = rw add-one refl
+use Rattle.classification.proofs.Satisfiable.{superclass_within}
 
 number_within : {X : Type 0} (xs : List X) (n : ℕ) (x : X) → at_number xs n ≡ Some x → (1 ≤ n) × (n ≤ length xs)
 number_within xs zero x h = absurd (none-some x h)
@@ -65,13 +65,6 @@ derived_by o before start class d (reasons.Axiom number from) l k h =
 -- ---- all lines
 
 module _ (o : Ontology) (h : Hierarchy) (w : AreSuperclasses o h) where
-  -- a superclass is an expression
-  superclass_within : (c d : ℕ) → c < length o.nodes → IsSuperclass o c d → d < length o.nodes
-  superclass_within c d l s =
-      let p = slice_get_there h.rows.items c (omega (arith, w.rows)) in
-      let row = w.sets c p.0 p.1 in
-      omega (arith, has_within p.0 d ((row.exact d).1 s), row.long)
-
   class_within : (c : ℕ) (list : Vec Superclass) → slice_get h.contexts.items c ≡ Some list → c < length o.nodes
   class_within c list g = omega (arith, w.lists, slice_get_within h.contexts.items c list g)
 
@@ -101,7 +94,7 @@ module _ (o : Ontology) (h : Hierarchy) (w : AreSuperclasses o h) where
       let s = p.superclass in
       let reason = (w.superclasses p.class p.list p.list_at).reasons p.place s p.superclass_at in
       let l = class_within p.class p.list p.list_at in
-      let k = superclass_within p.class s.class.0 l (in_list p.class p.list p.place s p.list_at p.superclass_at) in
+      let k = superclass_within o h w p.class s.class.0 l (in_list p.class p.list p.place s p.list_at p.superclass_at) in
       let zeroth : 0 + p.class ≡ p.class = omega arith in
       subst (IsDerived o (take n (lines_from 0 0 h.contexts.items))) (sym (p.line_is ∙ ap (λ c. superclass_line p.start c s) zeroth))
       (derived_by o (take n (lines_from 0 0 h.contexts.items)) p.start p.class s.class.0 s.reason l k (premise n line p s.class.0 s.reason reason))

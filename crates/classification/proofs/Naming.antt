@@ -3,13 +3,14 @@ use Rattle.std.proofs.Common.{◌≡◌, ℕ, ◌<◌, ◌≤◌, List, [], ◌�
 use Rattle.std.proofs.lemmas.Bool.{false≢true}
 use Rattle.std.proofs.lemmas.List.{nil_from_length, length-map}
 use Rattle.std.proofs.lemmas.List.Elements.{All-map}
+use Rattle.lemmas.proofs.Mapped.{All-from_map}
+use Rattle.lemmas.proofs.Places.{slice_get_there}
 use Rattle.axioms.specs.Expression.{ClassExpression}
 use Rattle.axioms.specs.Numbered.{Ontology, Axiom, Node, Class, And, Exists, IsClassAt, intersection, expression, expressions, axiom_tree, axiom_trees}
 use Rattle.axioms.specs.View.{axiom_of}
 use Rattle.axioms.specs.WellFormed.{IsOntology, IsAxiomOf}
 use Rattle.axioms.specs.declared.ids.ClassId.{ClassId}
 use Rattle.axioms.specs.declared.terms.Axiom as code_axiom
-use Rattle.axioms.proofs.Lists.{All-from_map, slice_get_there}
 use Rattle.axioms.proofs.Trees.{class_tree, and_tree, some_tree}
 use Rattle.hierarchy.specs.Hierarchy.{IsHierarchy, IsSubclassAxiom}
 use Rattle.classification.specs.Stated.{IsNamed, IsNamedSubclass, StatesHierarchy}

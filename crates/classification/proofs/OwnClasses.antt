@@ -1,18 +1,19 @@
 -- An ontology of statements that states a hierarchy has its named classes as expressions, each by its own number.
-use Rattle.std.proofs.Common.{◌≡◌, ℕ, ◌+◌, ◌<◌, ◌≤◌, Bool, true, false, if◌then◌else◌, List, [], ◌∷◌, ◌++◌, map, length, slice_get, Some, All, refl, sym, ap, ◌∙◌, subst, arith, length-append}
+use Rattle.std.proofs.Common.{◌≡◌, ℕ, ◌<◌, ◌≤◌, Bool, true, false, if◌then◌else◌, List, [], ◌∷◌, map, length, slice_get, Some, All, refl, sym, ap, ◌∙◌, subst, arith}
 use Rattle.std.specs.Option.{unwrap_or}
 use Rattle.std.specs.List.{flat_map, filter_map, list_any}
 use Rattle.std.proofs.lemmas.Option.{slice_get_within}
 use Rattle.std.proofs.lemmas.List.{length-map}
 use Rattle.std.proofs.lemmas.List.Elements.{All-nil, All-cons, All-append, All-head, All-tail}
+use Rattle.lemmas.proofs.Mapped.{slice_get_map, All-from_map}
+use Rattle.lemmas.proofs.Places.{slice_get_there}
 use Rattle.axioms.specs.Axiom as tree
 use Rattle.axioms.specs.Axiom.{SubClassOf}
 use Rattle.axioms.specs.Expression.{Iri, ClassExpression, Named, Intersection, SomeValues, owl_thing, owl_nothing}
-use Rattle.axioms.specs.Numbered.{Ontology, Names, Axiom, Node, Class, And, Exists, SubClass, tree_at, tree_of, trees_from, trees, intersection, expression, expressions, property_name, axiom_tree}
+use Rattle.axioms.specs.Numbered.{Ontology, Axiom, Node, Class, And, Exists, SubClass, tree_at, trees, intersection, expression, expressions, property_name, axiom_tree}
 use Rattle.axioms.specs.Numbering.{Statement, DeclaresClass, DeclaresProperty, DeclaresIndividual, States, IsOntologyOf, first_places_from, same_expression, statement_expressions, logical_axiom, class_name}
 use Rattle.axioms.specs.WellFormed.{IsOntology}
-use Rattle.axioms.proofs.Lists.{All-from_map, slice_get_map, slice_get_there}
-use Rattle.axioms.proofs.Trees.{class_named, and_tree, some_tree}
+use Rattle.axioms.proofs.Trees.{class_named, and_tree, some_tree, length_trees_from}
 use Rattle.hierarchy.specs.Hierarchy.{IsSubclassAxiom}
 use Rattle.classification.specs.Stated.{IsNamed, IsNamedSubclass, StatesHierarchy, StatedHierarchiesAreHierarchies}
 
@@ -67,12 +68,6 @@ by_names (SomeValues r d ∷ ts) all = absurd (All-head IsNamed (SomeValues r d)
 
 names_are : (ss : List Statement) (o : Ontology) → IsOntologyOf ss o → StatesHierarchy o → trees o ≡ map Named o.names.classes
 names_are ss o n h = by_names (trees o) (all_named ss o n h) ∙ ap (map Named) (sym n.classes)
-
-length_trees_from : (names : Names) (ts : List ClassExpression) (nodes : List Node) → length (trees_from names ts nodes) ≡ length ts + length nodes
-length_trees_from names ts [] = omega arith
-length_trees_from names ts (node ∷ nodes) =
-    let t = tree_of names ts node in
-    omega (arith, length_trees_from names (ts ++ t ∷ []) nodes, length-append ts (t ∷ []))
 
 length_nodes : (o : Ontology) → trees o ≡ map Named o.names.classes → length o.nodes ≡ length o.names.classes
 length_nodes o are = omega (arith, length_trees_from o.names [] o.nodes, ap length are, length-map o.names.classes Named)

@@ -8,7 +8,8 @@ use Rattle.std.proofs.lemmas.Bool.{lt-ltb, le-ltb}
 use Rattle.std.proofs.lemmas.List.{map_push, length-map, length-take-le}
 use Rattle.std.proofs.lemmas.List.Elements.{filter-append}
 use Rattle.std.proofs.lemmas.Option.{slice_get_read, get_or_from_slice_get}
-use Rattle.axioms.proofs.Lists.{take_push}
+use Rattle.lemmas.proofs.Ranges.{enumerate_push}
+use Rattle.lemmas.proofs.Places.{take_push}
 use Rattle.axioms.specs.declared.ids.ExprId.{ExprId}
 use Rattle.axioms.specs.Numbered.{nothing}
 use Rattle.axioms.specs.View.{expr_numbers}
@@ -38,12 +39,6 @@ element_out rows n row old l is there so_far =
     so_far ∙ sym (kept_out (λ c. not (lies_below rows c nothing)) n (ap not (sym (row_read rows n row l is) ∙ there)))
 
 -- ---- claims
-
-enumerate_push : {X : Type 0} (a : ℕ) (xs : List X) (x : X) → enumerate_from a (xs ++ x ∷ []) ≡ enumerate_from a xs ++ (a + length xs, x) ∷ []
-enumerate_push a [] x = let e : a ≡ a + 0 = omega arith in ap (λ m. (m, x) ∷ []) e
-enumerate_push a (y ∷ xs) x =
-    let e : (a + 1) + length xs ≡ a + length (y ∷ xs) = omega arith in
-    ap (λ ps. (a, y) ∷ ps) (enumerate_push (a + 1) xs x ∙ ap (λ m. enumerate_from (a + 1) xs ++ (m, x) ∷ []) e)
 
 abbrev turned : ℕ × ℕ → ℕ × ℕ
 turned p = (p.1, p.0)

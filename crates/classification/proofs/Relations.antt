@@ -5,7 +5,8 @@ use Rattle.std.proofs.lemmas.Bool.{both_ways}
 use Rattle.std.proofs.lemmas.List.{get_or-replicate, length-map}
 use Rattle.std.proofs.lemmas.List.Elements.{All-nil}
 use Rattle.std.proofs.lemmas.Option.{slice_get-get_or, slice_get_within, get_or_from_slice_get}
-use Rattle.axioms.proofs.Lists.{slice_get_map, slice_get_there}
+use Rattle.lemmas.proofs.Mapped.{slice_get_map}
+use Rattle.lemmas.proofs.Places.{slice_get_there}
 use Rattle.axioms.specs.Numbered.{Ontology, Class, thing, nothing}
 use Rattle.axioms.specs.WellFormed.{IsOntology}
 use Rattle.interpretation_spec.specs.Row.{has}
@@ -19,6 +20,7 @@ use Rattle.taxonomy.specs.declared.outcome.Outcome.{Outcome}
 use Rattle.taxonomy.specs.declared.outcome.Outcome.TheVariants.{Consistent, Inconsistent}
 use Rattle.classification.specs.Relation.{related_row, related_rows}
 use Rattle.classification.specs.Classified.{IsClassifiable, IsConsistent, IsOutcomeOf, AreTextsOf}
+use Rattle.classification.proofs.Satisfiable.{below_exact}
 
 -- owl:Thing is an expression
 pub thing_there : (o : Ontology) → IsOntology o → thing < length o.nodes
@@ -50,19 +52,12 @@ module _ (o : Ontology) (h : Hierarchy) (w : AreSuperclasses o h) where
   square k row l =
       (w.sets k (slice_index_or h.rows.items k row) (slice_get-get_or h.rows.items k row l)).long ∙ sym w.rows
 
-  -- owl:Thing has owl:Nothing above it where its row says so
-  pub row_says : (c d : ℕ) → c < length o.nodes → (lies_below h.rows.items c d ≡ true) ↔ IsSuperclass o c d
-  row_says c d l =
-      let p = slice_get_there h.rows.items c (omega (arith, w.rows)) in
-      subst (λ (row : List Bool). (has row d ≡ true) ↔ IsSuperclass o c d) (sym (get_or_from_slice_get h.rows.items c p.0 [] p.1))
-      ((w.sets c p.0 p.1).exact d)
-
   -- .. and so whether there is an interpretation
   pub consistent_where : thing < length o.nodes → (consistent : Bool) → consistent ≡ not (lies_below h.rows.items thing nothing) → (consistent ≡ true) ↔ IsConsistent o
   consistent_where l consistent e = go (lies_below h.rows.items thing nothing) refl e
     where
       says : (lies_below h.rows.items thing nothing ≡ true) ↔ IsSuperclass o thing nothing
-      says = row_says thing nothing l
+      says = below_exact o h w thing nothing l
 
       go : (b : Bool) → lies_below h.rows.items thing nothing ≡ b → consistent ≡ not b → (consistent ≡ true) ↔ IsConsistent o
       go true is e = (λ t. absurd (both_ways consistent e t), λ k. absurd (k (says.0 is)))
@@ -72,7 +67,7 @@ module _ (o : Ontology) (h : Hierarchy) (w : AreSuperclasses o h) where
   inconsistent_where l consistent e untrue = go (lies_below h.rows.items thing nothing) refl e
     where
       go : (b : Bool) → lies_below h.rows.items thing nothing ≡ b → consistent ≡ not b → IsSuperclass o thing nothing
-      go true is e = (row_says thing nothing l).0 is
+      go true is e = (below_exact o h w thing nothing l).0 is
       go false is e = absurd (both_ways consistent untrue e)
 
   -- the texts of an outcome are those of the superclasses

@@ -5,17 +5,19 @@ use Rattle.std.proofs.lemmas.Bool.{false_from_ne_true, false≢true}
 use Rattle.std.proofs.lemmas.List.{length-map, get_or-map}
 use Rattle.std.proofs.lemmas.List.Elements.{Contains-get_or}
 use Rattle.std.proofs.lemmas.Option.{slice_get-get_or, get_or_from_slice_get, slice_get_within}
+use Rattle.interpretation_spec.proofs.Shapes.{member_below}
+use Rattle.lemmas.proofs.Mapped.{slice_get_map}
+use Rattle.lemmas.proofs.Members.{slice_get-from_Contains}
+use Rattle.lemmas.proofs.Places.{slice_get_there}
 use Rattle.axioms.specs.declared.ids.ExprId.{ExprId}
 use Rattle.axioms.specs.Growth.{most_names}
 use Rattle.axioms.specs.Numbered.{Ontology, nothing}
 use Rattle.axioms.specs.View.{expr_numbers}
-use Rattle.axioms.proofs.Lists.{slice_get_there, slice_get_map, slice_get-from_Contains}
 use Rattle.taxonomy.specs.Relation.{lies_below}
 use Rattle.hierarchy.specs.declared.closure.Hierarchy.{Hierarchy}
 use Rattle.hierarchy.specs.declared.context.Superclass.{Superclass}
 use Rattle.hierarchy.specs.Superclasses.{IsSuperclass}
 use Rattle.hierarchy.specs.Contexts.{AreSuperclasses, classes}
-use Rattle.hierarchy.proofs.Members.{has_within}
 use Rattle.classification.specs.Elements as elements
 use Rattle.classification.specs.Elements.{satisfiable, list_at, is_listed, AreOnce, AreMembers}
 use Rattle.classification.proofs.Kept.{kept_has, kept_only, kept_few}
@@ -42,7 +44,7 @@ module _ (o : Ontology) (h : Hierarchy) (s : AreSuperclasses o h) where
   pub superclass_within : (c d : ℕ) → c < length o.nodes → IsSuperclass o c d → d < length o.nodes
   superclass_within c d l p =
       let row = s.sets c (get_or h.rows.items c []) (slice_get-get_or h.rows.items c [] (omega (arith, s.rows))) in
-      omega (arith, has_within (get_or h.rows.items c []) d ((row.exact d).1 p), row.long)
+      omega (arith, member_below (get_or h.rows.items c []) d ((row.exact d).1 p), row.long)
 
   pub each_once : (c : ℕ) (list : Vec Superclass) → slice_get h.contexts.items c ≡ Some list → AreOnce (length h.contexts.items) (classes list.items)
   each_once c list g = record {

@@ -5,8 +5,8 @@ use Rattle.std.specs.List.{filter, enumerate_from}
 use Rattle.std.proofs.lemmas.Bool.{and_parts, ltb-true, false≢true}
 use Rattle.std.proofs.lemmas.List.Elements.{All-nil, All-cons, All-append, All-map, All-filter, All-weaker, filter_passes, Contains-get_or}
 use Rattle.std.proofs.lemmas.List.FromFn.{length-enumerate_from, get_or-enumerate_from}
-use Rattle.std.proofs.lemmas.Option.{slice_get-get_or, get_or_from_slice_get}
-use Rattle.axioms.specs.Growth.{most_names}
+use Rattle.std.proofs.lemmas.List.{get_or_default}
+use Rattle.axioms.specs.Growth.{IsBounded, most_names}
 use Rattle.axioms.specs.Numbered.{Ontology, thing, nothing}
 use Rattle.axioms.specs.WellFormed.{IsOntology}
 use Rattle.certificate.specs.HasText.{Ascends, AreElements, IsNamedClass, IsListedOf, listed_numbers}
@@ -50,9 +50,6 @@ claimed_classes a (x ∷ xs) = ap (λ ys. x ∷ ys) (claimed_classes (a + 1) xs)
 
 -- ---- what stands in a row
 
-default : {X : Type 0} (xs : List X) (k : ℕ) (d e : X) → k < length xs → get_or xs k d ≡ get_or xs k e
-default xs k d e l = get_or_from_slice_get xs k (get_or xs k e) d (slice_get-get_or xs k e l)
-
 abbrev IsOfLists : List (List ℕ) → ℕ × List ℕ → Type 0
 IsOfLists lists p = (p.0 < length lists) × (p.1 ≡ list_at lists p.0)
 
@@ -63,7 +60,7 @@ of_lists lists = All-filter is_row (IsOfLists lists) (enumerate_from 0 lists) ea
     each k d l =
         let inside : k < length lists = omega (arith, length-enumerate_from 0 lists) in
         let number : k ≡ 0 + k = omega arith in
-        let here : IsOfLists lists (k, get_or lists k d.1) = (inside, default lists k d.1 [] inside) in
+        let here : IsOfLists lists (k, get_or lists k d.1) = (inside, get_or_default lists k d.1 [] inside) in
         subst (IsOfLists lists) (ap (λ m. (m, get_or lists k d.1)) number ∙ sym (get_or-enumerate_from 0 lists k d inside)) here
 
 some_in : (xs : List ℕ) → not (length xs == 0) ≡ true → 0 < length xs
@@ -124,25 +121,26 @@ module _ (o : Ontology) (w : IsOntology o) (k : IsClassifiable o) (h : Hierarchy
     }
 
     -- its numbers have 32 bits
-    abbrev IsSmall : ℕ → Type 0
-    IsSmall n = n < 2 ^ 32
+    module _ (bounded : IsBounded o) where
+      abbrev IsSmall : ℕ → Type 0
+      IsSmall n = n < 2 ^ 32
 
-    many : length o.nodes ≤ most_names
-    many = omega (arith, k.classes, k.few_names)
+      many : length o.nodes ≤ most_names
+      many = omega (arith, k.classes, bounded.classes)
 
-    small_rows : All IsSmall (map first (class_rows_of lists))
-    small_rows = All-map IsSmall first (class_rows_of lists) (λ n d l. omega (arith, (of_lists lists n d l).0, m.long, s.lists, many))
+      small_rows : All IsSmall (map first (class_rows_of lists))
+      small_rows = All-map IsSmall first (class_rows_of lists) (λ n d l. omega (arith, (of_lists lists n d l).0, m.long, s.lists, many))
 
-    small_claims : All IsSmall (map first (claims_of elements))
-    small_claims =
-        subst (All IsSmall) (sym (claimed_classes 0 elements))
-        (All-weaker (λ c. c < length h.rows.items) IsSmall (λ c l. omega (arith, s.rows, many)) elements (kept_below (λ c. not (lies_below h.rows.items c nothing)) (length h.rows.items)))
+      small_claims : All IsSmall (map first (claims_of elements))
+      small_claims =
+          subst (All IsSmall) (sym (claimed_classes 0 elements))
+          (All-weaker (λ c. c < length h.rows.items) IsSmall (λ c l. omega (arith, s.rows, many)) elements (kept_below (λ c. not (lies_below h.rows.items c nothing)) (length h.rows.items)))
 
-    pub is_small : All IsSmall (listed_numbers (Some (listing_of elements lists)))
-    is_small =
-        let rows = map first (class_rows_of lists) in
-        let claims = map first (claims_of elements) in
-        let few : length elements < 2 ^ 32 = omega (arith, kept_few (λ c. not (lies_below h.rows.items c nothing)) (length h.rows.items), s.rows, many) in
-        let none = All-nil IsSmall in
-        All-cons IsSmall (length elements) (((rows ++ []) ++ []) ++ claims) few
-        (All-append IsSmall ((rows ++ []) ++ []) claims (All-append IsSmall (rows ++ []) [] (All-append IsSmall rows [] small_rows none) none) small_claims)
+      pub is_small : All IsSmall (listed_numbers (Some (listing_of elements lists)))
+      is_small =
+          let rows = map first (class_rows_of lists) in
+          let claims = map first (claims_of elements) in
+          let few : length elements < 2 ^ 32 = omega (arith, kept_few (λ c. not (lies_below h.rows.items c nothing)) (length h.rows.items), s.rows, many) in
+          let none = All-nil IsSmall in
+          All-cons IsSmall (length elements) (((rows ++ []) ++ []) ++ claims) few
+          (All-append IsSmall ((rows ++ []) ++ []) claims (All-append IsSmall (rows ++ []) [] (All-append IsSmall rows [] small_rows none) none) small_claims)

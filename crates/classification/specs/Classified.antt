@@ -1,7 +1,6 @@
 -- Which ontologies are classified today, and what a classification says of one.
-use Rattle.std.specs.Prelude.{◌≡◌, ◌<◌, ◌≤◌, ◌↔◌, ◌⊎◌, ◌^◌, ℕ, List, [], Bool, true, false, length}
+use Rattle.std.specs.Prelude.{◌≡◌, ◌<◌, ◌↔◌, ◌⊎◌, ℕ, List, [], Bool, true, false, length}
 use Rattle.axioms.specs.Numbered.{Ontology, thing, nothing}
-use Rattle.axioms.specs.Growth.{most_names}
 use Rattle.classification.specs.Relation.{related_rows}
 use Rattle.classification.specs.Stated.{StatesHierarchy}
 use Rattle.classification.specs.declared.classification.Summary.{Summary}
@@ -11,12 +10,10 @@ use Rattle.taxonomy.specs.Texts.{taxonomy_text, instances_text, inconsistent_tax
 use Rattle.taxonomy.specs.declared.outcome.Outcome.{Outcome}
 use Rattle.taxonomy.specs.declared.outcome.Outcome.TheVariants.{Consistent, Inconsistent}
 
--- subclass axioms between named classes, as many classes as expressions, and as few axioms as a certificate can number
+-- subclass axioms between named classes, and as many classes as expressions
 pub record IsClassifiable (o : Ontology) : Type 0 where
   pub hierarchy : IsHierarchy o
   pub classes : length o.nodes ≡ length o.names.classes
-  pub few_names : length o.names.classes ≤ most_names
-  pub few_axioms : length o.axioms < 2 ^ 32
 
 -- what rows of superclasses say, where there is an interpretation or not
 abbrev pub IsOutcomeOf : List (List Bool) → Bool → Outcome → Type 0

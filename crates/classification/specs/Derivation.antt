@@ -2,7 +2,9 @@
 use Rattle.std.specs.Prelude.{ℕ, ◌+◌, ◌<◌, List, [], ◌∷◌, ◌++◌, map, length, Option, Some, None}
 use Rattle.std.specs.List.{All}
 use Rattle.std.specs.Global.{Vec}
-use Rattle.certificate.specs.Certificate.{Line, Sub, Expression, Rule, K1, K2, K4}
+use Rattle.certificate.specs.Certificate.{Line, Sub, Expression}
+use Rattle.certificate.specs.declared.line.Rule.{Rule}
+use Rattle.certificate.specs.declared.line.Rule.TheVariants.{K1, K2, K4}
 use Rattle.hierarchy.specs.declared.context.Superclass.{Superclass}
 use Rattle.hierarchy.specs.declared.context.Reason.{Reason}
 use Rattle.hierarchy.specs.declared.context.Reason.TheVariants.{Itself, Thing, Axiom}

@@ -44,7 +44,7 @@ fn is_consistent(rows: &[Row]) -> bool
     requires { thing < length rows.now }
     ensures { result ≡ not (lies_below rows.now thing nothing) }
 {
-    !rows[ExprId::THING.0].contains(ExprId::NOTHING.0)
+    !rows[ExprId::THING.0 as usize].contains(ExprId::NOTHING.0 as usize)
 }
 
 /// What the superclasses say: the relation of the classes, or that there is no interpretation.
@@ -74,6 +74,7 @@ fn certificate_of(
     ensures lines { IfOk result (λ c. AreLinesOf ontology.now c.lines) }
     ensures listed { IfOk result (λ c. IsListedWhere ontology.now consistent c.listed) }
 {
+    ontology.bounded();
     let lines = derivation_lines(alloc, &hierarchy.contexts)?;
     let listed = if consistent {
         Some(listed(alloc, ontology, hierarchy)?)
@@ -88,7 +89,7 @@ fn certificate_of(
 }
 
 /// The classification of an ontology whose closure has at most `max_facts` facts. It has subclass axioms between named
-/// classes and nothing else, at most 1,000,000 classes, and fewer than 2 ^ 32 axioms, as a certificate can number.
+/// classes and nothing else.
 ///
 /// # Errors
 ///

@@ -62,12 +62,13 @@ pub(crate) fn derivation_lines(
     alloc: Global,
     contexts: &[Vec<Superclass>],
 ) -> Result<Vec<Line>, Memory>
-    requires { All (λ list. AreInside list.items) contexts.now }
+    requires few { length contexts.now ≤ 2 ^ 32 }
+    requires inside { All (λ list. AreInside list.items) contexts.now }
     ensures { IfOk result (λ v. lines_of v.items ≡ lines_from 0 0 contexts.now) }
 {
     let mut lines = Vec::new(alloc);
     for (class, superclasses) in contexts.iter().enumerate() {
-        add_lines(alloc, &mut lines, ExprId(class), superclasses)?;
+        add_lines(alloc, &mut lines, ExprId(class as u32), superclasses)?;
     }
     Ok(lines)
 }

@@ -10,6 +10,3 @@ mod stated;
 pub use classification::{Classification, Summary, classify};
 pub use hierarchy::Stop;
 pub use stated::{stated_hierarchies, states_hierarchy};
-
-#[cfg(test)]
-mod tests;

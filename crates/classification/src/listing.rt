@@ -7,7 +7,7 @@ ghost use Rattle.classification.specs.Classified.{IsClassifiable};
 ghost use Rattle.classification.specs.Countermodel.{IsCountermodel};
 ghost use Rattle.classification.specs.Elements.{AreMembers, AreOnce, IsAddedTo, claims_of, class_rows_of, list_at, lists_of, satisfiable};
 ghost use Rattle.hierarchy.specs.Contexts.{AreSuperclasses, classes};
-ghost use Rattle.std.specs.Prelude.{◌++◌, ◌<◌, ◌≡◌, ◌^◌, ◌∷◌, All, IfOk, OnOk, Some, [], false, length, map, replicate, slice_set, vec_len};
+ghost use Rattle.std.specs.Prelude.{◌++◌, ◌<◌, ◌≤◌, ◌≡◌, ◌^◌, ◌∷◌, All, IfOk, OnOk, Some, [], false, length, map, replicate, slice_set, vec_len};
 ghost use Rattle.taxonomy.specs.Relation.{lies_below};
 
 use axioms::{ExprId, Memory, Ontology};
@@ -18,12 +18,13 @@ use std::alloc::Global;
 
 /// The satisfiable classes, ascending: their places are the elements.
 fn elements(alloc: Global, rows: &[Row]) -> Result<Vec<ExprId>, Memory>
+    requires { length rows.now ≤ 2 ^ 32 }
     ensures { IfOk result (λ v. expr_numbers v.items ≡ satisfiable rows.now) }
 {
     let mut elements = Vec::new(alloc);
     for (class, row) in rows.iter().enumerate() {
-        if !row.contains(ExprId::NOTHING.0) {
-            elements.push(ExprId(class))?;
+        if !row.contains(ExprId::NOTHING.0 as usize) {
+            elements.push(ExprId(class as u32))?;
         }
     }
     Ok(elements)
@@ -46,7 +47,7 @@ fn add_to(lists: &mut Vec<Vec<u32>>, class: ExprId, element: u32) -> Result<(), 
     ensures { OnOk result (lists_of lists.new.items
         ≡ slice_set (lists_of lists.old.items) class.0 (list_at (lists_of lists.old.items) class.0 ++ element ∷ [])) }
 {
-    lists[class.0].push(element)?;
+    lists[class.0 as usize].push(element)?;
     Ok(())
 }
 
@@ -78,20 +79,21 @@ fn members(
 {
     let mut lists = empty_lists(alloc, contexts.len())?;
     for (element, class) in elements.iter().enumerate() {
-        add_element(&mut lists, &contexts[class.0], element as u32)?;
+        add_element(&mut lists, &contexts[class.0 as usize], element as u32)?;
     }
     Ok(lists)
 }
 
 /// The rows of the classes that have elements, but for `owl:Thing` and `owl:Nothing`.
 fn class_rows(alloc: Global, members: Vec<Vec<u32>>) -> Result<Vec<ClassRow>, Memory>
+    requires { vec_len members ≤ 2 ^ 32 }
     ensures { IfOk result (λ v. map class_row_of v.items ≡ class_rows_of (lists_of members.items)) }
 {
     let mut rows = Vec::new(alloc);
     for (class, elements) in members.into_iter().enumerate() {
-        if class > ExprId::NOTHING.0 && !elements.is_empty() {
+        if class > ExprId::NOTHING.0 as usize && !elements.is_empty() {
             rows.push(ClassRow {
-                class: ExprId(class),
+                class: ExprId(class as u32),
                 elements,
             })?;
         }
@@ -130,6 +132,7 @@ pub(crate) fn listed(
     ensures numbers { IfOk result (λ l. All (λ n. n < 2 ^ 32) (listed_numbers (Some (listed_of l)))) }
 {
     ontology.well_formed();
+    ontology.bounded();
     let elements = elements(alloc, &hierarchy.rows)?;
     let members = members(alloc, &hierarchy.contexts, &elements)?;
     let domain = elements.len() as u32;

@@ -21,7 +21,7 @@ fn all_classes(alloc: Global, classes: usize) -> Result<Row, Memory>
 fn related_row(alloc: Global, row: Row, all: &Row) -> Result<Row, Memory>
     ensures { IfOk result (λ r. (k : ℕ) → all.now ≡ replicate k true → r ≡ related_row k row) }
 {
-    if row.contains(ExprId::NOTHING.0) {
+    if row.contains(ExprId::NOTHING.0 as usize) {
         all.copy(alloc)
     } else {
         Ok(row)

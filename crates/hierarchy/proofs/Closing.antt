@@ -8,14 +8,16 @@ use Rattle.std.specs.Vec.{vec_len}
 use Rattle.std.proofs.lemmas.Bool.{cases_eq}
 use Rattle.std.proofs.lemmas.List.{length-map, length_push, append-nil, append_assoc}
 use Rattle.std.proofs.lemmas.List.Elements.{Contains-append_left, Contains-append_right, Contains-append_cases, Contains-push_cases}
-use Rattle.axioms.proofs.Lists.{slice_get_push_cases, slice_get_map_from, Contains-first, Contains-map, Contains-from_slice_get, slice_get-from_Contains}
+use Rattle.axioms.proofs.Growing.{AreDistinct-push}
+use Rattle.lemmas.proofs.Mapped.{slice_get_map_from, Contains-map}
+use Rattle.lemmas.proofs.Members.{Contains-from_slice_get, slice_get-from_Contains, Contains-first, Contains-later}
+use Rattle.lemmas.proofs.Places.{slice_get_push_cases}
 use Rattle.axioms.specs.Numbered.{Ontology}
 use Rattle.axioms.specs.WellFormed.{AreDistinct}
 use Rattle.hierarchy.specs.declared.closure.Hierarchy.{Hierarchy}
 use Rattle.hierarchy.specs.declared.context.Superclass.{Superclass}
 use Rattle.hierarchy.specs.Superclasses.{IsSuperclass, HasFacts, HasMoreFactsThan}
 use Rattle.hierarchy.specs.Contexts.{classes, AreSuperclassesOf, IsRowOf, AreSuperclasses}
-use Rattle.hierarchy.proofs.Members.{Contains-tail, AreDistinct-push}
 
 -- ---- lists without repeats, one behind the other
 
@@ -26,7 +28,7 @@ AreDistinct-append : {X : Type 0} (xs ys : List X) → AreDistinct xs → AreDis
 AreDistinct-append {X} xs [] a b apart = subst (λ (zs : List X). AreDistinct zs) (sym (append-nil xs)) a
 AreDistinct-append {X} xs (y ∷ ys) a b apart =
     subst (λ (zs : List X). AreDistinct zs) (append_assoc xs (y ∷ []) ys) (AreDistinct-append (xs ++ y ∷ []) ys (AreDistinct-push xs y a (λ h. apart y h (Contains-first y ys))) (AreDistinct-tail y ys b) (λ x h k. elim (Contains-push_cases xs y x h) [
-      | inl old ↦ apart x old (Contains-tail y ys x k)
+      | inl old ↦ apart x old (Contains-later y x ys k)
       | inr same ↦
           let p = slice_get-from_Contains ys x k in
           let e = b 0 (suc p.0) y refl (p.1 ∙ ap (λ z. Some z) (sym same)) in

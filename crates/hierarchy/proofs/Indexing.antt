@@ -1,10 +1,10 @@
 -- The index of what axioms state, as it grows.
 use Rattle.std.proofs.Common.{◌≡◌, ℕ, ◌+◌, ◌<◌, ◌⊎◌, inl, inr, List, [], ◌∷◌, ◌++◌, length, get_or, set, map, slice_get, Some, Contains, refl, sym, ap, ◌∙◌, subst, subst₂, arith, add-one}
 use Rattle.std.proofs.lemmas.Bool.{cases_eq}
-use Rattle.std.proofs.lemmas.List.{map-set, get_or-map, length-set, get_or-set_same, get_or-set_other}
+use Rattle.std.proofs.lemmas.List.{length-set, get_or-set_same, get_or-set_other}
 use Rattle.std.proofs.lemmas.List.Elements.{Contains-append_left, Contains-push, Contains-push_cases}
 use Rattle.std.proofs.lemmas.Option.{same_Some, slice_get-get_or, get_or_from_slice_get, slice_get_within}
-use Rattle.axioms.proofs.Lists.{slice_get_map}
+use Rattle.lemmas.proofs.Mapped.{slice_get_map}
 use Rattle.axioms.specs.declared.terms.Axiom as code_axiom
 use Rattle.axioms.specs.declared.terms.Axiom.TheVariants as variants
 use Rattle.axioms.specs.declared.ids.ExprId.{ExprId}
@@ -14,14 +14,10 @@ use Rattle.axioms.specs.WellFormed.{IsOntology, IsAxiomOf}
 use Rattle.hierarchy.specs.Superclasses.{States}
 use Rattle.hierarchy.specs.Search.{Stated, stated_of, Tells, IsIndexOf}
 
--- one more element in the list at a place
-pub map-set_push : {V Y : Type 0} (f : V → List Y) (vs : List V) (i : ℕ) (old new : V) (y : Y) → i < length vs → old ≡ get_or vs i old → f new ≡ f old ++ y ∷ [] → map f (set vs i new) ≡ set (map f vs) i (get_or (map f vs) i [] ++ y ∷ [])
-map-set_push f vs i old new y l is grown =
-    map-set f vs i new ∙ ap (λ zs. set (map f vs) i zs) (grown ∙ ap (λ zs. zs ++ y ∷ []) (ap f is ∙ sym (get_or-map f vs i old [] l)))
-
 -- ---- what one more axiom states
 
-at_next : {X : Type 0} (xs : List X) (n : ℕ) → at_number xs (n + 1) ≡ slice_get xs n
+-- the thing of a number stands one place before
+pub at_next : {X : Type 0} (xs : List X) (n : ℕ) → at_number xs (n + 1) ≡ slice_get xs n
 at_next xs n = rw add-one refl
 
 pub axiom_at : (o : Ontology) (axioms : List code_axiom.Axiom) (place : ℕ) (x : code_axiom.Axiom) → map axiom_of axioms ≡ o.axioms → place < length axioms → x ≡ get_or axioms place x → slice_get o.axioms place ≡ Some (axiom_of x)

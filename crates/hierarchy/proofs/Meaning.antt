@@ -2,7 +2,8 @@
 use Rattle.std.proofs.Common.{◌≡◌, ℕ, zero, suc, ◌<◌, ◌≤◌, true, List, length, slice_get, Some, Contains, sym, ◌∙◌, subst, arith}
 use Rattle.std.proofs.lemmas.List.{length-map}
 use Rattle.std.proofs.lemmas.Option.{slice_get_within, none-some}
-use Rattle.axioms.proofs.Lists.{slice_get-from_Contains, slice_get_map, slice_get_map_from}
+use Rattle.lemmas.proofs.Mapped.{slice_get_map, slice_get_map_from}
+use Rattle.lemmas.proofs.Members.{slice_get-from_Contains}
 use Rattle.axioms.specs.Numbered.{Ontology, SubClass}
 use Rattle.interpretation_spec.specs.Row.{has}
 use Rattle.hierarchy.specs.declared.context.Superclass.{Superclass}

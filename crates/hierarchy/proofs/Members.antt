@@ -1,46 +1,16 @@
 -- Members of lists and of rows.
-use Rattle.std.proofs.Common.{◌≡◌, ℕ, suc, ◌<◌, ◌≤◌, Bool, true, false, ◌⊎◌, inl, inr, ⊎_elim, List, [], ◌∷◌, ◌++◌, length, get_or, set, replicate, slice_get, Some, Contains, eqb, sym, ap, ◌∙◌, subst, arith}
-use Rattle.std.proofs.lemmas.Bool.{cases_eq, cases_lt, both_ways, eqb-true, ne_eqb, or_cases, false≢true}
-use Rattle.std.proofs.lemmas.List.{get_or-set_same, get_or-set_other, get_or_past, get_or-replicate, length-replicate}
-use Rattle.std.proofs.lemmas.List.Elements.{Contains-append_right, Contains-append_cases}
+use Rattle.std.proofs.Common.{◌≡◌, ℕ, suc, ◌<◌, ◌≤◌, Bool, true, false, ◌⊎◌, inl, inr, List, [], ◌∷◌, length, get_or, set, slice_get, Some, eqb, sym, ap, ◌∙◌, subst, arith}
+use Rattle.std.proofs.lemmas.Bool.{cases_eq, eqb-true, ne_eqb, or_cases, false≢true}
+use Rattle.std.proofs.lemmas.List.{get_or-set_same, get_or-set_other}
 use Rattle.std.specs.List.{list_any}
 use Rattle.std.proofs.lemmas.Option.{slice_get-get_or}
 use Rattle.std.proofs.lemmas.Map.Keys.{IsDistinct-from_apart}
 use Rattle.std.proofs.lemmas.Map.Steps.{length-le_from_distinct_below}
-use Rattle.axioms.proofs.Lists.{Contains-one, slice_get_push_cases, Contains-from_slice_get}
+use Rattle.interpretation_spec.proofs.Shapes.{member_below}
 use Rattle.axioms.specs.WellFormed.{AreDistinct}
 use Rattle.interpretation_spec.specs.Row.{has}
 
-pub Contains-tail : {X : Type 0} (y : X) (xs : List X) (x : X) → Contains xs x → Contains (y ∷ xs) x
-Contains-tail y xs x h = Contains-append_right (y ∷ []) xs x h
-
-pub Contains-cons_cases : {X : Type 0} (y : X) (xs : List X) (x : X) → Contains (y ∷ xs) x → (y ≡ x) ⊎ Contains xs x
-Contains-cons_cases y xs x h =
-    elim (Contains-append_cases (y ∷ []) xs x h) [ inl a ↦ inl (Contains-one y x a) | inr b ↦ inr b ]
-
--- a list without repeats keeps none when what it lacks is added
-pub AreDistinct-push : {X : Type 0} (xs : List X) (y : X) → AreDistinct xs → (Contains xs y → ⊥) → AreDistinct (xs ++ y ∷ [])
-AreDistinct-push xs y apart new m n x g h =
-    elim (slice_get_push_cases xs y m x g) [
-      | inl a ↦ elim (slice_get_push_cases xs y n x h) [
-        | inl b ↦ apart m n x a b
-        | inr b ↦ absurd (new (subst (Contains xs) (sym b.1) (Contains-from_slice_get xs m x a)))
-      ]
-      | inr a ↦ elim (slice_get_push_cases xs y n x h) [
-        | inl b ↦ absurd (new (subst (Contains xs) (sym a.1) (Contains-from_slice_get xs n x b)))
-        | inr b ↦ a.0 ∙ sym b.0
-      ]
-    ]
-
 -- ---- rows
-
-pub has_within : (row : List Bool) (d : ℕ) → has row d ≡ true → d < length row
-has_within row d h =
-    ⊎_elim (λ (l : d < length row). l) (λ (l : length row ≤ d). absurd (both_ways (has row d) (get_or_past row d false l) h)) (cases_lt d (length row))
-
-pub has_none : (n d : ℕ) → has (replicate n false) d ≡ false
-has_none n d =
-    ⊎_elim (λ (l : d < n). get_or-replicate n d false false l) (λ (l : n ≤ d). get_or_past (replicate n false) d false (omega (arith, length-replicate n false))) (cases_lt d n)
 
 pub has_set_same : (row : List Bool) (d : ℕ) → d < length row → has (set row d true) d ≡ true
 has_set_same row d l = get_or-set_same row d true false l
@@ -48,7 +18,7 @@ has_set_same row d l = get_or-set_same row d true false l
 pub has_set_grows : (row : List Bool) (d e : ℕ) → has row e ≡ true → has (set row d true) e ≡ true
 has_set_grows row d e h =
     elim (cases_eq e d) [
-      | inl same ↦ subst (λ (x : ℕ). has (set row d true) x ≡ true) (sym same) (has_set_same row d (subst (λ (x : ℕ). x < length row) same (has_within row e h)))
+      | inl same ↦ subst (λ (x : ℕ). has (set row d true) x ≡ true) (sym same) (has_set_same row d (subst (λ (x : ℕ). x < length row) same (member_below row e h)))
       | inr apart ↦ get_or-set_other row d e true false apart ∙ h
     ]
 

@@ -5,7 +5,11 @@ use Rattle.std.proofs.lemmas.List.{map_push, length_push, length-set, length-map
 use Rattle.std.proofs.lemmas.List.Sums.{fold_more}
 use Rattle.std.proofs.lemmas.List.Elements.{Contains-append_left, Contains-push}
 use Rattle.std.proofs.lemmas.Option.{none-some, same_Some, slice_get_within, slice_get-get_or}
-use Rattle.axioms.proofs.Lists.{slice_get_push_cases, keeps_push, Contains-first, slice_get-from_Contains, slice_get_map}
+use Rattle.interpretation_spec.proofs.Shapes.{member_below, empty_row}
+use Rattle.axioms.proofs.Growing.{AreDistinct-push}
+use Rattle.lemmas.proofs.Mapped.{slice_get_map}
+use Rattle.lemmas.proofs.Members.{slice_get-from_Contains, Contains-first, Contains-later, Contains-cons_cases}
+use Rattle.lemmas.proofs.Places.{slice_get_push_cases, keeps_push}
 use Rattle.axioms.specs.Numbered.{thing}
 use Rattle.axioms.specs.WellFormed.{AreDistinct}
 use Rattle.interpretation_spec.specs.Row.{has}
@@ -16,7 +20,7 @@ use Rattle.hierarchy.specs.declared.told.Told.{Told}
 use Rattle.hierarchy.specs.Index.{pair_of}
 use Rattle.hierarchy.specs.Contexts.{classes, as_itself, IsReason}
 use Rattle.hierarchy.specs.Search.{Stated, stated_of, Tells, IsBounded, Search, with_class, by_axiom, with_stated, IsSearch, IsSearched}
-use Rattle.hierarchy.proofs.Members.{Contains-tail, AreDistinct-push, Contains-cons_cases, has_within, has_none, has_set_same, has_set_grows, has_set_cases, length-le_from_below}
+use Rattle.hierarchy.proofs.Members.{has_set_same, has_set_grows, has_set_cases, length-le_from_below}
 
 -- one step of a loop over what is stated
 pub with_stated-more : (from : ℕ) (f g h : Search) (ts : List Told) (i : ℕ) (d : Told) → i < length ts → g ≡ with_stated from f (take i (map pair_of ts)) → h ≡ with_class g (by_axiom from (pair_of (get_or ts i d))) → h ≡ with_stated from f (take (i + 1) (map pair_of ts))
@@ -108,14 +112,14 @@ module _ (told : Stated) (c : ℕ) where
       let tells : Tells told t.0 b t.1 = within t (Contains-first t ts) in
       let there : next < length f.list = omega (arith, slice_get_within (classes f.list) next b here, length-map f.list (λ (x : Superclass). x.class.0)) in
       let p = one_more next f (by_axiom next t) w (bounded t.0 b t.1 tells) (b, there, here, tells) in
-      let q = follows next b ts (with_class f (by_axiom next t)) bounded p.0.search (p.0.keeps next b here) (λ u h. within u (Contains-tail t ts u h)) in (
+      let q = follows next b ts (with_class f (by_axiom next t)) bounded p.0.search (p.0.keeps next b here) (λ u h. within u (Contains-later t u ts h)) in (
         record {
           search = q.0.search;
           grows = λ d h. q.0.grows d (p.0.grows d h);
           keeps = λ k x h. q.0.keeps k x (p.0.keeps k x h);
           longer = omega (arith, p.0.longer, q.0.longer);
         },
-        λ u h. elim (Contains-cons_cases t ts u h) [
+        λ u h. elim (Contains-cons_cases t u ts h) [
           | inl e ↦ subst (λ (v : ℕ × ℕ). has (with_stated next f (t ∷ ts)).set v.1 ≡ true) e (q.0.grows t.1 p.1)
           | inr e ↦ q.1 u e
         ],
@@ -165,7 +169,7 @@ module _ (told : Stated) (c : ℕ) where
     marked = λ k d g. subst (λ (x : ℕ). has (set (replicate (length told) false) c true) x ≡ true) (only_one c d k g).1 (has_set_same (replicate (length told) false) c (omega (arith, length-replicate (length told) false)));
     listed = λ d h. elim (has_set_cases (replicate (length told) false) c d h) [
       | inl e ↦ subst (Contains (c ∷ [])) (sym e) (Contains-first c [])
-      | inr old ↦ absurd (both_ways (has (replicate (length told) false) d) (has_none (length told) d) old)
+      | inr old ↦ absurd (both_ways (has (replicate (length told) false) d) (empty_row (length told) d) old)
     ];
     distinct = λ m n x g h. (only_one c x m g).0 ∙ sym (only_one c x n h).0;
     reasons = λ k s g. subst (λ (x : Superclass). IsReason (Tells told) c (as_itself c ∷ []) k x.class.0 x.reason) (only_one (as_itself c) s k g).1 refl;
@@ -176,7 +180,7 @@ module _ (told : Stated) (c : ℕ) where
       → IsSearch told c 0 g × (has g.set thing ≡ true)
   begun f g within first second =
       let alone_is : f ≡ record { list = as_itself c ∷ []; set = set (replicate (length told) false) c true } =
-      first ∙ ap (λ (b : Bool). if b then record { list = []; set = replicate (length told) false } else record { list = as_itself c ∷ []; set = set (replicate (length told) false) c true }) (has_none (length told) c) in
+      first ∙ ap (λ (b : Bool). if b then record { list = []; set = replicate (length told) false } else record { list = as_itself c ∷ []; set = set (replicate (length told) false) c true }) (empty_row (length told) c) in
       let w : IsSearch told c 0 f = subst (IsSearch told c 0) (sym alone_is) (alone within) in
       let p = one_more 0 f (record { class = record { 0 = thing }; reason = Thing }) w (omega arith) refl in
       (subst (IsSearch told c 0) (sym second) p.0.search, subst (λ (x : Search). has x.set thing ≡ true) (sym second) p.1)
@@ -184,7 +188,7 @@ module _ (told : Stated) (c : ℕ) where
   -- at the end all of them were followed
   pub few : (next : ℕ) (f : Search) → IsSearch told c next f → length f.list ≤ length told
   few next f w =
-      omega (arith, length-map f.list (λ (x : Superclass). x.class.0), length-le_from_below (classes f.list) (length told) w.distinct (λ k d g. rw (← w.wide) (has_within f.set d (w.marked k d g))))
+      omega (arith, length-map f.list (λ (x : Superclass). x.class.0), length-le_from_below (classes f.list) (length told) w.distinct (λ k d g. rw (← w.wide) (member_below f.set d (w.marked k d g))))
 
   pub finished : (next : ℕ) (f : Search) → IsSearch told c next f → has f.set thing ≡ true → length f.list ≤ next → IsSearched told c f
   finished next f w top done =

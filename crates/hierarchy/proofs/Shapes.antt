@@ -3,7 +3,8 @@ use Rattle.std.proofs.Common.{◌≡◌, ℕ, List, length, map, slice_get, Some
 use Rattle.std.proofs.lemmas.List.{nil_from_length, length-map}
 use Rattle.std.proofs.lemmas.List.Elements.{All-map}
 use Rattle.std.proofs.lemmas.Option.{same_Some, slice_get_within}
-use Rattle.axioms.proofs.Lists.{All-from_map, slice_get_there}
+use Rattle.lemmas.proofs.Mapped.{All-from_map}
+use Rattle.lemmas.proofs.Places.{slice_get_there}
 use Rattle.axioms.specs.declared.terms.Axiom as code_axiom
 use Rattle.axioms.specs.Numbered.{Ontology, Class}
 use Rattle.axioms.specs.View.{axiom_of}

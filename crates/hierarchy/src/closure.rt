@@ -57,6 +57,7 @@ pub fn close(alloc: Global, ontology: &Ontology, max_facts: u64) -> Result<Hiera
     ensures within { IfOk result (λ h. h.facts ≤ max_facts) }
     ensures limit { result ≡ Err Stop.Limit → HasMoreFactsThan ontology.now max_facts }
 {
+    ontology.bounded();
     let told = told_superclasses(alloc, ontology)?;
     let mut hierarchy = Hierarchy {
         contexts: Vec::new(alloc),
@@ -64,7 +65,7 @@ pub fn close(alloc: Global, ontology: &Ontology, max_facts: u64) -> Result<Hiera
         facts: 0,
     };
     for class in 0..told.len() {
-        let Found { list, set } = superclasses(alloc, &told, ExprId(class))?;
+        let Found { list, set } = superclasses(alloc, &told, ExprId(class as u32))?;
         let count = list.len() as u64;
         if count > max_facts - hierarchy.facts {
             return Err(Stop::Limit);

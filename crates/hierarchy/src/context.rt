@@ -38,9 +38,9 @@ impl Found {
     fn add(&mut self, superclass: Superclass) -> Result<(), Memory>
         ensures { OnOk result (search_of self.new ≡ with_class (search_of self.old) superclass) }
     {
-        if !self.set.contains(superclass.class.0) {
+        if !self.set.contains(superclass.class.0 as usize) {
             self.list.push(superclass)?;
-            self.set.put(superclass.class.0);
+            self.set.put(superclass.class.0 as usize);
         }
         Ok(())
     }

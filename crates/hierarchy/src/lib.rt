@@ -11,6 +11,3 @@ pub use closure::{Hierarchy, Stop, close};
 pub use context::{Reason, Superclass};
 pub use shape::is_hierarchy;
 pub use theory::number_of_facts;
-
-#[cfg(test)]
-mod tests;

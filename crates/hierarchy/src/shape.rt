@@ -7,11 +7,11 @@ ghost use Rattle.hierarchy.specs.Hierarchy.{IsHierarchy, IsSubclassAxiom};
 use axioms::{Axiom, ExprId, Ontology};
 
 /// Whether the expression of that number is the class of that number.
-fn is_own_class(ontology: &Ontology, number: usize) -> bool
-    ensures { IsTrue result ↔ (slice_get ontology.now.nodes number ≡ Some (Class number)) }
+fn is_own_class(ontology: &Ontology, number: ExprId) -> bool
+    ensures { IsTrue result ↔ (slice_get ontology.now.nodes number.0 ≡ Some (Class number.0)) }
 {
-    match ontology.class_of(ExprId(number)) {
-        Some(class) => class.0 == number,
+    match ontology.class_of(number) {
+        Some(class) => class.0 == number.0,
         None => false,
     }
 }
@@ -21,8 +21,9 @@ fn has_only_classes(ontology: &Ontology) -> bool
     ensures { IsTrue result
         ↔ EachIndex ontology.now.nodes (λ e. slice_get ontology.now.nodes e ≡ Some (Class e)) }
 {
+    ontology.bounded();
     for number in 0..ontology.expression_count() {
-        if !is_own_class(ontology, number) {
+        if !is_own_class(ontology, ExprId(number as u32)) {
             return false;
         }
     }

@@ -48,7 +48,7 @@ impl Index {
         requires { class.0 < length self.old }
         ensures { OnOk result (self.new ≡ slice_set self.old class.0 (stated_of self.old class.0 ++ pair_of told ∷ [])) }
     {
-        self.lists[class.0].push(told)?;
+        self.lists[class.0 as usize].push(told)?;
         Ok(())
     }
 
@@ -64,7 +64,7 @@ impl Index {
         requires { class.0 < length self.now }
         ensures { map pair_of result.now ≡ stated_of self.now class.0 }
     {
-        &self.lists[class.0]
+        &self.lists[class.0 as usize]
     }
 }
 

@@ -1,9 +1,9 @@
 -- Lists that are turned around twice have their numbers in the order of the second turn.
-use Rattle.std.proofs.Common.{◌≡◌, ℕ, zero, suc, ◌+◌, ◌<◌, ◌≤◌, Bool, true, false, cond, List, [], ◌∷◌, ◌++◌, map, length, get_or, take, All, refl, sym, ap, ap₂, subst, ◌∙◌, arith, ⊎_elim, append_assoc, replicate}
+use Rattle.std.proofs.Common.{◌≡◌, ℕ, zero, suc, ◌+◌, ◌<◌, ◌≤◌, Bool, true, false, cond, List, [], ◌∷◌, ◌++◌, length, get_or, take, All, refl, sym, ap, ap₂, subst, ◌∙◌, arith, ⊎_elim, append_assoc}
 use Rattle.std.specs.Prelude.{◌==◌, slice_set}
 use Rattle.std.specs.List.{filter, flat_map, range_with_len}
 use Rattle.std.proofs.lemmas.Bool.{cases_eq, eq-eqb, ne_eqb}
-use Rattle.std.proofs.lemmas.List.{append-nil, map-set, get_or-map, take_more, get_or-set_same, get_or-set_other, replicate-append-replicate, map-append}
+use Rattle.std.proofs.lemmas.List.{append-nil, take_more, get_or-set_same, get_or-set_other}
 use Rattle.std.proofs.lemmas.List.Concat.{flat_map-append}
 use Rattle.std.proofs.lemmas.List.Elements.{All-head, All-tail}
 use Rattle.taxonomy.specs.Texts.{numbers_below}
@@ -118,18 +118,3 @@ turned_more lists order i k l =
     ap (λ v. turned_at lists v k) (take_more order i 0 l)
     ∙ flat_map-append (λ (h : ℕ). copies h k (list_at lists h)) (take i order) (g ∷ [])
     ∙ ap (λ r. turned_at lists (take i order) k ++ r) (append-nil (copies g k (list_at lists g)))
-
--- ---- lists as the code keeps them
-
-pub list_at-items : {V : Type 0} (items : V → List ℕ) (vs : List V) (k : ℕ) (d : V) → k < length vs → list_at (map items vs) k ≡ items (get_or vs k d)
-list_at-items items vs k d l = get_or-map items vs k d [] l
-
-pub map-pushed : {V : Type 0} (items : V → List ℕ) (vs : List V) (now : List (List ℕ)) (k x : ℕ) (old new : V) → k < length vs → map items vs ≡ now → old ≡ get_or vs k old → items new ≡ items old ++ x ∷ [] → map items (slice_set vs k new) ≡ slice_set now k (list_at now k ++ x ∷ [])
-map-pushed items vs now k x old new l is at grown =
-    map-set items vs k new
-    ∙ ap (λ v. slice_set (map items vs) k v) (grown ∙ ap (λ v. v ++ x ∷ []) (ap items at ∙ sym (list_at-items items vs k old l)))
-    ∙ ap (λ v. slice_set v k (list_at v k ++ x ∷ [])) is
-
-pub map-replicate_more : {V : Type 0} (items : V → List ℕ) (vs : List V) (n : ℕ) (v : V) → map items vs ≡ replicate n [] → items v ≡ [] → map items (vs ++ v ∷ []) ≡ replicate (n + 1) []
-map-replicate_more items vs n v e h =
-    map-append items vs (v ∷ []) ∙ ap₂ (λ xs x. xs ++ x ∷ []) e h ∙ replicate-append-replicate n 1 []

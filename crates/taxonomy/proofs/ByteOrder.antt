@@ -1,5 +1,5 @@
 -- Pairs of a name and its number in order give the numbers in the byte order of the names.
-use Rattle.std.proofs.Common.{◌≡◌, ℕ, ◌+◌, ◌<◌, false, List, [], ◌∷◌, ◌++◌, map, length, refl, subst, arith, Bor}
+use Rattle.std.proofs.Common.{◌≡◌, ℕ, ◌+◌, ◌<◌, false, List, [], ◌∷◌, map, length, refl, subst, arith, Bor}
 use Rattle.std.specs.declared.cmp.Ordering.{Ordering}
 use Rattle.std.specs.declared.cmp.Ordering.TheVariants.{Less, Equal, Greater}
 use Rattle.std.specs.Ordering.{is_lt, ordering_then, ordering_reverse, nat_cmp}
@@ -7,16 +7,12 @@ use Rattle.std.specs.Cmp.{IsTotalOrder}
 use Rattle.std.specs.Cmp.Lexicographic.{slice_cmp}
 use Rattle.std.specs.List.{All, range_with_len}
 use Rattle.std.specs.List.Sorted.{IsPermutation, IsSortedBy, IsSorted}
-use Rattle.std.proofs.lemmas.List.{get_or-map, map-id, length-map}
-use Rattle.std.proofs.lemmas.List.FromFn.{map-range_with_len_more}
+use Rattle.std.proofs.lemmas.List.{get_or-map, length-map}
 use Rattle.std.proofs.lemmas.List.Sorted.{IsPermutation-map, All-permutation, ranks_by}
 use Rattle.std.proofs.lemmas.Cmp.{then_total, on_total, nat_list_cmp_total, nat_cmp_total, ranked, by_ranked}
 use Rattle.axioms.specs.Numbered.{name_at}
 use Rattle.taxonomy.specs.Texts.{by_name, in_byte_order}
 use Rattle.taxonomy.proofs.Sorts.{is_sorted, Ascends-from_sort}
-
-pub range-push : (n : ℕ) → range_with_len 0 (n + 1) ≡ range_with_len 0 n ++ n ∷ []
-range-push n = simp map-id at (map-range_with_len_more (λ x. x) 0 n n (omega arith))
 
 by_name_total : (names : List (List ℕ)) → IsTotalOrder (by_name names)
 by_name_total names = then_total (on_total (name_at names) nat_list_cmp_total) nat_cmp_total

@@ -1,11 +1,12 @@
 -- Groups that are found one after another, and lists that are put in order.
-use Rattle.std.proofs.Common.{◌≡◌, ℕ, ◌+◌, ◌<◌, Bool, true, false, ◌&&◌, ◌||◌, List, [], ◌∷◌, ◌++◌, length, get_or, take, All, refl, sym, ap, ap₂, subst, ◌∙◌, arith, ⊎_elim}
+use Rattle.std.proofs.Common.{◌≡◌, ℕ, ◌+◌, ◌<◌, Bool, ◌&&◌, ◌||◌, List, [], ◌∷◌, ◌++◌, length, get_or, take, All, refl, sym, ap, ap₂, subst, ◌∙◌, arith, ⊎_elim}
 use Rattle.std.specs.Prelude.{◌==◌, slice_set}
 use Rattle.std.specs.List.{filter, flat_map, list_any}
 use Rattle.std.proofs.lemmas.Bool.{cases_eq, cases_lt}
 use Rattle.std.proofs.lemmas.List.{take_more, get_or-set_same, get_or-set_other}
 use Rattle.std.proofs.lemmas.List.Elements.{All-push, All-weaker, All-filter}
 use Rattle.std.proofs.lemmas.List.Folds.{list_any-append, list_any_none}
+use Rattle.std.proofs.Math.Bool.{and_comm, or-false}
 use Rattle.interpretation_spec.specs.Row.{has}
 use Rattle.axioms.specs.Numbered.{name_at}
 use Rattle.taxonomy.specs.Texts.{numbers_below, in_byte_order, is_same, groups, group_line, is_directly_above, line_of, line_with, least_among, least_groups, individual_line}
@@ -15,16 +16,6 @@ use Rattle.taxonomy.proofs.Agreement.{all_firsts, all_in_byte_order, same_flat_m
 use Rattle.taxonomy.proofs.Arranging.{arranged-filter}
 use Rattle.taxonomy.proofs.Members.{among_passing, get_or-beyond, has_beyond}
 
-and_swap : (a b : Bool) → (a && b) ≡ (b && a)
-and_swap true true = refl
-and_swap true false = refl
-and_swap false true = refl
-and_swap false false = refl
-
-or_none : (a : Bool) → (a || false) ≡ a
-or_none true = refl
-or_none false = refl
-
 -- one more class is found, and its group marked
 pub grouped_more : (rows : List (List Bool)) (old new : List Bool) (found numbers : List ℕ) (c : ℕ) → length old ≡ length rows → length new ≡ length old → numbers ≡ filter (is_same (lies_below rows) c) (numbers_below (length rows)) → ((k : ℕ) → k < length old → has new k ≡ (has old k || list_any (λ x. x == k) numbers)) → ((k : ℕ) → has old k ≡ list_any (is_same (lies_below rows) k) found) → (k : ℕ) → has new k ≡ list_any (is_same (lies_below rows) k) (found ++ c ∷ [])
 grouped_more rows old new found numbers c long same_long is marked each k =
@@ -33,7 +24,7 @@ grouped_more rows old new found numbers c long same_long is marked each k =
     (λ within.
     marked k (omega arith)
     ∙ ap₂ (λ a b. a || b) (each k)
-    (ap (list_any (λ x. x == k)) is ∙ among_passing (is_same r c) (length rows) k within ∙ and_swap (r c k) (r k c) ∙ sym (or_none (is_same r k c)))
+    (ap (list_any (λ x. x == k)) is ∙ among_passing (is_same r c) (length rows) k within ∙ and_comm (r c k) (r k c) ∙ sym (or-false (is_same r k c)))
     ∙ sym (list_any-append (is_same r k) found (c ∷ [])))
     (λ beyond.
     let none = get_or-beyond rows k beyond in

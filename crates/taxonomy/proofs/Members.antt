@@ -3,9 +3,12 @@ use Rattle.std.proofs.Common.{◌≡◌, ℕ, zero, suc, ◌<◌, ◌≤◌, Boo
 use Rattle.std.specs.Prelude.{◌==◌}
 use Rattle.std.specs.List.{filter, list_any, range_with_len}
 use Rattle.std.proofs.lemmas.Bool.{cases_eq, cases_lt, eq-eqb, ne_eqb}
-use Rattle.std.proofs.lemmas.List.{length-replicate, get_or-replicate}
+use Rattle.std.proofs.lemmas.List.{length-replicate}
 use Rattle.std.proofs.lemmas.List.Folds.{list_any_at}
 use Rattle.std.proofs.lemmas.List.FromFn.{length-range_with_len, get_or-range_with_len}
+use Rattle.std.proofs.Math.Bool.{and-true}
+use Rattle.std.proofs.lemmas.List.Elements.{filter_agree}
+use Rattle.interpretation_spec.proofs.Shapes.{empty_row}
 use Rattle.interpretation_spec.specs.Row.{has}
 use Rattle.taxonomy.specs.Texts.{numbers_below, is_same, is_strictly_above, some_below, least_among}
 use Rattle.taxonomy.specs.Lists.{members_of}
@@ -29,10 +32,6 @@ list_any-filter p q (x ∷ xs) = by_test (p x) (filter p xs) (list_any (λ y. p 
     by_test : (b : Bool) (rest : List ℕ) (done : Bool) → list_any q rest ≡ done → list_any q (cond b (x ∷ rest) rest) ≡ ((b && q x) || done)
     by_test true rest done e = ap (λ r. q x || r) e
     by_test false rest done e = e
-
-pub filter-same : (p q : ℕ → Bool) (xs : List ℕ) → ((k : ℕ) → p k ≡ q k) → filter p xs ≡ filter q xs
-filter-same p q [] e = refl
-filter-same p q (x ∷ xs) e = ap₂ (λ b rest. cond b (x ∷ rest) rest) (e x) (filter-same p q xs e)
 
 pub filter-none : (p : ℕ → Bool) (xs : List ℕ) → ((k : ℕ) → p k ≡ false) → filter p xs ≡ []
 filter-none p [] e = refl
@@ -66,14 +65,10 @@ is_below n k l =
     let long : length (range_with_len 0 n) ≡ n = length-range_with_len 0 n in
     list_any_at (λ (x : ℕ). x == k) (numbers_below n) k 0 (omega arith) (eq-eqb _ k (get_or-range_with_len 0 n k 0 l ∙ zero-add k))
 
-and_true : (b : Bool) → (b && true) ≡ b
-and_true true = refl
-and_true false = refl
-
 -- a number below n is among those that pass where it passes
 pub among_passing : (t : ℕ → Bool) (n k : ℕ) → k < n → list_any (λ x. x == k) (filter t (numbers_below n)) ≡ t k
 among_passing t n k l =
-    list_any-filter t (λ x. x == k) (numbers_below n) ∙ at_one t k (numbers_below n) ∙ ap (λ b. t k && b) (is_below n k l) ∙ and_true (t k)
+    list_any-filter t (λ x. x == k) (numbers_below n) ∙ at_one t k (numbers_below n) ∙ ap (λ b. t k && b) (is_below n k l) ∙ and-true (t k)
 
 -- ---- rows
 
@@ -115,17 +110,10 @@ nearest_is above n c k over =
 
 -- ---- the reduction
 
-has_none : (n k : ℕ) → has (replicate n false) k ≡ false
-has_none n k =
-    ⊎_elim
-    (λ within. get_or-replicate n k false false within)
-    (λ beyond. has_beyond (replicate n false) k (simp length-replicate beyond))
-    (cases_lt k n)
-
 -- the row that has these numbers alone
 pub has_each : (n k : ℕ) (found : List ℕ) (old new : List Bool) → old ≡ replicate n false → k < n → (k < length old → has new k ≡ (has old k || list_any (λ x. x == k) found)) → has new k ≡ list_any (λ x. x == k) found
 has_each n k found old new e l h =
-    h (rw (e, length-replicate) l) ∙ ap (λ row. has row k || list_any (λ x. x == k) found) e ∙ ap (λ b. b || list_any (λ x. x == k) found) (has_none n k)
+    h (rw (e, length-replicate) l) ∙ ap (λ row. has row k || list_any (λ x. x == k) found) e ∙ ap (λ b. b || list_any (λ x. x == k) found) (empty_row n k)
 
 pub reduction_is : (rows above direct : List (List Bool)) → IsSquare rows → IsStrictPart rows above → length direct ≡ length above → HasNearest above direct → IsReduction rows direct
 reduction_is rows above direct square strict long nearest = record {
@@ -147,4 +135,4 @@ least_is types r n a over =
     let passes : List ℕ → List ℕ = λ numbers. filter (λ g. not (list_any (λ k. is_strictly_above r k g) numbers)) numbers in
     ap passes (members_of-row types n a over)
     ∙ filter-filter belongs (λ g. not (list_any (λ k. is_strictly_above r k g) (filter belongs (numbers_below n)))) (numbers_below n)
-    ∙ filter-same _ _ (numbers_below n) (λ g. ap (λ b. belongs g && not b) (list_any-filter belongs (λ k. is_strictly_above r k g) (numbers_below n)))
+    ∙ filter_agree _ _ (λ g. ap (λ b. belongs g && not b) (list_any-filter belongs (λ k. is_strictly_above r k g) (numbers_below n))) (numbers_below n)

@@ -10,12 +10,11 @@ mod outcome;
 mod reduction;
 mod rows;
 mod taxonomy_text;
-#[cfg(test)]
-mod tests;
 mod theory;
 mod write;
 
+pub use device::WriteFault;
 pub use outcome::{Outcome, instances_bytes, taxonomy_bytes};
 pub use reduction::{Relation, Taxonomy, reduce};
 pub use theory::texts_of_relations;
-pub use write::{WriteFault, write_instances, write_taxonomy};
+pub use write::{write_instances, write_taxonomy};

@@ -207,7 +207,7 @@ fn next_row(alloc: Global, above: &[Row], rows: &[Row], c: usize) -> Result<Row,
         (λ r. (length r ≡ length above.now)
         × ((k : ℕ) → has r k ≡ is_nearest (lies_below above.now) (length above.now) c k)) }
 {
-    let nothing = ClassId::NOTHING.0;
+    let nothing = ClassId::NOTHING.0 as usize;
     if nothing < rows.len() && nothing < above.len() && are_alike(above, c, nothing) {
         Ok(rows[nothing].copy(alloc)?)
     } else {

@@ -42,7 +42,7 @@ fn write_groups(
         (filter (is_no_bottom (lies_below taxonomy.now)) groups.now.leaders.items)) }
 {
     for g in &groups.leaders {
-        if !taxonomy.is_same(*g, ClassId::NOTHING.0) {
+        if !taxonomy.is_same(*g, ClassId::NOTHING.0 as usize) {
             write_line(out, names, groups.members.at(*g), groups.above.at(*g))?;
         }
     }
@@ -66,7 +66,7 @@ fn write_in_order(
     let groups = groups_in(alloc, taxonomy, order)?;
     out.extend_from_slice(b"eltax 1 consistent\n")?;
     write_groups(out, names, taxonomy, &groups)?;
-    let bottom = group_of(alloc, taxonomy, order, ClassId::NOTHING.0)?;
+    let bottom = group_of(alloc, taxonomy, order, ClassId::NOTHING.0 as usize)?;
     write_names(out, names, b"bottom ", b" = ", &bottom)?;
     out.push(b'\n')?;
     Ok(())

@@ -5,40 +5,9 @@ ghost use Rattle.std.specs.Prelude.{◌≡◌, ◌≤◌, IsErrOf, OnOk};
 ghost use Rattle.taxonomy.specs.Outcome.{IsMadeFor, instances_of, taxonomy_of};
 
 use crate::outcome::{Outcome, instances_bytes, taxonomy_bytes};
-use axioms::{Memory, Ontology};
-use device::{Failed, Sink, write_all};
+use axioms::Ontology;
+use device::{Sink, WriteFault, write_all};
 use std::alloc::Global;
-
-/// Why a text was not written whole.
-#[derive(Clone, Copy, Debug, PartialEq, Eq)]
-pub enum WriteFault {
-    /// The sink failed.
-    Io,
-    /// Memory was refused.
-    Memory,
-}
-
-impl From<Memory> for WriteFault {
-    ghost use Rattle.std.specs.Prelude.{◌≡◌};
-    ghost use Rattle.taxonomy.specs.declared.write.WriteFault.TheVariants as faults;
-
-    ghost from_gives = { λ _ e. e ≡ faults.Memory };
-
-    fn from(_error: Memory) -> WriteFault {
-        WriteFault::Memory
-    }
-}
-
-impl From<Failed> for WriteFault {
-    ghost use Rattle.std.specs.Prelude.{◌≡◌};
-    ghost use Rattle.taxonomy.specs.declared.write.WriteFault.TheVariants as faults;
-
-    ghost from_gives = { λ _ e. e ≡ faults.Io };
-
-    fn from(_error: Failed) -> WriteFault {
-        WriteFault::Io
-    }
-}
 
 /// Writes the taxonomy text.
 ///

@@ -2,8 +2,8 @@ use Rattle.std.proofs.Common.{◌≡◌, ℕ, ◌<◌, List, [], Some, Contains,
 use Rattle.std.proofs.lemmas.List.{take_all}
 use Rattle.std.proofs.lemmas.List.Elements.{All-contains}
 use Rattle.std.proofs.lemmas.Option.{slice_get-get_or}
+use Rattle.lemmas.proofs.Members.{Contains-from_slice_get}
 use Rattle.axioms.specs.Numbered.{IsClassAt}
-use Rattle.axioms.proofs.Lists.{Contains-from_slice_get}
 use Rattle.taxonomy.specs.Relation.{row_at}
 use Rattle.cert_check.specs.Rows.{Adds, AreRows}
 use Rattle.cert_check.proofs.Additions.{holder_step}

@@ -2,7 +2,7 @@ use Rattle.std.proofs.Common.{length, refl, ◌∙◌, sym, below_more, arith}
 use Rattle.std.proofs.lemmas.Bool.{false≢true}
 use Rattle.std.proofs.lemmas.List.{length-map}
 use Rattle.std.proofs.lemmas.Option.{slice_get_read, slice_get_within}
-use Rattle.axioms.proofs.Lists.{mapped}
+use Rattle.lemmas.proofs.Mapped.{mapped}
 use Rattle.certificate.specs.HasText.{IsLineOf}
 use Rattle.certificate.specs.View.{lines_of, line_of}
 use Rattle.cert_check.proofs.Checked.{line_at, this_line, not_this_line}

@@ -1,6 +1,6 @@
 use Rattle.std.proofs.Common.{length, refl, false, replicate, string_bytes, ◌∙◌, ap₂}
 use Rattle.std.proofs.lemmas.Option.{slice_get_read}
-use Rattle.axioms.proofs.Lists.{mapped}
+use Rattle.lemmas.proofs.Mapped.{mapped}
 use Rattle.certificate.specs.HasText.{IsLineOf}
 use Rattle.certificate.specs.View.{line_of}
 use Rattle.cert_check.proofs.Rowwise.{type_rows_start, type_rows_more, counted}

@@ -27,8 +27,8 @@ unreachable-requires c =
     let lines = c.in_ok-lines.lines in
     let same : lines_of lines.items ≡ lines_from 0 0 h.contexts.items = c.in_ok-lines.ensures ∙ ap (lines_from 0 0) c.deref.ensures.value in
     let long : length (lines_from 0 0 h.contexts.items) < 2 ^ 64 = omega (arith, lines.ok.0, lines.ok.1, lines.small, length-map lines.items line_of, ap length same) in
-    let small : length o.nodes < 2 ^ 32 = omega (arith, c.requires.classifiable.classes, c.requires.classifiable.few_names) in
-    let few : length o.axioms < 2 ^ 32 = c.requires.classifiable.few_axioms in
+    let small : length o.nodes < 2 ^ 32 = omega (arith, c.requires.classifiable.classes, c.bounded.ensures.classes) in
+    let few : length o.axioms < 2 ^ 32 = c.bounded.ensures.axioms in
     let refused = c.in-Err.ensures.none in
     elim c.if-consistent.branch [
       | then-consistent+in_ok-listed w ↦

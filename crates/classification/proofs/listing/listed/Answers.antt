@@ -21,7 +21,7 @@ pub members-requires-clause-few : goal.members-requires-clause-few
 members-requires-clause-few c =
     let o = c.args.ontology.now in
     let are = ap expr_numbers c.deref-3.ensures.value ∙ c.in_ok-elements.ensures ∙ ap satisfiable c.deref.ensures.value in
-    let many : length o.nodes ≤ most_names = omega (arith, c.requires.classifiable.classes, c.requires.classifiable.few_names) in
+    let many : length o.nodes ≤ most_names = omega (arith, c.requires.classifiable.classes, c.bounded.ensures.classes) in
     few o c.args.hierarchy.now c.requires.superclasses c.deref-3.result.now are many
 
 pub members-requires-clause-within : goal.members-requires-clause-within
@@ -37,14 +37,14 @@ pub overflow_cast-domain : goal.overflow_cast-domain
 overflow_cast-domain c =
     let o = c.args.ontology.now in
     let are = c.in_ok-elements.ensures ∙ ap satisfiable c.deref.ensures.value in
-    let many : length o.nodes ≤ most_names = omega (arith, c.requires.classifiable.classes, c.requires.classifiable.few_names) in
+    let many : length o.nodes ≤ most_names = omega (arith, c.requires.classifiable.classes, c.bounded.ensures.classes) in
     omega (arith, few o c.args.hierarchy.now c.requires.superclasses c.in_ok-elements.elements.items are many, c.in_ok-elements.elements.ok.0, c.len-domain.ensures)
 
 pub claims-requires : goal.claims-requires
 claims-requires c =
     let o = c.args.ontology.now in
     let are = ap expr_numbers c.deref-4.ensures.value ∙ c.in_ok-elements.ensures ∙ ap satisfiable c.deref.ensures.value in
-    let many : length o.nodes ≤ most_names = omega (arith, c.requires.classifiable.classes, c.requires.classifiable.few_names) in
+    let many : length o.nodes ≤ most_names = omega (arith, c.requires.classifiable.classes, c.bounded.ensures.classes) in
     few o c.args.hierarchy.now c.requires.superclasses c.deref-4.result.now are many
 
 pub returns : goal.returns
@@ -66,5 +66,5 @@ returns c =
     record {
       countermodel = subst (IsCountermodel o) same (is_countermodel o w k h s c.requires.consistent lists m);
       text = subst (IsListedOf o) same (is_listed_of o w k h s c.requires.consistent lists m);
-      numbers = subst (λ x. All (λ n. n < 2 ^ 32) (listed_numbers (Some x))) same (is_small o w k h s c.requires.consistent lists m);
+      numbers = subst (λ x. All (λ n. n < 2 ^ 32) (listed_numbers (Some x))) same (is_small o w k h s c.requires.consistent lists m c.bounded.ensures);
     }

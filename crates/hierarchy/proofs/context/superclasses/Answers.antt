@@ -1,10 +1,10 @@
 use Rattle.std.proofs.Common.{◌≡◌, ◌+◌, List, Bool, replicate, true, false, sym, ◌∙◌, ap, ap₂, subst, arith}
+use Rattle.interpretation_spec.proofs.Shapes.{member_below}
 use Rattle.axioms.specs.Numbered.{thing}
 use Rattle.interpretation_spec.specs.Row.{has}
 use Rattle.hierarchy.specs.declared.context.Superclass.{Superclass}
 use Rattle.hierarchy.specs.Contexts.{as_itself}
 use Rattle.hierarchy.specs.Search.{Search, search_of, with_class, with_stated, stated_of, IsSearch}
-use Rattle.hierarchy.proofs.Members.{has_within}
 use Rattle.hierarchy.proofs.Searching.{class_at, begun, followed, few, finished}
 use Rattle.hierarchy.proofs.context.superclasses.Goals as goal
 
@@ -26,7 +26,7 @@ pub of-requires : goal.of-requires
 of-requires c =
     let w = c.loop-next.invariant.search in
     let here = class_at c.loop-next.found.list.items c.loop-next.next c.index.result.now (omega (arith, c.len-in-loop-next.ensures)) c.index.ensures in
-    rw (← w.wide) (has_within c.loop-next.found.set c.index.result.now.class.0 (w.marked c.loop-next.next c.index.result.now.class.0 here))
+    rw (← w.wide) (member_below c.loop-next.found.set c.index.result.now.class.0 (w.marked c.loop-next.next c.index.result.now.class.0 here))
 
 pub loop-next-preserved : goal.loop-next-preserved
 loop-next-preserved c =

@@ -1,4 +1,4 @@
-use Rattle.taxonomy.proofs.Arranging.{map-replicate_more}
+use Rattle.lemmas.proofs.Mapped.{map-replicate_more}
 use Rattle.taxonomy.proofs.lists.Lists.new.Goals as goal
 
 pub loop-preserved : goal.loop-preserved

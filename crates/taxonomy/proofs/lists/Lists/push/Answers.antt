@@ -1,5 +1,5 @@
 use Rattle.std.proofs.Common.{arith}
-use Rattle.taxonomy.proofs.Arranging.{map-pushed}
+use Rattle.lemmas.proofs.Mapped.{map-pushed}
 use Rattle.taxonomy.proofs.lists.Lists.push.Goals as goal
 
 pub returns-in_ok-push : goal.returns-in_ok-push
