@@ -1,5 +1,6 @@
 -- What a run of `classify` leaves in files is accepted by a run of `check`.
-use Rattle.std.proofs.Common.{◌≡◌, ◌∙◌, ℕ, ◌⊎◌, List, Bool, Option, Ok, Err, Some, true, refl, sym, ap, subst, inl, inr}
+use Rattle.std.proofs.Common.{◌≡◌, ◌∙◌, ℕ, List, Bool, Option, Ok, Err, Some, true, sym, ap, subst, inl, inr}
+use Rattle.lemmas.proofs.Choices.{one_value}
 use Rattle.cert_check.specs.declared.verdict.Verdict.{Verdict}
 use Rattle.cert_check.specs.declared.verdict.Verdict.TheVariants.{Accepted}
 use Rattle.axioms.specs.Numbered.{Ontology}
@@ -17,19 +18,23 @@ use Rattle.cli.proofs.WrittenAccepted.{written_is_accepted}
 use Rattle.cli.specs.Checked.{IsChecked, IsCheckFault}
 use Rattle.cli.specs.Devices.{Device}
 use Rattle.cli.specs.Performed.{AreApart, HoldTexts, IsCheckRun, IsClassifyAnswered, IsClassifyRun, IsPerformed, IsTaskRun}
-use Rattle.cli.specs.Printed.{Output, IsAnswered, IsLineTold, IsPrinted, IsTold, classify_status, done, document_status, verdict_status, verdict_text}
+use Rattle.cli.specs.Printed.{Output, IsAnswered, IsLineTold, IsPrinted, IsTold, classify_status, out_of_memory, verdict_status, verdict_text}
 use Rattle.cli.specs.Theorems.{AreSamePaths, IsAcceptedRun, IsDocumentApart, WrittenFilesAreAccepted}
 use Rattle.cli.specs.Writing.{IsClassified, Texts}
 use Rattle.cli.specs.declared.fault.ClassifyFault.{ClassifyFault}
 use Rattle.cli.specs.declared.fault.ClassifyFault.TheVariants as classifying
 use Rattle.classification.specs.declared.classification.Summary.{Summary}
+use Rattle.document.specs.Printed.{status_of}
+use Rattle.program.specs.Status.{code_of}
+use Rattle.program.specs.declared.status.Status.{Status}
+use Rattle.program.specs.declared.status.Status.TheVariants as statuses
 use Rattle.document.specs.declared.fault.DocumentFault.{DocumentFault}
 use Rattle.document.specs.declared.fault.DocumentFault.TheVariants as reading
 use Rattle.system_files.specs.Contents.{Content}
 
 -- ---- a fault has another status than 0
 
-document_not_done : (fault : DocumentFault) → done ≡ document_status fault → ⊥
+document_not_done : (fault : DocumentFault) → code_of statuses.Done ≡ code_of (status_of fault) → ⊥
 document_not_done (reading.NotUtf8 at) e = cc
 document_not_done reading.TooLarge e = cc
 document_not_done reading.Io e = cc
@@ -39,20 +44,20 @@ document_not_done (reading.Faults found) e = cc
 document_not_done reading.TooManyNames e = cc
 document_not_done reading.Memory e = cc
 
-fault_not_done : (fault : ClassifyFault) → done ≡ classify_status fault → ⊥
+fault_not_done : (fault : ClassifyFault) → code_of statuses.Done ≡ code_of (classify_status fault) → ⊥
 fault_not_done (classifying.Document fault) e = document_not_done fault e
 fault_not_done classifying.NotYet e = cc
 fault_not_done classifying.Memory e = cc
 fault_not_done classifying.Limit e = cc
 fault_not_done (classifying.Io n) e = cc
 
-printed_not_done : (old new : Device) (text : List ℕ) (status : ℕ) → (done ≡ status → ⊥) → IsPrinted old new text status done → ⊥
+printed_not_done : (old new : Device) (text : List ℕ) (status : Status) → (code_of statuses.Done ≡ code_of status → ⊥) → IsPrinted old new text status (code_of statuses.Done) → ⊥
 printed_not_done old new text status other (inl whole) = other whole.1
 printed_not_done old new text status other (inr failed) = let e = failed.1 in cc
 
-told_not_done : (old new : Device) (IsText : List ℕ → Type 0) (status : ℕ) → (done ≡ status → ⊥) → IsTold old new IsText status done → ⊥
+told_not_done : (old new : Device) (IsText : List ℕ → Type 0) (status : Status) → (code_of statuses.Done ≡ code_of status → ⊥) → IsTold old new IsText status (code_of statuses.Done) → ⊥
 told_not_done old new IsText status other (inl told) = printed_not_done old new told.0 status other told.2
-told_not_done old new IsText status other (inr told) = printed_not_done old new _ _ (λ e. cc) told
+told_not_done old new IsText status other (inr told) = printed_not_done old new out_of_memory statuses.Memory (λ e. cc) told
 
 -- ---- the check of what was written
 
@@ -79,12 +84,12 @@ check_accepted paths facts bytes most content old new status document texts summ
     inr (paths, run.0, written_is_accepted bytes most facts document texts summary (Err run.0) classified (subst P holds run.1), run.2, run.3)
 
 -- a run that ended with status 0 has classified the document
-answered : (written : Paths) (facts bytes : ℕ) (content content' : Content) (old new : Output) → AreApart written → IsClassifyAnswered written facts bytes true content content' old new done → (summary : Summary) × (texts : Texts) × IsClassified bytes facts (content written.document.now) summary texts × HoldTexts true written texts content'
+answered : (written : Paths) (facts bytes : ℕ) (content content' : Content) (old new : Output) → AreApart written → IsClassifyAnswered written facts bytes true content content' old new (code_of statuses.Done) → (summary : Summary) × (texts : Texts) × IsClassified bytes facts (content written.document.now) summary texts × HoldTexts true written texts content'
 answered written facts bytes content content' old new apart (inl run) = (run.0, run.1, run.2, run.3 apart)
 answered written facts bytes content content' old new apart (inr run) = absurd (told_not_done old.err new.err _ (classify_status run.0) (fault_not_done run.0) run.4)
 
 -- the run of a check on the same paths
-runs_accepted : (written checked : Paths) (facts bytes most : ℕ) (content content' : Content) (old new old' new' : Output) (status : ℕ) (document : List ℕ) → AreSamePaths written checked → AreApart written → IsDocumentApart written → content written.document.now ≡ Some document → IsClassifyRun written facts bytes true content content' old new done → IsCheckRun checked most content' old' new' status → IsAcceptedRun most document old' new' status
+runs_accepted : (written checked : Paths) (facts bytes most : ℕ) (content content' : Content) (old new old' new' : Output) (status : ℕ) (document : List ℕ) → AreSamePaths written checked → AreApart written → IsDocumentApart written → content written.document.now ≡ Some document → IsClassifyRun written facts bytes true content content' old new (code_of statuses.Done) → IsCheckRun checked most content' old' new' status → IsAcceptedRun most document old' new' status
 runs_accepted written checked facts bytes most content content' old new old' new' status document same apart document_apart holds run check =
     let made = answered written facts bytes content content' old new apart run.answered in
     let summary = made.0 in
@@ -96,42 +101,36 @@ runs_accepted written checked facts bytes most content content' old new old' new
 
 -- ---- the words ask for one task
 
-injected : {X : Type 0} (x y : X) → Some x ≡ Some y → x ≡ y
-injected x y e = cc
-
 -- paths that the same rows name are the same
 same_paths : (rows : List Row) (p q : Paths) → ArePaths rows p → ArePaths rows q → AreSamePaths p q
 same_paths rows p q a b = record {
-  document = injected _ _ (sym a.document ∙ b.document);
-  taxonomy = injected _ _ (sym a.taxonomy ∙ b.taxonomy);
-  instances = injected _ _ (sym a.instances ∙ b.instances);
-  certificate = injected _ _ (sym a.certificate ∙ b.certificate);
+  document = one_value _ _ _ a.document b.document;
+  taxonomy = one_value _ _ _ a.taxonomy b.taxonomy;
+  instances = one_value _ _ _ a.instances b.instances;
+  certificate = one_value _ _ _ a.certificate b.certificate;
 }
 
 same_number : (id : Text) (most : ℕ) (rows : List Row) (m n : ℕ) → IsNumber id most rows m → IsNumber id most rows n → m ≡ n
 same_number id most rows m n a b =
-    let word : a.word ≡ b.word = injected _ _ (sym a.given ∙ b.given) in
+    let word : a.word ≡ b.word = one_value _ _ _ a.given b.given in
     a.value ∙ ap (λ w. digits_value 10 (without_leading_plus w)) word ∙ sym b.value
-
-same_rows : {X : Type 0} (entered : Option X) (x y : X) → entered ≡ Some x → entered ≡ Some y → x ≡ y
-same_rows entered x y a b = injected x y (sym a ∙ b)
 
 -- what a run of a classification says, of the task that the words ask for
 classify_run : (words : List Text) (paths : Paths) (facts bytes : ℕ) (task : Task) (known : Bool) (content content' : Content) (old new : Output) (status : ℕ) → IsTaskOf words (Classify paths facts bytes) → IsTaskOf words task → IsTaskRun task known content content' old new status → (paths' : Paths) × (facts' : ℕ) × (bytes' : ℕ) × AreSamePaths paths paths' × IsClassifyRun paths' facts' bytes' known content content' old new status
 classify_run words paths facts bytes (Classify paths' facts' bytes') known content content' old new status of of' run =
-    let rows : (of.name, of.rows) ≡ (of'.name, of'.rows) = same_rows _ _ _ of.found of'.found in
+    let rows : (of.name, of.rows) ≡ (of'.name, of'.rows) = one_value _ _ _ of.found of'.found in
     let P : List Row → Type 0 = λ r. ArePaths r paths in
     let here = subst P (ap (λ (p : Text × List Row). p.1) rows) of.is.1 in
     (paths', facts', bytes', same_paths of'.rows paths paths' here of'.is.1, run)
 classify_run words paths facts bytes (Check paths' most) known content content' old new status of of' run =
-    let rows : (of.name, of.rows) ≡ (of'.name, of'.rows) = same_rows _ _ _ of.found of'.found in
+    let rows : (of.name, of.rows) ≡ (of'.name, of'.rows) = one_value _ _ _ of.found of'.found in
     let bad : codes "classify" ≡ codes "check" = sym of.is.0 ∙ ap (λ (p : Text × List Row). p.0) rows ∙ of'.is.0 in
     absurd (cc)
 
 -- .. and of a check
 check_run : (words : List Text) (paths : Paths) (most : ℕ) (task : Task) (known : Bool) (content content' : Content) (old new : Output) (status : ℕ) → IsTaskOf words (Check paths most) → IsTaskOf words task → IsTaskRun task known content content' old new status → (paths' : Paths) × AreSamePaths paths paths' × IsCheckRun paths' most content old new status
 check_run words paths most (Check paths' most') known content content' old new status of of' run =
-    let rows : (of.name, of.rows) ≡ (of'.name, of'.rows) = same_rows _ _ _ of.found of'.found in
+    let rows : (of.name, of.rows) ≡ (of'.name, of'.rows) = one_value _ _ _ of.found of'.found in
     let to : of.rows ≡ of'.rows = ap (λ (p : Text × List Row). p.1) rows in
     let P : List Row → Type 0 = λ r. ArePaths r paths in
     let Q : List Row → Type 0 = λ r. IsNumber (codes "max-bytes") most_bytes r most in
@@ -139,19 +138,19 @@ check_run words paths most (Check paths' most') known content content' old new s
     let R : ℕ → Type 0 = λ m. IsCheckRun paths' m content old new status in
     (paths', same_paths of'.rows paths paths' (subst P to of.is.1) of'.is.1, subst R number run)
 check_run words paths most (Classify paths' facts' bytes') known content content' old new status of of' run =
-    let rows : (of.name, of.rows) ≡ (of'.name, of'.rows) = same_rows _ _ _ of.found of'.found in
+    let rows : (of.name, of.rows) ≡ (of'.name, of'.rows) = one_value _ _ _ of.found of'.found in
     let bad : codes "check" ≡ codes "classify" = sym of.is.0 ∙ ap (λ (p : Text × List Row). p.0) rows ∙ of'.is.0 in
     absurd (cc)
 
 -- ---- two runs of the program
 
 -- words that are refused end with another status than 0
-line_not_done : (fault : LineFault) (old new : Device) → IsLineTold fault old new done → ⊥
-line_not_done (line.Line error) old new h = told_not_done old new _ _ (λ e. cc) h
-line_not_done line.Memory old new h = told_not_done old new _ _ (λ e. cc) h
+line_not_done : (fault : LineFault) (old new : Device) → IsLineTold fault old new (code_of statuses.Done) → ⊥
+line_not_done (line.Line error) old new h = told_not_done old new _ statuses.Usage (λ e. cc) h
+line_not_done line.Memory old new h = told_not_done old new _ statuses.Memory (λ e. cc) h
 
-classified : (words : List Text) (paths : Paths) (facts bytes : ℕ) (known : Bool) (content content' : Content) (old new : Output) → IsTaskOf words (Classify paths facts bytes) → IsPerformed words known content content' old new done → (paths' : Paths) × (facts' : ℕ) × (bytes' : ℕ) × AreSamePaths paths paths' × IsClassifyRun paths' facts' bytes' known content content' old new done
-classified words paths facts bytes known content content' old new of (inl run) = classify_run words paths facts bytes run.0 known content content' old new done of run.1 run.2
+classified : (words : List Text) (paths : Paths) (facts bytes : ℕ) (known : Bool) (content content' : Content) (old new : Output) → IsTaskOf words (Classify paths facts bytes) → IsPerformed words known content content' old new (code_of statuses.Done) → (paths' : Paths) × (facts' : ℕ) × (bytes' : ℕ) × AreSamePaths paths paths' × IsClassifyRun paths' facts' bytes' known content content' old new (code_of statuses.Done)
+classified words paths facts bytes known content content' old new of (inl run) = classify_run words paths facts bytes run.0 known content content' old new (code_of statuses.Done) of run.1 run.2
 classified words paths facts bytes known content content' old new of (inr run) = absurd (line_not_done run.0 old.err new.err run.3)
 
 -- words that clap takes are refused only for want of memory

@@ -1,5 +1,5 @@
 -- Known bytes that stay, and known bytes that are all read.
-use Rattle.std.proofs.Common.{ℕ, ◌++◌, ◌≤◌, List, length, Option, Some, None, refl, sym, ap, subst, ◌∙◌}
+use Rattle.std.proofs.Common.{ℕ, ◌++◌, ◌≤◌, List, length, Option, Some, None, sym, ap, subst, ◌∙◌}
 use Rattle.std.proofs.lemmas.List.{append-nil}
 use Rattle.std.specs.Io.KnownBytes.{Consumes, IsAtEnd, Keeps}
 use Rattle.axioms.specs.Numbered.{Ontology}

@@ -4,7 +4,7 @@ use Rattle.std.specs.Prelude.{codes}
 use Rattle.std.specs.List.{flat_map}
 use Rattle.certificate.specs.Text.{certificate_text, header, line_text, listed_text, line_feed}
 use Rattle.axioms.specs.Numbered.{Ontology}
-use Rattle.cert_check.specs.Acceptable.{IsAcceptable, IsConsistentShown, IsContradictionShown, Shows}
+use Rattle.cert_check.specs.Acceptable.{IsAcceptable, IsConsistentShown, IsContradictionShown}
 use Rattle.certificate.specs.Certificate.{Certificate, Line, Listed}
 use Rattle.cli.proofs.Stored.{AreSome, IsSome}
 use Rattle.cli.specs.Writing.{Texts}

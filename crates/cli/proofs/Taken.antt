@@ -1,5 +1,4 @@
 -- What a document reads as can be classified, where it is a hierarchy.
-use Rattle.std.proofs.Common.{ℕ, ◌≤◌, arith, length}
 use Rattle.axioms.specs.Numbered.{Ontology}
 use Rattle.axioms.specs.WellFormed.{IsOntology}
 use Rattle.classification.proofs.OwnClasses.{stated_hierarchies_are}
@@ -7,12 +6,7 @@ use Rattle.classification.specs.Classified.{IsClassifiable}
 use Rattle.classification.specs.Stated.{StatesHierarchy}
 use Rattle.document.specs.Documents.{IsTaken}
 
-pub classifiable : (o : Ontology) → IsOntology o → IsTaken o → StatesHierarchy o → (most : ℕ) → length o.axioms ≤ most → most ≤ 268435456 → IsClassifiable o
-classifiable o whole taken stated most few within =
+pub classifiable : (o : Ontology) → IsOntology o → IsTaken o → StatesHierarchy o → IsClassifiable o
+classifiable o whole taken stated =
     let numbered = stated_hierarchies_are taken.statements o whole taken.numbered stated in
-    record {
-      hierarchy = numbered.0;
-      classes = numbered.1;
-      few_names = taken.few_names.classes;
-      few_axioms = omega (arith, few, within);
-    }
+    record { hierarchy = numbered.0; classes = numbered.1 }

@@ -1,5 +1,5 @@
 -- What a classification of a document writes is accepted where the same document is checked, unless the check is stopped.
-use Rattle.std.proofs.Common.{◌≡◌, ◌≤◌, ℕ, List, length, Some, Ok, Err, subst}
+use Rattle.std.proofs.Common.{◌≡◌, ℕ, List, Some, Ok, Err, subst}
 use Rattle.axioms.specs.Numbered.{Ontology}
 use Rattle.cert_check.specs.Acceptable.{IsAcceptable}
 use Rattle.document.proofs.OneReading.{one_reading}

@@ -6,9 +6,10 @@ use Rattle.cert_check.specs.Acceptable.{AreRight, IsAcceptable}
 use Rattle.cert_check.specs.Verdict.{HasTrueLines, IsVerdict, PassesLines}
 use Rattle.cert_check.specs.declared.verdict.Verdict.{Verdict}
 use Rattle.cert_check.specs.declared.verdict.Verdict.TheVariants.{Accepted}
-use Rattle.cli.specs.Devices.{SourceState, IsReadOn, IsReadToItsEnd, IsReadUntil, FailsInReading}
+use Rattle.cli.specs.Devices.{SourceState, source_state, IsReadOn, IsReadToItsEnd, IsReadUntil, FailsInReading}
 use Rattle.cli.specs.declared.fault.CheckFault.{CheckFault}
 use Rattle.cli.specs.declared.fault.CheckFault.TheVariants.{Document, Memory, Io}
+use Rattle.device.specs.declared.device.Source.{Ghosts}
 use Rattle.document.specs.Faults.{ReadsKnown, RefusesKnown}
 
 -- the bytes are those of a source that tells its bytes
@@ -52,8 +53,9 @@ pub record Sources : Type 0 where
   pub instances : SourceState
   pub certificate : SourceState
 
-abbrev pub sources : (document taxonomy instances certificate : SourceState) → Sources
-sources d t i c = record { document = d; taxonomy = t; instances = i; certificate = c }
+-- .. as the words of their traits tell them
+abbrev pub states : {D T I C : Type 0} → Ghosts D → Ghosts T → Ghosts I → Ghosts C → D × T × I × C → Sources
+states D T I C four = record { document = source_state D four.0; taxonomy = source_state T four.1; instances = source_state I four.2; certificate = source_state C four.3 }
 
 -- the sources of the texts are not touched
 abbrev pub AreTextsUnread : (old new : Sources) → Type 0
@@ -82,6 +84,10 @@ AreReadUntil (Io n) old new = ⊥
 abbrev pub AreRead : {X : Type 0} → Result X CheckFault → (old new : Sources) → Type 0
 AreRead (Ok x) old new = AreReadToTheirEnds old new
 AreRead (Err fault) old new = AreReadUntil fault old new
+
+-- .. of the four sources before and after a call
+abbrev pub Reads : {D T I C X : Type 0} → Ghosts D → Ghosts T → Ghosts I → Ghosts C → (old new : D × T × I × C) → Result X CheckFault → Type 0
+Reads D T I C old new answer = AreRead answer (states D T I C old) (states D T I C new)
 
 -- what was read of the source of a text: all; or memory was refused; or the fault is the number of the source, and it failed
 abbrev pub IsTextRead : {X : Type 0} → (number : ℕ) → Result X CheckFault → (old new : SourceState) → Type 0

@@ -1,6 +1,8 @@
 -- Sources and sinks as far as they can be seen.
 use Rattle.std.specs.Prelude.{◌≡◌, ℕ, List, Option}
 use Rattle.std.specs.Io.KnownBytes.{Appends, IsAtEnd}
+use Rattle.device.specs.declared.device.Sink as sinks
+use Rattle.device.specs.declared.device.Source as sources
 use Rattle.device.specs.Device.{AppendsBeginning, HasFailed, LosesFront}
 use Rattle.document.specs.declared.fault.DocumentFault.{DocumentFault}
 use Rattle.document.specs.declared.fault.DocumentFault.TheVariants.{Io}
@@ -10,6 +12,10 @@ use Rattle.document.specs.declared.fault.DocumentFault.TheVariants.{Io}
 -- the bytes that a sink has taken, where these are known, and how many of its calls have failed
 abbrev pub Device : Type 0
 Device = Option (List ℕ) × ℕ
+
+-- .. as the words of its trait tell it
+abbrev pub seen : {S : Type 0} → sinks.Ghosts S → S → Device
+seen S sink = (S.taken sink, S.failures sink)
 
 -- the sink has taken the whole text, and no call of it failed
 abbrev pub Takes : (old new : Device) → List ℕ → Type 0
@@ -27,8 +33,9 @@ pub record SourceState : Type 0 where
   pub most : ℕ
   pub failures : ℕ
 
-abbrev pub source_state : Option (List ℕ) → (most failures : ℕ) → SourceState
-source_state left most failures = record { left = left; most = most; failures = failures }
+-- .. as the words of its trait tell it
+abbrev pub source_state : {S : Type 0} → sources.Ghosts S → S → SourceState
+source_state S source = record { left = S.left source; most = S.most source; failures = S.failures source }
 
 -- the source has lost some of its first bytes, or none, and nothing else: it can give as many less, and no call of it failed
 pub record IsReadOn (old new : SourceState) : Type 0 where

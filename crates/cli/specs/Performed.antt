@@ -10,12 +10,16 @@ use Rattle.command_line.specs.declared.tasks.Paths.{Paths}
 use Rattle.command_line.specs.declared.tasks.Task.{Task}
 use Rattle.command_line.specs.declared.tasks.Task.TheVariants.{Check, Classify}
 use Rattle.cli.specs.Checked.{IsChecked, IsCheckFault}
-use Rattle.cli.specs.Printed.{Output, IsAnswered, IsTold, verdict_text, verdict_status, summary_text, done, IsCheckText, check_status, IsClassifyText, classify_status, IsLineTold}
+use Rattle.cli.specs.Printed.{Output, IsAnswered, IsTold, verdict_text, verdict_status, outputs, summary_text, IsCheckText, check_status, IsClassifyText, classify_status, IsLineTold}
 use Rattle.cli.specs.Writing.{IsClassified, IsFaultOf, Texts}
 use Rattle.cli.specs.declared.fault.CheckFault.{CheckFault}
 use Rattle.cli.specs.declared.fault.ClassifyFault.{ClassifyFault}
 use Rattle.cli.specs.declared.fault.ClassifyFault.TheVariants.{Io}
+use Rattle.device.specs.declared.device.Sink as sinks
+use Rattle.program.specs.declared.limits.Limits.{Limits}
+use Rattle.program.specs.declared.status.Status.TheVariants as statuses
 use Rattle.system_files.specs.Contents.{Content}
+use Rattle.system_files.specs.declared.files.Files as files
 
 -- ---- which file holds which text
 
@@ -78,7 +82,7 @@ AreOthersKept paths content content' =
 abbrev pub IsClassifyAnswered : Paths → (facts bytes : ℕ) → Bool → (content content' : Content) → (old new : Output) → (status : ℕ) → Type 0
 IsClassifyAnswered paths facts bytes known content content' old new status =
     ((summary : Summary) × (texts : Texts) × IsClassified bytes facts (content paths.document.now) summary texts
-    × (AreApart paths → HoldTexts known paths texts content') × IsAnswered old new (summary_text summary) done status)
+    × (AreApart paths → HoldTexts known paths texts content') × IsAnswered old new (summary_text summary) statuses.Done status)
     ⊎ ((fault : ClassifyFault) × IsFaultOf bytes facts (content paths.document.now) fault × AreLeft paths facts bytes known content content' fault
     × (new.out ≡ old.out) × IsTold old.err new.err (IsClassifyText paths bytes facts fault) (classify_status fault) status)
 
@@ -108,3 +112,13 @@ IsPerformed words known content content' old new status =
 -- the words do not ask for a classification
 abbrev pub AskForNoClassification : List Text → Type 0
 AskForNoClassification words = (paths : Paths) (facts bytes : ℕ) → IsTaskOf words (Classify paths facts bytes) → ⊥
+
+-- ---- .. of files and the two outputs, before and after
+
+abbrev pub Classifies : {F In Out O E : Type 0} → files.Ghosts F In Out → sinks.Ghosts O → sinks.Ghosts E → Paths → Limits → (old new : F × O × E) → (status : ℕ) → Type 0
+Classifies F O E paths limits old new status =
+    IsClassifyRun paths limits.max_facts limits.max_bytes (F.is_known old.0) (F.content old.0) (F.content new.0) (outputs O E old.1 old.2) (outputs O E new.1 new.2) status
+
+abbrev pub Performs : {F In Out O E : Type 0} → files.Ghosts F In Out → sinks.Ghosts O → sinks.Ghosts E → List Text → (old new : F × O × E) → (status : ℕ) → Type 0
+Performs F O E words old new status =
+    IsPerformed words (F.is_known old.0) (F.content old.0) (F.content new.0) (outputs O E old.1 old.2) (outputs O E new.1 new.2) status

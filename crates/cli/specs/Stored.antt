@@ -1,11 +1,16 @@
 -- Sinks of files, and what the files hold once they are closed.
 use Rattle.std.specs.Prelude.{◌≡◌, ℕ, List, Bool, true, Option}
 use Rattle.command_line.specs.declared.tasks.Paths.{Paths}
+use Rattle.device.specs.declared.device.Sink.{Ghosts}
 use Rattle.system_files.specs.Contents.{nothing_taken}
 
 -- a sink: the path of its file, and the bytes that it has taken, where these are known
 abbrev pub FileSink : Type 0
 FileSink = List ℕ × Option (List ℕ)
+
+-- .. as the words of its trait tell it
+abbrev pub file_sink : {S : Type 0} → Ghosts S → S → FileSink
+file_sink S sink = (S.path sink, S.taken sink)
 
 -- the sink has taken nothing, is that of the path, and there is a place for its file
 pub record IsFresh (known : Bool) (path : List ℕ) (has_place : List ℕ → Bool) (sink : FileSink) : Type 0 where
@@ -18,3 +23,8 @@ pub record AreFresh (known : Bool) (paths : Paths) (has_place : List ℕ → Boo
   pub taxonomy_is : IsFresh known paths.taxonomy.now has_place taxonomy
   pub instances_is : IsFresh known paths.instances.now has_place instances
   pub certificate_is : IsFresh known paths.certificate.now has_place certificate
+
+-- .. and so are these three
+abbrev pub HasFresh : {S : Type 0} → Ghosts S → (known : Bool) → Paths → (has_place : List ℕ → Bool) → (taxonomy instances certificate : S) → Type 0
+HasFresh S known paths has_place taxonomy instances certificate =
+    AreFresh known paths has_place (file_sink S taxonomy) (file_sink S instances) (file_sink S certificate)

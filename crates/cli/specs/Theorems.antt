@@ -9,11 +9,13 @@ use Rattle.clap.specs.Words.{Text, takes}
 use Rattle.command_line.specs.CommandLine.{IsTaskOf, elc_app}
 use Rattle.command_line.specs.declared.tasks.Task.TheVariants.{Check, Classify}
 use Rattle.cli.specs.Performed.{AreApart, IsPerformed}
-use Rattle.cli.specs.Printed.{Output, IsAnswered, IsCheckText, IsTold, check_status, done}
+use Rattle.cli.specs.Printed.{Output, IsAnswered, IsCheckText, IsTold, check_status}
 use Rattle.cli.specs.Writing.{Texts, IsClassified}
 use Rattle.cli.specs.declared.fault.CheckFault.{CheckFault}
 use Rattle.cli.specs.declared.fault.CheckFault.TheVariants.{Document, Memory, Io}
 use Rattle.document.specs.declared.fault.DocumentFault.TheVariants as reading
+use Rattle.program.specs.Status.{code_of}
+use Rattle.program.specs.declared.status.Status.TheVariants as statuses
 use Rattle.system_files.specs.Contents.{Content}
 
 -- a check that is stopped by this fault says nothing of the texts: memory was refused, a source failed, or the document has
@@ -60,7 +62,7 @@ accepted = codes "accepted\n"
 -- `accepted` is printed, unless the check is stopped, which is told
 abbrev pub IsAcceptedRun : (most : ℕ) → (document : List ℕ) → (old new : Output) → (status : ℕ) → Type 0
 IsAcceptedRun most document old new status =
-    IsAnswered old new accepted done status
+    IsAnswered old new accepted statuses.Done status
     ⊎ ((paths : Paths) × (fault : CheckFault) × IsStop most document fault × (new.out ≡ old.out) × IsTold old.err new.err (IsCheckText paths most fault) (check_status fault) status)
 
 -- after a run of `classify` with status 0, over files whose content is known, a run of `check` on the same four paths prints
@@ -70,5 +72,5 @@ WrittenFilesAreAccepted =
     (written checked : List Text) (paths paths' : Paths) (facts bytes most : ℕ) (content content' content'' : Content) (old new old' new' : Output) (status : ℕ) (document : List ℕ) →
     IsTaskOf written (Classify paths facts bytes) → IsTaskOf checked (Check paths' most) → takes elc_app checked ≡ true →
     AreSamePaths paths paths' → AreApart paths → IsDocumentApart paths → content paths.document.now ≡ Some document →
-    IsPerformed written true content content' old new done → IsPerformed checked true content' content'' old' new' status →
+    IsPerformed written true content content' old new (code_of statuses.Done) → IsPerformed checked true content' content'' old' new' status →
     IsAcceptedRun most document old' new' status

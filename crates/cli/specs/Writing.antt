@@ -7,16 +7,22 @@ use Rattle.classification.specs.Classified.{AreCountsOf, AreTextsOf, HasTooManyF
 use Rattle.classification.specs.Stated.{StatesHierarchy}
 use Rattle.classification.specs.declared.classification.Classification.{Classification}
 use Rattle.classification.specs.declared.classification.Summary.{Summary}
-use Rattle.cli.specs.Devices.{Device, Takes, FailsIn, SourceState, IsReadOn, IsReadToItsEnd, IsReadUntil}
+use Rattle.cli.specs.Devices.{Device, seen, Takes, FailsIn, SourceState, IsReadOn, IsReadToItsEnd, IsReadUntil}
 use Rattle.cli.specs.declared.fault.ClassifyFault.{ClassifyFault}
 use Rattle.cli.specs.declared.fault.ClassifyFault.TheVariants.{Document, NotYet, Memory, Limit, Io}
+use Rattle.device.specs.declared.device.Sink.{Ghosts}
 use Rattle.document.specs.Faults.{ReadsKnown, RefusesKnown}
+use Rattle.program.specs.declared.limits.Limits.{Limits}
 
 -- what takes the three texts
 pub record Sinks : Type 0 where
   pub taxonomy : Device
   pub instances : Device
   pub certificate : Device
+
+-- .. as the words of their traits tell it
+abbrev pub all_seen : {T I C : Type 0} → Ghosts T → Ghosts I → Ghosts C → T × I × C → Sinks
+all_seen T I C three = record { taxonomy = seen T three.0; instances = seen I three.1; certificate = seen C three.2 }
 
 pub record Texts : Type 0 where
   pub taxonomy : List ℕ
@@ -77,6 +83,10 @@ IsUnwritten bytes facts document old new fault = new ≡ old
 abbrev pub IsClassification : (most_bytes most_facts : ℕ) → (document : Option (List ℕ)) → (old new : Sinks) → Result Summary ClassifyFault → Type 0
 IsClassification bytes facts document old new (Ok summary) = (texts : Texts) × IsClassified bytes facts document summary texts × AreWritten old new texts
 IsClassification bytes facts document old new (Err fault) = IsFaultOf bytes facts document fault × IsUnwritten bytes facts document old new fault
+
+-- .. of the three sinks before and after a call
+abbrev pub Classifies : {T I C : Type 0} → Ghosts T → Ghosts I → Ghosts C → Limits → (document : Option (List ℕ)) → (old new : T × I × C) → Result Summary ClassifyFault → Type 0
+Classifies T I C limits document old new answer = IsClassification limits.max_bytes limits.max_facts document (all_seen T I C old) (all_seen T I C new) answer
 
 -- the texts of a classification in memory
 abbrev pub texts_of : Classification → Texts

@@ -1,6 +1,6 @@
 //! The check of a document's texts.
-ghost use Rattle.cli.specs.Checked.{AreKnown, AreRead, IsCheckAnswer, IsChecked, IsCheckFault, IsTextRead, Sources, sources};
-ghost use Rattle.cli.specs.Devices.{SourceState, source_state};
+ghost use Rattle.cli.specs.Checked.{AreKnown, IsCheckAnswer, IsChecked, IsCheckFault, IsTextRead, Reads};
+ghost use Rattle.cli.specs.Devices.{source_state};
 ghost use Rattle.std.specs.Prelude.{IfErr, IfOk};
 
 use crate::fault::CheckFault;
@@ -14,9 +14,7 @@ use std::hash::RandomState;
 /// All the bytes of the source of that number.
 fn bytes_of<S: Source>(alloc: Global, source: &mut S, number: usize) -> Result<Vec<u8>, CheckFault>
     ensures known { IfOk result (λ v. AreKnown (S.left source.old) v.items) }
-    ensures read { let old : SourceState = source_state (S.left source.old) (S.most source.old) (S.failures source.old) in
-        let new : SourceState = source_state (S.left source.new) (S.most source.new) (S.failures source.new) in
-        IsTextRead number result old new }
+    ensures read { IsTextRead number result (source_state S.Source source.old) (source_state S.Source source.new) }
 {
     match read_all(alloc, source, usize::MAX) {
         Ok(bytes) => Ok(bytes),
@@ -37,17 +35,7 @@ pub(crate) fn checked<D: Source, T: Source, I: Source, C: Source>(
 ) -> Result<(Ontology, Verdict), CheckFault>
     ensures checked { IfOk result (λ p. IsChecked limits.now.max_bytes (D.left document.old) (T.left taxonomy.old) (I.left instances.old) (C.left certificate.old) p.0 p.1) }
     ensures fault { IfErr result (IsCheckFault limits.now.max_bytes (D.left document.old)) }
-    ensures read { let old : Sources = sources
-        (source_state (D.left document.old) (D.most document.old) (D.failures document.old))
-        (source_state (T.left taxonomy.old) (T.most taxonomy.old) (T.failures taxonomy.old))
-        (source_state (I.left instances.old) (I.most instances.old) (I.failures instances.old))
-        (source_state (C.left certificate.old) (C.most certificate.old) (C.failures certificate.old)) in
-        let new : Sources = sources
-        (source_state (D.left document.new) (D.most document.new) (D.failures document.new))
-        (source_state (T.left taxonomy.new) (T.most taxonomy.new) (T.failures taxonomy.new))
-        (source_state (I.left instances.new) (I.most instances.new) (I.failures instances.new))
-        (source_state (C.left certificate.new) (C.most certificate.new) (C.failures certificate.new)) in
-        AreRead result old new }
+    ensures read { Reads D.Source T.Source I.Source C.Source (document.old, taxonomy.old, instances.old, certificate.old) (document.new, taxonomy.new, instances.new, certificate.new) result }
 {
     let ontology = match read_document(alloc, document, limits, state) {
         Ok(ontology) => ontology,
@@ -93,17 +81,7 @@ pub fn check_document<D: Source, T: Source, I: Source, C: Source>(
     ensures answered { IsCheckAnswer limits.now.max_bytes (D.left document.old) (T.left taxonomy.old) (I.left instances.old) (C.left certificate.old) result }
     // After a verdict each source was read to its end, and none failed. A fault names a source only where it failed: those
     // before it were read to their ends, and those behind it are not touched.
-    ensures read { let old : Sources = sources
-        (source_state (D.left document.old) (D.most document.old) (D.failures document.old))
-        (source_state (T.left taxonomy.old) (T.most taxonomy.old) (T.failures taxonomy.old))
-        (source_state (I.left instances.old) (I.most instances.old) (I.failures instances.old))
-        (source_state (C.left certificate.old) (C.most certificate.old) (C.failures certificate.old)) in
-        let new : Sources = sources
-        (source_state (D.left document.new) (D.most document.new) (D.failures document.new))
-        (source_state (T.left taxonomy.new) (T.most taxonomy.new) (T.failures taxonomy.new))
-        (source_state (I.left instances.new) (I.most instances.new) (I.failures instances.new))
-        (source_state (C.left certificate.new) (C.most certificate.new) (C.failures certificate.new)) in
-        AreRead result old new }
+    ensures read { Reads D.Source T.Source I.Source C.Source (document.old, taxonomy.old, instances.old, certificate.old) (document.new, taxonomy.new, instances.new, certificate.new) result }
 {
     match checked(
         alloc,

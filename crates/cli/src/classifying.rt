@@ -1,6 +1,6 @@
 //! Classification of a document.
-ghost use Rattle.cli.specs.Devices.{SourceState, source_state};
-ghost use Rattle.cli.specs.Writing.{IsBeforeWriting, IsClassification, IsClassified, IsDocumentRead, IsFaultOf, Sinks, texts_of};
+ghost use Rattle.cli.specs.Devices.{source_state};
+ghost use Rattle.cli.specs.Writing.{Classifies, IsBeforeWriting, IsClassified, IsDocumentRead, IsFaultOf, texts_of};
 ghost use Rattle.std.specs.Prelude.{◌≡◌, IfErr, IfOk};
 
 use crate::fault::ClassifyFault;
@@ -20,9 +20,7 @@ fn classified<S: Source>(
     ensures classified { IfOk result (λ c. IsClassified limits.now.max_bytes limits.now.max_facts (S.left source.old) c.summary (texts_of c)) }
     ensures fault { IfErr result (IsFaultOf limits.now.max_bytes limits.now.max_facts (S.left source.old)) }
     ensures before { IfErr result IsBeforeWriting }
-    ensures read { let old : SourceState = source_state (S.left source.old) (S.most source.old) (S.failures source.old) in
-        let new : SourceState = source_state (S.left source.new) (S.most source.new) (S.failures source.new) in
-        IsDocumentRead result old new }
+    ensures read { IsDocumentRead result (source_state S.Source source.old) (source_state S.Source source.new) }
 {
     let ontology = match read_document(alloc, source, limits, state) {
         Ok(ontology) => ontology,
@@ -51,13 +49,9 @@ pub fn classify_document<S: Source, T: Sink, I: Sink, C: Sink>(
     state: RandomState,
 ) -> Result<Summary, ClassifyFault>
     // What the answer says of the document, and what each sink has taken; a sink is named only where it failed.
-    ensures answered { let old : Sinks = record { taxonomy = (T.taken taxonomy.old, T.failures taxonomy.old); instances = (I.taken instances.old, I.failures instances.old); certificate = (C.taken certificate.old, C.failures certificate.old) } in
-        let new : Sinks = record { taxonomy = (T.taken taxonomy.new, T.failures taxonomy.new); instances = (I.taken instances.new, I.failures instances.new); certificate = (C.taken certificate.new, C.failures certificate.new) } in
-        IsClassification limits.now.max_bytes limits.now.max_facts (S.left source.old) old new result }
+    ensures answered { Classifies T.Sink I.Sink C.Sink limits.now (S.left source.old) (taxonomy.old, instances.old, certificate.old) (taxonomy.new, instances.new, certificate.new) result }
     // What was read of the document; its source has not failed but where that is the fault.
-    ensures read { let old : SourceState = source_state (S.left source.old) (S.most source.old) (S.failures source.old) in
-        let new : SourceState = source_state (S.left source.new) (S.most source.new) (S.failures source.new) in
-        IsDocumentRead result old new }
+    ensures read { IsDocumentRead result (source_state S.Source source.old) (source_state S.Source source.new) }
     ensures paths { (T.path taxonomy.new ≡ T.path taxonomy.old) × (I.path instances.new ≡ I.path instances.old) × (C.path certificate.new ≡ C.path certificate.old) }
 {
     let made = match classified(alloc, source, limits, state) {

@@ -3,41 +3,32 @@ ghost use Rattle.std.specs.Prelude.{◌≡◌};
 
 use classification::Stop;
 use document::DocumentFault;
-use thiserror::Error;
 
 /// Why a document was not classified.
-#[derive(Debug, Drop, Error)]
+#[derive(Debug, Drop)]
 pub enum ClassifyFault {
     /// The document was not read. Nothing is written.
-    #[error(transparent)]
     Document(DocumentFault),
     /// The ontology is not one that is classified today: it says more than that named classes lie below named classes, or
     /// has individuals. Nothing is written.
-    #[error("not yet classified")]
     NotYet,
     /// Memory was refused. Nothing is written.
-    #[error("out of memory")]
     Memory,
     /// The closure has more facts than the limit. Nothing is written.
-    #[error("too many facts")]
     Limit,
     /// The sink of that number failed: 1 is the taxonomy's, 2 the instances', 3 the certificate's. Those before it have
     /// taken their whole text, this one a beginning of its text, those behind it nothing.
-    #[error("sink {0} failed")]
     Io(usize),
 }
 
 /// Why texts were not checked. No verdict is given.
-#[derive(Debug, Drop, Error)]
+#[derive(Debug, Drop)]
 pub enum CheckFault {
     /// The document was not read.
-    #[error(transparent)]
     Document(DocumentFault),
     /// Memory was refused.
-    #[error("out of memory")]
     Memory,
     /// The source of that number failed: 2 is the taxonomy's, 3 the instances', 4 the certificate's. (That of the
     /// document, the first, is told inside `Document`.) Those before it were read to their ends, those behind it not at all.
-    #[error("source {0} failed")]
     Io(usize),
 }

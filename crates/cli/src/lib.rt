@@ -8,8 +8,6 @@ mod classifying;
 mod fault;
 mod printing;
 mod run;
-#[cfg(test)]
-mod tests;
 
 pub use axioms::Ontology;
 pub use cert_check::{Reason, Verdict};

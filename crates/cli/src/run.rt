@@ -1,7 +1,8 @@
 //! A whole run of the program.
-ghost use Rattle.cli.specs.Performed.{AskForNoClassification, IsCheckRun, IsClassifyRun, IsPerformed};
-ghost use Rattle.cli.specs.Printed.{IsLineTold, Output};
-ghost use Rattle.cli.specs.Stored.{AreFresh};
+ghost use Rattle.cli.specs.Devices.{seen};
+ghost use Rattle.cli.specs.Performed.{AskForNoClassification, Classifies, IsCheckRun, Performs};
+ghost use Rattle.cli.specs.Printed.{IsLineTold, outputs};
+ghost use Rattle.cli.specs.Stored.{HasFresh};
 ghost use Rattle.std.specs.Prelude.{◌≡◌, ℕ, List, IfOk, map};
 
 use crate::checking::checked;
@@ -28,7 +29,7 @@ struct TextSinks<S: Drop> {
 
 /// Sinks of the files of the three texts, which have taken nothing. The files hold what they did.
 fn sinks_of<F: Files>(files: &mut F, paths: &Paths<'_>) -> Result<TextSinks<F::Out>, Memory>
-    ensures fresh { IfOk result (λ s. AreFresh (F.is_known files.old) paths.now (F.has_place files.new) (F.Out.path s.taxonomy, F.Out.taken s.taxonomy) (F.Out.path s.instances, F.Out.taken s.instances) (F.Out.path s.certificate, F.Out.taken s.certificate)) }
+    ensures fresh { IfOk result (λ s. HasFresh F.Out.Sink (F.is_known files.old) paths.now (F.has_place files.new) s.taxonomy s.instances s.certificate) }
     ensures kept { (path : List ℕ) → F.content files.new path ≡ F.content files.old path }
     ensures known { F.is_known files.new ≡ F.is_known files.old }
 {
@@ -52,9 +53,7 @@ fn perform_classify<F: Files, O: Sink, E: Sink>(
     err: &mut E,
     state: RandomState,
 ) -> u8
-    ensures run { let old : Output = record { out = (O.taken out.old, O.failures out.old); err = (E.taken err.old, E.failures err.old) } in
-        let new : Output = record { out = (O.taken out.new, O.failures out.new); err = (E.taken err.new, E.failures err.new) } in
-        IsClassifyRun paths.now limits.now.max_facts limits.now.max_bytes (F.is_known files.old) (F.content files.old) (F.content files.new) old new result }
+    ensures run { Classifies F.Files O.Sink E.Sink paths.now limits.now (files.old, out.old, err.old) (files.new, out.new, err.new) result }
 {
     let Ok(mut document) = files.reader(paths.document) else {
         return tell_out_of_memory(err);
@@ -90,9 +89,7 @@ fn perform_check<F: Files, O: Sink, E: Sink>(
     err: &mut E,
     state: RandomState,
 ) -> u8
-    ensures { let old : Output = record { out = (O.taken out.old, O.failures out.old); err = (E.taken err.old, E.failures err.old) } in
-        let new : Output = record { out = (O.taken out.new, O.failures out.new); err = (E.taken err.new, E.failures err.new) } in
-        IsCheckRun paths.now limits.now.max_bytes (F.content files.now) old new result }
+    ensures { IsCheckRun paths.now limits.now.max_bytes (F.content files.now) (outputs O.Sink E.Sink out.old err.old) (outputs O.Sink E.Sink out.new err.new) result }
 {
     let Ok(mut document) = files.reader(paths.document) else {
         return tell_out_of_memory(err);
@@ -123,7 +120,7 @@ fn perform_check<F: Files, O: Sink, E: Sink>(
 
 /// Tells of words that ask for nothing that the program does.
 fn refuse<E: Sink>(alloc: Global, fault: &LineFault, err: &mut E) -> u8
-    ensures { IsLineTold fault.now (E.taken err.old, E.failures err.old) (E.taken err.new, E.failures err.new) result }
+    ensures { IsLineTold fault.now (seen E.Sink err.old) (seen E.Sink err.new) result }
 {
     match fault {
         LineFault::Memory => tell_out_of_memory(err),
@@ -142,9 +139,7 @@ pub fn perform<F: Files, O: Sink, E: Sink>(
     state: RandomState,
 ) -> u8
     // What the words ask for, which file holds which text, what is printed, and the status.
-    ensures performed { let old : Output = record { out = (O.taken out.old, O.failures out.old); err = (E.taken err.old, E.failures err.old) } in
-        let new : Output = record { out = (O.taken out.new, O.failures out.new); err = (E.taken err.new, E.failures err.new) } in
-        IsPerformed (map (λ w. w.now) words.entry.now) (F.is_known files.old) (F.content files.old) (F.content files.new) old new result }
+    ensures performed { Performs F.Files O.Sink E.Sink (map (λ w. w.now) words.entry.now) (files.old, out.old, err.old) (files.new, out.new, err.new) result }
     // Only a classification writes files.
     ensures untouched { AskForNoClassification (map (λ w. w.now) words.entry.now) → files.new ≡ files.old }
 {

@@ -1,6 +1,7 @@
 -- The number of an option, from what clap's reader of the option says.
-use Rattle.std.proofs.Common.{◌≡◌, ◌≢◌, ◌<◌, ◌≤◌, ◌^◌, ◌⊎◌, ℕ, List, Option, Some, None, inl, inr, arith, refl, sym, ◌∙◌}
+use Rattle.std.proofs.Common.{◌≡◌, ◌<◌, ◌≤◌, ◌^◌, ◌⊎◌, ℕ, List, Option, Some, None, inl, inr, arith, refl, sym, ◌∙◌}
 use Rattle.std.specs.Str.Parse.{IsNumeral, digits_value, without_leading_plus}
+use Rattle.std.proofs.lemmas.Option.{same_Some}
 use Rattle.clap.specs.Words.{Row, Text, one_of}
 use Rattle.command_line.specs.CommandLine.{IsNumber}
 
@@ -11,9 +12,6 @@ IsRead word = IsNumeral 10 (without_leading_plus word) × (digits_value 10 (with
 -- the text is there, and the number is what it says
 abbrev pub ReadsNumber : Option Text → ℕ → Type 0
 ReadsNumber o n = (word : Text) × (o ≡ Some word) × IsRead word × (n ≡ digits_value 10 (without_leading_plus word))
-
-some_same : {X : Type 0} {x y : X} → Some x ≡ Some y → x ≡ y
-some_same h = cc
 
 -- an answer of a number comes from a text that is there
 pub read_number : (o : Option Text) (n : ℕ) → (o ≡ None → Some n ≡ None) → ((word : Text) → o ≡ Some word → IsRead word × (n ≡ digits_value 10 (without_leading_plus word))) → ReadsNumber o n
@@ -30,7 +28,7 @@ no_number id most rows small value n h =
 -- the number that was read is the only one
 pub only_number : (id : Text) (most : ℕ) (rows : List Row) (n : ℕ) → ReadsNumber (one_of id rows) n → (x : ℕ) → IsNumber id most rows x → x ≡ n
 only_number id most rows n (word, given, read, is) x h =
-    let same : h.word ≡ word = some_same (sym h.given ∙ given) in
+    let same : h.word ≡ word = same_Some _ _ (sym h.given ∙ given) in
     h.value ∙ (rw same (sym is))
 
 -- the number that was read is out of range

@@ -1,5 +1,6 @@
 -- The program's command line, as clap reads it.
 use Rattle.std.specs.Prelude.{◌≡◌, ◌≤◌, ℕ, List, [], ◌∷◌, Option, Some, None, codes, true, ⊤}
+use Rattle.std.specs.Fmt.{decimal}
 use Rattle.std.specs.Str.Parse.{IsNumeral, digits_value, without_leading_plus}
 use Rattle.clap.specs.Words.{App, Row, Rule, Text, new_app, new_rule, with_rule, with_subcommand, first_of, one_of, subcommand_of, takes}
 use Rattle.clap.specs.Simple.{on_top}
@@ -9,16 +10,17 @@ use Rattle.command_line.specs.declared.tasks.LineFault.{LineFault}
 use Rattle.command_line.specs.declared.tasks.LineFault.TheVariants.{Line, Memory}
 use Rattle.command_line.specs.declared.tasks.Task.{Task}
 use Rattle.command_line.specs.declared.tasks.Task.TheVariants.{Check, Classify}
+use Rattle.program.specs.declared.limits.TheConstants.{MOST_BYTES, MOST_FACTS}
 
 -- ---- the commands
 
 -- the greatest number of facts that a caller may ask for, which is the default
 abbrev pub most_facts : ℕ
-most_facts = 100000000
+most_facts = MOST_FACTS
 
 -- the greatest number of bytes that a caller may ask for, which is the default
 abbrev pub most_bytes : ℕ
-most_bytes = 268435456
+most_bytes = MOST_BYTES
 
 -- a path that has to be given
 abbrev pub path : Text → Rule
@@ -30,11 +32,11 @@ number id most default = record (new_rule id) { long = Some id; parser = Some (v
 
 -- `--max-facts N`
 abbrev pub max_facts : Rule
-max_facts = number (codes "max-facts") most_facts (codes "100000000")
+max_facts = number (codes "max-facts") most_facts (decimal most_facts)
 
 -- `--max-bytes N`
 abbrev pub max_bytes : Rule
-max_bytes = number (codes "max-bytes") most_bytes (codes "268435456")
+max_bytes = number (codes "max-bytes") most_bytes (decimal most_bytes)
 
 -- `DOC TAX INST CERT`
 abbrev pub with_paths : App → App

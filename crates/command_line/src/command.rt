@@ -5,6 +5,7 @@ ghost use Rattle.clap.specs.declared.builder.command.Command.TheViews.{out-Comma
 ghost use Rattle.command_line.specs.CommandLine.{path, max_facts, max_bytes, with_paths as app_with_paths, check_app, classify_app, elc_app};
 
 use clap::{Arg, Command, value_parser};
+use program::{MOST_BYTES, MOST_FACTS};
 use std::alloc::{AllocError, Global};
 
 /// The command with one path more.
@@ -36,7 +37,7 @@ fn max_facts_option<'a>(alloc: Global) -> Arg<'a>
 {
     Arg::new(alloc, "max-facts")
         .long("max-facts")
-        .value_parser(value_parser!(u64).range(1..=100_000_000))
+        .value_parser(value_parser!(u64).range(1..=MOST_FACTS as i64))
         .default_value("100000000")
 }
 
@@ -46,7 +47,7 @@ fn max_bytes_option<'a>(alloc: Global) -> Arg<'a>
 {
     Arg::new(alloc, "max-bytes")
         .long("max-bytes")
-        .value_parser(value_parser!(u64).range(1..=268_435_456))
+        .value_parser(value_parser!(u64).range(1..=MOST_BYTES as i64))
         .default_value("268435456")
 }
 

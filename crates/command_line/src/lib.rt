@@ -3,9 +3,7 @@
 
 mod command;
 mod tasks;
-#[cfg(test)]
-mod tests;
 mod words;
 
-pub use tasks::{LineFault, MOST_BYTES, MOST_FACTS, Paths, Task};
+pub use tasks::{LineFault, Paths, Task};
 pub use words::task;

@@ -1,13 +1,5 @@
 //! Tasks, and why words are none.
 
-use thiserror::Error;
-
-/// The greatest number of facts that a caller may ask for, which is the default.
-pub const MOST_FACTS: u64 = 100_000_000;
-
-/// The greatest number of bytes of a document that a caller may ask for, which is the default.
-pub const MOST_BYTES: u64 = 268_435_456;
-
 /// The files that a task reads or writes.
 #[derive(Clone, Copy, Debug, PartialEq, Eq)]
 pub struct Paths<'a> {
@@ -34,12 +26,10 @@ pub enum Task<'a> {
 }
 
 /// Why the words are no task.
-#[derive(Debug, Drop, Error)]
+#[derive(Debug, Drop)]
 pub enum LineFault {
     /// The words are refused, or ask for help: what to tell the user.
-    #[error(transparent)]
     Line(clap::Error),
     /// Memory was refused.
-    #[error("out of memory")]
     Memory,
 }

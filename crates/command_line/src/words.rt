@@ -4,9 +4,10 @@ ghost use Rattle.clap.specs.Words.{subcommand_rows_of, rows_of, found_of, first_
 ghost use Rattle.command_line.specs.CommandLine.{ArePaths, IsNumber, IsTask, IsTaskOf, NamesTask, Finds, Refuses};
 
 use crate::command::elc_command;
-use crate::tasks::{LineFault, MOST_BYTES, MOST_FACTS, Paths, Task};
+use crate::tasks::{LineFault, Paths, Task};
 use clap::error::ErrorKind;
 use clap::{ArgMatches, Command};
+use program::{MOST_BYTES, MOST_FACTS};
 use std::alloc::Global;
 
 fn path<'a>(inner: &ArgMatches<'a>, id: &str) -> Option<&'a str>

@@ -4,20 +4,11 @@
 
 use axioms::Ontology;
 use device::{ReaderSource, WriterSink, write_all};
-use document::{DocumentFault, Limits, MOST_BYTES, read_document};
+use document::{DocumentFault, read_document};
+use program::{Limits, MOST_BYTES, Status};
 use std::alloc::{AllocError, Global};
 use std::hash::RandomState;
 use std::process::ExitCode;
-
-const DONE: u8 = 0;
-
-const REFUSED: u8 = 3;
-
-const MEMORY: u8 = 4;
-
-const LIMIT: u8 = 5;
-
-const FILE: u8 = 6;
 
 /// How many of each the ontology has, `owl:Thing` and `owl:Nothing` among the classes and the expressions.
 fn counts(alloc: Global, ontology: &Ontology) -> Result<String, AllocError> {
@@ -31,24 +22,14 @@ fn counts(alloc: Global, ontology: &Ontology) -> Result<String, AllocError> {
     )
 }
 
-/// The status that goes with a fault.
-fn status_of(fault: &DocumentFault) -> u8 {
-    match fault {
-        DocumentFault::TooLarge | DocumentFault::TooManyNames => LIMIT,
-        DocumentFault::Io => FILE,
-        DocumentFault::Memory => MEMORY,
-        _ => REFUSED,
-    }
-}
-
 /// What is printed, and the status.
 fn shown(
     alloc: Global,
     read: &Result<Ontology, DocumentFault>,
-) -> Result<(String, u8), AllocError> {
+) -> Result<(String, Status), AllocError> {
     match read {
-        Ok(ontology) => Ok((counts(alloc, ontology)?, DONE)),
-        Err(fault) => Ok((format!(in alloc; "{fault}\n")?, status_of(fault))),
+        Ok(ontology) => Ok((counts(alloc, ontology)?, Status::Done)),
+        Err(fault) => Ok((format!(in alloc; "{fault}\n")?, fault.status())),
     }
 }
 
@@ -56,17 +37,17 @@ fn main(rt: HostRuntime) -> ExitCode {
     let mut out = WriterSink::new(rt.stdout());
     let mut source = ReaderSource::new(rt.stdin());
     let Some(limits) = Limits::new(MOST_BYTES, 1) else {
-        return ExitCode::from(LIMIT);
+        return ExitCode::from(Status::Limit.code());
     };
     let Ok(state) = RandomState::new(&rt) else {
-        return ExitCode::from(FILE);
+        return ExitCode::from(Status::File.code());
     };
     let read = read_document(rt.alloc(), &mut source, &limits, state);
     let Ok((text, status)) = shown(rt.alloc(), &read) else {
-        return ExitCode::from(MEMORY);
+        return ExitCode::from(Status::Memory.code());
     };
     match write_all(&mut out, text.as_bytes()) {
-        Ok(()) => ExitCode::from(status),
-        Err(_) => ExitCode::from(FILE),
+        Ok(()) => ExitCode::from(status.code()),
+        Err(_) => ExitCode::from(Status::File.code()),
     }
 }

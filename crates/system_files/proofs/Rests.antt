@@ -1,5 +1,5 @@
 -- Reading on in bytes that are all there.
-use Rattle.std.proofs.Common.{◌≡◌, ◌∙◌, ℕ, ◌+◌, ◌-◌, ◌≤◌, List, ◌++◌, length, take, drop, min, Some, sym, ap, subst, arith}
+use Rattle.std.proofs.Common.{◌≡◌, ◌∙◌, ℕ, ◌+◌, ◌≤◌, List, ◌++◌, length, take, drop, min, Some, sym, ap, subst, arith}
 use Rattle.std.proofs.lemmas.Grind.{common_steps}
 use Rattle.std.proofs.lemmas.List.{take-append-drop, drop-drop}
 use Rattle.std.proofs.Math.Seq.{take-append_seam}
@@ -26,7 +26,3 @@ pub reads_on : (bytes buffer piece : List ℕ) (at n : ℕ) → n ≡ min (lengt
 reads_on bytes buffer piece at n is first =
     let P : List ℕ → Type 0 = λ new. Reads (Some (drop at bytes)) (Some new) (length (drop at bytes)) (length new) (piece ++ drop n buffer) n in
     subst P (drop-drop n at bytes) (rest_read (drop at bytes) buffer piece n is first)
-
--- a slice to the end is all that is left
-pub to_the_end : (bytes : List ℕ) (at : ℕ) → take (length bytes - at) (drop at bytes) ≡ drop at bytes
-to_the_end bytes at = grind (arith, common_steps)

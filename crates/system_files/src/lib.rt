@@ -4,8 +4,6 @@
 mod files;
 mod memory;
 mod system;
-#[cfg(test)]
-mod tests;
 
 pub use files::Files;
 pub use memory::{MemoryFiles, MemorySink, MemorySource};

@@ -4,7 +4,7 @@ use Rattle.cli.proofs.classifying.classified.Goals as goal
 
 pub classify-requires : goal.classify-requires
 classify-requires g c =
-    classifiable c.in-Ok.ontology c.well_formed-2.ensures c.in-Ok.ensures.taken (c.if-not-states_hierarchy.ensures.0 refl) c.args.limits.now.max_bytes c.in-Ok.ensures.axioms c.args.limits.now.bytes
+    classifiable c.in-Ok.ontology c.well_formed-2.ensures c.in-Ok.ensures.taken (c.if-not-states_hierarchy.ensures.0 refl)
 
 pub returns-in-Ok-classify-clause-classified : goal.returns-in-Ok-classify-clause-classified
 returns-in-Ok-classify-clause-classified g c =

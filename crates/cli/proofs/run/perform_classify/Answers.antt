@@ -4,8 +4,9 @@ use Rattle.cli.proofs.Left.{at_path, files_left}
 use Rattle.cli.proofs.SomeTexts.{acceptable_are_some}
 use Rattle.cli.proofs.Stored.{AreNew, AreSinksClosed, others_kept, stays, texts_held}
 use Rattle.cli.proofs.Telling.{told, answered}
-use Rattle.cli.specs.Printed.{Output, IsClassifyText, classify_status, summary_text, done}
+use Rattle.cli.specs.Printed.{Output, IsClassifyText, classify_status, summary_text}
 use Rattle.cli.specs.Writing.{Sinks}
+use Rattle.program.specs.declared.status.Status.TheVariants as statuses
 use Rattle.cli.specs.declared.fault.ClassifyFault.TheVariants.{Memory}
 use Rattle.cli.proofs.run.perform_classify.Goals as goal
 
@@ -66,7 +67,7 @@ returns-in-Ok-classified g c =
           texts,
           is,
           (λ apart. texts_held known paths old_sinks new_sinks texts content content' some are_new written.2 closed apart),
-          answered old new c.summary_message.result (summary_text summary) done c.answer.result c.summary_message.ensures c.answer.ensures,
+          answered old new c.summary_message.result (summary_text summary) statuses.Done c.answer.result c.summary_message.ensures c.answer.ensures,
         );
         others = others_kept paths _ _ _ content content' closed;
       };

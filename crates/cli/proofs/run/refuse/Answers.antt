@@ -1,7 +1,8 @@
 use Rattle.std.proofs.Common.{sym, subst}
 use Rattle.cli.proofs.Telling.{told_status}
 use Rattle.cli.specs.Devices.{Device}
-use Rattle.cli.specs.Printed.{IsLineTold, usage}
+use Rattle.cli.specs.Printed.{IsLineTold}
+use Rattle.program.specs.declared.status.Status.TheVariants as statuses
 use Rattle.command_line.specs.declared.tasks.LineFault.{LineFault}
 use Rattle.cli.proofs.run.refuse.Goals as goal
 
@@ -10,4 +11,4 @@ returns-in-Line g c =
     let old : Device = (g.E.Sink.taken c.args.err.now, g.E.Sink.failures c.args.err.now) in
     let new : Device = (g.E.Sink.taken c.tell.new.err, g.E.Sink.failures c.tell.new.err) in
     let P : LineFault → Type 0 = λ fault. IsLineTold fault old new c.tell.result in
-    subst P (sym c.in-Line.is) (told_status old new c.usage_message.result usage c.tell.result c.usage_message.ensures c.tell.ensures)
+    subst P (sym c.in-Line.is) (told_status old new c.usage_message.result statuses.Usage c.tell.result c.usage_message.ensures c.tell.ensures)

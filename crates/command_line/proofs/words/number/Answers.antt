@@ -1,7 +1,7 @@
-use Rattle.std.proofs.Common.{◌≡◌, ℕ, Option, None, Some, ◌∙◌, sym}
-use Rattle.clap.specs.Words.{Row, Text, found_of, one_of, one_text, rows_of}
+use Rattle.std.proofs.Common.{◌∙◌}
+use Rattle.clap.specs.Words.{found_of, one_of, rows_of}
 use Rattle.clap.proofs.WalkLemmas.{one_text-rows}
-use Rattle.command_line.proofs.Numbers.{IsRead, ReadsNumber, read_number, no_number, out_of_range, in_range}
+use Rattle.command_line.proofs.Numbers.{read_number, no_number, out_of_range, in_range}
 use Rattle.command_line.proofs.words.number.Goals as goal
 
 pub returns-in_err-number : goal.returns-in_err-number

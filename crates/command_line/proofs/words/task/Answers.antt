@@ -1,5 +1,5 @@
 use Rattle.std.proofs.Common.{◌≡◌, map, true, false, refl, sym, ◌∙◌, subst, Option, List}
-use Rattle.clap.specs.Words.{App, HasMatchesOf, Row, Text, app_of, is_simple, subcommand_of, subcommand_rows_of, takes}
+use Rattle.clap.specs.Words.{App, HasMatchesOf, Row, Text, subcommand_of, subcommand_rows_of, takes}
 use Rattle.command_line.specs.CommandLine.{NamesTask, elc_app}
 use Rattle.command_line.specs.declared.tasks.Task.{Task}
 use Rattle.command_line.proofs.NoTask.{refuses}
