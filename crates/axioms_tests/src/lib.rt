@@ -1,0 +1,5 @@
+//! Tests of ontologies and their builder.
+#![tactic(auto)]
+
+#[cfg(test)]
+mod tests;

@@ -1,0 +1,5 @@
+//! Tests of the checker of certificates.
+#![tactic(auto)]
+
+#[cfg(test)]
+mod tests;

@@ -1,0 +1,334 @@
+//! Whole runs over files in memory, on documents worked out by hand.
+
+mod checking;
+mod failing;
+mod hierarchies;
+mod refusals;
+
+use axioms::Memory;
+use cli::perform;
+use device::BufferSink;
+use std::alloc::{AllocError, Global};
+use std::hash::RandomState;
+use std::random::RandomSource;
+use std::test::Fail;
+use system_files::{Files, MemoryFiles};
+
+/// What a run printed, and its status.
+#[derive(Drop)]
+struct Run {
+    status: u8,
+    out: Vec<u8>,
+    err: Vec<u8>,
+}
+
+/// A run of the program.
+fn run_of<R: AllocGlobal + RandomSource, F: Files>(
+    rt: &R,
+    words: &[&str],
+    files: &mut F,
+) -> Result<Run, Fail> {
+    let alloc = rt.alloc();
+    let state = RandomState::new(rt)?;
+    let mut out = BufferSink::new(alloc);
+    let mut err = BufferSink::new(alloc);
+    let status = perform(alloc, words, files, &mut out, &mut err, state);
+    Ok(Run {
+        status,
+        out: out.into_bytes(),
+        err: err.into_bytes(),
+    })
+}
+
+/// Whether the run ended so.
+fn is_run(run: &Run, status: u8, out: &str, err: &str) -> bool {
+    run.status == status
+        && run.out.as_slice() == out.as_bytes()
+        && run.err.as_slice() == err.as_bytes()
+}
+
+/// The texts of a classification.
+#[derive(Drop)]
+struct Texts {
+    taxonomy: Vec<u8>,
+    instances: Vec<u8>,
+    certificate: Vec<u8>,
+}
+
+fn no_texts(alloc: Global) -> Texts {
+    Texts {
+        taxonomy: Vec::new(alloc),
+        instances: Vec::new(alloc),
+        certificate: Vec::new(alloc),
+    }
+}
+
+/// What the file at the path holds, or nothing where there is none.
+fn held(alloc: Global, files: &MemoryFiles, path: &str) -> Result<Vec<u8>, AllocError> {
+    match files.bytes(path) {
+        Some(bytes) => bytes.to_vec(alloc),
+        None => Ok(Vec::new(alloc)),
+    }
+}
+
+/// The texts that the files hold.
+fn texts_in(alloc: Global, files: &MemoryFiles) -> Result<Texts, AllocError> {
+    Ok(Texts {
+        taxonomy: held(alloc, files, "tax")?,
+        instances: held(alloc, files, "inst")?,
+        certificate: held(alloc, files, "cert")?,
+    })
+}
+
+/// Files of which one holds the document.
+fn files_with(alloc: Global, document: &[u8]) -> Result<MemoryFiles, Memory> {
+    let mut files = MemoryFiles::new(alloc);
+    files.put("doc", document)?;
+    Ok(files)
+}
+
+/// Puts the texts into the files.
+fn put_texts(files: &mut MemoryFiles, texts: &Texts) -> Result<(), Memory> {
+    files.put("tax", &texts.taxonomy)?;
+    files.put("inst", &texts.instances)?;
+    files.put("cert", &texts.certificate)
+}
+
+/// A run on the document, and what it wrote.
+fn written_by<R: AllocGlobal + RandomSource>(
+    rt: &R,
+    words: &[&str],
+    document: &[u8],
+) -> Result<(Run, Texts), Fail> {
+    let mut files = files_with(rt.alloc(), document)?;
+    let run = run_of(rt, words, &mut files)?;
+    let texts = texts_in(rt.alloc(), &files)?;
+    Ok((run, texts))
+}
+
+/// A check of the texts of the document.
+fn check<R: AllocGlobal + RandomSource>(
+    rt: &R,
+    document: &[u8],
+    texts: &Texts,
+) -> Result<Run, Fail> {
+    let mut files = files_with(rt.alloc(), document)?;
+    put_texts(&mut files, texts)?;
+    run_of(rt, &CHECK, &mut files)
+}
+
+/// Whether these are the texts, whatever the certificate.
+fn are_texts(texts: &Texts, taxonomy: &str, instances: &str) -> bool {
+    texts.taxonomy.as_slice() == taxonomy.as_bytes()
+        && texts.instances.as_slice() == instances.as_bytes()
+}
+
+/// Whether the document is classified so, and the checker accepts what was written, in the same files.
+fn gives<R: AllocGlobal + RandomSource>(
+    rt: &R,
+    document: &[u8],
+    taxonomy: &str,
+    instances: &str,
+    counts: &str,
+) -> Result<bool, Fail> {
+    let mut files = files_with(rt.alloc(), document)?;
+    let run = run_of(rt, &CLASSIFY, &mut files)?;
+    let check = run_of(rt, &CHECK, &mut files)?;
+    let texts = texts_in(rt.alloc(), &files)?;
+    Ok(
+        is_run(&run, 0, counts, "")
+            && are_texts(&texts, taxonomy, instances)
+            && is_run(&check, 0, "accepted\n", ""),
+    )
+}
+
+/// Whether the words or the document are refused so, and nothing is written.
+fn refuses<R: AllocGlobal + RandomSource>(
+    rt: &R,
+    words: &[&str],
+    document: &[u8],
+    status: u8,
+    told: &str,
+) -> Result<bool, Fail> {
+    let (run, texts) = written_by(rt, words, document)?;
+    Ok(is_run(&run, status, "", told) && are_texts(&texts, "", "") && texts.certificate.is_empty())
+}
+
+/// The status of a run on the document.
+fn status<R: AllocGlobal + RandomSource>(
+    rt: &R,
+    words: &[&str],
+    document: &[u8],
+) -> Result<u8, Fail> {
+    let (run, _texts) = written_by(rt, words, document)?;
+    Ok(run.status)
+}
+
+/// The words that classify within a limit.
+fn limited<'a>(option: &'a str, number: &'a str) -> [&'a str; 8] {
+    [
+        "elc", "classify", "doc", "tax", "inst", "cert", option, number,
+    ]
+}
+
+/// A run on a document alone, where nothing can be written.
+fn alone<R: AllocGlobal + RandomSource>(
+    rt: &R,
+    words: &[&str],
+    document: &[u8],
+) -> Result<Run, Fail> {
+    let mut files = files_with(rt.alloc(), document)?;
+    files.lock();
+    run_of(rt, words, &mut files)
+}
+
+const CLASSIFY: [&str; 6] = ["elc", "classify", "doc", "tax", "inst", "cert"];
+
+const CHECK: [&str; 6] = ["elc", "check", "doc", "tax", "inst", "cert"];
+
+const EMPTY: &str =
+    "eltax 1 consistent\n<http://www.w3.org/2002/07/owl#Thing>\nbottom <http://www.w3.org/2002/07/owl#Nothing>\n";
+
+const ONE: &str =
+    "eltax 1 consistent\n<http://www.w3.org/2002/07/owl#Thing>\n<x:A> < <x:B>\n<x:B> < <http://www.w3.org/2002/07/owl#Thing>\nbottom <http://www.w3.org/2002/07/owl#Nothing>\n";
+
+const CYCLE: &str =
+    "eltax 1 consistent\n<http://www.w3.org/2002/07/owl#Thing>\n<x:A> = <x:B> < <http://www.w3.org/2002/07/owl#Thing>\nbottom <http://www.w3.org/2002/07/owl#Nothing>\n";
+
+const TOP: &str =
+    "eltax 1 consistent\n<http://www.w3.org/2002/07/owl#Thing> = <x:A>\nbottom <http://www.w3.org/2002/07/owl#Nothing>\n";
+
+const HASH: &str =
+    "eltax 1 consistent\n<http://www.w3.org/2002/07/owl#Thing>\n<x:A#b> < <x:B>\n<x:B> < <http://www.w3.org/2002/07/owl#Thing>\nbottom <http://www.w3.org/2002/07/owl#Nothing>\n";
+
+const NO_INSTANCES: &str = "elinst 1 consistent\n";
+
+const ONE_DOCUMENT: &[u8] = b"Ontology(SubClassOf(<x:A> <x:B>))";
+
+#[test]
+fn empty_ontology(rt: HostRuntime) -> Result<(), Fail> {
+    let counts = "consistent classes 2 individuals 0 facts 3\n";
+    assert!(rt; gives(&rt, b"Ontology()", EMPTY, NO_INSTANCES, counts)?);
+    Ok(())
+}
+
+#[test]
+fn one_subclass(rt: HostRuntime) -> Result<(), Fail> {
+    let counts = "consistent classes 4 individuals 0 facts 8\n";
+    assert!(rt; gives(&rt, ONE_DOCUMENT, ONE, NO_INSTANCES, counts)?);
+    Ok(())
+}
+
+#[test]
+fn two_spellings_in_a_cycle(rt: HostRuntime) -> Result<(), Fail> {
+    let document = b"Prefix(:=<x:>) Ontology(SubClassOf(:A :B) SubClassOf(<x:B> <x:A>))";
+    let counts = "consistent classes 4 individuals 0 facts 9\n";
+    assert!(rt; gives(&rt, document, CYCLE, NO_INSTANCES, counts)?);
+    Ok(())
+}
+
+#[test]
+fn contradiction_without_individual(rt: HostRuntime) -> Result<(), Fail> {
+    let rows = [
+        (
+            "Ontology(SubClassOf(owl:Thing owl:Nothing))",
+            "inconsistent classes 2 individuals 0 facts 4\n",
+        ),
+        (
+            "Ontology(SubClassOf(owl:Thing <x:A>) SubClassOf(<x:A> owl:Nothing))",
+            "inconsistent classes 3 individuals 0 facts 9\n",
+        ),
+        (
+            "Ontology(SubClassOf(<x:A> <x:B>) SubClassOf(owl:Thing owl:Nothing))",
+            "inconsistent classes 4 individuals 0 facts 11\n",
+        ),
+    ];
+    let (taxonomy, instances) = ("eltax 1 inconsistent\n", "elinst 1 inconsistent\n");
+    for (document, counts) in rows {
+        let document = document.as_bytes();
+        assert!(rt;
+            gives(&rt, document, taxonomy, instances, counts)?,
+            "{counts}"
+        );
+    }
+    Ok(())
+}
+
+#[test]
+fn class_equal_to_top(rt: HostRuntime) -> Result<(), Fail> {
+    let document = b"Prefix(:=<x:>) Ontology(SubClassOf(owl:Thing :A))";
+    let counts = "consistent classes 3 individuals 0 facts 7\n";
+    assert!(rt; gives(&rt, document, TOP, NO_INSTANCES, counts)?);
+    Ok(())
+}
+
+#[test]
+fn hash_in_iri_and_comment_at_end(rt: HostRuntime) -> Result<(), Fail> {
+    let document = b"Ontology(SubClassOf(<x:A#b> <x:B>)) # end";
+    let counts = "consistent classes 4 individuals 0 facts 8\n";
+    assert!(rt; gives(&rt, document, HASH, NO_INSTANCES, counts)?);
+    Ok(())
+}
+
+#[test]
+fn limit_of_facts(rt: HostRuntime) -> Result<(), Fail> {
+    let (enough, less) = (limited("--max-facts", "3"), limited("--max-facts", "2"));
+    assert!(rt; status(&rt, &enough, b"Ontology()")? == 0);
+    let told = "limit: more than 2 facts\n";
+    assert!(rt; refuses(&rt, &less, b"Ontology()", 5, told)?);
+    Ok(())
+}
+
+#[test]
+fn limit_of_bytes(rt: HostRuntime) -> Result<(), Fail> {
+    let (enough, less) = (limited("--max-bytes", "33"), limited("--max-bytes", "32"));
+    assert!(rt; status(&rt, &enough, ONE_DOCUMENT)? == 0);
+    let told = "limit: more than 32 bytes\n";
+    assert!(rt; refuses(&rt, &less, ONE_DOCUMENT, 5, told)?);
+    Ok(())
+}
+
+#[test]
+fn documents_of_no_trees(rt: HostRuntime) -> Result<(), Fail> {
+    let refused: [(&[u8], &str); 5] = [
+        (b"", "P2 at byte 0\n"),
+        (b"Ontology(", "P2 at byte 9\n"),
+        (b"Ontology(\xff", "U1 at byte 9\n"),
+        (
+            b"Ontology(SubClassOf(owl:Thing:A <x:B>))",
+            "X4 at byte 20\n",
+        ),
+        (b"Ontology(SubClassOf(q:A <x:B>))", "P3 at byte 20\n"),
+    ];
+    for (document, told) in refused {
+        assert!(rt; refuses(&rt, &CLASSIFY, document, 3, told)?, "{told}");
+    }
+    Ok(())
+}
+
+#[test]
+fn refused_words(rt: HostRuntime) -> Result<(), Fail> {
+    let none = limited("--max-facts", "0");
+    assert!(rt; status(&rt, &none, b"Ontology()")? == 2);
+    let more = limited("--max-bytes", "268435457");
+    assert!(rt; status(&rt, &more, b"Ontology()")? == 2);
+    let words = ["elc", "classify", "doc", "tax", "inst", "cert", "more"];
+    assert!(rt; status(&rt, &words, b"Ontology()")? == 2);
+    Ok(())
+}
+
+#[test]
+fn rejected_texts(rt: HostRuntime) -> Result<(), Fail> {
+    let rejected = check(&rt, ONE_DOCUMENT, &no_texts(rt.alloc()))?;
+    assert!(rt; is_run(&rejected, 1, "rejected: C1 at byte 0\n", ""));
+    Ok(())
+}
+
+#[test]
+fn files_that_are_missing(rt: HostRuntime) -> Result<(), Fail> {
+    let unread = alone(&rt, &CHECK, ONE_DOCUMENT)?;
+    assert!(rt; is_run(&unread, 6, "", "cannot read tax\n"));
+    let unwritten = alone(&rt, &CLASSIFY, ONE_DOCUMENT)?;
+    assert!(rt; is_run(&unwritten, 6, "", "cannot write tax\n"));
+    Ok(())
+}

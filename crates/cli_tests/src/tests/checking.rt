@@ -1,0 +1,120 @@
+//! Certificates made by hand, of documents with individuals and disjoint classes, checked through whole runs.
+
+use super::*;
+use cli::{CheckFault, Limits, Verdict, check_document};
+use device::SliceSource;
+
+const CONTRADICTION: &[u8] =
+    b"Prefix(:=<x:>) Ontology(DisjointClasses(:A :B) ClassAssertion(:A :a) ClassAssertion(:B :a))";
+
+const MEMBER: &[u8] = b"Prefix(:=<x:>) Ontology(ClassAssertion(:A :a))";
+
+const MEMBER_TAXONOMY: &str =
+    "eltax 1 consistent\n<http://www.w3.org/2002/07/owl#Thing>\n<x:A> < <http://www.w3.org/2002/07/owl#Thing>\nbottom <http://www.w3.org/2002/07/owl#Nothing>\n";
+
+const MEMBER_INSTANCES: &str = "elinst 1 consistent\n<x:a> : <x:A>\n";
+
+/// The lines of a certificate of `MEMBER`, up to those that are left out or changed below.
+const MEMBER_LINES: &str =
+    "elcert 1 consistent\nsub e0 e0 K1\nsub e1 e1 K1\nsub e2 e2 K1\nsub e2 e0 K2\nsub i0 e2 K15 a1\n";
+
+const LIMITS: Limits = Limits {
+    max_bytes: 1000,
+    max_facts: 1,
+};
+
+/// Whether the checker accepts these texts of the document.
+fn is_accepted<R: AllocGlobal + RandomSource>(
+    rt: &R,
+    document: &[u8],
+    (taxonomy, instances): (&str, &str),
+    certificate: &str,
+) -> Result<bool, Fail> {
+    let verdict: Result<Verdict, CheckFault> = check_document(
+        rt.alloc(),
+        &mut SliceSource::new(document),
+        &mut SliceSource::new(taxonomy.as_bytes()),
+        &mut SliceSource::new(instances.as_bytes()),
+        &mut SliceSource::new(certificate.as_bytes()),
+        &LIMITS,
+        RandomState::new(rt)?,
+    );
+    Ok(matches!(verdict, Ok(Verdict::Accepted)))
+}
+
+/// Whether a run that checks these texts of the document prints this, and the checker accepts them where the status is 0.
+fn is_checked_to<R: AllocGlobal + RandomSource>(
+    rt: &R,
+    document: &[u8],
+    (taxonomy, instances): (&str, &str),
+    certificate: &str,
+    status: u8,
+    printed: &str,
+) -> Result<bool, Fail> {
+    let mut files = files_with(rt.alloc(), document)?;
+    files.put("tax", taxonomy.as_bytes())?;
+    files.put("inst", instances.as_bytes())?;
+    files.put("cert", certificate.as_bytes())?;
+    let run = run_of(rt, &CHECK, &mut files)?;
+    let is_accepted = is_accepted(rt, document, (taxonomy, instances), certificate)?;
+    Ok(is_run(&run, status, printed, "") && is_accepted == (status == 0))
+}
+
+#[test]
+fn contradiction_by_individual(rt: HostRuntime) -> Result<(), Fail> {
+    let texts = ("eltax 1 inconsistent\n", "elinst 1 inconsistent\n");
+    let rows = [
+        ("sub i0 e1 K7 a1 1 2\n", 0, "accepted\n"),
+        ("", 1, "rejected: C7\n"),
+        ("sub i0 e1 K7 a1 2 1\n", 0, "accepted\n"),
+        ("sub i0 e1 K7 a1 1 1\n", 1, "rejected: C2 line 3\n"),
+    ];
+    for (line, status, printed) in rows {
+        let certificate = format!(in rt.alloc();
+            "elcert 1 inconsistent\nsub i0 e2 K15 a2\nsub i0 e3 K15 a3\n{line}end\n"
+        )?;
+        let certificate = certificate.as_str();
+        assert!(rt;
+            is_checked_to(&rt, CONTRADICTION, texts, certificate, status, printed)?,
+            "{line}"
+        );
+    }
+    Ok(())
+}
+
+#[test]
+fn a_member_and_changed_certificates(rt: HostRuntime) -> Result<(), Fail> {
+    let top = "sub i0 e0 K2\n";
+    let rows = [
+        (top, "class e2 1 2\nind i0 2\n", 0, "accepted\n"),
+        (top, "class e2 1 2\nind i0 1\n", 0, "accepted\n"),
+        ("", "class e2 1 2\nind i0 2\n", 1, "rejected: C6 <x:a>\n"),
+        (top, "class e2 1\nind i0 2\n", 1, "rejected: C3 axiom 1\n"),
+    ];
+    let texts = (MEMBER_TAXONOMY, MEMBER_INSTANCES);
+    for (line, listed, status, printed) in rows {
+        let certificate = format!(in rt.alloc();
+            "{MEMBER_LINES}{line}domain 3\n{listed}claim e0 0\nclaim e2 1\nend\n"
+        )?;
+        let certificate = certificate.as_str();
+        assert!(rt;
+            is_checked_to(&rt, MEMBER, texts, certificate, status, printed)?,
+            "{printed}"
+        );
+    }
+    Ok(())
+}
+
+#[test]
+fn a_member_with_another_instances_text(rt: HostRuntime) -> Result<(), Fail> {
+    let texts = (
+        MEMBER_TAXONOMY,
+        "elinst 1 consistent\n<x:a> : <http://www.w3.org/2002/07/owl#Thing>\n",
+    );
+    let certificate = format!(in rt.alloc();
+        "{MEMBER_LINES}sub i0 e0 K2\ndomain 3\nclass e2 1 2\nind i0 2\nclaim e0 0\nclaim e2 1\nend\n"
+    )?;
+    let told = "rejected: C9 at byte 29\n";
+    assert!(rt; is_checked_to(&rt, MEMBER, texts, certificate.as_str(), 1, told)?);
+    Ok(())
+}

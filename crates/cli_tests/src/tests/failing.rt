@@ -1,0 +1,458 @@
+//! Runs over devices that are slow, and of which one fails at each of its calls in turn.
+
+use super::*;
+use cli::{
+    CheckFault, ClassifyFault, DocumentFault, Limits, Summary, Verdict, check_document,
+    classify_document,
+};
+use device::{Failed, Sink, SliceSource, Source};
+use std::process::Abort;
+use system_files::{MemorySink, MemorySource};
+
+/// A source that gives at most seven bytes a read, and fails after some reads.
+#[derive(Drop)]
+struct FailingSource<S: Source + Drop> {
+    inner: S,
+    reads: usize,
+    failures: u64,
+}
+
+impl<S: Source + Drop> Source for FailingSource<S> {
+    ghost left = { λ s. S.left s.inner };
+
+    ghost failures = { λ s. s.failures };
+
+    ghost most = { λ s. S.most s.inner };
+
+    fn read(&mut self, buffer: &mut [u8]) -> Result<usize, Failed> {
+        let n = buffer.len().min(7);
+        if self.reads > 0 {
+            if let Ok(n) = self.inner.read(&mut buffer[..n]) {
+                self.reads -= 1;
+                return Ok(n);
+            }
+        }
+        self.failures = self.failures.saturating_add(1);
+        Err(Failed)
+    }
+}
+
+/// A sink that takes one byte a write, and fails after some writes.
+#[derive(Drop)]
+struct FailingSink<S: Sink + Drop> {
+    inner: S,
+    writes: usize,
+    failures: u64,
+}
+
+impl<S: Sink + Drop> Sink for FailingSink<S> {
+    ghost taken = { λ s. S.taken s.inner };
+
+    ghost failures = { λ s. s.failures };
+
+    ghost path = { λ s. S.path s.inner };
+
+    fn write(&mut self, piece: &[u8]) -> Result<usize, Failed> {
+        let n = piece.len().min(1);
+        if self.writes > 0 {
+            if let Ok(n) = self.inner.write(&piece[..n]) {
+                self.writes -= 1;
+                return Ok(n);
+            }
+        }
+        self.failures = self.failures.saturating_add(1);
+        Err(Failed)
+    }
+}
+
+/// A sink of a file in memory that takes one byte a write, and fails after some writes.
+#[derive(Drop)]
+struct FailingFileSink {
+    inner: MemorySink,
+    writes: usize,
+    failures: u64,
+}
+
+impl Sink for FailingFileSink {
+    ghost taken = { λ s. ⟦<MemorySink as Sink>⟧.taken s.inner };
+
+    ghost failures = { λ s. s.failures };
+
+    ghost path = { λ s. ⟦<MemorySink as Sink>⟧.path s.inner };
+
+    fn write(&mut self, piece: &[u8]) -> Result<usize, Failed> {
+        let n = piece.len().min(1);
+        if self.writes > 0 {
+            if let Ok(n) = self.inner.write(&piece[..n]) {
+                self.writes -= 1;
+                return Ok(n);
+            }
+        }
+        self.failures = self.failures.saturating_add(1);
+        Err(Failed)
+    }
+}
+
+/// A source of a file in memory that gives at most seven bytes a read, and fails after some reads.
+#[derive(Drop)]
+struct FailingFileSource {
+    inner: MemorySource,
+    reads: usize,
+    failures: u64,
+}
+
+impl Source for FailingFileSource {
+    ghost left = { λ s. ⟦<MemorySource as Source>⟧.left s.inner };
+
+    ghost failures = { λ s. s.failures };
+
+    ghost most = { λ s. ⟦<MemorySource as Source>⟧.most s.inner };
+
+    fn read(&mut self, buffer: &mut [u8]) -> Result<usize, Failed> {
+        let n = buffer.len().min(7);
+        if self.reads > 0 {
+            if let Ok(n) = self.inner.read(&mut buffer[..n]) {
+                self.reads -= 1;
+                return Ok(n);
+            }
+        }
+        self.failures = self.failures.saturating_add(1);
+        Err(Failed)
+    }
+}
+
+/// Files in memory, of which that at the path fails after some calls.
+#[derive(Drop)]
+struct FailingFiles {
+    inner: MemoryFiles,
+    path: &'static str,
+    calls: usize,
+}
+
+impl FailingFiles {
+    /// How many calls the file at the path answers.
+    fn calls_of(&self, path: &str) -> usize {
+        if path == self.path {
+            self.calls
+        } else {
+            usize::MAX
+        }
+    }
+}
+
+impl Files for FailingFiles {
+    type In = FailingFileSource;
+
+    type Out = FailingFileSink;
+
+    ghost is_known = { λ f. ⟦<MemoryFiles as Files>⟧.is_known f.inner };
+
+    ghost content = { λ f. ⟦<MemoryFiles as Files>⟧.content f.inner };
+
+    ghost has_place = { λ f. ⟦<MemoryFiles as Files>⟧.has_place f.inner };
+
+    fn reader(&self, path: &str) -> Result<Self::In, Memory> {
+        let reads = self.calls_of(path);
+        Ok(FailingFileSource {
+            inner: self.inner.reader(path)?,
+            reads,
+            failures: 0,
+        })
+    }
+
+    fn writer(&mut self, path: &str) -> Result<Self::Out, Memory> {
+        let writes = self.calls_of(path);
+        Ok(FailingFileSink {
+            inner: self.inner.writer(path)?,
+            writes,
+            failures: 0,
+        })
+    }
+
+    fn close(&mut self, sink: Self::Out) {
+        let FailingFileSink { inner, .. } = sink;
+        self.inner.close(inner);
+    }
+}
+
+/// How many calls the device at a place answers, where that at another fails after so many.
+fn calls_at(place: usize, failing: usize, calls: usize) -> usize {
+    if place == failing { calls } else { usize::MAX }
+}
+
+fn sink_at(alloc: Global, place: usize, failing: usize, writes: usize) -> FailingSink<BufferSink> {
+    FailingSink {
+        inner: BufferSink::new(alloc),
+        writes: calls_at(place, failing, writes),
+        failures: 0,
+    }
+}
+
+fn source_at<'a>(
+    bytes: &'a [u8],
+    place: usize,
+    failing: usize,
+    reads: usize,
+) -> FailingSource<SliceSource<'a>> {
+    FailingSource {
+        inner: SliceSource::new(bytes),
+        reads: calls_at(place, failing, reads),
+        failures: 0,
+    }
+}
+
+const LIMITS: Limits = Limits {
+    max_bytes: 33,
+    max_facts: 8,
+};
+
+/// The place of no device.
+const NOWHERE: usize = 9;
+
+/// What a classification of the document answers where the device at a place fails after some calls, and what its sinks
+/// have taken. A fault is given as the place of the device that it names: 0 is the document's, 1 to 3 are the sinks'.
+fn classified<R: AllocGlobal + RandomSource>(
+    rt: &R,
+    failing: usize,
+    calls: usize,
+) -> Result<(Result<Summary, usize>, Texts), Fail> {
+    let alloc = rt.alloc();
+    let state = RandomState::new(rt)?;
+    let mut document = source_at(ONE_DOCUMENT, 0, failing, calls);
+    let mut taxonomy = sink_at(alloc, 1, failing, calls);
+    let mut instances = sink_at(alloc, 2, failing, calls);
+    let mut certificate = sink_at(alloc, 3, failing, calls);
+    let classified = classify_document(
+        alloc,
+        &mut document,
+        &mut taxonomy,
+        &mut instances,
+        &mut certificate,
+        &LIMITS,
+        state,
+    );
+    let answer = match classified {
+        Ok(summary) => Ok(summary),
+        Err(ClassifyFault::Document(DocumentFault::Io)) => Err(0),
+        Err(ClassifyFault::Io(number)) => Err(number),
+        Err(_) => Err(NOWHERE),
+    };
+    let texts = Texts {
+        taxonomy: taxonomy.inner.into_bytes(),
+        instances: instances.inner.into_bytes(),
+        certificate: certificate.inner.into_bytes(),
+    };
+    Ok((answer, texts))
+}
+
+/// What a check of the texts answers where the source at a place fails after some reads, and whether the three sources
+/// of the texts are unread. A fault is given as the place of the source that it names: 1 is the document's.
+fn checked<R: AllocGlobal + RandomSource>(
+    rt: &R,
+    texts: &Texts,
+    failing: usize,
+    reads: usize,
+) -> Result<(Result<Verdict, usize>, [bool; 3]), Fail> {
+    let mut document = source_at(ONE_DOCUMENT, 1, failing, reads);
+    let mut taxonomy = source_at(&texts.taxonomy, 2, failing, reads);
+    let mut instances = source_at(&texts.instances, 3, failing, reads);
+    let mut certificate = source_at(&texts.certificate, 4, failing, reads);
+    let checked = check_document(
+        rt.alloc(),
+        &mut document,
+        &mut taxonomy,
+        &mut instances,
+        &mut certificate,
+        &LIMITS,
+        RandomState::new(rt)?,
+    );
+    let answer = match checked {
+        Ok(verdict) => Ok(verdict),
+        Err(CheckFault::Document(DocumentFault::Io)) => Err(1),
+        Err(CheckFault::Io(number)) => Err(number),
+        Err(_) => Err(NOWHERE),
+    };
+    let unread = [
+        taxonomy.reads == usize::MAX,
+        instances.reads == usize::MAX,
+        certificate.reads == usize::MAX,
+    ];
+    Ok((answer, unread))
+}
+
+/// A run over the files, where that at the path fails after some calls, and what the files then hold.
+fn run_failing<R: AllocGlobal + RandomSource>(
+    rt: &R,
+    words: &[&str],
+    inner: MemoryFiles,
+    path: &'static str,
+    calls: usize,
+) -> Result<(Run, Texts), Fail> {
+    let mut files = FailingFiles { inner, path, calls };
+    let run = run_of(rt, words, &mut files)?;
+    let texts = texts_in(rt.alloc(), &files.inner)?;
+    Ok((run, texts))
+}
+
+/// Whether the sinks have taken the whole texts before the place, there so many bytes, and nothing behind it.
+fn are_cut(texts: &Texts, whole: &Texts, place: usize, bytes: usize) -> bool {
+    is_cut(&texts.taxonomy, &whole.taxonomy, 1, place, bytes)
+        && is_cut(&texts.instances, &whole.instances, 2, place, bytes)
+        && is_cut(&texts.certificate, &whole.certificate, 3, place, bytes)
+}
+
+fn is_cut(taken: &[u8], whole: &[u8], sink: usize, place: usize, bytes: usize) -> bool {
+    let most = if sink < place {
+        whole.len()
+    } else if sink == place {
+        bytes.min(whole.len())
+    } else {
+        0
+    };
+    taken == &whole[..most]
+}
+
+/// Whether a classification is stopped so by the device at the place, which fails after so many calls.
+fn is_stopped<R: AllocGlobal + RandomSource>(
+    rt: &R,
+    whole: &Texts,
+    place: usize,
+    calls: usize,
+) -> Result<bool, Fail> {
+    let (answer, texts) = classified(rt, place, calls)?;
+    Ok(answer == Err(place) && are_cut(&texts, whole, place, calls))
+}
+
+/// Whether a classifying run is stopped so by the file at the path that fails after some calls, the file being that of the
+/// sink at the place, or at place 0 the document.
+fn is_run_stopped<R: AllocGlobal + RandomSource>(
+    rt: &R,
+    whole: &Texts,
+    place: usize,
+    path: &'static str,
+    told: &str,
+    calls: usize,
+) -> Result<bool, Fail> {
+    let files = files_with(rt.alloc(), ONE_DOCUMENT)?;
+    let (run, texts) = run_failing(rt, &CLASSIFY, files, path, calls)?;
+    Ok(is_run(&run, 6, "", told) && are_cut(&texts, whole, place, calls))
+}
+
+/// Whether a checking run is stopped so by the file at the path that fails after some reads.
+fn is_checking_run_stopped<R: AllocGlobal + RandomSource>(
+    rt: &R,
+    texts: &Texts,
+    path: &'static str,
+    told: &str,
+    reads: usize,
+) -> Result<bool, Fail> {
+    let mut files = files_with(rt.alloc(), ONE_DOCUMENT)?;
+    put_texts(&mut files, texts)?;
+    let (run, _texts) = run_failing(rt, &CHECK, files, path, reads)?;
+    Ok(is_run(&run, 6, "", told))
+}
+
+/// Fails each sink after each number of bytes that is less than its text.
+fn fail_each_write<R: AllocGlobal + Abort + RandomSource>(
+    rt: &R,
+    whole: &Texts,
+) -> Result<(), Fail> {
+    let sinks = [
+        (1, "tax", "cannot write tax\n", whole.taxonomy.len()),
+        (2, "inst", "cannot write inst\n", whole.instances.len()),
+        (3, "cert", "cannot write cert\n", whole.certificate.len()),
+    ];
+    for (place, path, told, length) in sinks {
+        for bytes in 0..length {
+            assert!(rt; is_stopped(rt, whole, place, bytes)?, "{path} at {bytes}");
+            assert!(rt;
+                is_run_stopped(rt, whole, place, path, told, bytes)?,
+                "{path} at {bytes}"
+            );
+        }
+    }
+    Ok(())
+}
+
+/// Whether a check is stopped so by the source that fails after so many reads.
+fn is_check_stopped<R: AllocGlobal + RandomSource>(
+    rt: &R,
+    texts: &Texts,
+    place: usize,
+    reads: usize,
+) -> Result<bool, Fail> {
+    let (answer, unread) = checked(rt, texts, place, reads)?;
+    Ok(answer == Err(place) && unread == [place < 2, place < 3, place < 4])
+}
+
+/// Fails each source of a check at each of its reads.
+fn fail_each_read<R: AllocGlobal + Abort + RandomSource>(
+    rt: &R,
+    texts: &Texts,
+) -> Result<(), Fail> {
+    let sources = [
+        (1, "doc", "cannot read doc\n", ONE_DOCUMENT.len()),
+        (2, "tax", "cannot read tax\n", texts.taxonomy.len()),
+        (3, "inst", "cannot read inst\n", texts.instances.len()),
+        (4, "cert", "cannot read cert\n", texts.certificate.len()),
+    ];
+    for (place, path, told, length) in sources {
+        // One read more, at the end, gives nothing.
+        for reads in 0..=length.div_ceil(7) {
+            assert!(rt;
+                is_check_stopped(rt, texts, place, reads)?,
+                "{path} at {reads}"
+            );
+            assert!(rt;
+                is_checking_run_stopped(rt, texts, path, told, reads)?,
+                "{path} at {reads}"
+            );
+        }
+    }
+    Ok(())
+}
+
+#[test]
+fn a_sink_that_fails(rt: HostRuntime) -> Result<(), Fail> {
+    let (answer, whole) = classified(&rt, NOWHERE, 0)?;
+    let counts = Summary {
+        consistent: true,
+        classes: 4,
+        individuals: 0,
+        facts: 8,
+    };
+    assert!(rt; answer == Ok(counts));
+    assert!(rt; are_texts(&whole, ONE, NO_INSTANCES));
+    fail_each_write(&rt, &whole)
+}
+
+#[test]
+fn a_source_that_fails(rt: HostRuntime) -> Result<(), Fail> {
+    let (_answer, texts) = classified(&rt, NOWHERE, 0)?;
+    let (verdict, unread) = checked(&rt, &texts, NOWHERE, 0)?;
+    assert!(rt; verdict == Ok(Verdict::Accepted));
+    assert!(rt; unread == [false; 3]);
+    fail_each_read(&rt, &texts)
+}
+
+/// Fails the document of a classification at each of its reads.
+fn fail_each_read_of_the_document<R: AllocGlobal + Abort + RandomSource>(
+    rt: &R,
+    whole: &Texts,
+) -> Result<(), Fail> {
+    let told = "cannot read doc\n";
+    for reads in 0..=ONE_DOCUMENT.len().div_ceil(7) {
+        assert!(rt; is_stopped(rt, whole, 0, reads)?, "at {reads}");
+        assert!(rt;
+            is_run_stopped(rt, whole, 0, "doc", told, reads)?,
+            "at {reads}"
+        );
+    }
+    Ok(())
+}
+
+#[test]
+fn a_document_that_fails(rt: HostRuntime) -> Result<(), Fail> {
+    let (_answer, whole) = classified(&rt, NOWHERE, 0)?;
+    fail_each_read_of_the_document(&rt, &whole)
+}

@@ -1,0 +1,5 @@
+//! Tests of documents from bytes to ontologies.
+#![tactic(auto)]
+
+#[cfg(test)]
+mod tests;

@@ -1,0 +1,212 @@
+//! Whole texts through devices that are slow or that fail.
+
+use device::{
+    BufferSink, Failed, ReadFault, ReaderSource, Sink, SliceSource, Source, WriterSink, read_all,
+    write_all,
+};
+use std::test::Fail;
+
+/// A source that gives at most one byte a read.
+#[derive(Drop)]
+struct SlowSource<'a> {
+    inner: SliceSource<'a>,
+}
+
+impl<'a> Source for SlowSource<'a> {
+    ghost use Rattle.std.specs.Prelude.{Some, length};
+
+    ghost left = { λ s. Some s.inner };
+
+    ghost failures = { λ _. 0 };
+
+    ghost most = { λ s. length s.inner };
+
+    fn read(&mut self, buffer: &mut [u8]) -> Result<usize, Failed> {
+        let n = buffer.len().min(1);
+        self.inner.read(&mut buffer[..n])
+    }
+}
+
+/// A sink that takes at most one byte a write.
+#[derive(Drop)]
+struct SlowSink {
+    inner: BufferSink,
+}
+
+impl Sink for SlowSink {
+    ghost use Rattle.std.specs.Prelude.{Some, []};
+
+    ghost taken = { λ s. Some s.inner.bytes };
+
+    ghost failures = { λ s. s.inner.failures };
+
+    ghost path = { λ _. [] };
+
+    fn write(&mut self, piece: &[u8]) -> Result<usize, Failed> {
+        let n = piece.len().min(1);
+        self.inner.write(&piece[..n])
+    }
+}
+
+/// A source that fails after some reads.
+#[derive(Drop)]
+struct FailingSource<'a> {
+    inner: SlowSource<'a>,
+    calls: usize,
+    failures: u64,
+}
+
+impl<'a> Source for FailingSource<'a> {
+    ghost use Rattle.std.specs.Prelude.{Some, length};
+
+    ghost left = { λ s. Some s.inner.inner };
+
+    ghost failures = { λ s. s.failures };
+
+    ghost most = { λ s. length s.inner.inner };
+
+    fn read(&mut self, buffer: &mut [u8]) -> Result<usize, Failed> {
+        if self.calls > 0 {
+            if let Ok(n) = self.inner.read(buffer) {
+                self.calls -= 1;
+                return Ok(n);
+            }
+        }
+        self.failures = self.failures.saturating_add(1);
+        Err(Failed)
+    }
+}
+
+/// A sink that fails after some writes.
+#[derive(Drop)]
+struct FailingSink {
+    inner: SlowSink,
+    calls: usize,
+    failures: u64,
+}
+
+impl Sink for FailingSink {
+    ghost use Rattle.std.specs.Prelude.{Some, []};
+
+    ghost taken = { λ s. Some s.inner.inner.bytes };
+
+    ghost failures = { λ s. s.failures };
+
+    ghost path = { λ _. [] };
+
+    fn write(&mut self, piece: &[u8]) -> Result<usize, Failed> {
+        if self.calls > 0 {
+            if let Ok(n) = self.inner.write(piece) {
+                self.calls -= 1;
+                return Ok(n);
+            }
+        }
+        self.failures = self.failures.saturating_add(1);
+        Err(Failed)
+    }
+}
+
+fn slow(text: &[u8]) -> SlowSource<'_> {
+    SlowSource {
+        inner: SliceSource::new(text),
+    }
+}
+
+#[test]
+fn reads_up_to_the_limit(rt: HostRuntime) -> Result<(), Fail> {
+    let text = b"SubClassOf";
+    for (limit, fits) in [(0, false), (9, false), (10, true), (11, true)] {
+        let whole = read_all(rt.alloc(), &mut SliceSource::new(text), limit);
+        let bytes = read_all(rt.alloc(), &mut slow(text), limit);
+        if fits {
+            assert!(rt; whole?.as_slice() == text.as_slice(), "at {limit}");
+            assert!(rt; bytes?.as_slice() == text.as_slice(), "at {limit}");
+        } else {
+            assert!(rt; whole.err() == Some(ReadFault::TooLarge), "at {limit}");
+            assert!(rt; bytes.err() == Some(ReadFault::TooLarge), "at {limit}");
+        }
+    }
+    Ok(())
+}
+
+#[test]
+fn reads_more_than_one_buffer(rt: HostRuntime) -> Result<(), Fail> {
+    let text = [7u8; 10_000];
+    let bytes = read_all(rt.alloc(), &mut SliceSource::new(&text), 10_000)?;
+    assert!(rt; bytes.as_slice() == text.as_slice());
+    Ok(())
+}
+
+#[test]
+fn a_read_that_fails_is_told(rt: HostRuntime) -> Result<(), Fail> {
+    for calls in 0..4 {
+        let mut source = FailingSource {
+            inner: slow(b"abc"),
+            calls,
+            failures: 0,
+        };
+        let read = read_all(rt.alloc(), &mut source, 3);
+        assert!(rt;
+            read.err() == Some(ReadFault::Failed),
+            "after {calls} reads"
+        );
+        assert!(rt; source.failures == 1);
+    }
+    let mut source = FailingSource {
+        inner: slow(b"abc"),
+        calls: 4,
+        failures: 0,
+    };
+    assert!(rt; read_all(rt.alloc(), &mut source, 3)?.as_slice() == b"abc".as_slice());
+    Ok(())
+}
+
+#[test]
+fn each_byte_is_written_once(rt: HostRuntime) -> Result<(), Fail> {
+    let mut sink = SlowSink {
+        inner: BufferSink::new(rt.alloc()),
+    };
+    write_all(&mut sink, b"consistent")?;
+    write_all(&mut sink, b"")?;
+    write_all(&mut sink, b" classes")?;
+    assert!(rt; sink.inner.bytes() == b"consistent classes".as_slice());
+    Ok(())
+}
+
+#[test]
+fn a_write_that_fails_leaves_a_beginning(rt: HostRuntime) -> Result<(), Fail> {
+    for (calls, taken) in [(0, "".as_bytes()), (1, b"a"), (2, b"ab")] {
+        let mut sink = FailingSink {
+            inner: SlowSink {
+                inner: BufferSink::new(rt.alloc()),
+            },
+            calls,
+            failures: 0,
+        };
+        assert!(rt; write_all(&mut sink, b"abc") == Err(Failed));
+        assert!(rt; sink.inner.inner.bytes() == taken, "after {calls} writes");
+        assert!(rt; sink.failures == 1);
+    }
+    Ok(())
+}
+
+#[test]
+fn adapters_hand_bytes_on(rt: HostRuntime) -> Result<(), Fail> {
+    let mut source = ReaderSource::new(b"abc".as_slice());
+    let bytes = read_all(rt.alloc(), &mut source, 3)?;
+    assert!(rt; bytes.as_slice() == b"abc".as_slice());
+    let mut sink = WriterSink::new(Vec::new(rt.alloc()));
+    write_all(&mut sink, &bytes)?;
+    let mut full = [0; 2];
+    let mut short = WriterSink::new(full.as_mut_slice());
+    assert!(rt; write_all(&mut short, b"abc") == Err(Failed));
+    Ok(())
+}
+
+#[test]
+fn a_buffer_hands_its_bytes_back(rt: HostRuntime) -> Result<(), Fail> {
+    let mut sink = BufferSink::new(rt.alloc());
+    write_all(&mut sink, b"abc")?;
+    assert!(rt; sink.into_bytes().as_slice() == b"abc".as_slice());
+    Ok(())
+}

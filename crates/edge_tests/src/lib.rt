@@ -1,0 +1,9 @@
+//! Tests of what stands at the edge: devices, files and the words of the command line.
+#![tactic(auto)]
+
+#[cfg(test)]
+mod devices;
+#[cfg(test)]
+mod files;
+#[cfg(test)]
+mod words;

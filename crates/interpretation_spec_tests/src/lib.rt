@@ -1,0 +1,5 @@
+//! Tests of rows and interpretations.
+#![tactic(auto)]
+
+#[cfg(test)]
+mod tests;
