@@ -1,29 +1,29 @@
-//! Lists of numbers that grow in any order.
+//! Lists that grow in any order.
 ghost use Rattle.number_sets.specs.Pieces.{list_at};
 ghost use Rattle.number_sets.specs.Turned.{copies};
-ghost use Rattle.std.specs.Prelude.{◌<◌, ◌≡◌, ◌++◌, ◌∷◌, [], IfOk, OnOk, length, replicate, slice_set, ℕ};
+ghost use Rattle.std.specs.Prelude.{◌<◌, ◌≡◌, ◌++◌, ◌∷◌, [], IfOk, OnErr, OnOk, length, replicate, slice_set, ℕ};
 
 use crate::packed_lists::PackedLists;
 use std::alloc::{AllocError, Global};
 use std::marker::Model;
 
-/// A list of numbers for each number below a bound, each in a piece of memory of its own.
+/// A list for each number below a bound, of numbers where nothing else is said, each in a piece of memory of its own.
 #[derive(Drop)]
-pub(crate) struct OpenLists {
-    lists: Vec<Vec<u32>>,
+pub struct OpenLists<T = u32> {
+    lists: Vec<Vec<T>>,
 }
 
-impl Model for OpenLists {
-    ghost use Rattle.std.specs.Prelude.{List, map, ℕ};
+impl<T> Model for OpenLists<T> {
+    ghost use Rattle.std.specs.Prelude.{List, map};
 
-    ghost Value = { List (List ℕ) };
+    ghost Value = { List (List T) };
 
     ghost view = { λ l. map (λ v. v.items) l.lists.items };
 }
 
-impl OpenLists {
-    /// An empty list for each number below `n`.
-    pub(crate) fn new(alloc: Global, n: usize) -> Result<OpenLists, AllocError>
+impl<T: Copy> OpenLists<T> {
+    /// An empty list for each number below `n`. Fails where memory is refused.
+    pub fn new(alloc: Global, n: usize) -> Result<OpenLists<T>, AllocError>
         ensures { IfOk result (λ l. l ≡ replicate n []) }
     {
         let mut lists = Vec::new(alloc);
@@ -33,17 +33,50 @@ impl OpenLists {
         Ok(OpenLists { lists })
     }
 
-    /// Adds a number at the end of the list of `k`, if there is one.
-    fn push(&mut self, k: usize, x: u32) -> Result<(), AllocError>
-        ensures { OnOk result (self.new ≡ slice_set self.old k (list_at self.old k ++ x ∷ [])) }
+    /// How many lists there are.
+    pub fn len(&self) -> usize
+        ensures { result ≡ length self.now }
+    {
+        self.lists.len()
+    }
+
+    /// The list of that number, or an empty one where there is none.
+    pub fn at(&self, k: usize) -> &[T]
+        ensures { result.now ≡ list_at self.now k }
+    {
+        if k >= self.lists.len() {
+            return &[];
+        }
+        &self.lists[k]
+    }
+
+    /// Adds an item at the end of the list of `k`, if there is one. Fails where memory is refused; then nothing changes.
+    pub fn push(&mut self, k: usize, x: T) -> Result<(), AllocError>
+        ensures ok { OnOk result (self.new ≡ slice_set self.old k (list_at self.old k ++ x ∷ [])) }
+        ensures err { OnErr result (self.new ≡ self.old) }
     {
         if k < self.lists.len() {
             let list = &mut self.lists[k];
-            list.push(x)?;
+            let Ok(()) = list.push(x) else {
+                return Err(AllocError);
+            };
         }
         Ok(())
     }
 
+    /// The same lists, one behind the other. Fails where memory is refused.
+    pub fn packed(&self, alloc: Global) -> Result<PackedLists<T>, AllocError>
+        ensures { IfOk result (λ l. l ≡ self.now) }
+    {
+        let mut packed = PackedLists::new(alloc);
+        for list in &self.lists {
+            packed.push_list(list)?;
+        }
+        Ok(packed)
+    }
+}
+
+impl OpenLists {
     /// Adds `x` at the end of the list of each of these numbers.
     pub(crate) fn push_to_each(&mut self, numbers: &[u32], x: u32) -> Result<(), AllocError>
         ensures len { OnOk result (length self.new ≡ length self.old) }
@@ -54,16 +87,5 @@ impl OpenLists {
             self.push(*k as usize, x)?;
         }
         Ok(())
-    }
-
-    /// The same lists, one behind the other.
-    pub(crate) fn packed(&self, alloc: Global) -> Result<PackedLists, AllocError>
-        ensures { IfOk result (λ l. l ≡ self.now) }
-    {
-        let mut packed = PackedLists::new(alloc);
-        for list in &self.lists {
-            packed.push_list(list)?;
-        }
-        Ok(packed)
     }
 }

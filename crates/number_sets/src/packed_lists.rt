@@ -1,23 +1,24 @@
-//! Lists of numbers, one behind the other.
+//! Lists, one behind the other.
 ghost use Rattle.number_sets.specs.Pieces.{list_at};
 ghost use Rattle.std.specs.Prelude.{[], ◌++◌, ◌<◌, ◌≡◌, ◌∷◌, OnErr, OnOk, length, slice_index, slice_range, ◌≤◌};
 
 use std::alloc::{AllocError, Global};
 use std::marker::Model;
 
-/// Lists of numbers, read by their own numbers from 0. They stand one behind the other in one piece of memory.
+/// Lists, of numbers where nothing else is said, read by their own numbers from 0. They stand one behind the other in one piece
+/// of memory.
 #[derive(Drop)]
-pub struct PackedLists {
+pub struct PackedLists<T = u32> {
     // where each list ends
     ends: Vec<usize>,
-    items: Vec<u32>,
+    items: Vec<T>,
 }
 
-impl Model for PackedLists {
+impl<T> Model for PackedLists<T> {
     ghost use Rattle.std.specs.Prelude.{List, length, ℕ};
     ghost use Rattle.number_sets.specs.Pieces.{AreEnds, pieces};
 
-    ghost Value = { List (List ℕ) };
+    ghost Value = { List (List T) };
 
     ghost view = { λ l. pieces 0 l.ends.items l.items.items };
 
@@ -32,8 +33,8 @@ fn start_of(ends: &[usize], k: usize) -> usize
     if k == 0 { 0 } else { ends[k - 1] }
 }
 
-// The numbers from one place up to another.
-fn part(items: &[u32], start: usize, end: usize) -> &[u32]
+// The items from one place up to another.
+fn part<T: Copy>(items: &[T], start: usize, end: usize) -> &[T]
     requires ordered { start ≤ end }
     requires within { end ≤ length items.now }
     ensures { result.now ≡ slice_range items.now start end }
@@ -41,9 +42,9 @@ fn part(items: &[u32], start: usize, end: usize) -> &[u32]
     &items[start..end]
 }
 
-impl PackedLists {
+impl<T: Copy> PackedLists<T> {
     /// No lists.
-    pub fn new(alloc: Global) -> PackedLists
+    pub fn new(alloc: Global) -> PackedLists<T>
         ensures { result ≡ [] }
     {
         PackedLists {
@@ -60,7 +61,7 @@ impl PackedLists {
     }
 
     /// Adds a list behind the others. Fails where memory is refused; then nothing changes.
-    pub fn push_list(&mut self, list: &[u32]) -> Result<(), AllocError>
+    pub fn push_list(&mut self, list: &[T]) -> Result<(), AllocError>
         ensures ok { OnOk result (self.new ≡ self.old ++ list.now ∷ []) }
         ensures err { OnErr result (self.new ≡ self.old) }
     {
@@ -71,7 +72,7 @@ impl PackedLists {
     }
 
     /// The list of that number, or an empty one where there is none.
-    pub fn at(&self, k: usize) -> &[u32]
+    pub fn at(&self, k: usize) -> &[T]
         ensures { result.now ≡ list_at self.now k }
     {
         if k >= self.ends.len() {

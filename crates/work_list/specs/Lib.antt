@@ -1,3 +1,5 @@
 pub mod Bag
-pub mod Order
 pub mod Grouped
+pub mod Indexed
+pub mod Order
+pub mod Places

@@ -3,9 +3,11 @@
 
 mod by_context;
 mod fifo;
+mod indexed;
 mod item;
 mod lifo;
 mod list;
+mod places;
 
 pub use by_context::ByContext;
 pub use fifo::Fifo;
@@ -13,5 +15,3 @@ pub use item::Item;
 pub use lifo::Lifo;
 pub use list::{WorkList, drain};
 
-#[cfg(test)]
-mod tests;

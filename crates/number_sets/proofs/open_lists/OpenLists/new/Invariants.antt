@@ -1,5 +1,5 @@
-use Rattle.std.proofs.Common.{◌≡◌, ℕ, List, [], map, replicate}
+use Rattle.std.proofs.Common.{◌≡◌, [], map, replicate}
 use Rattle.number_sets.proofs.open_lists.OpenLists.new.Given as goal
 
 abbrev pub invariant-loop : goal.invariant-loop
-invariant-loop l = map (λ v. v.items) l.lists.items ≡ replicate {A = List ℕ} l.counter []
+invariant-loop g l = map (λ v. v.items) l.lists.items ≡ replicate l.counter []

@@ -1,0 +1,5 @@
+pub mod Occurring
+pub mod Forms
+pub mod Given
+pub mod Properties
+pub mod Theorems

@@ -1,0 +1,100 @@
+-- What a closure keeps of its forms, as they grow.
+use Rattle.std.proofs.Common.{◌≡◌, ◌↔◌, ℕ, ◌<◌, ◌≤◌, inl, inr, List, [], ◌∷◌, length, get_or, Contains, slice_get, Some, refl, sym, ap, ◌∙◌, subst, arith}
+use Rattle.std.specs.List.{All, AllPairs}
+use Rattle.std.proofs.lemmas.Bool.{cases_lt}
+use Rattle.std.proofs.lemmas.List.Elements.{All-contains}
+use Rattle.lemmas.proofs.Members.{Contains-first, Contains-one}
+use Rattle.lemmas.proofs.Places.{slice_get_there}
+use Rattle.normal_forms.specs.declared.forms.PropId2.{PropId2}
+use Rattle.normal_forms.specs.declared.forms.PropId2.TheVariants.{Property, Partial}
+use Rattle.normal_forms.specs.declared.forms.Form.{Form}
+use Rattle.normal_forms.specs.declared.forms.Form.TheVariants.{N1, N2, N3, N4, N5, N6, N7, N8, N9}
+use Rattle.normal_forms.specs.Properties.{ComesBefore, IsAtOrBelow, IsPropertyOf, IsPropertyFormOf, same, step}
+use Rattle.property_closure.specs.declared.related.Related.{Related}
+use Rattle.property_closure.specs.Related.{as_id, as_property, Tells, ArePlainWithin, AreReflexiveWithin}
+use Rattle.property_closure.specs.Chains.{AreChainsWithin}
+use Rattle.property_closure.specs.Closed.{IsRelated}
+use Rattle.property_closure.proofs.Reflexives.{number_of}
+
+-- ---- what forms name
+
+pub plain_within : (n m : ℕ) (forms : List Form) → All (IsPropertyFormOf n m) forms → ArePlainWithin n forms
+plain_within n m forms all r s c = All-contains (IsPropertyFormOf n m) forms (N5 (as_id r) (as_id s)) all c
+
+pub reflexive_within : (n m : ℕ) (forms : List Form) → All (IsPropertyFormOf n m) forms → AreReflexiveWithin n forms
+reflexive_within n m forms all r c = All-contains (IsPropertyFormOf n m) forms (N7 (as_id r)) all c
+
+pub chains_within : (n m : ℕ) (forms : List Form) → All (IsPropertyFormOf n m) forms → AreChainsWithin n m forms
+chains_within n m forms all p c h = (All-contains (IsPropertyFormOf n m) forms (N6 p c.0 c.1) all h).0
+
+property_wider : (n m n' m' : ℕ) (p : PropId2) → n ≤ n' → m ≤ m' → IsPropertyOf n m p → IsPropertyOf n' m' p
+property_wider n m n' m' (Property p) a b h = omega arith
+property_wider n m n' m' (Partial k) a b h = omega arith
+
+form_wider : (n m n' m' : ℕ) (form : Form) → n ≤ n' → m ≤ m' → IsPropertyFormOf n m form → IsPropertyFormOf n' m' form
+form_wider n m n' m' (N1 x y) a b h = tt
+form_wider n m n' m' (N2 x y z) a b h = tt
+form_wider n m n' m' (N3 x r y) a b h = tt
+form_wider n m n' m' (N4 r x y) a b h = tt
+form_wider n m n' m' (N5 r s) a b h = (omega (arith, h.0), omega (arith, h.1))
+form_wider n m n' m' (N6 r s t) a b h = (property_wider n m n' m' r a b h.0, property_wider n m n' m' s a b h.1, property_wider n m n' m' t a b h.2)
+form_wider n m n' m' (N7 r) a b h = omega arith
+form_wider n m n' m' (N8 i x) a b h = tt
+form_wider n m n' m' (N9 x r y) a b h = tt
+
+pub all_wider : (n m n' m' : ℕ) (forms : List Form) → n ≤ n' → m ≤ m' → All (IsPropertyFormOf n m) forms → All (IsPropertyFormOf n' m') forms
+all_wider n m n' m' forms a b all k d l = form_wider n m n' m' (get_or forms k d) a b (all k d l)
+
+-- the lists serve more properties too
+pub related_wider : (n m n' m' : ℕ) (r : Related) → n ≤ n' → m ≤ m' → IsRelated n m r → IsRelated n' m' r
+related_wider n m n' m' r a b w = record {
+  within = all_wider n m n' m' r.forms.items a b w.within;
+  covered = omega (arith, w.covered);
+  plain = w.plain;
+  supers = w.supers;
+  reflexive = w.reflexive;
+  chains = w.chains;
+}
+
+-- ---- what is above a property
+
+-- a property that no plain form names first is below itself alone
+pub alone_above : (forms : List Form) (p : ℕ) → ((s : ℕ) → Tells forms p s → ⊥) → (q : PropId2) → IsAtOrBelow forms (as_property p) q → q ≡ as_property p
+alone_above forms p none _ same = refl
+alone_above forms p none _ (step s t h f) =
+    let e : s.0 ≡ p = ap number_of (alone_above forms p none (Property s) h) in
+    absurd (none t.0 (subst (λ (x : ℕ). Tells forms x t.0) e f))
+
+-- and so is a beginning of chains
+pub partial_above : (forms : List Form) (n : ℕ) (q : PropId2) → IsAtOrBelow forms (Partial n) q → q ≡ Partial n
+partial_above forms n _ same = refl
+partial_above forms n _ (step s t h f) = absurd (let e : Property s ≡ Partial n = partial_above forms n (Property s) h in cc)
+
+-- what is above itself alone
+pub only_itself : (forms : List Form) (p : PropId2) → ((q : PropId2) → IsAtOrBelow forms p q → q ≡ p) → (list : List PropId2) (place : ℕ) (result : List PropId2)
+    → ((x : PropId2) → slice_get list place ≡ Some x → x ≡ p) → ((x : PropId2) → slice_get list place ≡ Some x → result ≡ x ∷ []) → (length list ≤ place → result ≡ [])
+    → AllPairs ComesBefore result × ((q : PropId2) → Contains result q ↔ ((place < length list) × IsAtOrBelow forms p q))
+only_itself forms p only list place result at there past = elim (cases_lt place (length list)) [
+  | inl l ↦
+      let here = slice_get_there list place l in
+      let is : result ≡ p ∷ [] = there here.0 here.1 ∙ ap (λ x. x ∷ []) (at here.0 here.1) in (
+        subst (AllPairs ComesBefore) (sym is) (λ i j d m high. absurd (omega arith)),
+        λ q. (
+          λ h. (l, subst (IsAtOrBelow forms p) (Contains-one p q (subst (λ (xs : List PropId2). Contains xs q) is h)) same),
+          λ h. subst (λ (xs : List PropId2). Contains xs q) (sym is) (subst (Contains (p ∷ [])) (sym (only q h.1)) (Contains-first p [])),
+        ),
+      )
+  | inr l ↦ (
+    subst (AllPairs ComesBefore) (sym (past l)) (λ i j d m high. absurd (omega arith)),
+    λ q. (
+      λ h. absurd (omega (arith, (subst (λ (xs : List PropId2). Contains xs q) (past l) h).1)),
+      λ h. absurd (omega (arith, h.0)),
+    ),
+  )
+]
+
+-- ---- out of range
+
+pub none_there : {X : Type 0} (xs : List X) → ((x : X) → Contains xs x → ⊥) → xs ≡ []
+none_there [] none = refl
+none_there (x ∷ xs) none = absurd (none x (Contains-first x xs))

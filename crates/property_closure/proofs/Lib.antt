@@ -1,0 +1,6 @@
+pub mod Members
+pub mod Searching
+pub mod Plain
+pub mod Reflexives
+pub mod ChainLists
+pub mod Keeping

@@ -1,0 +1,4 @@
+pub mod Search
+pub mod Related
+pub mod Chains
+pub mod Closed

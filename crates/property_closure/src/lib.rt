@@ -1,0 +1,14 @@
+//! Superproperties, reflexive properties and property chains, by normal forms.
+#![tactic(auto)]
+
+mod ascending;
+mod chains;
+mod closure;
+mod reflexive;
+mod related;
+mod search;
+mod supers;
+#[cfg(test)]
+mod tests;
+
+pub use closure::{PropertyClosure, close};

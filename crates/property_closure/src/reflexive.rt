@@ -1,0 +1,43 @@
+//! The reflexive properties.
+ghost use Rattle.number_sets.specs.Members.{has};
+ghost use Rattle.number_sets.specs.Pieces.{list_at};
+ghost use Rattle.property_closure.specs.Related.{AreAbove, ArePlainWithin, AreReflexiveWithin, as_property};
+ghost use Rattle.normal_forms.specs.Properties.{IsReflexive};
+ghost use Rattle.std.specs.Prelude.{◌<◌, ◌↔◌, ◌≡◌, ◌⊎◌, Contains, IfOk, length, true, ℕ};
+
+use axioms::Memory;
+use normal_forms::{Form, PropId2};
+use number_sets::{EpochSet, PackedLists};
+use std::alloc::Global;
+
+/// Puts the numbers of these properties into the set.
+fn put_each(set: &mut EpochSet, properties: &[PropId2])
+    ensures length { length set.new ≡ length set.old }
+    ensures each { (p : ℕ) → p < length set.old → (has set.new p ≡ true) ↔ ((has set.old p ≡ true) ⊎ Contains properties.now (as_property p)) }
+{
+    for property in properties {
+        if let PropId2::Property(id) = property {
+            set.put(id.index());
+        }
+    }
+}
+
+/// The reflexive properties: those that a form says to be so, and those above them.
+pub(crate) fn reflexive_properties(
+    alloc: Global,
+    supers: &PackedLists<PropId2>,
+    forms: &[Form],
+) -> Result<EpochSet, Memory>
+    requires supers { (p : ℕ) → p < length supers.now → AreAbove forms.now (as_property p) (list_at supers.now p) }
+    requires plain { ArePlainWithin (length supers.now) forms.now }
+    requires within { AreReflexiveWithin (length supers.now) forms.now }
+    ensures { IfOk result (λ s. (p : ℕ) → (has s p ≡ true) ↔ IsReflexive forms.now (as_property p)) }
+{
+    let mut reflexive = EpochSet::new(alloc, supers.len())?;
+    for form in forms {
+        if let Form::N7(property) = form {
+            put_each(&mut reflexive, supers.at(property.index()));
+        }
+    }
+    Ok(reflexive)
+}

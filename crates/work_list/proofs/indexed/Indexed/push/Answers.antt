@@ -1,0 +1,16 @@
+use Rattle.std.proofs.Common.{◌≡◌, ◌∷◌, [], ◌++◌, ◌∙◌, List, ℕ, ap, arith, length}
+use Rattle.work_list.specs.declared.item.Item.{Item}
+use Rattle.work_list.proofs.Indexing.{indexed_more}
+use Rattle.work_list.proofs.indexed.Indexed.push.Goals as goal
+
+pub returns-clause-indexed : goal.returns-clause-indexed
+returns-clause-indexed c =
+    let old = c.args.self.now in
+    let item = c.args.item in
+    let items = c.push_reserved.new.self in
+    let slots = c.push_reserved-2.new.self in
+    let is_items = c.push_reserved.ensures.items ∙ ap (λ (l : List Item). l ++ item ∷ []) c.reserve.ensures.items in
+    let is_slots = c.push_reserved-2.ensures.items ∙ ap (λ (l : List ℕ). l ++ c.count-slot.result ∷ []) c.reserve-2.ensures.items in
+    let place : c.len.result ≡ length old.items.items = omega (arith, c.len.ensures, c.reserve.ensures.len, old.items.ok) in
+    let p = indexed_more old.items.items items.items old.slots.items slots.items old.places c.add.new.self item c.len.result c.count-slot.result c.requires.long c.requires.index is_items is_slots place c.count-slot.ensures c.in-Ok-add.ensures.ok in
+    record { long = p.0; index = p.1 }
