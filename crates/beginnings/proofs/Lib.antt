@@ -1,0 +1,4 @@
+pub mod Placing
+pub mod Spelling
+pub mod Pairs
+pub mod Keeping

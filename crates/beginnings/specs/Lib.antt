@@ -1,0 +1,3 @@
+pub mod Shorter
+pub mod Spans
+pub mod Tables

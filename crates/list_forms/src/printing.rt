@@ -1,0 +1,165 @@
+//! Normal forms as text: `e` and the number of an expression, `n` of a fresh name with its operands, `r` of a property, `c` of a
+//! fresh name with its steps, `i` of an individual, and `a` of an axiom.
+
+use axioms::{ExprId, IndId, PropId};
+use normal_forms::{Class2, Form, Origin, PropId2};
+use normalise::Normal;
+use std::alloc::{AllocError, Global};
+
+/// A letter and a number.
+fn push_number(
+    alloc: Global,
+    text: &mut String,
+    letter: &str,
+    number: usize,
+) -> Result<(), AllocError> {
+    let word = format!(in alloc; " {letter}{number}")?;
+    text.push_str(word.as_str())
+}
+
+fn push_operands(alloc: Global, text: &mut String, operands: &[ExprId]) -> Result<(), AllocError> {
+    text.push_str("(")?;
+    for operand in operands {
+        push_number(alloc, text, "e", operand.index())?;
+    }
+    text.push_str(" )")
+}
+
+fn push_steps(alloc: Global, text: &mut String, steps: &[PropId]) -> Result<(), AllocError> {
+    text.push_str("(")?;
+    for step in steps {
+        push_number(alloc, text, "r", step.index())?;
+    }
+    text.push_str(" )")
+}
+
+fn push_class(
+    alloc: Global,
+    text: &mut String,
+    normal: &Normal,
+    class: Class2,
+) -> Result<(), AllocError> {
+    match class {
+        Class2::Expr(expr) => push_number(alloc, text, "e", expr.index()),
+        Class2::Partial(number) => {
+            push_number(alloc, text, "n", number as usize)?;
+            push_operands(alloc, text, normal.operands(number as usize).unwrap_or(&[]))
+        }
+    }
+}
+
+fn push_property(
+    alloc: Global,
+    text: &mut String,
+    normal: &Normal,
+    property: PropId2,
+) -> Result<(), AllocError> {
+    match property {
+        PropId2::Property(prop) => push_number(alloc, text, "r", prop.index()),
+        PropId2::Partial(number) => {
+            push_number(alloc, text, "c", number as usize)?;
+            push_steps(alloc, text, normal.steps(number as usize).unwrap_or(&[]))
+        }
+    }
+}
+
+/// The forms N1 to N4.
+fn push_inclusion(
+    alloc: Global,
+    text: &mut String,
+    normal: &Normal,
+    form: Form,
+) -> Result<(), AllocError> {
+    match form {
+        Form::N1(a, b) => {
+            text.push_str("N1")?;
+            push_class(alloc, text, normal, a)?;
+            push_class(alloc, text, normal, b)
+        }
+        Form::N2(a, b, c) => {
+            text.push_str("N2")?;
+            push_class(alloc, text, normal, a)?;
+            push_class(alloc, text, normal, b)?;
+            push_class(alloc, text, normal, c)
+        }
+        Form::N3(a, prop, filler) => {
+            text.push_str("N3")?;
+            push_class(alloc, text, normal, a)?;
+            push_number(alloc, text, "r", prop.index())?;
+            push_number(alloc, text, "e", filler.index())
+        }
+        Form::N4(prop, a, b) => {
+            text.push_str("N4")?;
+            push_number(alloc, text, "r", prop.index())?;
+            push_class(alloc, text, normal, a)?;
+            push_class(alloc, text, normal, b)
+        }
+        _ => Ok(()),
+    }
+}
+
+/// The forms N5 to N9.
+fn push_other(
+    alloc: Global,
+    text: &mut String,
+    normal: &Normal,
+    form: Form,
+) -> Result<(), AllocError> {
+    match form {
+        Form::N5(r, s) => {
+            text.push_str("N5")?;
+            push_number(alloc, text, "r", r.index())?;
+            push_number(alloc, text, "r", s.index())
+        }
+        Form::N6(r, s, t) => {
+            text.push_str("N6")?;
+            push_property(alloc, text, normal, r)?;
+            push_property(alloc, text, normal, s)?;
+            push_property(alloc, text, normal, t)
+        }
+        Form::N7(r) => {
+            text.push_str("N7")?;
+            push_number(alloc, text, "r", r.index())
+        }
+        Form::N8(a, class) => {
+            text.push_str("N8")?;
+            push_number(alloc, text, "i", a.index())?;
+            push_class(alloc, text, normal, class)
+        }
+        Form::N9(a, r, b) => {
+            text.push_str("N9")?;
+            push_number(alloc, text, "i", a.index())?;
+            push_number(alloc, text, "r", r.index())?;
+            push_number(alloc, text, "i", b.index())
+        }
+        _ => Ok(()),
+    }
+}
+
+fn push_origin(alloc: Global, text: &mut String, origin: Option<Origin>) -> Result<(), AllocError> {
+    match origin {
+        Some(Origin::Axiom(number)) => push_number(alloc, text, "by a", number),
+        Some(Origin::Expr(expr)) => push_number(alloc, text, "by e", expr.index()),
+        None => text.push_str("?"),
+    }
+}
+
+/// Each form in a line of its own, with what gave it, and then what was asked about.
+pub(crate) fn push_forms(
+    alloc: Global,
+    text: &mut String,
+    normal: &Normal,
+) -> Result<(), AllocError> {
+    for (number, form) in normal.forms().iter().enumerate() {
+        push_inclusion(alloc, text, normal, *form)?;
+        push_other(alloc, text, normal, *form)?;
+        push_origin(alloc, text, normal.origin(number))?;
+        text.push_str("\n")?;
+    }
+    if normal.asked().is_empty() {
+        return Ok(());
+    }
+    text.push_str("asked ")?;
+    push_operands(alloc, text, normal.asked())?;
+    text.push_str("\n")
+}

@@ -1,0 +1,198 @@
+-- The forms of an ontology that has grown are the old ones and those of what is new.
+use Rattle.std.proofs.Common.{◌≡◌, ◌++◌, ℕ, zero, suc, ◌+◌, ◌<◌, ◌⊎◌, inl, inr, Bool, true, false, List, [], ◌∷◌, length, slice_get, Some, Contains, refl, sym, ap, ◌∙◌, subst, arith, add-one}
+use Rattle.std.proofs.lemmas.Bool.{cases_order}
+use Rattle.std.proofs.lemmas.Option.{none-some, slice_get_within}
+use Rattle.lemmas.proofs.Choices.{one_value}
+use Rattle.lemmas.proofs.Members.{Contains-from_slice_get, slice_get-from_Contains}
+use Rattle.lemmas.proofs.Places.{slice_get_there}
+use Rattle.axioms.specs.Numbered.{Ontology, Axiom, Node}
+use Rattle.axioms.specs.View.{at_number}
+use Rattle.normal_forms.specs.declared.forms.Origin.{Origin}
+use Rattle.normal_forms.specs.declared.forms.Origin.TheVariants as origins
+use Rattle.normal_forms.specs.Forms.{Form, IsForm}
+use Rattle.normal_forms.specs.Given.{GivenBy, RightGives, LeftGives}
+use Rattle.normal_forms.specs.Occurring.{Occurs, itself, part, AtRight, AtLeft}
+use Rattle.normal_forms.proofs.Sources.{forms_given, given_forms}
+use Rattle.normalise.specs.declared.entries.Entry.{Entry}
+use Rattle.normalise.specs.declared.made.Made.{Made}
+use Rattle.normalise.specs.Growing.{Grown, Grows, Has, IsNormalFor, FreshTo}
+use Rattle.normalise.specs.Listing.{Listing}
+use Rattle.normalise.specs.Marks.{IsMarked, MarksOccurring}
+use Rattle.normalise.specs.Steps.{ExpressedTo, StatedFrom}
+use Rattle.normalise.specs.View.{Adds, Keeps, Lengthens}
+use Rattle.normalise.proofs.Adding.{adds_behind, adds_both, adds_same, before}
+use Rattle.normalise.proofs.Giving.{sides_apart}
+
+number_at : (xs : List Axiom) (n : ℕ) → at_number xs (n + 1) ≡ slice_get xs n
+number_at xs n = rw add-one refl
+
+-- ---- what is given stays given
+
+more_occurs : (At : Axiom → ℕ → Type 0) (o p : Ontology) (before asked : List ℕ) → Keeps o.nodes p.nodes → Keeps o.axioms p.axioms → ((e : ℕ) → Contains before e → Contains asked e) → (e : ℕ) → Occurs At o before e → Occurs At p asked e
+more_occurs At o p before asked nodes axioms more e (itself (inl (a, c, at))) = let q = slice_get-from_Contains o.axioms a c in itself (inl (a, Contains-from_slice_get p.axioms q.0 a (axioms q.0 a q.1), at))
+more_occurs At o p before asked nodes axioms more e (itself (inr c)) = itself (inr (more e c))
+more_occurs At o p before asked nodes axioms more e (part d node r g h) = part d node (more_occurs At o p before asked nodes axioms more d r) (nodes d node g) h
+
+more_given : (o p : Ontology) (before asked : List ℕ) (from : ℕ) → Grows o p from → ((e : ℕ) → Contains before e → Contains asked e) → (by : Origin) (g : Form) → GivenBy o before by g → GivenBy p asked by g
+more_given o p before asked from w more (origins.Axiom zero) g (a, at, h) = absurd (none-some a at)
+more_given o p before asked from w more (origins.Axiom (suc n)) g (a, at, h) = (a, w.axioms n a at, h)
+more_given o p before asked from w more (origins.Expr e) g (node, at, h) = (
+  node,
+  w.nodes e.0 node at,
+  elim h [
+    | inl x ↦ inl (more_occurs AtRight o p before asked w.nodes w.axioms more e.0 x.0, x.1)
+    | inr y ↦ inr (more_occurs AtLeft o p before asked w.nodes w.axioms more e.0 y.0, y.1)
+  ],
+)
+
+-- ---- the old ones and the new ones
+
+cases_marked : (marks : List Bool) (e : ℕ) → IsMarked marks e ⊎ (IsMarked marks e → ⊥)
+cases_marked [] e = inr (λ h. none-some true h)
+cases_marked (true ∷ marks) zero = inl refl
+cases_marked (false ∷ marks) zero = inr (λ h. cc)
+cases_marked (b ∷ marks) (suc e) = cases_marked marks e
+
+-- an element of the longer list, at a place of the shorter one
+kept_back : {X : Type 0} (xs ys : List X) → Keeps xs ys → (n : ℕ) (x : X) → n < length xs → slice_get ys n ≡ Some x → slice_get xs n ≡ Some x
+kept_back xs ys keeps n x l g = let q = slice_get_there xs n l in q.1 ∙ ap Some (one_value _ q.0 x (keeps n q.0 q.1) g)
+
+-- an axiom is no expression
+stated_apart : (axioms : List Axiom) (nodes : List Node) (right left : List Bool) (from m k : ℕ) (by : Origin) (g : Form) → StatedFrom axioms from m by g → ExpressedTo nodes right left k by g → ⊥
+stated_apart axioms nodes right left from m k by g (n, _, _, (_, _, e, _)) (l, _, _, (_, _, f, _)) = let h : origins.Axiom (n + 1) ≡ origins.Expr (record { 0 = l }) = sym e ∙ f in absurd cc
+
+no_forms : Made
+no_forms = record { entries = []; operands = []; steps = [] }
+
+module _ (o p : Ontology) (before asked : List ℕ) (from : ℕ) (w : Grows o p from) (more : (e : ℕ) → Contains before e → Contains asked e)
+    (r r' l l' fr fl : List Bool) (R : MarksOccurring AtRight o before r) (R' : MarksOccurring AtRight p asked r') (L : MarksOccurring AtLeft o before l) (L' : MarksOccurring AtLeft p asked l')
+    (FR : FreshTo r' r fr (length r')) (FL : FreshTo l' l fl (length l')) (m : ℕ) (em : m ≡ length p.axioms) where
+  New : Origin → Form → Type 0
+  New by g = StatedFrom p.axioms from m by g ⊎ ExpressedTo p.nodes fr fl (length fr) by g
+
+  new_given : (by : Origin) (g : Form) → New by g → GivenBy p asked by g
+  unfolding New
+  new_given by g (inl (n, a, b, (x, at, e, h))) = let P : Origin → Type 0 = λ y. GivenBy p asked y g in subst P (sym e) (x, number_at p.axioms n ∙ at, h)
+  new_given by g (inr (n, a, b, (node, at, e, h))) =
+      let P : Origin → Type 0 = λ x. GivenBy p asked x g in let there : n < length p.nodes = slice_get_within p.nodes n node at in
+      subst P (sym e) (
+        node,
+        at,
+        elim h [
+          | inl x ↦ inl ((R'.1 n there).0 ((FR.1 n (omega (arith, R'.0))).0 x.0).0, x.1)
+          | inr y ↦ inr ((L'.1 n there).0 ((FL.1 n (omega (arith, L'.0))).0 y.0).0, y.1)
+        ],
+      )
+
+  old_or_new : (by : Origin) (g : Form) → GivenBy p asked by g → GivenBy o before by g ⊎ New by g
+  unfolding New
+  old_or_new (origins.Axiom zero) g (a, at, h) = absurd (none-some a at)
+  old_or_new (origins.Axiom (suc n)) g (a, at, h) = elim (cases_order n from) [
+    | inl e ↦ inr (inl (n, omega arith, omega (arith, slice_get_within p.axioms n a at), (a, at, ap origins.Axiom (sym (add-one n)), h)))
+    | inr (inl lt) ↦ inl (a, kept_back o.axioms p.axioms w.axioms n a (omega (arith, w.new_from)) at, h)
+    | inr (inr gt) ↦ inr (inl (n, omega arith, omega (arith, slice_get_within p.axioms n a at), (a, at, ap origins.Axiom (sym (add-one n)), h)))
+  ]
+  old_or_new (origins.Expr e) g (node, at, h) =
+      let there : e.0 < length p.nodes = slice_get_within p.nodes e.0 node at in
+      let a : e.0 < length r' = omega (arith, R'.0) in let b : e.0 < length l' = omega (arith, L'.0) in let c : e.0 < length fr = omega (arith, FR.0) in
+      elim h [
+        | inl x ↦ elim (cases_marked r e.0) [
+          | inl k ↦ (let t : e.0 < length o.nodes = omega (arith, slice_get_within r e.0 true k, R.0) in inl (node, kept_back o.nodes p.nodes w.nodes e.0 node t at, inl ((R.1 e.0 t).0 k, x.1)))
+          | inr k ↦ inr (inr (e.0, omega arith, c, (node, at, refl, inl ((FR.1 e.0 a).1 ((R'.1 e.0 there).1 x.0, k), x.1))))
+        ]
+        | inr y ↦ elim (cases_marked l e.0) [
+          | inl k ↦ (let t : e.0 < length o.nodes = omega (arith, slice_get_within l e.0 true k, L.0) in inl (node, kept_back o.nodes p.nodes w.nodes e.0 node t at, inr ((L.1 e.0 t).0 k, y.1)))
+          | inr k ↦ inr (inr (e.0, omega arith, c, (node, at, refl, inr ((FL.1 e.0 b).1 ((L'.1 e.0 there).1 y.0, k), y.1))))
+        ]
+      ]
+
+  -- nothing new is old
+  apart : (by : Origin) (g : Form) → GivenBy o before by g → New by g → ⊥
+  unfolding New
+  apart by g old (inl (n, low, _, (_, _, e, _))) =
+      let P : Origin → Type 0 = λ x. GivenBy o before x g in let q = subst P e old in
+      omega (arith, low, w.new_from, slice_get_within o.axioms n q.0 (sym (number_at o.axioms n) ∙ q.1))
+  apart by g old (inr (n, _, high, (node, at, e, h))) =
+      let P : Origin → Type 0 = λ x. GivenBy o before x g in let q = subst P e old in
+      let here : n < length o.nodes = slice_get_within o.nodes n q.0 q.1 in
+      let same : q.0 ≡ node = one_value _ q.0 node (w.nodes n q.0 q.1) at in
+      let there : n < length p.nodes = slice_get_within p.nodes n node at in
+      let S : Node → Type 0 = λ x. RightGives n x g in let T : Node → Type 0 = λ x. LeftGives n x g in
+      elim h [
+        | inl x ↦ elim q.2 [
+          | inl y ↦ ((FR.1 n (omega (arith, R'.0))).0 x.0).1 ((R.1 n here).1 y.0)
+          | inr y ↦ sides_apart n node g x.1 (subst T same y.1)
+        ]
+        | inr x ↦ elim q.2 [
+          | inl y ↦ sides_apart n node g (subst S same y.1) x.1
+          | inr y ↦ ((FL.1 n (omega (arith, L'.0))).0 x.0).1 ((L.1 n here).1 y.0)
+        ]
+      ]
+
+  grown_adds : (s t u : Made) (xs : List Entry) → s.entries ≡ [] → Adds no_forms (record { entries = xs; operands = s.operands; steps = s.steps }) (GivenBy o before) → Adds s t (StatedFrom p.axioms from m) → Adds t u (ExpressedTo p.nodes fr fl (length fr)) → Adds no_forms (record { entries = xs ++ u.entries; operands = u.operands; steps = u.steps }) (GivenBy p asked)
+  unfolding New
+  grown_adds s t u xs none old a b = adds_same (λ by g. GivenBy o before by g ⊎ New by g) (GivenBy p asked)
+      (λ by g h. elim h [ inl x ↦ more_given o p before asked from w more by g x | inr y ↦ new_given by g y ]) old_or_new
+      (adds_both (GivenBy o before) New apart old (adds_behind xs s u New none
+      (adds_both (StatedFrom p.axioms from m) (ExpressedTo p.nodes fr fl (length fr)) (stated_apart p.axioms p.nodes fr fl from m (length fr)) a b)))
+
+-- ---- what callers see
+
+made_of : Listing → Made
+made_of v = record { entries = v.entries; operands = v.operands; steps = v.steps }
+
+from_nothing : {X : Type 0} (xs : List X) → ((m n : ℕ) (x : X) → slice_get xs m ≡ Some x → slice_get xs n ≡ Some x → m ≡ n) → Lengthens [] xs
+from_nothing xs one = record { keeps = λ n x g. absurd (none-some x g); distinct = λ _. one }
+
+normal_adds : (o : Ontology) (v : Listing) → IsNormalFor o v → Adds no_forms (made_of v) (GivenBy o v.asked)
+unfolding no_forms made_of
+normal_adds o v h = record {
+  entries = λ n x g. absurd (none-some x g);
+  operands = from_nothing v.operands h.operands;
+  steps = from_nothing v.steps h.steps;
+  each = λ n low high. h.each n high;
+  all = λ by g k. (let e = h.all by g k in (e.0, omega arith, e.1));
+  once = λ m n by g _ _. h.once m n by g;
+}
+
+none_distinct : {X : Type 0} (m n : ℕ) (x : X) → slice_get [] m ≡ Some x → slice_get [] n ≡ Some x → m ≡ n
+none_distinct m n x g h = absurd (none-some x g)
+
+adds_normal : (o : Ontology) (v : Listing) → Adds no_forms (made_of v) (GivenBy o v.asked) → MarksOccurring AtRight o v.asked v.right → MarksOccurring AtLeft o v.asked v.left → IsNormalFor o v
+unfolding no_forms made_of
+adds_normal o v a r l = record {
+  each = λ n high. a.each n (omega arith) high;
+  all = λ by g h. (let e = a.all by g h in (e.0, e.2));
+  once = λ m n by g. a.once m n by g (omega arith) (omega arith);
+  operands = a.operands.distinct none_distinct;
+  steps = a.steps.distinct none_distinct;
+  right = r;
+  left = l;
+}
+
+-- the forms of before, and behind them those of u, which were made of s without forms
+pub grown_normal : (o p : Ontology) (v : Listing) (asked : List ℕ) (right left : List Bool) (from : ℕ) → Grows o p from → ((e : ℕ) → Contains v.asked e → Contains asked e) → (fr fl : List Bool) → MarksOccurring AtRight p asked right → MarksOccurring AtLeft p asked left → FreshTo right v.right fr (length right) → FreshTo left v.left fl (length left)
+    → (m : ℕ) → m ≡ length p.axioms → (s t u : Made) → s.entries ≡ [] → s.operands ≡ v.operands → s.steps ≡ v.steps → Adds s t (StatedFrom p.axioms from m) → Adds t u (ExpressedTo p.nodes fr fl (length fr)) → IsNormalFor o v
+    → IsNormalFor p (record { entries = v.entries ++ u.entries; operands = u.operands; steps = u.steps; asked = asked; right = right; left = left })
+unfolding made_of
+grown_normal o p v asked right left from w more fr fl R' L' FR FL m em s t u none eo es a b n =
+    let P : List (List ℕ) → Type 0 = λ x. Adds no_forms (record { entries = v.entries; operands = x; steps = v.steps }) (GivenBy o v.asked) in
+    let Q : List (List ℕ) → Type 0 = λ x. Adds no_forms (record { entries = v.entries; operands = s.operands; steps = x }) (GivenBy o v.asked) in
+    adds_normal p (record { entries = v.entries ++ u.entries; operands = u.operands; steps = u.steps; asked = asked; right = right; left = left })
+    (grown_adds o p v.asked asked from w more v.right right v.left left fr fl n.right R' n.left L' FR FL m em s t u v.entries none (subst Q (sym es) (subst P (sym eo) (normal_adds o v n))) a b) R' L'
+
+pub grown_kept : (v : Listing) (asked : List ℕ) (right left : List Bool) (s t u : Made) → s.entries ≡ [] → s.operands ≡ v.operands → s.steps ≡ v.steps → (G H : Origin → Form → Type 0) → Adds s t G → Adds t u H
+    → Grown v (record { entries = v.entries ++ u.entries; operands = u.operands; steps = u.steps; asked = asked; right = right; left = left })
+grown_kept v asked right left s t u none eo es G H a b = record {
+  entries = before v.entries u.entries;
+  operands = λ n x g. b.operands.keeps n x (a.operands.keeps n x (ap (λ xs. slice_get xs n) eo ∙ g));
+  steps = λ n x g. b.steps.keeps n x (a.steps.keeps n x (ap (λ xs. slice_get xs n) es ∙ g));
+}
+
+pub listed_forms : (o : Ontology) (v : Listing) → IsNormalFor o v →
+    ((n : ℕ) → n < length v.entries → (by : Origin) × ((g : Form) × Has v n by g × IsForm o v.asked g))
+    × ((g : Form) → IsForm o v.asked g → (n : ℕ) × ((by : Origin) × Has v n by g))
+listed_forms o v h = (
+  (λ n l. let e = h.each n l in (e.0, (e.1.0, e.1.1, given_forms o v.asked e.1.0 (e.0, e.1.2)))),
+  (λ g f. let p = forms_given o v.asked g f in let e = h.all p.0 g p.1 in (e.0, (p.0, e.1))),
+)

@@ -1,0 +1,10 @@
+pub mod Marking
+pub mod Adding
+pub mod Giving
+pub mod Pairing
+pub mod Differing
+pub mod Occurrences
+pub mod Marked
+pub mod Grown
+pub mod Asking
+pub mod Naming

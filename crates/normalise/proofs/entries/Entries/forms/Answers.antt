@@ -1,0 +1,7 @@
+use Rattle.std.proofs.Common.{map, sym, ap, ◌∙◌}
+use Rattle.normalise.specs.Entries.{form_in}
+use Rattle.normalise.proofs.Pairing.{forms_paired}
+use Rattle.normalise.proofs.entries.Entries.forms.Goals as goal
+
+pub returns : goal.returns
+returns c = c.deref.ensures.value ∙ sym (forms_paired c.self.inside.forms.items c.self.inside.origins.items c.self.invariant) ∙ ap (map form_in) c.self.view_is

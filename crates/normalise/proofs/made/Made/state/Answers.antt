@@ -1,0 +1,54 @@
+use Rattle.std.proofs.Common.{ℕ, refl, sym, subst}
+use Rattle.axioms.specs.View.{axiom_of, expr_numbers, prop_numbers}
+use Rattle.normal_forms.specs.Forms.{N5}
+use Rattle.normal_forms.specs.Given.{CircleGives, PairGives, subsumed}
+use Rattle.normalise.specs.View.{Adds, From}
+use Rattle.normal_forms.specs.Forms.{Whole, Property, N1, N4, N6, N7, N8, N9}
+use Rattle.normal_forms.specs.Given.{AxiomGives}
+use Rattle.axioms.specs.Numbered.{thing}
+use Rattle.normalise.proofs.made.Made.state.Goals as goal
+
+pub returns-in_ok-add-in-SubClass : goal.returns-in_ok-add-in-SubClass
+returns-in_ok-add-in-SubClass c =
+    subst (λ a. Adds c.args.self.now c.add.new.self (From c.args.origin (AxiomGives (axiom_of a)))) (sym c.in-SubClass.is)
+    (c.in_ok-add-in-SubClass.ensures (N1 (Whole c.in-SubClass.sub.0) (Whole c.in-SubClass.sup.0)) (Whole c.in-SubClass.sub.0, Whole c.in-SubClass.sup.0, refl, refl, refl))
+
+pub returns-in_ok-circle-in-EquivalentClasses : goal.returns-in_ok-circle-in-EquivalentClasses
+returns-in_ok-circle-in-EquivalentClasses c =
+    subst (λ a. Adds c.args.self.now c.circle.new.self (From c.args.origin (AxiomGives (axiom_of a)))) (sym c.in-EquivalentClasses.is)
+    (subst (λ xs. Adds c.args.self.now c.circle.new.self (From c.args.origin (λ g. (n : ℕ) × CircleGives subsumed (expr_numbers xs) n g))) c.deref.ensures.value c.in_ok-circle-in-EquivalentClasses.ensures)
+
+pub returns-in_ok-disjoint-in-DisjointClasses : goal.returns-in_ok-disjoint-in-DisjointClasses
+returns-in_ok-disjoint-in-DisjointClasses c =
+    subst (λ a. Adds c.args.self.now c.disjoint.new.self (From c.args.origin (AxiomGives (axiom_of a)))) (sym c.in-DisjointClasses.is)
+    (subst (λ xs. Adds c.args.self.now c.disjoint.new.self (From c.args.origin (λ g. (m : ℕ) × ((n : ℕ) × PairGives (expr_numbers xs) m n g)))) c.deref-in-DisjointClasses.ensures.value c.in_ok-disjoint-in-DisjointClasses.ensures)
+
+pub returns-in_ok-property_circle-in-EquivalentProperties : goal.returns-in_ok-property_circle-in-EquivalentProperties
+returns-in_ok-property_circle-in-EquivalentProperties c =
+    subst (λ a. Adds c.args.self.now c.property_circle.new.self (From c.args.origin (AxiomGives (axiom_of a)))) (sym c.in-EquivalentProperties.is)
+    (subst (λ xs. Adds c.args.self.now c.property_circle.new.self (From c.args.origin (λ g. (n : ℕ) × CircleGives N5 (prop_numbers xs) n g))) c.deref-in-EquivalentProperties.ensures.value c.in_ok-property_circle-in-EquivalentProperties.ensures)
+
+pub returns-in_ok-add-in-Domain : goal.returns-in_ok-add-in-Domain
+returns-in_ok-add-in-Domain c =
+    subst (λ a. Adds c.args.self.now c.add-in-Domain.new.self (From c.args.origin (AxiomGives (axiom_of a)))) (sym c.in-Domain.is)
+    (c.in_ok-add-in-Domain.ensures (N4 c.in-Domain.prop.0 (Whole thing) (Whole c.in-Domain.class.0)) (Whole thing, Whole c.in-Domain.class.0, refl, refl, refl))
+
+pub returns-in_ok-add-in-Transitive : goal.returns-in_ok-add-in-Transitive
+returns-in_ok-add-in-Transitive c =
+    subst (λ a. Adds c.args.self.now c.add-in-Transitive.new.self (From c.args.origin (AxiomGives (axiom_of a)))) (sym c.in-Transitive.is)
+    (c.in_ok-add-in-Transitive.ensures (N6 (Property c.in-Transitive.prop.0) (Property c.in-Transitive.prop.0) (Property c.in-Transitive.prop.0)) (Property c.in-Transitive.prop.0, Property c.in-Transitive.prop.0, Property c.in-Transitive.prop.0, refl, refl, refl, refl))
+
+pub returns-in_ok-add-in-Reflexive : goal.returns-in_ok-add-in-Reflexive
+returns-in_ok-add-in-Reflexive c =
+    subst (λ a. Adds c.args.self.now c.add-in-Reflexive.new.self (From c.args.origin (AxiomGives (axiom_of a)))) (sym c.in-Reflexive.is)
+    (c.in_ok-add-in-Reflexive.ensures (N7 c.in-Reflexive.prop.0) refl)
+
+pub returns-in_ok-add-in-ClassAssertion : goal.returns-in_ok-add-in-ClassAssertion
+returns-in_ok-add-in-ClassAssertion c =
+    subst (λ a. Adds c.args.self.now c.add-in-ClassAssertion.new.self (From c.args.origin (AxiomGives (axiom_of a)))) (sym c.in-ClassAssertion.is)
+    (c.in_ok-add-in-ClassAssertion.ensures (N8 c.in-ClassAssertion.individual.0 (Whole c.in-ClassAssertion.class.0)) (Whole c.in-ClassAssertion.class.0, refl, refl))
+
+pub returns-in_ok-add-in-PropertyAssertion : goal.returns-in_ok-add-in-PropertyAssertion
+returns-in_ok-add-in-PropertyAssertion c =
+    subst (λ a. Adds c.args.self.now c.add-in-PropertyAssertion.new.self (From c.args.origin (AxiomGives (axiom_of a)))) (sym c.in-PropertyAssertion.is)
+    (c.in_ok-add-in-PropertyAssertion.ensures (N9 c.in-PropertyAssertion.source.0 c.in-PropertyAssertion.prop.0 c.in-PropertyAssertion.target.0) refl)

@@ -1,0 +1,5 @@
+use Rattle.normalise.specs.Growing.{FreshTo}
+use Rattle.normalise.proofs.new_marks.fresh.Given as goal
+
+abbrev pub invariant-loop-k : goal.invariant-loop-k
+invariant-loop-k l = FreshTo l.now l.before l.marks.items l.k

@@ -1,0 +1,10 @@
+use Rattle.std.proofs.Common.{subst}
+use Rattle.axioms.specs.View.{expr_numbers}
+use Rattle.normal_forms.specs.Occurring.{AtLeft}
+use Rattle.normalise.specs.Marks.{Marks}
+use Rattle.normal_forms.specs.Occurring.{AtSome}
+use Rattle.normalise.proofs.Occurrences.{occurring}
+use Rattle.normalise.proofs.occurring.mark_occurring_left.Goals as goal
+
+pub returns : goal.returns
+returns c = occurring AtLeft c.args.ontology.now (expr_numbers c.args.asked.now) c.args.marks.now c.mark_axioms_left.new.marks c.mark_all.new.marks c.close.new.marks c.requires.within c.requires.empty (subst (λ axioms. Marks c.args.marks.now c.mark_axioms_left.new.marks (AtSome AtLeft axioms)) c.axioms.ensures c.mark_axioms_left.ensures) c.mark_all.ensures c.close.ensures

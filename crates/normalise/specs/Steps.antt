@@ -1,0 +1,76 @@
+-- What single steps of the code give.
+use Rattle.std.specs.Prelude.{◌≡◌, ℕ, ◌+◌, ◌<◌, ◌≤◌, ◌⊎◌, Bool, true, List, length, take, slice_get, Some}
+use Rattle.axioms.specs.Numbered.{Axiom, Node, Class, And, Exists, EquivalentClasses, DisjointClasses, EquivalentProperties}
+use Rattle.axioms.specs.WellFormed.{AreDistinct}
+use Rattle.axioms.specs.declared.ids.ExprId.{ExprId}
+use Rattle.normal_forms.specs.declared.forms.Class2 as code_class
+use Rattle.normal_forms.specs.declared.forms.PropId2 as code_property
+use Rattle.normal_forms.specs.declared.forms.Origin.{Origin}
+use Rattle.normal_forms.specs.declared.forms.Origin.TheVariants as origins
+use Rattle.normal_forms.specs.Forms.{Form, Whole, Property, N1, first_of, first_steps}
+use Rattle.normal_forms.specs.Given.{AndGives, AxiomGives, ChainGives, LeftGives, RightGives}
+use Rattle.normalise.specs.declared.made.Made.{Made}
+use Rattle.normalise.specs.Marks.{IsMarked}
+use Rattle.normalise.specs.View.{Adds, From, Lengthens, SaysClass, SaysProperty, StartsClass, StartsProperty}
+
+abbrev pub BelowOperand : List ℕ → ℕ → ℕ → Form → Type 0
+BelowOperand ds e n g = (d : ℕ) × (slice_get ds n ≡ Some d) × (g ≡ N1 (Whole e) (Whole d))
+
+-- no operand stands twice
+abbrev pub OperandsDiffer : Axiom → Type 0
+OperandsDiffer (EquivalentClasses cs) = AreDistinct cs
+OperandsDiffer (DisjointClasses cs) = AreDistinct cs
+OperandsDiffer (EquivalentProperties rs) = AreDistinct rs
+OperandsDiffer _ = Unit {0}
+
+abbrev pub PartsDiffer : Node → Type 0
+PartsDiffer (Class c) = Unit {0}
+PartsDiffer (And ds) = AreDistinct ds
+PartsDiffer (Exists r c) = Unit {0}
+
+-- c is the class of the first k + 1 operands; t is s with that in its lists
+pub record MoreOperands (s t : Made) (ds : List ℕ) (e k : ℕ) (c : code_class.Class2) : Type 0 where
+  pub entries : t.entries ≡ s.entries
+  pub steps : t.steps ≡ s.steps
+  pub operands : Lengthens s.operands t.operands
+  pub starts : k + 1 < length ds → StartsClass t.operands c (take (k + 1) ds)
+  pub says : SaysClass t.operands c (first_of ds e (k + 1))
+
+-- .. and with its form
+pub record OperandStep (s t : Made) (ds : List ℕ) (e k : ℕ) (origin : Origin) (c : code_class.Class2) : Type 0 where
+  pub starts : k + 1 < length ds → StartsClass t.operands c (take (k + 1) ds)
+  pub adds : Adds s t (From origin (AndGives ds e k))
+
+-- likewise of a chain
+pub record MoreSteps (s t : Made) (rs : List ℕ) (whole k : ℕ) (q : code_property.PropId2) : Type 0 where
+  pub entries : t.entries ≡ s.entries
+  pub operands : t.operands ≡ s.operands
+  pub steps : Lengthens s.steps t.steps
+  pub starts : k + 1 < length rs → StartsProperty t.steps q (take (k + 1) rs)
+  pub says : SaysProperty t.steps q (first_steps rs (Property whole) (k + 1))
+
+pub record ChainStep (s t : Made) (rs : List ℕ) (whole k : ℕ) (origin : Origin) (q : code_property.PropId2) : Type 0 where
+  pub starts : k + 1 < length rs → StartsProperty t.steps q (take (k + 1) rs)
+  pub adds : Adds s t (From origin (ChainGives rs whole k))
+
+-- what the expression gives on these sides
+abbrev pub SideGives : Node → ExprId → Bool → Bool → Origin → Form → Type 0
+SideGives node whole right left = From (origins.Expr whole) (λ g. ((right ≡ true) × RightGives whole.0 node g) ⊎ ((left ≡ true) × LeftGives whole.0 node g))
+
+-- what F says of a place from one on and below another
+abbrev pub Within : (ℕ → Origin → Form → Type 0) → ℕ → ℕ → Origin → Form → Type 0
+Within F from k o g = (n : ℕ) × (from ≤ n) × (n < k) × F n o g
+
+-- what the n-th expression gives where it is marked
+abbrev pub ExpressedAt : List Node → List Bool → List Bool → ℕ → Origin → Form → Type 0
+ExpressedAt nodes right left n o g = (node : Node) × (slice_get nodes n ≡ Some node) × (o ≡ origins.Expr (record { 0 = n })) × ((IsMarked right n × RightGives n node g) ⊎ (IsMarked left n × LeftGives n node g))
+
+abbrev pub ExpressedTo : List Node → List Bool → List Bool → ℕ → Origin → Form → Type 0
+ExpressedTo nodes right left k = Within (ExpressedAt nodes right left) 0 k
+
+-- what the axiom gives that stands at that place
+abbrev pub StatedAt : List Axiom → ℕ → Origin → Form → Type 0
+StatedAt axioms n o g = (a : Axiom) × (slice_get axioms n ≡ Some a) × (o ≡ origins.Axiom (n + 1)) × AxiomGives a g
+
+abbrev pub StatedFrom : List Axiom → ℕ → ℕ → Origin → Form → Type 0
+StatedFrom axioms from k = Within (StatedAt axioms) from k

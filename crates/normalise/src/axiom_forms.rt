@@ -1,0 +1,157 @@
+//! The forms of axioms.
+ghost use Rattle.std.specs.Prelude.{◌≡◌, ℕ, ◌+◌, ◌<◌, ◌≤◌, OnOk, length, map, slice_get, Some};
+ghost use Rattle.axioms.specs.Numbered.{Axiom as Stated, SubProperty};
+ghost use Rattle.axioms.specs.View.{axiom_of, expr_numbers, prop_numbers};
+ghost use Rattle.axioms.specs.WellFormed.{AreDistinct};
+ghost use Rattle.normal_forms.specs.declared.forms.Origin.TheVariants as origins;
+ghost use Rattle.normal_forms.specs.Forms.{N5};
+ghost use Rattle.normal_forms.specs.Given.{AxiomGives, ChainGives, CircleGives, PairGives, subsumed};
+ghost use Rattle.normalise.specs.Steps.{OperandsDiffer, StatedFrom};
+ghost use Rattle.normalise.specs.View.{Adds, From};
+
+use crate::lists::{expr_at, next_in_circle, prop_at};
+use crate::made::Made;
+use axioms::{Axiom, ExprId, Memory, PropId};
+use normal_forms::{Class2, Form, Origin, PropId2};
+
+impl Made {
+    // The k-th class of a circle is below the next.
+    fn circle_step(&mut self, classes: &[ExprId], k: usize, origin: Origin) -> Result<(), Memory>
+        requires { k < length classes.now }
+        ensures { OnOk result (Adds self.old self.new (From origin (CircleGives subsumed (expr_numbers classes.now) k))) }
+    {
+        let this = expr_at(classes, k);
+        let next = expr_at(classes, next_in_circle(k, classes.len()));
+        self.add(Form::N1(Class2::Expr(this), Class2::Expr(next)), origin)?;
+        Ok(())
+    }
+
+    // Each class of a circle is below the next.
+    fn circle(&mut self, classes: &[ExprId], origin: Origin) -> Result<(), Memory>
+        requires { AreDistinct (expr_numbers classes.now) }
+        ensures { OnOk result (Adds self.old self.new (From origin (λ g. (n : ℕ) × CircleGives subsumed (expr_numbers classes.now) n g))) }
+    {
+        for k in 0..classes.len() {
+            self.circle_step(classes, k, origin)?;
+        }
+        Ok(())
+    }
+
+    // The k-th property of a circle is below the next.
+    fn property_step(&mut self, props: &[PropId], k: usize, origin: Origin) -> Result<(), Memory>
+        requires { k < length props.now }
+        ensures { OnOk result (Adds self.old self.new (From origin (CircleGives N5 (prop_numbers props.now) k))) }
+    {
+        let this = prop_at(props, k);
+        let next = prop_at(props, next_in_circle(k, props.len()));
+        self.add(Form::N5(this, next), origin)?;
+        Ok(())
+    }
+
+    // Each property of a circle is below the next.
+    fn property_circle(&mut self, props: &[PropId], origin: Origin) -> Result<(), Memory>
+        requires { AreDistinct (prop_numbers props.now) }
+        ensures { OnOk result (Adds self.old self.new (From origin (λ g. (n : ℕ) × CircleGives N5 (prop_numbers props.now) n g))) }
+    {
+        for k in 0..props.len() {
+            self.property_step(props, k, origin)?;
+        }
+        Ok(())
+    }
+
+    // Two classes, the second at a later place, have nothing in common.
+    fn pair(&mut self, classes: &[ExprId], m: usize, n: usize, origin: Origin) -> Result<(), Memory>
+        requires later { m < n }
+        requires within { n < length classes.now }
+        ensures { OnOk result (Adds self.old self.new (From origin (PairGives (expr_numbers classes.now) m n))) }
+    {
+        let one = Class2::Expr(expr_at(classes, m));
+        let other = Class2::Expr(expr_at(classes, n));
+        self.add(Form::N2(one, other, Class2::Expr(ExprId::NOTHING)), origin)?;
+        Ok(())
+    }
+
+    // The m-th class has nothing in common with any later one.
+    fn apart(&mut self, classes: &[ExprId], m: usize, origin: Origin) -> Result<(), Memory>
+        requires within { m < length classes.now }
+        requires distinct { AreDistinct (expr_numbers classes.now) }
+        ensures { OnOk result (Adds self.old self.new (From origin (λ g. (n : ℕ) × PairGives (expr_numbers classes.now) m n g))) }
+    {
+        for n in m + 1..classes.len() {
+            self.pair(classes, m, n, origin)?;
+        }
+        Ok(())
+    }
+
+    // No two of the classes have anything in common.
+    fn disjoint(&mut self, classes: &[ExprId], origin: Origin) -> Result<(), Memory>
+        requires { AreDistinct (expr_numbers classes.now) }
+        ensures { OnOk result (Adds self.old self.new (From origin (λ g. (m : ℕ) × ((n : ℕ) × PairGives (expr_numbers classes.now) m n g)))) }
+    {
+        for m in 0..classes.len() {
+            self.apart(classes, m, origin)?;
+        }
+        Ok(())
+    }
+
+    // A chain, or the plain form.
+    fn sub_property(
+        &mut self,
+        steps: &[PropId],
+        whole: PropId,
+        origin: Origin,
+    ) -> Result<(), Memory>
+        ensures { OnOk result (Adds self.old self.new (From origin (AxiomGives (SubProperty (prop_numbers steps.now) whole.0)))) }
+    {
+        if steps.len() == 1 {
+            self.add(Form::N5(prop_at(steps, 0), whole), origin)?;
+            return Ok(());
+        }
+        self.chain(steps, whole, origin)?;
+        Ok(())
+    }
+
+    // What the axiom gives by itself.
+    fn state(&mut self, axiom: &Axiom, origin: Origin) -> Result<(), Memory>
+        requires { OperandsDiffer (axiom_of «axiom».now) }
+        ensures { OnOk result (Adds self.old self.new (From origin (AxiomGives (axiom_of «axiom».now)))) }
+    {
+        match axiom {
+            Axiom::SubClass(sub, sup) => {
+                self.add(Form::N1(Class2::Expr(*sub), Class2::Expr(*sup)), origin)?
+            }
+            Axiom::EquivalentClasses(classes) => self.circle(classes, origin)?,
+            Axiom::DisjointClasses(classes) => self.disjoint(classes, origin)?,
+            Axiom::SubProperty(steps, whole) => self.sub_property(steps, *whole, origin)?,
+            Axiom::EquivalentProperties(props) => self.property_circle(props, origin)?,
+            Axiom::Domain(prop, class) => self.add(
+                Form::N4(*prop, Class2::Expr(ExprId::THING), Class2::Expr(*class)),
+                origin,
+            )?,
+            Axiom::Transitive(prop) => {
+                let r = PropId2::Property(*prop);
+                self.add(Form::N6(r, r, r), origin)?
+            }
+            Axiom::Reflexive(prop) => self.add(Form::N7(*prop), origin)?,
+            Axiom::ClassAssertion(class, individual) => {
+                self.add(Form::N8(*individual, Class2::Expr(*class)), origin)?
+            }
+            Axiom::PropertyAssertion(prop, source, target) => {
+                self.add(Form::N9(*source, *prop, *target), origin)?
+            }
+        }
+        Ok(())
+    }
+
+    // What the axioms from that place on give, each by itself.
+    pub(crate) fn state_all(&mut self, axioms: &[Axiom], from: usize) -> Result<(), Memory>
+        requires within { from ≤ length axioms.now }
+        requires distinct { (n : ℕ) (a : Stated) → slice_get (map axiom_of axioms.now) n ≡ Some a → OperandsDiffer a }
+        ensures { OnOk result (Adds self.old self.new (StatedFrom (map axiom_of axioms.now) from (length axioms.now))) }
+    {
+        for k in from..axioms.len() {
+            self.state(&axioms[k], Origin::Axiom(k + 1))?;
+        }
+        Ok(())
+    }
+}

@@ -1,0 +1,156 @@
+//! Normal forms of an ontology that grows at its end, and of further expressions.
+ghost use Rattle.std.specs.Prelude.{◌≡◌, ℕ, List, [], ◌∷◌, ◌++◌, ◌↔◌, ◌<◌, ◌≤◌, IfOk, IsTrue, OnErr, OnOk, length, Contains};
+ghost use Rattle.axioms.specs.Growth.{Numbers};
+ghost use Rattle.axioms.specs.Numbered.{Ontology as Numbered};
+ghost use Rattle.axioms.specs.View.{expr_numbers};
+ghost use Rattle.normalise.specs.Joining.{joined};
+ghost use Rattle.normalise.specs.Growing.{Grows, Grown, IsNormalFor};
+ghost use Rattle.normalise.specs.Listing.{Listing};
+
+use crate::made::Made;
+use crate::new_marks::fresh;
+use crate::normal::Normal;
+use crate::occurring::{left_marks, right_marks};
+use axioms::{ExprId, Memory, Ontology};
+use std::alloc::Global;
+use std::hash::RandomState;
+
+// Whether the expression is among them.
+fn is_among(asked: &[ExprId], expr: ExprId) -> bool
+    ensures { IsTrue result ↔ Contains (expr_numbers asked.now) expr.0 }
+{
+    for other in asked {
+        if *other == expr {
+            return true;
+        }
+    }
+    false
+}
+
+// The same expressions.
+fn copied(alloc: Global, asked: &[ExprId]) -> Result<Vec<ExprId>, Memory>
+    ensures { IfOk result (λ v. v.items ≡ asked.now) }
+{
+    let mut all = Vec::new(alloc);
+    all.extend_from_slice(asked)?;
+    Ok(all)
+}
+
+// The same expressions, and this one behind them, where it is not among them.
+fn with_asked(alloc: Global, asked: &[ExprId], expr: ExprId) -> Result<Vec<ExprId>, Memory>
+    ensures { IfOk result (λ v. (n : ℕ) × Numbers (expr_numbers asked.now) expr.0 (expr_numbers v.items) n) }
+{
+    let mut all = copied(alloc, asked)?;
+    if is_among(asked, expr) {
+        return Ok(all);
+    }
+    all.push(expr)?;
+    Ok(all)
+}
+
+/// What is added to forms: further ones, all fresh names, and what takes the place of all else.
+#[derive(Drop)]
+pub(crate) struct More {
+    pub(crate) made: Made,
+    pub(crate) asked: Vec<ExprId>,
+    pub(crate) right: Vec<bool>,
+    pub(crate) left: Vec<bool>,
+}
+
+impl Normal {
+    // What is added where the ontology has grown after axiom `from`, and all of these are asked about.
+    fn more(&self, ontology: &Ontology, from: usize, asked: Vec<ExprId>) -> Result<More, Memory>
+        requires { from ≤ length ontology.now.axioms }
+        ensures asked { IfOk result (λ m. m.asked.items ≡ asked.items) }
+        ensures kept { IfOk result (λ m. Grown self.now (joined self.now m)) }
+        ensures forms { IfOk result (λ m. (o : Numbered) → IsNormalFor o self.now → Grows o ontology.now from
+            → ((e : ℕ) → Contains self.now.asked e → Contains (expr_numbers asked.items) e) → IsNormalFor ontology.now (joined self.now m)) }
+    {
+        ontology.well_formed();
+        ontology.bounded();
+        let right = right_marks(self.alloc, ontology, &asked)?;
+        let left = left_marks(self.alloc, ontology, &asked)?;
+        let fresh_right = fresh(self.alloc, &right, &self.right)?;
+        let fresh_left = fresh(self.alloc, &left, &self.left)?;
+        let mut made = self.made.begun(self.alloc)?;
+        made.state_all(ontology.axioms(), from)?;
+        made.express_all(ontology, &fresh_right, &fresh_left)?;
+        Ok(More {
+            made,
+            asked,
+            right,
+            left,
+        })
+    }
+
+    // Adds it. The forms go behind the others, for which room is made before anything changes.
+    fn join(&mut self, more: More) -> Result<(), Memory>
+        ensures ok { OnOk result (self.new ≡ joined self.old more) }
+        ensures err { OnErr result (self.new ≡ self.old) }
+    {
+        let More {
+            made,
+            asked,
+            right,
+            left,
+        } = more;
+        self.made.entries.join(&made.entries)?;
+        self.made.operands = made.operands;
+        self.made.steps = made.steps;
+        self.asked = asked;
+        self.right = right;
+        self.left = left;
+        Ok(())
+    }
+
+    /// Adds the forms of the axioms after `from`, and of what occurs in them and did not before. The ontology is that of these forms,
+    /// grown at the end after axiom `from`. Forms and fresh names keep their numbers.
+    ///
+    /// # Errors
+    ///
+    /// `Memory` where memory was refused, or there are 2^32 - 1 fresh names of a kind. Then nothing changes.
+    pub fn extend(&mut self, ontology: &Ontology, from: usize) -> Result<(), Memory>
+        requires { from ≤ length ontology.now.axioms }
+        ensures ok { OnOk result ((o : Numbered) → IsNormalFor o self.old → Grows o ontology.now from → IsNormalFor ontology.now self.new) }
+        ensures asked { self.new.asked ≡ self.old.asked }
+        ensures kept { Grown self.old self.new }
+        ensures err { OnErr result (self.new ≡ self.old) }
+    {
+        let asked = copied(self.alloc, &self.asked)?;
+        let more = self.more(ontology, from, asked)?;
+        self.join(more)?;
+        Ok(())
+    }
+
+    /// Adds the forms of an expression that is asked about, as one that occurs right and left. The ontology is that of these forms, which
+    /// may have further expressions. Forms and fresh names keep their numbers.
+    ///
+    /// # Errors
+    ///
+    /// `Memory` where memory was refused, or there are 2^32 - 1 fresh names of a kind. Then nothing changes.
+    pub fn ask(&mut self, ontology: &Ontology, expr: ExprId) -> Result<(), Memory>
+        ensures ok { OnOk result ((o : Numbered) → IsNormalFor o self.old → Grows o ontology.now (length ontology.now.axioms) → IsNormalFor ontology.now self.new) }
+        ensures asked { OnOk result ((n : ℕ) × Numbers self.old.asked expr.0 self.new.asked n) }
+        ensures kept { Grown self.old self.new }
+        ensures err { OnErr result (self.new ≡ self.old) }
+    {
+        let asked = with_asked(self.alloc, &self.asked, expr)?;
+        let more = self.more(ontology, ontology.axioms().len(), asked)?;
+        self.join(more)?;
+        Ok(())
+    }
+}
+
+/// The normal forms of the ontology.
+///
+/// # Errors
+///
+/// `Memory` where memory was refused, or there are 2^32 - 1 fresh names of a kind.
+pub fn normalise(alloc: Global, state: RandomState, ontology: &Ontology) -> Result<Normal, Memory>
+    ensures forms { IfOk result (λ n. IsNormalFor ontology.now n) }
+    ensures asked { IfOk result (λ n. n.asked ≡ []) }
+{
+    let mut normal = Normal::empty(alloc, state);
+    normal.extend(ontology, 0)?;
+    Ok(normal)
+}

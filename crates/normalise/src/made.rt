@@ -1,0 +1,71 @@
+//! A list of forms that grows, with its tables of beginnings.
+ghost use Rattle.std.specs.Prelude.{◌≡◌, [], IfOk, OnOk};
+ghost use Rattle.normal_forms.specs.Forms.{Form as Formed};
+ghost use Rattle.normalise.specs.View.{Adds, IsOne, Says};
+
+use crate::entries::{Entries, Entry};
+use axioms::{ExprId, Memory, PropId};
+use beginnings::Beginnings;
+use normal_forms::{Form, Origin};
+use std::alloc::Global;
+use std::hash::RandomState;
+
+/// Forms, each with what gave it, and the lists that their fresh names stand for.
+#[derive(Drop)]
+pub(crate) struct Made {
+    pub(crate) entries: Entries,
+    pub(crate) operands: Beginnings<ExprId>,
+    pub(crate) steps: Beginnings<PropId>,
+}
+
+impl Made {
+    // No forms.
+    pub(crate) fn new(alloc: Global, state: RandomState) -> Made
+        ensures entries { result.entries ≡ [] }
+        ensures operands { result.operands ≡ [] }
+        ensures steps { result.steps ≡ [] }
+    {
+        Made {
+            entries: Entries::new(alloc),
+            operands: Beginnings::new(alloc, state),
+            steps: Beginnings::new(alloc, state),
+        }
+    }
+
+    // The same forms.
+    pub(crate) fn copy(&self, alloc: Global) -> Result<Made, Memory>
+        ensures { IfOk result (λ m. m ≡ self.now) }
+    {
+        let entries = self.entries.copy(alloc)?;
+        let operands = self.operands.copy(alloc)?;
+        let steps = self.steps.copy(alloc)?;
+        Ok(Made {
+            entries,
+            operands,
+            steps,
+        })
+    }
+
+    // No forms, with the same fresh names.
+    pub(crate) fn begun(&self, alloc: Global) -> Result<Made, Memory>
+        ensures entries { IfOk result (λ m. m.entries ≡ []) }
+        ensures operands { IfOk result (λ m. m.operands ≡ self.now.operands) }
+        ensures steps { IfOk result (λ m. m.steps ≡ self.now.steps) }
+    {
+        let operands = self.operands.copy(alloc)?;
+        let steps = self.steps.copy(alloc)?;
+        Ok(Made {
+            entries: Entries::new(alloc),
+            operands,
+            steps,
+        })
+    }
+
+    // Adds a form.
+    pub(crate) fn add(&mut self, form: Form, origin: Origin) -> Result<(), Memory>
+        ensures { OnOk result ((g : Formed) → Says self.old.operands self.old.steps form g → Adds self.old self.new (IsOne origin g)) }
+    {
+        self.entries.push(Entry { form, origin })?;
+        Ok(())
+    }
+}

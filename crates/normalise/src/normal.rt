@@ -1,0 +1,118 @@
+//! The normal forms of an ontology.
+ghost use Rattle.std.specs.Prelude.{◌≡◌, ◌<◌, ◌^◌, length, IfOk, map, option_map, slice_get, [], false, true, Bool, IsTrue, ◌↔◌, Contains};
+ghost use Rattle.axioms.specs.View.{expr_numbers, prop_numbers};
+ghost use Rattle.normalise.specs.Entries.{form_in, origin_in};
+
+use crate::made::Made;
+use axioms::{ExprId, Memory, PropId};
+use normal_forms::{Form, Origin};
+use std::alloc::Global;
+use std::hash::RandomState;
+use std::marker::Model;
+
+/// The normal forms of an ontology and of expressions that are asked about, each with what gave it.
+#[derive(Drop)]
+pub struct Normal {
+    pub(crate) alloc: Global,
+    pub(crate) made: Made,
+    pub(crate) asked: Vec<ExprId>,
+    // of each expression, whether it occurs right, and left
+    pub(crate) right: Vec<bool>,
+    pub(crate) left: Vec<bool>,
+}
+
+impl Model for Normal {
+    ghost use Rattle.axioms.specs.View.{expr_numbers};
+    ghost use Rattle.normalise.specs.Listing.{Listing};
+
+    ghost Value = { Listing };
+
+    ghost view = { λ n. record { entries = n.made.entries; operands = n.made.operands; steps = n.made.steps; asked = expr_numbers n.asked.items; right = n.right.items; left = n.left.items } };
+}
+
+impl Normal {
+    // No forms.
+    pub(crate) fn empty(alloc: Global, state: RandomState) -> Normal
+        ensures { result ≡ record { entries = []; operands = []; steps = []; asked = []; right = []; left = [] } }
+    {
+        Normal {
+            alloc,
+            made: Made::new(alloc, state),
+            asked: Vec::new(alloc),
+            right: Vec::new(alloc),
+            left: Vec::new(alloc),
+        }
+    }
+
+    /// The forms, by number from 0.
+    pub fn forms(&self) -> &[Form]
+        ensures { result.now ≡ map form_in self.now.entries }
+    {
+        self.made.entries.forms()
+    }
+
+    /// What gave the form of that number.
+    pub fn origin(&self, number: usize) -> Option<Origin>
+        ensures { result ≡ option_map origin_in (slice_get self.now.entries number) }
+    {
+        self.made.entries.origin(number)
+    }
+
+    /// The operands that the fresh name [`Class2::Partial`](normal_forms::Class2::Partial) of that number stands for.
+    pub fn operands(&self, number: usize) -> Option<&[ExprId]>
+        ensures { option_map (λ s. expr_numbers s.now) result ≡ slice_get self.now.operands number }
+    {
+        self.made.operands.get(number)
+    }
+
+    /// The properties that the fresh name [`PropId2::Partial`](normal_forms::PropId2::Partial) of that number stands for.
+    pub fn steps(&self, number: usize) -> Option<&[PropId]>
+        ensures { option_map (λ s. prop_numbers s.now) result ≡ slice_get self.now.steps number }
+    {
+        self.made.steps.get(number)
+    }
+
+    /// How many fresh names of beginnings of intersections there are, fewer than 2^32.
+    pub fn partial_intersections(&self) -> usize
+        ensures count { result ≡ length self.now.operands }
+        ensures small { result < 2 ^ 32 }
+    {
+        self.made.operands.len()
+    }
+
+    /// How many fresh names of beginnings of chains there are, fewer than 2^32.
+    pub fn partial_chains(&self) -> usize
+        ensures count { result ≡ length self.now.steps }
+        ensures small { result < 2 ^ 32 }
+    {
+        self.made.steps.len()
+    }
+
+    /// The expressions that [`Normal::ask`] was given, each once, in order.
+    pub fn asked(&self) -> &[ExprId]
+        ensures { expr_numbers result.now ≡ self.now.asked }
+    {
+        &self.asked
+    }
+
+    /// The same forms, with the same numbers.
+    ///
+    /// # Errors
+    ///
+    /// `Memory` where memory was refused.
+    pub fn copy(&self) -> Result<Normal, Memory>
+        ensures { IfOk result (λ n. n ≡ self.now) }
+    {
+        let made = self.made.copy(self.alloc)?;
+        let asked = self.asked.clone()?;
+        let right = self.right.clone()?;
+        let left = self.left.clone()?;
+        Ok(Normal {
+            alloc: self.alloc,
+            made,
+            asked,
+            right,
+            left,
+        })
+    }
+}
