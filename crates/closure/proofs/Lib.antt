@@ -1,0 +1,4 @@
+pub mod Facts
+pub mod LeanStates
+pub mod Runs
+pub mod Said

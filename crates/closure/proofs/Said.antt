@@ -1,0 +1,385 @@
+-- The facts over numbers say exactly the facts of the closure.
+use Rattle.std.proofs.Common.{◌≡◌, ℕ, List, [], ◌∷◌, slice_get, Some, None, Option, Contains, refl, sym, ap, ◌∙◌, subst}
+use Rattle.std.proofs.lemmas.Option.{same_Some}
+use Rattle.lemmas.proofs.Members.{Contains-from_slice_get, slice_get-from_Contains}
+use Rattle.axioms.specs.Numbered.{Ontology, thing, nothing}
+use Rattle.axioms.specs.declared.ids.ExprId.{ExprId}
+use Rattle.axioms.specs.declared.ids.PropId.{PropId}
+use Rattle.axioms.specs.declared.ids.IndId.{IndId}
+use Rattle.normal_forms.specs.declared.forms.Class2 as code_class
+use Rattle.normal_forms.specs.declared.forms.Class2.TheVariants as classes
+use Rattle.normal_forms.specs.declared.forms.PropId2 as code_property
+use Rattle.normal_forms.specs.declared.forms.PropId2.TheVariants as properties
+use Rattle.normal_forms.specs.declared.forms.Form as code_form
+use Rattle.normal_forms.specs.declared.forms.Form.TheVariants as forms
+use Rattle.normal_forms.specs.Properties as code_below
+use Rattle.normal_forms.specs.Forms.{Class2, Whole, Beginning, Property2, Property, Steps, Form, N1, N2, N3, N4, N5, N6, N7, N8, N9, IsForm}
+use Rattle.facts.specs.declared.contexts.Context as code_context
+use Rattle.facts.specs.declared.contexts.Context.TheVariants as contexts
+use Rattle.facts.specs.declared.contexts.Fact as code_fact
+use Rattle.facts.specs.declared.contexts.Fact.TheVariants as facts
+use Rattle.facts.specs.Closure.{Problem, FromNone, FromOne, FromTwo, Concludes, CarriesBack, IsLoop}
+use Rattle.facts.specs.Closure as numbered
+use Rattle.closure.specs.Closure.{Context, Expression, Individual, Fact, In, Edge, IsRoot, IsContextBy, IsAtOrBelow, Gives, IsFact, AreFacts, given, none, more}
+use Rattle.closure.specs.Said.{Beginnings, SaysClass, whole, beginning, SaysProperty, property, steps, SaysContext, expression, individual, SaysFact, in_context, edge, SaysForm, n1, n2, n3, n4, n5, n6, n7, n8, n9, IsProblemOf}
+
+-- each of the facts says one, in order
+data SayFacts (b : Beginnings) : List code_fact.Fact → List Fact → Type 0 where
+  no_facts : SayFacts b [] []
+  one_more : {f : code_fact.Fact} {g : Fact} {fs : List code_fact.Fact} {gs : List Fact} → SaysFact b f g → SayFacts b fs gs → SayFacts b (f ∷ fs) (g ∷ gs)
+
+-- ---- what is said is one thing
+
+class_one : (b : Beginnings) {a : code_class.Class2} {c d : Class2} → SaysClass b a c → SaysClass b a d → c ≡ d
+class_one b (whole h) (whole k) = ap Whole (sym h ∙ k)
+class_one b (beginning h) (beginning k) = ap Beginning (same_Some _ _ (sym h ∙ k))
+
+property_one : (b : Beginnings) {p : code_property.PropId2} {r s : Property2} → SaysProperty b p r → SaysProperty b p s → r ≡ s
+property_one b (property h) (property k) = ap Property (sym h ∙ k)
+property_one b (steps h) (steps k) = ap Steps (same_Some _ _ (sym h ∙ k))
+
+context_one : {x : code_context.Context} {y z : Context} → SaysContext x y → SaysContext x z → y ≡ z
+context_one (expression h) (expression k) = ap Expression (sym h ∙ k)
+context_one (individual h) (individual k) = ap Individual (sym h ∙ k)
+
+abbrev expr_id : ℕ → ExprId
+expr_id n = record { 0 = n }
+
+abbrev prop_id : ℕ → PropId
+prop_id n = record { 0 = n }
+
+abbrev ind_id : ℕ → IndId
+ind_id n = record { 0 = n }
+
+same_expression : {e f : ExprId} {c : ℕ} → e.0 ≡ c → f.0 ≡ c → e ≡ f
+same_expression h k = ap expr_id (h ∙ sym k)
+
+same_property : {p q : PropId} {r : ℕ} → p.0 ≡ r → q.0 ≡ r → p ≡ q
+same_property h k = ap prop_id (h ∙ sym k)
+
+same_individual : {i j : IndId} {a : ℕ} → i.0 ≡ a → j.0 ≡ a → i ≡ j
+same_individual h k = ap ind_id (h ∙ sym k)
+
+context_same : {x y : code_context.Context} {z : Context} → SaysContext x z → SaysContext y z → x ≡ y
+context_same (expression h) (expression k) = ap contexts.Expr (same_expression h k)
+context_same (individual h) (individual k) = ap contexts.Individual (same_individual h k)
+
+module _ (o : Ontology) (asked : List ℕ) (b : Beginnings) (k : Problem) (h : IsProblemOf o asked b k) where
+  class_same : {a c : code_class.Class2} {d : Class2} → SaysClass b a d → SaysClass b c d → a ≡ c
+  class_same (whole g) (whole l) = ap classes.Expr (same_expression g l)
+  class_same (beginning {n = m} {ds = ds} g) (beginning {n = n} l) = ap classes.Partial (h.distinct_operands m n ds g l)
+
+  property_same : {p q : code_property.PropId2} {r : Property2} → SaysProperty b p r → SaysProperty b q r → p ≡ q
+  property_same (property g) (property l) = ap properties.Property (same_property g l)
+  property_same (steps {n = m} {rs = rs} g) (steps {n = n} l) = ap properties.Partial (h.distinct_steps m n rs g l)
+
+  -- the form of that place says a form
+  said_form : (n : ℕ) (f : code_form.Form) → slice_get k.forms n ≡ Some f → (g : Form) × SaysForm b f g × IsForm o asked g
+  said_form n f at = h.each_form f (Contains-from_slice_get k.forms n f at)
+
+  -- a form is said at some place
+  form_at : (g : Form) → IsForm o asked g → (f : code_form.Form) × (n : ℕ) × (slice_get k.forms n ≡ Some f) × SaysForm b f g
+  form_at g form =
+      let (f, there, says) = h.all_forms g form in
+      let (n, at) = slice_get-from_Contains k.forms f there in
+      (f, n, at, says)
+
+  -- ---- properties below properties
+
+  step_said : (s t : PropId) {p : Property2} {q : Property2} → SaysProperty b (properties.Property s) q → IsAtOrBelow o asked p q → (g : Form) → SaysForm b (forms.N5 s t) g → IsForm o asked g
+      → (r : Property2) × SaysProperty b (properties.Property t) r × IsAtOrBelow o asked p r
+  step_said s t {p} (property at_s) below g (n5 {r' = s'} {s' = t'} from to) form =
+      (Property t', property to, IsAtOrBelow.step s' t' (subst (λ n. IsAtOrBelow o asked p (Property n)) (sym at_s ∙ from) below) form)
+
+  below_said : {p q : code_property.PropId2} {r : Property2} → code_below.IsAtOrBelow k.forms p q → SaysProperty b p r → (s : Property2) × SaysProperty b q s × IsAtOrBelow o asked r s
+  below_said {r = r} code_below.same says = (r, says, IsAtOrBelow.same)
+  below_said (code_below.step s t below there) says =
+      let (q, says_q, below_q) = below_said below says in
+      let (g, says_g, form) = h.each_form (forms.N5 s t) there in
+      step_said s t says_q below_q g says_g form
+
+  step_sayer : {p : code_property.PropId2} {s t : ℕ} (q : code_property.PropId2) → SaysProperty b q (Property s) → code_below.IsAtOrBelow k.forms p q → (f : code_form.Form) → Contains k.forms f → SaysForm b f (N5 s t)
+      → (r : code_property.PropId2) × SaysProperty b r (Property t) × code_below.IsAtOrBelow k.forms p r
+  step_sayer {p} q (property {p = s'} at_s) below f there (n5 {r = s''} {s = t'} from to) =
+      (properties.Property t', property to, code_below.step s'' t' (subst (λ x. code_below.IsAtOrBelow k.forms p (properties.Property x)) (same_property at_s from) below) there)
+
+  below_sayer : {p : code_property.PropId2} {r s : Property2} → IsAtOrBelow o asked r s → SaysProperty b p r → (q : code_property.PropId2) × SaysProperty b q s × code_below.IsAtOrBelow k.forms p q
+  below_sayer {p = p} IsAtOrBelow.same says = (p, says, code_below.same)
+  below_sayer (IsAtOrBelow.step s t below form) says =
+      let (q, says_q, below_q) = below_sayer below says in
+      let (f, there, says_f) = h.all_forms (N5 s t) form in
+      step_sayer q says_q below_q f there says_f
+
+  -- .. between what is said
+  below_as : {p q : code_property.PropId2} {r s : Property2} → code_below.IsAtOrBelow k.forms p q → SaysProperty b p r → SaysProperty b q s → IsAtOrBelow o asked r s
+  below_as {r = r} below says_p says_q =
+      let (s', says_s, below_s) = below_said below says_p in
+      subst (IsAtOrBelow o asked r) (property_one b says_s says_q) below_s
+
+  below_by : {p q : code_property.PropId2} {r s : Property2} → IsAtOrBelow o asked r s → SaysProperty b p r → SaysProperty b q s → code_below.IsAtOrBelow k.forms p q
+  below_by {p = p} below says_p says_q =
+      let (q', says_s, below_q) = below_sayer below says_p in
+      subst (code_below.IsAtOrBelow k.forms p) (property_same says_s says_q) below_q
+
+  -- ---- each fact over numbers says a fact of the closure
+
+  Said : code_fact.Fact → List Fact → Type 0
+  Said f gs = (g : Fact) × SaysFact b f g × Gives o asked gs g
+
+  SaidContext : code_context.Context → List Fact → Type 0
+  SaidContext x gs = (y : Context) × SaysContext x y × IsContextBy o asked gs y
+
+  context_by : {fs : List code_fact.Fact} {gs : List Fact} (x : code_context.Context) → numbered.IsContextBy k fs x → SayFacts b fs gs → SaidContext x gs
+  unfolding SaidContext
+  context_by x by no_facts =
+      let (y, says, root) = h.each_root x by in
+      (y, says, IsContextBy.root root)
+  context_by x by (one_more (edge {x' = y} {y' = z} {r' = r} says_x says_r says_y) no_facts) =
+      (z, subst (λ w. SaysContext w z) by says_y, IsContextBy.target y r)
+  context_by x by (one_more (in_context says_a says_x) no_facts) = absurd by
+  context_by x by (one_more says (one_more also rest)) = absurd by
+
+  itself_said : {gs : List Fact} (e : ExprId) (y : Context) → SaysContext (contexts.Expr e) y → IsContextBy o asked gs y → Said (facts.In (classes.Expr e) (contexts.Expr e)) gs
+  unfolding Said
+  itself_said e y (expression {c = c} is) by = (In (Whole c) (Expression c), in_context (whole is) (expression is), Gives.in_itself by)
+
+  from_none : (form : code_form.Form) (f : code_fact.Fact) → FromNone form f → (g : Form) → SaysForm b form g → IsForm o asked g → Said f []
+  unfolding Said
+  from_none (forms.N8 i a) f is g (n8 {i' = i'} {a' = a'} says_i says_a) form =
+      (In a' (Individual i'), subst (λ x. SaysFact b x (In a' (Individual i'))) (sym is) (in_context says_a (individual says_i)), Gives.asserted form)
+  from_none (forms.N9 i r j) f is g (n9 {i' = i'} {j' = j'} {r' = r'} says_i says_r says_j) form =
+      let new : Fact = Edge (Individual i') (Property r') (Individual j') in
+      (new, subst (λ x. SaysFact b x new) (sym is) (edge (individual says_i) (property says_r) (individual says_j)), Gives.asserted_edge form)
+  from_none (forms.N1 _ _) f is g says form = absurd is
+  from_none (forms.N2 _ _ _) f is g says form = absurd is
+  from_none (forms.N3 _ _ _) f is g says form = absurd is
+  from_none (forms.N4 _ _ _) f is g says form = absurd is
+  from_none (forms.N5 _ _) f is g says form = absurd is
+  from_none (forms.N6 _ _ _) f is g says form = absurd is
+  from_none (forms.N7 _) f is g says form = absurd is
+
+  from_one : (form : code_form.Form) (first new : code_fact.Fact) → FromOne form first new → (g : Form) → SaysForm b form g → IsForm o asked g → (f : Fact) → SaysFact b first f → Said new (f ∷ [])
+  unfolding Said
+  from_one (forms.N1 a c) (facts.In d x) new (same, is) g (n1 {a' = a'} {c' = c'} says_a says_c) form f (in_context {a' = d'} {x' = x'} says_d says_x) =
+      let equal : a' ≡ d' = class_one b (subst (λ e. SaysClass b e a') (sym same) says_a) says_d in
+      (In c' x', subst (λ y. SaysFact b y (In c' x')) (sym is) (in_context says_c says_x), Gives.subsumed d' (subst (λ e. IsForm o asked (N1 e c')) equal form))
+  from_one (forms.N3 a r e) (facts.In d x) new (same, is) g (n3 {a' = a'} {r' = r'} {e' = e'} says_a says_r says_e) form f (in_context {a' = d'} {x' = x'} says_d says_x) =
+      let equal : a' ≡ d' = class_one b (subst (λ c. SaysClass b c a') (sym same) says_a) says_d in
+      let given' : Fact = Edge x' (Property r') (Expression e') in
+      (given', subst (λ y. SaysFact b y given') (sym is) (edge says_x (property says_r) (expression says_e)), Gives.successor d' (subst (λ c. IsForm o asked (N3 c r' e')) equal form))
+  from_one (forms.N1 _ _) (facts.Edge _ _ _) new is g says form f says_f = absurd is
+  from_one (forms.N3 _ _ _) (facts.Edge _ _ _) new is g says form f says_f = absurd is
+  from_one (forms.N2 _ _ _) first new is g says form f says_f = absurd is
+  from_one (forms.N4 _ _ _) first new is g says form f says_f = absurd is
+  from_one (forms.N5 _ _) first new is g says form f says_f = absurd is
+  from_one (forms.N6 _ _ _) first new is g says form f says_f = absurd is
+  from_one (forms.N7 _) first new is g says form f says_f = absurd is
+  from_one (forms.N8 _ _) first new is g says form f says_f = absurd is
+  from_one (forms.N9 _ _ _) first new is g says form f says_f = absurd is
+
+  from_two : (form : code_form.Form) (first second new : code_fact.Fact) → FromTwo k form first second new → (g : Form) → SaysForm b form g → IsForm o asked g → (f l : Fact) → SaysFact b first f → SaysFact b second l → Said new (f ∷ l ∷ [])
+  unfolding Said
+  from_two (forms.N2 a c d) (facts.In e x) (facts.In j y) new (same_a, same_c, same_x, is) g (n2 {a' = a'} {c' = c'} {d' = d'} says_a says_c says_d) form f l (in_context {a' = e'} {x' = x'} says_e says_x) (in_context {a' = j'} {x' = y'} says_j says_y) =
+      let first_is : a' ≡ e' = class_one b (subst (λ z. SaysClass b z a') (sym same_a) says_a) says_e in
+      let second_is : c' ≡ j' = class_one b (subst (λ z. SaysClass b z c') (sym same_c) says_c) says_j in
+      let context_is : x' ≡ y' = context_one says_x (subst (λ z. SaysContext z y') (sym same_x) says_y) in
+      let form' : IsForm o asked (N2 e' j' d') = subst (λ z. IsForm o asked (N2 e' z d')) second_is (subst (λ z. IsForm o asked (N2 z c' d')) first_is form) in
+      (In d' x', subst (λ z. SaysFact b z (In d' x')) (sym is) (in_context says_d says_x), subst (λ z. Gives o asked (In e' x' ∷ In j' z ∷ []) (In d' x')) context_is (Gives.both e' j' form'))
+  from_two (forms.N4 r a c) (facts.Edge x q y) (facts.In d z) new (below, same_a, same_y, is) g (n4 {a' = a'} {c' = c'} {r' = r'} says_r says_a says_c) form f l (edge {x' = x'} {y' = y'} {r' = q'} says_x says_q says_y) (in_context {a' = d'} {x' = z'} says_d says_z) =
+      let class_is : a' ≡ d' = class_one b (subst (λ w. SaysClass b w a') (sym same_a) says_a) says_d in
+      let context_is : y' ≡ z' = context_one says_y (subst (λ w. SaysContext w z') (sym same_y) says_z) in
+      let form' : IsForm o asked (N4 r' d' c') = subst (λ w. IsForm o asked (N4 r' w c')) class_is form in
+      (In c' x', subst (λ w. SaysFact b w (In c' x')) (sym is) (in_context says_c says_x),
+       subst (λ w. Gives o asked (Edge x' q' y' ∷ In d' w ∷ []) (In c' x')) context_is (Gives.predecessor r' d' q' y' form' (below_as below says_q (property says_r))))
+  from_two (forms.N6 r s t) (facts.Edge x p y) (facts.Edge z q w) new (below_r, below_s, same_y, is) g (n6 {r' = r'} {s' = s'} {t' = t'} says_r says_s says_t) form f l (edge {x' = x'} {y' = y'} {r' = p'} says_x says_p says_y) (edge {x' = z'} {y' = w'} {r' = q'} says_z says_q says_w) =
+      let context_is : y' ≡ z' = context_one says_y (subst (λ v. SaysContext v z') (sym same_y) says_z) in
+      let new' : Fact = Edge x' t' w' in
+      (new', subst (λ v. SaysFact b v new') (sym is) (edge says_x says_t says_w),
+       subst (λ v. Gives o asked (Edge x' p' y' ∷ Edge v q' w' ∷ []) new') context_is (Gives.chained r' s' p' q' y' form (below_as below_r says_p says_r) (below_as below_s says_q says_s)))
+  from_two (forms.N2 _ _ _) (facts.Edge _ _ _) second new is g says form f l says_f says_l = absurd is
+  from_two (forms.N2 _ _ _) (facts.In _ _) (facts.Edge _ _ _) new is g says form f l says_f says_l = absurd is
+  from_two (forms.N4 _ _ _) (facts.In _ _) second new is g says form f l says_f says_l = absurd is
+  from_two (forms.N4 _ _ _) (facts.Edge _ _ _) (facts.Edge _ _ _) new is g says form f l says_f says_l = absurd is
+  from_two (forms.N6 _ _ _) (facts.In _ _) second new is g says form f l says_f says_l = absurd is
+  from_two (forms.N6 _ _ _) (facts.Edge _ _ _) (facts.In _ _) new is g says form f l says_f says_l = absurd is
+  from_two (forms.N1 _ _) first second new is g says form f l says_f says_l = absurd is
+  from_two (forms.N3 _ _ _) first second new is g says form f l says_f says_l = absurd is
+  from_two (forms.N5 _ _) first second new is g says form f l says_f says_l = absurd is
+  from_two (forms.N7 _) first second new is g says form f l says_f says_l = absurd is
+  from_two (forms.N8 _ _) first second new is g says form f l says_f says_l = absurd is
+  from_two (forms.N9 _ _ _) first second new is g says form f l says_f says_l = absurd is
+
+  concluded : {fs : List code_fact.Fact} {gs : List Fact} (form : code_form.Form) (new : code_fact.Fact) → Concludes k form fs new → SayFacts b fs gs → (g : Form) → SaysForm b form g → IsForm o asked g → Said new gs
+  concluded form new is no_facts g says found = from_none form new is g says found
+  concluded form new is (one_more {f = f} {g = l} says_f no_facts) g says found = from_one form f new is g says found l says_f
+  concluded form new is (one_more {f = f} {g = l} says_f (one_more {f = e} {g = m} says_e no_facts)) g says found = from_two form f e new is g says found l m says_f says_e
+  concluded form new is (one_more says_f (one_more says_e (one_more says_d rest))) g says found = absurd is
+
+  carried : {fs : List code_fact.Fact} {gs : List Fact} (new : code_fact.Fact) → SayFacts b fs gs → CarriesBack fs new → Said new gs
+  unfolding Said
+  carried new no_facts is = absurd is
+  carried new (one_more says no_facts) is = absurd is
+  carried new (one_more says (one_more also (one_more more_says rest))) is = absurd is
+  carried new (one_more (in_context _ _) (one_more also no_facts)) is = absurd is
+  carried new (one_more (edge _ _ _) (one_more (edge _ _ _) no_facts)) is = absurd is
+  carried new (one_more (edge {x' = x'} {y' = y'} {r' = r'} says_x says_r says_y) (one_more (in_context {a' = c'} {x' = z'} says_c says_z) no_facts)) (same_c, same_y, is) =
+      let class_is : Whole nothing ≡ c' = class_one b (whole refl) (subst (λ w. SaysClass b w c') same_c says_c) in
+      let context_is : y' ≡ z' = context_one says_y (subst (λ w. SaysContext w z') (sym same_y) says_z) in
+      (In (Whole nothing) x', subst (λ w. SaysFact b w (In (Whole nothing) x')) (sym is) (in_context (whole refl) says_x),
+       subst (λ w. Gives o asked (Edge x' r' y' ∷ In c' w ∷ []) (In (Whole nothing) x')) context_is
+       (subst (λ c. Gives o asked (Edge x' r' y' ∷ In c y' ∷ []) (In (Whole nothing) x')) class_is (Gives.unsatisfiable r' y')))
+
+  looped : {gs : List Fact} (x : code_context.Context) (form : code_form.Form) (new : code_fact.Fact) → IsLoop x form new → (y : Context) → SaysContext x y → IsContextBy o asked gs y → (g : Form) → SaysForm b form g → IsForm o asked g → Said new gs
+  unfolding Said
+  looped x (forms.N7 r) new is y says_x by g (n7 {r' = r'} says_r) form =
+      let loop' : Fact = Edge y (Property r') y in
+      (loop', subst (λ w. SaysFact b w loop') (sym is) (edge says_x (property says_r) says_x), Gives.loop r' form by)
+  looped x (forms.N1 _ _) new is y says_x by g says form = absurd is
+  looped x (forms.N2 _ _ _) new is y says_x by g says form = absurd is
+  looped x (forms.N3 _ _ _) new is y says_x by g says form = absurd is
+  looped x (forms.N4 _ _ _) new is y says_x by g says form = absurd is
+  looped x (forms.N5 _ _) new is y says_x by g says form = absurd is
+  looped x (forms.N6 _ _ _) new is y says_x by g says form = absurd is
+  looped x (forms.N8 _ _) new is y says_x by g says form = absurd is
+  looped x (forms.N9 _ _ _) new is y says_x by g says form = absurd is
+
+  given_said : {condition : ℕ} {place : Option ℕ} {fs : List code_fact.Fact} {gs : List Fact} (f : code_fact.Fact) → numbered.Gives k condition place fs f → SayFacts b fs gs → Said f gs
+  unfolding Said SaidContext
+  given_said f (numbered.in_thing {x = x} by) says =
+      let (y, says_x, by') = context_by x by says in
+      (In (Whole thing) y, in_context (whole refl) says_x, Gives.in_thing by')
+  given_said f (numbered.in_itself {e = e} by) says =
+      let (y, says_x, by') = context_by (contexts.Expr e) by says in
+      itself_said e y says_x by'
+  given_said f (numbered.by_form n form at concludes) says =
+      let (g, says_g, found) = said_form n form at in
+      concluded form f concludes says g says_g found
+  given_said f (numbered.unsatisfiable back) says = carried f says back
+  given_said f (numbered.loop x n form at is by) says =
+      let (g, says_g, found) = said_form n form at in
+      let (y, says_x, by') = context_by x by says in
+      looped x form f is y says_x by' g says_g found
+
+  mutual
+    unfolding Said
+    pub said : (f : code_fact.Fact) → numbered.IsFact k f → (g : Fact) × SaysFact b f g × IsFact o asked g
+    said f (numbered.given condition form older gives are) =
+        let (gs, says, facts') = all_said older are in
+        let (g, says_g, gives') = given_said f gives says in
+        (g, says_g, given gs gives' facts')
+
+    all_said : (fs : List code_fact.Fact) → numbered.AreFacts k fs → (gs : List Fact) × SayFacts b fs gs × AreFacts o asked gs
+    all_said fs numbered.none = ([], no_facts, none)
+    all_said fs (numbered.more {f = f} {facts = rest} fact rest_are) =
+        let (g, says_g, fact') = said f fact in
+        let (gs, says, facts') = all_said rest rest_are in
+        (g ∷ gs, one_more says_g says, more fact' facts')
+
+  -- ---- each fact of the closure is said by a fact over numbers
+
+  Sayer : List code_fact.Fact → Fact → Type 0
+  Sayer fs g = (f : code_fact.Fact) × (condition : ℕ) × (place : Option ℕ) × numbered.Gives k condition place fs f × SaysFact b f g
+
+  context_from : {fs : List code_fact.Fact} {gs : List Fact} (y : Context) → IsContextBy o asked gs y → SayFacts b fs gs → (x : code_context.Context) × SaysContext x y × numbered.IsContextBy k fs x
+  context_from y (IsContextBy.root root) no_facts =
+      let (x, there, says) = h.all_roots y root in
+      (x, says, there)
+  context_from y (IsContextBy.target x r) (one_more (edge {y = y'} says_x says_r says_y) no_facts) = (y', says_y, refl)
+
+  itself_sayer : (fs : List code_fact.Fact) (c : ℕ) (x : code_context.Context) → SaysContext x (Expression c) → numbered.IsContextBy k fs x → Sayer fs (In (Whole c) (Expression c))
+  unfolding Sayer
+  itself_sayer fs c x (expression {e = e} is) by = (facts.In (classes.Expr e) (contexts.Expr e), 1, None, numbered.in_itself by, in_context (whole is) (expression is))
+
+  place_of : (n : ℕ) (form : code_form.Form) → slice_get k.forms n ≡ Some form → (fs : List code_fact.Fact) (f : code_fact.Fact) → Concludes k form fs f → (g : Fact) → SaysFact b f g → Sayer fs g
+  unfolding Sayer
+  place_of n form at fs f is g says = (f, numbered.condition form, Some n, numbered.by_form n form at is, says)
+
+  asserted_by : (i : ℕ) (a : Class2) (n : ℕ) (form : code_form.Form) → slice_get k.forms n ≡ Some form → SaysForm b form (N8 i a) → Sayer [] (In a (Individual i))
+  asserted_by i a n form at (n8 {i = i'} {a = a'} says_i says_a) = place_of n form at _ (facts.In a' (contexts.Individual i')) refl (In a (Individual i)) (in_context says_a (individual says_i))
+
+  edge_asserted_by : (i r j : ℕ) (n : ℕ) (form : code_form.Form) → slice_get k.forms n ≡ Some form → SaysForm b form (N9 i r j) → Sayer [] (Edge (Individual i) (Property r) (Individual j))
+  edge_asserted_by i r j n form at (n9 {i = i'} {j = j'} {r = r'} says_i says_r says_j) =
+      place_of n form at _ (facts.Edge (contexts.Individual i') (properties.Property r') (contexts.Individual j')) refl (Edge (Individual i) (Property r) (Individual j))
+      (edge (individual says_i) (property says_r) (individual says_j))
+
+  subsumed_by : (a c : Class2) (x : Context) (n : ℕ) (form : code_form.Form) → slice_get k.forms n ≡ Some form → SaysForm b form (N1 a c) → (f : code_fact.Fact) → SaysFact b f (In a x) → Sayer (f ∷ []) (In c x)
+  subsumed_by a c x n form at (n1 {c = c'} says_a says_c) f (in_context {x = x'} says_d says_x) =
+      place_of n form at _ (facts.In c' x') (class_same says_d says_a, refl) (In c x) (in_context says_c says_x)
+
+  successor_by : (a : Class2) (r e : ℕ) (x : Context) (n : ℕ) (form : code_form.Form) → slice_get k.forms n ≡ Some form → SaysForm b form (N3 a r e) → (f : code_fact.Fact) → SaysFact b f (In a x) → Sayer (f ∷ []) (Edge x (Property r) (Expression e))
+  successor_by a r e x n form at (n3 {r = r'} {e = e'} says_a says_r says_e) f (in_context {x = x'} says_d says_x) =
+      place_of n form at _ (facts.Edge x' (properties.Property r') (contexts.Expr e')) (class_same says_d says_a, refl) (Edge x (Property r) (Expression e)) (edge says_x (property says_r) (expression says_e))
+
+  both_by : (a c d : Class2) (x : Context) (n : ℕ) (form : code_form.Form) → slice_get k.forms n ≡ Some form → SaysForm b form (N2 a c d) → (f l : code_fact.Fact) → SaysFact b f (In a x) → SaysFact b l (In c x) → Sayer (f ∷ l ∷ []) (In d x)
+  both_by a c d x n form at (n2 {d = d'} says_a says_c says_d) f l (in_context {x = x'} says_e says_x) (in_context {x = y'} says_j says_y) =
+      place_of n form at _ (facts.In d' x') (class_same says_e says_a, class_same says_j says_c, context_same says_x says_y, refl) (In d x) (in_context says_d says_x)
+
+  predecessor_by : (r : ℕ) (a c : Class2) (q : Property2) (x y : Context) → IsAtOrBelow o asked q (Property r) → (n : ℕ) (form : code_form.Form) → slice_get k.forms n ≡ Some form → SaysForm b form (N4 r a c)
+      → (f l : code_fact.Fact) → SaysFact b f (Edge x q y) → SaysFact b l (In a y) → Sayer (f ∷ l ∷ []) (In c x)
+  predecessor_by r a c q x y below n form at (n4 {c = c'} says_r says_a says_c) f l (edge {x = x'} says_x says_q says_y) (in_context says_d says_z) =
+      place_of n form at _ (facts.In c' x') (below_by below says_q (property says_r), class_same says_d says_a, context_same says_y says_z, refl) (In c x) (in_context says_c says_x)
+
+  chained_by : (r s t p q : Property2) (x y z : Context) → IsAtOrBelow o asked p r → IsAtOrBelow o asked q s → (n : ℕ) (form : code_form.Form) → slice_get k.forms n ≡ Some form → SaysForm b form (N6 r s t)
+      → (f l : code_fact.Fact) → SaysFact b f (Edge x p y) → SaysFact b l (Edge y q z) → Sayer (f ∷ l ∷ []) (Edge x t z)
+  chained_by r s t p q x y z below_r below_s n form at (n6 {t = t'} says_r says_s says_t) f l (edge {x = x'} says_x says_p says_y) (edge {y = z'} says_w says_q says_z) =
+      place_of n form at _ (facts.Edge x' t' z') (below_by below_r says_p says_r, below_by below_s says_q says_s, context_same says_y says_w, refl) (Edge x t z) (edge says_x says_t says_z)
+
+  carried_by : (r : Property2) (x y : Context) (f l : code_fact.Fact) → SaysFact b f (Edge x r y) → SaysFact b l (In (Whole nothing) y) → Sayer (f ∷ l ∷ []) (In (Whole nothing) x)
+  unfolding Sayer
+  carried_by r x y f l (edge {x = x'} says_x says_r says_y) (in_context says_c says_z) =
+      (facts.In numbered.nothing x', 8, None, numbered.unsatisfiable (class_same says_c (whole refl), context_same says_y says_z, refl), in_context (whole refl) says_x)
+
+  looped_by : (fs : List code_fact.Fact) (r : ℕ) (y : Context) (x : code_context.Context) → SaysContext x y → numbered.IsContextBy k fs x → (n : ℕ) (form : code_form.Form) → slice_get k.forms n ≡ Some form → SaysForm b form (N7 r) → Sayer fs (Edge y (Property r) y)
+  unfolding Sayer
+  looped_by fs r y x says_x by n form at (n7 {r = r'} says_r) =
+      (facts.Edge x (properties.Property r') x, 10, Some n, numbered.loop x n form at refl by, edge says_x (property says_r) says_x)
+
+  given_by : {fs : List code_fact.Fact} {gs : List Fact} (g : Fact) → Gives o asked gs g → SayFacts b fs gs → Sayer fs g
+  unfolding Sayer
+  given_by g (Gives.in_thing {x = y} by) says =
+      let (x, says_x, by') = context_from y by says in
+      (facts.In numbered.thing x, 1, None, numbered.in_thing by', in_context (whole refl) says_x)
+  given_by g (Gives.in_itself {e = c} by) says =
+      let (x, says_x, by') = context_from (Expression c) by says in
+      itself_sayer _ c x says_x by'
+  given_by g (Gives.asserted {i = i} {a = a} form) no_facts =
+      let (f, n, at, says_f) = form_at (N8 i a) form in
+      asserted_by i a n f at says_f
+  given_by g (Gives.asserted_edge {i = i} {r = r} {j = j} form) no_facts =
+      let (f, n, at, says_f) = form_at (N9 i r j) form in
+      edge_asserted_by i r j n f at says_f
+  given_by g (Gives.subsumed {x = x} {b = c} a form) (one_more {f = e} says_e no_facts) =
+      let (f, n, at, says_f) = form_at (N1 a c) form in
+      subsumed_by a c x n f at says_f e says_e
+  given_by g (Gives.both {x = x} {c = d} a c form) (one_more {f = e} says_e (one_more {f = l} says_l no_facts)) =
+      let (f, n, at, says_f) = form_at (N2 a c d) form in
+      both_by a c d x n f at says_f e l says_e says_l
+  given_by g (Gives.successor {x = x} {r = r} {b = c} a form) (one_more {f = e} says_e no_facts) =
+      let (f, n, at, says_f) = form_at (N3 a r c) form in
+      successor_by a r c x n f at says_f e says_e
+  given_by g (Gives.predecessor {x = x} {b = c} r a q y form below) (one_more {f = e} says_e (one_more {f = l} says_l no_facts)) =
+      let (f, n, at, says_f) = form_at (N4 r a c) form in
+      predecessor_by r a c q x y below n f at says_f e l says_e says_l
+  given_by g (Gives.unsatisfiable {x = x} r y) (one_more {f = e} says_e (one_more {f = l} says_l no_facts)) = carried_by r x y e l says_e says_l
+  given_by g (Gives.chained {x = x} {z = z} {t = t} r s p q y form below below') (one_more {f = e} says_e (one_more {f = l} says_l no_facts)) =
+      let (f, n, at, says_f) = form_at (N6 r s t) form in
+      chained_by r s t p q x y z below below' n f at says_f e l says_e says_l
+  given_by g (Gives.loop {x = y} r form by) says =
+      let (f, n, at, says_f) = form_at (N7 r) form in
+      let (x, says_x, by') = context_from y by says in
+      looped_by _ r y x says_x by' n f at says_f
+
+  mutual
+    unfolding Sayer
+    pub sayer : (g : Fact) → IsFact o asked g → (f : code_fact.Fact) × numbered.IsFact k f × SaysFact b f g
+    sayer g (given older gives are) =
+        let (fs, facts', says) = all_sayers older are in
+        let (f, condition, place, gives', says_f) = given_by g gives says in
+        (f, numbered.given condition place fs gives' facts', says_f)
+
+    all_sayers : (gs : List Fact) → AreFacts o asked gs → (fs : List code_fact.Fact) × numbered.AreFacts k fs × SayFacts b fs gs
+    all_sayers gs none = ([], numbered.none, no_facts)
+    all_sayers gs (more {fact = g} {facts = rest} fact rest_are) =
+        let (f, fact', says_f) = sayer g fact in
+        let (fs, facts', says) = all_sayers rest rest_are in
+        (f ∷ fs, numbered.more fact' facts', one_more says_f says)

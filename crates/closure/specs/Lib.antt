@@ -1,0 +1,4 @@
+pub mod Closure
+pub mod Run
+pub mod Theorems
+pub mod Said

@@ -1,0 +1,49 @@
+//! Lists of numbers by context.
+ghost use Rattle.std.specs.Prelude.{◌≡◌, [], OnOk, OnErr};
+ghost use Rattle.fact_index.specs.Contexts.{at_context, AddsAt, IsSameAt};
+
+use facts::Context;
+use number_table::Table;
+use std::alloc::{AllocError, Global};
+
+/// A list for each context.
+#[derive(Drop)]
+pub struct ByContext {
+    pub expressions: Table,
+    pub individuals: Table,
+}
+
+impl ByContext {
+    /// No list has a number.
+    pub fn new(alloc: Global) -> Self
+        ensures expressions { result.expressions ≡ [] }
+        ensures individuals { result.individuals ≡ [] }
+    {
+        ByContext {
+            expressions: Table::new(alloc),
+            individuals: Table::new(alloc),
+        }
+    }
+
+    /// The list of a context.
+    pub fn of(&self, context: Context) -> &[u32]
+        ensures { result.now ≡ at_context self.now context }
+    {
+        match context {
+            Context::Expr(e) => self.expressions.of(e.0 as usize),
+            Context::Individual(a) => self.individuals.of(a.0 as usize),
+        }
+    }
+
+    /// Adds a number to the list of a context. Fails where memory is refused; then each list is what it was.
+    pub fn add(&mut self, context: Context, number: u32) -> Result<(), AllocError>
+        ensures ok { OnOk result (AddsAt self.old self.new context number) }
+        ensures err { OnErr result (IsSameAt self.old self.new) }
+    {
+        match context {
+            Context::Expr(e) => self.expressions.add(e.0 as usize, number)?,
+            Context::Individual(a) => self.individuals.add(a.0 as usize, number)?,
+        }
+        Ok(())
+    }
+}

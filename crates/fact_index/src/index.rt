@@ -1,0 +1,65 @@
+//! The index.
+ghost use Rattle.std.specs.Prelude.{◌≡◌, OnOk};
+ghost use Rattle.fact_index.specs.Contexts.{at_context, IsEmptyIndex};
+ghost use Rattle.fact_index.specs.Indexed.{MayList, Lists};
+
+use crate::by_context::ByContext;
+use facts::{Context, Fact};
+use std::alloc::{AllocError, Global};
+
+/// The numbers of facts, by context: classes in it, edges from it, edges into it.
+#[derive(Drop)]
+pub struct Index {
+    classes: ByContext,
+    from: ByContext,
+    into: ByContext,
+}
+
+impl Index {
+    /// Lists nothing.
+    pub fn new(alloc: Global) -> Self
+        ensures { IsEmptyIndex result }
+    {
+        Index {
+            classes: ByContext::new(alloc),
+            from: ByContext::new(alloc),
+            into: ByContext::new(alloc),
+        }
+    }
+
+    /// Facts that put a class into the context.
+    pub fn classes_in(&self, context: Context) -> &[u32]
+        ensures { result.now ≡ at_context self.now.classes context }
+    {
+        self.classes.of(context)
+    }
+
+    /// Edges from the context.
+    pub fn edges_from(&self, context: Context) -> &[u32]
+        ensures { result.now ≡ at_context self.now.from context }
+    {
+        self.from.of(context)
+    }
+
+    /// Edges into the context.
+    pub fn edges_into(&self, context: Context) -> &[u32]
+        ensures { result.now ≡ at_context self.now.into context }
+    {
+        self.into.of(context)
+    }
+
+    /// Lists a fact. Where memory is refused it may be listed in part.
+    pub fn add(&mut self, number: u32, fact: Fact) -> Result<(), AllocError>
+        ensures may { MayList self.old self.new number fact }
+        ensures ok { OnOk result (Lists self.new number fact) }
+    {
+        match fact {
+            Fact::In(_, x) => self.classes.add(x, number)?,
+            Fact::Edge(x, _, y) => {
+                self.from.add(x, number)?;
+                self.into.add(y, number)?;
+            }
+        }
+        Ok(())
+    }
+}

@@ -1,0 +1,10 @@
+//! Facts of a saturation, what gives each, and the closure: all facts that normal forms lead to.
+#![tactic(auto)]
+
+mod births;
+mod contexts;
+mod theory;
+
+pub use births::{Birth, FactId, Older};
+pub use contexts::{Context, Fact};
+pub use theory::closure;

@@ -1,0 +1,113 @@
+//! A problem whose forms are found by key.
+ghost use Rattle.std.specs.Prelude.{◌≡◌, ◌↔◌, ℕ, Contains, IfOk};
+ghost use Rattle.number_table.specs.declared.keys.Key.TheVariants as keys;
+ghost use Rattle.form_index.specs.Named.{class_key, property_key, by_kind, by_alone, by_first, by_second, by_filler, by_chain};
+ghost use Rattle.form_index.specs.Under.{IsUnder};
+
+use crate::form_index::FormIndex;
+use crate::named::{key_of_class, key_of_property};
+use facts::Context;
+use normal_forms::{Class2, Form, PropId2};
+use number_table::Key;
+use std::alloc::{AllocError, Global};
+use std::marker::Model;
+
+/// Normal forms, found by their classes and properties, and the contexts that are there from the start.
+#[derive(Drop)]
+pub struct IndexedProblem {
+    forms: Vec<Form>,
+    roots: Vec<Context>,
+    index: FormIndex,
+}
+
+impl Model for IndexedProblem {
+    ghost use Rattle.facts.specs.Closure.{Problem};
+    ghost use Rattle.form_index.specs.Listed.{IsFormIndex};
+
+    ghost Value = { Problem };
+
+    ghost view = { λ p. record { forms = p.forms.items; roots = p.roots.items } };
+
+    ghost invariant = { λ p. IsFormIndex p.forms.items p.index };
+}
+
+impl IndexedProblem {
+    /// The problem of these forms, of which there are fewer than 2^32, and roots. Fails where memory is refused.
+    pub fn new(alloc: Global, forms: Vec<Form>, roots: Vec<Context>) -> Result<Self, AllocError>
+        ensures forms { IfOk result (λ p. p.forms ≡ forms.items) }
+        ensures roots { IfOk result (λ p. p.roots ≡ roots.items) }
+    {
+        if forms.len() > u32::MAX as usize {
+            return Err(AllocError);
+        }
+        let index = FormIndex::of(alloc, &forms)?;
+        Ok(IndexedProblem {
+            forms,
+            roots,
+            index,
+        })
+    }
+
+    /// The forms.
+    pub fn forms(&self) -> &[Form]
+        ensures { result.now ≡ self.now.forms }
+    {
+        &self.forms
+    }
+
+    /// The contexts that are there from the start.
+    pub fn roots(&self) -> &[Context]
+        ensures { result.now ≡ self.now.roots }
+    {
+        &self.roots
+    }
+
+    /// The forms that give a fact from none.
+    pub fn given(&self) -> &[u32]
+        ensures { (n : ℕ) → Contains result.now n ↔ IsUnder by_kind self.now.forms (keys.Whole 0) n }
+    {
+        self.index.kinds.of(Key::Whole(0))
+    }
+
+    /// The forms that make a property reflexive.
+    pub fn reflexive(&self) -> &[u32]
+        ensures { (n : ℕ) → Contains result.now n ↔ IsUnder by_kind self.now.forms (keys.Whole 1) n }
+    {
+        self.index.kinds.of(Key::Whole(1))
+    }
+
+    /// The forms that need that class alone.
+    pub fn alone(&self, class: Class2) -> &[u32]
+        ensures { (n : ℕ) → Contains result.now n ↔ IsUnder by_alone self.now.forms (class_key class) n }
+    {
+        self.index.alone.of(key_of_class(class))
+    }
+
+    /// The intersections of that first class.
+    pub fn first(&self, class: Class2) -> &[u32]
+        ensures { (n : ℕ) → Contains result.now n ↔ IsUnder by_first self.now.forms (class_key class) n }
+    {
+        self.index.first.of(key_of_class(class))
+    }
+
+    /// The intersections of that second class.
+    pub fn second(&self, class: Class2) -> &[u32]
+        ensures { (n : ℕ) → Contains result.now n ↔ IsUnder by_second self.now.forms (class_key class) n }
+    {
+        self.index.second.of(key_of_class(class))
+    }
+
+    /// The restrictions that need that class at the target of an edge.
+    pub fn with_filler(&self, class: Class2) -> &[u32]
+        ensures { (n : ℕ) → Contains result.now n ↔ IsUnder by_filler self.now.forms (class_key class) n }
+    {
+        self.index.fillers.of(key_of_class(class))
+    }
+
+    /// The chains that begin with that property.
+    pub fn chains_from(&self, property: PropId2) -> &[u32]
+        ensures { (n : ℕ) → Contains result.now n ↔ IsUnder by_chain self.now.forms (property_key property) n }
+    {
+        self.index.chains.of(key_of_property(property))
+    }
+}

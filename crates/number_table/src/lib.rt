@@ -1,0 +1,8 @@
+//! Lists of numbers by key, which grow with the keys.
+#![tactic(auto)]
+
+mod keys;
+mod table;
+
+pub use keys::{Key, KeyTable};
+pub use table::Table;
