@@ -1,0 +1,37 @@
+-- What a saturation has.
+use Rattle.std.specs.Prelude.{◌≡◌, ℕ, ◌<◌, List, [], length}
+use Rattle.std.specs.List.{All, Contains}
+use Rattle.axioms.specs.Numbered.{Ontology}
+use Rattle.axioms.specs.WellFormed.{AreDistinct}
+use Rattle.facts.specs.declared.contexts.Fact as code
+use Rattle.closure.specs.Closure.{Fact, IsFact}
+use Rattle.closure.specs.Said.{Beginnings, SaysFact, IsProblemOf}
+use Rattle.normalise.specs.Growing.{IsNormalFor}
+use Rattle.normalise.specs.Listing.{Listing}
+use Rattle.problem.specs.Made.{beginnings_of}
+use Rattle.saturate.specs.State.{Seen, AreBorn}
+
+-- normal forms, and what they lead to
+pub record Saturated : Type 0 where
+  pub normal : Listing
+  pub state : Seen
+
+-- the facts over numbers say exactly the facts of the closure, where nothing is asked about
+pub record SayTheClosure (o : Ontology) (b : Beginnings) (facts : List code.Fact) : Type 0 where
+  pub each : (f : code.Fact) → Contains facts f → (g : Fact) × SaysFact b f g × IsFact o [] g
+  pub all : (g : Fact) → IsFact o [] g → (f : code.Fact) × Contains facts f × SaysFact b f g
+
+-- the normal forms are those of the ontology, and the facts all that they lead to, each once and with what gave it
+pub record IsSaturated (o : Ontology) (s : Saturated) : Type 0 where
+  pub normal : IsNormalFor o s.normal
+  pub asked : s.normal.asked ≡ []
+  pub problem : IsProblemOf o [] (beginnings_of s.normal) s.state.problem
+  pub facts : SayTheClosure o (beginnings_of s.normal) s.state.facts
+  pub born : AreBorn s.state
+
+-- the closure has more than n facts: a list has so many that differ
+pub record HasMoreFactsThan (o : Ontology) (n : ℕ) : Type 0 where
+  pub facts : List Fact
+  pub distinct : AreDistinct facts
+  pub each : All (IsFact o []) facts
+  pub many : n < length facts

@@ -1,0 +1,10 @@
+//! From an ontology to the facts of its closure.
+#![tactic(auto)]
+
+mod counts;
+mod saturation;
+#[cfg(test)]
+mod tests;
+
+pub use saturate::Stop;
+pub use saturation::{Saturation, saturated};

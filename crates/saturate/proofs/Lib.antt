@@ -1,0 +1,11 @@
+pub mod Lists
+pub mod Growth
+pub mod Turns
+pub mod Drawing
+pub mod States
+pub mod Listing
+pub mod Found
+pub mod Visiting
+pub mod Counting
+pub mod Edges
+pub mod Below

@@ -1,0 +1,174 @@
+-- What the index lists from step to step, and that it misses no partner.
+use Rattle.std.proofs.Common.{◌≡◌, ℕ, ◌<◌, ⊎_elim, List, [], ◌∷◌, ◌++◌, length, slice_get, Some, None, Option, Contains, sym, ap, subst, arith}
+use Rattle.std.proofs.lemmas.List.Elements.{Contains-append_left, Contains-append_right, Contains-append_cases, Contains-push, Contains-push_cases}
+use Rattle.std.proofs.lemmas.Option.{slice_get_within}
+use Rattle.normal_forms.specs.declared.forms.Form.{Form}
+use Rattle.normal_forms.specs.declared.forms.Form.TheVariants.{N1, N2, N3, N4, N5, N6, N7, N8, N9}
+use Rattle.normal_forms.specs.declared.forms.Class2.{Class2}
+use Rattle.normal_forms.specs.declared.forms.PropId2.{PropId2}
+use Rattle.facts.specs.declared.contexts.Context.{Context}
+use Rattle.facts.specs.declared.contexts.Fact.{Fact}
+use Rattle.facts.specs.declared.contexts.Fact.TheVariants.{In, Edge}
+use Rattle.facts.specs.Closure.{Problem, FromTwo, Carries, Gives, in_thing, in_itself, by_form, unsatisfiable, loop}
+use Rattle.fact_index.specs.declared.by_context.ByContext.{ByContext}
+use Rattle.fact_index.specs.declared.index.Index.{Index}
+use Rattle.fact_index.specs.Contexts.{at_context, IsEmptyTable, IsEmptyIndex}
+use Rattle.fact_index.specs.Indexed.{IsIn, IsFrom, IsInto, MayListIn, MayList, Lists, ListsIn, IsIndex}
+use Rattle.saturate.specs.Derived.{Derived, Grows}
+use Rattle.saturate.specs.Queued.{Queued, option_list}
+use Rattle.saturate.specs.Working.{MeetEachOther, AreMet}
+use Rattle.saturate.specs.Listed.{IsWithin, AllListedAreMet}
+use Rattle.saturate.proofs.Lists.{one_value}
+use Rattle.saturate.proofs.States.{was_there}
+
+-- ---- tables
+
+module _ (has : Context → Fact → Type 0) where
+  fewer_in : (facts : List Fact) (w m v l : List ℕ) (table : ByContext) → ListsIn has facts w m table → ((n : ℕ) → Contains v n → Contains w n) → ((n : ℕ) → Contains m n → Contains l n) → ListsIn has facts v l table
+  fewer_in facts w m v l table s low high = record {
+    all = λ x n f c at h. s.all x n f (low n c) at h;
+    only = λ x n c. let o = s.only x n c in (high n o.0, o.1, o.2, o.3);
+  }
+
+  may_in : (facts : List Fact) (w m : List ℕ) (old new : ByContext) (n : ℕ) (f : Fact) → ListsIn has facts w m old → MayListIn has old new n f → slice_get facts n ≡ Some f → Contains m n → ListsIn has facts w m new
+  may_in facts w m old new n f s t at c = record {
+    all = λ x i g d at_i h. t.kept x i (s.all x i g d at_i h);
+    only = λ x i d. ⊎_elim (s.only x i) (λ v. (subst (λ (j : ℕ). Contains m j) (sym v.1) c, f, subst (λ (j : ℕ). slice_get facts j ≡ Some f) (sym v.1) at, v.0)) (t.only x i d);
+  }
+
+  all_in : (facts : List Fact) (w m : List ℕ) (new : ByContext) (n : ℕ) (f : Fact) → ListsIn has facts w m new → slice_get facts n ≡ Some f → ((x : Context) → has x f → Contains (at_context new x) n) → ListsIn has facts (w ++ n ∷ []) m new
+  all_in facts w m new n f s at t = record {
+    all = λ x i g d at_i h. ⊎_elim
+        (λ c. s.all x i g c at_i h)
+        (λ e. subst (λ (j : ℕ). Contains (at_context new x) j) e (t x (subst (λ (y : Fact). has x y) (one_value _ g f at_i (subst (λ (j : ℕ). slice_get facts j ≡ Some f) e at)) h)))
+        (Contains-push_cases w n i d);
+    only = s.only;
+  }
+
+  grown_in : {k : Problem} {most : ℕ} {a b : Derived} → Grows k most a b → (w m : List ℕ) (table : ByContext) → ((n : ℕ) → Contains w n → n < length a.facts) → ListsIn has a.facts w m table → ListsIn has b.facts w m table
+  grown_in t w m table low s = record {
+    all = λ x n f c at h. s.all x n f c (was_there t n f (low n c) at) h;
+    only = λ x n c. let o = s.only x n c in (o.0, o.1, t.facts n o.1 o.2, o.3);
+  }
+
+  within_in : (facts : List Fact) (w m : List ℕ) (table : ByContext) → ListsIn has facts w m table → (x : Context) (n : ℕ) → Contains (at_context table x) n → n < length facts
+  within_in facts w m table s x n c = let o = s.only x n c in slice_get_within facts n o.1 o.2
+
+  empty_in : (facts : List Fact) (m : List ℕ) (table : ByContext) → IsEmptyTable table → ListsIn has facts [] m table
+  empty_in facts m table e = record {
+    all = λ x n f c at h. absurd (omega (arith, c.1));
+    only = λ x n c. let d = rw (e x) at c in absurd (omega (arith, d.1));
+  }
+
+-- ---- the index
+
+pub fewer : {facts : List Fact} {w m : List ℕ} {index : Index} (v l : List ℕ) → IsIndex facts w m index → ((n : ℕ) → Contains v n → Contains w n) → ((n : ℕ) → Contains m n → Contains l n) → IsIndex facts v l index
+fewer v l s low high = record { classes = fewer_in IsIn _ _ _ v l _ s.classes low high; from = fewer_in IsFrom _ _ _ v l _ s.from low high; into = fewer_in IsInto _ _ _ v l _ s.into low high }
+
+pub may : {facts : List Fact} {w m : List ℕ} {old new : Index} {n : ℕ} {f : Fact} → IsIndex facts w m old → MayList old new n f → slice_get facts n ≡ Some f → Contains m n → IsIndex facts w m new
+may s t at c = record { classes = may_in IsIn _ _ _ _ _ _ _ s.classes t.classes at c; from = may_in IsFrom _ _ _ _ _ _ _ s.from t.from at c; into = may_in IsInto _ _ _ _ _ _ _ s.into t.into at c }
+
+pub listed : {facts : List Fact} {w m : List ℕ} {new : Index} {n : ℕ} {f : Fact} → IsIndex facts w m new → slice_get facts n ≡ Some f → Lists new n f → IsIndex facts (w ++ n ∷ []) m new
+listed s at t = record { classes = all_in IsIn _ _ _ _ _ _ s.classes at t.classes; from = all_in IsFrom _ _ _ _ _ _ s.from at t.from; into = all_in IsInto _ _ _ _ _ _ s.into at t.into }
+
+pub still_listed : {k : Problem} {most : ℕ} {a b : Derived} {w m : List ℕ} {index : Index} → Grows k most a b → ((n : ℕ) → Contains w n → n < length a.facts) → IsIndex a.facts w m index → IsIndex b.facts w m index
+still_listed t low s = record { classes = grown_in IsIn t _ _ _ low s.classes; from = grown_in IsFrom t _ _ _ low s.from; into = grown_in IsInto t _ _ _ low s.into }
+
+pub within_size : {facts : List Fact} {w m : List ℕ} {index : Index} → IsIndex facts w m index → IsWithin (length facts) index
+within_size s = record { classes = within_in IsIn _ _ _ _ s.classes; from = within_in IsFrom _ _ _ _ s.from; into = within_in IsInto _ _ _ _ s.into }
+
+pub nothing_listed : (facts : List Fact) (m : List ℕ) (index : Index) → IsEmptyIndex index → IsIndex facts [] m index
+nothing_listed facts m index e = record { classes = empty_in IsIn facts m _ e.classes; from = empty_in IsFrom facts m _ e.from; into = empty_in IsInto facts m _ e.into }
+
+in_option : (o : Option ℕ) (n : ℕ) → Contains (option_list o) n → o ≡ Some n
+in_option None n c = absurd (omega (arith, c.1))
+in_option (Some m) n c = ⊎_elim (λ d. absurd (omega (arith, d.1))) (λ e. ap Some e) (Contains-push_cases [] m n c)
+
+-- a number in hand stays there
+pub turned : {facts : List Fact} {index : Index} (q r : Queued) → IsIndex facts q.served (q.served ++ option_list q.hand) index → r.served ≡ q.served → ((n : ℕ) → q.hand ≡ Some n → r.hand ≡ Some n) → IsIndex facts r.served (r.served ++ option_list r.hand) index
+turned q r s same kept = fewer r.served (r.served ++ option_list r.hand) s (λ n c. rw same at c) (λ n c. ⊎_elim
+    (λ d. Contains-append_left r.served (option_list r.hand) n (rw same d))
+    (λ d. Contains-append_right r.served (option_list r.hand) n (rw (kept n (in_option q.hand n d)) (Contains-push [] n)))
+    (Contains-append_cases q.served (option_list q.hand) n c))
+
+-- ---- partners
+
+-- the second fact speaks of the context that the first speaks of at its end
+abbrev Touch : Fact → Fact → Type 0
+Touch (In a x) (In b y) = y ≡ x
+Touch (In a x) (Edge y r z) = ⊥
+Touch (Edge x r y) (In a z) = z ≡ y
+Touch (Edge x r y) (Edge z s w) = z ≡ y
+
+from_two : (k : Problem) (form : Form) (f g h : Fact) → FromTwo k form f g h → Touch f g
+from_two k (N1 _ _) f g h w = absurd w
+from_two k (N2 _ _ _) (In _ _) (In _ _) h w = sym w.2
+from_two k (N2 _ _ _) (In _ _) (Edge _ _ _) h w = w
+from_two k (N2 _ _ _) (Edge _ _ _) g h w = absurd w
+from_two k (N3 _ _ _) f g h w = absurd w
+from_two k (N4 _ _ _) (Edge _ _ _) (In _ _) h w = sym w.2
+from_two k (N4 _ _ _) (Edge _ _ _) (Edge _ _ _) h w = absurd w
+from_two k (N4 _ _ _) (In _ _) g h w = absurd w
+from_two k (N5 _ _) f g h w = absurd w
+from_two k (N6 _ _ _) (Edge _ _ _) (Edge _ _ _) h w = sym w.2
+from_two k (N6 _ _ _) (Edge _ _ _) (In _ _) h w = absurd w
+from_two k (N6 _ _ _) (In _ _) g h w = absurd w
+from_two k (N7 _) f g h w = absurd w
+from_two k (N8 _ _) f g h w = absurd w
+from_two k (N9 _ _ _) f g h w = absurd w
+
+carried : (f g h : Fact) → Carries f g h → Touch f g
+carried (Edge _ _ _) (In _ _) h w = sym w.1
+carried (Edge _ _ _) (Edge _ _ _) h w = absurd w
+carried (In _ _) g h w = absurd w
+
+touch : {k : Problem} {c : ℕ} {form : Option ℕ} {f g h : Fact} → Gives k c form (f ∷ g ∷ []) h → Touch f g
+touch (in_thing c) = absurd c
+touch (in_itself c) = absurd c
+touch {k} {f = f} {g = g} {h = h} (by_form n form at gives) = from_two k form f g h gives
+touch {f = f} {g = g} {h = h} (unsatisfiable b) = carried f g h b
+touch (loop x n form at l c) = absurd c
+
+-- so what is listed for a fact is all that it gives something with
+module _ {k : Problem} {old : List Fact} {w m : List ℕ} {index : Index} (s : IsIndex old w m index) (new : List Fact) (n : ℕ) (there : Contains w n) where
+  pub all_met : (f g : Fact) → AllListedAreMet k f old index new → slice_get old n ≡ Some g → MeetEachOther k f g new
+  all_met (In a x) (In b y) met at = record {
+    first = λ c form h gives. (met.0 n (s.classes.all x n (In b y) there at (touch gives)) (In b y) at).first c form h gives;
+    second = λ c form h gives. (met.0 n (s.classes.all x n (In b y) there at (sym (touch gives))) (In b y) at).second c form h gives;
+  }
+  all_met (In a x) (Edge u r v) met at = record {
+    first = λ c form h gives. absurd (touch gives);
+    second = λ c form h gives. (met.1 n (s.into.all x n (Edge u r v) there at (sym (touch gives))) (Edge u r v) at).second c form h gives;
+  }
+  all_met (Edge x p y) (In b z) met at = record {
+    first = λ c form h gives. (met.0 n (s.classes.all y n (In b z) there at (touch gives)) (In b z) at).first c form h gives;
+    second = λ c form h gives. absurd (touch gives);
+  }
+  all_met (Edge x p y) (Edge u r v) met at = record {
+    first = λ c form h gives. (met.1 n (s.from.all y n (Edge u r v) there at (touch gives)) (Edge u r v) at).first c form h gives;
+    second = λ c form h gives. (met.2 n (s.into.all x n (Edge u r v) there at (sym (touch gives))) (Edge u r v) at).second c form h gives;
+  }
+
+same_list : (k : Problem) (f : Fact) (old : List Fact) (l m : List ℕ) (new : List Fact) → l ≡ m → AreMet k f old l new → AreMet k f old m new
+same_list k f old l m new e met = subst (λ (ns : List ℕ). AreMet k f old ns new) e met
+
+module _ (k : Problem) (old : List Fact) (index : Index) (new : List Fact) where
+  pub met_in : (a : Class2) (x : Context) (l m : List ℕ) → l ≡ at_context index.classes x → m ≡ at_context index.into x → AreMet k (In a x) old l new → AreMet k (In a x) old m new → AllListedAreMet k (In a x) old index new
+  met_in a x l m e d p q = (same_list k (In a x) old l _ new e p, same_list k (In a x) old m _ new d q)
+
+  pub met_edge : (x : Context) (r : PropId2) (y : Context) (l m o : List ℕ) → l ≡ at_context index.classes y → m ≡ at_context index.from y → o ≡ at_context index.into x → AreMet k (Edge x r y) old l new → AreMet k (Edge x r y) old m new → AreMet k (Edge x r y) old o new → AllListedAreMet k (Edge x r y) old index new
+  met_edge x r y l m o e d b p q t = (same_list k (Edge x r y) old l _ new e p, same_list k (Edge x r y) old m _ new d q, same_list k (Edge x r y) old o _ new b t)
+
+pub listed_earlier : {k : Problem} {most : ℕ} {a b : Derived} (index : Index) (new : List Fact) → Grows k most a b → (f : Fact) → AllListedAreMet k f b.facts index new → AllListedAreMet k f a.facts index new
+listed_earlier index new s (In c x) met = ((λ n t g at. met.0 n t g (s.facts n g at)), (λ n t g at. met.1 n t g (s.facts n g at)))
+listed_earlier index new s (Edge x r y) met = ((λ n t g at. met.0 n t g (s.facts n g at)), (λ n t g at. met.1 n t g (s.facts n g at)), (λ n t g at. met.2 n t g (s.facts n g at)))
+
+pub in_most : (served : List ℕ) (hand : Option ℕ) (n : ℕ) → hand ≡ Some n → Contains (served ++ option_list hand) n
+in_most served hand n e = rw e (Contains-push served n)
+
+-- the fact in hand was listed, and is served
+pub finish_listed : {k : Problem} {most : ℕ} {old new : Derived} {index : Index} {n : ℕ} {f : Fact} (q r : Queued) → IsIndex old.facts q.served (q.served ++ option_list q.hand) index → q.hand ≡ Some n → slice_get old.facts n ≡ Some f → Lists index n f → Grows k most old new
+    → ((i : ℕ) → Contains q.served i → i < length old.facts) → r.served ≡ q.served ++ n ∷ [] → IsIndex new.facts r.served (r.served ++ option_list r.hand) index
+finish_listed {old = old} {n = n} {f = f} q r s hand at t grows within same =
+    let low : (i : ℕ) → Contains (q.served ++ n ∷ []) i → i < length old.facts = λ i c. ⊎_elim (within i) (λ e. subst (λ (j : ℕ). j < length old.facts) e (slice_get_within old.facts n f at)) (Contains-push_cases q.served n i c) in
+    fewer r.served (r.served ++ option_list r.hand) (still_listed grows low (listed s at t)) (λ i c. rw same at c) (λ i c. Contains-append_left r.served (option_list r.hand) i (rw same (rw hand at c)))

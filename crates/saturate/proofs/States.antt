@@ -1,0 +1,115 @@
+-- The engine's state from step to step.
+use Rattle.std.proofs.Common.{◌≡◌, ℕ, ◌<◌, ◌≤◌, ◌⊎◌, inl, inr, ⊎_elim, List, [], ◌∷◌, ◌++◌, length, slice_get, Some, Contains, sym, ap, ◌∙◌, subst, arith}
+use Rattle.std.specs.List.{AllByRecursion}
+use Rattle.std.proofs.lemmas.List.Elements.{Contains-push_cases}
+use Rattle.std.proofs.lemmas.Option.{slice_get_within, slice_get-get_or}
+use Rattle.facts.specs.declared.contexts.Fact.{Fact}
+use Rattle.facts.specs.Closure.{Problem, IsFact, AreFacts, given, none, more}
+use Rattle.facts.proofs.Premises.{no_three}
+use Rattle.saturate.specs.Derived.{Derived, IsDerived, Grows, HasMoreFactsThan}
+use Rattle.saturate.specs.Queued.{Queued}
+use Rattle.property_closure.specs.Closed.{Known}
+use Rattle.saturate.specs.Closed.{IsClosureOf}
+use Rattle.saturate.specs.Working.{IsServed, IsClosure, Drawn, MeetEachOther}
+use Rattle.saturate.specs.State.{IsState}
+use Rattle.saturate.proofs.Lists.{one_value, slice_get_there}
+use Rattle.saturate.proofs.Growth.{sound}
+use Rattle.saturate.proofs.Drawing.{drawn_still}
+
+-- a fact that is there still, and was there before
+pub was_there : {k : Problem} {most : ℕ} {old new : Derived} → Grows k most old new → (n : ℕ) (f : Fact) → n < length old.facts → slice_get new.facts n ≡ Some f → slice_get old.facts n ≡ Some f
+was_there {old = old} t n f low at =
+    let before = slice_get_there old.facts n low in
+    before.1 ∙ ap Some (one_value _ before.0 f (t.facts n before.0 before.1) at)
+
+-- facts are added
+pub grown : {k : Problem} {most : ℕ} {closure : Known} {old new : Derived} {q r : Queued} → IsState k closure old q → Grows k most old new → r.queued ≤ length old.facts → r.served ≡ q.served → IsState k closure new r
+grown {k} {old = old} {new = new} {q = q} {r = r} s t low same = record {
+  closed = s.closed;
+  derived = t.derived;
+  queued = omega (arith, low, t.longer);
+  within = λ n c. omega (arith, within n c, t.longer);
+  complete = λ older served. drawn_still t older (s.complete older (were older served));
+}
+  where
+    within : (n : ℕ) → Contains r.served n → n < length old.facts
+    within n c = s.within n (subst (λ (ns : List ℕ). Contains ns n) same c)
+
+    were : (older : List Fact) → AllByRecursion (IsServed new.facts r.served) older → AllByRecursion (IsServed old.facts q.served) older
+    were [] all = tt
+    were (f ∷ fs) all = ((all.0.0, subst (λ (ns : List ℕ). Contains ns all.0.0) same all.0.1, was_there t all.0.0 f (within all.0.0 all.0.1) all.0.2), were fs all.1)
+
+-- a fact is served, since what it gives with others is there
+module _ {k : Problem} {most : ℕ} {closure : Known} {old new : Derived} {q : Queued} (s : IsState k closure old q) (t : Grows k most old new) (n : ℕ) (f : Fact) (at : slice_get old.facts n ≡ Some f)
+    (alone : Drawn k (f ∷ []) new.facts)
+    (met : (m : ℕ) → Contains (q.served ++ n ∷ []) m → (g : Fact) → slice_get old.facts m ≡ Some g → MeetEachOther k f g new.facts) where
+  within : (m : ℕ) → Contains (q.served ++ n ∷ []) m → m < length old.facts
+  within m c = ⊎_elim (s.within m) (λ e. subst (λ (i : ℕ). i < length old.facts) e (slice_get_within old.facts n f at)) (Contains-push_cases q.served n m c)
+
+  meets : (g : Fact) → IsServed new.facts (q.served ++ n ∷ []) g → MeetEachOther k f g new.facts
+  meets g w = met w.0 w.1 g (was_there t w.0 g (within w.0 w.1) w.2)
+
+  cases : (g : Fact) → IsServed new.facts (q.served ++ n ∷ []) g → IsServed old.facts q.served g ⊎ (f ≡ g)
+  cases g w =
+      let before = was_there t w.0 g (within w.0 w.1) w.2 in
+      ⊎_elim (λ c. inl (w.0, c, before)) (λ e. inr (one_value _ f g at (subst (λ (i : ℕ). slice_get old.facts i ≡ Some g) (sym e) before))) (Contains-push_cases q.served n w.0 w.1)
+
+  complete : (older : List Fact) → AllByRecursion (IsServed new.facts (q.served ++ n ∷ [])) older → Drawn k older new.facts
+  complete [] all = drawn_still t [] (s.complete [] tt)
+  complete (g ∷ []) all = ⊎_elim
+      (λ w. drawn_still t (g ∷ []) (s.complete (g ∷ []) (w, tt)))
+      (λ e. subst (λ (x : Fact). Drawn k (x ∷ []) new.facts) e alone)
+      (cases g all.0)
+  complete (g ∷ h ∷ []) all = ⊎_elim
+      (λ w. ⊎_elim
+      (λ v. drawn_still t (g ∷ h ∷ []) (s.complete (g ∷ h ∷ []) (w, (v, tt))))
+      (λ e. subst (λ (x : Fact). Drawn k (g ∷ x ∷ []) new.facts) e (meets g all.0).second)
+      (cases h all.1.0))
+      (λ e. subst (λ (x : Fact). Drawn k (x ∷ h ∷ []) new.facts) e (meets h all.1.0).first)
+      (cases g all.0)
+  complete (g ∷ h ∷ i ∷ rest) all = λ c form new gives. absurd (no_three gives)
+
+  pub one_served : {r : Queued} → r.queued ≤ length old.facts → r.served ≡ q.served ++ n ∷ [] → IsState k closure new r
+  one_served {r} low same = record {
+    closed = s.closed;
+    derived = t.derived;
+    queued = omega (arith, low, t.longer);
+    within = λ m c. omega (arith, within m (subst (λ (ns : List ℕ). Contains ns m) same c), t.longer);
+    complete = λ older served. complete older (subst (λ (ns : List ℕ). AllByRecursion (IsServed new.facts ns) older) same served);
+  }
+
+-- where all are served the facts are the closure
+module _ {k : Problem} {closure : Known} {d : Derived} {q : Queued} (s : IsState k closure d q) (all : (n : ℕ) → n < length d.facts → Contains q.served n) where
+  served : (f : Fact) → Contains d.facts f → IsServed d.facts q.served f
+  served f c = (c.0, all c.0 c.1, slice_get-get_or d.facts c.0 f c.1 ∙ ap Some c.2)
+
+  mutual
+    whole : (f : Fact) → IsFact k f → Contains d.facts f
+    whole f (given condition form older gives fs) = s.complete older (whole_all older fs) condition form f gives
+
+    whole_all : (facts : List Fact) → AreFacts k facts → AllByRecursion (IsServed d.facts q.served) facts
+    whole_all _ none = tt
+    whole_all _ (more {f = f} {facts = fs} p ps) = (served f (whole f p), whole_all fs ps)
+
+  pub finished : IsClosure k d.facts
+  finished f = (λ c. sound s.derived c.0 f (slice_get-get_or d.facts c.0 f c.1 ∙ ap Some c.2), whole f)
+
+-- nothing was served
+pub begun : {k : Problem} {closure : Known} {d : Derived} {q : Queued} → IsClosureOf k.forms closure → IsDerived k d → Drawn k [] d.facts → q.queued ≡ 0 → q.served ≡ [] → IsState k closure d q
+begun {k} {d = d} {q = q} closed derived drawn zero empty = record {
+  closed = closed;
+  derived = derived;
+  queued = omega (arith, zero);
+  within = λ n c. absurd (none n c);
+  complete = complete;
+}
+  where
+    none : (n : ℕ) → Contains q.served n → ⊥
+    none n c = let c' = subst (λ (ns : List ℕ). Contains ns n) empty c in absurd (omega (arith, c'.1))
+
+    complete : (older : List Fact) → AllByRecursion (IsServed d.facts q.served) older → Drawn k older d.facts
+    complete [] all = drawn
+    complete (f ∷ fs) all = absurd (none all.0.0 all.0.1)
+
+pub too_many : {k : Problem} {d : Derived} → IsDerived k d → (limit : ℕ) → limit < length d.facts → HasMoreFactsThan k limit
+too_many {d = d} s limit low = record { facts = d.facts; distinct = s.distinct; each = sound s; many = low }

@@ -1,0 +1,130 @@
+-- A number that is queued, and one that is taken from the list.
+use Rattle.std.proofs.Common.{◌≡◌, ℕ, ◌+◌, ◌<◌, ◌≤◌, inl, inr, ⊎_elim, Bool, true, false, if◌then◌else◌, List, [], ◌∷◌, ◌++◌, length, take, slice_get, Some, None, Contains, refl, sym, ap, ◌∙◌, subst, arith, length-append}
+use Rattle.std.proofs.lemmas.Bool.Decides.{eqb_tells, nat_tests}
+use Rattle.std.proofs.lemmas.Option.{slice_get_within, none-some}
+use Rattle.std.proofs.lemmas.List.{take-append-le, take_all, length-take}
+use Rattle.std.proofs.lemmas.List.Elements.{Contains-append_left, Contains-push, Contains-push_cases}
+use Rattle.work_list.specs.declared.item.Item.{Item}
+use Rattle.work_list.specs.Bag.{Bag, is_item, Adds, IsEmpty}
+use Rattle.saturate.specs.Queued.{item, IsQueue, HasTurn}
+use Rattle.saturate.proofs.Lists.{one_value, Contains-from_slice_get, slice_get_there, slice_get_push, slice_get_push_cases, keeps_push}
+
+same_item : (n c : ℕ) → is_item (item n c) (item n c) ≡ true
+same_item n c = grind (arith, nat_tests)
+
+other_item : (x y : Item) → (x.fact ≡ y.fact → ⊥) → is_item x y ≡ false
+other_item x y apart = grind (arith, nat_tests)
+
+is_same : (x y : Item) → is_item x y ≡ true → (x.fact ≡ y.fact) × (x.context ≡ y.context)
+is_same x y e = grind (arith, nat_tests)
+
+-- how often an item is in the list with one more
+adds_one : {old new : Bag} {x : Item} → Adds x old new → (y : Item) → is_item y x ≡ true → new.count y ≡ old.count y + 1
+adds_one {old} {x = x} s y e = s.each y ∙ ap (λ t. old.count y + (if t then 1 else 0)) e
+
+adds_none : {old new : Bag} {x : Item} → Adds x old new → (y : Item) → is_item y x ≡ false → new.count y ≡ old.count y
+adds_none {old} {x = x} s y e = omega (arith, s.each y ∙ ap (λ t. old.count y + (if t then 1 else 0)) e)
+
+-- the next number waits
+pub queued_more : {old new : Bag} {queued served c : ℕ} {taken : List ℕ} → IsQueue old queued taken served → Adds (item queued c) old new → IsQueue new (queued + 1) taken served
+queued_more {old} {new} {queued} {served} {c} {taken} q s = record {
+  contexts = q.contexts ++ c ∷ [];
+  long = omega (arith, length-append q.contexts (c ∷ []), q.long);
+  each = λ n d at. ⊎_elim
+      (λ before.
+      let low : n < queued = omega (arith, slice_get_within q.contexts n d before, q.long) in
+      let same : new.count (item n d) ≡ old.count (item n d) = adds_none s (item n d) (other_item (item n d) (item queued c) (λ e. omega (arith, e, low))) in
+      ⊎_elim (λ w. inl (same ∙ w.0, w.1)) (λ w. inr (same ∙ w.0, w.1)) (q.each n d before))
+      (λ here.
+      let last : n ≡ queued = here.0 ∙ q.long in
+      let one : new.count (item n d) ≡ old.count (item n d) + 1 = adds_one s (item n d) (subst (λ (m : ℕ). is_item (item n d) (item m c) ≡ true) last (subst (λ (b : ℕ). is_item (item n d) (item n b) ≡ true) (sym here.1) (same_item n d))) in
+      inl (omega (arith, one, none n d last), λ t. omega (arith, q.within n t, last)))
+      (slice_get_push_cases q.contexts c n d at);
+  known = λ x lt. known x lt (is_item x (item queued c)) refl;
+  within = λ n t. omega (arith, q.within n t);
+  tally = omega (arith, q.tally, s.total);
+  low = q.low;
+  high = q.high;
+}
+  where
+    none : (n d : ℕ) → n ≡ queued → old.count (item n d) ≡ 0
+    none n d last = ⊎_elim (λ w. omega (arith, w.1)) (λ w. absurd (omega (arith, slice_get_within q.contexts n d (q.known (item n d) (omega (arith, w.1))), q.long, last))) (eqb_tells (old.count (item n d)) 0)
+
+    known : (x : Item) → 0 < new.count x → (b : Bool) → is_item x (item queued c) ≡ b → slice_get (q.contexts ++ c ∷ []) x.fact ≡ Some x.context
+    known x lt true e =
+        let w = is_same x (item queued c) e in
+        rw (w.0, w.1, ← q.long) (slice_get_push q.contexts c)
+    known x lt false e = keeps_push q.contexts c x.fact x.context (q.known x (omega (arith, lt, adds_none s x e)))
+
+-- one that waits is taken
+module _ {old new : Bag} {queued served : ℕ} {taken : List ℕ} {x : Item} (q : IsQueue old queued taken served) (s : Adds x new old) where
+  waits : slice_get q.contexts x.fact ≡ Some x.context
+  waits = q.known x (omega (arith, adds_one s x (same_item x.fact x.context)))
+
+  pub fresh : (x.fact < queued) × (Contains taken x.fact → ⊥)
+  fresh = (
+    omega (arith, slice_get_within q.contexts x.fact x.context waits, q.long),
+    ⊎_elim (λ w. w.1) (λ w. absurd (omega (arith, w.0, adds_one s x (same_item x.fact x.context)))) (q.each x.fact x.context waits),
+  )
+
+  pub taken_one : length taken ≡ served → IsQueue new queued (taken ++ x.fact ∷ []) served
+  taken_one all = record {
+    contexts = q.contexts;
+    long = q.long;
+    each = λ n c at. ⊎_elim
+        (λ w. inr (here n c at w.1, subst (λ (m : ℕ). Contains (taken ++ x.fact ∷ []) m) (sym w.1) (Contains-push taken x.fact)))
+        (λ w.
+        let same : old.count (item n c) ≡ new.count (item n c) = adds_none s (item n c) (other_item (item n c) x w.1) in
+        ⊎_elim
+        (λ v. inl (sym same ∙ v.0, λ t. ⊎_elim v.1 (λ e. w.1 (sym e)) (Contains-push_cases taken x.fact n t)))
+        (λ v. inr (sym same ∙ v.0, Contains-append_left taken (x.fact ∷ []) n v.1))
+        (q.each n c at))
+        (eqb_tells n x.fact);
+    known = λ y lt. q.known y (omega (arith, s.each y, lt));
+    within = λ n t. ⊎_elim (λ before. q.within n before) (λ e. omega (arith, fresh.0, e)) (Contains-push_cases taken x.fact n t);
+    tally = omega (arith, q.tally, s.total, length-append taken (x.fact ∷ []));
+    low = omega (arith, all, length-append taken (x.fact ∷ []));
+    high = omega (arith, all, length-append taken (x.fact ∷ []));
+  }
+    where
+      here : (n c : ℕ) → slice_get q.contexts n ≡ Some c → n ≡ x.fact → new.count (item n c) ≡ 0
+      here n c at e =
+          let same : x.context ≡ c = one_value _ _ _ waits (subst (λ (m : ℕ). slice_get q.contexts m ≡ Some c) e at) in
+          let one : old.count (item n c) ≡ new.count (item n c) + 1 = adds_one s (item n c) (subst (λ (m : ℕ). is_item (item n c) (item m x.context) ≡ true) e (subst (λ (b : ℕ). is_item (item n c) (item n b) ≡ true) (sym same) (same_item n c))) in
+          ⊎_elim (λ w. omega (arith, w.0, one)) (λ w. omega (arith, w.0, one)) (q.each n c at)
+
+-- nothing waits, so all were taken
+pub all_taken : {bag : Bag} {queued served : ℕ} {taken : List ℕ} → IsQueue bag queued taken served → IsEmpty bag → (n : ℕ) → n < queued → Contains taken n
+all_taken q empty n low =
+    let c = slice_get_there q.contexts n (omega (arith, low, q.long)) in
+    ⊎_elim (λ w. absurd (omega (arith, w.0, empty.each (item n c.0)))) (λ w. w.1) (q.each n c.0 c.1)
+
+-- where no number is in hand, those that were taken are those that were served
+pub idle : {bag : Bag} {queued served : ℕ} {taken : List ℕ} → IsQueue bag queued taken served → slice_get taken served ≡ None → length taken ≡ served
+idle {served = served} {taken = taken} q none = ⊎_elim
+    (λ w. sym w.1)
+    (λ w. let there = slice_get_there taken served (omega (arith, q.low, w.1)) in absurd (none-some there.0 (sym none ∙ there.1)))
+    (eqb_tells served (length taken))
+
+pub in_hand : {bag : Bag} {queued served : ℕ} {taken : List ℕ} → IsQueue bag queued taken served → (n : ℕ) → slice_get taken served ≡ Some n → (n < queued) × (length (take served taken) < queued)
+in_hand {queued = queued} {served = served} {taken = taken} q n at =
+    let low : served < length taken = slice_get_within taken served n at in
+    (q.within n (Contains-from_slice_get taken served n at), simp length-take (omega (arith, q.tally)))
+
+pub nobody_waits : {bag : Bag} {queued served : ℕ} {taken : List ℕ} → IsQueue bag queued taken served → IsEmpty bag → slice_get taken served ≡ None → HasTurn queued (take served taken) (slice_get taken served)
+nobody_waits {queued = queued} {served = served} {taken = taken} q empty none =
+    let long : length taken ≤ served = omega (arith, idle q none) in
+    let whole : take served taken ≡ taken = take_all served taken long in
+    record {
+      some = λ n e. absurd (none-some n (sym none ∙ e));
+      none = λ _. (ap length whole ∙ omega (arith, q.tally, empty.total), λ n low. rw whole (all_taken q empty n low));
+    }
+
+pub just_taken : {bag : Bag} {queued served : ℕ} (taken : List ℕ) (x : ℕ) → IsQueue bag queued (taken ++ x ∷ []) served → length taken ≡ served → HasTurn queued (take served taken) (slice_get (taken ++ x ∷ []) served)
+just_taken {queued = queued} {served = served} taken x q all =
+    let at : slice_get (taken ++ x ∷ []) served ≡ Some x = rw (← all) (slice_get_push taken x) in
+    let short : served ≤ length taken = omega (arith, all) in
+    record {
+      some = λ n e. let w = in_hand q n e in (w.0, rw (← take-append-le served taken (x ∷ []) short) w.1);
+      none = λ e. absurd (none-some x (sym e ∙ at));
+    }

@@ -1,0 +1,59 @@
+use Rattle.std.proofs.Common.{◌≡◌, length, Some, refl, sym, ap, ◌∙◌, arith}
+use Rattle.saturate.specs.State.{IsState}
+use Rattle.saturate.specs.Listed.{ListsServed}
+use Rattle.saturate.proofs.Growth.{grows_same}
+use Rattle.saturate.proofs.States.{grown, one_served, finished}
+use Rattle.saturate.proofs.Listing.{turned, may, listed, still_listed, within_size, all_met, in_most, finish_listed}
+use Rattle.saturate.proofs.state.State.step.Goals as goal
+use Rattle.saturate.proofs.state.State.step.Goals.{After-turn, After-add}
+
+kept : (g : _) (c : After-turn g) → IsState c.self.inside.problem c.self.inside.closure c.self.inside.facts c.turn.new.self × ListsServed c.self.inside.facts c.turn.new.self c.self.inside.index
+kept g c = (
+  grown {most = 0} c.self.invariant.0 (grows_same c.self.invariant.0.derived) (omega (arith, c.turn.ensures.queued, ap length c.as_slice.ensures.value)) c.turn.ensures.served,
+  turned c.self.inside.queue c.turn.new.self c.self.invariant.1 c.turn.ensures.served c.turn.ensures.kept,
+)
+
+pub invariant_of-self : goal.invariant_of-self
+invariant_of-self g c = kept g (goal.at.invariant_of-self g c).After-turn
+
+pub invariant_of-self-in_default : goal.invariant_of-self-in_default
+invariant_of-self-in_default g c = kept g (goal.at.invariant_of-self-in_default g c).After-turn
+
+pub returns-in_default-clause-done : goal.returns-in_default-clause-done
+returns-in_default-clause-done g c = λ _.
+    let all = c.in_ok-hand.ensures.ok.none (sym c.in_ok-hand.ensures.hand ∙ c.in_default.is) in
+    finished c.self.invariant.0 (λ n low. all.1 n (omega (arith, low, ap length c.as_slice.ensures.value)))
+
+handed : (g : _) (c : After-add g) → c.turn.new.self.hand ≡ Some c.in-Some.hand
+handed g c = sym c.in_ok-hand.ensures.hand ∙ c.in-Some.is
+
+indexed : (g : _) (c : After-add g) → ListsServed c.self.inside.facts c.turn.new.self c.add.new.self
+indexed g c = may (turned c.self.inside.queue c.turn.new.self c.self.invariant.1 c.turn.ensures.served c.turn.ensures.kept) c.add.ensures.may c.get-fact.ensures (in_most c.turn.new.self.served c.turn.new.self.hand c.in-Some.hand (handed g c))
+
+pub invariant_of-self-in_default-add : goal.invariant_of-self-in_default-add
+invariant_of-self-in_default-add g c =
+    let d = goal.at.invariant_of-self-in_default-add g c in
+    ((kept g d.After-turn).0, indexed g d.After-add)
+
+pub serve-requires-clause-index : goal.serve-requires-clause-index
+serve-requires-clause-index g c = within_size (indexed g (goal.at.serve-requires-clause-index g c).After-add)
+
+pub invariant_of-self-in_err-serve : goal.invariant_of-self-in_err-serve
+invariant_of-self-in_err-serve g c =
+    let d = goal.at.invariant_of-self-in_err-serve g c in
+    let s = (kept g d.After-turn).0 in
+    (grown s c.serve.ensures.grows (omega (arith, c.turn.ensures.queued, ap length c.as_slice.ensures.value)) refl, still_listed c.serve.ensures.grows s.within (indexed g d.After-add))
+
+pub invariant_of-self-2 : goal.invariant_of-self-2
+invariant_of-self-2 g c =
+    let d = goal.at.invariant_of-self-2 g c in
+    let s = (kept g d.After-turn).0 in
+    let n = c.in-Some.hand in
+    let f = c.get-fact.result in
+    let whole = listed (indexed g d.After-add) c.get-fact.ensures c.in-Ok.ensures.ok in (
+      one_served s c.serve.ensures.grows n f c.get-fact.ensures c.in_ok-serve.ensures.alone
+          (λ m t h at. all_met whole c.serve.new.facts.facts m t f h c.in_ok-serve.ensures.met at)
+          (omega (arith, c.finish.ensures.queued, c.turn.ensures.queued, ap length c.as_slice.ensures.value))
+          c.finish.ensures.served,
+      finish_listed c.turn.new.self c.finish.new.self (indexed g d.After-add) (handed g d.After-add) c.get-fact.ensures c.in-Ok.ensures.ok c.serve.ensures.grows s.within c.finish.ensures.served,
+    )

@@ -1,0 +1,37 @@
+-- Numbers that have their turns.
+use Rattle.std.specs.Prelude.{◌≡◌, ℕ, ◌+◌, ◌<◌, ◌≤◌, ◌⊎◌, List, [], ◌∷◌, length, slice_get, Option, Some, None}
+use Rattle.std.specs.List.{Contains}
+use Rattle.work_list.specs.declared.item.Item.{Item}
+use Rattle.work_list.specs.Bag.{Bag}
+
+-- so many numbers were queued; those that were served, in order; and the one in hand
+pub record Queued : Type 0 where
+  pub queued : ℕ
+  pub served : List ℕ
+  pub hand : Option ℕ
+
+abbrev pub with_one_more : Queued → Queued
+with_one_more q = record q { queued = q.queued + 1 }
+
+abbrev pub option_list : Option ℕ → List ℕ
+option_list None = []
+option_list (Some n) = n ∷ []
+
+abbrev pub item : ℕ → ℕ → Item
+item n c = record { fact = n; context = c }
+
+-- each number is either in the list, once, or was taken
+pub record IsQueue (bag : Bag) (queued : ℕ) (taken : List ℕ) (served : ℕ) : Type 0 where
+  pub contexts : List ℕ
+  pub long : length contexts ≡ queued
+  pub each : (n c : ℕ) → slice_get contexts n ≡ Some c → ((bag.count (item n c) ≡ 1) × (Contains taken n → ⊥)) ⊎ ((bag.count (item n c) ≡ 0) × Contains taken n)
+  pub known : (x : Item) → 0 < bag.count x → slice_get contexts x.fact ≡ Some x.context
+  pub within : (n : ℕ) → Contains taken n → n < queued
+  pub tally : bag.total + length taken ≡ queued
+  pub low : served ≤ length taken
+  pub high : length taken ≤ served + 1
+
+-- it is the turn of the number, if there is one that was not served
+pub record HasTurn (size : ℕ) (served : List ℕ) (hand : Option ℕ) : Type 0 where
+  pub some : (n : ℕ) → hand ≡ Some n → (n < size) × (length served < size)
+  pub none : hand ≡ None → (length served ≡ size) × ((n : ℕ) → n < size → Contains served n)

@@ -1,0 +1,36 @@
+-- The engine's state.
+use Rattle.std.specs.Prelude.{◌≡◌, ℕ, ◌<◌, ◌≤◌, List, length}
+use Rattle.std.specs.List.{Contains}
+use Rattle.facts.specs.declared.contexts.Fact.{Fact}
+use Rattle.facts.specs.Closure.{Problem}
+use Rattle.facts.specs.Births.{Reason}
+use Rattle.saturate.specs.Derived.{Derived, IsDerived, Keeps}
+use Rattle.saturate.specs.Queued.{Queued}
+use Rattle.property_closure.specs.Closed.{Known}
+use Rattle.saturate.specs.Closed.{IsClosureOf}
+use Rattle.saturate.specs.Working.{IsComplete}
+
+-- what callers see: the problem, the facts in order of birth with what gave them, and the numbers of those served, in order
+pub record Seen : Type 0 where
+  pub problem : Problem
+  pub facts : List Fact
+  pub births : List Reason
+  pub served : List ℕ
+
+-- facts with reasons, and what served facts give is there
+pub record IsState (k : Problem) (closure : Known) (d : Derived) (q : Queued) : Type 0 where
+  pub closed : IsClosureOf k.forms closure
+  pub derived : IsDerived k d
+  pub queued : q.queued ≤ length d.facts
+  pub within : (n : ℕ) → Contains q.served n → n < length d.facts
+  pub complete : IsComplete k d.facts q.served
+
+-- facts and what gave them are kept
+pub record Extends (old new : Seen) : Type 0 where
+  pub problem : new.problem ≡ old.problem
+  pub facts : Keeps old.facts new.facts
+  pub births : Keeps old.births new.births
+
+-- each fact is there once, with a reason in older ones
+abbrev pub AreBorn : Seen → Type 0
+AreBorn s = IsDerived s.problem (record { facts = s.facts; births = s.births })

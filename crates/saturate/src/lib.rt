@@ -1,0 +1,15 @@
+//! Saturation: all facts that normal forms lead to, in any order of work.
+#![tactic(auto)]
+
+mod conclusions;
+mod known_facts;
+mod properties;
+mod queue;
+mod rules;
+mod state;
+#[cfg(test)]
+mod tests;
+mod visits;
+
+pub use known_facts::Stop;
+pub use state::State;

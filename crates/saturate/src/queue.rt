@@ -1,0 +1,166 @@
+//! Whose turn it is.
+ghost use Rattle.std.specs.Prelude.{◌≡◌, ◌<◌, ◌≤◌, ◌^◌, ◌+◌, ◌++◌, ◌∷◌, [], ℕ, None, Some, length, Contains, OnOk, OnErr, IfOk, IfSome};
+ghost use Rattle.saturate.specs.Queued.{with_one_more, HasTurn};
+ghost use Rattle.work_list.specs.Bag.{IsEmpty};
+
+use axioms::Memory;
+use facts::{Context, Fact};
+use std::alloc::Global;
+use std::marker::Model;
+use work_list::{Item, WorkList};
+
+/// Numbers from 0 on, each of which has one turn: some wait in a list of work, then one is in hand, then it is served.
+#[derive(Drop)]
+pub(crate) struct Queue<W: WorkList> {
+    list: W,
+    queued: u32,
+    taken: Vec<u32>,
+    served: usize,
+}
+
+impl<W: WorkList> Model for Queue<W> {
+    ghost use Rattle.std.specs.Prelude.{take, slice_get};
+    ghost use Rattle.saturate.specs.Queued.{Queued, IsQueue};
+
+    ghost Value = { Queued };
+
+    ghost view = { λ q. record { queued = q.queued; served = take q.served q.taken.items; hand = slice_get q.taken.items q.served } };
+
+    ghost invariant = { λ q. IsQueue (W.pending q.list) q.queued q.taken.items q.served };
+}
+
+/// The number of a fact's context.
+fn context_of(fact: &Fact) -> u32 {
+    match fact {
+        Fact::In(_, x) | Fact::Edge(x, _, _) => match x {
+            Context::Expr(id) => id.0,
+            Context::Individual(id) => u32::MAX - id.0,
+        },
+    }
+}
+
+impl<W: WorkList> Queue<W> {
+    /// Nothing has had its turn.
+    pub fn new(alloc: Global, list: W) -> Self
+        requires { IsEmpty (W.pending list) }
+        ensures queued { result.queued ≡ 0 }
+        ensures served { result.served ≡ [] }
+        ensures hand { result.hand ≡ None }
+    {
+        Queue {
+            list,
+            queued: 0,
+            taken: Vec::new(alloc),
+            served: 0,
+        }
+    }
+
+    /// How many numbers were queued.
+    fn queued(&self) -> u32
+        ensures { result ≡ self.now.queued }
+    {
+        self.queued
+    }
+
+    /// Queues the next number.
+    fn wait(&mut self, context: u32) -> Result<(), Memory>
+        requires { self.old.queued < u32.MAX }
+        ensures ok { OnOk result (self.new ≡ with_one_more self.old) }
+        ensures err { OnErr result (self.new ≡ self.old) }
+    {
+        let item = Item {
+            fact: self.queued,
+            context,
+        };
+        match self.list.push(item) {
+            Ok(()) => {
+                self.queued += 1;
+                Ok(())
+            }
+            Err(_) => Err(Memory),
+        }
+    }
+
+    /// How many numbers were served.
+    pub fn served(&self) -> usize
+        ensures value { result ≡ length self.now.served }
+        ensures few { result ≤ self.now.queued }
+    {
+        self.served
+    }
+
+    /// Queues the numbers of all facts.
+    fn fill(&mut self, facts: &[Fact]) -> Result<(), Memory>
+        requires few { length facts.now < 2 ^ 32 }
+        requires least { self.old.queued ≤ length facts.now }
+        ensures most { self.new.queued ≤ length facts.now }
+        ensures least { self.old.queued ≤ self.new.queued }
+        ensures served { self.new.served ≡ self.old.served }
+        ensures hand { self.new.hand ≡ self.old.hand }
+        ensures ok { OnOk result (self.new.queued ≡ length facts.now) }
+    {
+        while (self.queued() as usize) < facts.len() {
+            self.wait(context_of(&facts[self.queued() as usize]))?;
+        }
+        Ok(())
+    }
+
+    /// Takes a number that waits in hand.
+    fn take(&mut self) -> Result<(), Memory>
+        requires { self.old.hand ≡ None }
+        ensures queued { self.new.queued ≡ self.old.queued }
+        ensures served { self.new.served ≡ self.old.served }
+        ensures ok { OnOk result (HasTurn self.old.queued self.old.served self.new.hand) }
+        ensures err { OnErr result (self.new.hand ≡ None) }
+    {
+        if self.list.len() == 0 {
+            return Ok(());
+        }
+        self.taken.reserve(1)?;
+        if let Some(item) = self.list.pop() {
+            let _ = self.taken.push(item.fact);
+        }
+        Ok(())
+    }
+
+    /// The number in hand, if there is one.
+    fn hand(&self) -> Option<u32>
+        ensures value { result ≡ self.now.hand }
+        ensures some { (n : ℕ) → result ≡ Some n → (n < self.now.queued) × (length self.now.served < self.now.queued) }
+    {
+        if self.served < self.taken.len() {
+            Some(self.taken[self.served])
+        } else {
+            None
+        }
+    }
+
+    /// Takes a number in hand, unless one is there.
+    pub fn turn(&mut self, facts: &[Fact]) -> Result<Option<u32>, Memory>
+        requires few { length facts.now < 2 ^ 32 }
+        requires least { self.old.queued ≤ length facts.now }
+        ensures queued { self.new.queued ≤ length facts.now }
+        ensures served { self.new.served ≡ self.old.served }
+        ensures hand { IfOk result (λ hand. hand ≡ self.new.hand) }
+        ensures ok { OnOk result (HasTurn (length facts.now) self.old.served self.new.hand) }
+        ensures kept { (n : ℕ) → self.old.hand ≡ Some n → self.new.hand ≡ Some n }
+    {
+        if let Some(hand) = self.hand() {
+            return Ok(Some(hand));
+        }
+        self.fill(facts)?;
+        self.take()?;
+        Ok(self.hand())
+    }
+
+    /// The number in hand is served.
+    pub fn finish(&mut self, hand: u32)
+        requires { self.old.hand ≡ Some hand }
+        ensures queued { self.new.queued ≡ self.old.queued }
+        ensures served { self.new.served ≡ self.old.served ++ hand ∷ [] }
+        ensures hand { self.new.hand ≡ None }
+    {
+        let _ = hand;
+        self.served += 1;
+    }
+}

@@ -1,0 +1,171 @@
+//! The state of a saturation.
+ghost use Rattle.std.specs.Prelude.{OnErr, ◌≡◌, ◌↔◌, ◌<◌, ◌≤◌, ◌+◌, ◌∷◌, ◌++◌, [], ℕ, Ok, Err, Some, true, false, length, take, slice_get, IfOk, OnOk, IfSome, IfNone, Contains};
+ghost use Rattle.facts.specs.Births.{IsBirth, reason};
+ghost use Rattle.saturate.specs.Derived.{HasMoreFactsThan};
+ghost use Rattle.facts.specs.declared.contexts.Fact.{Fact as Fact2};
+ghost use Rattle.saturate.specs.State.{AreBorn, Extends};
+ghost use Rattle.saturate.specs.Closed.{IsClosureOf};
+ghost use Rattle.saturate.specs.Working.{IsClosure};
+ghost use Rattle.work_list.specs.Bag.{IsEmpty};
+
+use crate::known_facts::{KnownFacts, Stop};
+use crate::queue::Queue;
+use crate::rules::Rules;
+use axioms::Memory;
+use fact_index::Index;
+use facts::{Birth, Context, Fact, FactId};
+use form_index::IndexedProblem;
+use normal_forms::Form;
+use property_closure::PropertyClosure;
+use std::alloc::Global;
+use std::hash::RandomState;
+use std::marker::Model;
+use work_list::WorkList;
+
+/// The facts so far, some of them served.
+#[derive(Drop)]
+pub struct State<W: WorkList> {
+    problem: IndexedProblem,
+    closure: PropertyClosure,
+    facts: KnownFacts,
+    queue: Queue<W>,
+    index: Index,
+}
+
+impl<W: WorkList> Model for State<W> {
+    ghost use Rattle.saturate.specs.State.{Seen, IsState};
+    ghost use Rattle.saturate.specs.Listed.{ListsServed};
+
+    ghost Value = { Seen };
+
+    ghost view = { λ s. record { problem = s.problem; facts = s.facts.facts; births = s.facts.births; served = s.queue.served } };
+
+    ghost invariant = { λ s. IsState s.problem s.closure s.facts s.queue × ListsServed s.facts s.queue s.index };
+}
+
+impl<W: WorkList> State<W> {
+    /// What is there with no fact, nothing of it served.
+    pub fn new(
+        alloc: Global,
+        state: RandomState,
+        forms: Vec<Form>,
+        roots: Vec<Context>,
+        closure: PropertyClosure,
+        list: W,
+    ) -> Result<Self, Memory>
+    where
+        W: Drop,
+        requires closed { IsClosureOf forms.items closure }
+        requires empty { IsEmpty (W.pending list) }
+        ensures forms { IfOk result (λ s. s.problem.forms ≡ forms.items) }
+        ensures roots { IfOk result (λ s. s.problem.roots ≡ roots.items) }
+        ensures served { IfOk result (λ s. s.served ≡ []) }
+    {
+        let problem = IndexedProblem::new(alloc, forms, roots)?;
+        let mut facts = KnownFacts::new(alloc, state);
+        let rules = Rules {
+            problem: &problem,
+            closure: &closure,
+            max_facts: u32::MAX,
+        };
+        match rules.begin(&mut facts) {
+            Ok(()) => Ok(State {
+                problem,
+                closure,
+                facts,
+                queue: Queue::new(alloc, list),
+                index: Index::new(alloc),
+            }),
+            Err(_) => Err(Memory),
+        }
+    }
+
+    /// The closure of the properties.
+    pub fn closure(&self) -> &PropertyClosure
+        ensures { IsClosureOf self.now.problem.forms result.now }
+    {
+        &self.closure
+    }
+
+    /// The facts, in order of birth.
+    pub fn facts(&self) -> &[Fact]
+        ensures { result.now ≡ self.now.facts }
+    {
+        self.facts.as_slice()
+    }
+
+    /// What gave the fact of that number, if there is one: a condition, older facts and a form.
+    pub fn born(&self, fact: FactId) -> Option<&Birth>
+        ensures reason { IfSome result (λ b. slice_get self.now.births fact.0 ≡ Some (reason b.now)) }
+        ensures gives { IfSome result (λ b. (f : Fact2) → slice_get self.now.facts fact.0 ≡ Some f → IsBirth self.now.problem (take fact.0 self.now.facts) f (reason b.now)) }
+        ensures none { IfNone result (length self.now.facts ≤ fact.0) }
+    {
+        let FactId(number) = fact;
+        if number as usize >= self.facts.len() {
+            return None;
+        }
+        Some(self.facts.birth(number))
+    }
+
+    /// How many facts are served.
+    pub fn served(&self) -> usize
+        ensures { result ≡ length self.now.served }
+    {
+        self.queue.served()
+    }
+
+    /// Serves a fact that is pending, or answers `false` where there is none.
+    ///
+    /// # Errors
+    ///
+    /// After either the fact in hand is still pending, and conclusions that were drawn stay.
+    pub fn step(&mut self, max_facts: u32) -> Result<bool, Stop>
+        ensures extends { Extends self.old self.new }
+        ensures born { AreBorn self.new }
+        ensures yes { result ≡ Ok true → length self.new.served ≡ length self.old.served + 1 }
+        ensures err { OnErr result (self.new.served ≡ self.old.served) }
+        ensures was_pending { result ≡ Ok true → length self.old.served < length self.old.facts }
+        ensures within { length self.old.facts ≤ max_facts → length self.new.facts ≤ max_facts }
+        ensures no { result ≡ Ok false → self.new ≡ self.old }
+        ensures pending { IfOk result (λ more. (more ≡ false) ↔ (length self.old.served ≡ length self.old.facts)) }
+        ensures done { result ≡ Ok false → IsClosure self.new.problem self.new.facts }
+        ensures limit { result ≡ Err Stop.Limit → HasMoreFactsThan self.old.problem max_facts }
+    {
+        let Some(hand) = self.queue.turn(self.facts.as_slice())? else {
+            return Ok(false);
+        };
+        let fact = self.facts.get(hand);
+        let Ok(()) = self.index.add(hand, fact) else {
+            return Err(Stop::Memory);
+        };
+        let rules = Rules {
+            problem: &self.problem,
+            closure: &self.closure,
+            max_facts,
+        };
+        rules.serve(&mut self.facts, &self.index, hand, fact)?;
+        self.queue.finish(hand);
+        Ok(true)
+    }
+
+    /// Serves all facts that are pending, and those that come of them.
+    ///
+    /// # Errors
+    ///
+    /// As for `step`; it may be called again.
+    pub fn run(&mut self, max_facts: u32) -> Result<(), Stop>
+        ensures extends { Extends self.old self.new }
+        ensures born { AreBorn self.new }
+        ensures done { OnOk result (IsClosure self.new.problem self.new.facts) }
+        ensures served { OnOk result (length self.new.served ≡ length self.new.facts) }
+        ensures within { OnOk result (length self.new.facts ≤ max_facts) }
+        ensures few { OnOk result (HasMoreFactsThan self.new.problem max_facts → ⊥) }
+        ensures limit { result ≡ Err Stop.Limit → HasMoreFactsThan self.old.problem max_facts }
+    {
+        if self.facts.len() > max_facts as usize {
+            return Err(Stop::Limit);
+        }
+        'steps: while self.step(max_facts)? {}
+        Ok(())
+    }
+}
