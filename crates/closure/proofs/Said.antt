@@ -188,14 +188,18 @@ module _ (o : Ontology) (asked : List ℕ) (b : Beginnings) (k : Problem) (h : I
   from_two (forms.N4 r a c) (facts.Edge x q y) (facts.In d z) new (below, same_a, same_y, is) g (n4 {a' = a'} {c' = c'} {r' = r'} says_r says_a says_c) form f l (edge {x' = x'} {y' = y'} {r' = q'} says_x says_q says_y) (in_context {a' = d'} {x' = z'} says_d says_z) =
       let class_is : a' ≡ d' = class_one b (subst (λ w. SaysClass b w a') (sym same_a) says_a) says_d in
       let context_is : y' ≡ z' = context_one says_y (subst (λ w. SaysContext w z') (sym same_y) says_z) in
-      let form' : IsForm o asked (N4 r' d' c') = subst (λ w. IsForm o asked (N4 r' w c')) class_is form in
-      (In c' x', subst (λ w. SaysFact b w (In c' x')) (sym is) (in_context says_c says_x),
-       subst (λ w. Gives o asked (Edge x' q' y' ∷ In d' w ∷ []) (In c' x')) context_is (Gives.predecessor r' d' q' y' form' (below_as below says_q (property says_r))))
+      let form' : IsForm o asked (N4 r' d' c') = subst (λ w. IsForm o asked (N4 r' w c')) class_is form in (
+        In c' x',
+        subst (λ w. SaysFact b w (In c' x')) (sym is) (in_context says_c says_x),
+        subst (λ w. Gives o asked (Edge x' q' y' ∷ In d' w ∷ []) (In c' x')) context_is (Gives.predecessor r' d' q' y' form' (below_as below says_q (property says_r))),
+      )
   from_two (forms.N6 r s t) (facts.Edge x p y) (facts.Edge z q w) new (below_r, below_s, same_y, is) g (n6 {r' = r'} {s' = s'} {t' = t'} says_r says_s says_t) form f l (edge {x' = x'} {y' = y'} {r' = p'} says_x says_p says_y) (edge {x' = z'} {y' = w'} {r' = q'} says_z says_q says_w) =
       let context_is : y' ≡ z' = context_one says_y (subst (λ v. SaysContext v z') (sym same_y) says_z) in
-      let new' : Fact = Edge x' t' w' in
-      (new', subst (λ v. SaysFact b v new') (sym is) (edge says_x says_t says_w),
-       subst (λ v. Gives o asked (Edge x' p' y' ∷ Edge v q' w' ∷ []) new') context_is (Gives.chained r' s' p' q' y' form (below_as below_r says_p says_r) (below_as below_s says_q says_s)))
+      let new' : Fact = Edge x' t' w' in (
+        new',
+        subst (λ v. SaysFact b v new') (sym is) (edge says_x says_t says_w),
+        subst (λ v. Gives o asked (Edge x' p' y' ∷ Edge v q' w' ∷ []) new') context_is (Gives.chained r' s' p' q' y' form (below_as below_r says_p says_r) (below_as below_s says_q says_s)),
+      )
   from_two (forms.N2 _ _ _) (facts.Edge _ _ _) second new is g says form f l says_f says_l = absurd is
   from_two (forms.N2 _ _ _) (facts.In _ _) (facts.Edge _ _ _) new is g says form f l says_f says_l = absurd is
   from_two (forms.N4 _ _ _) (facts.In _ _) second new is g says form f l says_f says_l = absurd is
@@ -224,10 +228,12 @@ module _ (o : Ontology) (asked : List ℕ) (b : Beginnings) (k : Problem) (h : I
   carried new (one_more (edge _ _ _) (one_more (edge _ _ _) no_facts)) is = absurd is
   carried new (one_more (edge {x' = x'} {y' = y'} {r' = r'} says_x says_r says_y) (one_more (in_context {a' = c'} {x' = z'} says_c says_z) no_facts)) (same_c, same_y, is) =
       let class_is : Whole nothing ≡ c' = class_one b (whole refl) (subst (λ w. SaysClass b w c') same_c says_c) in
-      let context_is : y' ≡ z' = context_one says_y (subst (λ w. SaysContext w z') (sym same_y) says_z) in
-      (In (Whole nothing) x', subst (λ w. SaysFact b w (In (Whole nothing) x')) (sym is) (in_context (whole refl) says_x),
-       subst (λ w. Gives o asked (Edge x' r' y' ∷ In c' w ∷ []) (In (Whole nothing) x')) context_is
-       (subst (λ c. Gives o asked (Edge x' r' y' ∷ In c y' ∷ []) (In (Whole nothing) x')) class_is (Gives.unsatisfiable r' y')))
+      let context_is : y' ≡ z' = context_one says_y (subst (λ w. SaysContext w z') (sym same_y) says_z) in (
+        In (Whole nothing) x',
+        subst (λ w. SaysFact b w (In (Whole nothing) x')) (sym is) (in_context (whole refl) says_x),
+        subst (λ w. Gives o asked (Edge x' r' y' ∷ In c' w ∷ []) (In (Whole nothing) x')) context_is
+            (subst (λ c. Gives o asked (Edge x' r' y' ∷ In c y' ∷ []) (In (Whole nothing) x')) class_is (Gives.unsatisfiable r' y')),
+      )
 
   looped : {gs : List Fact} (x : code_context.Context) (form : code_form.Form) (new : code_fact.Fact) → IsLoop x form new → (y : Context) → SaysContext x y → IsContextBy o asked gs y → (g : Form) → SaysForm b form g → IsForm o asked g → Said new gs
   unfolding Said
@@ -262,6 +268,7 @@ module _ (o : Ontology) (asked : List ℕ) (b : Beginnings) (k : Problem) (h : I
 
   mutual
     unfolding Said
+
     pub said : (f : code_fact.Fact) → numbered.IsFact k f → (g : Fact) × SaysFact b f g × IsFact o asked g
     said f (numbered.given condition form older gives are) =
         let (gs, says, facts') = all_said older are in
@@ -371,6 +378,7 @@ module _ (o : Ontology) (asked : List ℕ) (b : Beginnings) (k : Problem) (h : I
 
   mutual
     unfolding Sayer
+
     pub sayer : (g : Fact) → IsFact o asked g → (f : code_fact.Fact) × numbered.IsFact k f × SaysFact b f g
     sayer g (given older gives are) =
         let (fs, facts', says) = all_sayers older are in

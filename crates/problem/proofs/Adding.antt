@@ -95,9 +95,11 @@ module _ (o : Ontology) (w : IsOntology o) (asked : List ExprId) (first second t
   question x there =
       let (n, at) = slice_get-from_Contains (map contexts.Expr asked) x there in
       let (e, at_n, same) = slice_get_map_from contexts.Expr asked n x at in
-      let e_there = Contains-from_slice_get asked n e at_n in
-      (Expression e.0, subst (λ z. SaysContext z (Expression e.0)) same (expression refl),
-       IsRoot.question e.0 (All-contains (λ e. e.0 < length o.nodes) asked e inside e_there) (Contains-map (λ (e : ExprId). e.0) asked e e_there))
+      let e_there = Contains-from_slice_get asked n e at_n in (
+        Expression e.0,
+        subst (λ z. SaysContext z (Expression e.0)) same (expression refl),
+        IsRoot.question e.0 (All-contains (λ e. e.0 < length o.nodes) asked e inside e_there) (Contains-map (λ (e : ExprId). e.0) asked e e_there),
+      )
 
   each : (x : code.Context) → Contains third x → (y : Context) × SaysContext x y × IsRoot o numbers y
   each x there =

@@ -48,11 +48,7 @@ fn push_asked(asked: &[ExprId], roots: &mut Vec<Context>) -> Result<(), Memory>
 /// # Errors
 ///
 /// `Memory` where memory was refused.
-pub fn roots(
-    alloc: Global,
-    ontology: &Ontology,
-    asked: &[ExprId],
-) -> Result<Vec<Context>, Memory>
+pub fn roots(alloc: Global, ontology: &Ontology, asked: &[ExprId]) -> Result<Vec<Context>, Memory>
     requires { All (λ e. e.0 < length ontology.now.nodes) asked.now }
     ensures { IfOk result (λ v. AreRoots ontology.now (expr_numbers asked.now) v.items) }
 {

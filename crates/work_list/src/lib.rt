@@ -14,4 +14,3 @@ pub use fifo::Fifo;
 pub use item::Item;
 pub use lifo::Lifo;
 pub use list::{WorkList, drain};
-
