@@ -1,7 +1,7 @@
 //! Sets and lists of a few numbers, worked out by hand.
 ghost use Rattle.std.specs.Prelude.{◌≡◌, IfOk, length};
 
-use number_sets::{EpochSet, PackedLists, turned};
+use number_sets::{EpochSet, OpenLists, PackedLists, turned};
 use std::alloc::{AllocError, Global};
 use std::test::Fail;
 
