@@ -1,6 +1,6 @@
 -- What the forms of an ontology lead to is its closure.
 use Rattle.std.proofs.Common.{◌≡◌, List, [], map, ap, sym, subst, Result, Ok, Err, IfOk}
-use Rattle.axioms.specs.declared.fault.Memory.{Memory}
+use Rattle.device.specs.declared.fault.Memory.{Memory}
 use Rattle.axioms.specs.Numbered.{Ontology}
 use Rattle.normal_forms.specs.declared.forms.Form.{Form}
 use Rattle.facts.specs.declared.contexts.Context.{Context}
