@@ -1,10 +1,10 @@
 -- What is proved of the closure and of runs.
 use Rattle.std.specs.Prelude.{◌≡◌, ℕ, ◌+◌, ◌<◌, ◌↔◌, ◌⊎◌, List, [], ◌∷◌, ◌++◌, length, slice_get, Some, Bool, true, false}
 use Rattle.std.specs.List.{All, Contains}
-use Rattle.axioms.specs.Numbered.{Ontology}
+use Rattle.axioms.specs.Numbered.{Ontology, AtTwoPlaces, DisjointClasses, nothing}
 use Rattle.axioms.specs.WellFormed.{AreDistinct}
-use Rattle.normal_forms.specs.Forms.{Property2, N6, IsForm}
-use Rattle.closure.specs.Closure.{Context, Fact, Edge, IsAtOrBelow, Gives, IsFact}
+use Rattle.normal_forms.specs.Forms.{Property2, N6, IsForm, Whole}
+use Rattle.closure.specs.Closure.{Context, Fact, Edge, In, IsAtOrBelow, Gives, IsFact}
 use Rattle.closure.specs.Run.{State, IsState, IsRun, LeanState, WasServed, IsFinished, IsBornBy, IsLeanState, IsDrawn, as_lean}
 
 -- the closure has what its facts give
@@ -103,3 +103,10 @@ abbrev pub BirthsStay : Type 0
 BirthsStay =
     (o : Ontology) (asked : List ℕ) (facts more : List Fact) (r s t : Property2) (y z : Context) (place first second : ℕ) →
     IsBornBy o asked facts r s t y z place first second → IsBornBy o asked (facts ++ more) r s t y z place first second
+
+-- disjoint classes have a form for each two places once: the form for the other order would give nothing more
+abbrev pub OrderOfDisjointClassesDoesNotMatter : Type 0
+OrderOfDisjointClassesDoesNotMatter =
+    (o : Ontology) (asked : List ℕ) (cs : List ℕ) (c d : ℕ) (x : Context) →
+    Contains o.axioms (DisjointClasses cs) → AtTwoPlaces cs c d →
+    IsFact o asked (In (Whole c) x) → IsFact o asked (In (Whole d) x) → IsFact o asked (In (Whole nothing) x)

@@ -2,6 +2,7 @@
 #![tactic(auto)]
 
 ghost use Rattle.closure.specs.Said.{NumbersSayTheClosure};
+ghost use Rattle.closure.specs.Theorems.{OrderOfDisjointClassesDoesNotMatter};
 ghost use Rattle.closure.specs.Theorems.{ClosureIsClosed, ClosureIsLeast, FinishedIsClosure, StepsServe, OrderDoesNotMatter};
 ghost use Rattle.closure.specs.Theorems.{LeanFinishedIsClosure, LeanFinishedIsState, LeanOrderDoesNotMatter, StatesAreLean, StartIsLean, AddingStaysLean, ServingStaysLean, AddedIsBorn, BirthsStay};
 
@@ -26,4 +27,9 @@ pub fn closure_and_runs()
 /// Where the forms and roots over numbers are those of the ontology, the facts over numbers say exactly the facts of the closure.
 pub fn numbers_say_the_closure()
     ensures { NumbersSayTheClosure }
+{}
+
+/// Of disjoint classes each two are taken once, in the order of the axiom; the other order would add no fact.
+pub fn order_of_disjoint_classes_does_not_matter()
+    ensures { OrderOfDisjointClassesDoesNotMatter }
 {}
