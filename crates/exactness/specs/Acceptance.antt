@@ -11,7 +11,7 @@ use Rattle.cert_check.specs.Derivation.{IsDerivation}
 use Rattle.cert_check.specs.Acceptable.{IsListing, IsContradictionShown, IsAcceptable}
 use Rattle.closure.specs.Closure.{Context, Expression, Individual, In, IsFact}
 use Rattle.normal_forms.specs.Forms.{Whole}
-use Rattle.countermodel.specs.Listed.{IsListedInterpretation, IsConsistent}
+use Rattle.closure_model.specs.Listed.{IsListedInterpretation, IsConsistent}
 use Rattle.exactness.specs.Theorems.{HaveFacts}
 
 -- each satisfiable named class is claimed, at its own element

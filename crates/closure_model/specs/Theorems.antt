@@ -7,7 +7,7 @@ use Rattle.interpretation_spec.specs.Interpretation.{IsBelow, Interpretation, Is
 use Rattle.interpretation_spec.specs.Agreement.{AgreeOn}
 use Rattle.normal_forms.specs.Forms.{Whole, Property}
 use Rattle.closure.specs.Closure.{Context, Expression, Individual, In, IsRoot, IsFact}
-use Rattle.countermodel.specs.Listed.{HasEdge, AreSatisfiableContexts, IsListedInterpretation, IsConsistent, AgreesWithClosure}
+use Rattle.closure_model.specs.Listed.{HasEdge, AreSatisfiableContexts, IsListedInterpretation, IsConsistent, AgreesWithClosure}
 
 -- the expressions that are asked about are there
 abbrev pub AreAsked : Ontology → List ℕ → Type 0
