@@ -1,5 +1,5 @@
 -- What the forms of an ontology lead to is its closure.
-use Rattle.std.proofs.Common.{◌≡◌, List, [], map, ap, sym, subst, Result, Ok, Err, IfOk}
+use Rattle.std.proofs.Common.{◌≡◌, List, [], map, ap, ◌∙◌, sym, subst, Result, Ok, Err, IfOk}
 use Rattle.device.specs.declared.fault.Memory.{Memory}
 use Rattle.axioms.specs.Numbered.{Ontology}
 use Rattle.normal_forms.specs.declared.forms.Form.{Form}
@@ -41,10 +41,10 @@ says_the_closure o v s problem closure = record {
 }
 
 pub is_saturated : (o : Ontology) (v : Listing) (k : Problem) (s : Seen) → IsNormalFor o v → v.asked ≡ [] → IsProblemOf o [] (beginnings_of v) k
-    → s.problem ≡ k → IsClosure s.problem s.facts → AreBorn s → IsSaturated o (record { normal = v; state = s })
-is_saturated o v k s normal asked problem same closure born =
+    → k.forms ≡ map form_in v.entries → s.problem ≡ k → IsClosure s.problem s.facts → AreBorn s → IsSaturated o (record { normal = v; state = s })
+is_saturated o v k s normal asked problem forms same closure born =
     let there : IsProblemOf o [] (beginnings_of v) s.problem = subst (IsProblemOf o [] (beginnings_of v)) (sym same) problem in
-    record { normal = normal; asked = asked; problem = there; facts = says_the_closure o v s there closure; born = born }
+    record { normal = normal; asked = asked; forms = ap (λ (p : Problem). p.forms) same ∙ forms; problem = there; facts = says_the_closure o v s there closure; born = born }
 
 abbrev err_or : {T E : Type 0} → E → Result T E → E
 err_or d (Ok x) = d

@@ -59,15 +59,15 @@ module _ (o : Ontology) (b : Beginnings) (k : Problem) (h : IsProblemOf o [] b k
   property_same (property g) (property l) = ap properties.Property (same_property g l)
   property_same (steps {n = m} {rs = rs} g) (steps {n = n} l) = ap properties.Partial (h.distinct_steps m n rs g l)
 
-  fact_same : {f f' : code_fact.Fact} {g : Fact} → SaysFact b f g → SaysFact b f' g → f ≡ f'
+  pub fact_same : {f f' : code_fact.Fact} {g : Fact} → SaysFact b f g → SaysFact b f' g → f ≡ f'
   fact_same (in_context a x) (in_context c y) = same_in (class_same a c) (context_same x y)
   fact_same (edge x p z) (edge y q w) = same_edge (context_same x y) (property_same p q) (context_same z w)
 
   -- the fact is said by the one at its place, and is of the closure
-  abbrev IsSaidAt : List code_fact.Fact → ℕ → Fact → Type 0
+  abbrev pub IsSaidAt : List code_fact.Fact → ℕ → Fact → Type 0
   IsSaidAt fs m g = (f : code_fact.Fact) × (slice_get fs m ≡ Some f) × SaysFact b f g × IsFact o [] g
 
-  abbrev AreSaid : List code_fact.Fact → List Fact → Type 0
+  abbrev pub AreSaid : List code_fact.Fact → List Fact → Type 0
   AreSaid fs gs = (length gs ≡ length fs) × ((m : ℕ) (g : Fact) → slice_get gs m ≡ Some g → IsSaidAt fs m g)
 
   one_more : (f : code_fact.Fact) (fs : List code_fact.Fact) (g : Fact) (gs : List Fact) → SaysFact b f g → IsFact o [] g → AreSaid fs gs → AreSaid (f ∷ fs) (g ∷ gs)
@@ -77,17 +77,18 @@ module _ (o : Ontology) (b : Beginnings) (k : Problem) (h : IsProblemOf o [] b k
       at zero g' is = (f, refl, subst (SaysFact b f) (same_Some g g' is) says, subst (IsFact o []) (same_Some g g' is) fact)
       at (suc m) g' is = are.1 m g' is
 
-  all_said : (fs : List code_fact.Fact) → ((m : ℕ) (f : code_fact.Fact) → slice_get fs m ≡ Some f → numbered.IsFact k f) → (gs : List Fact) × AreSaid fs gs
+  -- where each says a fact of the closure, a list has these facts in the same order
+  pub all_said : (fs : List code_fact.Fact) → ((m : ℕ) (f : code_fact.Fact) → slice_get fs m ≡ Some f → (g : Fact) × SaysFact b f g × IsFact o [] g) → (gs : List Fact) × AreSaid fs gs
   all_said [] each = ([], (refl, λ m g is. cc))
   all_said (f ∷ fs) each =
-      let (g, says, fact) = said o [] b k h f (each 0 f refl) in
+      let (g, says, fact) = each 0 f refl in
       let (gs, are) = all_said fs (λ m x is. each (suc m) x is) in
       (g ∷ gs, one_more f fs g gs says fact are)
 
   -- where there are more facts over numbers, the closure has more
   pub more_facts : (n : ℕ) → derived.HasMoreFactsThan k n → HasMoreFactsThan o n
   more_facts n more =
-      let (gs, (long, at)) = all_said more.facts more.each in
+      let (gs, (long, at)) = all_said more.facts (λ m f is. said o [] b k h f (more.each m f is)) in
       record {
         facts = gs;
         distinct = λ m m' g is is'.

@@ -1,11 +1,12 @@
 -- What a saturation has.
-use Rattle.std.specs.Prelude.{◌≡◌, ℕ, ◌<◌, List, [], length}
+use Rattle.std.specs.Prelude.{◌≡◌, ℕ, ◌<◌, List, [], length, map}
 use Rattle.std.specs.List.{All, Contains}
 use Rattle.axioms.specs.Numbered.{Ontology}
 use Rattle.axioms.specs.WellFormed.{AreDistinct}
 use Rattle.facts.specs.declared.contexts.Fact as code
 use Rattle.closure.specs.Closure.{Fact, IsFact}
 use Rattle.closure.specs.Said.{Beginnings, SaysFact, IsProblemOf}
+use Rattle.normalise.specs.Entries.{form_in}
 use Rattle.normalise.specs.Growing.{IsNormalFor}
 use Rattle.normalise.specs.Listing.{Listing}
 use Rattle.problem.specs.Made.{beginnings_of}
@@ -25,6 +26,8 @@ pub record SayTheClosure (o : Ontology) (b : Beginnings) (facts : List code.Fact
 pub record IsSaturated (o : Ontology) (s : Saturated) : Type 0 where
   pub normal : IsNormalFor o s.normal
   pub asked : s.normal.asked ≡ []
+  -- .. in the same order
+  pub forms : s.state.problem.forms ≡ map form_in s.normal.entries
   pub problem : IsProblemOf o [] (beginnings_of s.normal) s.state.problem
   pub facts : SayTheClosure o (beginnings_of s.normal) s.state.facts
   pub born : AreBorn s.state

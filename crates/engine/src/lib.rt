@@ -3,8 +3,6 @@
 
 mod counts;
 mod saturation;
-#[cfg(test)]
-mod tests;
 
 pub use saturate::Stop;
 pub use saturation::{Saturation, saturated};

@@ -3,11 +3,12 @@ ghost use Rattle.closure.specs.Said.{IsProblemOf};
 ghost use Rattle.engine.specs.Saturated.{HasMoreFactsThan, IsSaturated};
 ghost use Rattle.facts.specs.Births.{IsBirth, reason};
 ghost use Rattle.facts.specs.declared.contexts.Fact.{Fact as Fact2};
+ghost use Rattle.normalise.specs.Entries.{form_in};
 ghost use Rattle.normalise.specs.Growing.{IsNormalFor};
 ghost use Rattle.problem.specs.Made.{beginnings_of};
 ghost use Rattle.saturate.specs.Closed.{IsClosureOf};
 ghost use Rattle.saturate.specs.declared.known_facts.Stop.TheVariants as stops;
-ghost use Rattle.std.specs.Prelude.{◌≡◌, ◌≤◌, Err, IfNone, IfOk, IfSome, Some, [], length, slice_get, take};
+ghost use Rattle.std.specs.Prelude.{◌≡◌, ◌≤◌, Err, IfNone, IfOk, IfSome, Some, [], length, map, slice_get, take};
 
 use crate::counts::counted;
 use axioms::{Memory, Ontology};
@@ -52,6 +53,13 @@ impl Saturation {
         self.state.facts()
     }
 
+    /// What the forms say of properties.
+    pub fn closure(&self) -> &PropertyClosure
+        ensures { IsClosureOf self.now.state.problem.forms result.now }
+    {
+        self.state.closure()
+    }
+
     /// What gave the fact of that number, if there is one: a condition, older facts and a form.
     pub fn born(&self, fact: FactId) -> Option<&Birth>
         ensures reason { IfSome result (λ b. slice_get self.now.state.births fact.0 ≡ Some (reason b.now)) }
@@ -88,7 +96,8 @@ fn begun(
 ) -> Result<State<Fifo>, Memory>
     requires normal { IsNormalFor ontology.now normal.now }
     requires asked { normal.now.asked ≡ [] }
-    ensures { IfOk result (λ s. IsProblemOf ontology.now [] (beginnings_of normal.now) s.problem) }
+    ensures problem { IfOk result (λ s. IsProblemOf ontology.now [] (beginnings_of normal.now) s.problem) }
+    ensures forms { IfOk result (λ s. s.problem.forms ≡ map form_in normal.now.entries) }
 {
     let closure = closed(alloc, normal.forms())?;
     let forms = copied(alloc, normal.forms())?;

@@ -2,8 +2,6 @@
 #![tactic(auto)]
 
 mod forms;
-#[cfg(test)]
-mod tests;
 mod theory;
 
 pub use forms::{Class2, Form, Origin, PropId2};

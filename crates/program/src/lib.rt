@@ -3,8 +3,6 @@
 
 mod limits;
 mod status;
-#[cfg(test)]
-mod tests;
 
 pub use limits::{Limits, MOST_BYTES, MOST_FACTS};
 pub use status::Status;

@@ -8,7 +8,5 @@ mod reflexive;
 mod related;
 mod search;
 mod supers;
-#[cfg(test)]
-mod tests;
 
 pub use closure::{PropertyClosure, close};

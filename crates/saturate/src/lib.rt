@@ -7,8 +7,6 @@ mod properties;
 mod queue;
 mod rules;
 mod state;
-#[cfg(test)]
-mod tests;
 mod visits;
 
 pub use known_facts::Stop;

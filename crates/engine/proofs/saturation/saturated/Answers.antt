@@ -6,8 +6,8 @@ use Rattle.engine.proofs.saturation.saturated.Goals as goal
 
 pub returns-in-Ok-clause-saturated : goal.returns-in-Ok-clause-saturated
 returns-in-Ok-clause-saturated c =
-    is_saturated c.args.ontology.now c.in_ok-normal.normal c.in_ok-state.state.problem c.run.new.self c.in_ok-normal.ensures.forms c.in_ok-normal.ensures.asked c.in_ok-state.ensures c.in-Ok.ensures.extends.problem c.in-Ok.ensures.done c.in-Ok.ensures.born
+    is_saturated c.args.ontology.now c.in_ok-normal.normal c.in_ok-state.state.problem c.run.new.self c.in_ok-normal.ensures.forms c.in_ok-normal.ensures.asked c.in_ok-state.ensures.problem c.in_ok-state.ensures.forms c.in-Ok.ensures.extends.problem c.in-Ok.ensures.done c.in-Ok.ensures.born
 
 pub returns-in-Err-clause-limit : goal.returns-in-Err-clause-limit
 returns-in-Err-clause-limit c = λ e.
-    more_facts c.args.ontology.now (beginnings_of c.in_ok-normal.normal) c.in_ok-state.state.problem c.in_ok-state.ensures c.args.max_facts (c.in-Err.ensures.limit (ap Err (same_Err _ _ e)))
+    more_facts c.args.ontology.now (beginnings_of c.in_ok-normal.normal) c.in_ok-state.state.problem c.in_ok-state.ensures.problem c.args.max_facts (c.in-Err.ensures.limit (ap Err (same_Err _ _ e)))
