@@ -1,9 +1,11 @@
-//! Tests of what stands at the edge: devices, files and the words of the command line.
+//! Tests of what stands at the edge: devices, files, limits and the words of the command line.
 #![tactic(auto)]
 
 #[cfg(test)]
 mod devices;
 #[cfg(test)]
 mod files;
+#[cfg(test)]
+mod limits;
 #[cfg(test)]
 mod words;

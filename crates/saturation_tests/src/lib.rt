@@ -1,0 +1,11 @@
+//! Tests of the way from normal forms to the facts of an ontology.
+#![tactic(auto)]
+
+#[cfg(test)]
+mod forms;
+#[cfg(test)]
+mod ontologies;
+#[cfg(test)]
+mod problems;
+#[cfg(test)]
+mod properties;
