@@ -1,0 +1,4 @@
+pub mod Places
+pub mod Telling
+pub mod Searching
+pub mod Walking
