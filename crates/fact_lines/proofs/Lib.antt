@@ -1,0 +1,15 @@
+pub mod Growing
+pub mod Births
+pub mod Within
+pub mod Reading
+pub mod Conclusions
+pub mod LiftedEdges
+pub mod Taking
+pub mod Beginnings
+pub mod ByExpression
+pub mod BornByExpression
+pub mod Used
+pub mod Axioms
+pub mod Leading
+pub mod Walking
+pub mod Formless

@@ -1,0 +1,46 @@
+use Rattle.std.proofs.Common.{◌∙◌, [], ℕ, List, None, get_or, sym, subst}
+use Rattle.std.proofs.lemmas.Option.{same_Some}
+use Rattle.certificate.specs.declared.line.Rule.{Rule}
+use Rattle.facts.specs.Births.{reason}
+use Rattle.facts.specs.declared.contexts.Context.TheVariants as contexts
+use Rattle.facts.specs.declared.contexts.Fact.{Fact}
+use Rattle.facts.specs.declared.contexts.Fact.TheVariants as facts
+use Rattle.normal_forms.specs.declared.forms.Class2.TheVariants as classes
+use Rattle.problem.specs.Made.{beginnings_of}
+use Rattle.fact_lines.specs.Shown.{AreShowing}
+use Rattle.fact_lines.specs.Step.{LeadTo}
+use Rattle.fact_lines.proofs.Formless.{context_leads, rests_on_none}
+use Rattle.fact_lines.proofs.Used.{used_of_none}
+use Rattle.fact_lines.proofs.Leading.{read_in}
+use Rattle.fact_lines.proofs.showing.shown_of_context.Goals as goal
+
+-- what is read where nothing is
+abbrev no_fact : Fact
+no_fact = facts.In (classes.Expr (record { 0 = 0 })) (contexts.Expr (record { 0 = 0 }))
+
+leading : (c : goal.In_ok-numbers) → LeadTo c.args.ontology.now (beginnings_of c.args.saturation.now.normal) c.args.derivation.now c.rule.result None c.new.result.items (get_or c.facts.result.now c.args.fact.0 no_fact)
+leading c =
+    let o = c.args.ontology.now in
+    let s = c.args.saturation.now in
+    let f = get_or c.facts.result.now c.args.fact.0 no_fact in
+    let at = read_in s.state.facts c.facts.result.now c.args.fact.0 no_fact c.facts.ensures c.requires.there in
+    let to = context_leads o s c.requires.saturated c.args.fact.0 (reason c.args.birth.now) c.requires.birth f at c.well_formed-2.ensures c.requires.form c.requires.condition c.args.derivation.now in
+    subst (λ (ns : List ℕ). LeadTo o (beginnings_of s.normal) c.args.derivation.now c.rule.result None ns f) (sym c.new.ensures.items)
+    (subst (λ (rule : Rule). LeadTo o (beginnings_of s.normal) c.args.derivation.now rule None [] f) (sym c.rule.ensures) to)
+
+pub returns-clause-derivation : goal.returns-clause-derivation
+returns-clause-derivation c = c.in_ok-numbers.ensures.derivation c.args.ontology.now (beginnings_of c.args.saturation.now.normal) c.requires.derivation (leading c)
+
+pub returns-clause-shown : goal.returns-clause-shown
+returns-clause-shown c f at =
+    let s = c.args.saturation.now in
+    let same = same_Some (get_or c.facts.result.now c.args.fact.0 no_fact) f (sym (read_in s.state.facts c.facts.result.now c.args.fact.0 no_fact c.facts.ensures c.requires.there) ∙ at) in
+    subst (AreShowing (beginnings_of s.normal) c.concluded.new.derivation c.in_ok-numbers.numbers.items) same
+    (c.in_ok-numbers.ensures.shown c.args.ontology.now (beginnings_of s.normal) (leading c))
+
+pub returns-clause-used : goal.returns-clause-used
+returns-clause-used c shown =
+    let s = c.args.saturation.now in
+    let at = read_in s.state.facts c.facts.result.now c.args.fact.0 no_fact c.facts.ensures c.requires.there in
+    let rests = rests_on_none c.args.ontology.now s c.requires.saturated c.args.fact.0 (reason c.args.birth.now) c.requires.birth _ at c.requires.form c.requires.condition in
+    used_of_none s shown c.args.fact.0 (reason c.args.birth.now) c.requires.birth rests c.args.derivation.now c.concluded.new.derivation c.new.result.items c.in_ok-numbers.numbers.items c.in_ok-numbers.ensures.used

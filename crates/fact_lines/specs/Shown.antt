@@ -1,0 +1,37 @@
+-- Lines that show facts: of a beginning of an intersection a line for each operand, of one of a chain a walk along it.
+use Rattle.std.specs.Prelude.{◌≡◌, ℕ, List, [], ◌∷◌, ◌++◌, map, Some}
+use Rattle.certificate.specs.Certificate.{Conclusion, Sub, Line}
+use Rattle.cert_check.specs.Derivation.{at_numbers}
+use Rattle.cert_check.specs.Lines.{IsWalk}
+use Rattle.closure.specs.Closure.{Fact, In, Edge}
+use Rattle.closure.specs.Said.{Beginnings, SaysFact}
+use Rattle.derivable.specs.Derivable.{subject_of}
+use Rattle.facts.specs.declared.contexts.Fact as code
+use Rattle.normal_forms.specs.Forms.{Class2, Whole, Beginning, Property2, Property, Steps}
+
+-- a class itself, or the operands of a beginning
+abbrev pub operands_of : Class2 → List ℕ
+operands_of (Whole e) = e ∷ []
+operands_of (Beginning ds) = ds
+
+abbrev pub steps_of : Property2 → List ℕ
+steps_of (Property r) = r ∷ []
+steps_of (Steps rs) = rs
+
+-- the conclusions say what the fact does
+abbrev pub IsShownBy : Fact → List Conclusion → Type 0
+IsShownBy (In a x) cs = cs ≡ map (Sub (subject_of x)) (operands_of a)
+IsShownBy (Edge x r y) cs = IsWalk (subject_of x) (steps_of r) (subject_of y) cs
+
+-- the lines of these numbers, counted from 1, show what the fact over numbers says
+pub record AreShowing (b : Beginnings) (lines : List Line) (numbers : List ℕ) (f : code.Fact) : Type 0 where
+  pub fact : Fact
+  pub says : SaysFact b f fact
+  pub conclusions : List Conclusion
+  pub at : at_numbers (map (λ l. l.conclusion) lines) numbers ≡ Some conclusions
+  pub shown : IsShownBy fact conclusions
+
+-- the new lines are the old ones with more behind them
+pub record Lengthens (old new : List Line) : Type 0 where
+  pub more : List Line
+  pub new_is : new ≡ old ++ more

@@ -1,0 +1,16 @@
+//! The lines that show a fact, from lines that show the older facts that gave it.
+#![tactic(auto)]
+
+mod by_axiom;
+mod by_expression;
+mod derivation;
+mod lifting;
+mod line;
+mod nothing;
+mod older;
+mod premises;
+mod showing;
+
+pub use derivation::Derivation;
+pub use older::rests_on;
+pub use showing::show;
