@@ -1,0 +1,215 @@
+-- What the lines of a wanted fact say.
+use Rattle.std.proofs.Common.{◌≡◌, ℕ, zero, suc, ◌<◌, ◌⊎◌, inl, inr, List, [], ◌∷◌, length, slice_get, Some, Bool, true, false, refl, sym, ap, ap₂, ◌∙◌, subst, arith}
+use Rattle.std.proofs.lemmas.Bool.{false≢true}
+use Rattle.std.proofs.lemmas.Option.{none-some, same_Some, slice_get_within}
+use Rattle.std.specs.Prelude.{Result, Ok, Err, IfOk}
+use Rattle.axioms.specs.Numbered.{Ontology, IsClassAt, thing, nothing}
+use Rattle.axioms.specs.View.{at_number}
+use Rattle.axioms.specs.WellFormed.{IsOntology}
+use Rattle.axioms.specs.declared.ids.ExprId.{ExprId}
+use Rattle.cert_check.specs.Acceptable.{IsTop}
+use Rattle.cert_check.specs.Derivation.{at_numbers, HasLine}
+use Rattle.certificate.specs.Certificate as subjects
+use Rattle.certificate.specs.Certificate.{Sub, Line}
+use Rattle.closure.specs.Closure.{Context, Expression, Individual, Fact, In, IsRoot, IsFact}
+use Rattle.closure.specs.Said.{Beginnings, whole, SaysContext, expression, individual, SaysFact, in_context}
+use Rattle.closure_model.specs.Listed.{IsConsistent}
+use Rattle.derivable.proofs.Derivable.{conclusions, at_conclusion, prepended_list_parts}
+use Rattle.derivable.specs.Derivable.{subject_of}
+use Rattle.engine.specs.Saturated.{Saturated, IsSaturated}
+use Rattle.exactness.specs.Theorems.{HaveFacts}
+use Rattle.explain.specs.Marks.{IsClass, IsNamed, IsWantedFact, IsTopContext, IsContradictoryFact, IsMarked, IsShown}
+use Rattle.explain.specs.Needed.{IsWanted, ShowsContradiction}
+use Rattle.fact_lines.specs.Shown.{AreShowing, IsShownBy}
+use Rattle.facts.specs.declared.contexts.Context as code_context
+use Rattle.facts.specs.declared.contexts.Context.TheVariants as contexts
+use Rattle.facts.specs.declared.contexts.Fact as code
+use Rattle.facts.specs.declared.contexts.Fact.TheVariants as facts
+use Rattle.lemmas.proofs.Members.{slice_get-from_Contains, Contains-none}
+use Rattle.lemmas.proofs.Places.{slice_get_there}
+use Rattle.normal_forms.specs.Forms.{Whole}
+use Rattle.normal_forms.specs.declared.forms.Class2.TheVariants as classes
+use Rattle.problem.specs.Made.{beginnings_of}
+
+-- what follows from what is said of the value of a call that is handed on
+pub if_ok_then : {X E : Type 0} (r : Result X E) {P Q : X → Type 0} → IfOk r P → ((x : X) → P x → Q x) → IfOk r Q
+if_ok_then (Ok x) h f = f x h
+if_ok_then (Err e) h f = tt
+
+-- ---- what facts say
+
+abbrev pub context_of : code_context.Context → Context
+context_of (contexts.Expr e) = Expression e.0
+context_of (contexts.Individual a) = Individual a.0
+
+context_said : {x : code_context.Context} {y : Context} → SaysContext x y → context_of x ≡ y
+context_said (expression h) = ap Expression h
+context_said (individual h) = ap Individual h
+
+whole_said : {b : Beginnings} {e : ExprId} {x : code_context.Context} {g : Fact} → SaysFact b (facts.In (classes.Expr e) x) g → g ≡ In (Whole e.0) (context_of x)
+whole_said (in_context (whole h) says) = ap₂ (λ c y. In (Whole c) y) (sym h) (sym (context_said says))
+
+-- the fact that says so
+whole_saying : {b : Beginnings} {f : code.Fact} {x : Context} {e : ℕ} → SaysFact b f (In (Whole e) x) → (id : ExprId) × (y : code_context.Context) × (f ≡ facts.In (classes.Expr id) y) × (id.0 ≡ e) × (context_of y ≡ x)
+whole_saying (in_context {x = y} (whole {e = id} h) says) = (id, y, refl, h, context_said says)
+
+-- ---- the line of a fact
+
+no_numbers : {X : Type 0} (xs : List X) (ns : List ℕ) → at_numbers xs ns ≡ Some [] → ns ≡ []
+no_numbers xs [] e = refl
+no_numbers xs (n ∷ ns) e =
+    let p = prepended_list_parts (at_number xs n) (at_numbers xs ns) [] e in absurd (let h = p.4 in cc)
+
+one_number : {X : Type 0} (xs : List X) (ns : List ℕ) (x : X) → at_numbers xs ns ≡ Some (x ∷ []) → (n : ℕ) × (ns ≡ suc n ∷ []) × (slice_get xs n ≡ Some x)
+one_number xs [] x e = absurd cc
+one_number xs (n ∷ ns) x e =
+    let p = prepended_list_parts (at_number xs n) (at_numbers xs ns) (x ∷ []) e in
+    go n p.0 p.2 (no_numbers xs ns (p.3 ∙ ap Some (tail_of p.0 p.1 p.4))) (head_of p.0 p.1 p.4)
+  where
+    tail_of : (y : _) (ys : List _) → y ∷ ys ≡ x ∷ [] → ys ≡ []
+    tail_of y ys h = cc
+
+    head_of : (y : _) (ys : List _) → y ∷ ys ≡ x ∷ [] → y ≡ x
+    head_of y ys h = cc
+
+    go : (m : ℕ) (y : _) → at_number xs m ≡ Some y → ns ≡ [] → y ≡ x → (k : ℕ) × (m ∷ ns ≡ suc k ∷ []) × (slice_get xs k ≡ Some x)
+    go zero y g none same = absurd (none-some y g)
+    go (suc k) y g none same = (k, ap (λ rest. suc k ∷ rest) none, g ∙ ap Some same)
+
+-- the line of that number says that the class is in the context
+pub record IsLineOfFact (lines : List Line) (numbers : List ℕ) (e : ExprId) (x : code_context.Context) : Type 0 where
+  pub place : ℕ
+  pub number_is : numbers ≡ suc place ∷ []
+  pub line : Line
+  pub there : slice_get lines place ≡ Some line
+  pub says : line.conclusion ≡ Sub (subject_of (context_of x)) e.0
+
+pub line_of_fact : (b : Beginnings) (lines : List Line) (numbers : List ℕ) (e : ExprId) (x : code_context.Context) → AreShowing b lines numbers (facts.In (classes.Expr e) x) → IsLineOfFact lines numbers e x
+line_of_fact b lines numbers e x s =
+    let fact_is : IsShownBy (In (Whole e.0) (context_of x)) s.conclusions = subst (λ g. IsShownBy g s.conclusions) (whole_said s.says) s.shown in
+    let one = one_number (conclusions lines) numbers (Sub (subject_of (context_of x)) e.0) (s.at ∙ ap Some fact_is) in
+    let line = at_conclusion lines one.0 (Sub (subject_of (context_of x)) e.0) one.2 in
+    record { place = one.0; number_is = one.1; line = line.0; there = line.1; says = line.2 }
+
+pub has_line : (b : Beginnings) (lines : List Line) (e : ExprId) (x : code_context.Context) → IsShown b lines (facts.In (classes.Expr e) x) → HasLine lines (Sub (subject_of (context_of x)) e.0)
+has_line b lines e x s =
+    let l = line_of_fact b lines s.0 e x s.1 in
+    (l.place, l.line, l.there, l.says)
+
+-- ---- wanted facts
+
+root_of : (o : Ontology) (x : code_context.Context) → IsNamed o x → IsRoot o [] (context_of x)
+root_of o (contexts.Expr e) h = IsRoot.named h.0 e.0 h.1
+root_of o (contexts.Individual a) h = IsRoot.individual a.0 h
+
+is_class : {o : Ontology} {e : ℕ} → IsRoot o [] (Expression e) → IsClass o e
+is_class (IsRoot.named c _ h) = (c, h)
+is_class (IsRoot.question e _ h) = absurd (Contains-none e h)
+
+is_individual : {o : Ontology} {a : ℕ} → IsRoot o [] (Individual a) → a < length o.names.individuals
+is_individual (IsRoot.individual _ h) = h
+
+is_named : (o : Ontology) (x : code_context.Context) → IsRoot o [] (context_of x) → IsNamed o x
+is_named o (contexts.Expr e) h = is_class h
+is_named o (contexts.Individual a) h = is_individual h
+
+-- the line of a wanted fact says what is wanted
+pub record IsWantedLine (o : Ontology) (lines : List Line) (numbers : List ℕ) : Type 0 where
+  pub place : ℕ
+  pub number_is : numbers ≡ suc place ∷ []
+  pub line : Line
+  pub there : slice_get lines place ≡ Some line
+  pub wanted : IsWanted o line.conclusion
+
+pub wanted_line : (o : Ontology) (b : Beginnings) (lines : List Line) (numbers : List ℕ) (f : code.Fact) → IsWantedFact o f → AreShowing b lines numbers f → IsWantedLine o lines numbers
+wanted_line o b lines numbers (facts.In (classes.Expr e) x) w s =
+    let l = line_of_fact b lines numbers e x s in
+    record {
+      place = l.place;
+      number_is = l.number_is;
+      line = l.line;
+      there = l.there;
+      wanted = record { context = context_of x; root = root_of o x w.1; class = e.0; named = IsRoot.named w.0.0 e.0 w.0.1; says = l.says };
+    }
+wanted_line o b lines numbers (facts.In (classes.Partial n) x) w s = absurd w
+wanted_line o b lines numbers (facts.Edge x r y) w s = absurd w
+
+-- ---- what all lines say
+
+-- lines that show each wanted fact have the facts of the closure
+pub have_facts : (o : Ontology) (s : Saturated) (lines : List Line) → IsSaturated o s → ((n : ℕ) (f : code.Fact) → IsWantedFact o f → slice_get s.state.facts n ≡ Some f → IsShown (beginnings_of s.normal) lines f) → HaveFacts o [] lines
+have_facts o s lines saturated shown x e root class fact =
+    let f = saturated.facts.all (In (Whole e) x) fact in
+    let g = whole_saying f.2 in
+    let at = slice_get-from_Contains s.state.facts f.0 f.1 in
+    let wanted : IsWantedFact o (facts.In (classes.Expr g.0) g.1) = (is_class (subst (λ c. IsRoot o [] (Expression c)) (sym g.3) class), is_named o g.1 (subst (IsRoot o []) (sym g.4) root)) in
+    let line = has_line (beginnings_of s.normal) lines g.0 g.1 (shown at.0 (facts.In (classes.Expr g.0) g.1) wanted (at.1 ∙ ap Some g.2)) in
+    subst (λ y. HasLine lines (Sub (subject_of y) e)) g.4 (subst (λ c. HasLine lines (Sub (subject_of (context_of g.1)) c)) g.3 line)
+
+-- ---- contradictions
+
+-- owl:Thing and owl:Nothing are named classes
+pub contradictory_wanted : (o : Ontology) (f : code.Fact) → IsOntology o → IsContradictoryFact o f → IsWantedFact o f
+contradictory_wanted o (facts.In (classes.Expr e) (contexts.Expr d)) kept h = ((1, subst (IsClassAt o 1) (sym h.0) kept.nothing_node), (0, subst (IsClassAt o 0) (sym h.1) kept.thing_node))
+contradictory_wanted o (facts.In (classes.Expr e) (contexts.Individual a)) kept h = ((1, subst (IsClassAt o 1) (sym h.0) kept.nothing_node), h.1)
+contradictory_wanted o (facts.In (classes.Partial n) x) kept h = absurd h
+contradictory_wanted o (facts.Edge x r y) kept h = absurd h
+
+top_of : (o : Ontology) (x : code_context.Context) → IsTopContext o x → IsTop (subject_of (context_of x))
+top_of o (contexts.Expr e) h = subst (λ d. IsTop (subjects.Expression d)) (sym h) IsTop.of_thing
+top_of o (contexts.Individual a) h = IsTop.of_individual
+
+shows_contradiction : (o : Ontology) (b : Beginnings) (lines : List Line) (f : code.Fact) → IsContradictoryFact o f → IsShown b lines f → ShowsContradiction lines
+shows_contradiction o b lines (facts.In (classes.Expr e) x) h s =
+    (subject_of (context_of x), top_of o x h.1, subst (λ c. HasLine lines (Sub (subject_of (context_of x)) c)) h.0 (has_line b lines e x s))
+shows_contradiction o b lines (facts.In (classes.Partial n) x) h s = absurd h
+shows_contradiction o b lines (facts.Edge x r y) h s = absurd h
+
+is_marked : (marks : List Bool) → ((n : ℕ) × IsMarked marks n) ⊎ ((n : ℕ) → IsMarked marks n → ⊥)
+is_marked [] = inr (λ n h. none-some true h)
+is_marked (true ∷ marks) = inl (zero, refl)
+is_marked (false ∷ marks) = elim (is_marked marks) [ inl h ↦ inl (suc h.0, h.1) | inr h ↦ inr (none_of h) ]
+  where
+    none_of : ((n : ℕ) → IsMarked marks n → ⊥) → (n : ℕ) → IsMarked (false ∷ marks) n → ⊥
+    none_of h zero g = false≢true (same_Some false true g)
+    none_of h (suc n) g = h n g
+
+-- where no fact is a contradiction, there is none
+no_contradiction : (o : Ontology) (s : Saturated) → IsSaturated o s → ((n : ℕ) (f : code.Fact) → slice_get s.state.facts n ≡ Some f → IsContradictoryFact o f → ⊥) → IsConsistent o []
+no_contradiction o s saturated never = record { things = things; individuals = individuals }
+  where
+    said : (x : Context) → IsFact o [] (In (Whole nothing) x) → ((y : code_context.Context) → context_of y ≡ x → IsTopContext o y) → ⊥
+    said x fact top =
+        let f = saturated.facts.all (In (Whole nothing) x) fact in
+        let g = whole_saying f.2 in
+        let at = slice_get-from_Contains s.state.facts f.0 f.1 in
+        never at.0 (facts.In (classes.Expr g.0) g.1) (at.1 ∙ ap Some g.2) (g.3, top g.1 g.4)
+
+    thing_top : (y : code_context.Context) → context_of y ≡ Expression thing → IsTopContext o y
+    thing_top (contexts.Expr e) h = cc
+    thing_top (contexts.Individual a) h = absurd cc
+
+    things : IsFact o [] (In (Whole nothing) (Expression thing)) → ⊥
+    things fact = said (Expression thing) fact thing_top
+
+    individual_top : (a : ℕ) → a < length o.names.individuals → (y : code_context.Context) → context_of y ≡ Individual a → IsTopContext o y
+    individual_top a l (contexts.Expr e) h = absurd cc
+    individual_top a l (contexts.Individual i) h = let same : i.0 ≡ a = cc in subst (λ b. b < length o.names.individuals) (sym same) l
+
+    individuals : (a : ℕ) → a < length o.names.individuals → IsFact o [] (In (Whole nothing) (Individual a)) → ⊥
+    individuals a l fact = said (Individual a) fact (individual_top a l)
+
+pub contradiction_shown : (o : Ontology) (s : Saturated) (marks : List Bool) (lines : List Line) → IsSaturated o s → (IsConsistent o [] → ⊥) → length marks ≡ length s.state.facts
+    → ((n : ℕ) (f : code.Fact) → slice_get s.state.facts n ≡ Some f → IsMarked marks n → IsContradictoryFact o f)
+    → ((n : ℕ) (f : code.Fact) → slice_get s.state.facts n ≡ Some f → IsContradictoryFact o f → (m : ℕ) × IsMarked marks m)
+    → ((n : ℕ) (f : code.Fact) → IsMarked marks n → slice_get s.state.facts n ≡ Some f → IsShown (beginnings_of s.normal) lines f)
+    → ShowsContradiction lines
+contradiction_shown o s marks lines saturated contradictory long each found shown = elim (is_marked marks) [
+  | inl m ↦ shown_at m.0 m.1
+  | inr never ↦ absurd (contradictory (no_contradiction o s saturated (λ n f at h. let m = found n f at h in never m.0 m.1)))
+]
+  where
+    shown_at : (n : ℕ) → IsMarked marks n → ShowsContradiction lines
+    shown_at n marked =
+        let f = slice_get_there s.state.facts n (omega (arith, long, slice_get_within marks n true marked)) in
+        shows_contradiction o (beginnings_of s.normal) lines f.0 (each n f.0 f.1 marked) (shown n f.0 marked f.1)

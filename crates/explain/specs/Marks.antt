@@ -1,0 +1,61 @@
+-- Which facts are to have lines.
+use Rattle.std.specs.Prelude.{◌≡◌, ℕ, ◌<◌, ◌⊎◌, List, Bool, true, length, slice_get, Some}
+use Rattle.axioms.specs.Numbered.{Ontology, IsClassAt, thing, nothing}
+use Rattle.certificate.specs.Certificate.{Line}
+use Rattle.closure.specs.Said.{Beginnings}
+use Rattle.engine.specs.Saturated.{Saturated}
+use Rattle.fact_lines.specs.Serving.{RestsOn}
+use Rattle.fact_lines.specs.Shown.{AreShowing}
+use Rattle.facts.specs.declared.contexts.Context.{Context}
+use Rattle.facts.specs.declared.contexts.Context.TheVariants as contexts
+use Rattle.facts.specs.declared.contexts.Fact.{Fact}
+use Rattle.facts.specs.declared.contexts.Fact.TheVariants as facts
+use Rattle.normal_forms.specs.declared.forms.Class2.TheVariants as classes
+
+-- ---- facts that are wanted
+
+abbrev pub IsClass : Ontology → ℕ → Type 0
+IsClass o e = (c : ℕ) × IsClassAt o c e
+
+-- a named class or an individual
+abbrev pub IsNamed : Ontology → Context → Type 0
+IsNamed o (contexts.Expr e) = IsClass o e.0
+IsNamed o (contexts.Individual a) = a.0 < length o.names.individuals
+
+-- .. is in a named class
+abbrev pub IsWantedFact : Ontology → Fact → Type 0
+IsWantedFact o (facts.In (classes.Expr e) x) = IsClass o e.0 × IsNamed o x
+IsWantedFact o (facts.In (classes.Partial n) x) = ⊥
+IsWantedFact o (facts.Edge x r y) = ⊥
+
+-- owl:Thing or an individual
+abbrev pub IsTopContext : Ontology → Context → Type 0
+IsTopContext o (contexts.Expr e) = e.0 ≡ thing
+IsTopContext o (contexts.Individual a) = a.0 < length o.names.individuals
+
+-- .. is in owl:Nothing
+abbrev pub IsContradictoryFact : Ontology → Fact → Type 0
+IsContradictoryFact o (facts.In (classes.Expr e) x) = (e.0 ≡ nothing) × IsTopContext o x
+IsContradictoryFact o (facts.In (classes.Partial n) x) = ⊥
+IsContradictoryFact o (facts.Edge x r y) = ⊥
+
+-- ---- facts that are marked, by their numbers
+
+abbrev pub IsMarked : List Bool → ℕ → Type 0
+IsMarked marks n = slice_get marks n ≡ Some true
+
+-- what the line of a marked fact rests on is marked
+abbrev pub AreClosed : Saturated → List Bool → Type 0
+AreClosed s marks = (n m : ℕ) → IsMarked marks n → RestsOn s n m → IsMarked marks m
+
+-- the line of a later fact that is marked rests on the fact
+abbrev pub ServesLater : Saturated → List Bool → ℕ → Type 0
+ServesLater s marks n = (m : ℕ) × (n < m) × IsMarked marks m × RestsOn s m n
+
+-- each marked fact is wanted or serves a later one
+abbrev pub EachIsCalledFor : Ontology → Saturated → List Bool → Type 0
+EachIsCalledFor o s marks = (n : ℕ) (f : Fact) → slice_get s.state.facts n ≡ Some f → IsMarked marks n → IsWantedFact o f ⊎ ServesLater s marks n
+
+-- some of the lines show the fact
+abbrev pub IsShown : Beginnings → List Line → Fact → Type 0
+IsShown b lines f = (numbers : List ℕ) × AreShowing b lines numbers f

@@ -1,0 +1,140 @@
+//! The lines of marked facts.
+ghost use Rattle.cert_check.specs.Derivation.{IsDerivation};
+ghost use Rattle.certificate.specs.View.{lines_of};
+ghost use Rattle.engine.specs.Saturated.{IsSaturated};
+ghost use Rattle.explain.specs.Marks.{IsMarked, IsShown, IsWantedFact};
+ghost use Rattle.explain.specs.Needed.{EachIsNeeded};
+ghost use Rattle.explain.specs.Shown.{AreReady, IsShowing};
+ghost use Rattle.facts.specs.declared.contexts.Fact.{Fact as Fact2};
+ghost use Rattle.problem.specs.Made.{beginnings_of};
+ghost use Rattle.std.specs.Prelude.{◌+◌, ◌<◌, ◌≡◌, IfOk, OnOk, Some, length, slice_get, ℕ};
+
+use crate::marking::mark_older;
+use axioms::{Memory, Ontology};
+use certificate::Line;
+use engine::Saturation;
+use fact_lines::{Derivation, show};
+use facts::FactId;
+use normalise::property_forms_are_named;
+use number_sets::PackedLists;
+use property_paths::PropertyPaths;
+use std::alloc::Global;
+
+// How many facts there are. It is `Memory` where 32 bits do not count them.
+fn fact_count(saturation: &Saturation) -> Result<u32, Memory>
+    ensures { IfOk result (λ n. n ≡ length saturation.now.state.facts) }
+{
+    match u32::try_from(saturation.facts().len()) {
+        Ok(count) => Ok(count),
+        Err(_) => Err(Memory),
+    }
+}
+
+// The paths from each property to those above it.
+fn paths_of(
+    alloc: Global,
+    ontology: &Ontology,
+    saturation: &Saturation,
+) -> Result<PropertyPaths, Memory>
+    requires { IsSaturated ontology.now saturation.now }
+    ensures { IfOk result (λ p. p ≡ saturation.now.state.problem.forms) }
+{
+    ontology.well_formed();
+    ontology.bounded();
+    property_forms_are_named();
+    let normal = saturation.normal();
+    // 32 bits count the beginnings of chains.
+    let _ = normal.partial_chains();
+    PropertyPaths::new(alloc, ontology.properties().len(), normal.forms())
+}
+
+/// What lines are made from, and the marks of the facts that are to have them.
+#[derive(Drop)]
+struct Explainer<'a> {
+    alloc: Global,
+    ontology: &'a Ontology,
+    saturation: &'a Saturation,
+    paths: &'a PropertyPaths,
+    marks: &'a [bool],
+}
+
+impl Explainer<'_> {
+    // Shows the next fact, if it is marked.
+    fn show_next(
+        &self,
+        fact: FactId,
+        derivation: &mut Derivation,
+        shown: &mut PackedLists<u64>,
+    ) -> Result<(), Memory>
+        requires ready { AreReady self.now.ontology.now self.now.saturation.now self.now.paths.now self.now.marks.now }
+        requires there { fact.0 < length self.now.marks.now }
+        requires next { fact.0 ≡ length shown.old }
+        requires showing { IsShowing self.now.ontology.now self.now.saturation.now self.now.marks.now derivation.old shown.old }
+        ensures next { OnOk result (length shown.new ≡ length shown.old + 1) }
+        ensures showing { OnOk result (IsShowing self.now.ontology.now self.now.saturation.now self.now.marks.now derivation.new shown.new) }
+    {
+        let FactId(number) = fact;
+        if !self.marks[number as usize] {
+            shown.push_list(&[])?;
+            return Ok(());
+        }
+        let numbers = show(
+            self.alloc,
+            self.ontology,
+            self.saturation,
+            self.paths,
+            derivation,
+            shown,
+            fact,
+        )?;
+        shown.push_list(&numbers)?;
+        Ok(())
+    }
+
+    // Lines that show each marked fact, of that many facts.
+    fn lines(&self, count: u32) -> Result<Vec<Line>, Memory>
+        requires ready { AreReady self.now.ontology.now self.now.saturation.now self.now.paths.now self.now.marks.now }
+        requires count { count ≡ length self.now.marks.now }
+        ensures derivation { IfOk result (λ v. IsDerivation self.now.ontology.now (lines_of v.items)) }
+        ensures shown { IfOk result (λ v. (n : ℕ) (f : Fact2) → IsMarked self.now.marks.now n → slice_get self.now.saturation.now.state.facts n ≡ Some f → IsShown (beginnings_of self.now.saturation.now.normal) (lines_of v.items) f) }
+        ensures needed { IfOk result (λ v. EachIsNeeded self.now.ontology.now (lines_of v.items)) }
+    {
+        let mut derivation = Derivation::new(self.alloc);
+        let mut shown = PackedLists::new(self.alloc);
+        for number in 0..count {
+            self.show_next(FactId(number), &mut derivation, &mut shown)?;
+        }
+        Ok(derivation.into_lines())
+    }
+}
+
+/// Lines that show each marked fact, which is wanted, with those of the facts that they rest on.
+///
+/// # Errors
+///
+/// `Memory` where memory was refused, or 32 bits do not count the facts.
+pub(crate) fn lines_for(
+    alloc: Global,
+    ontology: &Ontology,
+    saturation: &Saturation,
+    mut marks: Vec<bool>,
+) -> Result<Vec<Line>, Memory>
+    requires saturated { IsSaturated ontology.now saturation.now }
+    requires long { length marks.items ≡ length saturation.now.state.facts }
+    requires wanted { (n : ℕ) (f : Fact2) → slice_get saturation.now.state.facts n ≡ Some f → IsMarked marks.items n → IsWantedFact ontology.now f }
+    ensures derivation { IfOk result (λ v. IsDerivation ontology.now (lines_of v.items)) }
+    ensures shown { IfOk result (λ v. (n : ℕ) (f : Fact2) → IsMarked marks.items n → slice_get saturation.now.state.facts n ≡ Some f → IsShown (beginnings_of saturation.now.normal) (lines_of v.items) f) }
+    ensures needed { IfOk result (λ v. EachIsNeeded ontology.now (lines_of v.items)) }
+{
+    let count = fact_count(saturation)?;
+    mark_older(saturation, count, &mut marks);
+    let paths = paths_of(alloc, ontology, saturation)?;
+    let explainer = Explainer {
+        alloc,
+        ontology,
+        saturation,
+        paths: &paths,
+        marks: &marks,
+    };
+    explainer.lines(count)
+}

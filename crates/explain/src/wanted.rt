@@ -1,0 +1,104 @@
+//! The facts that are wanted.
+ghost use Rattle.explain.specs.Marks.{IsClass, IsContradictoryFact, IsMarked, IsNamed, IsTopContext, IsWantedFact};
+ghost use Rattle.facts.specs.declared.contexts.Fact.{Fact as Fact2};
+ghost use Rattle.std.specs.Prelude.{◌↔◌, ◌≡◌, IfOk, IsTrue, Some, length, slice_get, ℕ};
+
+use axioms::{ExprId, Memory, Ontology};
+use facts::{Context, Fact};
+use normal_forms::Class2;
+use std::alloc::Global;
+
+// Whether the expression is a named class.
+fn is_class(ontology: &Ontology, expression: ExprId) -> bool
+    ensures { IsTrue result ↔ IsClass ontology.now expression.0 }
+{
+    ontology.class_of(expression).is_some()
+}
+
+// Whether the context is a named class or an individual.
+fn is_named(ontology: &Ontology, context: Context) -> bool
+    ensures { IsTrue result ↔ IsNamed ontology.now context }
+{
+    match context {
+        Context::Expr(expression) => is_class(ontology, expression),
+        Context::Individual(individual) => individual.index() < ontology.individuals().len(),
+    }
+}
+
+// Whether the fact puts a named class or an individual into a named class.
+fn is_wanted(ontology: &Ontology, fact: Fact) -> bool
+    ensures { IsTrue result ↔ IsWantedFact ontology.now fact }
+{
+    match fact {
+        Fact::In(Class2::Expr(class), context) => {
+            is_class(ontology, class) && is_named(ontology, context)
+        }
+        _ => false,
+    }
+}
+
+// Whether the context is owl:Thing or an individual.
+fn is_top(ontology: &Ontology, context: Context) -> bool
+    ensures { IsTrue result ↔ IsTopContext ontology.now context }
+{
+    match context {
+        Context::Expr(expression) => expression == ExprId::THING,
+        Context::Individual(individual) => individual.index() < ontology.individuals().len(),
+    }
+}
+
+// Whether the fact puts all things or an individual into owl:Nothing.
+fn is_contradictory(ontology: &Ontology, fact: Fact) -> bool
+    ensures { IsTrue result ↔ IsContradictoryFact ontology.now fact }
+{
+    match fact {
+        Fact::In(Class2::Expr(class), context) => {
+            class == ExprId::NOTHING && is_top(ontology, context)
+        }
+        _ => false,
+    }
+}
+
+/// Of each fact whether it is wanted.
+///
+/// # Errors
+///
+/// `Memory` where memory was refused.
+pub(crate) fn wanted(
+    alloc: Global,
+    ontology: &Ontology,
+    facts: &[Fact],
+) -> Result<Vec<bool>, Memory>
+    ensures long { IfOk result (λ v. length v.items ≡ length facts.now) }
+    ensures exact { IfOk result (λ v. (n : ℕ) (f : Fact2) → slice_get facts.now n ≡ Some f → IsMarked v.items n ↔ IsWantedFact ontology.now f) }
+{
+    let mut marks = Vec::new(alloc);
+    for fact in facts {
+        marks.push(is_wanted(ontology, *fact))?;
+    }
+    Ok(marks)
+}
+
+/// Marks the first fact that is a contradiction, if there is one.
+///
+/// # Errors
+///
+/// `Memory` where memory was refused.
+pub(crate) fn first_contradiction(
+    alloc: Global,
+    ontology: &Ontology,
+    facts: &[Fact],
+) -> Result<Vec<bool>, Memory>
+    ensures long { IfOk result (λ v. length v.items ≡ length facts.now) }
+    ensures each { IfOk result (λ v. (n : ℕ) (f : Fact2) → slice_get facts.now n ≡ Some f → IsMarked v.items n → IsContradictoryFact ontology.now f) }
+    ensures found { IfOk result (λ v. (n : ℕ) (f : Fact2) → slice_get facts.now n ≡ Some f → IsContradictoryFact ontology.now f → (m : ℕ) × IsMarked v.items m) }
+{
+    let mut marks = Vec::new(alloc);
+    let mut found = false;
+    for fact in facts {
+        let first = !found && is_contradictory(ontology, *fact);
+        marks.push(first)?;
+        found = found || first;
+    }
+    Ok(marks)
+}
