@@ -1,0 +1,4 @@
+pub mod Contexts
+pub mod Sets
+pub mod Listing
+pub mod Facts

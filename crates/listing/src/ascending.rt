@@ -1,0 +1,18 @@
+//! Lists of elements in ascending order.
+ghost use Rattle.certificate.specs.HasText.{Ascends};
+ghost use Rattle.std.specs.Prelude.{◌↔◌, Contains, IfOk, ℕ};
+
+use axioms::Memory;
+use std::alloc::Global;
+
+/// The numbers of the list in ascending order, each once.
+pub(crate) fn ascending(alloc: Global, list: &[u32]) -> Result<Vec<u32>, Memory>
+    ensures ascends { IfOk result (λ v. Ascends v.items) }
+    ensures same { IfOk result (λ v. (n : ℕ) → Contains v.items n ↔ Contains list.now n) }
+{
+    let mut numbers = Vec::new(alloc);
+    numbers.extend_from_slice(list)?;
+    numbers.sort_unstable();
+    numbers.dedup();
+    Ok(numbers)
+}

@@ -1,0 +1,10 @@
+//! The pairs of properties in the interpretation that a closure lists.
+#![tactic(auto)]
+
+mod ascending;
+mod edges;
+mod grouped;
+mod pair;
+mod rows;
+
+pub use rows::pair_rows;

@@ -1,0 +1,37 @@
+//! Rows of pairs.
+ghost use Rattle.certificate.specs.View.{pair_row_of};
+ghost use Rattle.closure_model.specs.Listed.{AreSatisfiableContexts};
+ghost use Rattle.engine.specs.Saturated.{IsSaturated};
+ghost use Rattle.pair_rows.specs.Rows.{ArePairRows};
+ghost use Rattle.std.specs.Prelude.{IfOk, [], map};
+
+use crate::edges::pairs_of;
+use crate::grouped::grouped;
+use crate::pair::put_in_order;
+use axioms::{Memory, Ontology};
+use certificate::PairRow;
+use elements::Elements;
+use engine::Saturation;
+use std::alloc::Global;
+
+/// For each property and each element that it leads anywhere from the elements there, in order.
+///
+/// # Errors
+///
+/// `Memory` where memory was refused.
+pub fn pair_rows(
+    alloc: Global,
+    ontology: &Ontology,
+    saturation: &Saturation,
+    elements: &Elements,
+) -> Result<Vec<PairRow>, Memory>
+    requires saturated { IsSaturated ontology.now saturation.now }
+    requires elements { AreSatisfiableContexts ontology.now [] elements.now }
+    ensures { IfOk result (λ v. ArePairRows ontology.now elements.now (map pair_row_of v.items)) }
+{
+    ontology.well_formed();
+    let mut pairs = pairs_of(alloc, saturation.closure(), elements, saturation.facts())?;
+    put_in_order(&mut pairs);
+    let rows = grouped(alloc, &pairs)?;
+    Ok(rows)
+}
