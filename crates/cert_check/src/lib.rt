@@ -14,5 +14,6 @@ mod theory;
 mod verdict;
 
 pub use checker::check;
+pub use listing::interpretation_of;
 pub use theory::{soundness, worked_certificates};
 pub use verdict::{Reason, Verdict};

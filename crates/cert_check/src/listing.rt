@@ -86,8 +86,8 @@ fn put_individuals(interpretation: &mut Interpretation, elements: &[u32]) -> Res
     Ok(())
 }
 
-/// The listed interpretation: by names it is the one that the members list.
-pub(crate) fn interpretation_of(
+/// The listed interpretation, as a value: by names it is the one that the members list. Fails where memory is refused.
+pub fn interpretation_of(
     alloc: Global,
     ontology: &Ontology,
     listed: &Listed,

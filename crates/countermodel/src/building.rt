@@ -1,0 +1,36 @@
+//! The interpretation that a closure lists, as a value.
+ghost use Rattle.closure_model.specs.Listed.{IsConsistent};
+ghost use Rattle.countermodel.specs.Built.{IsBuilt};
+ghost use Rattle.engine.specs.Saturated.{IsSaturated};
+ghost use Rattle.interpretation_spec.specs.Numbered.{IsMadeFor};
+ghost use Rattle.std.specs.Prelude.{[], IfOk};
+
+use axioms::{Memory, Ontology};
+use cert_check::interpretation_of;
+use engine::Saturation;
+use interpretation_spec::Interpretation;
+use listing::listed;
+use std::alloc::Global;
+
+/// The interpretation that the closure of a consistent ontology lists: an element for each context without `owl:Nothing`, in
+/// exactly the named classes that are facts of it. It satisfies every axiom as it was written.
+///
+/// # Errors
+///
+/// `Memory` where memory was refused.
+pub fn build(
+    alloc: Global,
+    ontology: &Ontology,
+    saturation: &Saturation,
+) -> Result<Interpretation, Memory>
+    requires saturated { IsSaturated ontology.now saturation.now }
+    requires consistent { IsConsistent ontology.now [] }
+    ensures made { IfOk result (IsMadeFor ontology.now.names) }
+    ensures built { IfOk result (IsBuilt ontology.now) }
+{
+    ontology.well_formed();
+    let members = listed(alloc, ontology, saturation)?;
+    let interpretation = interpretation_of(alloc, ontology, &members)?;
+    interpretation.well_formed();
+    Ok(interpretation)
+}
