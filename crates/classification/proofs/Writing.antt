@@ -1,80 +1,77 @@
--- A certificate of the lines of superclasses has a text, if what it lists can be written and there are not too many axioms.
-use Rattle.std.proofs.Common.{◌≡◌, ℕ, suc, ◌+◌, ◌<◌, ◌≤◌, ◌^◌, List, [], ◌∷◌, length, get_or, slice_get, Some, Option, All, refl, sym, subst, arith}
-use Rattle.std.specs.Prelude.{IfSome}
-use Rattle.std.specs.List.{flat_map}
+-- A certificate of a derivation can be written.
+use Rattle.std.proofs.Common.{◌≡◌, ℕ, zero, suc, ◌<◌, ◌≤◌, ◌^◌, List, [], ◌∷◌, length, map, take, get_or, slice_get, Some, None, Option, All, refl, arith, IfSome, flat_map}
+use Rattle.std.proofs.lemmas.List.{length-map, length-take-le}
 use Rattle.std.proofs.lemmas.List.Elements.{All-nil, All-cons, All-append}
-use Rattle.std.proofs.lemmas.Option.{slice_get-get_or}
+use Rattle.std.proofs.lemmas.Option.{slice_get-get_or, slice_get_within, none-some}
+use Rattle.axioms.specs.Growth.{IsBounded}
 use Rattle.axioms.specs.Numbered.{Ontology}
-use Rattle.certificate.specs.Certificate.{Line, Listed}
-use Rattle.certificate.specs.HasText.{IsLineOf, IsAxiomNumberOf, IsListedOf, HasText, axiom_numbers, line_numbers, listed_numbers}
-use Rattle.hierarchy.specs.declared.closure.Hierarchy.{Hierarchy}
-use Rattle.hierarchy.specs.declared.context.Superclass.{Superclass}
-use Rattle.hierarchy.specs.declared.context.Reason.{Reason}
-use Rattle.hierarchy.specs.declared.context.Reason.TheVariants as reasons
-use Rattle.hierarchy.specs.Superclasses.{States}
-use Rattle.hierarchy.specs.Contexts.{IsReason, AreSuperclasses}
-use Rattle.classification.specs.Derivation.{axiom_of, premises_of, superclass_line, lines_from}
-use Rattle.classification.proofs.LinePlaces.{place_of}
-use Rattle.classification.proofs.Lines.{are_lines}
+use Rattle.axioms.specs.View.{at_number}
+use Rattle.certificate.specs.Certificate.{Subject, Expression, Individual, Conclusion, Sub, Edge, Line, Listed}
+use Rattle.certificate.specs.HasText.{IsSubjectOf, IsConclusionOf, IsAxiomNumberOf, IsListedOf, HasText, subject_number, conclusion_numbers, axiom_numbers, line_numbers, listed_numbers}
+use Rattle.cert_check.specs.Derivation.{IsDerivation, at_numbers}
+use Rattle.derivable.proofs.Derivable.{prepended_list_parts}
 
 All-flat : {A B : Type 0} (P : B → Type 0) (f : A → List B) (xs : List A) → ((n : ℕ) (x : A) → slice_get xs n ≡ Some x → All P (f x)) → All P (flat_map f xs)
 All-flat P f [] h = All-nil P
 All-flat P f (x ∷ xs) h = All-append P (f x) (flat_map f xs) (h 0 x refl) (All-flat P f xs (λ n y g. h (suc n) y g))
 
--- ---- one line
+All-from_places : {A : Type 0} (P : A → Type 0) (xs : List A) → ((n : ℕ) (x : A) → slice_get xs n ≡ Some x → P x) → All P xs
+All-from_places P xs h k d l = h k (get_or xs k d) (slice_get-get_or xs k d l)
 
 abbrev IsSmall : ℕ → Type 0
 IsSmall n = n < 2 ^ 32
 
-abbrev IsPremise : ℕ → Type 0
-IsPremise n = (1 ≤ n) × (n < 2 ^ 64)
+-- ---- numbers of lines
 
-premises_fit : (S : ℕ → ℕ → ℕ → Type 0) (c : ℕ) (list : List Superclass) (start place d : ℕ) (why : Reason) → IsReason S c list place d why → start + place < 2 ^ 64 → All IsPremise (premises_of start why)
-premises_fit S c list start place d reasons.Itself r l = All-nil IsPremise
-premises_fit S c list start place d reasons.Thing r l = All-nil IsPremise
-premises_fit S c list start place d (reasons.Axiom number from) r l =
-    let before : from < place = r.1 in All-cons IsPremise (start + from + 1) [] (omega arith, omega arith) (All-nil IsPremise)
+abbrev IsNumberOf : ℕ → ℕ → Type 0
+IsNumberOf long n = (1 ≤ n) × (n ≤ long)
 
-axiom_fits : (o : Ontology) (why : Reason) → IsAxiomNumberOf o (axiom_of why) → length o.axioms < 2 ^ 32 → All IsSmall (axiom_numbers (axiom_of why))
-axiom_fits o reasons.Itself k few = All-nil IsSmall
-axiom_fits o reasons.Thing k few = All-nil IsSmall
-axiom_fits o (reasons.Axiom number from) k few = All-cons IsSmall number [] (omega (arith, k.1)) (All-nil IsSmall)
+number_within : {A : Type 0} (xs : List A) (n : ℕ) (x : A) → at_number xs n ≡ Some x → IsNumberOf (length xs) n
+number_within xs zero x at = absurd (none-some x at)
+number_within xs (suc n) x at = let l : n < length xs = slice_get_within xs n x at in (omega arith, omega (arith, l))
 
-numbers_fit : (o : Ontology) (start c : ℕ) (s : Superclass) → IsLineOf o (superclass_line start c s) → length o.nodes < 2 ^ 32 → length o.axioms < 2 ^ 32 → All IsSmall (line_numbers (superclass_line start c s))
-numbers_fit o start c s w small few =
-    let l : c < length o.nodes = w.conclusion.0 in
-    let k : s.class.0 < length o.nodes = w.conclusion.1 in
-    All-append IsSmall (c ∷ s.class.0 ∷ []) (axiom_numbers (axiom_of s.reason))
-    (All-cons IsSmall c (s.class.0 ∷ []) (omega arith) (All-cons IsSmall s.class.0 [] (omega arith) (All-nil IsSmall)))
-    (axiom_fits o s.reason w.axiom' few)
+numbers_within : {A : Type 0} (xs : List A) (ns : List ℕ) (ys : List A) → at_numbers xs ns ≡ Some ys → All (IsNumberOf (length xs)) ns
+numbers_within xs [] ys at = All-nil (IsNumberOf (length xs))
+numbers_within xs (n ∷ ns) ys at =
+    let (z, zs, first, rest, _) = prepended_list_parts (at_number xs n) (at_numbers xs ns) ys at in
+    All-cons (IsNumberOf (length xs)) n ns (number_within xs n z first) (numbers_within xs ns zs rest)
 
--- ---- all lines
+-- ---- numbers of what the ontology has
 
-module _ (o : Ontology) (h : Hierarchy) (w : AreSuperclasses o h) where
-  within : (n : ℕ) (line : Line) → slice_get (lines_from 0 0 h.contexts.items) n ≡ Some line → IsLineOf o line
-  within n line g = ((are_lines o h w).derivation n line g).within
+module _ (o : Ontology) (few : IsBounded o) where
+  subject_small : (x : Subject) → IsSubjectOf o x → IsSmall (subject_number x)
+  subject_small (Expression e) l = omega (arith, l, few.expressions)
+  subject_small (Individual a) l = omega (arith, l, few.individuals)
 
-  premises_written : (n : ℕ) (line : Line) → slice_get (lines_from 0 0 h.contexts.items) n ≡ Some line → n < 2 ^ 64 → All IsPremise line.premises
-  premises_written n line g l =
-      let p = place_of 0 0 h.contexts.items n line g in
-      let s = p.superclass in
-      let reason = (w.superclasses p.class p.list p.list_at).reasons p.place s p.superclass_at in
-      let stands = p.stands in
-      subst (λ (x : Line). All IsPremise x.premises) (sym p.line_is)
-      (premises_fit (States o) p.class p.list.items p.start p.place s.class.0 s.reason reason (omega arith))
+  conclusion_small : (c : Conclusion) → IsConclusionOf o c → All IsSmall (conclusion_numbers c)
+  conclusion_small (Sub x d) h =
+      All-cons IsSmall (subject_number x) (d ∷ []) (subject_small x h.0) (All-cons IsSmall d [] (omega (arith, h.1, few.expressions)) (All-nil IsSmall))
+  conclusion_small (Edge x r y) h =
+      All-cons IsSmall (subject_number x) (r ∷ subject_number y ∷ []) (subject_small x h.0)
+      (All-cons IsSmall r (subject_number y ∷ []) (omega (arith, h.1, few.properties)) (All-cons IsSmall (subject_number y) [] (subject_small y h.2) (All-nil IsSmall)))
 
-  numbers_written : length o.nodes < 2 ^ 32 → length o.axioms < 2 ^ 32 → (n : ℕ) (line : Line) → slice_get (lines_from 0 0 h.contexts.items) n ≡ Some line → All IsSmall (line_numbers line)
-  numbers_written small few n line g =
-      let p = place_of 0 0 h.contexts.items n line g in
-      subst (λ (x : Line). All IsSmall (line_numbers x)) (sym p.line_is)
-      (numbers_fit o p.start (0 + p.class) p.superclass (subst (IsLineOf o) p.line_is (within n line g)) small few)
+  axiom_small : (n : Option ℕ) → IsAxiomNumberOf o n → All IsSmall (axiom_numbers n)
+  axiom_small None h = All-nil IsSmall
+  axiom_small (Some n) h = All-cons IsSmall n [] (omega (arith, h.1, few.axioms)) (All-nil IsSmall)
 
-  pub superclasses_have_text : (listed : Option Listed) → IfSome listed (IsListedOf o) → All IsSmall (listed_numbers listed) → length (lines_from 0 0 h.contexts.items) < 2 ^ 64 → length o.nodes < 2 ^ 32 → length o.axioms < 2 ^ 32 → HasText o (record { lines = lines_from 0 0 h.contexts.items; listed = listed })
-  superclasses_have_text listed fits numbers long small few = record {
-    lines = λ k d l. within k (get_or (lines_from 0 0 h.contexts.items) k d) (slice_get-get_or (lines_from 0 0 h.contexts.items) k d l);
+  pub derivation_has_text : (lines : List Line) (listed : Option Listed) → IsDerivation o lines → length lines < 2 ^ 64
+      → IfSome listed (IsListedOf o) → All IsSmall (listed_numbers listed) → HasText o (record { lines = lines; listed = listed })
+  derivation_has_text lines listed derivation long fits numbers = record {
+    lines = All-from_places _ lines (λ n line at. (derivation n line at).within);
     listed = fits;
-    premises = λ k d l. premises_written k (get_or (lines_from 0 0 h.contexts.items) k d) (slice_get-get_or (lines_from 0 0 h.contexts.items) k d l) (omega arith);
-    numbers =
-        All-append IsSmall (flat_map line_numbers (lines_from 0 0 h.contexts.items)) (listed_numbers listed)
-        (All-flat IsSmall line_numbers (lines_from 0 0 h.contexts.items) (numbers_written small few)) numbers;
+    premises = All-from_places _ lines premises;
+    numbers = All-append IsSmall (flat_map line_numbers lines) (listed_numbers listed) (All-flat IsSmall line_numbers lines small) numbers;
   }
+    where
+      small : (n : ℕ) (line : Line) → slice_get lines n ≡ Some line → All IsSmall (line_numbers line)
+      small n line at =
+          let within = (derivation n line at).within in
+          All-append IsSmall (conclusion_numbers line.conclusion) (axiom_numbers line.axiom') (conclusion_small line.conclusion within.conclusion) (axiom_small line.axiom' within.axiom')
+
+      premises : (n : ℕ) (line : Line) → slice_get lines n ≡ Some line → All (λ p. (1 ≤ p) × (p < 2 ^ 64)) line.premises
+      premises n line at k d l =
+          let there : n < length lines = slice_get_within lines n line at in
+          let derived = derivation n line at in
+          let before : List Conclusion = map (λ x. x.conclusion) (take n lines) in
+          let within : IsNumberOf (length before) (get_or line.premises k d) = numbers_within before line.premises derived.premises derived.premises_at k d l in
+          (within.0, omega (arith, within.1, length-map (take n lines) (λ (x : Line). x.conclusion), length-take-le n lines (omega arith), long))

@@ -1,7 +1,4 @@
-pub mod Stated
-pub mod Derivation
-pub mod Relation
+pub mod Contradiction
+pub mod Rows
 pub mod Classified
-pub mod Elements
-pub mod Countermodel
 pub mod Shown

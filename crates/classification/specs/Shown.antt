@@ -1,20 +1,23 @@
--- Certificates of superclasses.
-use Rattle.std.specs.Prelude.{ℕ, ◌<◌, ◌↔◌, List, Bool, true, false, length, Some, None}
+-- What a classification finds, and what its certificate shows.
+use Rattle.std.specs.Prelude.{List, [], Bool, true, false, Some, None}
 use Rattle.std.specs.declared.option.Option.{Option}
 use Rattle.axioms.specs.Numbered.{Ontology}
-use Rattle.certificate.specs.Certificate.{Expression, Individual, Sub, Line, Listed}
-use Rattle.cert_check.specs.Derivation.{IsDerivation, HasLine}
-use Rattle.hierarchy.specs.Superclasses.{IsSuperclass}
-use Rattle.classification.specs.Countermodel.{IsCountermodel}
+use Rattle.certificate.specs.Certificate.{Line, Listed}
+use Rattle.classification.specs.Rows.{IsTaxonomyOf, AreTypesOf}
+use Rattle.exactness.specs.Acceptance.{IsListedFor}
+use Rattle.exactness.specs.Theorems.{HaveFacts}
+use Rattle.explain.specs.Needed.{ShowsContradiction}
+use Rattle.taxonomy.specs.declared.outcome.Outcome.{Outcome}
+use Rattle.taxonomy.specs.declared.outcome.Outcome.TheVariants.{Consistent, Inconsistent}
 
--- the lines are a derivation, put above each class exactly its superclasses, and say nothing of individuals
-pub record AreLinesOf (o : Ontology) (lines : List Line) : Type 0 where
-  pub derivation : IsDerivation o lines
-  pub each : (e f : ℕ) → e < length o.nodes → HasLine lines (Sub (Expression e) f) ↔ IsSuperclass o e f
-  pub no_individuals : (a f : ℕ) → HasLine lines (Sub (Individual a) f) → ⊥
+-- the relations of the closure, or that there is a contradiction
+abbrev pub IsOutcomeOf : Ontology → Bool → Outcome → Type 0
+IsOutcomeOf o true (Consistent taxonomy types) = IsTaxonomyOf o taxonomy × AreTypesOf o types.items
+IsOutcomeOf o false Inconsistent = Unit {0}
+IsOutcomeOf o _ _ = ⊥
 
--- an interpretation is listed, or none where there is none
-abbrev pub IsListedWhere : Ontology → Bool → Option Listed → Type 0
-IsListedWhere o true (Some l) = IsCountermodel o l
-IsListedWhere o false None = Unit {0}
-IsListedWhere _ _ _ = ⊥
+-- the lines have the closure's facts, and its interpretation is listed; or the lines have the contradiction
+abbrev pub AreShown : Ontology → Bool → List Line → Option Listed → Type 0
+AreShown o true lines (Some listed) = HaveFacts o [] lines × IsListedFor o listed
+AreShown o false lines None = ShowsContradiction lines
+AreShown o _ lines _ = ⊥

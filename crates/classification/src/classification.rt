@@ -1,27 +1,33 @@
 //! A classification with its texts.
-ghost use Rattle.axioms.specs.Numbered.{nothing, thing};
 ghost use Rattle.cert_check.specs.Acceptable.{IsAcceptable};
-ghost use Rattle.certificate.specs.HasText.{HasText};
-ghost use Rattle.classification.specs.Classified.{AreCountsOf, AreTextsOf, HasTooManyFacts, IsClassifiable, IsOutcomeOf};
-ghost use Rattle.classification.specs.Shown.{AreLinesOf, IsListedWhere};
-ghost use Rattle.hierarchy.specs.Contexts.{AreSuperclasses};
-ghost use Rattle.std.specs.Prelude.{◌≡◌, ◌<◌, ◌≤◌, Err, IfOk, length, not};
-ghost use Rattle.taxonomy.specs.Relation.{IsSquare, lies_below};
+ghost use Rattle.cert_check.specs.Derivation.{IsDerivation};
+ghost use Rattle.certificate.specs.HasText.{HasText, IsListedOf, listed_numbers};
+ghost use Rattle.certificate.specs.Text.{certificate_text};
+ghost use Rattle.certificate.specs.View.{certificate_from, lines_of, listed_of};
+ghost use Rattle.classification.specs.Classified.{AreCountsOf, AreTextsOf};
+ghost use Rattle.classification.specs.Shown.{AreShown, IsOutcomeOf};
+ghost use Rattle.closure_model.specs.Listed.{IsConsistent};
+ghost use Rattle.engine.specs.Saturated.{HasMoreFactsThan, IsSaturated};
+ghost use Rattle.saturate.specs.declared.known_facts.Stop.TheVariants as stops;
+ghost use Rattle.std.specs.Prelude.{◌↔◌, ◌≡◌, ◌<◌, ◌≤◌, ◌^◌, [], All, Err, IfOk, IfSome, IsTrue, length, option_map};
+ghost use Rattle.taxonomy.specs.Outcome.{IsMadeFor, instances_of, taxonomy_of};
 
-use crate::derivation::derivation_lines;
-use crate::listing::listed;
-use crate::relation::relation_rows;
-use axioms::{ExprId, Memory, Ontology};
-use certificate::{Certificate, certificate_bytes};
-use hierarchy::{Hierarchy, Stop, close};
-use interpretation_spec::Row;
+use crate::consistent::is_consistent;
+use crate::relation::taxonomy_of;
+use crate::types::types_of;
+use axioms::{Memory, Ontology};
+use certificate::{Certificate, Line, Listed, certificate_bytes};
+use engine::{Saturation, Stop, saturated};
+use explain::{contradiction, lines};
+use listing::listed;
 use std::alloc::Global;
-use taxonomy::{Outcome, Relation, instances_bytes, reduce, taxonomy_bytes};
+use std::hash::RandomState;
+use taxonomy::{Outcome, instances_bytes, taxonomy_bytes};
 
 /// What a classification counts.
 #[derive(Clone, Copy, Debug, PartialEq, Eq)]
 pub struct Summary {
-    /// Whether the ontology has an interpretation.
+    /// Whether the axioms have a finite interpretation.
     pub consistent: bool,
     /// The named classes, `owl:Thing` and `owl:Nothing` among them.
     pub classes: usize,
@@ -39,90 +45,147 @@ pub struct Classification {
     pub certificate: Vec<u8>,
 }
 
-/// Whether `owl:Nothing` is no superclass of `owl:Thing`.
-fn is_consistent(rows: &[Row]) -> bool
-    requires { thing < length rows.now }
-    ensures { result ≡ not (lies_below rows.now thing nothing) }
-{
-    !rows[ExprId::THING.0 as usize].contains(ExprId::NOTHING.0 as usize)
-}
-
-/// What the superclasses say: the relation of the classes, or that there is no interpretation.
-fn outcome(alloc: Global, rows: Vec<Row>, consistent: bool) -> Result<Outcome, Memory>
-    requires { IsSquare rows.items }
-    ensures { IfOk result (IsOutcomeOf rows.items consistent) }
+/// What the closure says: the relations of classes and individuals, or that there is no interpretation.
+fn outcome(
+    alloc: Global,
+    ontology: &Ontology,
+    saturation: &Saturation,
+    consistent: bool,
+) -> Result<Outcome, Memory>
+    requires { IsSaturated ontology.now saturation.now }
+    ensures { IfOk result (IsOutcomeOf ontology.now consistent) }
 {
     if !consistent {
         return Ok(Outcome::Inconsistent);
     }
-    let relation = Relation::new(relation_rows(alloc, rows)?);
-    let taxonomy = reduce(alloc, &relation)?;
-    Ok(Outcome::Consistent(taxonomy, Vec::new(alloc)))
+    let taxonomy = taxonomy_of(alloc, ontology, saturation)?;
+    let types = types_of(alloc, ontology, saturation)?;
+    Ok(Outcome::Consistent(taxonomy, types))
 }
 
-/// The certificate of the superclasses.
-fn certificate_of(
-    alloc: Global,
-    ontology: &Ontology,
-    hierarchy: &Hierarchy,
-    consistent: bool,
-) -> Result<Certificate, Memory>
-    requires classifiable { IsClassifiable ontology.now }
-    requires superclasses { AreSuperclasses ontology.now hierarchy.now }
-    requires consistent { consistent ≡ not (lies_below hierarchy.now.rows.items thing nothing) }
-    ensures text { IfOk result (λ c. HasText ontology.now c) }
-    ensures lines { IfOk result (λ c. AreLinesOf ontology.now c.lines) }
-    ensures listed { IfOk result (λ c. IsListedWhere ontology.now consistent c.listed) }
+/// The certificate of these lines and of this interpretation.
+fn certified(ontology: &Ontology, lines: Vec<Line>, listed: Option<Listed>) -> Certificate
+    requires derivation { IsDerivation ontology.now (lines_of lines.items) }
+    requires listed { IfSome (option_map listed_of listed) (IsListedOf ontology.now) }
+    requires numbers { All (λ n. n < 2 ^ 32) (listed_numbers (option_map listed_of listed)) }
+    ensures made { result ≡ certificate_from lines.items listed }
+    ensures text { HasText ontology.now result }
 {
     ontology.bounded();
-    let lines = derivation_lines(alloc, &hierarchy.contexts)?;
-    let listed = if consistent {
-        Some(listed(alloc, ontology, hierarchy)?)
-    } else {
-        None
-    };
     match Certificate::new(ontology, lines, listed) {
-        Ok(certificate) => Ok(certificate),
+        Ok(certificate) => certificate,
         // All its numbers can be written.
         Err(_) => unreachable!(),
     }
 }
 
-/// The classification of an ontology whose closure has at most `max_facts` facts. It has subclass axioms between named
-/// classes and nothing else.
+/// The certificate of the closure: a derivation of all its facts with the interpretation that it lists, or of a contradiction.
+fn certificate_of(
+    alloc: Global,
+    ontology: &Ontology,
+    saturation: &Saturation,
+    consistent: bool,
+) -> Result<Certificate, Memory>
+    requires saturated { IsSaturated ontology.now saturation.now }
+    requires consistent { IsTrue consistent ↔ IsConsistent ontology.now [] }
+    ensures text { IfOk result (HasText ontology.now) }
+    ensures derivation { IfOk result (λ c. IsDerivation ontology.now c.lines) }
+    ensures shown { IfOk result (λ c. AreShown ontology.now consistent c.lines c.listed) }
+{
+    if consistent {
+        let lines = lines(alloc, ontology, saturation)?;
+        let listed = listed(alloc, ontology, saturation)?;
+        Ok(certified(ontology, lines, Some(listed)))
+    } else {
+        let lines = contradiction(alloc, ontology, saturation)?;
+        Ok(certified(ontology, lines, None))
+    }
+}
+
+/// How many there are of each kind.
+fn counted(ontology: &Ontology, saturation: &Saturation, consistent: bool) -> Summary
+    ensures consistent { result.consistent ≡ consistent }
+    ensures classes { result.classes ≡ length ontology.now.names.classes }
+    ensures individuals { result.individuals ≡ length ontology.now.names.individuals }
+    ensures facts { result.facts ≡ length saturation.now.state.facts }
+{
+    Summary {
+        consistent,
+        classes: ontology.classes().len(),
+        individuals: ontology.individuals().len(),
+        facts: saturation.facts().len() as u64,
+    }
+}
+
+/// The texts of an outcome and of a certificate, with these counts.
+fn told(
+    alloc: Global,
+    ontology: &Ontology,
+    summary: Summary,
+    outcome: &Outcome,
+    certificate: &Certificate,
+) -> Result<Classification, Memory>
+    requires { IsMadeFor ontology.now outcome.now }
+    ensures summary { IfOk result (λ c. c.summary ≡ summary) }
+    ensures taxonomy { IfOk result (λ c. c.taxonomy.items ≡ taxonomy_of ontology.now outcome.now) }
+    ensures instances { IfOk result (λ c. c.instances.items ≡ instances_of ontology.now outcome.now) }
+    ensures certificate { IfOk result (λ c. c.certificate.items ≡ certificate_text certificate.now) }
+{
+    Ok(Classification {
+        summary,
+        taxonomy: taxonomy_bytes(alloc, ontology, outcome)?,
+        instances: instances_bytes(alloc, ontology, outcome)?,
+        certificate: certificate_bytes(alloc, certificate)?,
+    })
+}
+
+/// The classification of a saturated ontology.
+fn classified(
+    alloc: Global,
+    ontology: &Ontology,
+    saturation: &Saturation,
+) -> Result<Classification, Memory>
+    requires { IsSaturated ontology.now saturation.now }
+    ensures counts { IfOk result (λ c. AreCountsOf ontology.now c.summary) }
+    ensures facts { IfOk result (λ c. c.summary.facts ≡ length saturation.now.state.facts) }
+    ensures texts { IfOk result (λ c. AreTextsOf ontology.now c.summary.consistent c.taxonomy.items c.instances.items) }
+    ensures acceptable { IfOk result
+        (λ c. IsAcceptable ontology.now c.taxonomy.items c.instances.items c.certificate.items) }
+{
+    ontology.well_formed();
+    let consistent = is_consistent(ontology, saturation);
+    let certificate = certificate_of(alloc, ontology, saturation, consistent)?;
+    let outcome = outcome(alloc, ontology, saturation, consistent)?;
+    let summary = counted(ontology, saturation, consistent);
+    let classification = told(alloc, ontology, summary, &outcome, &certificate)?;
+    Ok(classification)
+}
+
+/// The classification of an ontology whose closure has at most `max_facts` facts.
 ///
 /// # Errors
 ///
-/// `Limit` where the closure has more facts, and `Memory` where memory was refused before that was seen.
-pub fn classify(alloc: Global, ontology: &Ontology, max_facts: u64) -> Result<Classification, Stop>
-    requires { IsClassifiable ontology.now }
+/// `Limit` where the closure has more facts, and `Memory` where memory was refused before that was seen, or there are
+/// 2^32 - 1 fresh names of a kind.
+pub fn classify(
+    alloc: Global,
+    state: RandomState,
+    ontology: &Ontology,
+    max_facts: u32,
+) -> Result<Classification, Stop>
     ensures counts { IfOk result (λ c. AreCountsOf ontology.now c.summary) }
     ensures within { IfOk result (λ c. c.summary.facts ≤ max_facts) }
     ensures texts { IfOk result (λ c. AreTextsOf ontology.now c.summary.consistent c.taxonomy.items c.instances.items) }
     // The certificate shows that the taxonomy and the instances are right.
     ensures acceptable { IfOk result
         (λ c. IsAcceptable ontology.now c.taxonomy.items c.instances.items c.certificate.items) }
-    ensures limit { result ≡ Err Stop.Limit → HasTooManyFacts ontology.now max_facts }
+    ensures limit { result ≡ Err stops.Limit → HasMoreFactsThan ontology.now max_facts }
 {
-    ontology.well_formed();
-    let hierarchy = close(alloc, ontology, max_facts)?;
-    let consistent = is_consistent(&hierarchy.rows);
-    let certificate = certificate_of(alloc, ontology, &hierarchy, consistent)?;
-    let Hierarchy {
-        contexts: _contexts,
-        rows,
-        facts,
-    } = hierarchy;
-    let outcome = outcome(alloc, rows, consistent)?;
-    Ok(Classification {
-        summary: Summary {
-            consistent,
-            classes: ontology.classes().len(),
-            individuals: ontology.individuals().len(),
-            facts,
+    match saturated(alloc, state, ontology, max_facts) {
+        Ok(saturation) => match classified(alloc, ontology, &saturation) {
+            Ok(classification) => Ok(classification),
+            Err(_) => Err(Stop::Memory),
         },
-        taxonomy: taxonomy_bytes(alloc, ontology, &outcome)?,
-        instances: instances_bytes(alloc, ontology, &outcome)?,
-        certificate: certificate_bytes(alloc, &certificate)?,
-    })
+        Err(stop) => Err(stop),
+    }
 }

@@ -1,12 +1,12 @@
-//! The classification of an ontology of subclass axioms: its taxonomy, its instances, and a certificate of both.
+//! The classification of an ontology: its taxonomy, its instances, and a certificate of both.
 #![tactic(auto)]
 
 mod classification;
-mod derivation;
-mod listing;
+mod consistent;
 mod relation;
-mod stated;
+mod rows;
+mod types;
 
 pub use classification::{Classification, Summary, classify};
-pub use hierarchy::Stop;
-pub use stated::{stated_hierarchies, states_hierarchy};
+pub use consistent::is_consistent;
+pub use engine::Stop;

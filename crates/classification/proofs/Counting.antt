@@ -1,0 +1,84 @@
+-- The facts of a saturation are as many as those of the closure.
+use Rattle.std.proofs.Common.{◌≡◌, ◌↔◌, ℕ, ◌<◌, Bool, true, length, slice_get, Some, Contains, List, [], sym, ap, ap₂, ◌∙◌, subst}
+use Rattle.std.proofs.lemmas.Option.{same_Some, slice_get_within}
+use Rattle.lemmas.proofs.Members.{Contains-from_slice_get, slice_get-from_Contains}
+use Rattle.lemmas.proofs.Places.{slice_get_there}
+use Rattle.axioms.specs.Numbered.{Ontology, axiom_trees}
+use Rattle.axioms.specs.WellFormed.{AreDistinct}
+use Rattle.closure.specs.Closure.{Context, Expression, Individual, Fact, In, Edge, IsFact}
+use Rattle.closure.specs.Said.{Beginnings, SaysClass, whole, beginning, SaysProperty, property, steps, SaysContext, expression, individual, SaysFact, in_context, edge, IsProblemOf}
+use Rattle.engine.specs.Saturated.{Saturated, IsSaturated, SayTheClosure}
+use Rattle.engine.proofs.Saying.{fact_same, AreSaid, all_said}
+use Rattle.facts.specs.Closure.{Problem}
+use Rattle.facts.specs.declared.contexts.Context as code_context
+use Rattle.facts.specs.declared.contexts.Fact as code_fact
+use Rattle.interpretation_spec.specs.Interpretation.{IsContradictory}
+use Rattle.normal_forms.specs.declared.forms.Class2 as code_class
+use Rattle.normal_forms.specs.declared.forms.PropId2 as code_property
+use Rattle.normal_forms.specs.Forms.{Class2, Whole, Beginning, Property2, Property, Steps}
+use Rattle.problem.specs.Made.{beginnings_of}
+use Rattle.classification.specs.Classified.{HasFacts, AreCountsOf}
+use Rattle.classification.specs.declared.classification.Summary.{Summary}
+
+class_one : {b : Beginnings} {a : code_class.Class2} {c d : Class2} → SaysClass b a c → SaysClass b a d → c ≡ d
+class_one (whole h) (whole k) = ap Whole (sym h ∙ k)
+class_one (beginning {ds = ds} h) (beginning {ds = es} k) = ap Beginning (same_Some ds es (sym h ∙ k))
+
+property_one : {b : Beginnings} {p : code_property.PropId2} {r s : Property2} → SaysProperty b p r → SaysProperty b p s → r ≡ s
+property_one (property h) (property k) = ap Property (sym h ∙ k)
+property_one (steps {rs = rs} h) (steps {rs = ss} k) = ap Steps (same_Some rs ss (sym h ∙ k))
+
+context_one : {x : code_context.Context} {y z : Context} → SaysContext x y → SaysContext x z → y ≡ z
+context_one (expression h) (expression k) = ap Expression (sym h ∙ k)
+context_one (individual h) (individual k) = ap Individual (sym h ∙ k)
+
+-- a fact over numbers says one fact
+fact_one : {b : Beginnings} {f : code_fact.Fact} {g h : Fact} → SaysFact b f g → SaysFact b f h → g ≡ h
+fact_one (in_context a x) (in_context c y) = ap₂ In (class_one a c) (context_one x y)
+fact_one (edge x p z) (edge y q u) = ap₂ (λ v (w : Property2 × Context). Edge v w.0 w.1) (context_one x y) (ap₂ (λ r v. (r, v)) (property_one p q) (context_one z u))
+
+module _ (o : Ontology) (b : Beginnings) (k : Problem) (problem : IsProblemOf o [] b k) (fs : List code_fact.Fact) (distinct : AreDistinct fs) (h : SayTheClosure o b fs) where
+  -- what is said at one place is one fact
+  said_at : (gs : List Fact) → AreSaid o b k problem fs gs → (n : ℕ) (f : code_fact.Fact) (g : Fact) → slice_get fs n ≡ Some f → SaysFact b f g → slice_get gs n ≡ Some g
+  said_at gs are n f g at says =
+      let (g', at') = slice_get_there gs n (subst (λ l. n < l) (sym are.0) (slice_get_within fs n f at)) in
+      let (f', there, says', _) = are.1 n g' at' in
+      let same : f' ≡ f = same_Some f' f (sym there ∙ at) in
+      at' ∙ ap Some (fact_one (subst (λ x. SaysFact b x g') same says') says)
+
+  all_there : (gs : List Fact) → AreSaid o b k problem fs gs → (g : Fact) → IsFact o [] g → Contains gs g
+  all_there gs are g fact =
+      let (f, there, says) = h.all g fact in
+      let (n, at) = slice_get-from_Contains fs f there in
+      Contains-from_slice_get gs n g (said_at gs are n f g at says)
+
+  apart : (gs : List Fact) → AreSaid o b k problem fs gs → AreDistinct gs
+  apart gs are m n g at at' =
+      let (f, there, says, _) = are.1 m g at in
+      let (f', there', says', _) = are.1 n g at' in
+      distinct m n f there (there' ∙ ap Some (fact_same o b k problem says' says))
+
+  is_fact : (gs : List Fact) → AreSaid o b k problem fs gs → (g : Fact) → Contains gs g → IsFact o [] g
+  is_fact gs are g there = let (n, at) = slice_get-from_Contains gs g there in (are.1 n g at).3
+
+  are_facts : (gs : List Fact) → AreSaid o b k problem fs gs → HasFacts o (length fs)
+  are_facts gs are = record { facts = gs; distinct = apart gs are; exact = λ g. (is_fact gs are g, all_there gs are g); many = are.0 }
+
+  all_counted : HasFacts o (length fs)
+  all_counted =
+      let (gs, are) = all_said o b k problem fs (λ m f at. h.each f (Contains-from_slice_get fs m f at)) in
+      are_facts gs are
+
+-- the facts of a saturation are as many as those of the closure
+pub has_facts : (o : Ontology) (s : Saturated) → IsSaturated o s → HasFacts o (length s.state.facts)
+has_facts o s h = all_counted o (beginnings_of s.normal) s.state.problem h.problem s.state.facts h.born.distinct h.facts
+
+pub counts_of : (o : Ontology) (s : Saturated) (summary : Summary) (consistent : Bool) → IsSaturated o s
+    → summary.consistent ≡ consistent → summary.classes ≡ length o.names.classes → summary.individuals ≡ length o.names.individuals → summary.facts ≡ length s.state.facts
+    → (consistent ≡ true) ↔ (IsContradictory (axiom_trees o) → ⊥) → AreCountsOf o summary
+counts_of o s summary consistent h is classes individuals facts where_consistent = record {
+  consistent = (λ t. where_consistent.0 (sym is ∙ t), λ k. is ∙ where_consistent.1 k);
+  classes = classes;
+  individuals = individuals;
+  facts = subst (HasFacts o) (sym facts) (has_facts o s h);
+}

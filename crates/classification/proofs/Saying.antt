@@ -1,0 +1,115 @@
+-- What the facts of a saturation say of named classes and individuals.
+use Rattle.std.proofs.Common.{◌≡◌, ◌↔◌, ℕ, ◌<◌, List, [], length, get_or, slice_get, Some, All, Contains, refl, sym, ap₂, subst, subst₂}
+use Rattle.std.proofs.lemmas.List.Elements.{All-contains, Contains-get_or}
+use Rattle.lemmas.proofs.Members.{Contains-from_slice_get, slice_get-from_Contains}
+use Rattle.axioms.specs.Numbered.{Ontology, Class, IsClassAt, nothing, thing}
+use Rattle.axioms.specs.WellFormed.{IsOntology}
+use Rattle.axioms.specs.declared.ids.ExprId.{ExprId}
+use Rattle.axioms.specs.declared.ids.IndId.{IndId}
+use Rattle.normal_forms.specs.declared.forms.Class2 as code_class
+use Rattle.normal_forms.specs.declared.forms.Class2.TheVariants as classes
+use Rattle.normal_forms.specs.Forms.{Whole}
+use Rattle.facts.specs.declared.contexts.Context.TheVariants as contexts
+use Rattle.facts.specs.declared.contexts.Fact as code_fact
+use Rattle.facts.specs.declared.contexts.Fact.TheVariants as facts
+use Rattle.closure.specs.Closure.{Expression, Individual, Fact, In, IsFact}
+use Rattle.closure.specs.Said.{Beginnings, whole, expression, individual, SaysFact, in_context}
+use Rattle.closure_model.specs.Listed.{IsConsistent}
+use Rattle.derivable.specs.Derivable.{FactIsDerivable}
+use Rattle.derivable.proofs.Facts.{fact_derivable}
+use Rattle.engine.specs.Saturated.{Saturated, IsSaturated, SayTheClosure}
+use Rattle.classification.specs.Contradiction.{IsContradiction}
+use Rattle.classification.specs.Rows.{PutsBelow, PutsInto, IsAboutIndividualOf, SomeFact}
+
+-- ---- one fact
+
+abbrev class_fact : ExprId → ExprId → code_fact.Fact
+class_fact f e = facts.In (classes.Expr f) (contexts.Expr e)
+
+abbrev type_fact : ExprId → IndId → code_fact.Fact
+type_fact f i = facts.In (classes.Expr f) (contexts.Individual i)
+
+says_class : {b : Beginnings} {f e : ExprId} {g : Fact} → SaysFact b (class_fact f e) g → g ≡ In (Whole f.0) (Expression e.0)
+says_class (in_context (whole h) (expression k)) = ap₂ (λ c d. In (Whole c) (Expression d)) (sym h) (sym k)
+
+says_type : {b : Beginnings} {f : ExprId} {i : IndId} {g : Fact} → SaysFact b (type_fact f i) g → g ≡ In (Whole f.0) (Individual i.0)
+says_type (in_context (whole h) (individual k)) = ap₂ (λ c a. In (Whole c) (Individual a)) (sym h) (sym k)
+
+class_sayer : {b : Beginnings} {fact : code_fact.Fact} {c d : ℕ} → SaysFact b fact (In (Whole c) (Expression d)) → (f : ExprId) × (e : ExprId) × (fact ≡ class_fact f e) × (f.0 ≡ c) × (e.0 ≡ d)
+class_sayer (in_context (whole {e = f} h) (expression {e = e} k)) = (f, e, refl, h, k)
+
+type_sayer : {b : Beginnings} {fact : code_fact.Fact} {c a : ℕ} → SaysFact b fact (In (Whole c) (Individual a)) → (f : ExprId) × (i : IndId) × (fact ≡ type_fact f i) × (f.0 ≡ c) × (i.0 ≡ a)
+type_sayer (in_context (whole {e = f} h) (individual {i = i} k)) = (f, i, refl, h, k)
+
+individual_there : (o : Ontology) {b : Beginnings} {a : code_class.Class2} {i : IndId} {g : Fact} → SaysFact b (facts.In a (contexts.Individual i)) g → FactIsDerivable o g → i.0 < length o.names.individuals
+individual_there o (in_context s (individual k)) d = subst (λ n. n < length o.names.individuals) (sym k) d.0
+
+-- ---- all facts
+
+module _ (o : Ontology) (w : IsOntology o) (b : Beginnings) (fs : List code_fact.Fact) (h : SayTheClosure o b fs) where
+  class_is_fact : (f e : ExprId) → Contains fs (class_fact f e) → IsFact o [] (In (Whole f.0) (Expression e.0))
+  class_is_fact f e there =
+      let (g, says, fact) = h.each (class_fact f e) there in
+      subst (IsFact o []) (says_class says) fact
+
+  type_is_fact : (f : ExprId) (i : IndId) → Contains fs (type_fact f i) → IsFact o [] (In (Whole f.0) (Individual i.0))
+  type_is_fact f i there =
+      let (g, says, fact) = h.each (type_fact f i) there in
+      subst (IsFact o []) (says_type says) fact
+
+  pub about_individual : (fact : code_fact.Fact) → Contains fs fact → IsAboutIndividualOf o fact
+  about_individual (facts.In a (contexts.Individual i)) there =
+      let (g, says, fact) = h.each (facts.In a (contexts.Individual i)) there in
+      individual_there o says (fact_derivable o [] w fact)
+  about_individual (facts.In a (contexts.Expr e)) there = tt
+  about_individual (facts.Edge x r y) there = tt
+
+  -- a fact puts a class below another where that is a fact of the closure
+  pub below_by_fact : (c d e f : ℕ) → IsClassAt o c e → IsClassAt o d f → SomeFact fs (λ fact. PutsBelow o fact c d) ↔ IsFact o [] (In (Whole f) (Expression e))
+  below_by_fact c d e f class above = (
+    λ (n, fact, at, (e', f', is, class', above')).
+        subst₂ (λ x y. IsFact o [] (In (Whole x) (Expression y))) (w.distinct_nodes f'.0 f (Class d) above' above) (w.distinct_nodes e'.0 e (Class c) class' class)
+        (class_is_fact f' e' (subst (Contains fs) is (Contains-from_slice_get fs n fact at))),
+    λ is_fact.
+        let (fact, there, says) = h.all (In (Whole f) (Expression e)) is_fact in
+        let (f', e', is, same_f, same_e) = class_sayer says in
+        let (n, at) = slice_get-from_Contains fs fact there in
+        (n, fact, at, (e', f', is, subst (IsClassAt o c) (sym same_e) class, subst (IsClassAt o d) (sym same_f) above)),
+  )
+
+  -- .. and an individual into a class
+  pub type_by_fact : (a d f : ℕ) → IsClassAt o d f → SomeFact fs (λ fact. PutsInto o fact a d) ↔ IsFact o [] (In (Whole f) (Individual a))
+  type_by_fact a d f above = (
+    λ (n, fact, at, (i, f', is, same, above')).
+        subst₂ (λ x y. IsFact o [] (In (Whole x) (Individual y))) (w.distinct_nodes f'.0 f (Class d) above' above) same
+        (type_is_fact f' i (subst (Contains fs) is (Contains-from_slice_get fs n fact at))),
+    λ is_fact.
+        let (fact, there, says) = h.all (In (Whole f) (Individual a)) is_fact in
+        let (f', i, is, same_f, same_i) = type_sayer says in
+        let (n, at) = slice_get-from_Contains fs fact there in
+        (n, fact, at, (i, f', is, same_i, subst (IsClassAt o d) (sym same_f) above)),
+  )
+
+  no_contradiction : IsConsistent o [] → (fact : code_fact.Fact) → Contains fs fact → IsContradiction fact → ⊥
+  no_contradiction consistent (facts.In (classes.Expr c) (contexts.Expr e)) there bad =
+      consistent.things (subst₂ (λ x y. IsFact o [] (In (Whole x) (Expression y))) bad.0 bad.1 (class_is_fact c e there))
+  no_contradiction consistent (facts.In (classes.Expr c) (contexts.Individual i)) there bad =
+      consistent.individuals i.0 (about_individual (type_fact c i) there) (subst (λ x. IsFact o [] (In (Whole x) (Individual i.0))) bad (type_is_fact c i there))
+  no_contradiction consistent (facts.In (classes.Partial n) x) there bad = bad
+  no_contradiction consistent (facts.Edge x r y) there bad = bad
+
+  -- the closure is consistent where no fact says otherwise
+  pub consistent_by_facts : All (λ fact. IsContradiction fact → ⊥) fs ↔ IsConsistent o []
+  consistent_by_facts = (
+    λ all. record {
+      things = λ is_fact.
+          let (fact, there, says) = h.all (In (Whole nothing) (Expression thing)) is_fact in
+          let (f, e, is, same_f, same_e) = class_sayer says in
+          All-contains (λ fact. IsContradiction fact → ⊥) fs fact all there (subst IsContradiction (sym is) (same_f, same_e));
+      individuals = λ a l is_fact.
+          let (fact, there, says) = h.all (In (Whole nothing) (Individual a)) is_fact in
+          let (f, i, is, same_f, same_i) = type_sayer says in
+          All-contains (λ fact. IsContradiction fact → ⊥) fs fact all there (subst IsContradiction (sym is) same_f);
+    },
+    λ consistent k d l. no_contradiction consistent (get_or fs k d) (Contains-get_or fs k d l),
+  )

@@ -1,0 +1,78 @@
+-- A certificate shows what a classification says.
+use Rattle.std.proofs.Common.{◌≡◌, ◌↔◌, ℕ, ◌<◌, Bool, true, false, List, [], length, Some, None, Option, IsTrue, refl, sym, subst, subst₂}
+use Rattle.std.specs.Prelude.{MatchOption}
+use Rattle.std.proofs.lemmas.List.Elements.{All-nil}
+use Rattle.std.proofs.lemmas.Bool.{false≢true}
+use Rattle.axioms.specs.Numbered.{Ontology, axiom_trees}
+use Rattle.axioms.specs.WellFormed.{IsOntology}
+use Rattle.certificate.specs.Certificate.{Line, Listed, Certificate}
+use Rattle.certificate.specs.HasText.{HasText}
+use Rattle.certificate.specs.Text.{certificate_text}
+use Rattle.cert_check.specs.Acceptable.{IsContradictionShown, IsAcceptable}
+use Rattle.cert_check.specs.Derivation.{IsDerivation}
+use Rattle.closure_model.specs.Listed.{IsConsistent}
+use Rattle.closure_model.proofs.Complete.{complete_contradictory}
+use Rattle.exactness.specs.Acceptance.{ShowsClosure}
+use Rattle.exactness.proofs.Acceptance.{shown_is_acceptable}
+use Rattle.exactness.proofs.Exact.{contradiction_sound}
+use Rattle.interpretation_spec.specs.Interpretation.{IsContradictory}
+use Rattle.taxonomy.specs.Outcome.{IsMadeFor, taxonomy_of, instances_of}
+use Rattle.taxonomy.specs.Relation.{lies_below}
+use Rattle.taxonomy.specs.declared.outcome.Outcome.{Outcome}
+use Rattle.taxonomy.specs.declared.outcome.Outcome.TheVariants.{Consistent, Inconsistent}
+use Rattle.classification.specs.Classified.{AreTextsOf}
+use Rattle.classification.specs.Shown.{IsOutcomeOf, AreShown}
+
+-- ---- consistent
+
+pub consistent_where : (o : Ontology) → IsOntology o → (consistent : Bool) → IsTrue consistent ↔ IsConsistent o [] → (lines : List Line) (listed : Option Listed) → AreShown o consistent lines listed
+    → (consistent ≡ true) ↔ (IsContradictory (axiom_trees o) → ⊥)
+consistent_where o w true is lines (Some listed) shown = (
+  λ t none. let l = shown.1 in complete_contradictory o [] l.elements l.i w (All-nil (λ e. e < length o.nodes)) l.interpretation none l.consistent,
+  λ some. refl,
+)
+consistent_where o w true is lines None shown = absurd shown
+consistent_where o w false is lines listed shown = (
+  λ t. absurd (false≢true t),
+  λ some. let sound = contradiction_sound o [] w in is.1 (record { things = λ fact. some (sound.0 fact); individuals = λ a l fact. some (sound.1 a fact) }),
+)
+
+-- ---- texts
+
+pub texts_of : (o : Ontology) (consistent : Bool) (outcome : Outcome) → IsOutcomeOf o consistent outcome → AreTextsOf o consistent (taxonomy_of o outcome) (instances_of o outcome)
+texts_of o true (Consistent taxonomy types) is = record {
+  lies_below = lies_below taxonomy;
+  belongs = lies_below types.items;
+  relations = record { below = is.0.below; types = is.1.types };
+  taxonomy_is = refl;
+  instances_is = refl;
+}
+texts_of o true Inconsistent is = absurd is
+texts_of o false Inconsistent is = (refl, refl)
+texts_of o false (Consistent taxonomy types) is = absurd is
+
+-- .. and so do texts that were written of it
+pub told_texts : (o : Ontology) (consistent : Bool) (outcome : Outcome) → IsOutcomeOf o consistent outcome → (says : Bool) (taxonomy instances : List ℕ) → says ≡ consistent
+    → taxonomy ≡ taxonomy_of o outcome → instances ≡ instances_of o outcome → AreTextsOf o says taxonomy instances
+told_texts o consistent outcome is says taxonomy instances same t i =
+    subst (λ b. AreTextsOf o b taxonomy instances) (sym same) (subst₂ (AreTextsOf o consistent) (sym t) (sym i) (texts_of o consistent outcome is))
+
+pub made_for : (o : Ontology) (consistent : Bool) (outcome : Outcome) → IsOutcomeOf o consistent outcome → IsMadeFor o outcome
+made_for o true (Consistent taxonomy types) is = record { classes = is.0.long; individuals = is.1.shaped.long; types_over_classes = is.1.shaped.over }
+made_for o true Inconsistent is = absurd is
+made_for o false Inconsistent is = tt
+made_for o false (Consistent taxonomy types) is = absurd is
+
+-- ---- acceptance
+
+pub acceptable : (o : Ontology) → IsOntology o → (consistent : Bool) (c : Certificate) → HasText o c → IsDerivation o c.lines → AreShown o consistent c.lines c.listed
+    → (taxonomy instances text : List ℕ) → AreTextsOf o consistent taxonomy instances → text ≡ certificate_text c → IsAcceptable o taxonomy instances text
+acceptable o w consistent c has_text derivation shown taxonomy instances text texts spelled =
+    shown_is_acceptable o taxonomy instances text c w (record { has_text = has_text; spelled = spelled }) derivation (shows consistent c.listed shown texts)
+  where
+    shows : (consistent : Bool) (l : Option Listed) → AreShown o consistent c.lines l → AreTextsOf o consistent taxonomy instances
+        → MatchOption l (IsContradictionShown taxonomy instances c.lines) (ShowsClosure o taxonomy instances c.lines)
+    shows true (Some l) shown texts = record { facts = shown.0; interpretation = shown.1; texts = texts }
+    shows true None shown texts = absurd shown
+    shows false None shown texts = record { subject = shown.0; top = shown.1; line = shown.2; taxonomy_is = texts.0; instances_is = texts.1 }
+    shows false (Some l) shown texts = absurd shown

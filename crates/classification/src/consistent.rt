@@ -1,0 +1,44 @@
+//! Whether a closure is without contradiction.
+ghost use Rattle.classification.specs.Contradiction.{IsContradiction};
+ghost use Rattle.closure_model.specs.Listed.{IsConsistent};
+ghost use Rattle.engine.specs.Saturated.{IsSaturated};
+ghost use Rattle.std.specs.Prelude.{◌↔◌, [], All, IsTrue};
+
+use axioms::{ExprId, Ontology};
+use engine::Saturation;
+use facts::{Context, Fact};
+use normal_forms::Class2;
+
+/// Whether the fact puts all things or an individual in `owl:Nothing`.
+fn is_contradiction(fact: &Fact) -> bool
+    ensures { IsTrue result ↔ IsContradiction fact.now }
+{
+    match *fact {
+        Fact::In(Class2::Expr(class), Context::Expr(expression)) => {
+            class == ExprId::NOTHING && expression == ExprId::THING
+        }
+        Fact::In(Class2::Expr(class), Context::Individual(_)) => class == ExprId::NOTHING,
+        _ => false,
+    }
+}
+
+/// Whether none of the facts does.
+fn has_no_contradiction(facts: &[Fact]) -> bool
+    ensures { IsTrue result ↔ All (λ f. IsContradiction f → ⊥) facts.now }
+{
+    for fact in facts {
+        if is_contradiction(fact) {
+            return false;
+        }
+    }
+    true
+}
+
+/// Whether the closure puts neither all things nor an individual in `owl:Nothing`.
+pub fn is_consistent(ontology: &Ontology, saturation: &Saturation) -> bool
+    requires { IsSaturated ontology.now saturation.now }
+    ensures { IsTrue result ↔ IsConsistent ontology.now [] }
+{
+    ontology.well_formed();
+    has_no_contradiction(saturation.facts())
+}
