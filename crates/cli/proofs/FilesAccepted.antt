@@ -46,7 +46,6 @@ document_not_done reading.Memory e = cc
 
 fault_not_done : (fault : ClassifyFault) → code_of statuses.Done ≡ code_of (classify_status fault) → ⊥
 fault_not_done (classifying.Document fault) e = document_not_done fault e
-fault_not_done classifying.NotYet e = cc
 fault_not_done classifying.Memory e = cc
 fault_not_done classifying.Limit e = cc
 fault_not_done (classifying.Io n) e = cc

@@ -14,6 +14,7 @@ use Rattle.cli.specs.declared.fault.ClassifyFault.TheVariants as classifying
 use Rattle.document.specs.Documents.{ReadsAs}
 use Rattle.document.specs.Faults.{ReadsKnown, RefusesKnown}
 use Rattle.document.specs.declared.fault.DocumentFault.{DocumentFault}
+use Rattle.document.specs.declared.fault.DocumentFault.TheVariants as reading
 
 pub all_known : (left rest : Option (List ℕ)) (bytes : List ℕ) → Consumes left rest bytes → IsAtEnd rest → AreKnown left bytes
 all_known None rest bytes all end = tt
@@ -36,6 +37,11 @@ refuses_file (Some xs) (Some ys) most fault kept refuses =
     let P : List ℕ → Type 0 = λ bytes. RefusesKnown (Some bytes) most fault in
     subst P kept refuses
 
+-- .. as they may always be for want of memory
+pub refused_memory : (file : Option (List ℕ)) (most : ℕ) → RefusesKnown file most reading.Memory
+refused_memory None most = tt
+refused_memory (Some bytes) most = tt
+
 known_file : (file left : Option (List ℕ)) (bytes : List ℕ) → Keeps file left → AreKnown left bytes → AreKnown file bytes
 known_file None left bytes kept known = tt
 known_file (Some xs) None bytes kept known = absurd kept
@@ -46,7 +52,6 @@ classified_file file left bytes facts summary texts kept is = record {
   ontology = is.ontology;
   reads = reads_file file left bytes is.ontology kept is.reads;
   well_formed = is.well_formed;
-  hierarchy = is.hierarchy;
   counts = is.counts;
   within = is.within;
   texts_are = is.texts_are;
@@ -55,14 +60,13 @@ classified_file file left bytes facts summary texts kept is = record {
 
 pub fault_of_file : (file left : Option (List ℕ)) (bytes facts : ℕ) (fault : ClassifyFault) → Keeps file left → IsFaultOf bytes facts left fault → IsFaultOf bytes facts file fault
 fault_of_file file left bytes facts (classifying.Document fault) kept is = refuses_file file left bytes fault kept is
-fault_of_file file left bytes facts classifying.NotYet kept is = (is.0, reads_file file left bytes is.0 kept is.1, is.2)
-fault_of_file file left bytes facts classifying.Memory kept is = tt
+fault_of_file file left bytes facts classifying.Memory kept is = (is.0, reads_file file left bytes is.0 kept is.1)
 fault_of_file file left bytes facts classifying.Limit kept is = (is.0, reads_file file left bytes is.0 kept is.1, is.2)
 fault_of_file file left bytes facts (classifying.Io n) kept is = (is.0, is.1, (is.2.0, is.2.1, classified_file file left bytes facts is.2.0 is.2.1 kept is.2.2))
 
 pub check_fault_of_file : (file left : Option (List ℕ)) (most : ℕ) (fault : CheckFault) → Keeps file left → IsCheckFault most left fault → IsCheckFault most file fault
 check_fault_of_file file left most (checking.Document fault) kept is = refuses_file file left most fault kept is
-check_fault_of_file file left most checking.Memory kept is = tt
+check_fault_of_file file left most checking.Memory kept is = (is.0, reads_file file left most is.0 kept is.1)
 check_fault_of_file file left most (checking.Io n) kept is = (is.0, is.1, (is.2.0, reads_file file left most is.2.0 kept is.2.1))
 
 -- a check of sources is one of their files

@@ -8,7 +8,7 @@ use Rattle.cli.proofs.Stored.{AreNew, AreSinksClosed, nothing_stored, texts_held
 use Rattle.cli.specs.Performed.{AreLeft}
 use Rattle.cli.specs.Writing.{IsUnwritten, Sinks}
 use Rattle.cli.specs.declared.fault.ClassifyFault.{ClassifyFault}
-use Rattle.cli.specs.declared.fault.ClassifyFault.TheVariants.{Document, NotYet, Memory, Limit, Io}
+use Rattle.cli.specs.declared.fault.ClassifyFault.TheVariants.{Document, Memory, Limit, Io}
 use Rattle.system_files.specs.Contents.{Content, IsClosed}
 
 -- a sink that is closed is that of the path
@@ -17,7 +17,6 @@ at_path old new p q taken same closed = let P : List ℕ → Type 0 = λ path. I
 
 pub files_left : (paths : Paths) (facts bytes : ℕ) (known : Bool) (content content' : Content) (left : Option (List ℕ)) (old new : Sinks) (fault : ClassifyFault) → Keeps (content paths.document.now) left → AreNew known old → IsUnwritten bytes facts left old new fault → AreSinksClosed paths new content content' → AreLeft paths facts bytes known content content' fault
 files_left paths facts bytes known content content' left old new (Document fault) kept fresh unwritten closed = λ path. nothing_stored known paths old new content content' fresh unwritten closed path
-files_left paths facts bytes known content content' left old new NotYet kept fresh unwritten closed = λ path. nothing_stored known paths old new content content' fresh unwritten closed path
 files_left paths facts bytes known content content' left old new Memory kept fresh unwritten closed = λ path. nothing_stored known paths old new content content' fresh unwritten closed path
 files_left paths facts bytes known content content' left old new Limit kept fresh unwritten closed = λ path. nothing_stored known paths old new content content' fresh unwritten closed path
 files_left paths facts bytes known content content' left old new (Io n) kept fresh unwritten closed =

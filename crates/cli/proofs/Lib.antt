@@ -1,4 +1,3 @@
-pub mod Taken
 pub mod Kept
 pub mod Telling
 pub mod Outcomes
@@ -8,3 +7,4 @@ pub mod Left
 pub mod Asked
 pub mod WrittenAccepted
 pub mod FilesAccepted
+pub mod EveryDocument

@@ -20,7 +20,7 @@ acceptable_there o p t i c t' i' c' same same_taxonomy same_instances same_certi
     subst of_ontology same (subst of_certificate same_certificate (subst of_instances same_instances (subst of_taxonomy same_taxonomy a)))
 
 -- bytes that read as an ontology are not refused
-not_refused : (bytes : List ℕ) (o : Ontology) (fault : DocumentFault) → ReadsAs bytes o → (fault ≡ reading.Memory → ⊥) → Refuses fault bytes → ⊥
+pub not_refused : (bytes : List ℕ) (o : Ontology) (fault : DocumentFault) → ReadsAs bytes o → (fault ≡ reading.Memory → ⊥) → Refuses fault bytes → ⊥
 not_refused bytes o fault reads other refuses = bytes_read_as_none bytes fault refuses other o reads
 
 -- .. so that a fault of their check is one that stops it

@@ -7,6 +7,7 @@ use Rattle.cert_check.specs.Verdict.{HasTrueLines, IsVerdict, PassesLines}
 use Rattle.cert_check.specs.declared.verdict.Verdict.{Verdict}
 use Rattle.cert_check.specs.declared.verdict.Verdict.TheVariants.{Accepted}
 use Rattle.cli.specs.Devices.{SourceState, source_state, IsReadOn, IsReadToItsEnd, IsReadUntil, FailsInReading}
+use Rattle.cli.specs.Writing.{IsRead}
 use Rattle.cli.specs.declared.fault.CheckFault.{CheckFault}
 use Rattle.cli.specs.declared.fault.CheckFault.TheVariants.{Document, Memory, Io}
 use Rattle.device.specs.declared.device.Source.{Ghosts}
@@ -33,11 +34,12 @@ pub record IsChecked (most : ℕ) (document taxonomy instances certificate : Opt
   pub accepted : (verdict ≡ Accepted) ↔ IsAcceptable o taxonomy_text instances_text certificate_text
   pub right : verdict ≡ Accepted → AreRight o taxonomy_text instances_text certificate_text
 
--- what a fault says of the document; it numbers the sources of the texts from 2
+-- what a fault says of the document: it is refused, or it is read and this came behind that. The sources of the texts are
+-- numbered from 2
 abbrev pub IsCheckFault : (most : ℕ) → (document : Option (List ℕ)) → CheckFault → Type 0
 IsCheckFault most document (Document fault) = RefusesKnown document most fault
-IsCheckFault most document Memory = Unit {0}
-IsCheckFault most document (Io n) = (2 ≤ n) × (n ≤ 4) × ((o : Ontology) × ReadsKnown document most o)
+IsCheckFault most document Memory = IsRead most document
+IsCheckFault most document (Io n) = (2 ≤ n) × (n ≤ 4) × IsRead most document
 
 -- what an answer says: the document reads as some ontology, and this is the verdict on it and the texts; or a fault
 abbrev pub IsCheckAnswer : (most : ℕ) → (document taxonomy instances certificate : Option (List ℕ)) → Result Verdict CheckFault → Type 0
@@ -46,44 +48,52 @@ IsCheckAnswer most document taxonomy instances certificate (Err fault) = IsCheck
 
 -- ---- what was read
 
--- the sources of the document and of the three texts
-pub record Sources : Type 0 where
-  pub document : SourceState
+-- the sources of the three texts
+pub record TextSources : Type 0 where
   pub taxonomy : SourceState
   pub instances : SourceState
   pub certificate : SourceState
 
 -- .. as the words of their traits tell them
+abbrev pub text_states : {T I C : Type 0} → Ghosts T → Ghosts I → Ghosts C → T × I × C → TextSources
+text_states T I C three = record { taxonomy = source_state T three.0; instances = source_state I three.1; certificate = source_state C three.2 }
+
+-- what was read of them where the answer is this fault. A source is named only where it failed; those before it were read to
+-- their ends, and those behind it are not touched. Where memory was refused, none failed
+abbrev pub AreTextsReadUntil : CheckFault → (old new : TextSources) → Type 0
+AreTextsReadUntil (Document fault) old new = ⊥
+AreTextsReadUntil Memory old new =
+    IsReadOn old.taxonomy new.taxonomy × IsReadOn old.instances new.instances × IsReadOn old.certificate new.certificate
+AreTextsReadUntil (Io (suc (suc zero))) old new =
+    FailsInReading old.taxonomy new.taxonomy × (new.instances ≡ old.instances) × (new.certificate ≡ old.certificate)
+AreTextsReadUntil (Io (suc (suc (suc zero)))) old new =
+    IsReadToItsEnd old.taxonomy new.taxonomy × FailsInReading old.instances new.instances × (new.certificate ≡ old.certificate)
+AreTextsReadUntil (Io (suc (suc (suc (suc zero))))) old new =
+    IsReadToItsEnd old.taxonomy new.taxonomy × IsReadToItsEnd old.instances new.instances × FailsInReading old.certificate new.certificate
+AreTextsReadUntil (Io n) old new = ⊥
+
+-- .. and where it is any answer
+abbrev pub AreTextsRead : {X : Type 0} → Result X CheckFault → (old new : TextSources) → Type 0
+AreTextsRead (Ok x) old new =
+    IsReadToItsEnd old.taxonomy new.taxonomy × IsReadToItsEnd old.instances new.instances × IsReadToItsEnd old.certificate new.certificate
+AreTextsRead (Err fault) old new = AreTextsReadUntil fault old new
+
+-- the sources of the document and of the three texts
+pub record Sources : Type 0 where
+  pub document : SourceState
+  pub texts : TextSources
+
+-- .. as the words of their traits tell them
 abbrev pub states : {D T I C : Type 0} → Ghosts D → Ghosts T → Ghosts I → Ghosts C → D × T × I × C → Sources
-states D T I C four = record { document = source_state D four.0; taxonomy = source_state T four.1; instances = source_state I four.2; certificate = source_state C four.3 }
+states D T I C four = record { document = source_state D four.0; texts = text_states T I C (four.1, four.2, four.3) }
 
--- the sources of the texts are not touched
-abbrev pub AreTextsUnread : (old new : Sources) → Type 0
-AreTextsUnread old new = (new.taxonomy ≡ old.taxonomy) × (new.instances ≡ old.instances) × (new.certificate ≡ old.certificate)
-
--- each source is read to its end
-abbrev pub AreReadToTheirEnds : (old new : Sources) → Type 0
-AreReadToTheirEnds old new =
-    IsReadToItsEnd old.document new.document × IsReadToItsEnd old.taxonomy new.taxonomy × IsReadToItsEnd old.instances new.instances × IsReadToItsEnd old.certificate new.certificate
-
--- what was read where the answer is this fault. A source is named only where it failed; those before it were read to their
--- ends, and those behind it are not touched. Where another fault is told, none failed
-abbrev pub AreReadUntil : CheckFault → (old new : Sources) → Type 0
-AreReadUntil (Document fault) old new = IsReadUntil fault old.document new.document × AreTextsUnread old new
-AreReadUntil Memory old new =
-    IsReadOn old.document new.document × IsReadOn old.taxonomy new.taxonomy × IsReadOn old.instances new.instances × IsReadOn old.certificate new.certificate
-AreReadUntil (Io (suc (suc zero))) old new =
-    IsReadToItsEnd old.document new.document × FailsInReading old.taxonomy new.taxonomy × (new.instances ≡ old.instances) × (new.certificate ≡ old.certificate)
-AreReadUntil (Io (suc (suc (suc zero)))) old new =
-    IsReadToItsEnd old.document new.document × IsReadToItsEnd old.taxonomy new.taxonomy × FailsInReading old.instances new.instances × (new.certificate ≡ old.certificate)
-AreReadUntil (Io (suc (suc (suc (suc zero))))) old new =
-    IsReadToItsEnd old.document new.document × IsReadToItsEnd old.taxonomy new.taxonomy × IsReadToItsEnd old.instances new.instances × FailsInReading old.certificate new.certificate
-AreReadUntil (Io n) old new = ⊥
-
--- .. where it is any answer
+-- what was read of the four: each to its end, or until this fault. The texts are not touched where the document is at fault,
+-- and the document was read to its end where one of them is
 abbrev pub AreRead : {X : Type 0} → Result X CheckFault → (old new : Sources) → Type 0
-AreRead (Ok x) old new = AreReadToTheirEnds old new
-AreRead (Err fault) old new = AreReadUntil fault old new
+AreRead (Ok x) old new = IsReadToItsEnd old.document new.document × AreTextsRead (Ok x) old.texts new.texts
+AreRead (Err (Document fault)) old new = IsReadUntil fault old.document new.document × (new.texts ≡ old.texts)
+AreRead (Err Memory) old new = IsReadToItsEnd old.document new.document × AreTextsReadUntil Memory old.texts new.texts
+AreRead (Err (Io n)) old new = IsReadToItsEnd old.document new.document × AreTextsReadUntil (Io n) old.texts new.texts
 
 -- .. of the four sources before and after a call
 abbrev pub Reads : {D T I C X : Type 0} → Ghosts D → Ghosts T → Ghosts I → Ghosts C → (old new : D × T × I × C) → Result X CheckFault → Type 0

@@ -126,20 +126,14 @@ read_path paths (suc (suc (suc zero))) = paths.instances.now
 read_path paths (suc (suc (suc (suc zero)))) = paths.certificate.now
 read_path paths n = []
 
--- the ontology is not one that is classified today
-abbrev pub not_yet : List ℕ
-not_yet = codes "not yet classified\n"
-
 abbrev pub classify_status : ClassifyFault → Status
 classify_status (classifying.Document fault) = status_of fault
-classify_status classifying.NotYet = statuses.Refused
 classify_status classifying.Memory = statuses.Memory
 classify_status classifying.Limit = statuses.Limit
 classify_status (classifying.Io n) = statuses.File
 
 abbrev pub IsClassifyText : Paths → (max_bytes max_facts : ℕ) → ClassifyFault → List ℕ → Type 0
 IsClassifyText paths bytes facts (classifying.Document fault) text = IsDocumentText paths.document.now bytes fault text
-IsClassifyText paths bytes facts classifying.NotYet text = text ≡ not_yet
 IsClassifyText paths bytes facts classifying.Memory text = text ≡ out_of_memory
 IsClassifyText paths bytes facts classifying.Limit text = text ≡ codes "limit: more than " ++ (decimal facts ++ codes " facts\n")
 IsClassifyText paths bytes facts (classifying.Io n) text = text ≡ cannot_write (written_path paths n)

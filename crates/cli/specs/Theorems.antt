@@ -1,7 +1,10 @@
 -- What is proved of classifications and checks together.
-use Rattle.std.specs.Prelude.{◌≡◌, ◌<◌, ℕ, ◌⊎◌, List, Result, Ok, Err, Some, true, codes, length}
+use Rattle.std.specs.Prelude.{◌≡◌, ◌<◌, ◌≤◌, ℕ, ◌⊎◌, List, Result, Ok, Err, Some, true, codes, length}
+use Rattle.axioms.specs.Numbered.{Ontology}
+use Rattle.cert_check.specs.Acceptable.{IsAcceptable}
 use Rattle.cert_check.specs.declared.verdict.Verdict.{Verdict}
 use Rattle.cert_check.specs.declared.verdict.Verdict.TheVariants.{Accepted}
+use Rattle.classification.specs.Classified.{AreCountsOf}
 use Rattle.classification.specs.declared.classification.Summary.{Summary}
 use Rattle.command_line.specs.declared.tasks.Paths.{Paths}
 use Rattle.cli.specs.Checked.{IsCheckAnswer}
@@ -10,13 +13,40 @@ use Rattle.command_line.specs.CommandLine.{IsTaskOf, elc_app}
 use Rattle.command_line.specs.declared.tasks.Task.TheVariants.{Check, Classify}
 use Rattle.cli.specs.Performed.{AreApart, IsPerformed}
 use Rattle.cli.specs.Printed.{Output, IsAnswered, IsCheckText, IsTold, check_status}
-use Rattle.cli.specs.Writing.{Texts, IsClassified}
+use Rattle.cli.specs.Writing.{Texts, IsClassification, IsClassified, AreWritten, Sinks}
 use Rattle.cli.specs.declared.fault.CheckFault.{CheckFault}
 use Rattle.cli.specs.declared.fault.CheckFault.TheVariants.{Document, Memory, Io}
+use Rattle.cli.specs.declared.fault.ClassifyFault.{ClassifyFault}
+use Rattle.cli.specs.declared.fault.ClassifyFault.TheVariants as classifying
+use Rattle.document.specs.Documents.{ReadsAs}
 use Rattle.document.specs.declared.fault.DocumentFault.TheVariants as reading
+use Rattle.engine.specs.Saturated.{HasMoreFactsThan}
 use Rattle.program.specs.Status.{code_of}
 use Rattle.program.specs.declared.status.Status.TheVariants as statuses
 use Rattle.system_files.specs.Contents.{Content}
+
+-- a classification that is stopped by this fault says nothing of the document: memory was refused, or a device failed. Or the
+-- closure of its ontology has more facts than the limit
+abbrev pub StopsClassification : Ontology → (facts : ℕ) → ClassifyFault → Type 0
+StopsClassification o facts (classifying.Document reading.Io) = Unit {0}
+StopsClassification o facts (classifying.Document reading.Memory) = Unit {0}
+StopsClassification o facts (classifying.Document fault) = ⊥
+StopsClassification o facts classifying.Memory = Unit {0}
+StopsClassification o facts classifying.Limit = HasMoreFactsThan o facts
+StopsClassification o facts (classifying.Io n) = Unit {0}
+
+-- the answer is the counts of the ontology, and acceptable texts of it are written, unless the classification is stopped
+abbrev pub IsClassifiedUnlessStopped : Ontology → (facts : ℕ) → (old new : Sinks) → Result Summary ClassifyFault → Type 0
+IsClassifiedUnlessStopped o facts old new (Ok summary) =
+    AreCountsOf o summary × ((texts : Texts) × IsAcceptable o texts.taxonomy texts.instances texts.certificate × AreWritten old new texts)
+IsClassifiedUnlessStopped o facts old new (Err fault) = StopsClassification o facts fault
+
+-- whatever ontology the bytes of a document read as, it is classified
+abbrev pub EveryDocumentIsClassified : Type 0
+EveryDocumentIsClassified =
+    (most facts : ℕ) (bytes : List ℕ) (o : Ontology) (old new : Sinks) (answer : Result Summary ClassifyFault) →
+    ReadsAs bytes o → length bytes ≤ most → IsClassification most facts (Some bytes) old new answer →
+    IsClassifiedUnlessStopped o facts old new answer
 
 -- a check that is stopped by this fault says nothing of the texts: memory was refused, a source failed, or the document has
 -- more bytes than this checker reads

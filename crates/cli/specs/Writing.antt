@@ -3,15 +3,15 @@ use Rattle.std.specs.Prelude.{◌≡◌, ◌≤◌, ℕ, zero, suc, List, Option
 use Rattle.axioms.specs.Numbered.{Ontology}
 use Rattle.axioms.specs.WellFormed.{IsOntology}
 use Rattle.cert_check.specs.Acceptable.{IsAcceptable}
-use Rattle.classification.specs.Classified.{AreCountsOf, AreTextsOf, HasTooManyFacts}
-use Rattle.classification.specs.Stated.{StatesHierarchy}
+use Rattle.classification.specs.Classified.{AreCountsOf, AreTextsOf}
 use Rattle.classification.specs.declared.classification.Classification.{Classification}
 use Rattle.classification.specs.declared.classification.Summary.{Summary}
-use Rattle.cli.specs.Devices.{Device, seen, Takes, FailsIn, SourceState, IsReadOn, IsReadToItsEnd, IsReadUntil}
+use Rattle.cli.specs.Devices.{Device, seen, Takes, FailsIn, SourceState, IsReadToItsEnd, IsReadUntil}
 use Rattle.cli.specs.declared.fault.ClassifyFault.{ClassifyFault}
-use Rattle.cli.specs.declared.fault.ClassifyFault.TheVariants.{Document, NotYet, Memory, Limit, Io}
+use Rattle.cli.specs.declared.fault.ClassifyFault.TheVariants.{Document, Memory, Limit, Io}
 use Rattle.device.specs.declared.device.Sink.{Ghosts}
 use Rattle.document.specs.Faults.{ReadsKnown, RefusesKnown}
+use Rattle.engine.specs.Saturated.{HasMoreFactsThan}
 use Rattle.program.specs.declared.limits.Limits.{Limits}
 
 -- what takes the three texts
@@ -45,31 +45,34 @@ AreWrittenUntil (suc (suc (suc zero))) old new texts =
     Takes old.taxonomy new.taxonomy texts.taxonomy × Takes old.instances new.instances texts.instances × FailsIn old.certificate new.certificate texts.certificate
 AreWrittenUntil n old new texts = ⊥
 
--- the document, of at most so many bytes, reads as an ontology that is classified today, and whose closure has at most so
--- many facts; these are its counts and its texts, and the certificate shows that the other two are right
+-- .. all of them, or until the sink of the number that is told
+abbrev pub AreWrittenAsFar : {X : Type 0} → Result X ℕ → (old new : Sinks) → Texts → Type 0
+AreWrittenAsFar (Ok x) old new texts = AreWritten old new texts
+AreWrittenAsFar (Err n) old new texts = AreWrittenUntil n old new texts
+
+-- the document, of at most so many bytes, reads as an ontology whose closure has at most so many facts; these are its counts
+-- and its texts, and the certificate shows that the other two are right
 pub record IsClassified (most_bytes most_facts : ℕ) (document : Option (List ℕ)) (summary : Summary) (texts : Texts) : Type 0 where
   pub ontology : Ontology
   pub reads : ReadsKnown document most_bytes ontology
   pub well_formed : IsOntology ontology
-  pub hierarchy : StatesHierarchy ontology
   pub counts : AreCountsOf ontology summary
   pub within : summary.facts ≤ most_facts
   pub texts_are : AreTextsOf ontology summary.consistent texts.taxonomy texts.instances
   pub acceptable : IsAcceptable ontology texts.taxonomy texts.instances texts.certificate
 
--- the document reads as an ontology that is not classified today
-abbrev pub IsNotYetClassified : (most_bytes : ℕ) → (document : Option (List ℕ)) → Type 0
-IsNotYetClassified bytes document = (o : Ontology) × ReadsKnown document bytes o × ¬ StatesHierarchy o
+-- the document reads as some ontology
+abbrev pub IsRead : (most_bytes : ℕ) → (document : Option (List ℕ)) → Type 0
+IsRead bytes document = (o : Ontology) × ReadsKnown document bytes o
 
--- the document reads as an ontology that is classified today, and whose closure has more facts
+-- .. whose closure has more facts
 abbrev pub IsBeyondLimit : (most_bytes most_facts : ℕ) → (document : Option (List ℕ)) → Type 0
-IsBeyondLimit bytes facts document = (o : Ontology) × ReadsKnown document bytes o × HasTooManyFacts o facts
+IsBeyondLimit bytes facts document = (o : Ontology) × ReadsKnown document bytes o × HasMoreFactsThan o facts
 
--- what a fault says of the document; it numbers the sinks from 1
+-- what a fault says of the document: it is refused, or it is read and this came behind that. The sinks are numbered from 1
 abbrev pub IsFaultOf : (most_bytes most_facts : ℕ) → (document : Option (List ℕ)) → ClassifyFault → Type 0
 IsFaultOf bytes facts document (Document fault) = RefusesKnown document bytes fault
-IsFaultOf bytes facts document NotYet = IsNotYetClassified bytes document
-IsFaultOf bytes facts document Memory = Unit {0}
+IsFaultOf bytes facts document Memory = IsRead bytes document
 IsFaultOf bytes facts document Limit = IsBeyondLimit bytes facts document
 IsFaultOf bytes facts document (Io n) = (1 ≤ n) × (n ≤ 3) × ((summary : Summary) × (texts : Texts) × IsClassified bytes facts document summary texts)
 
@@ -97,8 +100,7 @@ texts_of c = record { taxonomy = c.taxonomy.items; instances = c.instances.items
 abbrev pub IsDocumentRead : {X : Type 0} → Result X ClassifyFault → (old new : SourceState) → Type 0
 IsDocumentRead (Ok x) old new = IsReadToItsEnd old new
 IsDocumentRead (Err (Document fault)) old new = IsReadUntil fault old new
-IsDocumentRead (Err NotYet) old new = IsReadToItsEnd old new
-IsDocumentRead (Err Memory) old new = IsReadOn old new
+IsDocumentRead (Err Memory) old new = IsReadToItsEnd old new
 IsDocumentRead (Err Limit) old new = IsReadToItsEnd old new
 IsDocumentRead (Err (Io n)) old new = IsReadToItsEnd old new
 

@@ -1,5 +1,5 @@
 //! The check of a document's texts.
-ghost use Rattle.cli.specs.Checked.{AreKnown, IsCheckAnswer, IsChecked, IsCheckFault, IsTextRead, Reads};
+ghost use Rattle.cli.specs.Checked.{AreKnown, AreTextsRead, IsCheckAnswer, IsChecked, IsCheckFault, IsTextRead, Reads, text_states};
 ghost use Rattle.cli.specs.Devices.{source_state};
 ghost use Rattle.std.specs.Prelude.{IfErr, IfOk};
 
@@ -23,6 +23,44 @@ fn bytes_of<S: Source>(alloc: Global, source: &mut S, number: usize) -> Result<V
     }
 }
 
+/// The bytes of the three texts.
+#[derive(Drop)]
+struct TextBytes {
+    taxonomy: Vec<u8>,
+    instances: Vec<u8>,
+    certificate: Vec<u8>,
+}
+
+/// All the bytes of the three sources, in their order, which are numbered from 2.
+fn texts_of<T: Source, I: Source, C: Source>(
+    alloc: Global,
+    taxonomy: &mut T,
+    instances: &mut I,
+    certificate: &mut C,
+) -> Result<TextBytes, CheckFault>
+    ensures taxonomy { IfOk result (λ t. AreKnown (T.left taxonomy.old) t.taxonomy.items) }
+    ensures instances { IfOk result (λ t. AreKnown (I.left instances.old) t.instances.items) }
+    ensures certificate { IfOk result (λ t. AreKnown (C.left certificate.old) t.certificate.items) }
+    ensures read { AreTextsRead result (text_states T.Source I.Source C.Source (taxonomy.old, instances.old, certificate.old)) (text_states T.Source I.Source C.Source (taxonomy.new, instances.new, certificate.new)) }
+{
+    let taxonomy = match bytes_of(alloc, taxonomy, 2) {
+        Ok(taxonomy) => taxonomy,
+        Err(fault) => return Err(fault),
+    };
+    let instances = match bytes_of(alloc, instances, 3) {
+        Ok(instances) => instances,
+        Err(fault) => return Err(fault),
+    };
+    match bytes_of(alloc, certificate, 4) {
+        Ok(certificate) => Ok(TextBytes {
+            taxonomy,
+            instances,
+            certificate,
+        }),
+        Err(fault) => Err(fault),
+    }
+}
+
 /// The ontology of the document, and the verdict on its texts.
 pub(crate) fn checked<D: Source, T: Source, I: Source, C: Source>(
     alloc: Global,
@@ -42,19 +80,17 @@ pub(crate) fn checked<D: Source, T: Source, I: Source, C: Source>(
         Err(fault) => return Err(CheckFault::Document(fault)),
     };
     ontology.well_formed();
-    let taxonomy = match bytes_of(alloc, taxonomy, 2) {
-        Ok(taxonomy) => taxonomy,
+    let texts = match texts_of(alloc, taxonomy, instances, certificate) {
+        Ok(texts) => texts,
         Err(fault) => return Err(fault),
     };
-    let instances = match bytes_of(alloc, instances, 3) {
-        Ok(instances) => instances,
-        Err(fault) => return Err(fault),
-    };
-    let certificate = match bytes_of(alloc, certificate, 4) {
-        Ok(certificate) => certificate,
-        Err(fault) => return Err(fault),
-    };
-    match check(alloc, &ontology, &taxonomy, &instances, &certificate) {
+    match check(
+        alloc,
+        &ontology,
+        &texts.taxonomy,
+        &texts.instances,
+        &texts.certificate,
+    ) {
         Ok(verdict) => Ok((ontology, verdict)),
         Err(_) => Err(CheckFault::Memory),
     }

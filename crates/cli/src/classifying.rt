@@ -1,10 +1,10 @@
 //! Classification of a document.
 ghost use Rattle.cli.specs.Devices.{source_state};
-ghost use Rattle.cli.specs.Writing.{Classifies, IsBeforeWriting, IsClassified, IsDocumentRead, IsFaultOf, texts_of};
+ghost use Rattle.cli.specs.Writing.{AreWrittenAsFar, Classifies, IsBeforeWriting, IsClassified, IsDocumentRead, IsFaultOf, all_seen, texts_of};
 ghost use Rattle.std.specs.Prelude.{◌≡◌, IfErr, IfOk};
 
 use crate::fault::ClassifyFault;
-use classification::{Classification, Stop, Summary, classify, states_hierarchy};
+use classification::{Classification, Stop, Summary, classify};
 use device::{Sink, Source, write_all};
 use document::{Limits, read_document};
 use std::alloc::Global;
@@ -27,14 +27,38 @@ fn classified<S: Source>(
         Err(fault) => return Err(ClassifyFault::Document(fault)),
     };
     ontology.well_formed();
-    if !states_hierarchy(&ontology) {
-        return Err(ClassifyFault::NotYet);
-    }
-    match classify(alloc, &ontology, limits.max_facts) {
+    // There are at most 100,000,000 facts.
+    match classify(alloc, state, &ontology, limits.max_facts as u32) {
         Ok(classification) => Ok(classification),
         Err(Stop::Memory) => Err(ClassifyFault::Memory),
         Err(Stop::Limit) => Err(ClassifyFault::Limit),
     }
+}
+
+/// Writes the texts to the three sinks, in their order.
+///
+/// # Errors
+///
+/// The number of the sink that failed.
+fn write_texts<T: Sink, I: Sink, C: Sink>(
+    made: &Classification,
+    taxonomy: &mut T,
+    instances: &mut I,
+    certificate: &mut C,
+) -> Result<(), usize>
+    ensures written { AreWrittenAsFar result (all_seen T.Sink I.Sink C.Sink (taxonomy.old, instances.old, certificate.old)) (all_seen T.Sink I.Sink C.Sink (taxonomy.new, instances.new, certificate.new)) (texts_of made.now) }
+    ensures paths { (T.path taxonomy.new ≡ T.path taxonomy.old) × (I.path instances.new ≡ I.path instances.old) × (C.path certificate.new ≡ C.path certificate.old) }
+{
+    if write_all(taxonomy, &made.taxonomy).is_err() {
+        return Err(1);
+    }
+    if write_all(instances, &made.instances).is_err() {
+        return Err(2);
+    }
+    if write_all(certificate, &made.certificate).is_err() {
+        return Err(3);
+    }
+    Ok(())
 }
 
 /// Reads the document, classifies it, and writes the taxonomy, the instances and the certificate, in this order. All
@@ -58,14 +82,8 @@ pub fn classify_document<S: Source, T: Sink, I: Sink, C: Sink>(
         Ok(made) => made,
         Err(fault) => return Err(fault),
     };
-    if write_all(taxonomy, &made.taxonomy).is_err() {
-        return Err(ClassifyFault::Io(1));
+    match write_texts(&made, taxonomy, instances, certificate) {
+        Ok(()) => Ok(made.summary),
+        Err(number) => Err(ClassifyFault::Io(number)),
     }
-    if write_all(instances, &made.instances).is_err() {
-        return Err(ClassifyFault::Io(2));
-    }
-    if write_all(certificate, &made.certificate).is_err() {
-        return Err(ClassifyFault::Io(3));
-    }
-    Ok(made.summary)
 }

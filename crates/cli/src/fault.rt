@@ -9,10 +9,7 @@ use document::DocumentFault;
 pub enum ClassifyFault {
     /// The document was not read. Nothing is written.
     Document(DocumentFault),
-    /// The ontology is not one that is classified today: it says more than that named classes lie below named classes, or
-    /// has individuals. Nothing is written.
-    NotYet,
-    /// Memory was refused. Nothing is written.
+    /// Memory was refused once the document was read. Nothing is written.
     Memory,
     /// The closure has more facts than the limit. Nothing is written.
     Limit,
@@ -26,7 +23,7 @@ pub enum ClassifyFault {
 pub enum CheckFault {
     /// The document was not read.
     Document(DocumentFault),
-    /// Memory was refused.
+    /// Memory was refused once the document was read.
     Memory,
     /// The source of that number failed: 2 is the taxonomy's, 3 the instances', 4 the certificate's. (That of the
     /// document, the first, is told inside `Document`.) Those before it were read to their ends, those behind it not at all.

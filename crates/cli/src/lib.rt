@@ -1,7 +1,7 @@
 //! Documents in, texts and verdicts out: the calls that the program `elc` makes.
 #![tactic(auto)]
 
-ghost use Rattle.cli.specs.Theorems.{WhatIsWrittenIsAccepted, WrittenFilesAreAccepted};
+ghost use Rattle.cli.specs.Theorems.{EveryDocumentIsClassified, WhatIsWrittenIsAccepted, WrittenFilesAreAccepted};
 
 mod checking;
 mod classifying;
@@ -19,6 +19,13 @@ pub use document::{DocumentFault, Limits, read_document};
 pub use fault::{CheckFault, ClassifyFault};
 pub use run::perform;
 pub use system_files::Files;
+
+/// Every document of the profile is classified: where its bytes are within the limit and read as an ontology,
+/// `classify_document` writes acceptable texts of that ontology and answers its counts, unless memory is refused, a device
+/// fails, or the closure has more facts than the limit.
+pub fn every_document_is_classified()
+    ensures { EveryDocumentIsClassified }
+{}
 
 /// The texts that a classification of a document writes are accepted where the same document is checked: whatever
 /// `classify_document` wrote, `check_document` answers `Accepted` on it, unless memory is refused, a source fails, or the

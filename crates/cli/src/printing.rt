@@ -123,12 +123,6 @@ pub(crate) fn classify_message(
 {
     match fault {
         ClassifyFault::Document(fault) => document_message(alloc, fault, paths.document, limits),
-        ClassifyFault::NotYet => {
-            message_of(
-                String::from_str(alloc, "not yet classified\n"),
-                Status::Refused,
-            )
-        }
         ClassifyFault::Memory => message_of(
             String::from_str(alloc, "out of memory\n"),
             Status::Memory,

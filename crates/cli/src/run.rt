@@ -3,6 +3,7 @@ ghost use Rattle.cli.specs.Devices.{seen};
 ghost use Rattle.cli.specs.Performed.{AskForNoClassification, Classifies, IsCheckRun, Performs};
 ghost use Rattle.cli.specs.Printed.{IsLineTold, outputs};
 ghost use Rattle.cli.specs.Stored.{HasFresh};
+ghost use Rattle.std.specs.Io.KnownBytes.{Keeps};
 ghost use Rattle.std.specs.Prelude.{◌≡◌, ℕ, List, IfOk, map};
 
 use crate::checking::checked;
@@ -37,6 +38,34 @@ fn sinks_of<F: Files>(files: &mut F, paths: &Paths<'_>) -> Result<TextSinks<F::O
     let instances = files.writer(paths.instances)?;
     let certificate = files.writer(paths.certificate)?;
     Ok(TextSinks {
+        taxonomy,
+        instances,
+        certificate,
+    })
+}
+
+/// The sources of the document and of the three texts.
+#[derive(Drop)]
+struct AllSources<S: Drop> {
+    document: S,
+    taxonomy: S,
+    instances: S,
+    certificate: S,
+}
+
+/// Sources of the files of the document and of the three texts.
+fn sources_of<F: Files>(files: &F, paths: &Paths<'_>) -> Result<AllSources<F::In>, Memory>
+    ensures document { IfOk result (λ s. Keeps (F.content files.now paths.now.document.now) (F.In.Source.left s.document)) }
+    ensures taxonomy { IfOk result (λ s. Keeps (F.content files.now paths.now.taxonomy.now) (F.In.Source.left s.taxonomy)) }
+    ensures instances { IfOk result (λ s. Keeps (F.content files.now paths.now.instances.now) (F.In.Source.left s.instances)) }
+    ensures certificate { IfOk result (λ s. Keeps (F.content files.now paths.now.certificate.now) (F.In.Source.left s.certificate)) }
+{
+    let document = files.reader(paths.document)?;
+    let taxonomy = files.reader(paths.taxonomy)?;
+    let instances = files.reader(paths.instances)?;
+    let certificate = files.reader(paths.certificate)?;
+    Ok(AllSources {
+        document,
         taxonomy,
         instances,
         certificate,
@@ -91,24 +120,15 @@ fn perform_check<F: Files, O: Sink, E: Sink>(
 ) -> u8
     ensures { IsCheckRun paths.now limits.now.max_bytes (F.content files.now) (outputs O.Sink E.Sink out.old err.old) (outputs O.Sink E.Sink out.new err.new) result }
 {
-    let Ok(mut document) = files.reader(paths.document) else {
-        return tell_out_of_memory(err);
-    };
-    let Ok(mut taxonomy) = files.reader(paths.taxonomy) else {
-        return tell_out_of_memory(err);
-    };
-    let Ok(mut instances) = files.reader(paths.instances) else {
-        return tell_out_of_memory(err);
-    };
-    let Ok(mut certificate) = files.reader(paths.certificate) else {
+    let Ok(mut sources) = sources_of(files, paths) else {
         return tell_out_of_memory(err);
     };
     let checked = checked(
         alloc,
-        &mut document,
-        &mut taxonomy,
-        &mut instances,
-        &mut certificate,
+        &mut sources.document,
+        &mut sources.taxonomy,
+        &mut sources.instances,
+        &mut sources.certificate,
         limits,
         state,
     );

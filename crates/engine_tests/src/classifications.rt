@@ -1,41 +1,90 @@
-//! One small ontology worked out by hand: `owl:Thing` is 0, `owl:Nothing` 1, A is 2 and B is 3.
-ghost use Rattle.std.specs.Bool.{OnTrue};
-ghost use Rattle.std.specs.Prelude.{IfOk};
-ghost use Rattle.classification.specs.Classified.{IsClassifiable};
+//! Small ontologies of subclass axioms, worked out by hand.
 
 use axioms::Ontology;
-use classification::{Summary, classify, stated_hierarchies, states_hierarchy};
+use cert_check::{Verdict, check};
+use classification::{Classification, Stop, Summary, classify};
 use document::read_bytes;
-use hierarchy::is_hierarchy;
+use std::alloc::Global;
 use std::hash::RandomState;
-use std::process::Abort;
 use std::random::RandomSource;
 use std::test::Fail;
 
-/// Whether the ontology is one that is classified.
-fn is_classifiable(ontology: &Ontology) -> bool
-    ensures { OnTrue result (IsClassifiable ontology.now) }
-{
-    if !is_hierarchy(ontology) {
-        return false;
-    }
-    ontology.expression_count() == ontology.classes().len()
+/// The ontology of the document, and its classification within so many facts.
+fn classified<R: AllocGlobal + RandomSource>(
+    rt: &R,
+    document: &str,
+    max_facts: u32,
+) -> Result<(Ontology, Result<Classification, Stop>), Fail> {
+    let state = RandomState::new(rt)?;
+    let ontology = read_bytes(rt.alloc(), document.as_bytes(), state)?;
+    let made = classify(rt.alloc(), state, &ontology, max_facts);
+    Ok((ontology, made))
 }
 
-/// `SubClassOf(A B)`.
-fn one_subclass<R: AllocGlobal + Abort + RandomSource>(rt: &R) -> Result<Ontology, Fail>
-    ensures { IfOk result (λ o. IsClassifiable o) }
-{
-    let document = b"Ontology(SubClassOf(<x:A> <x:B>))";
-    let ontology = read_bytes(rt.alloc(), document, RandomState::new(rt)?)?;
-    assert!(rt; is_classifiable(&ontology));
-    Ok(ontology)
+/// How many facts there are, or why that is not known.
+fn facts<R: AllocGlobal + RandomSource>(
+    rt: &R,
+    document: &str,
+    max_facts: u32,
+) -> Result<Result<u64, Stop>, Fail> {
+    let (_ontology, made) = classified(rt, document, max_facts)?;
+    Ok(made.map(|it| it.summary.facts))
+}
+
+const ONE_SUBCLASS: &str = "Ontology(SubClassOf(<x:A> <x:B>))";
+
+#[test]
+fn counts_facts(rt: HostRuntime) -> Result<(), Fail> {
+    let rows = [
+        ("Ontology()", 3),
+        (ONE_SUBCLASS, 8),
+        (
+            "Ontology(SubClassOf(<x:A> <x:B>) SubClassOf(<x:A> <x:B>))",
+            8,
+        ),
+        ("Ontology(SubClassOf(<x:A> <x:A>))", 5),
+        (
+            "Ontology(SubClassOf(<x:A> <x:B>) SubClassOf(<x:B> <x:A>))",
+            9,
+        ),
+        (
+            "Ontology(SubClassOf(owl:Thing <x:A>) SubClassOf(<x:B> <x:B>))",
+            10,
+        ),
+        ("Ontology(SubClassOf(<x:A> owl:Nothing))", 6),
+        (
+            "Prefix(:=<x:>) Ontology(SubClassOf(:A :B) SubClassOf(:A :C) SubClassOf(:B :D) SubClassOf(:C :D))",
+            16,
+        ),
+    ];
+    for (document, expected) in rows {
+        assert!(rt; facts(&rt, document, 1000)? == Ok(expected), "{document}");
+    }
+    Ok(())
 }
 
 #[test]
-fn classifies_one_subclass(rt: HostRuntime) -> Result<(), Fail> {
-    let ontology = one_subclass(&rt)?;
-    let made = classify(rt.alloc(), &ontology, 8)?;
+fn stops_at_the_limit_of_facts(rt: HostRuntime) -> Result<(), Fail> {
+    for (limit, expected) in [(8, Ok(8)), (7, Err(Stop::Limit)), (0, Err(Stop::Limit))] {
+        assert!(rt; facts(&rt, ONE_SUBCLASS, limit)? == expected, "{limit}");
+    }
+    Ok(())
+}
+
+/// Whether the checker accepts the texts of the ontology.
+fn are_accepted(alloc: Global, ontology: &Ontology, made: &Classification) -> bool {
+    let verdict = check(
+        alloc,
+        ontology,
+        &made.taxonomy,
+        &made.instances,
+        &made.certificate,
+    );
+    verdict == Ok(Verdict::Accepted)
+}
+
+/// Whether this is the classification of one subclass axiom.
+fn is_one_subclass(alloc: Global, ontology: &Ontology, made: &Classification) -> bool {
     let summary = Summary {
         consistent: true,
         classes: 4,
@@ -48,56 +97,19 @@ fn classifies_one_subclass(rt: HostRuntime) -> Result<(), Fail> {
 <x:B> < <http://www.w3.org/2002/07/owl#Thing>
 bottom <http://www.w3.org/2002/07/owl#Nothing>
 ";
-    let certificate = b"elcert 1 consistent
-sub e0 e0 K1
-sub e1 e1 K1
-sub e1 e0 K2
-sub e2 e2 K1
-sub e2 e0 K2
-sub e2 e3 K4 a1 4
-sub e3 e3 K1
-sub e3 e0 K2
-domain 3
-class e2 1
-class e3 1 2
-claim e0 0
-claim e2 1
-claim e3 2
-end
-";
-    assert!(rt; made.summary == summary);
-    assert!(rt; made.taxonomy.as_slice() == taxonomy.as_slice());
-    assert!(rt; made.instances.as_slice() == b"elinst 1 consistent\n".as_slice());
-    assert!(rt; made.certificate.as_slice() == certificate.as_slice());
-    Ok(())
-}
-
-/// Whether the document states subclass axioms of named classes alone.
-fn is_classified<R: AllocGlobal + RandomSource>(rt: &R, document: &str) -> Result<bool, Fail> {
-    let ontology = read_bytes(rt.alloc(), document.as_bytes(), RandomState::new(rt)?)?;
-    Ok(states_hierarchy(&ontology))
+    made.summary == summary
+        && made.taxonomy.as_slice() == taxonomy.as_slice()
+        && made.instances.as_slice() == b"elinst 1 consistent\n".as_slice()
+        && are_accepted(alloc, ontology, made)
 }
 
 #[test]
-fn what_is_classified(rt: HostRuntime) -> Result<(), Fail> {
-    let rows = [
-        (
-            "Ontology(Declaration(ObjectProperty(<x:p>)) SubClassOf(<x:A> owl:Thing))",
-            true,
-        ),
-        (
-            "Ontology(SubClassOf(owl:Thing ObjectSomeValuesFrom(<x:p> owl:Thing)))",
-            false,
-        ),
-        ("Ontology(Declaration(NamedIndividual(<x:a>)))", false),
-    ];
-    for (document, expected) in rows {
-        assert!(rt; is_classified(&rt, document)? == expected, "{document}");
-    }
+fn classifies_one_subclass(rt: HostRuntime) -> Result<(), Fail> {
+    let (ontology, made) = classified(&rt, ONE_SUBCLASS, 8)?;
+    let is_expected = match &made {
+        Ok(made) => is_one_subclass(rt.alloc(), &ontology, made),
+        Err(_) => false,
+    };
+    assert!(rt; is_expected);
     Ok(())
-}
-
-#[test]
-fn laws() {
-    stated_hierarchies();
 }

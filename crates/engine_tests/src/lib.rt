@@ -1,11 +1,15 @@
-//! Tests of the engine: sets by number, work lists, hierarchies and classifications.
+//! Tests of the engine: sets by number, work lists, the parts of a classification, and classifications.
 #![tactic(auto)]
 
 #[cfg(test)]
 mod classifications;
 #[cfg(test)]
-mod hierarchies;
+mod derivations;
 #[cfg(test)]
 mod lists;
+#[cfg(test)]
+mod parts;
+#[cfg(test)]
+mod paths;
 #[cfg(test)]
 mod sets;

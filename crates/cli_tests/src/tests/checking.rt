@@ -118,3 +118,62 @@ fn a_member_with_another_instances_text(rt: HostRuntime) -> Result<(), Fail> {
     assert!(rt; is_checked_to(&rt, MEMBER, texts, certificate.as_str(), 1, told)?);
     Ok(())
 }
+
+/// A certificate of the document of one subclass axiom.
+const ONE_CERTIFICATE: &str =
+    "elcert 1 consistent\nsub e0 e0 K1\nsub e1 e1 K1\nsub e2 e2 K1\nsub e2 e0 K2\nsub e2 e3 K4 a1 3\nsub e3 e3 K1\nsub e3 e0 K2\ndomain 3\nclass e2 1\nclass e3 1 2\nclaim e0 0\nclaim e2 1\nclaim e3 2\nend\n";
+
+/// The text with one part of it replaced.
+fn changed(alloc: Global, text: &str, old: &str, new: &str) -> Result<String, Fail> {
+    let (front, back) = text.split_once(old).ok_or("the part to be replaced")?;
+    Ok(format!(in alloc; "{front}{new}{back}")?)
+}
+
+#[test]
+fn certificate_of_one_subclass(rt: HostRuntime) -> Result<(), Fail> {
+    let rows = [
+        ("end\n", "end\n", 0, "accepted\n"),
+        ("claim e2 1", "claim e2 0", 1, "rejected: C5 <x:A>\n"),
+        ("sub e2 e3 K4 a1 3\n", "", 1, "rejected: C5 <x:A>\n"),
+        ("K4 a1 3", "K4 a1 5", 1, "rejected: C2 line 5\n"),
+        ("class e3 1 2", "class e3 2", 1, "rejected: C3 axiom 1\n"),
+        ("claim e3 2\n", "", 1, "rejected: C4 <x:B>\n"),
+        // cut after 130 bytes, and after 182
+        (
+            " e2 1\nclass e3 1 2\nclaim e0 0\nclaim e2 1\nclaim e3 2\nend\n",
+            "",
+            1,
+            "rejected: C1 at byte 125\n",
+        ),
+        ("end\n", "", 1, "rejected: C1 at byte 182\n"),
+        ("claim e3 2", "claim e3 3", 1, "rejected: C1 at byte 171\n"),
+    ];
+    for (old, new, status, printed) in rows {
+        let certificate = changed(rt.alloc(), ONE_CERTIFICATE, old, new)?;
+        let certificate = certificate.as_str();
+        assert!(rt;
+            is_checked_to(
+                &rt,
+                ONE_DOCUMENT,
+                (ONE, NO_INSTANCES),
+                certificate,
+                status,
+                printed
+            )?,
+            "{printed}"
+        );
+    }
+    Ok(())
+}
+
+#[test]
+fn another_taxonomy_of_one_subclass(rt: HostRuntime) -> Result<(), Fail> {
+    let taxonomy = text_of(
+        rt.alloc(),
+        "eltax 1 consistent/T/<x:A> < T , <x:B>/<x:B> < T/bottom N/",
+    )?;
+    let texts = (taxonomy.as_str(), NO_INSTANCES);
+    let told = "rejected: C8 at byte 66\n";
+    assert!(rt; is_checked_to(&rt, ONE_DOCUMENT, texts, ONE_CERTIFICATE, 1, told)?);
+    Ok(())
+}

@@ -2,21 +2,6 @@
 
 use super::*;
 
-/// The text that this one gives in short: `T` stands for the name of Thing, `N` for that of Nothing, and `/` for a line
-/// feed.
-fn text_of(alloc: Global, short: &str) -> Result<String, AllocError> {
-    let mut text = String::new(alloc);
-    for c in short.chars() {
-        match c {
-            'T' => text.push_str("<http://www.w3.org/2002/07/owl#Thing>")?,
-            'N' => text.push_str("<http://www.w3.org/2002/07/owl#Nothing>")?,
-            '/' => text.push('\n')?,
-            _ => text.push(c)?,
-        }
-    }
-    Ok(text)
-}
-
 /// The document of these axioms.
 fn document_of(alloc: Global, axioms: &str) -> Result<String, AllocError> {
     let axioms = text_of(alloc, axioms)?;

@@ -1,64 +1,14 @@
-use Rattle.std.proofs.Common.{◌≡◌, ◌∙◌, sym, refl, true, false, is_err, lit≤}
-use Rattle.cli.proofs.Outcomes.{takes, fails}
-use Rattle.cli.specs.Devices.{Device}
+use Rattle.cli.proofs.Outcomes.{within_three}
 use Rattle.cli.specs.Writing.{texts_of}
 use Rattle.cli.proofs.classifying.classify_document.Goals as goal
 
-pub returns-then-is_err-clause-answered : goal.returns-then-is_err-clause-answered
-returns-then-is_err-clause-answered g c =
-    let made = c.in-Ok.made in
-    let is = c.in-Ok.ensures.classified in
-    let t : Device = (g.T.Sink.taken c.args.taxonomy.now, g.T.Sink.failures c.args.taxonomy.now) in
-    let t' : Device = (g.T.Sink.taken c.write_all.new.sink, g.T.Sink.failures c.write_all.new.sink) in
-    let err : is_err c.write_all.result ≡ true = sym c.is_err.ensures.value ∙ c.if-is_err.true in
-    let first = fails c.write_all.result t t' c.deref.result.now made.taxonomy.items c.deref.ensures.value err c.write_all.ensures.begun c.write_all.ensures.failed in
-    ((lit≤ tt, lit≤ tt, (made.summary, texts_of made, is)), (made.summary, texts_of made, is, (first, refl, refl)))
-
-pub returns-then-is_err-2-clause-answered : goal.returns-then-is_err-2-clause-answered
-returns-then-is_err-2-clause-answered g c =
-    let made = c.in-Ok.made in
-    let is = c.in-Ok.ensures.classified in
-    let t : Device = (g.T.Sink.taken c.args.taxonomy.now, g.T.Sink.failures c.args.taxonomy.now) in
-    let t' : Device = (g.T.Sink.taken c.write_all.new.sink, g.T.Sink.failures c.write_all.new.sink) in
-    let i : Device = (g.I.Sink.taken c.args.instances.now, g.I.Sink.failures c.args.instances.now) in
-    let i' : Device = (g.I.Sink.taken c.write_all-2.new.sink, g.I.Sink.failures c.write_all-2.new.sink) in
-    let ok : is_err c.write_all.result ≡ false = sym c.is_err.ensures.value ∙ c.if-is_err.false in
-    let err : is_err c.write_all-2.result ≡ true = sym c.is_err-2.ensures.value ∙ c.if-is_err-2.true in
-    let first = takes c.write_all.result t t' c.deref.result.now made.taxonomy.items c.deref.ensures.value ok c.write_all.ensures.ok c.write_all.ensures.unfailed in
-    let second = fails c.write_all-2.result i i' c.deref-2.result.now made.instances.items c.deref-2.ensures.value err c.write_all-2.ensures.begun c.write_all-2.ensures.failed in
-    ((lit≤ tt, lit≤ tt, (made.summary, texts_of made, is)), (made.summary, texts_of made, is, (first, second, refl)))
-
-pub returns-then-is_err-3-clause-answered : goal.returns-then-is_err-3-clause-answered
-returns-then-is_err-3-clause-answered g c =
-    let made = c.in-Ok.made in
-    let is = c.in-Ok.ensures.classified in
-    let t : Device = (g.T.Sink.taken c.args.taxonomy.now, g.T.Sink.failures c.args.taxonomy.now) in
-    let t' : Device = (g.T.Sink.taken c.write_all.new.sink, g.T.Sink.failures c.write_all.new.sink) in
-    let i : Device = (g.I.Sink.taken c.args.instances.now, g.I.Sink.failures c.args.instances.now) in
-    let i' : Device = (g.I.Sink.taken c.write_all-2.new.sink, g.I.Sink.failures c.write_all-2.new.sink) in
-    let k : Device = (g.C.Sink.taken c.args.certificate.now, g.C.Sink.failures c.args.certificate.now) in
-    let k' : Device = (g.C.Sink.taken c.write_all-3.new.sink, g.C.Sink.failures c.write_all-3.new.sink) in
-    let ok : is_err c.write_all.result ≡ false = sym c.is_err.ensures.value ∙ c.if-is_err.false in
-    let ok-2 : is_err c.write_all-2.result ≡ false = sym c.is_err-2.ensures.value ∙ c.if-is_err-2.false in
-    let err : is_err c.write_all-3.result ≡ true = sym c.is_err-3.ensures.value ∙ c.if-is_err-3.true in
-    let first = takes c.write_all.result t t' c.deref.result.now made.taxonomy.items c.deref.ensures.value ok c.write_all.ensures.ok c.write_all.ensures.unfailed in
-    let second = takes c.write_all-2.result i i' c.deref-2.result.now made.instances.items c.deref-2.ensures.value ok-2 c.write_all-2.ensures.ok c.write_all-2.ensures.unfailed in
-    let third = fails c.write_all-3.result k k' c.deref-3.result.now made.certificate.items c.deref-3.ensures.value err c.write_all-3.ensures.begun c.write_all-3.ensures.failed in
-    ((lit≤ tt, lit≤ tt, (made.summary, texts_of made, is)), (made.summary, texts_of made, is, (first, second, third)))
+pub returns-in-Ok-write_texts-clause-answered : goal.returns-in-Ok-write_texts-clause-answered
+returns-in-Ok-write_texts-clause-answered g c = (texts_of c.in-Ok.made, c.in-Ok.ensures.classified, c.in-Ok-write_texts.ensures.written)
 
 pub returns-clause-answered : goal.returns-clause-answered
 returns-clause-answered g c =
     let made = c.in-Ok.made in
-    let t : Device = (g.T.Sink.taken c.args.taxonomy.now, g.T.Sink.failures c.args.taxonomy.now) in
-    let t' : Device = (g.T.Sink.taken c.write_all.new.sink, g.T.Sink.failures c.write_all.new.sink) in
-    let i : Device = (g.I.Sink.taken c.args.instances.now, g.I.Sink.failures c.args.instances.now) in
-    let i' : Device = (g.I.Sink.taken c.write_all-2.new.sink, g.I.Sink.failures c.write_all-2.new.sink) in
-    let k : Device = (g.C.Sink.taken c.args.certificate.now, g.C.Sink.failures c.args.certificate.now) in
-    let k' : Device = (g.C.Sink.taken c.write_all-3.new.sink, g.C.Sink.failures c.write_all-3.new.sink) in
-    let ok : is_err c.write_all.result ≡ false = sym c.is_err.ensures.value ∙ c.if-is_err.false in
-    let ok-2 : is_err c.write_all-2.result ≡ false = sym c.is_err-2.ensures.value ∙ c.if-is_err-2.false in
-    let ok-3 : is_err c.write_all-3.result ≡ false = sym c.is_err-3.ensures.value ∙ c.if-is_err-3.false in
-    let first = takes c.write_all.result t t' c.deref.result.now made.taxonomy.items c.deref.ensures.value ok c.write_all.ensures.ok c.write_all.ensures.unfailed in
-    let second = takes c.write_all-2.result i i' c.deref-2.result.now made.instances.items c.deref-2.ensures.value ok-2 c.write_all-2.ensures.ok c.write_all-2.ensures.unfailed in
-    let third = takes c.write_all-3.result k k' c.deref-3.result.now made.certificate.items c.deref-3.ensures.value ok-3 c.write_all-3.ensures.ok c.write_all-3.ensures.unfailed in
-    (texts_of made, c.in-Ok.ensures.classified, (first, second, third))
+    let is = c.in-Ok.ensures.classified in
+    let until = c.in-Err-write_texts.ensures.written in
+    let within = within_three c.in-Err-write_texts.number _ _ _ until in
+    ((within.0, within.1, (made.summary, texts_of made, is)), (made.summary, texts_of made, is, until))

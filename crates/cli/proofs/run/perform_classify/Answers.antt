@@ -1,5 +1,5 @@
 use Rattle.std.proofs.Common.{◌∙◌, refl, inl, inr}
-use Rattle.cli.proofs.Kept.{classified_file, fault_of_file}
+use Rattle.cli.proofs.Kept.{classified_file, fault_of_file, refused_memory}
 use Rattle.cli.proofs.Left.{at_path, files_left}
 use Rattle.cli.proofs.SomeTexts.{acceptable_are_some}
 use Rattle.cli.proofs.Stored.{AreNew, AreSinksClosed, others_kept, stays, texts_held}
@@ -7,7 +7,8 @@ use Rattle.cli.proofs.Telling.{told, answered}
 use Rattle.cli.specs.Printed.{Output, IsClassifyText, classify_status, summary_text}
 use Rattle.cli.specs.Writing.{Sinks}
 use Rattle.program.specs.declared.status.Status.TheVariants as statuses
-use Rattle.cli.specs.declared.fault.ClassifyFault.TheVariants.{Memory}
+use Rattle.cli.specs.declared.fault.ClassifyFault.TheVariants.{Document}
+use Rattle.document.specs.declared.fault.DocumentFault.TheVariants.{Memory}
 use Rattle.cli.proofs.run.perform_classify.Goals as goal
 
 pub returns-in_default : goal.returns-in_default
@@ -15,7 +16,7 @@ returns-in_default g c =
     let known = g.F.Files.is_known c.args.files.now in
     record {
       run = record {
-        answered = inr (Memory, tt, (λ path. stays known _ _ refl), refl, inr c.tell_out_of_memory.ensures);
+        answered = inr (Document Memory, refused_memory _ _, (λ path. stays known _ _ refl), refl, inr c.tell_out_of_memory.ensures);
         others = λ path no_taxonomy no_instances no_certificate. refl;
       };
     }
@@ -25,7 +26,7 @@ returns-in_default-sinks_of g c =
     let known = g.F.Files.is_known c.args.files.now in
     record {
       run = record {
-        answered = inr (Memory, tt, (λ path. stays known _ _ (c.sinks_of.ensures.kept path)), refl, inr c.tell_out_of_memory-in_default-sinks_of.ensures);
+        answered = inr (Document Memory, refused_memory _ _, (λ path. stays known _ _ (c.sinks_of.ensures.kept path)), refl, inr c.tell_out_of_memory-in_default-sinks_of.ensures);
         others = λ path no_taxonomy no_instances no_certificate. c.sinks_of.ensures.kept path;
       };
     }

@@ -1,0 +1,39 @@
+-- Every document of the profile is classified.
+use Rattle.std.proofs.Common.{◌≡◌, ◌<◌, ◌≤◌, ℕ, List, length, Some, Ok, Err, subst, arith}
+use Rattle.axioms.specs.Numbered.{Ontology}
+use Rattle.cert_check.specs.Acceptable.{IsAcceptable}
+use Rattle.classification.specs.Classified.{AreCountsOf}
+use Rattle.cli.proofs.WrittenAccepted.{not_refused}
+use Rattle.cli.specs.Theorems.{EveryDocumentIsClassified, StopsClassification}
+use Rattle.cli.specs.declared.fault.ClassifyFault.TheVariants.{Document, Memory, Limit, Io}
+use Rattle.document.proofs.OneReading.{one_reading}
+use Rattle.document.specs.Documents.{ReadsAs}
+use Rattle.document.specs.Faults.{RefusesKnown}
+use Rattle.document.specs.declared.fault.DocumentFault.{DocumentFault}
+use Rattle.document.specs.declared.fault.DocumentFault.TheVariants as reading
+use Rattle.engine.specs.Saturated.{HasMoreFactsThan}
+
+-- bytes within the limit that read as an ontology are not refused
+unrefused : (most facts : ℕ) (bytes : List ℕ) (o : Ontology) (fault : DocumentFault) → ReadsAs bytes o → length bytes ≤ most → RefusesKnown (Some bytes) most fault → StopsClassification o facts (Document fault)
+unrefused most facts bytes o (reading.NotUtf8 at) reads within refuses = absurd (not_refused bytes o (reading.NotUtf8 at) reads (λ e. absurd (cc)) refuses.0)
+unrefused most facts bytes o reading.TooLarge reads within refuses = let more : most < length bytes = refuses in absurd (omega arith)
+unrefused most facts bytes o reading.Io reads within refuses = tt
+unrefused most facts bytes o (reading.Lex fault) reads within refuses = absurd (not_refused bytes o (reading.Lex fault) reads (λ e. absurd (cc)) refuses.0)
+unrefused most facts bytes o (reading.Parse fault) reads within refuses = absurd (not_refused bytes o (reading.Parse fault) reads (λ e. absurd (cc)) refuses.0)
+unrefused most facts bytes o (reading.Faults found) reads within refuses = absurd (not_refused bytes o (reading.Faults found) reads (λ e. absurd (cc)) refuses.0)
+unrefused most facts bytes o reading.TooManyNames reads within refuses = absurd (not_refused bytes o reading.TooManyNames reads (λ e. absurd (cc)) refuses.0)
+unrefused most facts bytes o reading.Memory reads within refuses = tt
+
+pub every_document : EveryDocumentIsClassified
+every_document most facts bytes o old new (Ok summary) reads within is =
+    let texts = is.0 in
+    let made = is.1 in
+    let P : Ontology → Type 0 = λ p. AreCountsOf p summary × IsAcceptable p texts.taxonomy texts.instances texts.certificate in
+    let there = subst P (one_reading bytes made.ontology o made.reads.0 reads) (made.counts, made.acceptable) in
+    (there.0, (texts, there.1, is.2))
+every_document most facts bytes o old new (Err (Document fault)) reads within is = unrefused most facts bytes o fault reads within is.0
+every_document most facts bytes o old new (Err Memory) reads within is = tt
+every_document most facts bytes o old new (Err Limit) reads within is =
+    let P : Ontology → Type 0 = λ p. HasMoreFactsThan p facts in
+    subst P (one_reading bytes is.0.0 o is.0.1.0 reads) is.0.2
+every_document most facts bytes o old new (Err (Io n)) reads within is = tt
