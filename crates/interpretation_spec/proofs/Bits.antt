@@ -1,9 +1,10 @@
 -- Bits in words, and rows as bits.
-use Rattle.std.proofs.Common.{◌≡◌, ℕ, zero, suc, ◌+◌, ◌*◌, ◌/◌, ◌%◌, ◌^◌, ◌<◌, ◌≤◌, ◌≢◌, min, max, Bool, true, false, not, ◌&&◌, ◌||◌, nat_eq, bit_and, bit_or, bit_xor, List, length, get_or, set, slice_index, replicate, true≢false, refl, sym, ap, ap₂, ◌∙◌, arith, inl, inr}
+use Rattle.std.proofs.Common.{◌≡◌, ℕ, zero, suc, ◌+◌, ◌*◌, ◌/◌, ◌%◌, ◌-◌, ◌^◌, ◌<◌, ◌≤◌, ◌≢◌, min, max, Bool, true, false, not, ◌&&◌, ◌||◌, nat_eq, bit_and, bit_or, bit_xor, List, length, get_or, set, slice_index, replicate, true≢false, refl, sym, ap, ap₂, ◌∙◌, arith, inl, inr}
 use Rattle.std.specs.Int.{bit_at}
 use Rattle.std.proofs.lemmas.Bool.{cases_lt, cases_eq}
-use Rattle.std.proofs.lemmas.List.{get_or_past, get_or-set_same, get_or-set_other, length-set, same_lists}
-use Rattle.std.proofs.lemmas.Nat.Bits.{bit_at_or, bit_at_and, bit_at_xor, bit_at-zero, bit_at-lt, bit_at_above, same_from_bits}
+use Rattle.std.proofs.lemmas.List.{get_or_past, get_or-set_same, get_or-set_other, length-set, length-replicate, get_or-replicate, same_lists}
+use Rattle.std.proofs.lemmas.Nat.{one_shl}
+use Rattle.std.proofs.lemmas.Nat.Bits.{bit_at_or, bit_at_and, bit_at_xor, bit_at-zero, bit_at-lt, bit_at_above, bit_at_ones, bit_at_ones_above, same_from_bits}
 use Rattle.interpretation_spec.specs.Row.{has}
 use Rattle.interpretation_spec.specs.Words.{bit_of, bits_of, IsRow}
 use Rattle.interpretation_spec.proofs.Tables.{get_or-table, length-table}
@@ -70,7 +71,7 @@ above : (a j : ℕ) → a < 2 ^ 64 → 64 ≤ j → Bit a j ≡ false
 above a j l h = ap (λ v. nat_eq v 1) (bit_at_above a 64 j l h)
 
 -- the number whose bit is the bit j of the word i
-at_place : (words : List ℕ) (i j : ℕ) → j < 64 → bit_of words (64 * i + j) ≡ Bit (get_or words i 0) j
+pub at_place : (words : List ℕ) (i j : ℕ) → j < 64 → bit_of words (64 * i + j) ≡ Bit (get_or words i 0) j
 at_place words i j l =
     let word : (64 * i + j) / 64 ≡ i = omega arith in
     let bit : (64 * i + j) % 64 ≡ j = omega arith in
@@ -224,3 +225,73 @@ zeroes (suc n) (suc i) = zeroes n i
 
 pub no_bits : (count k : ℕ) → bit_of (replicate count 0) k ≡ false
 no_bits count k = ap (λ w. Bit w (k % 64)) (zeroes count (k / 64)) ∙ no_bit (k % 64)
+
+-- ---- all numbers below n
+
+full_bit : (n : ℕ) (words : List ℕ) → ((j : ℕ) → j < n / 64 → get_or words j 0 ≡ 2 ^ 64 - 1) → (n % 64 ≢ 0 → get_or words (n / 64) 0 ≡ 2 ^ (n % 64) - 1)
+    → (k : ℕ) → k < n → bit_of words k ≡ true
+full_bit n words whole last k l =
+    elim (cases_lt (k / 64) (n / 64)) [
+      | inl low ↦ ap (λ v. Bit v (k % 64)) (whole (k / 64) low) ∙ ap (λ v. nat_eq v 1) (bit_at_ones 64 (k % 64) (omega arith))
+      | inr high ↦
+          (let same : k / 64 ≡ n / 64 = omega arith in
+          let some : n % 64 ≢ 0 = λ e. omega arith in
+          ap (λ v. Bit (get_or words v 0) (k % 64)) same ∙ ap (λ v. Bit v (k % 64)) (last some) ∙ ap (λ v. nat_eq v 1) (bit_at_ones (n % 64) (k % 64) (omega arith)))
+    ]
+
+-- the words of all numbers below n
+pub record AreFull (n : ℕ) (words : List ℕ) : Type 0 where
+  pub many : length words ≡ (n + 63) / 64
+  pub whole : (j : ℕ) → j < n / 64 → get_or words j 0 ≡ 2 ^ 64 - 1
+  pub last : n % 64 ≢ 0 → get_or words (n / 64) 0 ≡ 2 ^ (n % 64) - 1
+
+full_past : (n : ℕ) (words : List ℕ) → AreFull n words → (k : ℕ) → n ≤ k → bit_of words k ≡ false
+full_past n words f k l =
+    elim (cases_lt (k / 64) (length words)) [
+      | inl low ↦
+          (let many = f.many in
+          let same : k / 64 ≡ n / 64 = omega arith in
+          let some : n % 64 ≢ 0 = λ e. omega arith in
+          ap (λ v. Bit (get_or words v 0) (k % 64)) same ∙ ap (λ v. Bit v (k % 64)) (f.last some) ∙ ap (λ v. nat_eq v 1) (bit_at_ones_above (n % 64) (k % 64) (omega arith)))
+      | inr high ↦ ap (λ v. Bit v (k % 64)) (get_or_past words (k / 64) 0 high) ∙ no_bit (k % 64)
+    ]
+
+pub full_row : (n : ℕ) (words : List ℕ) → AreFull n words → IsRow n words
+full_row n words f =
+    let many = f.many in
+    record {
+      long = omega arith;
+      short = omega arith;
+      clear = full_past n words f;
+    }
+
+pub full_bits : (n : ℕ) (words : List ℕ) → AreFull n words → bits_of n words ≡ replicate n true
+full_bits n words f =
+    same_lists (bits_of n words) (replicate n true) (length_bits n words ∙ sym (length-replicate n true)) (λ k d l.
+    let inside : k < n = omega (arith, length_bits n words) in
+    get_or-table n (bit_of words) k d inside ∙ full_bit n words f.whole f.last k inside ∙ sym (get_or-replicate n k true d inside))
+
+pub all_ones : (n count : ℕ) (words : List ℕ) → words ≡ replicate count (2 ^ 64 - 1) → count ≡ (n + 63) / 64 → n % 64 ≡ 0 → AreFull n words
+all_ones n count words e many none =
+    let long : length words ≡ count = ap length e ∙ length-replicate count (2 ^ 64 - 1) in
+    record {
+      many = long ∙ many;
+      whole = λ j l. (let within : j < count = omega arith in ap (λ (ws : List ℕ). get_or ws j 0) e ∙ get_or-replicate count j (2 ^ 64 - 1) 0 within);
+      last = λ some. absurd (some none);
+    }
+
+pub ones_and_last : (n count : ℕ) (words : List ℕ) → words ≡ replicate count (2 ^ 64 - 1) → count ≡ (n + 63) / 64 → n % 64 ≢ 0 → AreFull n (set words (n / 64) (1 * 2 ^ (n % 64) % 2 ^ 64 - 1))
+ones_and_last n count words e many some =
+    let ones = 1 * 2 ^ (n % 64) % 2 ^ 64 - 1 in
+    let positive : 0 < n % 64 = omega arith in
+    let long : length words ≡ count = ap length e ∙ length-replicate count (2 ^ 64 - 1) in
+    let there : n / 64 < length words = omega arith in
+    let small : n % 64 < 64 = omega arith in
+    record {
+      many = length-set words (n / 64) ones ∙ long ∙ many;
+      whole = λ j l.
+          (let within : j < count = omega arith in
+          let other : j ≢ n / 64 = omega arith in
+          get_or-set_other words (n / 64) j ones 0 other ∙ ap (λ (ws : List ℕ). get_or ws j 0) e ∙ get_or-replicate count j (2 ^ 64 - 1) 0 within);
+      last = λ _. get_or-set_same words (n / 64) ones 0 there ∙ ap (λ (v : ℕ). v - 1) (one_shl (n % 64) 64 small);
+    }

@@ -3,6 +3,10 @@ use Rattle.std.specs.Prelude.{◌≡◌, ℕ, ◌+◌, ◌*◌, ◌/◌, ◌%◌
 use Rattle.std.specs.Int.{bit_at}
 use Rattle.std.specs.List.{range_with_len}
 
+-- whether this bit of the word is 1, the lowest being bit 0
+abbrev pub is_set : ℕ → ℕ → Bool
+is_set word bit = nat_eq (bit_at word bit) 1
+
 -- whether the set has this number
 abbrev pub bit_of : List ℕ → ℕ → Bool
 bit_of words k = nat_eq (bit_at (slice_index words (k / 64)) (k % 64)) 1

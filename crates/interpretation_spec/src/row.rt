@@ -1,8 +1,11 @@
 //! Sets of numbers below a bound.
 ghost use Rattle.interpretation_spec.specs.Row.{has};
-ghost use Rattle.std.specs.Prelude.{◌&&◌, ◌<◌, ◌||◌, ◌↔◌, ◌≡◌, IfOk, IsTrue, count_by, false, length, not, replicate, slice_set, true, ℕ};
+ghost use Rattle.interpretation_spec.specs.Words.{is_set};
+ghost use Rattle.std.specs.Prelude.{◌&&◌, ◌*◌, ◌+◌, ◌/◌, ◌<◌, ◌||◌, ◌↔◌, ◌≡◌, IfOk, IsTrue, count_by, false, length, not, replicate, slice_index, slice_set, true, ℕ};
 
-use crate::words::{are_disjoint, intersect_words, is_within, minus_words, union_words};
+use crate::words::{
+    are_disjoint, count_words, intersect_words, is_within, minus_words, union_words,
+};
 use axioms::Memory;
 use std::alloc::Global;
 use std::marker::Model;
@@ -25,13 +28,19 @@ impl Model for Row {
     ghost invariant = { λ r. IsRow r.len r.words.items };
 }
 
+/// How many words hold `n` bits.
+const fn words_for(n: usize) -> usize
+    ensures { result ≡ (n + 63) / 64 }
+{
+    n.div_ceil(64)
+}
+
 impl Row {
     /// The empty set of numbers below `n`.
     pub fn new(alloc: Global, n: usize) -> Result<Row, Memory>
         ensures { IfOk result (λ r. r ≡ replicate n false) }
     {
-        let count = n / 64 + usize::from(n % 64 != 0);
-        let words = vec![in alloc; 0u64; count]?;
+        let words = vec![in alloc; 0u64; words_for(n)]?;
         Ok(Row { len: n, words })
     }
 
@@ -39,11 +48,11 @@ impl Row {
     pub fn full(alloc: Global, n: usize) -> Result<Row, Memory>
         ensures { IfOk result (λ r. r ≡ replicate n true) }
     {
-        let mut row = Row::new(alloc, n)?;
-        for i in 0..n {
-            row.put(i);
+        let mut words = vec![in alloc; u64::MAX; words_for(n)]?;
+        if n % 64 != 0 {
+            words[n / 64] = (1 << (n % 64)) - 1;
         }
-        Ok(row)
+        Ok(Row { len: n, words })
     }
 
     /// The same set.
@@ -125,13 +134,7 @@ impl Row {
     pub fn count(&self) -> usize
         ensures { result ≡ count_by (λ b. b) self.now }
     {
-        let mut count = 0;
-        for i in 0..self.len {
-            if self.contains(i) {
-                count += 1;
-            }
-        }
-        count
+        count_words(&self.words, self.len)
     }
 
     /// Below which number its members are.
@@ -139,5 +142,13 @@ impl Row {
         ensures { result ≡ length self.now }
     {
         self.len
+    }
+
+    /// Its words: as many as hold `len` bits, and bit `k` of word `j` says whether `64 * j + k` is a member.
+    pub fn words(&self) -> &[u64]
+        ensures many { length result.now ≡ (length self.now + 63) / 64 }
+        ensures bits { (j k : ℕ) → k < 64 → is_set (slice_index result.now j) k ≡ has self.now (64 * j + k) }
+    {
+        &self.words
     }
 }

@@ -2,4 +2,6 @@
 #![tactic(auto)]
 
 #[cfg(test)]
+mod lengths;
+#[cfg(test)]
 mod tests;
