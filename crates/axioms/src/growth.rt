@@ -86,13 +86,16 @@ impl Ontology {
     pub(crate) fn empty(alloc: Global, state: RandomState) -> Result<Ontology, Memory>
         ensures { IfOk result (λ o. o ≡ empty_ontology) }
     {
+        let classes = standard_classes(alloc, state)?;
+        let expressions = standard_expressions(alloc, state)?;
+        let class_expressions = Vec::from_array(alloc, [ExprId::THING, ExprId::NOTHING])?;
         Ok(Ontology {
             alloc,
-            classes: standard_classes(alloc, state)?,
+            classes,
             properties: IndexSet::with_hasher(alloc, state),
             individuals: IndexSet::with_hasher(alloc, state),
-            expressions: standard_expressions(alloc, state)?,
-            class_expressions: Vec::from_array(alloc, [ExprId::THING, ExprId::NOTHING])?,
+            expressions,
+            class_expressions,
             axioms: Vec::new(alloc),
         })
     }

@@ -3,7 +3,7 @@
 #![tactic(auto)]
 
 use axioms::Ontology;
-use device::{ReaderSource, WriterSink, write_all};
+use device::{ReaderSource, Source, WriterSink, write_all};
 use document::{DocumentFault, read_document};
 use program::{Limits, MOST_BYTES, Status};
 use std::alloc::{AllocError, Global};
@@ -33,19 +33,31 @@ fn shown(
     }
 }
 
-fn main(rt: HostRuntime) -> ExitCode {
-    let mut out = WriterSink::new(rt.stdout());
+/// What is printed of the document that the source gives, and the status.
+fn text_of<S: Source>(
+    alloc: Global,
+    source: &mut S,
+    limits: &Limits,
+    state: RandomState,
+) -> Result<(String, Status), AllocError> {
+    let read = read_document(alloc, source, limits, state);
+    shown(alloc, &read)
+}
+
+/// What is printed of the document on standard input, and the status.
+fn text_of_input(rt: HostRuntime) -> Result<(String, Status), Status> {
+    let limits = Limits::new(MOST_BYTES, 1).ok_or(Status::Limit)?;
+    let state = RandomState::new(&rt).map_err(|_| Status::File)?;
     let mut source = ReaderSource::new(rt.stdin());
-    let Some(limits) = Limits::new(MOST_BYTES, 1) else {
-        return ExitCode::from(Status::Limit.code());
+    text_of(rt.alloc(), &mut source, &limits, state).map_err(|_| Status::Memory)
+}
+
+fn main(rt: HostRuntime) -> ExitCode {
+    let (text, status) = match text_of_input(rt) {
+        Ok(told) => told,
+        Err(status) => return ExitCode::from(status.code()),
     };
-    let Ok(state) = RandomState::new(&rt) else {
-        return ExitCode::from(Status::File.code());
-    };
-    let read = read_document(rt.alloc(), &mut source, &limits, state);
-    let Ok((text, status)) = shown(rt.alloc(), &read) else {
-        return ExitCode::from(Status::Memory.code());
-    };
+    let mut out = WriterSink::new(rt.stdout());
     match write_all(&mut out, text.as_bytes()) {
         Ok(()) => ExitCode::from(status.code()),
         Err(_) => ExitCode::from(Status::File.code()),

@@ -44,6 +44,27 @@ fn asked(mut normal: Normal, ontology: &Ontology, numbers: &str) -> Option<Norma
     Some(normal)
 }
 
+/// The ontology of the part's document.
+fn document_of(alloc: Global, state: RandomState, part: &str) -> Option<Ontology> {
+    let document = part.split(" ? ").next()?;
+    read_bytes(alloc, document.as_bytes(), state).ok()
+}
+
+/// The stage after that one: the part's document, and what it asks about.
+fn stage_after(
+    alloc: Global,
+    state: RandomState,
+    (part, ontology): (&str, &Ontology),
+    before: Option<Stage>,
+) -> Option<Stage> {
+    let normal = grown(alloc, state, ontology, before)?;
+    let normal = asked(normal, ontology, part)?;
+    Some(Stage {
+        normal,
+        axioms: ontology.axioms().len(),
+    })
+}
+
 /// The next stage: the document of the part, and what it asks about.
 fn next_stage(
     alloc: Global,
@@ -51,22 +72,21 @@ fn next_stage(
     part: &str,
     before: Option<Stage>,
 ) -> Option<Stage> {
-    let document = part.split(" ? ").next()?;
-    let ontology = read_bytes(alloc, document.as_bytes(), state).ok()?;
-    let normal = grown(alloc, state, &ontology, before)?;
-    let normal = asked(normal, &ontology, part)?;
-    Some(Stage {
-        normal,
-        axioms: ontology.axioms().len(),
-    })
+    let ontology = document_of(alloc, state, part)?;
+    stage_after(alloc, state, (part, &ontology), before)
 }
 
-/// The forms of a row, if it can be read.
-pub(crate) fn forms_of(alloc: Global, state: RandomState, row: &str) -> Option<Normal> {
+/// The stage after all parts of a row.
+fn last_stage(alloc: Global, state: RandomState, row: &str) -> Option<Stage> {
     let mut stage = None;
     for part in row.split(" => ") {
         stage = Some(next_stage(alloc, state, part, stage)?);
     }
-    let Stage { normal, axioms: _ } = stage?;
-    normal.copy().ok()
+    stage
+}
+
+/// The forms of a row, if it can be read.
+pub(crate) fn forms_of(alloc: Global, state: RandomState, row: &str) -> Option<Normal> {
+    let stage = last_stage(alloc, state, row)?;
+    stage.normal.copy().ok()
 }

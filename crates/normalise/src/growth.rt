@@ -88,13 +88,13 @@ impl Normal {
         ensures ok { OnOk result (self.new ≡ joined self.old more) }
         ensures err { OnErr result (self.new ≡ self.old) }
     {
+        self.made.entries.join(&more.made.entries)?;
         let More {
             made,
             asked,
             right,
             left,
         } = more;
-        self.made.entries.join(&made.entries)?;
         self.made.operands = made.operands;
         self.made.steps = made.steps;
         self.asked = asked;

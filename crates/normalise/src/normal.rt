@@ -88,6 +88,15 @@ impl Normal {
         self.made.steps.len()
     }
 
+    /// There are fewer than 2^32 fresh names of each kind. This changes nothing.
+    pub fn bounded(&self)
+        ensures operands { length self.now.operands < 2 ^ 32 }
+        ensures steps { length self.now.steps < 2 ^ 32 }
+    {
+        self.partial_intersections();
+        self.partial_chains();
+    }
+
     /// The expressions that [`Normal::ask`] was given, each once, in order.
     pub fn asked(&self) -> &[ExprId]
         ensures { expr_numbers result.now ≡ self.now.asked }
@@ -103,10 +112,10 @@ impl Normal {
     pub fn copy(&self) -> Result<Normal, Memory>
         ensures { IfOk result (λ n. n ≡ self.now) }
     {
-        let made = self.made.copy(self.alloc)?;
         let asked = self.asked.clone()?;
         let right = self.right.clone()?;
         let left = self.left.clone()?;
+        let made = self.made.copy(self.alloc)?;
         Ok(Normal {
             alloc: self.alloc,
             made,
