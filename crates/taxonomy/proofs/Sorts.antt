@@ -1,5 +1,5 @@
 -- Insertion sort gives the one list in order that has the same numbers.
-use Rattle.std.proofs.Common.{◌≡◌, ℕ, suc, ◌+◌, ◌<◌, Bool, true, false, cond, eqb, List, [], ◌∷◌, length, get_or, refl, sym, ap, ◌∙◌, subst, arith, add-one}
+use Rattle.std.proofs.Common.{◌≡◌, ℕ, suc, ◌+◌, ◌<◌, Bool, true, false, cond, eqb, List, [], ◌∷◌, ◌++◌, length, get_or, refl, sym, ap, ◌∙◌, subst, arith, add-one}
 use native.Mathlib.Numerals.{unary_clauses}
 use Rattle.std.specs.declared.cmp.Ordering.{Ordering}
 use Rattle.std.specs.Ordering.{is_lt}
@@ -8,7 +8,8 @@ use Rattle.std.specs.List.Sorted.{IsPermutation, IsSortedBy}
 use Rattle.std.proofs.lemmas.List.Sorted.{sum_by-IsPermutation, sorted_far}
 use Rattle.std.proofs.lemmas.List.Recursion.{is_sum_by}
 use Rattle.std.proofs.lemmas.Bool.{eqb-true, eq-eqb}
-use Rattle.taxonomy.specs.Texts.{inserted, sorted}
+use Rattle.std.specs.List.{filter, list_any}
+use Rattle.taxonomy.specs.Texts.{firsts, inserted, is_same, sorted}
 
 -- no number of the list comes before x
 abbrev Above : (ℕ → ℕ → Ordering) → ℕ → List ℕ → Type 0
@@ -21,11 +22,35 @@ Ascends order [] = Unit {0}
 Ascends order (x ∷ xs) = Above order x xs × Ascends order xs
 
 -- how often a number stands in the list
-abbrev occ : ℕ → List ℕ → ℕ
+abbrev pub occ : ℕ → List ℕ → ℕ
 occ z [] = 0
 occ z (x ∷ xs) = cond (eqb x z) 1 0 + occ z xs
 
-occ-permutation : (z : ℕ) (xs ys : List ℕ) → IsPermutation xs ys → occ z ys ≡ occ z xs
+Above-filter : (order : ℕ → ℕ → Ordering) (p : ℕ → Bool) (x : ℕ) (ys : List ℕ) → Above order x ys → Above order x (filter p ys)
+Above-filter order p x [] a = tt
+Above-filter order p x (y ∷ ys) a =
+    elim (p y) as (λ b. Above order x (cond b (y ∷ filter p ys) (filter p ys)))
+    [ true ↦ (a.0, Above-filter order p x ys a.1) | false ↦ Above-filter order p x ys a.1 ]
+
+pub Ascends-filter : (order : ℕ → ℕ → Ordering) (p : ℕ → Bool) (ys : List ℕ) → Ascends order ys → Ascends order (filter p ys)
+Ascends-filter order p [] a = tt
+Ascends-filter order p (y ∷ ys) a =
+    elim (p y) as (λ b. Ascends order (cond b (y ∷ filter p ys) (filter p ys)))
+    [ true ↦ (Above-filter order p y ys a.0, Ascends-filter order p ys a.1) | false ↦ Ascends-filter order p ys a.1 ]
+
+Above-firsts : (order : ℕ → ℕ → Ordering) (r : ℕ → ℕ → Bool) (x : ℕ) (before ys : List ℕ) → Above order x ys → Above order x (firsts r before ys)
+Above-firsts order r x before [] a = tt
+Above-firsts order r x before (y ∷ ys) a =
+    elim (list_any (is_same r y) before) as (λ b. Above order x (cond b (firsts r before ys) (y ∷ firsts r (before ++ y ∷ []) ys)))
+    [ true ↦ Above-firsts order r x before ys a.1 | false ↦ (a.0, Above-firsts order r x (before ++ y ∷ []) ys a.1) ]
+
+pub Ascends-firsts : (order : ℕ → ℕ → Ordering) (r : ℕ → ℕ → Bool) (before ys : List ℕ) → Ascends order ys → Ascends order (firsts r before ys)
+Ascends-firsts order r before [] a = tt
+Ascends-firsts order r before (y ∷ ys) a =
+    elim (list_any (is_same r y) before) as (λ b. Ascends order (cond b (firsts r before ys) (y ∷ firsts r (before ++ y ∷ []) ys)))
+    [ true ↦ Ascends-firsts order r before ys a.1 | false ↦ (Above-firsts order r y (before ++ y ∷ []) ys a.0, Ascends-firsts order r (before ++ y ∷ []) ys a.1) ]
+
+pub occ-permutation : (z : ℕ) (xs ys : List ℕ) → IsPermutation xs ys → occ z ys ≡ occ z xs
 occ-permutation z xs ys h =
     is_sum_by (occ z) (λ x. cond (eqb x z) 1 0) refl (λ _ _. refl) ys
     ∙ sum_by-IsPermutation (λ x. cond (eqb x z) 1 0) xs ys h
@@ -50,7 +75,7 @@ module _ (order : ℕ → ℕ → Ordering) (ranks : IsStrictWeakOrder (λ x y. 
       inserted_by n m ms true e a g = (Above-inserted m n ms (ranks.one_way m n e) a.0, g)
       inserted_by n m ms false e a g = ((e, Above-chain n m ms e a.0), a)
 
-  Ascends-sorted : (ns : List ℕ) → Ascends order (sorted order ns)
+  pub Ascends-sorted : (ns : List ℕ) → Ascends order (sorted order ns)
   Ascends-sorted [] = tt
   Ascends-sorted (n ∷ ns) = Ascends-inserted n (sorted order ns) (Ascends-sorted ns)
 
@@ -60,7 +85,7 @@ module _ (order : ℕ → ℕ → Ordering) (ranks : IsStrictWeakOrder (λ x y. 
       elim (is_lt (order m n)) as (λ b. occ z (cond b (m ∷ inserted order n ms) (n ∷ m ∷ ms)) ≡ occ z (n ∷ m ∷ ms))
       [ true ↦ omega (arith, occ-inserted z n ms) | false ↦ refl ]
 
-  occ-sorted : (z : ℕ) (ns : List ℕ) → occ z (sorted order ns) ≡ occ z ns
+  pub occ-sorted : (z : ℕ) (ns : List ℕ) → occ z (sorted order ns) ≡ occ z ns
   occ-sorted z [] = refl
   occ-sorted z (n ∷ ns) = occ-inserted z n (sorted order ns) ∙ ap (λ k. cond (eqb n z) 1 0 + k) (occ-sorted z ns)
 

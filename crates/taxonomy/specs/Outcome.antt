@@ -1,21 +1,20 @@
 -- What a classification found, and the two texts that tell it.
-use Rattle.std.specs.Prelude.{◌≡◌, ℕ, List, Bool, length}
-use Rattle.std.specs.List.{All}
+use Rattle.std.specs.Prelude.{◌≡◌, ◌<◌, ℕ, List, Bool, length, true}
 use Rattle.axioms.specs.Numbered.{Ontology}
 use Rattle.taxonomy.specs.declared.outcome.Outcome.{Outcome}
 use Rattle.taxonomy.specs.declared.outcome.Outcome.TheVariants.{Consistent, Inconsistent}
-use Rattle.taxonomy.specs.Relation.{lies_below}
+use Rattle.taxonomy.specs.Relation.{is_listed, lies_below}
 use Rattle.taxonomy.specs.Texts.{taxonomy_text, instances_text, inconsistent_taxonomy_text, inconsistent_instances_text}
 
--- a row for each class and for each individual, over the classes
-pub record IsOver (o : Ontology) (rows types : List (List Bool)) : Type 0 where
+-- a row for each class, for each individual a list of classes
+pub record IsOver (o : Ontology) (rows : List (List Bool)) (types : List (List ℕ)) : Type 0 where
   pub classes : length rows ≡ length o.names.classes
   pub individuals : length types ≡ length o.names.individuals
-  pub types_over_classes : All (λ row. length row ≡ length o.names.classes) types
+  pub types_are_classes : (a d : ℕ) → is_listed types a d ≡ true → d < length o.names.classes
 
 -- the outcome was made for this ontology
 abbrev pub IsMadeFor : Ontology → Outcome → Type 0
-IsMadeFor o (Consistent taxonomy types) = IsOver o taxonomy types.items
+IsMadeFor o (Consistent taxonomy types) = IsOver o taxonomy types
 IsMadeFor o Inconsistent = Unit {0}
 
 -- the taxonomy text that tells it
@@ -25,5 +24,5 @@ taxonomy_of o Inconsistent = inconsistent_taxonomy_text
 
 -- the instances text that tells it
 abbrev pub instances_of : Ontology → Outcome → List ℕ
-instances_of o (Consistent taxonomy types) = instances_text o.names.classes o.names.individuals (lies_below taxonomy) (lies_below types.items)
+instances_of o (Consistent taxonomy types) = instances_text o.names.classes o.names.individuals (lies_below taxonomy) (is_listed types)
 instances_of o Inconsistent = inconsistent_instances_text

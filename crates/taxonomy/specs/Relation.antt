@@ -1,8 +1,9 @@
--- A relation on classes as rows: which classes lie above each.
-use Rattle.std.specs.Prelude.{◌<◌, ◌≡◌, ℕ, List, [], Bool, length, slice_index_or, ◌&&◌, not}
-use Rattle.std.specs.List.{All}
+-- A relation on classes as rows: which classes lie above each; and as lists.
+use Rattle.std.specs.Prelude.{◌<◌, ◌≡◌, ℕ, List, [], Bool, true, length, slice_index_or, ◌||◌, ◌==◌}
+use Rattle.std.specs.List.{All, list_any}
 use Rattle.interpretation_spec.specs.Row.{has}
-use Rattle.taxonomy.specs.Texts.{is_directly_above, is_strictly_above, some_below}
+use Rattle.number_sets.specs.Pieces.{list_at}
+use Rattle.taxonomy.specs.Texts.{nothing_class}
 
 -- the row of class c
 abbrev pub row_at : List (List Bool) → ℕ → List Bool
@@ -20,23 +21,17 @@ AreOver n rows = All (λ row. length row ≡ n) rows
 abbrev pub IsSquare : List (List Bool) → Type 0
 IsSquare rows = AreOver (length rows) rows
 
--- the rows of what is strictly above each class
-pub record IsStrictPart (rows above : List (List Bool)) : Type 0 where
-  pub long : length above ≡ length rows
-  pub square : IsSquare above
-  pub each : (g h : ℕ) → lies_below above g h ≡ is_strictly_above (lies_below rows) g h
+-- each class lies below itself, and below what lies above a class that it lies below
+pub record IsPreorder (rows : List (List Bool)) : Type 0 where
+  pub reflexive : (c : ℕ) → c < length rows → lies_below rows c c ≡ true
+  pub transitive : (c d e : ℕ) → c < length rows → d < length rows → e < length rows → lies_below rows c d ≡ true → lies_below rows d e ≡ true → lies_below rows c e ≡ true
 
--- of the numbers that the relation gives g, those that it gives no other of them
-abbrev pub is_nearest : (ℕ → ℕ → Bool) → ℕ → ℕ → ℕ → Bool
-is_nearest above n g h = above g h && not (some_below n (λ k. above g k && above k h))
+-- ---- as lists of classes
 
--- the rows so far are those of the nearest
-pub record HasNearest (above nearest : List (List Bool)) : Type 0 where
-  pub over : AreOver (length above) nearest
-  pub each : (g h : ℕ) → g < length nearest → lies_below nearest g h ≡ is_nearest (lies_below above) (length above) g h
+-- the list of a has the number d
+abbrev pub is_listed : List (List ℕ) → ℕ → ℕ → Bool
+is_listed lists a d = list_any (λ e. e == d) (list_at lists a)
 
--- the rows of what is directly above each class
-pub record IsReduction (rows direct : List (List Bool)) : Type 0 where
-  pub square : IsSquare rows
-  pub over : AreOver (length rows) direct
-  pub each : (g h : ℕ) → lies_below direct g h ≡ is_directly_above (lies_below rows) (length rows) g h
+-- c lies below d by lists of superclasses: owl:Nothing, or d, is among those of c
+abbrev pub is_below : List (List ℕ) → ℕ → ℕ → Bool
+is_below lists c d = is_listed lists c nothing_class || is_listed lists c d

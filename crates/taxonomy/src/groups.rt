@@ -1,109 +1,170 @@
-//! The groups of equal classes, in order.
+//! The groups of equal classes, by the numbers of their superclasses.
+ghost use Rattle.number_sets.specs.Members.{has};
+ghost use Rattle.number_sets.specs.Pieces.{list_at};
 ghost use Rattle.std.specs.List.{All, filter};
-ghost use Rattle.std.specs.Prelude.{◌<◌, ◌≡◌, IfOk, length};
-ghost use Rattle.taxonomy.specs.Lists.{AreGroups, list_at};
-ghost use Rattle.taxonomy.specs.Relation.{lies_below};
-ghost use Rattle.taxonomy.specs.Texts.{group, groups, is_directly_above, is_same, numbers_below};
+ghost use Rattle.std.specs.Prelude.{◌<◌, ◌||◌, ◌≡◌, IfOk, length, map, nat_eq, nat_lt, ℕ};
+ghost use Rattle.std.specs.String.{string_bytes};
+ghost use Rattle.taxonomy.specs.Marked.{HasRoom, Leads};
+ghost use Rattle.taxonomy.specs.Relation.{is_listed};
+ghost use Rattle.taxonomy.specs.Superclasses.{AreSuperclasses, is_among, is_as_large};
+ghost use Rattle.taxonomy.specs.Texts.{group, groups, in_byte_order, is_directly_above, least_groups};
 
-use crate::lists::{Lists, in_order};
-use crate::reduction::Taxonomy;
-use crate::rows::put_each;
+use crate::collecting::once_of;
+use crate::least::{Marks, least_of};
+use crate::order::sorted_by_name;
+use crate::superclasses::Superclasses;
 use axioms::Memory;
-use interpretation_spec::Row;
+use number_sets::EpochSet;
 use std::alloc::Global;
 
-/// The groups of a taxonomy, where the classes stand in an order.
-#[derive(Drop)]
-pub(crate) struct Groups {
-    /// The class that stands for each group: the first.
-    pub(crate) leaders: Vec<usize>,
-    /// The members of the group that a class stands for.
-    pub(crate) members: Lists,
-    /// The classes that stand for the groups directly above.
-    pub(crate) above: Lists,
-}
-
-/// The classes of a class's group, in order.
-pub(crate) fn group_of(
-    alloc: Global,
-    taxonomy: &Taxonomy,
-    order: &[usize],
-    g: usize,
-) -> Result<Vec<usize>, Memory>
-    ensures { IfOk result (λ v. v.items ≡ group (lies_below taxonomy.now) order.now g) }
+/// Marks the superclasses of a class that have as many superclasses.
+fn mark_group(set: &mut EpochSet, classes: &Superclasses, c: usize)
+    ensures len { length set.new ≡ length set.old }
+    ensures members { (k : ℕ) → k < length set.old → has set.new k ≡ (has set.old k || is_as_large classes.now c k) }
 {
-    let same = order.iter().copied().filter(|c| taxonomy.is_same(g, *c));
-    Ok(same.collect(alloc)?)
+    let size = classes.len_at(c);
+    for h in classes.at(c) {
+        let h = *h as usize;
+        if classes.len_at(h) == size {
+            set.put(h);
+        }
+    }
 }
 
-/// The first class of each group.
+/// Of classes in an order, the first of each group.
 pub(crate) fn leaders(
     alloc: Global,
-    taxonomy: &Taxonomy,
+    classes: &Superclasses,
     order: &[usize],
 ) -> Result<Vec<usize>, Memory>
-    ensures { IfOk result (λ v. v.items ≡ groups (lies_below taxonomy.now) order.now) }
+    requires superclasses { AreSuperclasses classes.now }
+    requires within { All (λ c. c < length classes.now) order.now }
+    ensures { IfOk result (λ v. v.items ≡ groups (is_listed classes.now) order.now) }
 {
     let mut found = Vec::new(alloc);
-    let mut grouped = Row::new(alloc, taxonomy.len())?;
+    let mut grouped = EpochSet::new(alloc, classes.len())?;
     for c in order {
         if !grouped.contains(*c) {
             found.push(*c)?;
-            let group = taxonomy.group(alloc, *c)?;
-            put_each(&mut grouped, &group);
+            mark_group(&mut grouped, classes, *c);
         }
     }
     Ok(found)
 }
 
-/// The group of each of these classes, by number.
-fn group_lists(alloc: Global, taxonomy: &Taxonomy, leaders: &[usize]) -> Result<Lists, Memory>
-    requires { All (λ g. g < length taxonomy.now) leaders.now }
-    ensures len { IfOk result (λ l. length l ≡ length taxonomy.now) }
-    ensures each { IfOk result
-        (λ l. All (λ g. list_at l g ≡ filter (is_same (lies_below taxonomy.now) g) (numbers_below (length taxonomy.now))) leaders.now) }
+/// The set of these numbers.
+pub(crate) fn set_of(alloc: Global, n: usize, numbers: &[usize]) -> Result<EpochSet, Memory>
+    ensures len { IfOk result (λ s. length s ≡ n) }
+    ensures members { IfOk result (λ s. (k : ℕ) → k < n → has s k ≡ is_among numbers.now k) }
 {
-    let mut lists = Lists::new(alloc, taxonomy.len())?;
-    for g in leaders {
-        lists.set(*g, taxonomy.group(alloc, *g)?);
+    let mut set = EpochSet::new(alloc, n)?;
+    for number in numbers {
+        set.put(*number);
     }
-    Ok(lists)
+    Ok(set)
 }
 
-/// What is directly above each of these classes, by number.
-fn above_lists(alloc: Global, taxonomy: &Taxonomy, leaders: &[usize]) -> Result<Lists, Memory>
-    requires { All (λ g. g < length taxonomy.now) leaders.now }
-    ensures len { IfOk result (λ l. length l ≡ length taxonomy.now) }
-    ensures each { IfOk result
-        (λ l. All (λ g. list_at l g
-        ≡ filter (is_directly_above (lies_below taxonomy.now) (length taxonomy.now) g) (numbers_below (length taxonomy.now)))
-        leaders.now) }
-{
-    let mut lists = Lists::new(alloc, taxonomy.len())?;
-    for g in leaders {
-        lists.set(*g, taxonomy.directly_above(alloc, *g)?);
-    }
-    Ok(lists)
-}
-
-/// The groups in this order of the classes.
-pub(crate) fn groups_in(
-    alloc: Global,
-    taxonomy: &Taxonomy,
-    order: &[usize],
-) -> Result<Groups, Memory>
-    requires { All (λ c. c < length taxonomy.now) order.now }
+/// The superclasses of a class that have fewer superclasses.
+fn larger(alloc: Global, classes: &Superclasses, g: usize) -> Result<Vec<u32>, Memory>
     ensures { IfOk result
-        (λ g. AreGroups (lies_below taxonomy.now) (length taxonomy.now) order.now g.leaders.items g.members g.above) }
+        (λ v. v.items ≡ filter (λ h. nat_lt (length (list_at classes.now h)) (length (list_at classes.now g))) (list_at classes.now g)) }
 {
-    let leaders = leaders(alloc, taxonomy, order)?;
-    let same = group_lists(alloc, taxonomy, &leaders)?;
-    let members = in_order(alloc, &same, order, taxonomy.len())?;
-    let direct = above_lists(alloc, taxonomy, &leaders)?;
-    let above = in_order(alloc, &direct, &leaders, taxonomy.len())?;
-    Ok(Groups {
-        leaders,
-        members,
-        above,
-    })
+    let size = classes.len_at(g);
+    let above = classes.at(g).iter().copied();
+    Ok(
+        above
+            .filter(|h| classes.len_at(*h as usize) < size)
+            .collect(alloc)?,
+    )
+}
+
+/// The superclasses of a class that have as many superclasses.
+fn as_large(alloc: Global, classes: &Superclasses, g: usize) -> Result<Vec<u32>, Memory>
+    ensures { IfOk result
+        (λ v. v.items ≡ filter (λ h. nat_eq (length (list_at classes.now h)) (length (list_at classes.now g))) (list_at classes.now g)) }
+{
+    let size = classes.len_at(g);
+    let above = classes.at(g).iter().copied();
+    Ok(
+        above
+            .filter(|h| classes.len_at(*h as usize) == size)
+            .collect(alloc)?,
+    )
+}
+
+/// Those of the numbers that the set has.
+fn held(alloc: Global, set: &EpochSet, numbers: &[u32]) -> Result<Vec<u32>, Memory>
+    ensures { IfOk result (λ v. v.items ≡ filter (has set.now) numbers.now) }
+{
+    let numbers = numbers.iter().copied();
+    Ok(
+        numbers
+            .filter(|c| set.contains(*c as usize))
+            .collect(alloc)?,
+    )
+}
+
+/// The classes of a class's group, in byte order.
+pub(crate) fn group_of(
+    alloc: Global,
+    names: &[String],
+    classes: &Superclasses,
+    g: usize,
+) -> Result<Vec<usize>, Memory>
+    requires superclasses { AreSuperclasses classes.now }
+    requires long { length names.now ≡ length classes.now }
+    ensures { IfOk result (λ v. v.items ≡ group (is_listed classes.now) (in_byte_order (map string_bytes names.now)) g) }
+{
+    let same = as_large(alloc, classes, g)?;
+    let group = sorted_by_name(alloc, names, &same)?;
+    Ok(group)
+}
+
+/// The classes that stand for the groups directly above a class, in byte order.
+pub(crate) fn groups_above(
+    alloc: Global,
+    names: &[String],
+    classes: &Superclasses,
+    marks: &mut Marks,
+    leading: &EpochSet,
+    g: usize,
+) -> Result<Vec<usize>, Memory>
+    requires superclasses { AreSuperclasses classes.now }
+    requires long { length names.now ≡ length classes.now }
+    requires room { HasRoom (length classes.now) marks.old }
+    requires leading { Leads classes.now (map string_bytes names.now) leading.now }
+    ensures room { HasRoom (length classes.now) marks.new }
+    ensures direct { IfOk result
+        (λ v. v.items
+        ≡ filter (is_directly_above (is_listed classes.now) (length classes.now) g)
+        (groups (is_listed classes.now) (in_byte_order (map string_bytes names.now)))) }
+{
+    let higher = larger(alloc, classes, g)?;
+    let direct = least_of(alloc, marks, classes, &higher)?;
+    let shown = held(alloc, leading, &direct)?;
+    let above = sorted_by_name(alloc, names, &shown)?;
+    Ok(above)
+}
+
+/// The classes that stand for the least groups of these classes, in byte order.
+pub(crate) fn least_types(
+    alloc: Global,
+    names: &[String],
+    classes: &Superclasses,
+    marks: &mut Marks,
+    leading: &EpochSet,
+    types: &[u32],
+) -> Result<Vec<usize>, Memory>
+    requires superclasses { AreSuperclasses classes.now }
+    requires long { length names.now ≡ length classes.now }
+    requires room { HasRoom (length classes.now) marks.old }
+    requires leading { Leads classes.now (map string_bytes names.now) leading.now }
+    ensures room { HasRoom (length classes.now) marks.new }
+    ensures least { IfOk result (λ v. v.items ≡ least_groups (map string_bytes names.now) (is_listed classes.now) (is_among types.now)) }
+{
+    let least = least_of(alloc, marks, classes, types)?;
+    let shown = held(alloc, leading, &least)?;
+    let once = once_of(alloc, &mut marks.above, &shown)?;
+    let groups = sorted_by_name(alloc, names, &once)?;
+    Ok(groups)
 }

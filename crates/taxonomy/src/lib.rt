@@ -1,20 +1,23 @@
 //! The taxonomy of the named classes of an ontology, and the texts that tell it.
 #![tactic(auto)]
 
+mod collecting;
 mod groups;
 mod instances_text;
-mod lists;
+mod least;
 mod names;
 mod order;
 mod outcome;
 mod reduction;
-mod rows;
+mod relation;
+mod superclasses;
 mod taxonomy_text;
 mod theory;
 mod write;
 
 pub use device::WriteFault;
 pub use outcome::{Outcome, instances_bytes, taxonomy_bytes};
-pub use reduction::{Relation, Taxonomy, reduce};
+pub use reduction::{Taxonomy, reduce};
+pub use relation::Relation;
 pub use theory::texts_of_relations;
 pub use write::{write_instances, write_taxonomy};

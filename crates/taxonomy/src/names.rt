@@ -7,7 +7,7 @@ ghost use Rattle.taxonomy.specs.Texts.{bracketed, listed};
 use axioms::Memory;
 
 /// The name of that number, or nothing where there is none.
-fn name_of(names: &[String], n: usize) -> &str
+pub(crate) fn name_of(names: &[String], n: usize) -> &str
     ensures { result.now ≡ name_at (map string_bytes names.now) n }
 {
     match names.get(n) {

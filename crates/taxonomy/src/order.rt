@@ -1,5 +1,5 @@
 //! Class numbers in the byte order of the names.
-ghost use Rattle.taxonomy.specs.Texts.{in_byte_order, by_name};
+ghost use Rattle.taxonomy.specs.Texts.{by_name, in_byte_order, sorted};
 ghost use Rattle.std.specs.List.{All, range_with_len};
 ghost use Rattle.std.specs.List.Sorted.{IsPermutation, IsSortedBy};
 ghost use Rattle.std.specs.Ordering.{is_lt};
@@ -7,6 +7,7 @@ ghost use Rattle.std.specs.Prelude.{◌≡◌, IfOk, map, length};
 ghost use Rattle.std.specs.String.{string_bytes};
 ghost use Rattle.axioms.specs.Numbered.{name_at};
 
+use crate::names::name_of;
 use axioms::Memory;
 use std::alloc::Global;
 
@@ -19,6 +20,24 @@ fn numbered(alloc: Global, names: &[String]) -> Result<Vec<(&str, usize)>, Memor
     let mut pairs = Vec::new(alloc);
     for (i, name) in names.iter().enumerate() {
         pairs.push((name.as_str(), i))?;
+    }
+    Ok(pairs)
+}
+
+/// These numbers, each behind its name.
+fn named<'a>(
+    alloc: Global,
+    names: &'a [String],
+    numbers: &[u32],
+) -> Result<Vec<(&'a str, usize)>, Memory>
+    ensures { IfOk result
+        (λ v. (map (λ p. p.1) v.items ≡ numbers.now)
+        × All (λ p. p.0.now ≡ name_at (map string_bytes names.now) p.1) v.items) }
+{
+    let mut pairs = Vec::new(alloc);
+    for n in numbers {
+        let n = *n as usize;
+        pairs.push((name_of(names, n), n))?;
     }
     Ok(pairs)
 }
@@ -37,4 +56,17 @@ pub fn in_byte_order(alloc: Global, names: &[String]) -> Result<Vec<usize>, Memo
     let mut pairs = numbered(alloc, names)?;
     pairs.sort()?;
     numbers(alloc, &pairs)
+}
+
+/// These class numbers, in the byte order of their names.
+pub(crate) fn sorted_by_name(
+    alloc: Global,
+    names: &[String],
+    numbers: &[u32],
+) -> Result<Vec<usize>, Memory>
+    ensures { IfOk result (λ v. v.items ≡ sorted (by_name (map string_bytes names.now)) numbers.now) }
+{
+    let mut pairs = named(alloc, names, numbers)?;
+    pairs.sort()?;
+    crate::order::numbers(alloc, &pairs)
 }

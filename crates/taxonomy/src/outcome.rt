@@ -6,14 +6,14 @@ use crate::instances_text::text_of_instances;
 use crate::reduction::Taxonomy;
 use crate::taxonomy_text::text_of_taxonomy;
 use axioms::{Memory, Ontology};
-use interpretation_spec::Row;
+use number_sets::PackedLists;
 use std::alloc::Global;
 
 /// What a classification found.
 #[derive(Drop)]
 pub enum Outcome {
-    /// The taxonomy of the classes, and for each individual, by number, the row of the classes that it belongs to.
-    Consistent(Taxonomy, Vec<Row>),
+    /// The taxonomy of the classes, and for each individual, by number, a list of the classes that it belongs to.
+    Consistent(Taxonomy, PackedLists),
     /// The axioms contradict one another.
     Inconsistent,
 }

@@ -1,12 +1,15 @@
 //! The texts of small ontologies.
-ghost use Rattle.std.specs.Prelude.{◌≡◌, IfOk, length};
+ghost use Rattle.std.specs.Bool.{OnTrue};
+ghost use Rattle.std.specs.List.{All};
+ghost use Rattle.std.specs.Prelude.{◌<◌, ◌≡◌, IfOk, length, true, ℕ};
 ghost use Rattle.taxonomy.specs.Outcome.{IsMadeFor};
-ghost use Rattle.taxonomy.specs.Relation.{AreOver};
+ghost use Rattle.taxonomy.specs.Relation.{IsPreorder, IsSquare, is_listed, lies_below};
 
 use axioms::{Memory, Ontology};
 use device::BufferSink;
 use document::read_bytes;
 use interpretation_spec::Row;
+use number_sets::PackedLists;
 use std::alloc::Global;
 use std::hash::RandomState;
 use std::process::Abort;
@@ -22,81 +25,155 @@ fn ontology_of<R: AllocGlobal + RandomSource>(rt: &R, document: &str) -> Result<
     Ok(read_bytes(rt.alloc(), document.as_bytes(), RandomState::new(rt)?)?)
 }
 
-/// The row over `n` classes of owl:Thing and of what the pairs give to `k`.
-fn row(alloc: Global, pairs: &[(usize, usize)], n: usize, k: usize) -> Result<Row, Memory>
-    ensures { IfOk result (λ r. length r ≡ n) }
+/// What the pairs give to `k`, of numbers below `n`.
+fn list_of(alloc: Global, pairs: &[(u32, u32)], n: usize, k: u32) -> Result<Vec<u32>, Memory>
+    ensures { IfOk result (λ v. All (λ d. d < n) v.items) }
 {
-    let mut row = Row::new(alloc, n)?;
-    row.put(0);
+    let mut list = Vec::new(alloc);
     for (first, second) in pairs {
-        if *first == k {
-            row.put(*second);
+        if *first == k && (*second as usize) < n {
+            list.push(*second)?;
         }
     }
-    Ok(row)
+    Ok(list)
 }
 
-/// The row of a class, which lies below itself. All classes are above owl:Nothing.
-fn class_row(alloc: Global, below: &[(usize, usize)], n: usize, c: usize) -> Result<Row, Memory>
-    ensures { IfOk result (λ r. length r ≡ n) }
+/// The superclasses of each class: itself, owl:Thing and what the pairs give it; owl:Nothing has itself alone.
+fn class_lists(alloc: Global, below: &[(u32, u32)], n: u32) -> Result<PackedLists, Memory>
+    ensures { IfOk result (λ l. length l ≡ n) }
 {
-    if c == 1 {
-        return Row::full(alloc, n);
-    }
-    let mut above = row(alloc, below, n, c)?;
-    above.put(c);
-    Ok(above)
-}
-
-/// The rows of the classes.
-fn class_rows(alloc: Global, below: &[(usize, usize)], n: usize) -> Result<Vec<Row>, Memory>
-    ensures long { IfOk result (λ v. length v.items ≡ n) }
-    ensures over { IfOk result (λ v. AreOver n v.items) }
-{
-    let mut rows = Vec::new(alloc);
+    let mut lists = PackedLists::new(alloc);
     for c in 0..n {
-        rows.push(class_row(alloc, below, n, c)?)?;
+        let mut list = list_of(alloc, below, n as usize, c)?;
+        list.push(c)?;
+        if c != 1 {
+            list.push(0)?;
+        }
+        lists.push_list(&list)?;
     }
-    Ok(rows)
+    Ok(lists)
 }
 
-/// The rows of the individuals' types.
-fn type_rows(
+/// The types of each individual: what the pairs give it.
+fn type_lists(
     alloc: Global,
-    types: &[(usize, usize)],
+    types: &[(u32, u32)],
     n: usize,
-    individuals: usize,
-) -> Result<Vec<Row>, Memory>
-    ensures long { IfOk result (λ v. length v.items ≡ individuals) }
-    ensures over { IfOk result (λ v. AreOver n v.items) }
+    individuals: u32,
+) -> Result<PackedLists, Memory>
+    ensures long { IfOk result (λ l. length l ≡ individuals) }
+    ensures within { IfOk result (λ l. (a d : ℕ) → is_listed l a d ≡ true → d < n) }
 {
-    let mut rows = Vec::new(alloc);
+    let mut lists = PackedLists::new(alloc);
     for a in 0..individuals {
-        rows.push(row(alloc, types, n, a)?)?;
+        lists.push_list(&list_of(alloc, types, n, a)?)?;
     }
-    Ok(rows)
+    Ok(lists)
+}
+
+/// Whether each class lies below itself.
+fn is_reflexive(relation: &Relation) -> bool
+    ensures { OnTrue result ((c : ℕ) → c < length relation.now → lies_below relation.now c c ≡ true) }
+{
+    for c in 0..relation.len() {
+        if !relation.lies_below(c, c) {
+            return false;
+        }
+    }
+    true
+}
+
+/// Whether `c` lies below all that `d` lies below.
+fn is_below_all_above(relation: &Relation, c: usize, d: usize) -> bool
+    ensures { OnTrue result
+        ((e : ℕ) → e < length relation.now → lies_below relation.now d e ≡ true → lies_below relation.now c e ≡ true) }
+{
+    for e in 0..relation.len() {
+        if relation.lies_below(d, e) && !relation.lies_below(c, e) {
+            return false;
+        }
+    }
+    true
+}
+
+/// Whether `c` lies below all that is above what it lies below.
+fn is_closed_at(relation: &Relation, c: usize) -> bool
+    ensures { OnTrue result
+        ((d e : ℕ) → d < length relation.now → e < length relation.now
+        → lies_below relation.now c d ≡ true → lies_below relation.now d e ≡ true → lies_below relation.now c e ≡ true) }
+{
+    for d in 0..relation.len() {
+        if relation.lies_below(c, d) && !is_below_all_above(relation, c, d) {
+            return false;
+        }
+    }
+    true
+}
+
+/// Whether each class lies below all that is above what it lies below.
+fn is_transitive(relation: &Relation) -> bool
+    ensures { OnTrue result
+        ((c d e : ℕ) → c < length relation.now → d < length relation.now → e < length relation.now
+        → lies_below relation.now c d ≡ true → lies_below relation.now d e ≡ true → lies_below relation.now c e ≡ true) }
+{
+    for c in 0..relation.len() {
+        if !is_closed_at(relation, c) {
+            return false;
+        }
+    }
+    true
+}
+
+/// Whether the relation can be reduced.
+fn is_preorder(relation: &Relation) -> bool
+    ensures { OnTrue result (IsPreorder relation.now) }
+{
+    is_reflexive(relation) && is_transitive(relation)
+}
+
+/// The taxonomy of the relation. It must be a preorder.
+fn reduced(alloc: Global, relation: &Relation) -> Result<Taxonomy, Memory>
+    ensures { IfOk result (λ t. t ≡ relation.now) }
+{
+    if is_preorder(relation) {
+        reduce(alloc, relation)
+    } else {
+        Err(Memory)
+    }
 }
 
 /// The taxonomy where each class lies below itself, owl:Thing and what the pairs give it.
-fn taxonomy_of(alloc: Global, below: &[(usize, usize)], n: usize) -> Result<Taxonomy, Memory>
+fn taxonomy_of(alloc: Global, below: &[(u32, u32)], n: u32) -> Result<Taxonomy, Memory>
     ensures { IfOk result (λ t. length t ≡ n) }
 {
-    let relation = Relation::new(class_rows(alloc, below, n)?);
-    reduce(alloc, &relation)
+    let lists = class_lists(alloc, below, n)?;
+    let relation = Relation::of_superclasses(alloc, &lists)?;
+    let taxonomy = reduced(alloc, &relation)?;
+    Ok(taxonomy)
+}
+
+/// How many there are, as a number of 32 bits.
+fn count(n: usize) -> Result<u32, Memory>
+    ensures { IfOk result (λ m. m ≡ n) }
+{
+    match u32::try_from(n) {
+        Ok(m) => Ok(m),
+        Err(_) => Err(Memory),
+    }
 }
 
 /// The outcome where each class lies below itself, owl:Thing and what the pairs give it.
 fn outcome_of(
     alloc: Global,
     ontology: &Ontology,
-    below: &[(usize, usize)],
-    types: &[(usize, usize)],
+    below: &[(u32, u32)],
+    types: &[(u32, u32)],
 ) -> Result<Outcome, Memory>
     ensures { IfOk result (λ v. IsMadeFor ontology.now v) }
 {
     let n = ontology.classes().len();
-    let taxonomy = taxonomy_of(alloc, below, n)?;
-    let types = type_rows(alloc, types, n, ontology.individuals().len())?;
+    let taxonomy = taxonomy_of(alloc, below, count(n)?)?;
+    let types = type_lists(alloc, types, n, count(ontology.individuals().len())?)?;
     Ok(Outcome::Consistent(taxonomy, types))
 }
 
@@ -174,7 +251,7 @@ fn is_told(
 fn is_taxonomy(
     alloc: Global,
     ontology: &Ontology,
-    below: &[(usize, usize)],
+    below: &[(u32, u32)],
     text: &str,
 ) -> Result<bool, Fail> {
     let outcome = outcome_of(alloc, ontology, below, &[])?;
@@ -202,11 +279,17 @@ const TWO_SUPERCLASSES: &str =
 const TYPES: &str =
     "elinst 1 consistent\n<x:a> : <x:A> , <x:C>\n<x:b> : <http://www.w3.org/2002/07/owl#Thing>\n<x:c> : <http://www.w3.org/2002/07/owl#Thing>\n";
 
+const EQUAL_SUPERCLASSES: &str =
+    "eltax 1 consistent\n<http://www.w3.org/2002/07/owl#Thing>\n<x:a> < <http://www.w3.org/2002/07/owl#Thing>\n<x:b> = <x:c> < <http://www.w3.org/2002/07/owl#Thing>\n<x:d> = <x:e> < <x:a> , <x:b>\nbottom <http://www.w3.org/2002/07/owl#Nothing>\n";
+
+const BARE_TYPES: &str =
+    "elinst 1 consistent\n<x:a> : <x:A> , <x:C>\n<x:b> : <http://www.w3.org/2002/07/owl#Nothing>\n<x:c>\n";
+
 /// The taxonomy has this text, where each class lies below what the pairs give it, and there are no instances.
 fn assert_taxonomy<R: AllocGlobal + Abort + RandomSource>(
     rt: &R,
     document: &str,
-    below: &[(usize, usize)],
+    below: &[(u32, u32)],
     text: &str,
 ) -> Result<(), Fail> {
     let ontology = ontology_of(rt, document)?;
@@ -275,7 +358,7 @@ fn two_direct_superclasses(rt: HostRuntime) -> Result<(), Fail> {
 /// The instances have this text, where A lies below B, and the pairs give each individual its types.
 fn assert_instances<R: AllocGlobal + Abort + RandomSource>(
     rt: &R,
-    types: &[(usize, usize)],
+    types: &[(u32, u32)],
     text: &str,
 ) -> Result<(), Fail> {
     let ontology = ontology_of(
@@ -293,7 +376,7 @@ Declaration(NamedIndividual(:a)) Declaration(NamedIndividual(:b)) Declaration(Na
 fn is_instances(
     alloc: Global,
     ontology: &Ontology,
-    types: &[(usize, usize)],
+    types: &[(u32, u32)],
     text: &str,
 ) -> Result<bool, Fail> {
     let outcome = outcome_of(alloc, ontology, &[(2, 3)], types)?;
@@ -302,7 +385,11 @@ fn is_instances(
 
 #[test]
 fn individuals_and_domain(rt: HostRuntime) -> Result<(), Fail> {
-    assert_instances(&rt, &[(0, 2), (0, 3), (0, 4)], TYPES)
+    assert_instances(
+        &rt,
+        &[(0, 0), (0, 2), (0, 3), (0, 4), (1, 0), (2, 0)],
+        TYPES,
+    )
 }
 
 /// The outcome of a contradiction.
@@ -333,6 +420,93 @@ fn contradiction_without_individual(rt: HostRuntime) -> Result<(), Fail> {
         "elinst 1 inconsistent\n",
     )?;
     assert!(rt; is_told);
+    Ok(())
+}
+
+/// Three rows: the first two classes are below each other, the third is below all.
+fn three_rows(alloc: Global) -> Result<Vec<Row>, Memory>
+    ensures { IfOk result (λ v. IsSquare v.items) }
+{
+    let mut pair = Row::new(alloc, 3)?;
+    pair.put(0);
+    pair.put(1);
+    let again = pair.copy(alloc)?;
+    let all = Row::full(alloc, 3)?;
+    Ok(Vec::from_array(alloc, [pair, again, all])?)
+}
+
+/// The taxonomy of the three rows.
+fn taxonomy_of_rows(alloc: Global) -> Result<Taxonomy, Memory> {
+    let relation = Relation::new(three_rows(alloc)?);
+    reduced(alloc, &relation)
+}
+
+#[test]
+fn classes_of_rows(rt: HostRuntime) -> Result<(), Fail> {
+    let taxonomy = taxonomy_of_rows(rt.alloc())?;
+    assert!(rt; taxonomy.len() == 3);
+    assert!(rt; taxonomy.is_same(0, 1) && !taxonomy.is_same(0, 2) && !taxonomy.is_same(2, 3));
+    assert!(rt; taxonomy.is_strictly_above(2, 0) && !taxonomy.is_strictly_above(0, 2));
+    Ok(())
+}
+
+#[test]
+fn equal_superclasses_of_equal_classes(rt: HostRuntime) -> Result<(), Fail> {
+    let below = [
+        (2, 3),
+        (2, 4),
+        (2, 5),
+        (2, 6),
+        (3, 2),
+        (3, 4),
+        (3, 5),
+        (3, 6),
+        (4, 5),
+        (5, 4),
+    ];
+    assert_taxonomy(
+        &rt,
+        "Ontology(Declaration(Class(<x:e>)) Declaration(Class(<x:d>)) Declaration(Class(<x:c>)) Declaration(Class(<x:b>)) Declaration(Class(<x:a>)))",
+        &below,
+        EQUAL_SUPERCLASSES,
+    )
+}
+
+#[test]
+fn superclass_that_stands_twice(rt: HostRuntime) -> Result<(), Fail> {
+    assert_taxonomy(
+        &rt,
+        "Ontology(Declaration(Class(<x:A>)) Declaration(Class(<x:B>)))",
+        &[(2, 3), (2, 3), (2, 2), (3, 0)],
+        ONE_SUBCLASS,
+    )
+}
+
+#[test]
+fn types_in_any_order(rt: HostRuntime) -> Result<(), Fail> {
+    assert_instances(
+        &rt,
+        &[(0, 4), (0, 3), (0, 2), (0, 0), (0, 4), (1, 0), (2, 0)],
+        TYPES,
+    )
+}
+
+#[test]
+fn types_without_what_is_above(rt: HostRuntime) -> Result<(), Fail> {
+    assert_instances(&rt, &[(0, 2), (0, 4), (1, 1), (1, 3)], BARE_TYPES)
+}
+
+#[test]
+fn lists_of_superclasses(rt: HostRuntime) -> Result<(), Fail> {
+    let lists = class_lists(rt.alloc(), &[(2, 1), (3, 2), (3, 9)], 4)?;
+    let relation = Relation::of_superclasses(rt.alloc(), &lists)?;
+    assert!(rt; relation.len() == 4);
+    assert!(rt;
+        relation.lies_below(2, 3) && relation.lies_below(1, 3) && relation.lies_below(3, 2)
+    );
+    assert!(rt;
+        !relation.lies_below(3, 1) && !relation.lies_below(0, 3) && !relation.lies_below(3, 9)
+    );
     Ok(())
 }
 

@@ -1,12 +1,14 @@
-use Rattle.std.proofs.Common.{◌++◌, ◌≡◌, ℕ, List, drop, map}
-use Rattle.taxonomy.specs.Texts.{line_with}
-use Rattle.axioms.specs.Numbered.{name_at}
+use Rattle.std.proofs.Common.{◌++◌, ◌≡◌, drop, length, map}
+use Rattle.taxonomy.specs.Texts.{individual_line}
 use Rattle.std.specs.List.{flat_map}
 use Rattle.std.specs.String.{string_bytes}
-use Rattle.taxonomy.specs.Lists.{list_at}
+use Rattle.taxonomy.specs.Marked.{HasRoom}
+use Rattle.taxonomy.specs.Relation.{is_listed}
 use Rattle.taxonomy.proofs.instances_text.write_individuals.Given as goal
 
 abbrev pub invariant-loop-a : goal.invariant-loop-a
 invariant-loop-a l =
-    let line : ℕ → List ℕ = λ a. line_with (map string_bytes l.classes) (name_at (map string_bytes l.individuals) a) (list_at l.least a) in
-    l.out.items ++ flat_map line (drop l.a-index l.order) ≡ l.fn.out.items ++ flat_map line l.order
+    let line = individual_line (map string_bytes l.names) (map string_bytes l.individuals) (is_listed l.classes) (is_listed l.types) in record {
+      room : HasRoom (length l.classes) l.marks;
+      text : l.out.items ++ flat_map line (drop l.a-index l.order) ≡ l.fn.out.items ++ flat_map line l.order;
+    }

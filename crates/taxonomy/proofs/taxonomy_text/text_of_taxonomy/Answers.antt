@@ -1,9 +1,11 @@
-use Rattle.std.proofs.Common.{length, map, ◌∙◌}
+use Rattle.std.proofs.Common.{map, sym, ap, ◌∙◌}
 use Rattle.std.specs.String.{string_bytes}
-use Rattle.std.proofs.lemmas.List.{length-map}
-use Rattle.taxonomy.proofs.Grouping.{order_below}
+use Rattle.taxonomy.specs.Texts.{taxonomy_text}
+use Rattle.taxonomy.proofs.Told.{told_as}
 use Rattle.taxonomy.proofs.taxonomy_text.text_of_taxonomy.Goals as goal
 
-pub write_in_order-requires-clause-within : goal.write_in_order-requires-clause-within
-write_in_order-requires-clause-within c =
-    order_below (map string_bytes c.args.names.now) (length c.args.taxonomy.now) c.deref.result.now (c.deref.ensures.value ∙ c.in_ok-order.ensures) (length-map c.args.names.now string_bytes ∙ c.requires)
+pub returns : goal.returns
+returns c =
+    c.in_ok-text.ensures
+    ∙ ap (λ r. taxonomy_text (map string_bytes c.args.names.now) r)
+    (sym (told_as c.taxonomy.inside.above c.args.taxonomy.now c.taxonomy.invariant.sets c.taxonomy.view_is))

@@ -1,0 +1,6 @@
+use Rattle.std.proofs.Common.{◌≡◌, filter, map, take}
+use Rattle.interpretation_spec.specs.Row.{has}
+use Rattle.taxonomy.proofs.collecting.each_members.Given as goal
+
+abbrev pub invariant-loop-row : goal.invariant-loop-row
+invariant-loop-row l = l.lists ≡ map (λ row. filter (has row) l.all) (take l.row-index l.rows)

@@ -1,9 +1,0 @@
-use Rattle.std.proofs.Common.{ℕ, ◌<◌, ◌≡◌, ◌++◌, length, take}
-use Rattle.taxonomy.specs.Lists.{copies, list_at}
-use Rattle.taxonomy.proofs.lists.Lists.push_to_each.Given as goal
-
-abbrev pub invariant-loop-k : goal.invariant-loop-k
-invariant-loop-k l = record {
-  long : length l.self ≡ length l.fn.self;
-  each : (k : ℕ) → k < length l.fn.self → list_at l.self k ≡ list_at l.fn.self k ++ copies l.x k (take l.k-index l.numbers);
-}
