@@ -11,3 +11,4 @@ pub mod Ordered
 pub mod LineMeaning
 pub mod RowMeaning
 pub mod Meaning
+pub mod LinesLeft

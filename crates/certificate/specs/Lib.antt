@@ -8,3 +8,4 @@ pub mod LineReading
 pub mod Fitting
 pub mod ListedReading
 pub mod Outcome
+pub mod Remaining

@@ -1,5 +1,5 @@
 -- Reading a whole certificate.
-use Rattle.std.specs.Prelude.{ℕ, zero, suc, ◌+◌, List, [], ◌∷◌, length, Option, Some, None, ◌&&◌, ◌==◌, nat_lt, if◌then◌else◌, codes}
+use Rattle.std.specs.Prelude.{ℕ, zero, suc, ◌+◌, List, [], ◌∷◌, length, Option, Some, None, Bool, true, false, ◌&&◌, ◌==◌, nat_lt, if◌then◌else◌, codes}
 use Rattle.axioms.specs.Numbered.{Ontology}
 use Rattle.certificate.specs.Certificate.{Line, Listed, Certificate}
 use Rattle.certificate.specs.Text.{line_feed}
@@ -91,3 +91,14 @@ certificate_at o =
 -- all of the bytes
 unfoldable pub whole : Ontology → List ℕ → Option Certificate
 whole o bytes = certificate_at o bytes >>= λ c. if length c.1 == 0 then Some c.0 else None
+
+-- ---- what stands behind the lines of a certificate that is read line by line
+
+-- the interpretation of a consistent certificate, and none of an inconsistent one
+unfoldable pub listed_if : Ontology → Bool → Reader (Option Listed)
+listed_if o true bytes = listed_at o bytes >>= λ x. Some (Some x.0, x.1)
+listed_if o false bytes = Some (None, bytes)
+
+-- .. in all of the bytes, with the last line
+unfoldable pub ending : Ontology → Bool → List ℕ → Option (Option Listed)
+ending o is_consistent bytes = ended (listed_if o is_consistent) (codes "end\n") bytes >>= λ x. if length x.1 == 0 then Some x.0 else None

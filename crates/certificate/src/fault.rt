@@ -1,8 +1,10 @@
 //! Why a certificate is not made or read.
 
 ghost use Rattle.std.specs.Prelude.{◌≡◌, length};
+ghost use Rattle.certificate.specs.declared.fault.CertFault.TheVariants as cert_faults;
 ghost use Rattle.certificate.specs.declared.fault.ReadFault.TheVariants as read_faults;
 
+use axioms::Memory;
 use std::alloc::{AllocError, AllocFailed};
 
 /// Why there is no certificate of some lines and an interpretation.
@@ -22,6 +24,14 @@ pub enum CertFault {
     BadText { at: usize },
     /// A growth of memory was refused.
     Memory,
+}
+
+impl From<Memory> for CertFault {
+    ghost from_gives = { λ _ e. e ≡ cert_faults.Memory };
+
+    fn from(_error: Memory) -> CertFault {
+        CertFault::Memory
+    }
 }
 
 /// Why reading stopped.

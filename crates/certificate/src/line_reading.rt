@@ -9,7 +9,7 @@ use crate::fault::{ReadFault, stopped};
 use crate::line::{Conclusion, Line, Rule, Subject};
 use crate::number::{after, number_at, small_at};
 use axioms::{ExprId, IndId, PropId};
-use std::alloc::{AllocError, Global};
+use std::alloc::AllocError;
 
 #[tactic(auto, unfolding(crate::specs::LineReading::subject_at))]
 fn subject_at(bytes: &[u8]) -> Option<(Subject, &[u8])>
@@ -89,10 +89,12 @@ fn premise_at(bytes: &[u8]) -> Option<(u64, &[u8])>
     number_at(after(b" ", bytes)?)
 }
 
-fn premises_at(alloc: Global, bytes: &[u8]) -> Result<(Vec<u64>, &[u8]), AllocError>
+// The premises at the front, in the list, whose room is used again.
+fn premises_at(room: Vec<u64>, bytes: &[u8]) -> Result<(Vec<u64>, &[u8]), AllocError>
     ensures { IfOk result (λ x. premises_at bytes.now ≡ Some (x.0.items, x.1.now)) }
 {
-    let mut items = Vec::new(alloc);
+    let mut items = room;
+    items.clear();
     let mut rest = bytes;
     while let Some((number, others)) = premise_at(rest) {
         items.push(number)?;
@@ -101,15 +103,15 @@ fn premises_at(alloc: Global, bytes: &[u8]) -> Result<(Vec<u64>, &[u8]), AllocEr
     Ok((items, rest))
 }
 
-/// The line at the front, of any numbers that fit the types.
+/// The line at the front, of any numbers that fit the types. Its premises take the room of the list.
 #[tactic(auto, unfolding(crate::specs::LineReading::line_at))]
-pub fn line_at(alloc: Global, bytes: &[u8]) -> Result<(Line, &[u8]), ReadFault>
+pub fn line_at(room: Vec<u64>, bytes: &[u8]) -> Result<(Line, &[u8]), ReadFault>
     ensures { Gives (λ x. (line_of x.0, x.1.now)) result (line_at bytes.now) }
 {
     let (conclusion, rest) = conclusion_at(bytes).ok_or(stopped(bytes))?;
     let (rule, rest) = rule_at(rest).ok_or(stopped(bytes))?;
     let (axiom, rest) = axiom_at(rest).ok_or(stopped(bytes))?;
-    let (premises, rest) = premises_at(alloc, rest)?;
+    let (premises, rest) = premises_at(room, rest)?;
     let rest = after(b"\n", rest).ok_or(stopped(bytes))?;
     let line = Line {
         conclusion,

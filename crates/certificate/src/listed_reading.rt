@@ -1,8 +1,8 @@
 //! The lines of a certificate at the front of bytes, one after another.
 
 ghost use Rattle.std.specs.Prelude.{◌≡◌, Some, option_map, IfOk, map};
-ghost use Rattle.certificate.specs.ListedReading.{fitting_line_at, lines_at, element_at, elements_at, class_row_at, fitting_class_at, classes_at, pair_row_at, fitting_pairs_at, pairs_at, individual_at, individuals_from, claim_row_at, fitting_claim_at, claims_at, domain_at, listed_at};
-ghost use Rattle.certificate.specs.View.{line_of, lines_of, class_row_of, pair_row_of, claim_of, listed_of};
+ghost use Rattle.certificate.specs.ListedReading.{fitting_line_at, element_at, elements_at, class_row_at, fitting_class_at, classes_at, pair_row_at, fitting_pairs_at, pairs_at, individual_at, individuals_from, claim_row_at, fitting_claim_at, claims_at, domain_at, listed_at, listed_if, ending};
+ghost use Rattle.certificate.specs.View.{line_of, class_row_of, pair_row_of, claim_of, listed_of};
 ghost use Rattle.certificate.specs.Outcome.{Gives};
 
 use crate::counts::individual_count;
@@ -16,14 +16,15 @@ use axioms::{ExprId, Ontology, PropId};
 use std::alloc::{AllocError, Global};
 
 #[tactic(auto, unfolding(crate::specs::ListedReading::fitting_line_at))]
-fn fitting_line_at<'a>(
-    alloc: Global,
+/// The line at the front, where it names what the ontology has. Its premises take the room of the list.
+pub fn fitting_line_at<'a>(
+    room: Vec<u64>,
     ontology: &Ontology,
     bytes: &'a [u8],
 ) -> Result<(Line, &'a [u8]), ReadFault>
     ensures { Gives (λ x. (line_of x.0, x.1.now)) result (fitting_line_at ontology.now bytes.now) }
 {
-    let (line, rest) = line_at(alloc, bytes)?;
+    let (line, rest) = line_at(room, bytes)?;
     if !fits_line(ontology, &line) {
         return Err(stopped(bytes));
     }
@@ -167,27 +168,6 @@ fn domain_at(bytes: &[u8]) -> Option<(u32, &[u8])>
     Some((domain, rest))
 }
 
-pub fn lines_at<'a>(
-    alloc: Global,
-    ontology: &Ontology,
-    bytes: &'a [u8],
-) -> Result<(Vec<Line>, &'a [u8]), AllocError>
-    ensures { IfOk result (λ x. lines_at ontology.now bytes.now ≡ Some (lines_of x.0.items, x.1.now)) }
-{
-    let mut lines = Vec::new(alloc);
-    let mut rest = bytes;
-    loop {
-        match fitting_line_at(alloc, ontology, rest) {
-            Ok((line, others)) => {
-                lines.push(line)?;
-                rest = others;
-            }
-            Err(ReadFault::Text { .. }) => return Ok((lines, rest)),
-            Err(ReadFault::Memory) => return Err(AllocError),
-        }
-    }
-}
-
 fn classes_at<'a>(
     alloc: Global,
     ontology: &Ontology,
@@ -276,8 +256,7 @@ fn claims_at<'a>(
 }
 
 #[tactic(auto, unfolding(crate::specs::ListedReading::listed_at, crate::specs::ListedReading::rows_at))]
-/// The listed interpretation at the front.
-pub fn listed_at<'a>(
+fn listed_at<'a>(
     alloc: Global,
     ontology: &Ontology,
     bytes: &'a [u8],
@@ -297,4 +276,38 @@ pub fn listed_at<'a>(
         claims,
     };
     Ok((listed, rest))
+}
+
+#[tactic(auto, unfolding(crate::specs::ListedReading::listed_if))]
+fn listed_if<'a>(
+    alloc: Global,
+    ontology: &Ontology,
+    is_consistent: bool,
+    bytes: &'a [u8],
+) -> Result<(Option<Listed>, &'a [u8]), ReadFault>
+    ensures { Gives (λ x. (option_map listed_of x.0, x.1.now)) result (listed_if ontology.now is_consistent bytes.now) }
+{
+    if !is_consistent {
+        return Ok((None, bytes));
+    }
+    let (listed, rest) = listed_at(alloc, ontology, bytes)?;
+    Ok((Some(listed), rest))
+}
+
+/// What stands behind the lines of a certificate: the listed interpretation of a consistent one, and then the last line.
+#[tactic(auto, unfolding(crate::specs::ListedReading::ending))]
+pub fn ending(
+    alloc: Global,
+    ontology: &Ontology,
+    is_consistent: bool,
+    bytes: &[u8],
+) -> Result<Option<Listed>, ReadFault>
+    ensures { Gives (λ x. option_map listed_of x) result (ending ontology.now is_consistent bytes.now) }
+{
+    let (listed, rest) = listed_if(alloc, ontology, is_consistent, bytes)?;
+    let rest = after(b"end\n", rest).ok_or(stopped(rest))?;
+    if !rest.is_empty() {
+        return Err(stopped(rest));
+    }
+    Ok(listed)
 }

@@ -1,51 +1,29 @@
 //! Certificates from their texts.
 
-ghost use Rattle.std.specs.Prelude.{◌≡◌, ◌≤◌, List, ℕ, IfOk, IfErr, length, Some};
+ghost use Rattle.std.specs.Prelude.{◌≡◌, List, [], ℕ, IfOk, IfErr};
 ghost use Rattle.axioms.specs.Numbered as numbered;
 ghost use Rattle.certificate.specs.Certificate as spec;
-ghost use Rattle.certificate.specs.HasText.{HasText, IsTextOf};
-ghost use Rattle.certificate.specs.Text.{certificate_text};
-ghost use Rattle.certificate.specs.ListedReading.{certificate_at, whole};
-ghost use Rattle.certificate.specs.Outcome.{Gives, IsRefused};
+ghost use Rattle.certificate.specs.HasText.{IsTextOf};
+ghost use Rattle.certificate.specs.Outcome.{IsRefused};
+ghost use Rattle.certificate.specs.Remaining.{with_lines};
+ghost use Rattle.certificate.specs.View.{lines_of};
 
 use crate::certificate::Certificate;
-use crate::fault::{CertFault, ReadFault, stopped};
-use crate::listed_reading::{lines_at, listed_at};
-use crate::number::after;
-use axioms::Ontology;
+use crate::fault::CertFault;
+use crate::line::Line;
+use crate::line_reader::LineReader;
+use axioms::{Memory, Ontology};
 use std::alloc::Global;
 
-#[tactic(auto, unfolding(crate::specs::ListedReading::certificate_at))]
-fn certificate_at<'a>(
-    alloc: Global,
-    ontology: &Ontology,
-    bytes: &'a [u8],
-) -> Result<(Certificate, &'a [u8]), ReadFault>
-    ensures { Gives (λ x. (x.0, x.1.now)) result (certificate_at ontology.now bytes.now) }
+// The lines of a certificate that is read, and the reader behind the last of them.
+fn all_lines(alloc: Global, reader: &mut LineReader) -> Result<Vec<Line>, Memory>
+    ensures { IfOk result (λ lines. (reader.old ≡ with_lines (lines_of lines.items) reader.new) × (reader.new.lines ≡ [])) }
 {
-    if let Some(rest) = after(b"elcert 1 consistent\n", bytes) {
-        let (lines, rest) = lines_at(alloc, ontology, rest)?;
-        let (listed, rest) = listed_at(alloc, ontology, rest)?;
-        let rest = after(b"end\n", rest).ok_or(stopped(rest))?;
-        let listed = Some(listed);
-        return Ok((Certificate { lines, listed }, rest));
+    let mut lines = Vec::new(alloc);
+    while let Some(line) = reader.next(Vec::new(alloc))? {
+        lines.push(line)?;
     }
-    let rest = after(b"elcert 1 inconsistent\n", bytes).ok_or(stopped(bytes))?;
-    let (lines, rest) = lines_at(alloc, ontology, rest)?;
-    let rest = after(b"end\n", rest).ok_or(stopped(rest))?;
-    let listed = None;
-    Ok((Certificate { lines, listed }, rest))
-}
-
-#[tactic(auto, unfolding(crate::specs::ListedReading::whole))]
-fn whole(alloc: Global, ontology: &Ontology, bytes: &[u8]) -> Result<Certificate, ReadFault>
-    ensures { Gives (λ c. c) result (whole ontology.now bytes.now) }
-{
-    let (certificate, rest) = certificate_at(alloc, ontology, bytes)?;
-    if !rest.is_empty() {
-        return Err(stopped(rest));
-    }
-    Ok(certificate)
+    Ok(lines)
 }
 
 /// The certificate whose text the bytes are.
@@ -60,13 +38,10 @@ pub fn read_certificate(
     ensures found { IfOk result (λ c. IsTextOf ontology.now bytes.now c) }
     ensures refused { IfErr result (λ fault. IsRefused fault ontology.now bytes.now) }
 {
-    match whole(alloc, ontology, bytes) {
-        Ok(certificate) => Ok(certificate),
-        Err(ReadFault::Text { left }) => Err(CertFault::BadText {
-            at: bytes.len().saturating_sub(left),
-        }),
-        Err(ReadFault::Memory) => Err(CertFault::Memory),
-    }
+    let mut reader = LineReader::new(ontology, bytes)?;
+    let lines = all_lines(alloc, &mut reader)?;
+    let listed = reader.finish(alloc)?;
+    Ok(Certificate { lines, listed })
 }
 
 /// A text is that of one certificate.

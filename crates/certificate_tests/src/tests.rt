@@ -4,8 +4,8 @@ ghost use Rattle.certificate.specs.HasText.{HasText};
 
 use axioms::{ExprId, IndId, Ontology, PropId};
 use certificate::{
-    CertFault, Certificate, Claim, Conclusion, Line, MakeFault, Rule, Subject, certificate_bytes,
-    one_certificate, one_text, read_certificate, write_certificate,
+    CertFault, Certificate, Claim, Conclusion, Line, LineReader, MakeFault, Rule, Subject,
+    certificate_bytes, one_certificate, one_text, read_certificate, write_certificate,
 };
 use device::BufferSink;
 use document::read_bytes;
@@ -109,6 +109,106 @@ fn assert_kept<R: AllocGlobal + Abort>(rt: &R, ontology: &Ontology) -> Result<()
 fn certificate_of_one_subclass(rt: HostRuntime) -> Result<(), Fail> {
     let ontology = one_subclass(&rt)?;
     assert_kept(&rt, &ontology)
+}
+
+/// Whether the reader gives these lines, one after another, and then no more.
+fn gives_lines(alloc: Global, reader: &mut LineReader, lines: &[Line]) -> Result<bool, Fail> {
+    let mut room = Vec::new(alloc);
+    for expected in lines {
+        let Some(line) = reader.next(room)? else {
+            return Ok(false);
+        };
+        if line != *expected {
+            return Ok(false);
+        }
+        room = line.premises;
+    }
+    Ok(reader.next(room)?.is_none())
+}
+
+/// Whether a reader gives the lines of the certificate that is read from the text.
+fn gives_all(alloc: Global, ontology: &Ontology, text: &[u8]) -> Result<bool, Fail> {
+    let certificate = read_certificate(alloc, ontology, text)?;
+    let mut reader = LineReader::new(ontology, text)?;
+    gives_lines(alloc, &mut reader, certificate.lines())
+}
+
+/// Lines with no premise, with two and with one, one after another.
+const LINES: &[u8] =
+    b"elcert 1 inconsistent\nsub e0 e0 K1\nedge i0 p0 i1 K11 18446744073709551615 2\nsub i0 e2 K9 1\nend\n";
+
+#[test]
+fn lines_one_after_another(rt: HostRuntime) -> Result<(), Fail> {
+    let ontology = one_subclass(&rt)?;
+    assert!(rt; gives_all(rt.alloc(), &ontology, TEXT)?);
+    let ontology = names(&rt)?;
+    assert!(rt; gives_all(rt.alloc(), &ontology, LINES)?);
+    Ok(())
+}
+
+/// Where the reader, which gives so many lines, refuses what stands behind them, and whether it lists an interpretation.
+fn place_behind(
+    alloc: Global,
+    reader: &mut LineReader,
+    lines: usize,
+) -> Result<(Option<usize>, bool), Fail> {
+    for _ in 0..lines {
+        if reader.next(Vec::new(alloc))?.is_none() {
+            return Err(Fail::from("one more line"));
+        }
+    }
+    match reader.next(Vec::new(alloc))? {
+        Some(_) => Err(Fail::from("no more lines")),
+        None => match reader.finish(alloc) {
+            Ok(listed) => Ok((None, listed.is_some())),
+            Err(CertFault::BadText { at }) => Ok((Some(at), false)),
+            Err(CertFault::Memory) => Err(Fail::from("memory")),
+        },
+    }
+}
+
+/// The same of the text, whose first line is that of a certificate.
+fn place_behind_lines(
+    alloc: Global,
+    ontology: &Ontology,
+    text: &[u8],
+    lines: usize,
+) -> Result<(Option<usize>, bool), Fail> {
+    let mut reader = LineReader::new(ontology, text)?;
+    place_behind(alloc, &mut reader, lines)
+}
+
+#[test]
+fn a_line_that_names_what_is_not_there(rt: HostRuntime) -> Result<(), Fail> {
+    let ontology = names(&rt)?;
+    let text = b"elcert 1 inconsistent\nsub e0 e0 K1\nsub e9 e0 K2\nsub e0 e0 K1\nend\n";
+    assert!(rt; place_behind_lines(rt.alloc(), &ontology, text, 1)? == (Some(35), false));
+    assert!(rt; place_behind_lines(rt.alloc(), &ontology, LINES, 3)? == (None, false));
+    Ok(())
+}
+
+#[test]
+fn an_interpretation_behind_lines(rt: HostRuntime) -> Result<(), Fail> {
+    let ontology = one_subclass(&rt)?;
+    assert!(rt; place_behind_lines(rt.alloc(), &ontology, TEXT, 7)? == (None, true));
+    Ok(())
+}
+
+#[test]
+fn a_text_of_no_certificate(rt: HostRuntime) -> Result<(), Fail> {
+    let ontology = names(&rt)?;
+    for text in [
+        &b""[..],
+        b"elcert 2 consistent\nend\n",
+        b"elcert 1 consistent",
+    ] {
+        let refused = matches!(
+            LineReader::new(&ontology, text),
+            Err(CertFault::BadText { at: 0 })
+        );
+        assert!(rt; refused);
+    }
+    Ok(())
 }
 
 #[test]

@@ -1,12 +1,9 @@
-use Rattle.std.proofs.Common.{sym, ◌∙◌, arith}
-use Rattle.std.proofs.lemmas.Option.{none-some}
-use Rattle.certificate.proofs.Meaning.{text_found, text_read}
+use Rattle.std.proofs.Common.{option_map}
+use Rattle.certificate.specs.View.{lines_of, listed_of}
+use Rattle.certificate.proofs.LinesLeft.{all_read_certificate}
 use Rattle.certificate.proofs.reading.read_certificate.Goals as goal
 
-pub returns-in-Ok-clause-found : goal.returns-in-Ok-clause-found
-returns-in-Ok-clause-found c = text_found c.args.ontology.now c.args.bytes.now c.in-Ok.certificate c.in-Ok.ensures
-
-pub returns-in-Err-Text-clause-refused : goal.returns-in-Err-Text-clause-refused
-returns-in-Err-Text-clause-refused c =
-    let none = rw c.in-Err-Text.field-0-is at c.in-Err-Text.ensures in
-    (omega arith, λ d t. none-some d (sym none ∙ text_read c.args.ontology.now c.args.bytes.now d t))
+pub returns-clause-found : goal.returns-clause-found
+returns-clause-found c =
+    all_read_certificate c.args.ontology.now c.args.bytes.now c.in_ok-reader.reader c.all_lines.new.reader (lines_of c.in_ok-lines.lines.items)
+    (option_map listed_of c.in_ok-listed.listed) c.in_ok-reader.ensures.start c.in_ok-lines.ensures.0 c.in_ok-lines.ensures.1 c.in_ok-listed.ensures.listed
