@@ -7,7 +7,7 @@ use Rattle.axioms.specs.Expression.{Iri, Named}
 use Rattle.axioms.specs.Numbered.{Ontology, IsClassAt, name_at, property_name, individual_name, nothing, thing, expression}
 use Rattle.axioms.specs.WellFormed.{IsOntology}
 use Rattle.axioms.proofs.Trees.{class_tree}
-use Rattle.cert_check.specs.Acceptable.{IsListing}
+use Rattle.listed_model.specs.Listing.{IsListing}
 use Rattle.certificate.specs.Certificate.{Listed}
 use Rattle.certificate.specs.HasText.{IsListedOf}
 use Rattle.closure.specs.Closure.{Context, Individual, In, IsFact}

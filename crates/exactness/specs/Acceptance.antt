@@ -8,7 +8,8 @@ use Rattle.taxonomy.specs.Texts.{taxonomy_text, instances_text}
 use Rattle.certificate.specs.Certificate.{Line, Listed, Certificate}
 use Rattle.certificate.specs.HasText.{IsTextOf}
 use Rattle.cert_check.specs.Derivation.{IsDerivation}
-use Rattle.cert_check.specs.Acceptable.{IsListing, IsContradictionShown, IsAcceptable}
+use Rattle.cert_check.specs.Acceptable.{IsContradictionShown, IsAcceptable}
+use Rattle.listed_model.specs.Listing.{IsListing}
 use Rattle.closure.specs.Closure.{Context, Expression, Individual, In, IsFact}
 use Rattle.normal_forms.specs.Forms.{Whole}
 use Rattle.closure_model.specs.Listed.{IsListedInterpretation, IsConsistent}

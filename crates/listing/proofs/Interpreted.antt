@@ -17,7 +17,7 @@ use Rattle.interpretation_spec.specs.Interpretation.{Interpretation}
 use Rattle.interpretation_spec.specs.ByName.{number_of}
 use Rattle.certificate.specs.Certificate.{Listed}
 use Rattle.certificate.specs.HasText.{IsListedOf, IsNamedClass, listed_numbers}
-use Rattle.cert_check.specs.Acceptable.{IsListing, elements_of, targets_of}
+use Rattle.listed_model.specs.Listing.{IsListing, elements_of, targets_of}
 use Rattle.closure.specs.Closure.{Context, Expression, Individual, In, IsFact, IsRoot}
 use Rattle.closure.proofs.Facts as fact
 use Rattle.normal_forms.specs.Forms.{Whole}

@@ -2,7 +2,7 @@
 use Rattle.std.specs.Prelude.{◌≡◌, ◌↔◌, ◌≤◌, ℕ, List, [], length, map, slice_get, Some}
 use Rattle.std.specs.List.{All, Contains}
 use Rattle.axioms.specs.Numbered.{Ontology, IsClassAt}
-use Rattle.cert_check.specs.Acceptable.{elements_of}
+use Rattle.listed_model.specs.Listing.{elements_of}
 use Rattle.certificate.specs.HasText.{AreElements, Ascends, IsNamedClass}
 use Rattle.closure.specs.Closure.{Context, Expression, Individual, In, IsFact}
 use Rattle.normal_forms.specs.Forms.{Whole}

@@ -7,7 +7,7 @@ use Rattle.std.proofs.lemmas.List.Elements.{All-contains, All-nil, All-push, Con
 use Rattle.lemmas.proofs.Mapped.{Contains-map, slice_get_map_from}
 use Rattle.lemmas.proofs.Members.{Contains-cons_cases, Contains-first, Contains-from_slice_get, Contains-later, Contains-none, slice_get-from_Contains}
 use Rattle.certificate.specs.HasText.{Ascends, IsPairBefore}
-use Rattle.cert_check.specs.Acceptable.{targets_of}
+use Rattle.listed_model.specs.Listing.{targets_of}
 use Rattle.cert_check.specs.Additions.{SomeRow}
 use Rattle.cert_check.proofs.ListedRows.{listed_target}
 use Rattle.pair_rows.specs.declared.pair.Pair.{Pair}

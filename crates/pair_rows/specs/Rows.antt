@@ -2,7 +2,7 @@
 use Rattle.std.specs.Prelude.{◌≡◌, ◌↔◌, ◌<◌, ℕ, List, [], length, slice_get, Some}
 use Rattle.std.specs.List.{All, AllPairs, Contains}
 use Rattle.axioms.specs.Numbered.{Ontology}
-use Rattle.cert_check.specs.Acceptable.{targets_of}
+use Rattle.listed_model.specs.Listing.{targets_of}
 use Rattle.certificate.specs.HasText.{AreElements, IsPairBefore}
 use Rattle.closure.specs.Closure.{Context}
 use Rattle.closure_model.specs.Listed.{HasEdge}

@@ -1,0 +1,111 @@
+-- Which rows have an element among their targets, and what their sources are.
+use Rattle.std.proofs.Common.{◌≡◌, ◌↔◌, ◌⊎◌, inl, inr, ℕ, zero, suc, ◌+◌, ◌<◌, List, [], ◌∷◌, ◌++◌, true, length, map, take, get_or, slice_get, Some, All, eqb, refl, sym, ap, ap₂, ◌∙◌, subst, arith, true≢false}
+use Rattle.std.specs.Prelude.{◌||◌}
+use Rattle.std.proofs.lemmas.Bool.{cases_eq, eq-eqb, ne_eqb, or_cases, or_left, or_right, cases_lt}
+use Rattle.std.proofs.lemmas.List.{get_or-map, length-map}
+use Rattle.std.proofs.lemmas.List.Elements.{Contains-get_or}
+use Rattle.std.proofs.lemmas.List.Folds.{list_any-append}
+use Rattle.std.proofs.lemmas.Option.{same_Some, slice_get_within, get_or_from_slice_get}
+use Rattle.lemmas.proofs.Places.{slice_get_there}
+use Rattle.certificate.specs.View.{pair_row_of}
+use Rattle.certificate.specs.declared.listed.PairRow.{PairRow}
+use Rattle.number_sets.specs.Pieces.{list_at}
+use Rattle.number_sets.specs.Turned.{copies, holders, holders_below}
+use Rattle.number_sets.proofs.Growing.{holders_more}
+use Rattle.listed_model.specs.Listing.{targets_of}
+use Rattle.listed_model.specs.Members.{holds}
+use Rattle.listed_model.specs.Rows.{ArePairRows, IsHolders, IsSourceAmong}
+use Rattle.listed_model.proofs.Members.{holds_from_Contains}
+use Rattle.listed_model.proofs.Found.{targets_found, target_row}
+use Rattle.listed_model.proofs.Walks.{holds_next}
+
+-- ---- lists turned around
+
+copies_mean : (x y : ℕ) (numbers : List ℕ) (k : ℕ) → (holds (copies x y numbers) k ≡ true) ↔ ((x ≡ k) × (holds numbers y ≡ true))
+copies_mean x y [] k = (λ h. absurd (true≢false (sym h)), λ p. absurd (true≢false (sym p.1)))
+copies_mean x y (z ∷ zs) k = go (cases_eq z y) (copies_mean x y zs k)
+  where
+    go : (z ≡ y) ⊎ (z ≡ y → ⊥) → (holds (copies x y zs) k ≡ true) ↔ ((x ≡ k) × (holds zs y ≡ true)) → (holds (copies x y (z ∷ zs)) k ≡ true) ↔ ((x ≡ k) × (holds (z ∷ zs) y ≡ true))
+    go (inr ne) rest = rw (ne_eqb z y ne) rest
+    go (inl e) rest = rw (eq-eqb z y e) (
+      λ h. elim (cases_eq x k) [ inl f ↦ (f, refl) | inr ne ↦ ((rest.0 (rw (ne_eqb x k ne) at h)).0, refl) ],
+      λ p. rw (eq-eqb x k p.0) refl,
+    )
+
+below_mean : (n : ℕ) (lists : List (List ℕ)) (y k : ℕ) → (holds (holders_below n lists y) k ≡ true) ↔ ((k < n) × (holds (list_at lists k) y ≡ true))
+below_mean zero lists y k = (λ h. absurd (true≢false (sym h)), λ p. absurd (omega (arith, p.0)))
+below_mean (suc n) lists y k =
+    let rest = below_mean n lists y k in
+    let next : suc n ≡ n + 1 = omega arith in
+    let is : holders_below (suc n) lists y ≡ holders_below n lists y ++ copies n y (list_at lists n) = ap (λ m. holders_below m lists y) next ∙ holders_more n lists y in
+    let parts : holds (holders_below (suc n) lists y) k ≡ (holds (holders_below n lists y) k || holds (copies n y (list_at lists n)) k) = ap (λ xs. holds xs k) is ∙ list_any-append (λ v. eqb v k) (holders_below n lists y) (copies n y (list_at lists n)) in
+    let last = copies_mean n y (list_at lists n) k in (
+      λ h. elim (or_cases (holds (holders_below n lists y) k) (holds (copies n y (list_at lists n)) k) (sym parts ∙ h)) [
+        | inl a ↦ (let (l, t) = rest.0 a in (omega arith, t))
+        | inr b ↦ (let (e, t) = last.0 b in (omega arith, ap (λ m. holds (list_at lists m) y) (sym e) ∙ t))
+      ],
+      λ (l, t). parts ∙ elim (cases_lt k n) [
+        | inl a ↦ or_left (holds (holders_below n lists y) k) (holds (copies n y (list_at lists n)) k) (rest.1 (a, t))
+        | inr b ↦ (let e : n ≡ k = omega arith in or_right (holds (holders_below n lists y) k) (holds (copies n y (list_at lists n)) k) (last.1 (e, ap (λ m. holds (list_at lists m) y) e ∙ t)))
+      ],
+    )
+
+-- the rows' targets turned around
+pub turned_rows : (rows : List PairRow) (lists : List (List ℕ)) (y : ℕ) (places : List ℕ) → lists ≡ map (λ (row : PairRow). row.targets.items) rows → places ≡ holders lists y → IsHolders rows y places
+turned_rows rows lists y places are is k =
+    let T : PairRow → List ℕ = λ row. row.targets.items in
+    let mean = below_mean (length lists) lists y k in
+    let long : length lists ≡ length rows = ap length are ∙ length-map rows T in (
+      λ h.
+          let (l, t) = mean.0 (ap (λ xs. holds xs k) (sym is) ∙ h) in
+          let (row, g) = there rows k (omega arith) in
+          (row, g, ap (λ xs. holds xs y) (sym (at_row rows lists k row are g)) ∙ t),
+      λ (row, g, t).
+          let within = slice_get_within rows k row g in
+          ap (λ xs. holds xs k) is ∙ mean.1 (omega arith, ap (λ xs. holds xs y) (at_row rows lists k row are g) ∙ t),
+    )
+  where
+    there : (rows : List PairRow) (k : ℕ) → k < length rows → (row : PairRow) × (slice_get rows k ≡ Some row)
+    there rows k l = slice_get_there rows k l
+
+    at_row : (rows : List PairRow) (lists : List (List ℕ)) (k : ℕ) (row : PairRow) → lists ≡ map (λ (row : PairRow). row.targets.items) rows → slice_get rows k ≡ Some row → list_at lists k ≡ row.targets.items
+    at_row rows lists k row are g =
+        ap (λ ls. list_at ls k) are ∙ get_or-map (λ (row : PairRow). row.targets.items) rows k row [] (slice_get_within rows k row g) ∙ ap (λ (w : PairRow). w.targets.items) (get_or_from_slice_get rows k row row g)
+
+-- ---- sources
+
+-- a place more
+pub one_place_more : (rows : List PairRow) (places : List ℕ) (i r x : ℕ) (row : PairRow) → i < length places → slice_get rows (get_or places i 0) ≡ Some row
+    → IsSourceAmong rows (take (i + 1) places) r x ↔ (IsSourceAmong rows (take i places) r x ⊎ ((row.property.0 ≡ r) × (row.source ≡ x)))
+one_place_more rows places i r x row l g = (
+  λ (k, other, t, h, p, s). elim ((holds_next places i 0 k l).0 t) [
+    | inl m ↦ inl (k, other, m, h, p, s)
+    | inr e ↦
+        (let same : other ≡ row = same_Some other row (sym h ∙ ap (slice_get rows) (sym e) ∙ g) in
+        inr (ap (λ (w : PairRow). w.property.0) (sym same) ∙ p, ap (λ (w : PairRow). w.source) (sym same) ∙ s))
+  ],
+  λ h. elim h [
+    | inl (k, other, m, g', p, s) ↦ (k, other, (holds_next places i 0 k l).1 (inl m), g', p, s)
+    | inr (p, s) ↦ (get_or places i 0, row, (holds_next places i 0 (get_or places i 0) l).1 (inr refl), g, p, s)
+  ],
+)
+
+-- the sources of the rows at the places of an element are those that the property joins to it
+pub joined_by : (rows : List PairRow) (r x y : ℕ) (places : List ℕ) → ArePairRows rows → IsHolders rows y places → IsSourceAmong rows places r x ↔ (holds (targets_of (map pair_row_of rows) r x) y ≡ true)
+joined_by rows r x y places given those = (
+  λ (k, row, t, g, p, s).
+      let (other, h, u) = (those k).0 t in
+      let same : other ≡ row = same_Some other row (sym h ∙ g) in
+      let is = ap₂ (targets_of (map pair_row_of rows)) (sym p) (sym s) ∙ targets_found rows given.ordered k row g in
+      ap (λ ts. holds ts y) is ∙ subst (λ (w : PairRow). holds w.targets.items y ≡ true) same u,
+  λ t.
+      let (k, row, g, p, s, u) = target_row rows r x y t in
+      (k, row, (those k).1 (row, g, u), g, p, s),
+)
+
+-- the places are those of rows
+pub places_there : (rows : List PairRow) (y : ℕ) (places : List ℕ) → IsHolders rows y places → All (λ k. k < length rows) places
+places_there rows y places those k d l =
+    let place = get_or places k d in
+    let (row, g, t) = (those place).0 (holds_from_Contains places place (Contains-get_or places k d l)) in
+    slice_get_within rows place row g

@@ -1,0 +1,196 @@
+-- What lists and rows say of axioms, shape by shape.
+use Rattle.std.proofs.Common.{◌≡◌, ◌↔◌, ◌⊎◌, inl, inr, ℕ, ◌<◌, List, [], ◌∷◌, true, length, map, get_or, All, AllPairs, refl, sym, ap, ap₂, ◌∙◌, subst, subst₂, arith, true≢false}
+use Rattle.std.specs.List.{list_all}
+use Rattle.std.specs.Cmp.{both_ways}
+use Rattle.std.proofs.lemmas.Bool.{cases_order}
+use Rattle.std.proofs.lemmas.List.Elements.{All-head, All-tail, All-contains}
+use Rattle.std.proofs.lemmas.List.Kept.{AllPairs-from_increasing}
+use Rattle.std.proofs.lemmas.Option.{slice_get_within, get_or_from_slice_get}
+use Rattle.lemmas.proofs.Members.{Contains-first, Contains-later, Contains-cons_cases}
+use Rattle.lemmas.proofs.Pairs.{AllPairs-head, AllPairs-tail, AllPairs-map, AllPairs-from_map}
+use Rattle.axioms.specs.Axiom as tree
+use Rattle.axioms.specs.Numbered.{Ontology, expression, expressions, property_name, individual_name}
+use Rattle.axioms.specs.WellFormed.{IsOntology}
+use Rattle.certificate.specs.Certificate.{Listed}
+use Rattle.certificate.specs.HasText.{IsListedOf}
+use Rattle.interpretation_spec.specs.Interpretation.{IsIn, IsWithin, IsSame, IsApart, HasPath, IsSubProperty, IsSameProperty, Satisfies}
+use Rattle.number_sets.specs.Pieces.{list_at}
+use Rattle.listed_model.specs.Listing.{targets_of}
+use Rattle.listed_model.specs.Interpreted.{listed_interpretation}
+use Rattle.listed_model.specs.Members.{holds}
+use Rattle.listed_model.specs.Extensions.{IsExtension, AreExtensions}
+use Rattle.listed_model.specs.Rows.{HasListedPath}
+use Rattle.listed_model.proofs.Members.{holds_from_Contains, Contains_from_holds}
+use Rattle.listed_model.proofs.Interpreted.{property_is, individual_is, size_is}
+use Rattle.listed_model.proofs.Extensions.{target_within}
+use Rattle.listed_model.proofs.Walks.{list_all_means}
+
+-- ---- lists
+
+abbrev Rises : List ℕ → Type 0
+Rises xs = AllPairs (λ x y. x < y) xs
+
+-- a member of a list is its head or a later one
+first_holds : (x : ℕ) (xs : List ℕ) → holds (x ∷ xs) x ≡ true
+first_holds x xs = holds_from_Contains (x ∷ xs) x (Contains-first x xs)
+
+later_holds : (x y : ℕ) (xs : List ℕ) → holds xs y ≡ true → holds (x ∷ xs) y ≡ true
+later_holds x y xs h = holds_from_Contains (x ∷ xs) y (Contains-later x y xs (Contains_from_holds xs y h))
+
+holds_cases : (x y : ℕ) (xs : List ℕ) → holds (x ∷ xs) y ≡ true → (x ≡ y) ⊎ (holds xs y ≡ true)
+holds_cases x y xs h = elim (Contains-cons_cases x y xs (Contains_from_holds (x ∷ xs) y h)) [ inl e ↦ inl e | inr c ↦ inr (holds_from_Contains xs y c) ]
+
+above_head : (x : ℕ) (xs : List ℕ) → Rises (x ∷ xs) → (z : ℕ) → holds xs z ≡ true → x < z
+above_head x xs h z m = All-contains (λ v. x < v) xs z (AllPairs-head (λ a b. a < b) x xs h) (Contains_from_holds xs z m)
+
+-- ascending lists with the same members are the same
+same_members : (xs ys : List ℕ) → Rises xs → Rises ys → ((z : ℕ) → (holds xs z ≡ true) ↔ (holds ys z ≡ true)) → xs ≡ ys
+same_members [] [] p q h = refl
+same_members [] (y ∷ ys) p q h = absurd (true≢false (sym ((h y).1 (first_holds y ys))))
+same_members (x ∷ xs) [] p q h = absurd (true≢false (sym ((h x).0 (first_holds x xs))))
+same_members (x ∷ xs) (y ∷ ys) p q h =
+    let tails : x ≡ y → (z : ℕ) → (holds xs z ≡ true) ↔ (holds ys z ≡ true) = λ e z. (
+      λ m. (let l = above_head x xs p z m in elim (holds_cases y z ys ((h z).0 (later_holds x z xs m))) [ inl s ↦ absurd (omega arith) | inr n ↦ n ]),
+      λ m. (let l = above_head y ys q z m in elim (holds_cases x z xs ((h z).1 (later_holds y z ys m))) [ inl s ↦ absurd (omega arith) | inr n ↦ n ]),
+    ) in
+    let rest = same_members xs ys (AllPairs-tail (λ a b. a < b) x xs p) (AllPairs-tail (λ a b. a < b) y ys q) in
+    elim (cases_order x y) [
+      | inl e ↦ ap₂ (λ a b. a ∷ b) e (rest (tails e))
+      | inr (inl l) ↦ elim (holds_cases y x ys ((h x).0 (first_holds x xs))) [ inl e ↦ absurd (omega arith) | inr m ↦ (let k = above_head y ys q x m in absurd (omega arith)) ]
+      | inr (inr l) ↦ elim (holds_cases x y xs ((h y).1 (first_holds y ys))) [ inl e ↦ absurd (omega arith) | inr m ↦ (let k = above_head x xs p y m in absurd (omega arith)) ]
+    ]
+
+-- what is said of each two numbers is said of what they stand for
+pairs_said : {B : Type 0} (P : ℕ → Type 0) (R : ℕ → ℕ → Type 0) (S : B → B → Type 0) (f : ℕ → B) → ((c d : ℕ) → P c → P d → R c d ↔ S (f c) (f d)) → (xs : List ℕ) → All P xs → AllPairs R xs ↔ AllPairs S (map f xs)
+pairs_said P R S f said xs all = (
+  λ h. AllPairs-map S f xs (λ a b c d l gc gd.
+      let la = slice_get_within xs a c gc in
+      let lb = slice_get_within xs b d gd in
+      let ec = get_or_from_slice_get xs a c 0 gc in
+      let ed = get_or_from_slice_get xs b d 0 gd in
+      (said c d (subst P ec (all a 0 la)) (subst P ed (all b 0 lb))).0 (subst₂ R ec ed (h a b 0 l lb))),
+  λ h a b d l lb. (said (get_or xs a d) (get_or xs b d) (all a d (omega arith)) (all b d lb)).1 (AllPairs-from_map S f xs h a b d l lb),
+)
+
+module _ (o : Ontology) (w : IsOntology o) (l : Listed) (fits : IsListedOf o l) where
+  inside : (x : ℕ) → x < (listed_interpretation o l).size → x < l.domain
+  inside x h = subst (λ (n : ℕ). x < n) (size_is o w l) h
+
+  outside : (x : ℕ) → x < l.domain → x < (listed_interpretation o l).size
+  outside x h = subst (λ (n : ℕ). x < n) (sym (size_is o w l)) h
+
+  -- ---- classes
+
+  members_within : (c d : ℕ) (xs ys : List ℕ) → IsExtension o l c xs → IsExtension o l d ys → ((x : ℕ) → holds xs x ≡ true → holds ys x ≡ true) ↔ IsWithin (listed_interpretation o l) (expression o c) (expression o d)
+  members_within c d xs ys p q = (
+    λ h x lx m. ((q.members x).0 (h x ((p.members x).1 (inside x lx, m)))).1,
+    λ h x t. (let (lx, m) = (p.members x).0 t in (q.members x).1 (lx, h x (outside x lx) m)),
+  )
+
+  pub within_said : (c d : ℕ) (xs ys : List ℕ) → IsExtension o l c xs → IsExtension o l d ys → (list_all (holds ys) xs ≡ true) ↔ IsWithin (listed_interpretation o l) (expression o c) (expression o d)
+  within_said c d xs ys p q = (
+    λ h. (members_within c d xs ys p q).0 ((list_all_means ys xs).0 h),
+    λ h. (list_all_means ys xs).1 ((members_within c d xs ys p q).1 h),
+  )
+
+  same_said : (c d : ℕ) (xs ys : List ℕ) → IsExtension o l c xs → IsExtension o l d ys → (xs ≡ ys) ↔ IsSame (listed_interpretation o l) (expression o c) (expression o d)
+  same_said c d xs ys p q = (
+    λ e. ((members_within c d xs ys p q).0 (λ x t. ap (λ zs. holds zs x) (sym e) ∙ t), (members_within d c ys xs q p).0 (λ x t. ap (λ zs. holds zs x) e ∙ t)),
+    λ h. same_members xs ys (AllPairs-from_increasing xs p.ascending) (AllPairs-from_increasing ys q.ascending) (λ z. ((members_within c d xs ys p q).1 h.0 z, (members_within d c ys xs q p).1 h.1 z)),
+  )
+
+  apart_said : (c d : ℕ) (xs ys : List ℕ) → IsExtension o l c xs → IsExtension o l d ys → ((x : ℕ) → holds xs x ≡ true → holds ys x ≡ true → ⊥) ↔ IsApart (listed_interpretation o l) (expression o c) (expression o d)
+  apart_said c d xs ys p q = (
+    λ h x lx m n. h x ((p.members x).1 (inside x lx, m)) ((q.members x).1 (inside x lx, n)),
+    λ h x s t. (let (lx, m) = (p.members x).0 s in h x (outside x lx) m ((q.members x).0 t).1),
+  )
+
+  pub all_same_said : (made : List (List ℕ)) → AreExtensions o l made → (ds : List ℕ) → All (λ d. d < length made) ds
+      → AllPairs (λ c d. list_at made c ≡ list_at made d) ds ↔ AllPairs (IsSame (listed_interpretation o l)) (expressions o ds)
+  all_same_said made each ds all = pairs_said (λ d. d < length made) (λ c d. list_at made c ≡ list_at made d) (IsSame (listed_interpretation o l)) (expression o)
+      (λ c d p q. same_said c d (list_at made c) (list_at made d) (each c p) (each d q)) ds all
+
+  pub all_apart_said : (made : List (List ℕ)) → AreExtensions o l made → (ds : List ℕ) → All (λ d. d < length made) ds
+      → AllPairs (λ c d. (x : ℕ) → holds (list_at made c) x ≡ true → holds (list_at made d) x ≡ true → ⊥) ds ↔ AllPairs (IsApart (listed_interpretation o l)) (expressions o ds)
+  all_apart_said made each ds all = pairs_said (λ d. d < length made) (λ c d. (x : ℕ) → holds (list_at made c) x ≡ true → holds (list_at made d) x ≡ true → ⊥) (IsApart (listed_interpretation o l)) (expression o)
+      (λ c d p q. apart_said c d (list_at made c) (list_at made d) (each c p) (each d q)) ds all
+
+  -- ---- properties
+
+  path_said : (rs : List ℕ) → All (λ r. r < length o.names.properties) rs → (x y : ℕ) → HasListedPath l.pairs rs x y ↔ HasPath (listed_interpretation o l) (map (property_name o) rs) x y
+  path_said [] h x y = (λ p. p, λ p. p)
+  path_said (r ∷ rs) h x y =
+      let P : ℕ → Type 0 = λ r. r < length o.names.properties in
+      let lr = All-head P r rs h in
+      let later = path_said rs (All-tail P r rs h) in (
+        λ (z, t, p). (z, outside z (target_within o w l fits r x z t).1, property_is o w l r x z lr ∙ t, (later z y).0 p),
+        λ (z, lz, t, p). (z, sym (property_is o w l r x z lr) ∙ t, (later z y).1 p),
+      )
+
+  path_end : (rs : List ℕ) (x y : ℕ) → x < l.domain → HasListedPath l.pairs rs x y → y < l.domain
+  path_end [] x y lx e = subst (λ (v : ℕ). v < l.domain) e lx
+  path_end (r ∷ rs) x y lx (z, t, p) = path_end rs z y (target_within o w l fits r x z t).1 p
+
+  path_start : (rs : List ℕ) (x y : ℕ) → 0 < length rs → HasListedPath l.pairs rs x y → x < l.domain
+  path_start [] x y some p = absurd (omega arith)
+  path_start (r ∷ rs) x y some (z, t, p) = (target_within o w l fits r x z t).0
+
+  pub sub_property_said : (rs : List ℕ) (s : ℕ) → 0 < length rs → All (λ r. r < length o.names.properties) rs → s < length o.names.properties
+      → ((x y : ℕ) → HasListedPath l.pairs rs x y → holds (targets_of l.pairs s x) y ≡ true) ↔ IsSubProperty (listed_interpretation o l) (map (property_name o) rs) (property_name o s)
+  sub_property_said rs s some hs ls = (
+    λ h x lx y ly p. property_is o w l s x y ls ∙ h x y ((path_said rs hs x y).1 p),
+    λ h x y p.
+        let lx = path_start rs x y some p in
+        let ly = path_end rs x y lx p in
+        sym (property_is o w l s x y ls) ∙ h x (outside x lx) y (outside y ly) ((path_said rs hs x y).0 p),
+  )
+
+  same_property_said : (r s : ℕ) → r < length o.names.properties → s < length o.names.properties
+      → ((x y : ℕ) → holds (targets_of l.pairs r x) y ≡ holds (targets_of l.pairs s x) y) ↔ IsSameProperty (listed_interpretation o l) (property_name o r) (property_name o s)
+  same_property_said r s lr ls = (
+    λ h x lx y ly. property_is o w l r x y lr ∙ h x y ∙ sym (property_is o w l s x y ls),
+    λ h x y.
+        let same : x < l.domain → y < l.domain → holds (targets_of l.pairs r x) y ≡ holds (targets_of l.pairs s x) y =
+        λ lx ly. sym (property_is o w l r x y lr) ∙ h x (outside x lx) y (outside y ly) ∙ property_is o w l s x y ls in
+        both_ways (holds (targets_of l.pairs r x) y) (holds (targets_of l.pairs s x) y)
+        (λ t. let (lx, ly) = target_within o w l fits r x y t in sym (same lx ly) ∙ t)
+        (λ t. let (lx, ly) = target_within o w l fits s x y t in same lx ly ∙ t),
+  )
+
+  pub same_properties_said : (rs : List ℕ) → All (λ r. r < length o.names.properties) rs
+      → AllPairs (λ r s. (x y : ℕ) → holds (targets_of l.pairs r x) y ≡ holds (targets_of l.pairs s x) y) rs ↔ AllPairs (IsSameProperty (listed_interpretation o l)) (map (property_name o) rs)
+  same_properties_said rs hs = pairs_said (λ r. r < length o.names.properties) (λ r s. (x y : ℕ) → holds (targets_of l.pairs r x) y ≡ holds (targets_of l.pairs s x) y) (IsSameProperty (listed_interpretation o l)) (property_name o) same_property_said rs hs
+
+  pub domain_said : (r c : ℕ) (xs : List ℕ) → r < length o.names.properties → IsExtension o l c xs
+      → ((x y : ℕ) → holds (targets_of l.pairs r x) y ≡ true → holds xs x ≡ true) ↔ Satisfies (listed_interpretation o l) (tree.PropertyDomain (property_name o r) (expression o c))
+  domain_said r c xs lr e = (
+    λ h x lx y ly p. ((e.members x).0 (h x y (sym (property_is o w l r x y lr) ∙ p))).1,
+    λ h x y t.
+        let (lx, ly) = target_within o w l fits r x y t in
+        (e.members x).1 (lx, h x (outside x lx) y (outside y ly) (property_is o w l r x y lr ∙ t)),
+  )
+
+  pub reflexive_said : (r : ℕ) → r < length o.names.properties → ((x : ℕ) → x < l.domain → holds (targets_of l.pairs r x) x ≡ true) ↔ Satisfies (listed_interpretation o l) (tree.ReflexiveProperty (property_name o r))
+  reflexive_said r lr = (
+    λ h x lx. property_is o w l r x x lr ∙ h x (inside x lx),
+    λ h x lx. sym (property_is o w l r x x lr) ∙ h x (outside x lx),
+  )
+
+  -- ---- individuals
+
+  pub class_assertion_said : (c a : ℕ) (xs : List ℕ) → a < length o.names.individuals → IsExtension o l c xs
+      → (holds xs (get_or l.individuals a 0) ≡ true) ↔ Satisfies (listed_interpretation o l) (tree.ClassAssertion (expression o c) (individual_name o a))
+  class_assertion_said c a xs la e =
+      let i = listed_interpretation o l in
+      let x = get_or l.individuals a 0 in
+      let within : x < l.domain = fits.individuals a 0 (omega (arith, fits.individuals_each)) in (
+        λ h. subst (λ (v : ℕ). IsIn i (expression o c) v) (sym (individual_is o w l a la)) ((e.members x).0 h).1,
+        λ h. (e.members x).1 (within, subst (λ (v : ℕ). IsIn i (expression o c) v) (individual_is o w l a la) h),
+      )
+
+  pub property_assertion_said : (r a b : ℕ) → r < length o.names.properties → a < length o.names.individuals → b < length o.names.individuals
+      → (holds (targets_of l.pairs r (get_or l.individuals a 0)) (get_or l.individuals b 0) ≡ true) ↔ Satisfies (listed_interpretation o l) (tree.PropertyAssertion (property_name o r) (individual_name o a) (individual_name o b))
+  property_assertion_said r a b lr la lb =
+      let i = listed_interpretation o l in
+      let same = ap₂ (i.property (property_name o r)) (individual_is o w l a la) (individual_is o w l b lb) ∙ property_is o w l r (get_or l.individuals a 0) (get_or l.individuals b 0) lr in
+      (λ h. same ∙ h, λ h. sym same ∙ h)

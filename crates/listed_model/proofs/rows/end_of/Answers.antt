@@ -1,0 +1,9 @@
+use Rattle.std.proofs.Common.{rules, of_calls, leb, arith}
+use Rattle.std.proofs.lemmas.Fn.{always_returns_same}
+use Rattle.std.proofs.lemmas.Bool.{le-leb, leb-true}
+use Rattle.certificate.specs.declared.listed.PairRow.{PairRow}
+use Rattle.listed_model.proofs.Found.{properties_rise}
+use Rattle.listed_model.proofs.rows.end_of.Goals as goal
+
+pub returns-clause-place : goal.returns-clause-place
+returns-clause-place c = c.partition_point.ensures.partitioned (λ (row : PairRow). leb row.property.0 c.args.property.0) (always_returns_same _ _ _ (λ a r f k. search (rules, of_calls))) (λ i j d l m t. let u = properties_rise c.args.rows.now c.requires.ordered i j d l m in let v = leb-true _ _ t in le-leb _ _ (omega arith))

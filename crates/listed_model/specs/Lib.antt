@@ -1,0 +1,5 @@
+pub mod Listing
+pub mod Interpreted
+pub mod Members
+pub mod Rows
+pub mod Extensions

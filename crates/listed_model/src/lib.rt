@@ -1,0 +1,15 @@
+//! Whether a listed interpretation satisfies axioms, at a cost that goes by its members.
+#![tactic(auto)]
+
+mod ascending;
+mod class_axioms;
+mod extension;
+mod paths;
+mod property_axioms;
+mod restriction;
+mod rows;
+mod satisfaction;
+mod sets;
+mod transitive;
+
+pub use satisfaction::first_unsatisfied;

@@ -1,0 +1,97 @@
+//! Paths along properties.
+ghost use Rattle.axioms.specs.View.{prop_numbers};
+ghost use Rattle.certificate.specs.View.{pair_row_of};
+ghost use Rattle.listed_model.specs.Listing.{targets_of};
+ghost use Rattle.listed_model.specs.Members.{holds};
+ghost use Rattle.listed_model.specs.Rows.{ArePairRows, HasListedPath};
+ghost use Rattle.number_sets.specs.Members.{has};
+ghost use Rattle.std.specs.Prelude.{◌≡◌, ◌||◌, ◌↔◌, ◌<◌, IfOk, IsTrue, OnOk, length, map, true, ℕ};
+
+use crate::ascending::are_within;
+use crate::rows::{rows_of, targets_at};
+use axioms::{Memory, PropId};
+use certificate::PairRow;
+use number_sets::EpochSet;
+use std::alloc::Global;
+
+// Adds those of the numbers that are not in the list. The set has members of the list alone.
+fn add_new(found: &mut Vec<u32>, seen: &mut EpochSet, numbers: &[u32]) -> Result<(), Memory>
+    requires { (y : ℕ) → has seen.old y ≡ true → holds found.old.items y ≡ true }
+    ensures seen { OnOk result ((y : ℕ) → has seen.new y ≡ true → holds found.new.items y ≡ true) }
+    ensures len { length seen.new ≡ length seen.old }
+    ensures added { OnOk result ((y : ℕ) → holds found.new.items y ≡ (holds found.old.items y || holds numbers.now y)) }
+{
+    for number in numbers {
+        let place = *number as usize;
+        if !seen.contains(place) {
+            seen.put(place);
+            found.push(*number)?;
+        }
+    }
+    Ok(())
+}
+
+// What the property leads to from one of the sources. The set is room to work in.
+fn successors(
+    alloc: Global,
+    rows: &[PairRow],
+    seen: &mut EpochSet,
+    property: PropId,
+    sources: &[u32],
+) -> Result<Vec<u32>, Memory>
+    requires { ArePairRows rows.now }
+    ensures len { length seen.new ≡ length seen.old }
+    ensures members { IfOk result (λ found. (y : ℕ) → (holds found.items y ≡ true)
+        ↔ ((x : ℕ) × (holds sources.now x ≡ true) × (holds (targets_of (map pair_row_of rows.now) property.0 x) y ≡ true))) }
+{
+    seen.clear();
+    let mut found = Vec::new(alloc);
+    for source in sources {
+        add_new(&mut found, seen, targets_at(rows, property, *source))?;
+    }
+    Ok(found)
+}
+
+// The ends of the paths along the chain from one of the sources. The set is room to work in.
+fn ends_of(
+    alloc: Global,
+    rows: &[PairRow],
+    seen: &mut EpochSet,
+    chain: &[PropId],
+    sources: &[u32],
+) -> Result<Vec<u32>, Memory>
+    requires { ArePairRows rows.now }
+    ensures len { length seen.new ≡ length seen.old }
+    ensures members { IfOk result (λ ends. (y : ℕ) → (holds ends.items y ≡ true)
+        ↔ ((x : ℕ) × (holds sources.now x ≡ true) × HasListedPath (map pair_row_of rows.now) (prop_numbers chain.now) x y)) }
+{
+    let mut ends = Vec::from_slice(alloc, sources)?;
+    for property in chain {
+        ends = successors(alloc, rows, seen, *property, &ends)?;
+    }
+    Ok(ends)
+}
+
+/// Whether each path along the property and then the chain is a pair of the property above. The set is room to work in.
+pub(crate) fn is_chain_within(
+    alloc: Global,
+    rows: &[PairRow],
+    seen: &mut EpochSet,
+    first: PropId,
+    rest: &[PropId],
+    above: PropId,
+) -> Result<bool, Memory>
+    requires { ArePairRows rows.now }
+    ensures len { length seen.new ≡ length seen.old }
+    ensures within { IfOk result (λ within. IsTrue within ↔ ((x y : ℕ) → (z : ℕ)
+        → holds (targets_of (map pair_row_of rows.now) first.0 x) z ≡ true → HasListedPath (map pair_row_of rows.now) (prop_numbers rest.now) z y
+        → holds (targets_of (map pair_row_of rows.now) above.0 x) y ≡ true)) }
+{
+    for row in rows_of(rows, first) {
+        let ends = ends_of(alloc, rows, seen, rest, &row.targets)?;
+        if !are_within(&ends, targets_at(rows, above, row.source)) {
+            return Ok(false);
+        }
+    }
+    Ok(true)
+}

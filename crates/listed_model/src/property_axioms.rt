@@ -1,0 +1,81 @@
+//! Axioms on properties, over rows of pairs.
+ghost use Rattle.axioms.specs.View.{prop_numbers};
+ghost use Rattle.certificate.specs.View.{pair_row_of};
+ghost use Rattle.listed_model.specs.Listing.{targets_of};
+ghost use Rattle.listed_model.specs.Members.{holds};
+ghost use Rattle.listed_model.specs.Rows.{ArePairRows};
+ghost use Rattle.std.specs.List.Sorted.{IsStrictlyIncreasing};
+ghost use Rattle.std.specs.Prelude.{◌≡◌, ◌↔◌, ◌<◌, AllPairs, IsTrue, map, true, ℕ};
+
+use crate::ascending::{are_within, stands_in};
+use crate::rows::{rows_of, targets_at};
+use axioms::PropId;
+use certificate::PairRow;
+
+/// Whether each pair of the property is one of the property above.
+pub(crate) fn are_pairs_within(rows: &[PairRow], property: PropId, above: PropId) -> bool
+    requires { ArePairRows rows.now }
+    ensures { IsTrue result ↔ ((x y : ℕ) → holds (targets_of (map pair_row_of rows.now) property.0 x) y ≡ true
+        → holds (targets_of (map pair_row_of rows.now) above.0 x) y ≡ true) }
+{
+    for row in rows_of(rows, property) {
+        if !are_within(&row.targets, targets_at(rows, above, row.source)) {
+            return false;
+        }
+    }
+    true
+}
+
+/// Whether the properties have the same pairs.
+pub(crate) fn are_same_properties(rows: &[PairRow], properties: &[PropId]) -> bool
+    requires { ArePairRows rows.now }
+    ensures { IsTrue result ↔ AllPairs (λ r s. (x y : ℕ) → holds (targets_of (map pair_row_of rows.now) r x) y ≡ holds (targets_of (map pair_row_of rows.now) s x) y) (prop_numbers properties.now) }
+{
+    let Some(first) = properties.first() else {
+        return true;
+    };
+    for property in properties {
+        if !are_pairs_within(rows, *first, *property) {
+            return false;
+        }
+        if !are_pairs_within(rows, *property, *first) {
+            return false;
+        }
+    }
+    true
+}
+
+/// Whether each element that the property leads to another from is among the members.
+pub(crate) fn has_sources_in(rows: &[PairRow], property: PropId, members: &[u32]) -> bool
+    requires rows { ArePairRows rows.now }
+    requires members { IsStrictlyIncreasing members.now }
+    ensures { IsTrue result ↔ ((x y : ℕ) → holds (targets_of (map pair_row_of rows.now) property.0 x) y ≡ true → holds members.now x ≡ true) }
+{
+    for row in rows_of(rows, property) {
+        if !stands_in(members, row.source) {
+            return false;
+        }
+    }
+    true
+}
+
+/// Whether the property leads from each element below the domain to itself.
+pub(crate) fn is_reflexive(rows: &[PairRow], domain: u32, property: PropId) -> bool
+    requires { ArePairRows rows.now }
+    ensures { IsTrue result ↔ ((x : ℕ) → x < domain → holds (targets_of (map pair_row_of rows.now) property.0 x) x ≡ true) }
+{
+    for element in 0..domain {
+        if !stands_in(targets_at(rows, property, element), element) {
+            return false;
+        }
+    }
+    true
+}
+
+/// Whether the property leads from the source to the target.
+pub(crate) fn leads_to(rows: &[PairRow], property: PropId, source: u32, target: u32) -> bool
+    requires { ArePairRows rows.now }
+    ensures { result ≡ holds (targets_of (map pair_row_of rows.now) property.0 source) target }
+{
+    stands_in(targets_at(rows, property, source), target)
+}

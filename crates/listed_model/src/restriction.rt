@@ -1,0 +1,124 @@
+//! The elements that a property joins to others.
+ghost use Rattle.certificate.specs.View.{pair_row_of};
+ghost use Rattle.certificate.specs.declared.listed.PairRow.{PairRow as PairRow2};
+ghost use Rattle.listed_model.specs.Members.{holds};
+ghost use Rattle.listed_model.specs.Rows.{AreHolders, ArePairRows, IsHolders, IsSourceAmong, Joined};
+ghost use Rattle.number_sets.specs.Pieces.{list_at};
+ghost use Rattle.std.specs.List.Sorted.{IsStrictlyIncreasing};
+ghost use Rattle.std.specs.Prelude.{◌<◌, ◌≡◌, ◌↔◌, ◌⊎◌, All, IfOk, OnOk, length, map, true, ℕ};
+
+use crate::ascending::{have_common, put_in_order};
+use crate::rows::rows_of;
+use axioms::{Memory, PropId};
+use certificate::PairRow;
+use number_sets::{PackedLists, turned};
+use std::alloc::Global;
+
+// The targets of each row.
+fn targets_of_each(alloc: Global, rows: &[PairRow]) -> Result<PackedLists, Memory>
+    ensures { IfOk result (λ lists. lists ≡ map (λ (row : PairRow2). row.targets.items) rows.now) }
+{
+    let mut lists = PackedLists::new(alloc);
+    for row in rows {
+        lists.push_list(&row.targets)?;
+    }
+    Ok(lists)
+}
+
+/// For each element the places of the rows that have it among their targets. It fails where memory is refused, or where
+/// there are 2^32 rows.
+pub(crate) fn holders_of(
+    alloc: Global,
+    rows: &[PairRow],
+    domain: u32,
+) -> Result<PackedLists, Memory>
+    ensures { IfOk result (λ holders. AreHolders rows.now domain holders) }
+{
+    if rows.len() > u32::MAX as usize {
+        return Err(Memory);
+    }
+    let lists = targets_of_each(alloc, rows)?;
+    Ok(turned(alloc, &lists, domain as usize)?)
+}
+
+// Adds the sources of those rows at the places that are of the property.
+fn add_sources(
+    sources: &mut Vec<u32>,
+    rows: &[PairRow],
+    places: &[u32],
+    property: PropId,
+) -> Result<(), Memory>
+    requires { All (λ k. k < length rows.now) places.now }
+    ensures { OnOk result ((x : ℕ) → (holds sources.new.items x ≡ true) ↔ ((holds sources.old.items x ≡ true) ⊎ IsSourceAmong rows.now places.now property.0 x)) }
+{
+    for place in places {
+        let row = &rows[*place as usize];
+        if row.property == property {
+            sources.push(row.source)?;
+        }
+    }
+    Ok(())
+}
+
+// The elements that the property joins to one of the fillers, by the fillers.
+fn by_fillers(
+    alloc: Global,
+    rows: &[PairRow],
+    holders: &PackedLists,
+    property: PropId,
+    fillers: &[u32],
+) -> Result<Vec<u32>, Memory>
+    requires rows { ArePairRows rows.now }
+    requires holders { (y : ℕ) → holds fillers.now y ≡ true → IsHolders rows.now y (list_at holders.now y) }
+    ensures { IfOk result (λ sources. (x : ℕ) → (holds sources.items x ≡ true) ↔ Joined (map pair_row_of rows.now) property.0 fillers.now x) }
+{
+    let mut sources = Vec::new(alloc);
+    for filler in fillers {
+        add_sources(&mut sources, rows, holders.at(*filler as usize), property)?;
+    }
+    Ok(sources)
+}
+
+// The elements that the property joins to one of the fillers, by the rows of the property.
+fn by_rows(
+    alloc: Global,
+    rows: &[PairRow],
+    property: PropId,
+    fillers: &[u32],
+) -> Result<Vec<u32>, Memory>
+    requires rows { ArePairRows rows.now }
+    requires fillers { IsStrictlyIncreasing fillers.now }
+    ensures { IfOk result (λ sources. (x : ℕ) → (holds sources.items x ≡ true) ↔ Joined (map pair_row_of rows.now) property.0 fillers.now x) }
+{
+    let mut sources = Vec::new(alloc);
+    for row in rows_of(rows, property) {
+        if have_common(&row.targets, fillers) {
+            sources.push(row.source)?;
+        }
+    }
+    Ok(sources)
+}
+
+/// The elements that the property joins to one of the fillers, ascending.
+pub(crate) fn restriction(
+    alloc: Global,
+    rows: &[PairRow],
+    holders: &PackedLists,
+    property: PropId,
+    fillers: &[u32],
+) -> Result<Vec<u32>, Memory>
+    requires rows { ArePairRows rows.now }
+    requires holders { (y : ℕ) → holds fillers.now y ≡ true → IsHolders rows.now y (list_at holders.now y) }
+    requires fillers { IsStrictlyIncreasing fillers.now }
+    ensures ascending { IfOk result (λ sources. IsStrictlyIncreasing sources.items) }
+    ensures members { IfOk result (λ sources. (x : ℕ) → (holds sources.items x ≡ true) ↔ Joined (map pair_row_of rows.now) property.0 fillers.now x) }
+{
+    let few = fillers.len() < rows_of(rows, property).len();
+    let mut sources = if few {
+        by_fillers(alloc, rows, holders, property, fillers)?
+    } else {
+        by_rows(alloc, rows, property, fillers)?
+    };
+    put_in_order(&mut sources);
+    Ok(sources)
+}

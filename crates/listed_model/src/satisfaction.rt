@@ -1,0 +1,139 @@
+//! Which axioms a listed interpretation satisfies.
+ghost use Rattle.axioms.specs.Numbered.{axiom_tree, axiom_trees};
+ghost use Rattle.axioms.specs.View.{axiom_of, prop_numbers};
+ghost use Rattle.axioms.specs.WellFormed.{IsAxiomOf};
+ghost use Rattle.certificate.specs.HasText.{IsListedOf};
+ghost use Rattle.certificate.specs.View.{listed_of, pair_row_of};
+ghost use Rattle.interpretation_spec.specs.ByName.{IsFirstUnsatisfied};
+ghost use Rattle.interpretation_spec.specs.Interpretation.{Interpretation, IsInterpretation, IsModel, Satisfies};
+ghost use Rattle.listed_model.specs.Extensions.{AreExtensions};
+ghost use Rattle.listed_model.specs.Interpreted.{listed_interpretation};
+ghost use Rattle.listed_model.specs.Listing.{IsListing, targets_of};
+ghost use Rattle.listed_model.specs.Members.{holds};
+ghost use Rattle.listed_model.specs.Rows.{ArePairRows, HasListedPath};
+ghost use Rattle.std.specs.Prelude.{◌≡◌, ◌↔◌, ◌<◌, IfOk, IsNone, IfSome, IsTrue, MatchOption, length, map, true, ℕ};
+
+use crate::ascending::stands_in;
+use crate::class_axioms::{are_apart, are_same, is_within};
+use crate::extension::extensions;
+use crate::paths::is_chain_within;
+use crate::property_axioms::{
+    are_pairs_within, are_same_properties, has_sources_in, is_reflexive, leads_to,
+};
+use crate::transitive::is_transitive;
+use axioms::{Axiom, Memory, Ontology, PropId};
+use certificate::{Listed, PairRow};
+use number_sets::{EpochSet, PackedLists};
+use std::alloc::Global;
+
+// Whether each path along the chain is a pair of the property above. The set is room to work in.
+fn is_sub_property(
+    alloc: Global,
+    rows: &[PairRow],
+    seen: &mut EpochSet,
+    chain: &[PropId],
+    above: PropId,
+) -> Result<bool, Memory>
+    requires rows { ArePairRows rows.now }
+    requires some { 0 < length chain.now }
+    ensures len { length seen.new ≡ length seen.old }
+    ensures within { IfOk result (λ within. IsTrue within ↔ ((x y : ℕ) → HasListedPath (map pair_row_of rows.now) (prop_numbers chain.now) x y
+        → holds (targets_of (map pair_row_of rows.now) above.0 x) y ≡ true)) }
+{
+    let first = chain[0];
+    let rest = &chain[1..];
+    if rest.is_empty() {
+        return Ok(are_pairs_within(rows, first, above));
+    }
+    is_chain_within(alloc, rows, seen, first, rest, above)
+}
+
+// Whether the axiom holds. The sets are room to work in.
+fn satisfies(
+    alloc: Global,
+    ontology: &Ontology,
+    listed: &Listed,
+    made: &PackedLists,
+    seen: &mut EpochSet,
+    done: &mut EpochSet,
+    axiom: &Axiom,
+) -> Result<bool, Memory>
+    requires listed { IsListedOf ontology.now (listed_of listed.now) }
+    requires made { AreExtensions ontology.now (listed_of listed.now) made.now }
+    requires count { length made.now ≡ length ontology.now.nodes }
+    requires room { length seen.old ≡ listed.now.domain }
+    requires of { IsAxiomOf ontology.now (axiom_of «axiom».now) }
+    ensures len { length seen.new ≡ length seen.old }
+    ensures satisfied { IfOk result (λ holds. IsTrue holds ↔ Satisfies (listed_interpretation ontology.now (listed_of listed.now)) (axiom_tree ontology.now (axiom_of «axiom».now))) }
+{
+    ontology.well_formed();
+    match axiom {
+        Axiom::SubClass(sub, sup) => Ok(is_within(made, *sub, *sup)),
+        Axiom::EquivalentClasses(operands) => Ok(are_same(made, operands)),
+        Axiom::DisjointClasses(operands) => Ok(are_apart(made, seen, operands)),
+        Axiom::SubProperty(chain, above) => {
+            is_sub_property(alloc, &listed.pairs, seen, chain, *above)
+        }
+        Axiom::EquivalentProperties(properties) => {
+            Ok(are_same_properties(&listed.pairs, properties))
+        }
+        Axiom::Domain(property, class) => Ok(has_sources_in(
+            &listed.pairs,
+            *property,
+            made.at(class.index()),
+        )),
+        Axiom::Transitive(property) => {
+            is_transitive(alloc, &listed.pairs, seen, done, *property)
+        }
+        Axiom::Reflexive(property) => Ok(is_reflexive(&listed.pairs, listed.domain, *property)),
+        Axiom::ClassAssertion(class, individual) => Ok(stands_in(
+            made.at(class.index()),
+            listed.individuals[individual.index()],
+        )),
+        Axiom::PropertyAssertion(property, source, target) => Ok(leads_to(
+            &listed.pairs,
+            *property,
+            listed.individuals[source.index()],
+            listed.individuals[target.index()],
+        )),
+    }
+}
+
+// The least number, from 1, of an axiom that does not hold.
+fn first_failing(
+    alloc: Global,
+    ontology: &Ontology,
+    listed: &Listed,
+    made: &PackedLists,
+) -> Result<Option<usize>, Memory>
+    requires listed { IsListedOf ontology.now (listed_of listed.now) }
+    requires made { AreExtensions ontology.now (listed_of listed.now) made.now }
+    requires count { length made.now ≡ length ontology.now.nodes }
+    ensures model { IfOk result (λ found. IsNone found → IsModel (listed_interpretation ontology.now (listed_of listed.now)) (axiom_trees ontology.now)) }
+    ensures first { IfOk result (λ found. IfSome found (IsFirstUnsatisfied ontology.now (listed_interpretation ontology.now (listed_of listed.now)))) }
+{
+    ontology.well_formed();
+    let mut seen = EpochSet::new(alloc, listed.domain as usize)?;
+    let mut done = EpochSet::new(alloc, listed.domain as usize)?;
+    for (index, axiom) in ontology.axioms().iter().enumerate() {
+        if !satisfies(alloc, ontology, listed, made, &mut seen, &mut done, axiom)? {
+            return Ok(Some(index + 1));
+        }
+    }
+    Ok(None)
+}
+
+/// The least number, from 1, of an axiom that the listed interpretation does not satisfy. Fails where memory is refused.
+pub fn first_unsatisfied(
+    alloc: Global,
+    ontology: &Ontology,
+    listed: &Listed,
+) -> Result<Option<usize>, Memory>
+    requires { IsListedOf ontology.now (listed_of listed.now) }
+    ensures { IfOk result (λ found. (i : Interpretation) × IsListing ontology.now (listed_of listed.now) i × IsInterpretation i
+        × MatchOption found (IsModel i (axiom_trees ontology.now)) (IsFirstUnsatisfied ontology.now i)) }
+{
+    ontology.well_formed();
+    let made = extensions(alloc, ontology, listed)?;
+    first_failing(alloc, ontology, listed, &made)
+}

@@ -1,0 +1,140 @@
+//! Whether a property is transitive, without walking each path of two steps.
+ghost use Rattle.certificate.specs.View.{pair_row_of};
+ghost use Rattle.certificate.specs.declared.listed.PairRow.{PairRow as PairRow2};
+ghost use Rattle.listed_model.specs.Listing.{targets_of};
+ghost use Rattle.listed_model.specs.Members.{holds};
+ghost use Rattle.listed_model.specs.Rows.{ArePairRows, ClosedAt, LeadsWithin};
+ghost use Rattle.number_sets.specs.Members.{has};
+ghost use Rattle.std.specs.List.Sorted.{IsStrictlyIncreasing};
+ghost use Rattle.std.specs.Prelude.{◌<◌, ◌≡◌, ◌↔◌, All, IfOk, IsTrue, length, map, true, ℕ};
+
+use crate::ascending::are_within;
+use crate::rows::{rows_of, targets_at};
+use crate::sets::put_each;
+use axioms::{Memory, PropId};
+use certificate::PairRow;
+use number_sets::EpochSet;
+use std::alloc::Global;
+
+// The numbers, those that the property leads further from first.
+fn widest_first(
+    alloc: Global,
+    rows: &[PairRow],
+    property: PropId,
+    numbers: &[u32],
+) -> Result<Vec<u32>, Memory>
+    requires { ArePairRows rows.now }
+    ensures { IfOk result (λ ordered. (y : ℕ) → holds ordered.items y ≡ holds numbers.now y) }
+{
+    let mut ordered = Vec::new(alloc);
+    let mut counted = Vec::new(alloc);
+    for number in numbers {
+        counted.push((targets_at(rows, property, *number).len(), *number))?;
+    }
+    counted.sort_unstable();
+    for pair in &counted {
+        ordered.push(pair.1)?;
+    }
+    ordered.reverse();
+    Ok(ordered)
+}
+
+// Whether the property leads from the number to nothing but the targets. From what is done it leads in one step to all that
+// it leads to in two, so what it leads to from there is covered, and need not be looked at again.
+fn leads_from(
+    rows: &[PairRow],
+    property: PropId,
+    done: &EpochSet,
+    covered: &mut EpochSet,
+    number: u32,
+    targets: &[u32],
+) -> bool
+    requires rows { ArePairRows rows.now }
+    requires targets { IsStrictlyIncreasing targets.now }
+    requires done { (y : ℕ) → has done.now y ≡ true → ClosedAt (map pair_row_of rows.now) property.0 y }
+    requires covered { (y : ℕ) → has covered.old y ≡ true → LeadsWithin (map pair_row_of rows.now) property.0 targets.now y }
+    ensures len { length covered.new ≡ length covered.old }
+    ensures covered { (y : ℕ) → has covered.new y ≡ true → LeadsWithin (map pair_row_of rows.now) property.0 targets.now y }
+    ensures within { IsTrue result ↔ LeadsWithin (map pair_row_of rows.now) property.0 targets.now number }
+{
+    if covered.contains(number as usize) {
+        return true;
+    }
+    let ends = targets_at(rows, property, number);
+    if !are_within(ends, targets) {
+        return false;
+    }
+    if done.contains(number as usize) {
+        put_each(covered, ends);
+    }
+    true
+}
+
+// Whether the property leads from each of the numbers to nothing but the targets. The set is room to work in.
+fn leads_within(
+    rows: &[PairRow],
+    property: PropId,
+    done: &EpochSet,
+    covered: &mut EpochSet,
+    numbers: &[u32],
+    targets: &[u32],
+) -> bool
+    requires rows { ArePairRows rows.now }
+    requires targets { IsStrictlyIncreasing targets.now }
+    requires done { (y : ℕ) → has done.now y ≡ true → ClosedAt (map pair_row_of rows.now) property.0 y }
+    ensures len { length covered.new ≡ length covered.old }
+    ensures within { IsTrue result ↔ ((y : ℕ) → holds numbers.now y ≡ true → LeadsWithin (map pair_row_of rows.now) property.0 targets.now y) }
+{
+    covered.clear();
+    for number in numbers {
+        if !leads_from(rows, property, done, covered, *number, targets) {
+            return false;
+        }
+    }
+    true
+}
+
+// The places of the rows, those with fewer targets first.
+fn places_by_size(alloc: Global, rows: &[PairRow]) -> Result<Vec<usize>, Memory>
+    ensures within { IfOk result (λ places. All (λ k. k < length rows.now) places.items) }
+    ensures all { IfOk result (λ places. (k : ℕ) → k < length rows.now → holds places.items k ≡ true) }
+{
+    let mut places = Vec::new(alloc);
+    let mut counted = Vec::new(alloc);
+    for (place, row) in rows.iter().enumerate() {
+        counted.push((row.targets.len(), place))?;
+    }
+    counted.sort_unstable();
+    for pair in &counted {
+        places.push(pair.1)?;
+    }
+    Ok(places)
+}
+
+/// Whether the property leads in one step to all that it leads to in two. The sets are room to work in.
+///
+/// Rows with few targets come first, so that of a row with many those that have most are done, and all else is covered.
+pub(crate) fn is_transitive(
+    alloc: Global,
+    rows: &[PairRow],
+    covered: &mut EpochSet,
+    done: &mut EpochSet,
+    property: PropId,
+) -> Result<bool, Memory>
+    requires { ArePairRows rows.now }
+    ensures len { length covered.new ≡ length covered.old }
+    ensures transitive { IfOk result (λ transitive. IsTrue transitive ↔ ((x : ℕ) → ClosedAt (map pair_row_of rows.now) property.0 x)) }
+{
+    done.clear();
+    let items = rows_of(rows, property);
+    let places = places_by_size(alloc, items)?;
+    for place in &places {
+        let row = &items[*place];
+        let ordered = widest_first(alloc, rows, property, &row.targets)?;
+        if !leads_within(rows, property, done, covered, &ordered, &row.targets) {
+            return Ok(false);
+        }
+        done.put(row.source as usize);
+    }
+    Ok(true)
+}
