@@ -11,11 +11,7 @@ use Rattle.axioms.specs.Numbered.{Ontology, IsClassAt}
 use Rattle.axioms.proofs.Trees.{one_class}
 use Rattle.interpretation_spec.specs.ByName.{is_target}
 use Rattle.interpretation_spec.specs.Numbered.{NumberedInterpretation, IsNumberedInterpretation, targets_of, with_member, with_pair, with_individual, with_number}
-use Rattle.certificate.specs.View.{class_row_of}
-use Rattle.certificate.specs.declared.listed.ClassRow.{ClassRow}
-use Rattle.taxonomy.specs.Relation.{row_at, lies_below}
-use Rattle.cert_check.specs.Additions.{SomeRow, ListsMember, AddsMembers, AddsPairs, PutsIndividuals, AreElementRows}
-use Rattle.cert_check.specs.Rows.{Adds, AreRows, with_number_at}
+use Rattle.cert_check.specs.Additions.{SomeRow, AddsMembers, AddsPairs, PutsIndividuals}
 use Rattle.cert_check.proofs.Rowwise.{one_more_number, adds_none}
 
 -- ---- lists
@@ -118,7 +114,7 @@ more_members P Q R a b c p q r = record {
 
 -- ---- pairs
 
-any_first : (y x : ℕ) (xs : List ℕ) → (list_any (λ z. eqb z y) (x ∷ xs) ≡ true) ↔ ((x ≡ y) ⊎ (list_any (λ z. eqb z y) xs ≡ true))
+pub any_first : (y x : ℕ) (xs : List ℕ) → (list_any (λ z. eqb z y) (x ∷ xs) ≡ true) ↔ ((x ≡ y) ⊎ (list_any (λ z. eqb z y) xs ≡ true))
 any_first y x xs = elim (cases_eq x y) [
   | inl e ↦ (λ t. inl e, λ h. rw (eq-eqb x y e) refl)
   | inr ne ↦ rw (ne_eqb x y ne) (λ t. inr t, λ h. elim h [ inl e ↦ absurd (ne e) | inr t ↦ t ])
@@ -288,27 +284,3 @@ individual_step elements k x g old mid new lk is before =
           ]
           );
     })
-
--- ---- rows of elements
-
-pub holder_step : (o : Ontology) (e class : ℕ) → IsClassAt o class e → (xs : List ℕ) (k x : ℕ) → slice_get xs k ≡ Some x → (old mid new : List (List Bool))
-    → x < length mid → class < length (row_at mid x) → new ≡ with_number_at mid x class
-    → Adds (λ y c. IsClassAt o c e × Contains (take k xs) y) old mid → Adds (λ y c. IsClassAt o c e × Contains (take (k + 1) xs) y) old new
-holder_step o e class at xs k x g old mid new lx lc is before y c =
-    let more = contains_next xs k x y g in
-    let one = subst (λ rows. (lies_below rows y c ≡ true) ↔ ((lies_below mid y c ≡ true) ⊎ ((y ≡ x) × (c ≡ class)))) (sym is) (one_more_number mid x class lx lc y c) in
-    step_both (before y c) one (
-      λ p. elim (more.0 p.1) [ inl h ↦ inl (p.0, h) | inr f ↦ inr (f, one_class o c class e p.0 at) ],
-      λ h. elim h [
-        | inl p ↦ (p.0, more.1 (inl p.1))
-        | inr q ↦ (subst (λ j. IsClassAt o j e) (sym q.1) at, more.1 (inr q.0))
-      ],
-    )
-
-pub element_rows_step : (o : Ontology) (domain : ℕ) (rows : List ClassRow) (k : ℕ) (row : ClassRow) → slice_get rows k ≡ Some row → (old new : List (List Bool))
-    → AreElementRows o domain (map class_row_of (take k rows)) old → AreRows (length old) (length o.names.classes) new
-    → Adds (λ x c. ListsMember o (class_row_of row) c x) old new → AreElementRows o domain (map class_row_of (take (k + 1) rows)) new
-element_rows_step o domain rows k row g old new before kept adds = record {
-  shaped = subst (λ n. AreRows n (length o.names.classes) new) before.shaped.long kept;
-  each = λ x c lx. step_both (before.each x c lx) (adds x c) (some_next (λ r. ListsMember o r c x) class_row_of rows k row g);
-}

@@ -1,11 +1,13 @@
 pub mod Places
 pub mod Checked
+pub mod OneMore
 pub mod Made
 pub mod Rowwise
 pub mod Additions
-pub mod ListedRows
+pub mod Listwise
 pub mod Relations
 pub mod Claimed
+pub mod ListedRows
 pub mod Verdicts
 pub mod Truth
 pub mod Derivations
@@ -16,3 +18,4 @@ pub mod Listings
 pub mod Exactness
 pub mod OneSubclass
 pub mod Contradiction
+pub mod Preorders

@@ -14,7 +14,7 @@ use Rattle.interpretation_spec.specs.ByName.{interpretation_of, is_target}
 use Rattle.interpretation_spec.specs.Numbered.{NumberedInterpretation, IsMadeFor, empty_interpretation}
 use Rattle.interpretation_spec.proofs.Names.{stands}
 use Rattle.taxonomy.specs.Relation.{lies_below}
-use Rattle.cert_check.specs.Acceptable.{IsListing, elements_of, targets_of as listed_targets}
+use Rattle.listed_model.specs.Listing.{IsListing, elements_of, targets_of as listed_targets}
 use Rattle.cert_check.specs.Additions.{SomeRow, IsListedMember, IsListedPair, AddsMembers, AddsPairs, PutsIndividuals}
 use Rattle.cert_check.proofs.Made.{empty_is_made_for}
 use Rattle.cert_check.proofs.Rowwise.{no_number}

@@ -9,7 +9,7 @@ use Rattle.interpretation_spec.specs.Interpretation.{Interpretation, IsInterpret
 use Rattle.interpretation_spec.specs.Agreement.{AgreeOn}
 use Rattle.certificate.specs.Certificate.{Listed}
 use Rattle.certificate.specs.HasText.{IsListedOf}
-use Rattle.cert_check.specs.Acceptable.{IsListing}
+use Rattle.listed_model.specs.Listing.{IsListing}
 use Rattle.cert_check.proofs.Determined.{same_answer}
 
 module _ (o : Ontology) (w : IsOntology o) (l : Listed) (i j : Interpretation) (p : IsListing o l i) (q : IsListing o l j) (i_is : IsInterpretation i) (j_is : IsInterpretation j) where

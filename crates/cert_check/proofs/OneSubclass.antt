@@ -15,7 +15,8 @@ use Rattle.certificate.specs.declared.line.Rule.TheVariants.{K1, K2, K4}
 use Rattle.cert_check.specs.Lines.{Follows}
 use Rattle.certificate.specs.HasText.{certificate_numbers, IsConclusionOf, IsLineOf, HasText, AreElements, IsNamedClass}
 use Rattle.cert_check.specs.Derivation.{IsDerived, IsDerivation, HasLine}
-use Rattle.cert_check.specs.Acceptable.{elements_of, IsListing, Agrees, ClaimHolds, LiesBelow, IsConsistentShown}
+use Rattle.cert_check.specs.Acceptable.{Agrees, ClaimHolds, LiesBelow, IsConsistentShown}
+use Rattle.listed_model.specs.Listing.{elements_of, IsListing}
 use Rattle.cert_check.specs.Examples.{OneSubclassIsAccepted}
 use Rattle.cert_check.proofs.Places.{All-from_test}
 use Rattle.axioms.specs.Examples.{one_subclass}

@@ -1,32 +1,14 @@
 -- When a certificate shows that two texts are right, and what the texts then say.
-use Rattle.std.specs.Prelude.{◌≡◌, ℕ, ◌<◌, ◌↔◌, List, [], ◌∷◌, Bool, true, false, ◌⊎◌, length, slice_get, Some, MatchOption, ◌≤◌, if◌then◌else◌, ◌==◌, ◌&&◌}
+use Rattle.std.specs.Prelude.{◌≡◌, ℕ, ◌<◌, ◌↔◌, List, Bool, true, false, ◌⊎◌, length, slice_get, Some, MatchOption}
 use Rattle.std.specs.List.{All, Contains}
 use Rattle.axioms.specs.Expression.{Named}
 use Rattle.interpretation_spec.specs.Interpretation.{Interpretation, IsModel, IsIn, IsBelow, IsMember, IsContradictory}
 use Rattle.axioms.specs.Numbered.{Ontology, IsClassAt, name_at, expression, individual_name, axiom_trees, thing, nothing}
 use Rattle.certificate.specs.Certificate.{Subject, Expression, Individual, Sub, Line, Listed, Certificate}
+use Rattle.listed_model.specs.Listing.{IsListing}
 use Rattle.cert_check.specs.Derivation.{IsDerivation, HasLine}
 use Rattle.certificate.specs.HasText.{IsTextOf}
 use Rattle.taxonomy.specs.Texts.{taxonomy_text, instances_text, inconsistent_taxonomy_text, inconsistent_instances_text}
-
--- ---- the listed interpretation
-
--- the elements that are listed for the expression
-abbrev pub elements_of : List (ℕ × List ℕ) → ℕ → List ℕ
-elements_of [] e = []
-elements_of (c ∷ cs) e = if c.0 == e then c.1 else elements_of cs e
-
--- .. for the property and the source
-abbrev pub targets_of : List (ℕ × ℕ × List ℕ) → ℕ → ℕ → List ℕ
-targets_of [] r x = []
-targets_of (p ∷ ps) r x = if (p.0 == r) && (p.1 == x) then p.2 else targets_of ps r x
-
--- what the members say of names: owl:Thing is all, and what is not listed is empty
-pub record IsListing (o : Ontology) (l : Listed) (i : Interpretation) : Type 0 where
-  pub size : i.size ≡ l.domain
-  pub classes : (c e x : ℕ) → IsClassAt o c e → 2 ≤ e → x < i.size → (i.class (name_at o.names.classes c) x ≡ true) ↔ Contains (elements_of l.classes e) x
-  pub pairs : (r x y : ℕ) → r < length o.names.properties → x < i.size → y < i.size → (i.property (name_at o.names.properties r) x y ≡ true) ↔ Contains (targets_of l.pairs r x) y
-  pub individuals : (a x : ℕ) → slice_get l.individuals a ≡ Some x → i.individual (individual_name o a) ≡ x
 
 -- ---- acceptance
 

@@ -1,11 +1,10 @@
 -- What listed rows add to an interpretation.
-use Rattle.std.specs.Prelude.{◌≡◌, ℕ, ◌<◌, ◌↔◌, ◌⊎◌, List, Bool, true, length, slice_get, Some}
+use Rattle.std.specs.Prelude.{◌≡◌, ℕ, ◌↔◌, ◌⊎◌, List, true, length, slice_get, Some}
 use Rattle.std.specs.List.{Contains}
 use Rattle.axioms.specs.Numbered.{Ontology, IsClassAt}
 use Rattle.interpretation_spec.specs.ByName.{is_target}
 use Rattle.interpretation_spec.specs.Numbered.{NumberedInterpretation}
-use Rattle.taxonomy.specs.Relation.{lies_below}
-use Rattle.cert_check.specs.Rows.{Adds, AreRows}
+use Rattle.cert_check.specs.Rows.{Adds}
 
 -- the number of owl:Thing among the classes
 abbrev pub thing_class : ℕ
@@ -54,8 +53,3 @@ pub record PutsIndividuals (elements : List ℕ) (old new : NumberedInterpretati
   pub pairs : new.pairs ≡ old.pairs
   pub many : length new.individuals ≡ length old.individuals
   pub each : (a x : ℕ) → slice_get elements a ≡ Some x → slice_get new.individuals a ≡ Some x
-
--- the row of each element has owl:Thing and the classes that are listed with the element
-pub record AreElementRows (o : Ontology) (domain : ℕ) (classes : List (ℕ × List ℕ)) (rows : List (List Bool)) : Type 0 where
-  pub shaped : AreRows domain (length o.names.classes) rows
-  pub each : (x c : ℕ) → x < domain → (lies_below rows x c ≡ true) ↔ ((c ≡ thing_class) ⊎ IsListedMember o classes c x)

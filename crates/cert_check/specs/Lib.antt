@@ -4,6 +4,8 @@ pub mod Derivation
 pub mod Faults
 pub mod Rows
 pub mod Additions
+pub mod Lists
+pub mod Tested
 pub mod Verdict
 pub mod Acceptable
 pub mod Soundness

@@ -11,7 +11,8 @@ use Rattle.cert_check.specs.Lines.{IsTrueIn, Follows}
 use Rattle.certificate.specs.HasText.{IsListedOf}
 use Rattle.cert_check.specs.Derivation.{IsDerivation}
 use Rattle.axioms.specs.WellFormed.{IsOntology}
-use Rattle.cert_check.specs.Acceptable.{IsAcceptable, IsListing, Says}
+use Rattle.cert_check.specs.Acceptable.{IsAcceptable, Says}
+use Rattle.listed_model.specs.Listing.{IsListing}
 
 -- what follows by a rule from true premises and an axiom of the ontology, or none, is true
 abbrev pub RulesKeepTruth : Type 0

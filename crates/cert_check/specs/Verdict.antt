@@ -3,18 +3,22 @@ use Rattle.std.specs.Prelude.{◌≡◌, ℕ, ◌<◌, ◌≤◌, List, Bool, le
 use Rattle.std.specs.declared.option.Option.{Option}
 use Rattle.std.specs.List.{Contains}
 use Rattle.axioms.specs.Numbered.{Ontology, IsClassAt, axiom_trees, thing, nothing}
+use Rattle.axioms.specs.WellFormed.{IsOntology}
 use Rattle.interpretation_spec.specs.ByName.{IsFirstUnsatisfied}
 use Rattle.interpretation_spec.specs.Interpretation.{Interpretation, IsInterpretation, IsModel}
 use Rattle.certificate.specs.Certificate.{Expression, Individual, Conclusion, Sub, Edge, Line, Listed, Certificate}
-use Rattle.certificate.specs.HasText.{IsTextOf}
+use Rattle.certificate.specs.HasText.{IsTextOf, IsListedOf}
 use Rattle.taxonomy.specs.Texts.{taxonomy_text, instances_text, inconsistent_taxonomy_text, inconsistent_instances_text}
 use Rattle.cert_check.specs.declared.verdict.Reason.{Reason}
 use Rattle.cert_check.specs.declared.verdict.Reason.TheVariants.{BadText, BadLine, AxiomFails, ClaimMissing, ClaimDisagrees, IndividualDisagrees, NoContradiction, TaxonomyDiffers, InstancesDiffer}
 use Rattle.cert_check.specs.declared.verdict.Verdict.{Verdict}
 use Rattle.cert_check.specs.declared.verdict.Verdict.TheVariants.{Accepted, Rejected}
+use Rattle.cert_check.specs.Additions.{SomeRow}
 use Rattle.cert_check.specs.Derivation.{IsDerivation, HasLine}
-use Rattle.cert_check.specs.Acceptable.{IsListing, Agrees, ClaimHolds, LiesBelow, Belongs}
-use Rattle.cert_check.specs.Rows.{SomeLine, AreClassRows, AreTypeRows}
+use Rattle.cert_check.specs.Acceptable.{Agrees, ClaimHolds, LiesBelow, Belongs}
+use Rattle.listed_model.specs.Listing.{IsListing}
+use Rattle.cert_check.specs.Lists.{AreSuperclasses, AreTypes, ArePreorder, said_by}
+use Rattle.cert_check.specs.Rows.{SomeLine}
 use Rattle.cert_check.specs.Faults.{IsFirstBadLine, DifferFirstAt}
 use Rattle.cert_check.specs.Lines.{IsTrueIn}
 
@@ -35,6 +39,10 @@ TextsAgainst t i t' i' (Some (TaxonomyDiffers at)) = DifferFirstAt t t' at
 TextsAgainst t i t' i' (Some (InstancesDiffer at)) = (t ≡ t') × DifferFirstAt i i' at
 TextsAgainst _ _ _ _ _ = ⊥
 
+-- .. of which this is said
+abbrev pub SaysContradiction : List Conclusion → Type 0
+SaysContradiction said = SomeRow said IsContradiction
+
 -- what speaks against them where a derivation is to show a contradiction
 abbrev pub ContradictionAgainst : (taxonomy instances : List ℕ) → List Line → Option Reason → Type 0
 ContradictionAgainst t i lines (Some NoContradiction) = HasContradiction lines → ⊥
@@ -48,9 +56,10 @@ pub record RelationAgainst (o : Ontology) (t i : List ℕ) (lines : List Line) (
   pub types : Belongs o lines belongs
   pub texts : TextsAgainst t i (taxonomy_text o.names.classes lies_below) (instances_text o.names.classes o.names.individuals lies_below belongs) reason
 
--- .. for whichever lines these are the rows of
-abbrev pub RelationAgainstRows : Ontology → (t i : List ℕ) → (above types : List (List Bool)) → Option Reason → Type 0
-RelationAgainstRows o t i above types reason = (lines : List Line) → AreClassRows o lines above → AreTypeRows o lines types → RelationAgainst o t i lines reason
+-- .. for whichever lines these are the lists of
+abbrev pub RelationAgainstLists : Ontology → (t i : List ℕ) → (above types : List (List ℕ)) → Option Reason → Type 0
+RelationAgainstLists o t i above types reason =
+    (lines : List Line) → AreSuperclasses o (said_by lines) above → AreTypes o (said_by lines) types → RelationAgainst o t i lines reason
 
 -- ---- the claims and the individuals of a listed interpretation
 
@@ -84,10 +93,17 @@ ClaimsAgainst o i lines listed None =
     Each (HasClaim o lines listed) × Each (ClaimsHold o i lines listed) × Each (IndividualAgrees o i lines listed)
 ClaimsAgainst _ _ _ _ _ = ⊥
 
--- .. for whichever lines these are the rows of, and whichever interpretation is listed
-abbrev pub ClaimsAgainstRows : Ontology → Listed → (above types : List (List Bool)) → Option Reason → Type 0
-ClaimsAgainstRows o listed above types reason =
-    (lines : List Line) → AreClassRows o lines above → AreTypeRows o lines types → (i : Interpretation) → IsListing o listed i → IsInterpretation i → ClaimsAgainst o i lines listed reason
+-- .. for whichever lines these are the lists of, and whichever interpretation is listed
+abbrev pub ClaimsAgainstLists : Ontology → Listed → (above types : List (List ℕ)) → Option Reason → Type 0
+ClaimsAgainstLists o listed above types reason =
+    (lines : List Line) → AreSuperclasses o (said_by lines) above → AreTypes o (said_by lines) types → (i : Interpretation) → IsListing o listed i → IsInterpretation i → ClaimsAgainst o i lines listed reason
+
+-- where no claim of a listed model speaks against a derivation, what its lines say of classes is a preorder
+abbrev pub AgreedClaimsArePreorder : Type 0
+AgreedClaimsArePreorder =
+    (o : Ontology) → IsOntology o → (lines : List Line) → IsDerivation o lines → (listed : Listed) → IsListedOf o listed →
+    (i : Interpretation) → IsListing o listed i → IsModel i (axiom_trees o) → ClaimsAgainst o i lines listed None →
+    (above : List (List ℕ)) → AreSuperclasses o (said_by lines) above → ArePreorder above
 
 -- what speaks against the texts where the listed interpretation is i: an axiom that it does not satisfy, else a claim or an
 -- individual, else the texts
@@ -107,10 +123,22 @@ pub record ConsistentAgainst (o : Ontology) (taxonomy instances : List ℕ) (lin
   pub interpretation : IsInterpretation i
   pub against : ListingAgainst o taxonomy instances lines listed i reason
 
+-- some derivation's lines say this
+abbrev pub HasDerivation : Ontology → List Conclusion → Type 0
+HasDerivation o said = (lines : List Line) × (said ≡ said_by lines) × IsDerivation o lines
+
+-- .. and the texts are measured, for whichever lines say this
+abbrev pub ConsistentAgainstSaid : Ontology → (taxonomy instances : List ℕ) → List Conclusion → Listed → Option Reason → Type 0
+ConsistentAgainstSaid o t i said listed reason = (lines : List Line) → said ≡ said_by lines → ConsistentAgainst o t i lines listed reason
+
 -- what speaks against a certificate
 abbrev pub Against : Ontology → (taxonomy instances : List ℕ) → List Line → Option Listed → Option Reason → Type 0
 Against o t i lines None reason = ContradictionAgainst t i lines reason
 Against o t i lines (Some listed) reason = ConsistentAgainst o t i lines listed reason
+
+-- .. where its lines say this, whichever they are
+abbrev pub AgainstSaid : Ontology → (taxonomy instances : List ℕ) → List Conclusion → Option Listed → Option Reason → Type 0
+AgainstSaid o t i said listed reason = (lines : List Line) → said ≡ said_by lines → Against o t i lines listed reason
 
 abbrev pub verdict_of_reason : Option Reason → Verdict
 verdict_of_reason None = Accepted

@@ -1,28 +1,28 @@
 //! The checker.
 ghost use Rattle.axioms.specs.Numbered.{axiom_trees};
-ghost use Rattle.cert_check.specs.Acceptable.{AreRight, IsAcceptable, IsListing};
-ghost use Rattle.cert_check.specs.Rows.{AreRows};
-ghost use Rattle.cert_check.specs.Verdict.{Against, ClaimsAgainstRows, ConsistentAgainst, ContradictionAgainst, HasContradiction, HasTrueLines, IsContradiction, IsVerdict, PassesLines, RelationAgainstRows, TextsAgainst, verdict_of_reason};
-ghost use Rattle.certificate.specs.HasText.{IsLineOf, IsListedOf};
-ghost use Rattle.certificate.specs.View.{conclusion_of, lines_of, listed_of};
+ghost use Rattle.cert_check.specs.Acceptable.{AreRight, IsAcceptable};
+ghost use Rattle.listed_model.specs.Listing.{IsListing};
+ghost use Rattle.cert_check.specs.Lists.{AreLists, ArePreorder};
+ghost use Rattle.cert_check.specs.Verdict.{AgainstSaid, ClaimsAgainstLists, ConsistentAgainstSaid, HasDerivation, HasTrueLines, IsContradiction, IsVerdict, PassesLines, RelationAgainstLists, SaysContradiction, TextsAgainst, verdict_of_reason};
+ghost use Rattle.certificate.specs.HasText.{IsListedOf};
+ghost use Rattle.certificate.specs.View.{conclusion_of, listed_of};
 ghost use Rattle.interpretation_spec.specs.ByName.{IsFirstUnsatisfied};
 ghost use Rattle.interpretation_spec.specs.Interpretation.{Interpretation, IsInterpretation, IsModel};
-ghost use Rattle.std.specs.Prelude.{◌↔◌, ◌≡◌, All, IfOk, IfSome, IsTrue, MatchOption, length};
+ghost use Rattle.std.specs.Prelude.{◌↔◌, ◌≡◌, IfOk, IfSome, IsTrue, MatchOption, None, length, map, option_map};
 ghost use Rattle.taxonomy.specs.Outcome.{IsMadeFor, instances_of, taxonomy_of};
 
 use crate::claims::{
-    claimed_elements, element_rows, first_disagreeing_class, first_disagreeing_individual,
+    claimed_elements, element_classes, first_disagreeing_class, first_disagreeing_individual,
     first_unclaimed,
 };
 use crate::compare::first_difference;
-use crate::derivation::first_bad_line;
-use crate::listing::interpretation_of;
-use crate::relation::filled_rows;
-use crate::superclasses::{class_rows, type_rows};
+use crate::derivation::tested_certificate;
+use crate::superclasses::{superclasses, types};
 use crate::verdict::{Reason, Verdict};
 use axioms::{ExprId, Memory, Ontology};
-use certificate::{CertFault, Certificate, Conclusion, Line, Listed, Subject, read_certificate};
-use interpretation_spec::Row;
+use certificate::{CertFault, Conclusion, Listed, Subject};
+use listed_model::first_unsatisfied;
+use number_sets::{EpochSet, PackedLists};
 use std::alloc::Global;
 use taxonomy::{Outcome, Relation, instances_bytes, reduce, taxonomy_bytes};
 
@@ -60,16 +60,16 @@ fn verdict_on(
 ) -> Result<Verdict, Memory>
     ensures { IfOk result (IsVerdict ontology.now taxonomy.now instances.now certificate.now) }
 {
-    let read = match read_certificate(alloc, ontology, certificate) {
-        Ok(certificate) => certificate,
+    let read = match tested_certificate(alloc, ontology, certificate) {
+        Ok(read) => read,
         Err(CertFault::BadText { at }) => return Ok(Verdict::Rejected(Reason::BadText { at })),
         Err(CertFault::Memory) => return Err(Memory),
     };
-    let bad = first_bad_line(alloc, ontology, read.lines())?;
-    match bad {
+    match read.lines.bad {
         Some(number) => Ok(Verdict::Rejected(Reason::BadLine { number })),
         None => {
-            let found = against(alloc, ontology, taxonomy, instances, &read)?;
+            let said = &read.lines.said;
+            let found = against(alloc, ontology, taxonomy, instances, said, &read.listed)?;
             Ok(verdict_of(found))
         }
     }
@@ -85,54 +85,49 @@ fn verdict_of(found: Option<Reason>) -> Verdict
     }
 }
 
-// What speaks against a certificate whose lines are a derivation.
+// What speaks against a certificate whose lines, which say these, are a derivation.
 fn against(
     alloc: Global,
     ontology: &Ontology,
     taxonomy: &[u8],
     instances: &[u8],
-    certificate: &Certificate,
+    said: &[Conclusion],
+    listed: &Option<Listed>,
 ) -> Result<Option<Reason>, Memory>
-    requires lines { All (IsLineOf ontology.now) certificate.now.lines }
-    requires listed { IfSome certificate.now.listed (IsListedOf ontology.now) }
-    ensures { IfOk result (Against ontology.now taxonomy.now instances.now certificate.now.lines certificate.now.listed) }
+    requires derived { HasDerivation ontology.now (map conclusion_of said.now) }
+    requires listed { IfSome (option_map listed_of listed.now) (IsListedOf ontology.now) }
+    ensures { IfOk result (AgainstSaid ontology.now taxonomy.now instances.now (map conclusion_of said.now) (option_map listed_of listed.now)) }
 {
-    match certificate.listed() {
-        Some(listed) => against_consistent(
-            alloc,
-            ontology,
-            taxonomy,
-            instances,
-            certificate.lines(),
-            listed,
-        ),
-        None => against_contradiction(alloc, ontology, taxonomy, instances, certificate.lines()),
+    match listed {
+        Some(listed) => against_consistent(alloc, ontology, taxonomy, instances, said, listed),
+        None => against_contradiction(alloc, ontology, taxonomy, instances, said),
     }
 }
 
-// What speaks against a certificate with a listed interpretation whose lines are a derivation.
+// What speaks against a certificate with a listed interpretation whose lines, which say these, are a derivation.
 fn against_consistent(
     alloc: Global,
     ontology: &Ontology,
     taxonomy: &[u8],
     instances: &[u8],
-    lines: &[Line],
+    said: &[Conclusion],
     listed: &Listed,
 ) -> Result<Option<Reason>, Memory>
-    requires lines { All (IsLineOf ontology.now) (lines_of lines.now) }
+    requires derived { HasDerivation ontology.now (map conclusion_of said.now) }
     requires listed { IsListedOf ontology.now (listed_of listed.now) }
-    ensures { IfOk result (ConsistentAgainst ontology.now taxonomy.now instances.now (lines_of lines.now) (listed_of listed.now)) }
+    ensures { IfOk result (ConsistentAgainstSaid ontology.now taxonomy.now instances.now (map conclusion_of said.now) (listed_of listed.now)) }
 {
+    ontology.well_formed();
     if let Some(axiom) = first_failing_axiom(alloc, ontology, listed)? {
         return Ok(Some(Reason::AxiomFails { axiom }));
     }
-    let above = class_rows(alloc, ontology, lines)?;
-    let types = type_rows(alloc, ontology, lines)?;
+    let above = superclasses(alloc, ontology, said)?;
+    let types = types(alloc, ontology, said)?;
     let claims = against_claims(alloc, ontology, listed, &above, &types)?;
     if claims.is_some() {
         return Ok(claims);
     }
-    against_relation(alloc, ontology, taxonomy, instances, above, types)
+    against_relation(alloc, ontology, taxonomy, instances, &above, types)
 }
 
 // The least number of an axiom that the listed interpretation does not satisfy.
@@ -145,10 +140,7 @@ fn first_failing_axiom(
     ensures { IfOk result (λ found. (i : Interpretation) × IsListing ontology.now (listed_of listed.now) i × IsInterpretation i
         × MatchOption found (IsModel i (axiom_trees ontology.now)) (IsFirstUnsatisfied ontology.now i)) }
 {
-    ontology.well_formed();
-    let interpretation = interpretation_of(alloc, ontology, listed)?;
-    interpretation.well_formed();
-    interpretation.first_unsatisfied(ontology)
+    first_unsatisfied(alloc, ontology, listed)
 }
 
 // What speaks against the claims, and against the elements of the individuals.
@@ -156,13 +148,13 @@ fn against_claims(
     alloc: Global,
     ontology: &Ontology,
     listed: &Listed,
-    above: &[Row],
-    types: &[Row],
+    above: &PackedLists,
+    types: &PackedLists,
 ) -> Result<Option<Reason>, Memory>
     requires listed { IsListedOf ontology.now (listed_of listed.now) }
-    requires above { AreRows (length ontology.now.names.classes) (length ontology.now.names.classes) above.now }
-    requires types { AreRows (length ontology.now.names.individuals) (length ontology.now.names.classes) types.now }
-    ensures { IfOk result (ClaimsAgainstRows ontology.now (listed_of listed.now) above.now types.now) }
+    requires above { AreLists (length ontology.now.names.classes) (length ontology.now.names.classes) above.now }
+    requires types { AreLists (length ontology.now.names.individuals) (length ontology.now.names.classes) types.now }
+    ensures { IfOk result (ClaimsAgainstLists ontology.now (listed_of listed.now) above.now types.now) }
 {
     ontology.well_formed();
     ontology.bounded();
@@ -170,11 +162,13 @@ fn against_claims(
     if let Some(class) = first_unclaimed(above, &claimed) {
         return Ok(Some(Reason::ClaimMissing { class }));
     }
-    let holding = element_rows(alloc, ontology, listed.domain, &listed.classes)?;
-    if let Some(class) = first_disagreeing_class(above, &claimed, &holding) {
+    let holding = element_classes(alloc, ontology, listed.domain, &listed.classes)?;
+    let mut set = EpochSet::new(alloc, ontology.classes().len())?;
+    if let Some(class) = first_disagreeing_class(&mut set, above, &claimed, &holding) {
         return Ok(Some(Reason::ClaimDisagrees { class }));
     }
-    if let Some(individual) = first_disagreeing_individual(types, &listed.individuals, &holding) {
+    let individuals = &listed.individuals;
+    if let Some(individual) = first_disagreeing_individual(&mut set, types, individuals, &holding) {
         return Ok(Some(Reason::IndividualDisagrees { individual }));
     }
     Ok(None)
@@ -186,43 +180,43 @@ fn against_relation(
     ontology: &Ontology,
     taxonomy: &[u8],
     instances: &[u8],
-    above: Vec<Row>,
-    types: Vec<Row>,
+    above: &PackedLists,
+    types: PackedLists,
 ) -> Result<Option<Reason>, Memory>
-    requires above { AreRows (length ontology.now.names.classes) (length ontology.now.names.classes) above.items }
-    requires types { AreRows (length ontology.now.names.individuals) (length ontology.now.names.classes) types.items }
-    ensures { IfOk result (RelationAgainstRows ontology.now taxonomy.now instances.now above.items types.items) }
+    requires above { length above.now ≡ length ontology.now.names.classes }
+    requires preorder { ArePreorder above.now }
+    requires types { AreLists (length ontology.now.names.individuals) (length ontology.now.names.classes) types }
+    ensures { IfOk result (RelationAgainstLists ontology.now taxonomy.now instances.now above.now types) }
 {
     ontology.well_formed();
-    let filled = filled_rows(alloc, &above)?;
-    let relation = Relation::new(filled);
+    let relation = Relation::of_superclasses(alloc, above)?;
     let reduced = reduce(alloc, &relation)?;
     let outcome = Outcome::Consistent(reduced, types);
     against_texts(alloc, ontology, taxonomy, instances, &outcome)
 }
 
-// What speaks against a certificate of a contradiction whose lines are a derivation.
+// What speaks against a certificate of a contradiction whose lines, which say these, are a derivation.
 fn against_contradiction(
     alloc: Global,
     ontology: &Ontology,
     taxonomy: &[u8],
     instances: &[u8],
-    lines: &[Line],
+    said: &[Conclusion],
 ) -> Result<Option<Reason>, Memory>
-    ensures { IfOk result (ContradictionAgainst taxonomy.now instances.now (lines_of lines.now)) }
+    ensures { IfOk result (AgainstSaid ontology.now taxonomy.now instances.now (map conclusion_of said.now) None) }
 {
-    if !has_contradiction(lines) {
+    if !has_contradiction(said) {
         return Ok(Some(Reason::NoContradiction));
     }
     against_texts(alloc, ontology, taxonomy, instances, &Outcome::Inconsistent)
 }
 
-// Whether a line puts owl:Thing or an individual below owl:Nothing.
-fn has_contradiction(lines: &[Line]) -> bool
-    ensures { IsTrue result ↔ HasContradiction (lines_of lines.now) }
+// Whether one of these puts owl:Thing or an individual below owl:Nothing.
+fn has_contradiction(said: &[Conclusion]) -> bool
+    ensures { IsTrue result ↔ SaysContradiction (map conclusion_of said.now) }
 {
-    for line in lines {
-        if is_contradiction(line.conclusion) {
+    for conclusion in said {
+        if is_contradiction(*conclusion) {
             return true;
         }
     }

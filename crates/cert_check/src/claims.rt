@@ -1,18 +1,18 @@
 //! Whether the classes that hold claimed elements, and the elements of individuals, are those that lines put above.
-ghost use Rattle.cert_check.specs.Additions.{AreElementRows, ListsMember};
-ghost use Rattle.cert_check.specs.Rows.{Adds, AreClaimed, AreRows, ClaimAgrees, ElementAgrees, IsClaimed, IsInExactly};
+ghost use Rattle.cert_check.specs.Additions.{ListsMember, thing_class};
+ghost use Rattle.cert_check.specs.Lists.{AddsNumbers, AreClaimed, AreElementClasses, AreLists, ClaimAgrees, ElementAgrees, IsClaimed, IsInExactly, has_number};
+ghost use Rattle.taxonomy.specs.Relation.{is_listed};
 ghost use Rattle.cert_check.specs.Verdict.{Each, IsFirstWithout};
-ghost use Rattle.certificate.specs.HasText.{AreElements, Ascends};
+ghost use Rattle.certificate.specs.HasText.{Ascends};
 ghost use Rattle.certificate.specs.View.{claim_of, class_row_of};
-ghost use Rattle.interpretation_spec.specs.Row.{has};
-ghost use Rattle.std.specs.Prelude.{◌↔◌, ◌<◌, ◌≤◌, ◌^◌, ◌≡◌, ◌⊎◌, All, IfOk, IsTrue, MatchOption, Some, false, length, map, replicate, slice_get, slice_set, true, ℕ};
-ghost use Rattle.taxonomy.specs.Relation.{AreOver, lies_below};
+ghost use Rattle.number_sets.specs.Members.{has};
+ghost use Rattle.number_sets.specs.Pieces.{list_at};
+ghost use Rattle.std.specs.Prelude.{◌↔◌, ◌<◌, ◌≤◌, ◌^◌, ◌≡◌, ◌⊎◌, ◌∷◌, [], IfOk, IsTrue, MatchOption, OnOk, Some, length, map, replicate, slice_get, true, ℕ};
 ghost use Rattle.taxonomy.specs.Texts.{nothing_class};
 
-use crate::superclasses::put_at;
 use axioms::{ClassId, IndId, Memory, Ontology};
 use certificate::{Claim, ClassRow};
-use interpretation_spec::Row;
+use number_sets::{EpochSet, OpenLists, PackedLists};
 use std::alloc::Global;
 
 /// The claimed element for each class, by number, where there is a claim.
@@ -35,131 +35,171 @@ pub(crate) fn claimed_elements(
     Ok(elements)
 }
 
-// So many rows with only owl:Thing.
-fn thing_rows(alloc: Global, count: usize, width: usize) -> Result<Vec<Row>, Memory>
-    ensures { IfOk result (λ rows. rows.items ≡ replicate count (slice_set (replicate width false) 0 true)) }
+// A list for each of so many elements, with only owl:Thing.
+fn thing_lists(alloc: Global, count: usize) -> Result<OpenLists, Memory>
+    ensures long { IfOk result (λ lists. length lists ≡ count) }
+    ensures each { IfOk result (λ lists. (x c : ℕ) → x < length lists → (is_listed lists x c ≡ true) ↔ (c ≡ thing_class)) }
 {
-    let mut rows = Vec::new(alloc);
-    for _ in 0..count {
-        let mut row = Row::new(alloc, width)?;
-        row.put(ClassId::THING.0 as usize);
-        rows.push(row)?;
+    let mut lists = OpenLists::new(alloc, count)?;
+    for element in 0..count {
+        lists.push(element, ClassId::THING.0)?;
     }
-    Ok(rows)
+    Ok(lists)
 }
 
-// Adds the class to the rows of its elements.
-fn put_holders(ontology: &Ontology, rows: &mut Vec<Row>, listed: &ClassRow)
-    requires rows { AreRows (length rows.old.items) (length ontology.now.names.classes) rows.old.items }
-    requires within { All (λ x. x < length rows.old.items) listed.now.elements.items }
-    ensures kept { AreRows (length rows.old.items) (length ontology.now.names.classes) rows.new.items }
-    ensures added { Adds (λ x c. ListsMember ontology.now (class_row_of listed.now) c x) rows.old.items rows.new.items }
+// Adds the class to the lists of its elements.
+fn put_holders(ontology: &Ontology, lists: &mut OpenLists, listed: &ClassRow) -> Result<(), Memory>
+    ensures { OnOk result (AddsNumbers (λ x c. ListsMember ontology.now (class_row_of listed.now) c x) lists.old lists.new) }
 {
     if let Some(class) = ontology.class_of(listed.class) {
         for element in &listed.elements {
-            put_at(rows, *element as usize, class.0 as usize);
+            lists.push(*element as usize, class.0)?;
         }
     }
+    Ok(())
 }
 
-/// For each element the row of the classes that it is in: owl:Thing, and those that are listed with it.
-pub(crate) fn element_rows(
+/// For each element the list of the classes that it is in: owl:Thing, and those that are listed with it.
+pub(crate) fn element_classes(
     alloc: Global,
     ontology: &Ontology,
     domain: u32,
     classes: &[ClassRow],
-) -> Result<Vec<Row>, Memory>
-    requires { All (λ row. AreElements domain row.elements.items) classes.now }
-    ensures { IfOk result (λ rows. AreElementRows ontology.now domain (map class_row_of classes.now) rows.items) }
+) -> Result<PackedLists, Memory>
+    ensures { IfOk result (λ lists. AreElementClasses ontology.now domain (map class_row_of classes.now) lists) }
 {
-    // Owl:Thing is among its classes.
-    ontology.well_formed();
-    let mut rows = thing_rows(alloc, domain as usize, ontology.classes().len())?;
+    let mut lists = thing_lists(alloc, domain as usize)?;
     for listed in classes {
-        put_holders(ontology, &mut rows, listed);
+        put_holders(ontology, &mut lists, listed)?;
     }
-    Ok(rows)
+    Ok(lists.packed(alloc)?)
 }
 
-// Whether the class with this row and this claim is below owl:Nothing or has a claimed element.
-fn is_claimed(row: &Row, claim: Option<u32>) -> bool
-    ensures { IsTrue result ↔ ((has row.now nothing_class ≡ true) ⊎ ((x : ℕ) × (claim ≡ Some x))) }
+// Whether the class with this list and this claim is below owl:Nothing or has a claimed element.
+fn is_claimed(above: &[u32], claim: Option<u32>) -> bool
+    ensures { IsTrue result ↔ ((has_number above.now nothing_class ≡ true) ⊎ ((x : ℕ) × (claim ≡ Some x))) }
 {
-    row.contains(ClassId::NOTHING.0 as usize) || claim.is_some()
+    claim.is_some() || above.contains(&ClassId::NOTHING.0)
 }
 
-/// The least class that has no owl:Nothing in its row and for which nothing is claimed.
-pub(crate) fn first_unclaimed(above: &[Row], claimed: &[Option<u32>]) -> Option<ClassId>
+/// The least class that has no owl:Nothing in its list and for which nothing is claimed.
+pub(crate) fn first_unclaimed(above: &PackedLists, claimed: &[Option<u32>]) -> Option<ClassId>
     requires claimed { length claimed.now ≡ length above.now }
     requires few { length above.now ≤ 2 ^ 32 }
     ensures { MatchOption result (Each (IsClaimed above.now claimed.now)) (λ class. IsFirstWithout (IsClaimed above.now claimed.now) class.0) }
 {
-    for (class, row) in above.iter().enumerate() {
-        if !is_claimed(row, claimed[class]) {
+    for class in 0..above.len() {
+        if !is_claimed(above.at(class), claimed[class]) {
             return Some(ClassId(class as u32));
         }
     }
     None
 }
 
-// Whether the element is in exactly the classes of the row.
-fn is_in_exactly(holding: &[Row], element: u32, row: &Row) -> bool
-    requires there { element < length holding.now }
-    requires over { AreOver (length row.now) holding.now }
-    ensures { IsTrue result ↔ IsInExactly holding.now element row.now }
+// Makes the set that of these numbers.
+fn fill(set: &mut EpochSet, numbers: &[u32])
+    ensures long { length set.new ≡ length set.old }
+    ensures each { (n : ℕ) → n < length set.old → has set.new n ≡ has_number numbers.now n }
 {
-    let held = &holding[element as usize];
-    held.is_subset(row) && row.is_subset(held)
+    set.clear();
+    for number in numbers {
+        set.put(*number as usize);
+    }
 }
 
-// Whether the claimed element is in the class, and in exactly the classes of its row.
-fn agrees(holding: &[Row], class: usize, claim: Option<u32>, row: &Row) -> bool
-    requires there { (x : ℕ) → claim ≡ Some x → x < length holding.now }
-    requires over { AreOver (length row.now) holding.now }
-    ensures { IsTrue result ↔ ((x : ℕ) → claim ≡ Some x → (lies_below holding.now x class ≡ true) × IsInExactly holding.now x row.now) }
+// Whether the set has each of these numbers.
+fn has_each(set: &EpochSet, numbers: &[u32]) -> bool
+    ensures { IsTrue result ↔ ((n : ℕ) → has_number numbers.now n ≡ true → has set.now n ≡ true) }
+{
+    for number in numbers {
+        if !set.contains(*number as usize) {
+            return false;
+        }
+    }
+    true
+}
+
+// Whether each of these numbers is one of the others. The set is to work in.
+fn are_among(set: &mut EpochSet, numbers: &[u32], others: &[u32]) -> bool
+    requires { (n : ℕ) → has_number others.now n ≡ true → n < length set.old }
+    ensures long { length set.new ≡ length set.old }
+    ensures each { IsTrue result ↔ ((n : ℕ) → has_number numbers.now n ≡ true → has_number others.now n ≡ true) }
+{
+    fill(set, others);
+    has_each(set, numbers)
+}
+
+// Whether these are the same numbers, however often each stands. The set is to work in. Of numbers of which none stands twice no
+// more are looked at than there are others, since the first that is not among these ends it: a forged claim costs no more.
+fn are_same(set: &mut EpochSet, numbers: &[u32], others: &[u32]) -> bool
+    requires numbers { (n : ℕ) → has_number numbers.now n ≡ true → n < length set.old }
+    requires others { (n : ℕ) → has_number others.now n ≡ true → n < length set.old }
+    ensures long { length set.new ≡ length set.old }
+    ensures each { IsTrue result ↔ ((n : ℕ) → has_number numbers.now n ≡ has_number others.now n) }
+{
+    are_among(set, numbers, others) && are_among(set, others, numbers)
+}
+
+// Whether the claimed element is in the class, and in exactly the classes above it. The set is to work in.
+fn agrees(
+    set: &mut EpochSet,
+    holding: &PackedLists,
+    class: u32,
+    claim: Option<u32>,
+    above: &[u32],
+) -> bool
+    requires holding { (x n : ℕ) → is_listed holding.now x n ≡ true → n < length set.old }
+    requires above { (n : ℕ) → has_number above.now n ≡ true → n < length set.old }
+    ensures long { length set.new ≡ length set.old }
+    ensures each { IsTrue result ↔ ((x : ℕ) → claim ≡ Some x → (is_listed holding.now x class ≡ true) × IsInExactly holding.now x above.now) }
 {
     match claim {
-        Some(element) => holding[element as usize].contains(class)
-            && is_in_exactly(holding, element, row),
+        Some(element) => {
+            let held = holding.at(element as usize);
+            held.contains(&class) && are_same(set, held, above)
+        }
         None => true,
     }
 }
 
-/// The least class whose claimed element is not in it, or is in other classes than those of its row.
+/// The least class whose claimed element is not in it, or is in other classes than those of its list. The set is to work in.
 pub(crate) fn first_disagreeing_class(
-    above: &[Row],
+    set: &mut EpochSet,
+    above: &PackedLists,
     claimed: &[Option<u32>],
-    holding: &[Row],
+    holding: &PackedLists,
 ) -> Option<ClassId>
     requires claimed { length claimed.now ≡ length above.now }
     requires few { length above.now ≤ 2 ^ 32 }
-    requires there { (c x : ℕ) → slice_get claimed.now c ≡ Some (Some x) → x < length holding.now }
-    requires above { AreOver (length above.now) above.now }
-    requires holding { AreOver (length above.now) holding.now }
-    ensures { MatchOption result (Each (ClaimAgrees above.now claimed.now holding.now)) (λ class. IsFirstWithout (ClaimAgrees above.now claimed.now holding.now) class.0) }
+    requires above { (c n : ℕ) → is_listed above.now c n ≡ true → n < length set.old }
+    requires holding { (x n : ℕ) → is_listed holding.now x n ≡ true → n < length set.old }
+    ensures long { length set.new ≡ length set.old }
+    ensures each { MatchOption result (Each (ClaimAgrees above.now claimed.now holding.now)) (λ class. IsFirstWithout (ClaimAgrees above.now claimed.now holding.now) class.0) }
 {
-    for (class, row) in above.iter().enumerate() {
-        if !agrees(holding, class, claimed[class], row) {
+    for class in 0..above.len() {
+        if !agrees(set, holding, class as u32, claimed[class], above.at(class)) {
             return Some(ClassId(class as u32));
         }
     }
     None
 }
 
-/// The least individual whose element is in other classes than those of its row.
+/// The least individual whose element is in other classes than those of its list. The set is to work in.
 pub(crate) fn first_disagreeing_individual(
-    types: &[Row],
+    set: &mut EpochSet,
+    types: &PackedLists,
     elements: &[u32],
-    holding: &[Row],
+    holding: &PackedLists,
 ) -> Option<IndId>
     requires elements { length elements.now ≡ length types.now }
     requires few { length types.now ≤ 2 ^ 32 }
-    requires there { All (λ x. x < length holding.now) elements.now }
-    requires over { (width : ℕ) × AreOver width types.now × AreOver width holding.now }
+    requires types { (a n : ℕ) → is_listed types.now a n ≡ true → n < length set.old }
+    requires holding { (x n : ℕ) → is_listed holding.now x n ≡ true → n < length set.old }
     ensures { MatchOption result (Each (ElementAgrees types.now elements.now holding.now)) (λ individual. IsFirstWithout (ElementAgrees types.now elements.now holding.now) individual.0) }
 {
-    for (individual, row) in types.iter().enumerate() {
-        if !is_in_exactly(holding, elements[individual], row) {
+    for individual in 0..types.len() {
+        let held = holding.at(elements[individual] as usize);
+        if !are_same(set, held, types.at(individual)) {
             return Some(IndId(individual as u32));
         }
     }

@@ -7,7 +7,6 @@ mod compare;
 mod derivation;
 mod listing;
 mod operands;
-mod relation;
 mod rules;
 mod superclasses;
 mod theory;

@@ -1,5 +1,5 @@
 //! The interpretation that a certificate lists.
-ghost use Rattle.cert_check.specs.Acceptable.{IsListing};
+ghost use Rattle.listed_model.specs.Listing.{IsListing};
 ghost use Rattle.cert_check.specs.Additions.{AddsMembers, AddsPairs, IsListedMember, IsListedPair, PutsIndividuals, ListsMember, ListsPair};
 ghost use Rattle.certificate.specs.HasText.{IsListedOf};
 ghost use Rattle.certificate.specs.View.{class_row_of, listed_of, pair_row_of};

@@ -1,11 +1,12 @@
 //! Verdicts on small certificates that were worked out by hand: right ones, cut ones and ones that were changed.
 
+mod models;
 mod ontologies;
 mod rules;
 
 use axioms::{ClassId, IndId, Memory, Ontology};
 use cert_check::{Reason, Verdict, check, soundness, worked_certificates};
-use ontologies::{contradiction, one_member, one_subclass};
+use ontologies::{circle_and_nothing, contradiction, one_member, one_subclass};
 use std::alloc::Global;
 use std::process::Abort;
 use std::random::RandomSource;
@@ -31,6 +32,13 @@ const ONE_MEMBER: Texts<'static> = Texts {
     taxonomy: "eltax 1 consistent\n<http://www.w3.org/2002/07/owl#Thing>\n<x:A> < <http://www.w3.org/2002/07/owl#Thing>\nbottom <http://www.w3.org/2002/07/owl#Nothing>\n",
     instances: "elinst 1 consistent\n<x:a> : <x:A>\n",
     certificate: "elcert 1 consistent\nsub e0 e0 K1\nsub e1 e1 K1\nsub e2 e2 K1\nsub e2 e0 K2\nsub i0 e2 K15 a1\nsub i0 e0 K2\ndomain 3\nclass e2 1 2\nind i0 2\nclaim e0 0\nclaim e2 1\nend\n",
+};
+
+/// The right texts of SubClassOf(A B) SubClassOf(B A) SubClassOf(C D) SubClassOf(D owl:Nothing).
+const CIRCLE_AND_NOTHING: Texts<'static> = Texts {
+    taxonomy: "eltax 1 consistent\n<http://www.w3.org/2002/07/owl#Thing>\n<x:A> = <x:B> < <http://www.w3.org/2002/07/owl#Thing>\nbottom <http://www.w3.org/2002/07/owl#Nothing> = <x:C> = <x:D>\n",
+    instances: "elinst 1 consistent\n",
+    certificate: "elcert 1 consistent\nsub e0 e0 K1\nsub e1 e1 K1\nsub e5 e5 K1\nsub e5 e1 K4 a4 3\nsub e4 e4 K1\nsub e4 e5 K4 a3 5\nsub e4 e1 K4 a4 6\nsub e2 e2 K1\nsub e2 e0 K2\nsub e2 e3 K4 a1 8\nsub e3 e3 K1\nsub e3 e0 K2\nsub e3 e2 K4 a2 11\ndomain 2\nclass e2 1\nclass e3 1\nclaim e0 0\nclaim e2 1\nclaim e3 1\nend\n",
 };
 
 /// The right texts of DisjointClasses(A B) ClassAssertion(A a) ClassAssertion(B a).
@@ -196,10 +204,73 @@ fn forged_certificates_of_one_subclass(rt: HostRuntime) -> Result<(), Fail> {
     judge_one_subclass(&rt, ONE_SUBCLASS, &changes)
 }
 
+// The first bad line is told, and a text that is that of no certificate before any line of it.
+#[test]
+fn bad_lines_and_bad_texts(rt: HostRuntime) -> Result<(), Fail> {
+    let front = "sub e0 e0 K1\nsub e1 e1 K1";
+    let changes = [
+        (front, "sub e0 e0 K1\nsub e1 e0 K1", bad_line(2)),
+        (front, "sub e0 e1 K1\nsub e1 e0 K1", bad_line(1)),
+        (front, "sub e0 e1 K1\nsub e1 e1 K17", bad_text(33)),
+        (front, "sub e0 e1 K1\nsub e1 e99 K1", bad_text(33)),
+    ];
+    judge_one_subclass(&rt, ONE_SUBCLASS, &changes)
+}
+
 #[test]
 fn a_claim_of_nothing(rt: HostRuntime) -> Result<(), Fail> {
     let changes = [("claim e2 1", "claim e1 1\nclaim e2 1", claim_disagrees(1))];
     judge_one_subclass(&rt, ONE_SUBCLASS, &changes)
+}
+
+// What lines say is counted once, however often they say it.
+#[test]
+fn lines_that_stand_twice(rt: HostRuntime) -> Result<(), Fail> {
+    let superclass = [(
+        "sub e2 e3 K4 a1 3\n",
+        "sub e2 e3 K4 a1 3\nsub e2 e3 K4 a1 3\n",
+        Verdict::Accepted,
+    )];
+    judge_one_subclass(&rt, ONE_SUBCLASS, &superclass)?;
+    let class = [(
+        "sub i0 e0 K2\n",
+        "sub i0 e0 K2\nsub i0 e0 K2\nsub i0 e2 K15 a1\n",
+        Verdict::Accepted,
+    )];
+    judge_one_member(&rt, ONE_MEMBER, &class)
+}
+
+// Not all lines of what is below owl:Nothing are there, and the classes of a circle have one element.
+#[test]
+fn classes_in_a_circle_and_below_nothing(rt: HostRuntime) -> Result<(), Fail> {
+    let changes = [
+        ("end", "end", Verdict::Accepted),
+        ("sub e4 e1 K4 a4 6", "sub e4 e4 K1", claim_missing(4)),
+        ("sub e3 e2 K4 a2 11\n", "", claim_disagrees(3)),
+        (
+            "claim e3 1\n",
+            "claim e3 1\nclaim e4 1\n",
+            claim_disagrees(4),
+        ),
+    ];
+    let ontology = circle_and_nothing(&rt)?;
+    are_judged(&rt, &ontology, CIRCLE_AND_NOTHING, &changes)
+}
+
+// The claimed element is in more classes than lines put above its class, or the individual's than lines put it into.
+#[test]
+fn elements_in_more_classes(rt: HostRuntime) -> Result<(), Fail> {
+    let classes = [
+        ("claim e3 2", "claim e3 1", claim_disagrees(3)),
+        ("claim e0 0", "claim e0 2", claim_disagrees(0)),
+    ];
+    judge_one_subclass(&rt, ONE_SUBCLASS, &classes)?;
+    let individuals = [(
+        "sub i0 e2 K15 a1\nsub i0 e0 K2",
+        "sub i0 e0 K2",
+        individual_disagrees(0),
+    )];
+    judge_one_member(&rt, ONE_MEMBER, &individuals)
 }
 
 /// The certificate, cut anywhere in the line, stops at the start of that line.

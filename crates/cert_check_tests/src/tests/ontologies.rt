@@ -7,7 +7,10 @@ use std::random::RandomSource;
 use std::test::Fail;
 
 /// The ontology that the document states.
-fn ontology_of<R: AllocGlobal + RandomSource>(rt: &R, document: &str) -> Result<Ontology, Fail> {
+pub(super) fn ontology_of<R: AllocGlobal + RandomSource>(
+    rt: &R,
+    document: &str,
+) -> Result<Ontology, Fail> {
     Ok(read_bytes(rt.alloc(), document.as_bytes(), RandomState::new(rt)?)?)
 }
 
@@ -27,6 +30,14 @@ pub(super) fn contradiction<R: AllocGlobal + RandomSource>(rt: &R) -> Result<Ont
     ontology_of(
         rt,
         "Prefix(:=<x:>) Ontology(DisjointClasses(:A :B) ClassAssertion(:A :a) ClassAssertion(:B :a))",
+    )
+}
+
+/// SubClassOf(A B) SubClassOf(B A) SubClassOf(C D) SubClassOf(D owl:Nothing), of the classes of the numbers 2 to 5.
+pub(super) fn circle_and_nothing<R: AllocGlobal + RandomSource>(rt: &R) -> Result<Ontology, Fail> {
+    ontology_of(
+        rt,
+        "Prefix(:=<x:>) Ontology(SubClassOf(:A :B) SubClassOf(:B :A) SubClassOf(:C :D) SubClassOf(:D owl:Nothing))",
     )
 }
 

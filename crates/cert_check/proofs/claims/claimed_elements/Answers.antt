@@ -2,7 +2,7 @@ use Rattle.std.proofs.Common.{◌+◌, map, take, get_or, sym, subst}
 use Rattle.std.proofs.lemmas.Option.{slice_get-get_or}
 use Rattle.certificate.specs.View.{claim_of}
 use Rattle.certificate.specs.declared.listed.Claim.{Claim}
-use Rattle.cert_check.specs.Rows.{AreClaimed}
+use Rattle.cert_check.specs.Lists.{AreClaimed}
 use Rattle.cert_check.proofs.Claimed.{claim_step, no_claim_step}
 use Rattle.cert_check.proofs.claims.claimed_elements.Goals as goal
 use Rattle.cert_check.proofs.claims.claimed_elements.Goals.{in-Some, in_default}

@@ -1,6 +1,6 @@
 use Rattle.std.proofs.Common.{map, take}
 use Rattle.certificate.specs.View.{claim_of}
-use Rattle.cert_check.specs.Rows.{AreClaimed}
+use Rattle.cert_check.specs.Lists.{AreClaimed}
 use Rattle.cert_check.proofs.claims.claimed_elements.Given as goal
 
 abbrev pub invariant-loop-claim : goal.invariant-loop-claim

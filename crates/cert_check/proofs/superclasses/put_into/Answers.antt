@@ -1,5 +1,5 @@
-use Rattle.cert_check.proofs.Rowwise.{adds_none}
+use Rattle.cert_check.proofs.Listwise.{adds_nothing}
 use Rattle.cert_check.proofs.superclasses.put_into.Goals as goal
 
-pub returns-in-None-clause-added : goal.returns-in-None-clause-added
-returns-in-None-clause-added c = adds_none _ _ c.in-None.ensures
+pub returns-in_default : goal.returns-in_default
+returns-in_default c = adds_nothing _ _ c.in_default.ensures

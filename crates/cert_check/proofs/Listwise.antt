@@ -1,0 +1,184 @@
+-- Lists to which numbers are added.
+use Rattle.std.proofs.Common.{◌≡◌, ◌↔◌, ℕ, zero, suc, ◌+◌, ◌<◌, ◌⊎◌, inl, inr, true, false, List, [], ◌∷◌, ◌++◌, length, map, take, get_or, slice_get, slice_set, replicate, Some, Contains, refl, sym, ap, ◌∙◌, subst, arith}
+use Rattle.std.proofs.lemmas.Bool.{cases_eq, cases_lt, false≢true}
+use Rattle.std.proofs.lemmas.List.{length-set, get_or-set_same, get_or-set_other, length-replicate}
+use Rattle.std.proofs.lemmas.Option.{slice_get-get_or}
+use Rattle.axioms.specs.Numbered.{Ontology, IsClassAt}
+use Rattle.axioms.proofs.Trees.{one_class}
+use Rattle.certificate.specs.Certificate.{Conclusion, Sub, Expression, Individual}
+use Rattle.certificate.specs.View.{class_row_of}
+use Rattle.certificate.specs.declared.listed.ClassRow.{ClassRow}
+use Rattle.number_sets.specs.Pieces.{list_at}
+use Rattle.cert_check.specs.Additions.{SomeRow, ListsMember, thing_class}
+use Rattle.cert_check.specs.Lists.{has_number, AddsNumbers, PutsBelow, PutsInto, AreSuperclasses, AreTypes, AreElementClasses}
+use Rattle.taxonomy.specs.Relation.{is_listed}
+use Rattle.cert_check.proofs.Additions.{any_first, some_none, some_next, step_both, contains_next}
+
+-- ---- one more number
+
+pub among_push : (xs : List ℕ) (b n : ℕ) → (has_number (xs ++ b ∷ []) n ≡ true) ↔ ((has_number xs n ≡ true) ⊎ (n ≡ b))
+among_push [] b n =
+    let f = any_first n b [] in
+    (λ t. elim (f.0 t) [ inl e ↦ inr (sym e) | inr u ↦ inl u ], λ h. elim h [ inl u ↦ f.1 (inr u) | inr e ↦ f.1 (inl (sym e)) ])
+among_push (x ∷ xs) b n =
+    let f = any_first n x (xs ++ b ∷ []) in
+    let old = any_first n x xs in
+    let rest = among_push xs b n in (
+      λ t. elim (f.0 t) [ inl e ↦ inl (old.1 (inl e)) | inr u ↦ elim (rest.0 u) [ inl v ↦ inl (old.1 (inr v)) | inr e ↦ inr e ] ],
+      λ h. elim h [ inl u ↦ elim (old.0 u) [ inl e ↦ f.1 (inl e) | inr v ↦ f.1 (inr (rest.1 (inl v))) ] | inr e ↦ f.1 (inr (rest.1 (inr e))) ],
+    )
+
+-- past the lists there is none
+pub listed_within : (lists : List (List ℕ)) (k n : ℕ) → is_listed lists k n ≡ true → k < length lists
+listed_within [] k n t = absurd (false≢true t)
+listed_within (l ∷ lists) zero n t = omega arith
+listed_within (l ∷ lists) (suc k) n t = let r = listed_within lists k n t in omega arith
+
+-- the lists with one more number at the end of one of them
+abbrev pub with_listed : List (List ℕ) → ℕ → ℕ → List (List ℕ)
+with_listed lists a b = slice_set lists a (list_at lists a ++ b ∷ [])
+
+pub one_more : (lists : List (List ℕ)) (a b c d : ℕ) → c < length lists
+    → (is_listed (with_listed lists a b) c d ≡ true) ↔ ((is_listed lists c d ≡ true) ⊎ ((c ≡ a) × (d ≡ b)))
+one_more lists a b c d lc = elim (cases_eq c a) [
+  | inr ne ↦
+      (let stays : is_listed (with_listed lists a b) c d ≡ is_listed lists c d = ap (λ l. has_number l d) (get_or-set_other lists a c (list_at lists a ++ b ∷ []) [] ne) in
+      (λ t. inl (sym stays ∙ t), λ h. elim h [ inl t ↦ stays ∙ t | inr p ↦ absurd (ne p.0) ]))
+  | inl e ↦
+      (let la : a < length lists = subst (λ k. k < length lists) e lc in
+      let there : is_listed (with_listed lists a b) a d ≡ has_number (list_at lists a ++ b ∷ []) d = ap (λ l. has_number l d) (get_or-set_same lists a (list_at lists a ++ b ∷ []) [] la) in
+      let push = among_push (list_at lists a) b d in
+      subst (λ k. (is_listed (with_listed lists a b) k d ≡ true) ↔ ((is_listed lists k d ≡ true) ⊎ ((k ≡ a) × (d ≡ b)))) (sym e) (
+        λ t. elim (push.0 (sym there ∙ t)) [ inl u ↦ inl u | inr f ↦ inr (refl, f) ],
+        λ h. there ∙ push.1 (elim h [ inl u ↦ inl u | inr p ↦ inr p.1 ]),
+      ))
+]
+
+pub adds_one : (adds : ℕ → ℕ → Type 0) (lists : List (List ℕ)) (a b : ℕ) → adds a b → ((c d : ℕ) → adds c d → (c ≡ a) × (d ≡ b)) → AddsNumbers adds lists (with_listed lists a b)
+adds_one adds lists a b here only = record {
+  long = length-set lists a (list_at lists a ++ b ∷ []);
+  each = λ c d lc.
+      let more = one_more lists a b c d lc in (
+        λ t. elim (more.0 t) [
+          | inl u ↦ inl u
+          | inr p ↦ inr (subst (λ k. adds k d) (sym p.0) (subst (λ k. adds a k) (sym p.1) here))
+        ],
+        λ s. elim s [ inl u ↦ more.1 (inl u) | inr p ↦ more.1 (inr (only c d p)) ],
+      );
+}
+
+pub adds_nothing : (adds : ℕ → ℕ → Type 0) (lists : List (List ℕ)) → ((c d : ℕ) → adds c d → ⊥) → AddsNumbers adds lists lists
+adds_nothing adds lists none = record { long = refl; each = λ c d lc. (λ t. inl t, λ s. elim s [ inl u ↦ u | inr p ↦ absurd (none c d p) ]) }
+
+-- ---- one conclusion puts one class below one class
+
+pub puts_below_once : (o : Ontology) (a : Conclusion) (c d c' d' : ℕ) → PutsBelow o a c d → PutsBelow o a c' d' → (c' ≡ c) × (d' ≡ d)
+puts_below_once o a c d c' d' (e, f, s, g, h) (e', f', s', g', h') =
+    let same : Sub (Expression e) f ≡ Sub (Expression e') f' = sym s ∙ s' in
+    let first : e ≡ e' = cc in
+    let second : f ≡ f' = cc in (
+      one_class o c' c e' g' (subst (IsClassAt o c) first g),
+      one_class o d' d f' h' (subst (IsClassAt o d) second h),
+    )
+
+pub puts_into_once : (o : Ontology) (a : Conclusion) (c d c' d' : ℕ) → PutsInto o a c d → PutsInto o a c' d' → (c' ≡ c) × (d' ≡ d)
+puts_into_once o a c d c' d' (f, s, h) (f', s', h') =
+    let same : Sub (Individual c) f ≡ Sub (Individual c') f' = sym s ∙ s' in
+    let first : c' ≡ c = cc in
+    let second : f ≡ f' = cc in
+    (first, one_class o d' d f' h' (subst (IsClassAt o d) second h))
+
+-- ---- what all conclusions say
+
+pub no_list : (n k d : ℕ) → is_listed (replicate n []) k d ≡ false
+no_list zero k d = refl
+no_list (suc n) zero d = refl
+no_list (suc n) (suc k) d = no_list n k d
+
+-- the lists say of each two numbers whether a conclusion does
+abbrev pub Say : (ℕ → ℕ → Conclusion → Type 0) → List Conclusion → List (List ℕ) → Type 0
+Say puts said lists = (c d : ℕ) → c < length lists → (is_listed lists c d ≡ true) ↔ SomeRow said (puts c d)
+
+pub say_none : (puts : ℕ → ℕ → Conclusion → Type 0) (n : ℕ) → Say puts [] (replicate n [])
+say_none puts n c d lc = (λ t. absurd (false≢true (sym (no_list n c d) ∙ t)), λ s. absurd (some_none (puts c d) s))
+
+pub say_more : {X : Type 0} (puts : ℕ → ℕ → Conclusion → Type 0) (f : X → Conclusion) (xs : List X) (k : ℕ) (x : X) → slice_get xs k ≡ Some x → (old new : List (List ℕ))
+    → AddsNumbers (λ c d. puts c d (f x)) old new → Say puts (map f (take k xs)) old → Say puts (map f (take (k + 1) xs)) new
+say_more puts f xs k x g old new adds says c d lc =
+    let lo : c < length old = subst (λ n. c < n) adds.long lc in
+    let line = some_next (puts c d) f xs k x g in (
+      λ t. elim ((adds.each c d lo).0 t) [ inl u ↦ line.1 (inl ((says c d lo).0 u)) | inr p ↦ line.1 (inr p) ],
+      λ s. elim (line.0 s) [ inl u ↦ (adds.each c d lo).1 (inl ((says c d lo).1 u)) | inr p ↦ (adds.each c d lo).1 (inr p) ],
+    )
+
+pub superclasses_start : (o : Ontology) (n : ℕ) (lists : List (List ℕ)) → lists ≡ replicate n [] → n ≡ length o.names.classes → AreSuperclasses o [] lists
+superclasses_start o n lists e many =
+    subst (AreSuperclasses o []) (sym e) (record { long = length-replicate n [] ∙ many; each = say_none (λ c d a. PutsBelow o a c d) n })
+
+pub superclasses_more : {X : Type 0} (o : Ontology) (f : X → Conclusion) (xs : List X) (k : ℕ) (x : X) → k < length xs → (old new : List (List ℕ))
+    → AreSuperclasses o (map f (take k xs)) old → AddsNumbers (PutsBelow o (f (get_or xs k x))) old new → AreSuperclasses o (map f (take (k + 1) xs)) new
+superclasses_more o f xs k x l old new before adds = record {
+  long = adds.long ∙ before.long;
+  each = say_more (λ c d a. PutsBelow o a c d) f xs k (get_or xs k x) (slice_get-get_or xs k x l) old new adds before.each;
+}
+
+pub types_start : (o : Ontology) (n : ℕ) (lists : List (List ℕ)) → lists ≡ replicate n [] → n ≡ length o.names.individuals → AreTypes o [] lists
+types_start o n lists e many =
+    subst (AreTypes o []) (sym e) (record { long = length-replicate n [] ∙ many; each = say_none (λ c d a. PutsInto o a c d) n })
+
+pub types_more : {X : Type 0} (o : Ontology) (f : X → Conclusion) (xs : List X) (k : ℕ) (x : X) → k < length xs → (old new : List (List ℕ))
+    → AreTypes o (map f (take k xs)) old → AddsNumbers (PutsInto o (f (get_or xs k x))) old new → AreTypes o (map f (take (k + 1) xs)) new
+types_more o f xs k x l old new before adds = record {
+  long = adds.long ∙ before.long;
+  each = say_more (λ c d a. PutsInto o a c d) f xs k (get_or xs k x) (slice_get-get_or xs k x l) old new adds before.each;
+}
+
+-- ---- the classes of elements
+
+-- of so many lists, each of the first has owl:Thing, and no other has a number
+pub thing_more : (lists : List (List ℕ)) (k : ℕ) → k < length lists
+    → ((x c : ℕ) → x < length lists → (is_listed lists x c ≡ true) ↔ ((x < k) × (c ≡ thing_class)))
+    → (x c : ℕ) → x < length (with_listed lists k thing_class) → (is_listed (with_listed lists k thing_class) x c ≡ true) ↔ ((x < k + 1) × (c ≡ thing_class))
+thing_more lists k l before x c lx =
+    let lo : x < length lists = subst (λ n. x < n) (length-set lists k (list_at lists k ++ thing_class ∷ [])) lx in
+    let more = one_more lists k thing_class x c lo in
+    let old = before x c lo in (
+      λ t. elim (more.0 t) [
+        | inl u ↦ (let p = old.0 u in let q = p.0 in (omega arith, p.1))
+        | inr p ↦ (let q = p.0 in (omega arith, p.1))
+      ],
+      λ p. elim (cases_eq x k) [
+        | inl e ↦ more.1 (inr (e, p.1))
+        | inr ne ↦ (let q = p.0 in more.1 (inl (old.1 (below_other x k q ne, p.1))))
+      ],
+    )
+  where
+    below_other : (x k : ℕ) → x < k + 1 → (x ≡ k → ⊥) → x < k
+    below_other x k l ne = elim (cases_lt x k) [ inl h ↦ h | inr h ↦ absurd (ne (omega arith)) ]
+
+pub holder_step : (o : Ontology) (e class : ℕ) → IsClassAt o class e → (xs : List ℕ) (k x : ℕ) → slice_get xs k ≡ Some x → (old mid new : List (List ℕ))
+    → new ≡ with_listed mid x class
+    → AddsNumbers (λ y c. IsClassAt o c e × Contains (take k xs) y) old mid → AddsNumbers (λ y c. IsClassAt o c e × Contains (take (k + 1) xs) y) old new
+holder_step o e class at xs k x g old mid new is before = subst (AddsNumbers (λ y c. IsClassAt o c e × Contains (take (k + 1) xs) y) old) (sym is) (record {
+  long = length-set mid x (list_at mid x ++ class ∷ []) ∙ before.long;
+  each = λ y c ly.
+      let more = contains_next xs k x y g in
+      let lm : y < length mid = subst (λ n. y < n) (sym before.long) ly in
+      step_both (before.each y c ly) (one_more mid x class y c lm) (
+        λ p. elim (more.0 p.1) [ inl h ↦ inl (p.0, h) | inr f ↦ inr (f, one_class o c class e p.0 at) ],
+        λ h. elim h [
+          | inl p ↦ (p.0, more.1 (inl p.1))
+          | inr q ↦ (subst (λ j. IsClassAt o j e) (sym q.1) at, more.1 (inr q.0))
+        ],
+      );
+})
+
+pub element_classes_step : (o : Ontology) (domain : ℕ) (rows : List ClassRow) (k : ℕ) (row : ClassRow) → slice_get rows k ≡ Some row → (old new : List (List ℕ))
+    → AreElementClasses o domain (map class_row_of (take k rows)) old
+    → AddsNumbers (λ x c. ListsMember o (class_row_of row) c x) old new → AreElementClasses o domain (map class_row_of (take (k + 1) rows)) new
+element_classes_step o domain rows k row g old new before adds = record {
+  long = adds.long ∙ before.long;
+  each = λ x c lx.
+      let lo : x < length old = subst (λ n. x < n) adds.long lx in
+      step_both (before.each x c lo) (adds.each x c lo) (some_next (λ r. ListsMember o r c x) class_row_of rows k row g);
+}

@@ -1,7 +1,0 @@
-use Rattle.std.proofs.Common.{map, take}
-use Rattle.certificate.specs.View.{class_row_of}
-use Rattle.cert_check.specs.Additions.{AreElementRows}
-use Rattle.cert_check.proofs.claims.element_rows.Given as goal
-
-abbrev pub invariant-loop-listed : goal.invariant-loop-listed
-invariant-loop-listed l = AreElementRows l.ontology l.domain (map class_row_of (take l.listed-index l.classes)) l.rows.items
