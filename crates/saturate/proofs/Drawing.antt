@@ -9,7 +9,7 @@ use Rattle.facts.specs.declared.contexts.Context.TheVariants.{Expr}
 use Rattle.facts.specs.declared.contexts.Fact.{Fact}
 use Rattle.facts.specs.Closure.{Problem, CarriesBack, IsContextBy, in_thing, in_itself, by_form, unsatisfiable, loop}
 use Rattle.saturate.specs.Derived.{Keeps, Derived, Grows}
-use Rattle.saturate.specs.Working.{AreAt, AllDrawn, DrawnAt, AreDrawn, IsEntered, Drawn, MeetEachOther, AreMet}
+use Rattle.saturate.specs.Working.{AreAt, AllDrawn, DrawnAt, AreDrawn, IsEntered, Drawn, MeetEachOther, AreMet, AreMetBefore, AreMetBehind}
 use Rattle.saturate.proofs.Growth.{there_still}
 use Rattle.saturate.proofs.Lists.{Contains-from_slice_get, one_value, take_push}
 
@@ -72,3 +72,16 @@ all_met_still s f old numbers met n there g at = met_still s f g (met n there g 
 -- facts that were there later were there before, if they are asked about there
 pub met_earlier : {k : Problem} {most : ℕ} {a b : Derived} → Grows k most a b → (f : Fact) (numbers : List ℕ) (new : List Fact) → AreMet k f b.facts numbers new → AreMet k f a.facts numbers new
 met_earlier s f numbers new met n there g at = met n there g (s.facts n g at)
+
+-- .. the same of what one of two gives in one order
+pub before_still : {k : Problem} {most : ℕ} {a b : Derived} → Grows k most a b → (f : Fact) (old : List Fact) (numbers : List ℕ) → AreMetBefore k f old numbers a.facts → AreMetBefore k f old numbers b.facts
+before_still s f old numbers met n there g at = drawn_still s (f ∷ g ∷ []) (met n there g at)
+
+pub behind_still : {k : Problem} {most : ℕ} {a b : Derived} → Grows k most a b → (f : Fact) (old : List Fact) (numbers : List ℕ) → AreMetBehind k f old numbers a.facts → AreMetBehind k f old numbers b.facts
+behind_still s f old numbers met n there g at = drawn_still s (g ∷ f ∷ []) (met n there g at)
+
+pub before_earlier : {k : Problem} {most : ℕ} {a b : Derived} → Grows k most a b → (f : Fact) (numbers : List ℕ) (new : List Fact) → AreMetBefore k f b.facts numbers new → AreMetBefore k f a.facts numbers new
+before_earlier s f numbers new met n there g at = met n there g (s.facts n g at)
+
+pub behind_earlier : {k : Problem} {most : ℕ} {a b : Derived} → Grows k most a b → (f : Fact) (numbers : List ℕ) (new : List Fact) → AreMetBehind k f b.facts numbers new → AreMetBehind k f a.facts numbers new
+behind_earlier s f numbers new met n there g at = met n there g (s.facts n g at)

@@ -12,7 +12,7 @@ use Rattle.property_closure.specs.Closed.{Known, Has}
 use Rattle.saturate.specs.Closed.{PutsOnEdges, IsClosureOf}
 use Rattle.saturate.specs.Derived.{Derived, IsDerived}
 use Rattle.saturate.specs.Working.{AreAt}
-use Rattle.saturate.specs.Visited.{chained_property}
+use Rattle.saturate.specs.Visited.{chained_property, HasProperty, IsBy}
 use Rattle.saturate.proofs.Lists.{Contains-from_slice_get, slice_get_there}
 
 -- the property of the fact, where it is an edge, is one that the form puts there
@@ -111,7 +111,7 @@ module _ (k : Problem) {closure : Known} (closed : IsClosureOf k.forms closure) 
   given {older = older} {f = f} (unsatisfiable b) x r y e = absurd (back older f b x r y e)
   given {f = f} (loop z n form at l c) x r y e = at_edge n form f at (loops z form f l) x r y e
 
-  first_edge : {d : Derived} → IsDerived k d → (n : ℕ) (f : Fact) → slice_get d.facts n ≡ Some f → (x : Context) (r : PropId2) (y : Context) → f ≡ Edge x r y → Has closure r
+  pub first_edge : {d : Derived} → IsDerived k d → (n : ℕ) (f : Fact) → slice_get d.facts n ≡ Some f → (x : Context) (r : PropId2) (y : Context) → f ≡ Edge x r y → Has closure r
   first_edge {d} s n f at x r y e =
       let q = slice_get_there d.births n (omega (arith, s.long, slice_get_within d.facts n f at)) in
       given (s.born n f q.0 at q.1).2 x r y e
@@ -127,3 +127,12 @@ module _ (k : Problem) {closure : Known} (closed : IsClosureOf k.forms closure) 
   edge_has {d} s (n ∷ ns) (Edge x q y ∷ Edge z o v ∷ []) p at e =
       let here : slice_get d.facts n ≡ Some (Edge x q y) = cc in
       subst (Has closure) (same_Some q p e) (first_edge s n (Edge x q y) here x q y refl)
+
+-- .. and that of each edge
+pub has_property : (k : Problem) {closure : Known} → IsClosureOf k.forms closure → {d : Derived} → IsDerived k d → (n : ℕ) (f : Fact) → slice_get d.facts n ≡ Some f → HasProperty closure f
+has_property k closed s n (In a x) at = tt
+has_property k closed s n (Edge x r y) at = first_edge k closed s n (Edge x r y) at x r y refl
+
+pub property_there : (k : Problem) {closure : Known} → IsClosureOf k.forms closure → {d : Derived} → IsDerived k d → (n : ℕ) (f : Fact) (p : PropId2) → slice_get d.facts n ≡ Some f → IsBy p f → Has closure p
+property_there k closed s n (In a x) p at by = absurd by
+property_there k {closure = closure} closed s n (Edge x r y) p at by = subst (Has closure) by (first_edge k closed s n (Edge x r y) at x r y refl)

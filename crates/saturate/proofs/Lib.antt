@@ -5,6 +5,7 @@ pub mod Drawing
 pub mod States
 pub mod Listing
 pub mod Found
+pub mod Giving
 pub mod Visiting
 pub mod Counting
 pub mod Edges

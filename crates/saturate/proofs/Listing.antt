@@ -16,7 +16,8 @@ use Rattle.fact_index.specs.Contexts.{at_context, IsEmptyTable, IsEmptyIndex}
 use Rattle.fact_index.specs.Indexed.{IsIn, IsFrom, IsInto, MayListIn, MayList, Lists, ListsIn, IsIndex}
 use Rattle.saturate.specs.Derived.{Derived, Grows}
 use Rattle.saturate.specs.Queued.{Queued, option_list}
-use Rattle.saturate.specs.Working.{MeetEachOther, AreMet}
+use Rattle.saturate.specs.Working.{MeetEachOther, AreMet, AreMetBefore, AreMetBehind}
+use Rattle.saturate.specs.Visited.{AreAll, IsClassFact, IsEdge}
 use Rattle.saturate.specs.Listed.{IsWithin, AllListedAreMet}
 use Rattle.saturate.proofs.Lists.{one_value}
 use Rattle.saturate.proofs.States.{was_there}
@@ -51,8 +52,8 @@ module _ (has : Context → Fact → Type 0) where
     only = λ x n c. let o = s.only x n c in (o.0, o.1, t.facts n o.1 o.2, o.3);
   }
 
-  within_in : (facts : List Fact) (w m : List ℕ) (table : ByContext) → ListsIn has facts w m table → (x : Context) (n : ℕ) → Contains (at_context table x) n → n < length facts
-  within_in facts w m table s x n c = let o = s.only x n c in slice_get_within facts n o.1 o.2
+  within_in : (facts : List Fact) (w m : List ℕ) (table : ByContext) → ListsIn has facts w m table → (x : Context) (n : ℕ) → Contains (at_context table x) n → (f : Fact) × (slice_get facts n ≡ Some f) × has x f
+  within_in facts w m table s x n c = let o = s.only x n c in (o.1, o.2, o.3)
 
   empty_in : (facts : List Fact) (m : List ℕ) (table : ByContext) → IsEmptyTable table → ListsIn has facts [] m table
   empty_in facts m table e = record {
@@ -74,8 +75,8 @@ listed s at t = record { classes = all_in IsIn _ _ _ _ _ _ s.classes at t.classe
 pub still_listed : {k : Problem} {most : ℕ} {a b : Derived} {w m : List ℕ} {index : Index} → Grows k most a b → ((n : ℕ) → Contains w n → n < length a.facts) → IsIndex a.facts w m index → IsIndex b.facts w m index
 still_listed t low s = record { classes = grown_in IsIn t _ _ _ low s.classes; from = grown_in IsFrom t _ _ _ low s.from; into = grown_in IsInto t _ _ _ low s.into }
 
-pub within_size : {facts : List Fact} {w m : List ℕ} {index : Index} → IsIndex facts w m index → IsWithin (length facts) index
-within_size s = record { classes = within_in IsIn _ _ _ _ s.classes; from = within_in IsFrom _ _ _ _ s.from; into = within_in IsInto _ _ _ _ s.into }
+pub all_within : {facts : List Fact} {w m : List ℕ} {index : Index} → IsIndex facts w m index → IsWithin facts index
+all_within s = record { classes = within_in IsIn _ _ _ _ s.classes; from = within_in IsFrom _ _ _ _ s.from; into = within_in IsInto _ _ _ _ s.into }
 
 pub nothing_listed : (facts : List Fact) (m : List ℕ) (index : Index) → IsEmptyIndex index → IsIndex facts [] m index
 nothing_listed facts m index e = record { classes = empty_in IsIn facts m _ e.classes; from = empty_in IsFrom facts m _ e.from; into = empty_in IsInto facts m _ e.into }
@@ -138,26 +139,73 @@ module _ {k : Problem} {old : List Fact} {w m : List ℕ} {index : Index} (s : I
   }
   all_met (In a x) (Edge u r v) met at = record {
     first = λ c form h gives. absurd (touch gives);
-    second = λ c form h gives. (met.1 n (s.into.all x n (Edge u r v) there at (sym (touch gives))) (Edge u r v) at).second c form h gives;
+    second = λ c form h gives. met.1 n (s.into.all x n (Edge u r v) there at (sym (touch gives))) (Edge u r v) at c form h gives;
   }
   all_met (Edge x p y) (In b z) met at = record {
-    first = λ c form h gives. (met.0 n (s.classes.all y n (In b z) there at (touch gives)) (In b z) at).first c form h gives;
+    first = λ c form h gives. met.0 n (s.classes.all y n (In b z) there at (touch gives)) (In b z) at c form h gives;
     second = λ c form h gives. absurd (touch gives);
   }
   all_met (Edge x p y) (Edge u r v) met at = record {
-    first = λ c form h gives. (met.1 n (s.from.all y n (Edge u r v) there at (touch gives)) (Edge u r v) at).first c form h gives;
-    second = λ c form h gives. (met.2 n (s.into.all x n (Edge u r v) there at (sym (touch gives))) (Edge u r v) at).second c form h gives;
+    first = λ c form h gives. met.1 n (s.from.all y n (Edge u r v) there at (touch gives)) (Edge u r v) at c form h gives;
+    second = λ c form h gives. met.2 n (s.into.all x n (Edge u r v) there at (sym (touch gives))) (Edge u r v) at c form h gives;
   }
 
-same_list : (k : Problem) (f : Fact) (old : List Fact) (l m : List ℕ) (new : List Fact) → l ≡ m → AreMet k f old l new → AreMet k f old m new
-same_list k f old l m new e met = subst (λ (ns : List ℕ). AreMet k f old ns new) e met
+-- what holds of the numbers of one list holds of those of another that is the same
+same_list : (P : List ℕ → Type 0) (l m : List ℕ) → l ≡ m → P l → P m
+same_list P l m e p = subst P e p
 
 module _ (k : Problem) (old : List Fact) (index : Index) (new : List Fact) where
-  pub met_in : (a : Class2) (x : Context) (l m : List ℕ) → l ≡ at_context index.classes x → m ≡ at_context index.into x → AreMet k (In a x) old l new → AreMet k (In a x) old m new → AllListedAreMet k (In a x) old index new
-  met_in a x l m e d p q = (same_list k (In a x) old l _ new e p, same_list k (In a x) old m _ new d q)
+  pub met_in : (a : Class2) (x : Context) (l m : List ℕ) → l ≡ at_context index.classes x → m ≡ at_context index.into x → AreMet k (In a x) old l new → AreMetBehind k (In a x) old m new → AllListedAreMet k (In a x) old index new
+  met_in a x l m e d p q = (
+    same_list (λ ns. AreMet k (In a x) old ns new) l _ e p,
+    same_list (λ ns. AreMetBehind k (In a x) old ns new) m _ d q,
+  )
 
-  pub met_edge : (x : Context) (r : PropId2) (y : Context) (l m o : List ℕ) → l ≡ at_context index.classes y → m ≡ at_context index.from y → o ≡ at_context index.into x → AreMet k (Edge x r y) old l new → AreMet k (Edge x r y) old m new → AreMet k (Edge x r y) old o new → AllListedAreMet k (Edge x r y) old index new
-  met_edge x r y l m o e d b p q t = (same_list k (Edge x r y) old l _ new e p, same_list k (Edge x r y) old m _ new d q, same_list k (Edge x r y) old o _ new b t)
+  pub met_edge : (x : Context) (r : PropId2) (y : Context) (l m o : List ℕ) → l ≡ at_context index.classes y → m ≡ at_context index.from y → o ≡ at_context index.into x → AreMetBefore k (Edge x r y) old l new → AreMetBefore k (Edge x r y) old m new → AreMetBehind k (Edge x r y) old o new → AllListedAreMet k (Edge x r y) old index new
+  met_edge x r y l m o e d b p q t = (
+    same_list (λ ns. AreMetBefore k (Edge x r y) old ns new) l _ e p,
+    same_list (λ ns. AreMetBefore k (Edge x r y) old ns new) m _ d q,
+    same_list (λ ns. AreMetBehind k (Edge x r y) old ns new) o _ b t,
+  )
+
+-- what is listed are facts of those kinds
+pub classes_listed : {facts : List Fact} {index : Index} → IsWithin facts index → (x : Context) (numbers : List ℕ) → numbers ≡ at_context index.classes x → AreAll IsClassFact facts numbers
+classes_listed w x numbers e n c = let o = w.classes x n (subst (λ ns. Contains ns n) e c) in (o.0, o.1, kind o.0 o.2)
+  where
+    kind : (f : Fact) → IsIn x f → IsClassFact f
+    kind (In a y) h = tt
+    kind (Edge y r z) h = absurd h
+
+pub from_listed : {facts : List Fact} {index : Index} → IsWithin facts index → (x : Context) (numbers : List ℕ) → numbers ≡ at_context index.from x → AreAll IsEdge facts numbers
+from_listed w x numbers e n c = let o = w.from x n (subst (λ ns. Contains ns n) e c) in (o.0, o.1, kind o.0 o.2)
+  where
+    kind : (f : Fact) → IsFrom x f → IsEdge f
+    kind (In a y) h = absurd h
+    kind (Edge y r z) h = tt
+
+pub into_listed : {facts : List Fact} {index : Index} → IsWithin facts index → (x : Context) (numbers : List ℕ) → numbers ≡ at_context index.into x → AreAll IsEdge facts numbers
+into_listed w x numbers e n c = let o = w.into x n (subst (λ ns. Contains ns n) e c) in (o.0, o.1, kind o.0 o.2)
+  where
+    kind : (f : Fact) → IsInto x f → IsEdge f
+    kind (In a y) h = absurd h
+    kind (Edge y r z) h = tt
+
+pub within_still : {k : Problem} {most : ℕ} {a b : Derived} {index : Index} → Grows k most a b → IsWithin a.facts index → IsWithin b.facts index
+within_still s w = record {
+  classes = λ x n c. let o = w.classes x n c in (o.0, s.facts n o.0 o.1, o.2);
+  from = λ x n c. let o = w.from x n c in (o.0, s.facts n o.0 o.1, o.2);
+  into = λ x n c. let o = w.into x n c in (o.0, s.facts n o.0 o.1, o.2);
+}
+
+-- .. and stay so
+pub all_still_there : {k : Problem} {most : ℕ} {a b : Derived} → Grows k most a b → (P : Fact → Type 0) (numbers : List ℕ) → AreAll P a.facts numbers → AreAll P b.facts numbers
+all_still_there s P numbers all n c = let o = all n c in (o.0, s.facts n o.0 o.1, o.2)
+
+pub kind_of : (P : Fact → Type 0) (facts : List Fact) (numbers : List ℕ) → AreAll P facts numbers → (n : ℕ) → Contains numbers n → (f : Fact) → slice_get facts n ≡ Some f → P f
+kind_of P facts numbers all n c f at = let o = all n c in subst P (one_value _ o.0 f o.1 at) o.2
+
+pub numbers_within : (P : Fact → Type 0) (facts : List Fact) (numbers : List ℕ) → AreAll P facts numbers → (n : ℕ) → Contains numbers n → n < length facts
+numbers_within P facts numbers all n c = let o = all n c in slice_get_within facts n o.0 o.1
 
 pub listed_earlier : {k : Problem} {most : ℕ} {a b : Derived} (index : Index) (new : List Fact) → Grows k most a b → (f : Fact) → AllListedAreMet k f b.facts index new → AllListedAreMet k f a.facts index new
 listed_earlier index new s (In c x) met = ((λ n t g at. met.0 n t g (s.facts n g at)), (λ n t g at. met.1 n t g (s.facts n g at)))

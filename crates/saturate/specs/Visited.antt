@@ -1,12 +1,48 @@
 -- Which forms are visited for facts.
-use Rattle.std.specs.Prelude.{ℕ, List, [], ◌∷◌, Option, Some, None}
+use Rattle.std.specs.Prelude.{◌≡◌, ℕ, List, [], ◌∷◌, slice_get, Option, Some, None}
+use Rattle.std.specs.List.{Contains}
+use Rattle.number_table.specs.declared.keys.Key.{Key}
+use Rattle.normal_forms.specs.declared.forms.Form.{Form}
 use Rattle.normal_forms.specs.declared.forms.PropId2.{PropId2}
 use Rattle.facts.specs.declared.contexts.Fact.{Fact}
-use Rattle.facts.specs.declared.contexts.Fact.TheVariants.{Edge}
-use Rattle.facts.specs.Closure.{Problem, Concludes}
+use Rattle.facts.specs.declared.contexts.Fact.TheVariants.{In, Edge}
+use Rattle.facts.specs.Closure.{Problem, Concludes, Gives}
 use Rattle.form_index.specs.Named.{by_chain, property_key}
 use Rattle.form_index.specs.Under.{IsUnder}
+use Rattle.property_closure.specs.Closed.{Known, Has}
 use Rattle.saturate.specs.Working.{DrawnAt}
+
+-- the two facts, in this order, give nothing
+abbrev pub GiveNothing : Problem → Fact → Fact → Type 0
+GiveNothing k f g = (condition : ℕ) (form : Option ℕ) (h : Fact) → Gives k condition form (f ∷ g ∷ []) h → ⊥
+
+-- no form of that kind has the key
+abbrev pub NoneUnder : (Form → Option Key) → List Form → Key → Type 0
+NoneUnder key forms at = (n : ℕ) → IsUnder key forms at n → ⊥
+
+-- each of the numbers is that of a fact of that kind
+abbrev pub AreAll : (Fact → Type 0) → List Fact → List ℕ → Type 0
+AreAll P facts numbers = (n : ℕ) → Contains numbers n → (f : Fact) × (slice_get facts n ≡ Some f) × P f
+
+-- a class in a context
+abbrev pub IsClassFact : Fact → Type 0
+IsClassFact (In a x) = Unit {0}
+IsClassFact (Edge x r y) = ⊥
+
+-- an edge
+abbrev pub IsEdge : Fact → Type 0
+IsEdge (In a x) = ⊥
+IsEdge (Edge x r y) = Unit {0}
+
+-- .. by the property
+abbrev pub IsBy : PropId2 → Fact → Type 0
+IsBy p (In a x) = ⊥
+IsBy p (Edge x r y) = r ≡ p
+
+-- the closure has the property of an edge
+abbrev pub HasProperty : Known → Fact → Type 0
+HasProperty c (In a x) = Unit {0}
+HasProperty c (Edge x r y) = Has c r
 
 -- the property of the first of two edges
 abbrev pub chained_pair : Fact → Fact → Option PropId2

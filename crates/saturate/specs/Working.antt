@@ -49,6 +49,14 @@ pub record MeetEachOther (k : Problem) (f g : Fact) (facts : List Fact) : Type 0
 abbrev pub AreMet : Problem → Fact → List Fact → List ℕ → List Fact → Type 0
 AreMet k f old numbers new = (n : ℕ) → Contains numbers n → (g : Fact) → slice_get old n ≡ Some g → MeetEachOther k f g new
 
+-- .. what it gives as the first of the two, with each of them as the second
+abbrev pub AreMetBefore : Problem → Fact → List Fact → List ℕ → List Fact → Type 0
+AreMetBefore k f old numbers new = (n : ℕ) → Contains numbers n → (g : Fact) → slice_get old n ≡ Some g → Drawn k (f ∷ g ∷ []) new
+
+-- .. as the second
+abbrev pub AreMetBehind : Problem → Fact → List Fact → List ℕ → List Fact → Type 0
+AreMetBehind k f old numbers new = (n : ℕ) → Contains numbers n → (g : Fact) → slice_get old n ≡ Some g → Drawn k (g ∷ f ∷ []) new
+
 -- the fact is one of those with these numbers
 abbrev pub IsServed : List Fact → List ℕ → Fact → Type 0
 IsServed facts numbers f = (n : ℕ) × Contains numbers n × (slice_get facts n ≡ Some f)

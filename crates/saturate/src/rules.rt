@@ -1,5 +1,5 @@
 //! What facts give, added to the facts.
-ghost use Rattle.std.specs.Prelude.{◌≡◌, ◌<◌, ℕ, [], ◌∷◌, true, Some, Err, length, slice_get, Contains, OnOk};
+ghost use Rattle.std.specs.Prelude.{◌≡◌, ◌<◌, ℕ, [], ◌∷◌, true, false, Some, Err, length, slice_get, Contains, OnOk};
 ghost use Rattle.facts.specs.Closure.{Concludes, CarriesBack, IsContextBy, IsLoop};
 ghost use Rattle.axioms.specs.declared.ids.ExprId.{ExprId as ExprId2};
 ghost use Rattle.facts.specs.declared.contexts.Fact.{Fact as Fact2};
@@ -11,13 +11,13 @@ ghost use Rattle.saturate.specs.Derived.{IsDerived, Grows, HasMoreFactsThan};
 ghost use Rattle.normal_forms.specs.Properties.{IsAtOrBelow};
 ghost use Rattle.property_closure.specs.Closed.{Has};
 ghost use Rattle.saturate.specs.Closed.{IsClosureOf};
-ghost use Rattle.saturate.specs.Working.{AreAt, AllDrawn, DrawnAt, AreDrawnAt, AreDrawn, IsEntered, Drawn, MeetEachOther, AreMet};
-ghost use Rattle.saturate.specs.Visited.{ChainsDrawn};
+ghost use Rattle.saturate.specs.Working.{AreAt, AllDrawn, DrawnAt, AreDrawnAt, AreDrawn, IsEntered, Drawn, MeetEachOther, AreMet, AreMetBefore, AreMetBehind};
+ghost use Rattle.saturate.specs.Visited.{AreAll, ChainsDrawn, GiveNothing, HasProperty, IsBy, IsClassFact, IsEdge};
 ghost use Rattle.saturate.specs.Listed.{IsWithin, AllListedAreMet};
 
 use crate::conclusions::{THING, carried_back, conclusion, condition_of, loop_at};
 use crate::known_facts::{KnownFacts, Stop};
-use crate::visits::{chained, visited};
+use crate::visits::{begins_chain, chained, has_any, is_carried, is_operand, visited};
 use fact_index::Index;
 use facts::{Context, Fact};
 use form_index::IndexedProblem;
@@ -278,6 +278,47 @@ impl Rules<'_> {
         Ok(())
     }
 
+    /// Whether the two facts may give something in this order, by what is listed for their classes and properties.
+    fn may_give(&self, first: Fact, second: Fact) -> bool
+        requires closed { IsClosureOf self.now.problem.now.forms self.now.closure.now }
+        requires has { HasProperty self.now.closure.now first }
+        ensures { result ≡ false → GiveNothing self.now.problem.now first second }
+    {
+        match (first, second) {
+            (Fact::In(a, _), Fact::In(b, _)) => {
+                has_any(self.problem.first(a)) && has_any(self.problem.second(b))
+            }
+            (Fact::Edge(..), Fact::In(class, _)) => is_carried(self.problem, class),
+            (Fact::Edge(_, property, _), Fact::Edge(..)) => {
+                begins_chain(self.problem, self.closure, property)
+            }
+            _ => false,
+        }
+    }
+
+    /// Adds what two facts give in this order.
+    fn draw_pair(
+        &self,
+        facts: &mut KnownFacts,
+        m: u32,
+        f: Fact,
+        n: u32,
+        g: Fact,
+    ) -> Result<(), Stop>
+        requires closed { IsClosureOf self.now.problem.now.forms self.now.closure.now }
+        requires derived { IsDerived self.now.problem.now facts.old }
+        requires first { slice_get facts.old.facts m ≡ Some f }
+        requires second { slice_get facts.old.facts n ≡ Some g }
+        ensures grows { Grows self.now.problem.now self.now.max_facts facts.old facts.new }
+        ensures limit { result ≡ Err Stop.Limit → HasMoreFactsThan self.now.problem.now self.now.max_facts }
+        ensures drawn { OnOk result (Drawn self.now.problem.now (f ∷ g ∷ []) facts.new.facts) }
+    {
+        if self.may_give(f, g) {
+            self.draw(facts, &[m, n], &[f, g])?;
+        }
+        Ok(())
+    }
+
     /// Adds what two facts give, whichever is first.
     fn meet(&self, facts: &mut KnownFacts, m: u32, f: Fact, n: u32, g: Fact) -> Result<(), Stop>
         requires closed { IsClosureOf self.now.problem.now.forms self.now.closure.now }
@@ -288,8 +329,8 @@ impl Rules<'_> {
         ensures limit { result ≡ Err Stop.Limit → HasMoreFactsThan self.now.problem.now self.now.max_facts }
         ensures met { OnOk result (MeetEachOther self.now.problem.now f g facts.new.facts) }
     {
-        self.draw(facts, &[m, n], &[f, g])?;
-        self.draw(facts, &[n, m], &[g, f])?;
+        self.draw_pair(facts, m, f, n, g)?;
+        self.draw_pair(facts, n, g, m, f)?;
         Ok(())
     }
 
@@ -316,6 +357,122 @@ impl Rules<'_> {
         Ok(())
     }
 
+    /// Adds what the class in a context gives with the other classes in it, which have those numbers.
+    fn meet_classes(
+        &self,
+        facts: &mut KnownFacts,
+        hand: u32,
+        class: Class2,
+        context: Context,
+        numbers: &[u32],
+    ) -> Result<(), Stop>
+        requires closed { IsClosureOf self.now.problem.now.forms self.now.closure.now }
+        requires derived { IsDerived self.now.problem.now facts.old }
+        requires hand { slice_get facts.old.facts hand ≡ Some (the_facts.In class context) }
+        requires numbers { AreAll IsClassFact facts.old.facts numbers.now }
+        ensures grows { Grows self.now.problem.now self.now.max_facts facts.old facts.new }
+        ensures limit { result ≡ Err Stop.Limit → HasMoreFactsThan self.now.problem.now self.now.max_facts }
+        ensures met { OnOk result (AreMet self.now.problem.now (the_facts.In class context) facts.old.facts numbers.now facts.new.facts) }
+    {
+        if is_operand(self.problem, class) {
+            self.meet_all(facts, hand, Fact::In(class, context), numbers)?;
+        }
+        Ok(())
+    }
+
+    /// Adds what the fact of that number gives as the first of two, with each of those of the other numbers.
+    fn meet_before(
+        &self,
+        facts: &mut KnownFacts,
+        hand: u32,
+        fact: Fact,
+        numbers: &[u32],
+    ) -> Result<(), Stop>
+        requires closed { IsClosureOf self.now.problem.now.forms self.now.closure.now }
+        requires derived { IsDerived self.now.problem.now facts.old }
+        requires hand { slice_get facts.old.facts hand ≡ Some fact }
+        requires numbers { (n : ℕ) → Contains numbers.now n → n < length facts.old.facts }
+        ensures grows { Grows self.now.problem.now self.now.max_facts facts.old facts.new }
+        ensures limit { result ≡ Err Stop.Limit → HasMoreFactsThan self.now.problem.now self.now.max_facts }
+        ensures met { OnOk result (AreMetBefore self.now.problem.now fact facts.old.facts numbers.now facts.new.facts) }
+    {
+        for number in numbers {
+            let partner = facts.get(*number);
+            self.draw_pair(facts, hand, fact, *number, partner)?;
+        }
+        Ok(())
+    }
+
+    /// Adds what the fact of that number gives as the second of two, with each of those of the other numbers.
+    fn meet_behind(
+        &self,
+        facts: &mut KnownFacts,
+        hand: u32,
+        fact: Fact,
+        numbers: &[u32],
+    ) -> Result<(), Stop>
+        requires closed { IsClosureOf self.now.problem.now.forms self.now.closure.now }
+        requires derived { IsDerived self.now.problem.now facts.old }
+        requires hand { slice_get facts.old.facts hand ≡ Some fact }
+        requires numbers { (n : ℕ) → Contains numbers.now n → n < length facts.old.facts }
+        ensures grows { Grows self.now.problem.now self.now.max_facts facts.old facts.new }
+        ensures limit { result ≡ Err Stop.Limit → HasMoreFactsThan self.now.problem.now self.now.max_facts }
+        ensures met { OnOk result (AreMetBehind self.now.problem.now fact facts.old.facts numbers.now facts.new.facts) }
+    {
+        for number in numbers {
+            let partner = facts.get(*number);
+            self.draw_pair(facts, *number, partner, hand, fact)?;
+        }
+        Ok(())
+    }
+
+    /// Adds what the class in a context gives with the edges into it, which have those numbers.
+    fn carry(
+        &self,
+        facts: &mut KnownFacts,
+        hand: u32,
+        class: Class2,
+        context: Context,
+        numbers: &[u32],
+    ) -> Result<(), Stop>
+        requires closed { IsClosureOf self.now.problem.now.forms self.now.closure.now }
+        requires derived { IsDerived self.now.problem.now facts.old }
+        requires hand { slice_get facts.old.facts hand ≡ Some (the_facts.In class context) }
+        requires numbers { AreAll IsEdge facts.old.facts numbers.now }
+        ensures grows { Grows self.now.problem.now self.now.max_facts facts.old facts.new }
+        ensures limit { result ≡ Err Stop.Limit → HasMoreFactsThan self.now.problem.now self.now.max_facts }
+        ensures met { OnOk result (AreMetBehind self.now.problem.now (the_facts.In class context) facts.old.facts numbers.now facts.new.facts) }
+    {
+        if is_carried(self.problem, class) {
+            self.meet_behind(facts, hand, Fact::In(class, context), numbers)?;
+        }
+        Ok(())
+    }
+
+    /// Adds what the edge gives with the edges on from its target, which have those numbers.
+    fn lead_on(
+        &self,
+        facts: &mut KnownFacts,
+        hand: u32,
+        edge: Fact,
+        property: PropId2,
+        numbers: &[u32],
+    ) -> Result<(), Stop>
+        requires closed { IsClosureOf self.now.problem.now.forms self.now.closure.now }
+        requires derived { IsDerived self.now.problem.now facts.old }
+        requires hand { slice_get facts.old.facts hand ≡ Some edge }
+        requires property { IsBy property edge }
+        requires numbers { AreAll IsEdge facts.old.facts numbers.now }
+        ensures grows { Grows self.now.problem.now self.now.max_facts facts.old facts.new }
+        ensures limit { result ≡ Err Stop.Limit → HasMoreFactsThan self.now.problem.now self.now.max_facts }
+        ensures met { OnOk result (AreMetBefore self.now.problem.now edge facts.old.facts numbers.now facts.new.facts) }
+    {
+        if begins_chain(self.problem, self.closure, property) {
+            self.meet_before(facts, hand, edge, numbers)?;
+        }
+        Ok(())
+    }
+
     /// Adds what the fact gives with those that the index lists for it.
     fn meet_listed(
         &self,
@@ -327,20 +484,20 @@ impl Rules<'_> {
         requires closed { IsClosureOf self.now.problem.now.forms self.now.closure.now }
         requires derived { IsDerived self.now.problem.now facts.old }
         requires hand { slice_get facts.old.facts hand ≡ Some fact }
-        requires index { IsWithin (length facts.old.facts) index.now }
+        requires index { IsWithin facts.old.facts index.now }
         ensures grows { Grows self.now.problem.now self.now.max_facts facts.old facts.new }
         ensures limit { result ≡ Err Stop.Limit → HasMoreFactsThan self.now.problem.now self.now.max_facts }
         ensures met { OnOk result (AllListedAreMet self.now.problem.now fact facts.old.facts index.now facts.new.facts) }
     {
         match fact {
-            Fact::In(_, x) => {
-                self.meet_all(facts, hand, fact, index.classes_in(x))?;
-                self.meet_all(facts, hand, fact, index.edges_into(x))?;
+            Fact::In(class, x) => {
+                self.meet_classes(facts, hand, class, x, index.classes_in(x))?;
+                self.carry(facts, hand, class, x, index.edges_into(x))?;
             }
-            Fact::Edge(x, _, y) => {
-                self.meet_all(facts, hand, fact, index.classes_in(y))?;
-                self.meet_all(facts, hand, fact, index.edges_from(y))?;
-                self.meet_all(facts, hand, fact, index.edges_into(x))?;
+            Fact::Edge(x, property, y) => {
+                self.meet_before(facts, hand, fact, index.classes_in(y))?;
+                self.lead_on(facts, hand, fact, property, index.edges_from(y))?;
+                self.meet_behind(facts, hand, fact, index.edges_into(x))?;
             }
         }
         Ok(())
@@ -357,7 +514,7 @@ impl Rules<'_> {
         requires closed { IsClosureOf self.now.problem.now.forms self.now.closure.now }
         requires derived { IsDerived self.now.problem.now facts.old }
         requires hand { slice_get facts.old.facts hand ≡ Some fact }
-        requires index { IsWithin (length facts.old.facts) index.now }
+        requires index { IsWithin facts.old.facts index.now }
         ensures grows { Grows self.now.problem.now self.now.max_facts facts.old facts.new }
         ensures limit { result ≡ Err Stop.Limit → HasMoreFactsThan self.now.problem.now self.now.max_facts }
         ensures alone { OnOk result (Drawn self.now.problem.now (fact ∷ []) facts.new.facts) }

@@ -1,15 +1,21 @@
 //! Which forms are visited for facts: those that give something from them are listed.
-ghost use Rattle.std.specs.Prelude.{◌≡◌, ℕ, Some, None, Contains, slice_get};
-ghost use Rattle.facts.specs.Closure.{Concludes, FromOne, FromTwo};
+ghost use Rattle.std.specs.Prelude.{◌≡◌, ℕ, Some, None, Contains, false, slice_get};
+ghost use Rattle.facts.specs.Closure.{Concludes, FromOne, FromTwo, nothing};
 ghost use Rattle.facts.specs.declared.contexts.Fact.{Fact as Fact2};
 ghost use Rattle.normal_forms.specs.declared.forms.Form.{Form as Form2};
-ghost use Rattle.form_index.specs.Named.{by_chain, by_first, by_second, class_key};
+ghost use Rattle.normal_forms.specs.Properties.{IsAtOrBelow};
+ghost use Rattle.normal_forms.specs.declared.forms.PropId2.{PropId2 as PropId3};
+ghost use Rattle.form_index.specs.Named.{by_chain, by_filler, by_first, by_second, class_key, property_key};
 ghost use Rattle.form_index.specs.Under.{IsUnder};
-ghost use Rattle.saturate.specs.Visited.{chained_pair, chained_property};
+ghost use Rattle.property_closure.specs.Closed.{Has};
+ghost use Rattle.saturate.specs.Closed.{IsClosureOf};
+ghost use Rattle.saturate.specs.Visited.{NoneUnder, chained_pair, chained_property};
 
+use crate::conclusions::NOTHING;
 use facts::Fact;
 use form_index::IndexedProblem;
 use normal_forms::{Class2, PropId2};
+use property_closure::PropertyClosure;
 
 /// The property of the first of two edges.
 fn chained_by(first: Fact, second: Fact) -> Option<PropId2>
@@ -75,4 +81,46 @@ pub(crate) fn visited<'a>(problem: &'a IndexedProblem, older: &[Fact]) -> &'a [u
         [first, second] => visited_by_two(problem, first, second),
         _ => &[],
     }
+}
+
+/// Whether the list has any number.
+pub(crate) fn has_any(list: &[u32]) -> bool
+    ensures { result ≡ false → (n : ℕ) → Contains list.now n → ⊥ }
+{
+    !list.is_empty()
+}
+
+/// Whether some intersection has the class as an operand.
+pub(crate) fn is_operand(problem: &IndexedProblem, class: Class2) -> bool
+    ensures first { result ≡ false → NoneUnder by_first problem.now.forms (class_key class) }
+    ensures second { result ≡ false → NoneUnder by_second problem.now.forms (class_key class) }
+{
+    has_any(problem.first(class)) || has_any(problem.second(class))
+}
+
+/// Whether edges carry something to their sources for the class at their targets: a restriction has it as its filler, or it is
+/// `owl:Nothing`.
+pub(crate) fn is_carried(problem: &IndexedProblem, class: Class2) -> bool
+    ensures nothing { result ≡ false → class ≡ nothing → ⊥ }
+    ensures filler { result ≡ false → NoneUnder by_filler problem.now.forms (class_key class) }
+{
+    class == NOTHING || has_any(problem.with_filler(class))
+}
+
+/// Whether some chain begins with the property, or one above it.
+pub(crate) fn begins_chain(
+    problem: &IndexedProblem,
+    closure: &PropertyClosure,
+    property: PropId2,
+) -> bool
+    requires closed { IsClosureOf problem.now.forms closure.now }
+    requires has { Has closure.now property }
+    ensures { result ≡ false → (r : PropId3) → IsAtOrBelow problem.now.forms property r → NoneUnder by_chain problem.now.forms (property_key r) }
+{
+    for above in closure.supers(property) {
+        if has_any(problem.chains_from(*above)) {
+            return true;
+        }
+    }
+    false
 }

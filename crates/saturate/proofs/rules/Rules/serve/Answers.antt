@@ -1,16 +1,9 @@
-use Rattle.std.proofs.Common.{arith}
 use Rattle.saturate.proofs.Drawing.{drawn_still}
-use Rattle.saturate.proofs.Listing.{listed_earlier}
+use Rattle.saturate.proofs.Listing.{listed_earlier, within_still}
 use Rattle.saturate.proofs.rules.Rules.serve.Goals as goal
 
 pub meet_listed-requires-clause-index : goal.meet_listed-requires-clause-index
-meet_listed-requires-clause-index c =
-    let s = c.draw_alone.ensures.grows.longer in
-    record {
-      classes = λ x n t. omega (arith, c.requires.index.classes x n t, s);
-      from = λ x n t. omega (arith, c.requires.index.from x n t, s);
-      into = λ x n t. omega (arith, c.requires.index.into x n t, s);
-    }
+meet_listed-requires-clause-index c = within_still c.draw_alone.ensures.grows c.requires.index
 
 pub returns-clause-alone : goal.returns-clause-alone
 returns-clause-alone c = drawn_still c.meet_listed.ensures.grows _ c.in_ok-draw_alone.ensures.drawn

@@ -3,7 +3,7 @@ use Rattle.saturate.specs.State.{IsState}
 use Rattle.saturate.specs.Listed.{ListsServed}
 use Rattle.saturate.proofs.Growth.{grows_same}
 use Rattle.saturate.proofs.States.{grown, one_served, finished}
-use Rattle.saturate.proofs.Listing.{turned, may, listed, still_listed, within_size, all_met, in_most, finish_listed}
+use Rattle.saturate.proofs.Listing.{turned, may, listed, still_listed, all_within, all_met, in_most, finish_listed}
 use Rattle.saturate.proofs.state.State.step.Goals as goal
 use Rattle.saturate.proofs.state.State.step.Goals.{After-turn, After-add}
 
@@ -36,7 +36,7 @@ invariant_of-self-in_default-add g c =
     ((kept g d.After-turn).0, indexed g d.After-add)
 
 pub serve-requires-clause-index : goal.serve-requires-clause-index
-serve-requires-clause-index g c = within_size (indexed g (goal.at.serve-requires-clause-index g c).After-add)
+serve-requires-clause-index g c = all_within (indexed g (goal.at.serve-requires-clause-index g c).After-add)
 
 pub invariant_of-self-in_err-serve : goal.invariant_of-self-in_err-serve
 invariant_of-self-in_err-serve g c =
