@@ -54,7 +54,7 @@ same_place ns a i j m e f =
       | inr (inr k) ↦ (let g : m < m = Ascends-get ns a j i m m f e k in absurd (omega arith))
     ]
 
-Ascends-push : (ns : List ℕ) (n : ℕ) → Ascends ns → ((i m : ℕ) → slice_get ns i ≡ Some m → m < n) → Ascends (ns ++ n ∷ [])
+pub Ascends-push : (ns : List ℕ) (n : ℕ) → Ascends ns → ((i m : ℕ) → slice_get ns i ≡ Some m → m < n) → Ascends (ns ++ n ∷ [])
 Ascends-push [] n a h = tt
 Ascends-push (x ∷ []) n a h = (h 0 x refl, tt)
 Ascends-push (x ∷ y ∷ ys) n a h = (a.0, Ascends-push (y ∷ ys) n a.1 (λ i. h (suc i)))
@@ -103,7 +103,7 @@ number_taken lines k (suc m) c e =
     (a.0, omega arith, b.0, b.1, a.2)
 
 -- a premise of a line of a derivation is a line before it
-premise_before : {o : Ontology} (lines : List Line) → IsDerivation o lines → (n m : ℕ) (line : Line) → at_number lines n ≡ Some line → Contains line.premises m → (l : Line) × (0 < m) × (m < n) × (at_number lines m ≡ Some l)
+pub premise_before : {o : Ontology} (lines : List Line) → IsDerivation o lines → (n m : ℕ) (line : Line) → at_number lines n ≡ Some line → Contains line.premises m → (l : Line) × (0 < m) × (m < n) × (at_number lines m ≡ Some l)
 premise_before lines d zero m line e c = absurd (none-some line e)
 premise_before lines d (suc n) m line e c =
     let h = d n line e in

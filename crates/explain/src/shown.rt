@@ -43,8 +43,7 @@ fn paths_of(
     ontology.bounded();
     property_forms_are_named();
     let normal = saturation.normal();
-    // 32 bits count the beginnings of chains.
-    let _ = normal.partial_chains();
+    normal.bounded();
     PropertyPaths::new(alloc, ontology.properties().len(), normal.forms())
 }
 

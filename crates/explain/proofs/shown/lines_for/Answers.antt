@@ -1,4 +1,4 @@
-use Rattle.std.proofs.Common.{◌≡◌, List, Bool, slice_get, Some, sym, ◌∙◌, subst}
+use Rattle.std.proofs.Common.{◌≡◌, List, Bool, sym, ◌∙◌, subst}
 use Rattle.std.proofs.lemmas.List.{with_items_is}
 use Rattle.std.proofs.lemmas.Result.{IfOk-weaker}
 use Rattle.explain.specs.Marks.{IsMarked}
