@@ -1,5 +1,5 @@
 -- What the facts of a saturation say of named classes and individuals.
-use Rattle.std.proofs.Common.{◌≡◌, ◌↔◌, ℕ, ◌<◌, List, [], length, get_or, slice_get, Some, All, Contains, refl, sym, ap₂, subst, subst₂}
+use Rattle.std.proofs.Common.{◌≡◌, ◌↔◌, ℕ, ◌<◌, List, [], length, get_or, All, Contains, refl, sym, ap₂, subst, subst₂}
 use Rattle.std.proofs.lemmas.List.Elements.{All-contains, Contains-get_or}
 use Rattle.lemmas.proofs.Members.{Contains-from_slice_get, slice_get-from_Contains}
 use Rattle.axioms.specs.Numbered.{Ontology, Class, IsClassAt, nothing, thing}
@@ -17,9 +17,9 @@ use Rattle.closure.specs.Said.{Beginnings, whole, expression, individual, SaysFa
 use Rattle.closure_model.specs.Listed.{IsConsistent}
 use Rattle.derivable.specs.Derivable.{FactIsDerivable}
 use Rattle.derivable.proofs.Facts.{fact_derivable}
-use Rattle.engine.specs.Saturated.{Saturated, IsSaturated, SayTheClosure}
+use Rattle.engine.specs.Saturated.{SayTheClosure}
 use Rattle.classification.specs.Contradiction.{IsContradiction}
-use Rattle.classification.specs.Rows.{PutsBelow, PutsInto, IsAboutIndividualOf, SomeFact}
+use Rattle.classification.specs.Lists.{PutsBelow, PutsInto, IsAboutIndividualOf, SomeFact}
 
 -- ---- one fact
 

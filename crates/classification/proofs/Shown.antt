@@ -17,7 +17,7 @@ use Rattle.exactness.proofs.Acceptance.{shown_is_acceptable}
 use Rattle.exactness.proofs.Exact.{contradiction_sound}
 use Rattle.interpretation_spec.specs.Interpretation.{IsContradictory}
 use Rattle.taxonomy.specs.Outcome.{IsMadeFor, taxonomy_of, instances_of}
-use Rattle.taxonomy.specs.Relation.{lies_below}
+use Rattle.taxonomy.specs.Relation.{is_listed, lies_below}
 use Rattle.taxonomy.specs.declared.outcome.Outcome.{Outcome}
 use Rattle.taxonomy.specs.declared.outcome.Outcome.TheVariants.{Consistent, Inconsistent}
 use Rattle.classification.specs.Classified.{AreTextsOf}
@@ -42,7 +42,7 @@ consistent_where o w false is lines listed shown = (
 pub texts_of : (o : Ontology) (consistent : Bool) (outcome : Outcome) → IsOutcomeOf o consistent outcome → AreTextsOf o consistent (taxonomy_of o outcome) (instances_of o outcome)
 texts_of o true (Consistent taxonomy types) is = record {
   lies_below = lies_below taxonomy;
-  belongs = lies_below types.items;
+  belongs = is_listed types;
   relations = record { below = is.0.below; types = is.1.types };
   taxonomy_is = refl;
   instances_is = refl;
@@ -58,7 +58,7 @@ told_texts o consistent outcome is says taxonomy instances same t i =
     subst (λ b. AreTextsOf o b taxonomy instances) (sym same) (subst₂ (AreTextsOf o consistent) (sym t) (sym i) (texts_of o consistent outcome is))
 
 pub made_for : (o : Ontology) (consistent : Bool) (outcome : Outcome) → IsOutcomeOf o consistent outcome → IsMadeFor o outcome
-made_for o true (Consistent taxonomy types) is = record { classes = is.0.long; individuals = is.1.shaped.long; types_over_classes = is.1.shaped.over }
+made_for o true (Consistent taxonomy types) is = record { classes = is.0.long; individuals = is.1.long; types_are_classes = is.1.over }
 made_for o true Inconsistent is = absurd is
 made_for o false Inconsistent is = tt
 made_for o false (Consistent taxonomy types) is = absurd is

@@ -1,89 +1,79 @@
--- Rows by the facts of a saturation are the relations of its closure.
-use Rattle.std.proofs.Common.{◌≡◌, ◌↔◌, ℕ, ◌<◌, Bool, true, false, ◌⊎◌, inl, inr, List, [], length, map, replicate, slice_get, slice_index_or, Some, All, refl, sym, ap, ◌∙◌, subst, arith, if◌then◌else◌}
-use Rattle.std.proofs.lemmas.Bool.{both_ways}
-use Rattle.std.proofs.lemmas.List.{get_or-replicate, length-map, length-replicate}
-use Rattle.std.proofs.lemmas.List.Elements.{All-map, All-weaker}
-use Rattle.std.proofs.lemmas.Option.{slice_get-get_or, get_or_from_slice_get}
-use Rattle.lemmas.proofs.Mapped.{slice_get_map}
-use Rattle.lemmas.proofs.Places.{slice_get_there}
+-- Lists by the facts of a saturation are the relations of its closure.
+use Rattle.std.proofs.Common.{◌≡◌, ◌↔◌, ℕ, ◌<◌, ◌||◌, Bool, true, ◌⊎◌, inl, inr, List, [], length, sym, ◌∙◌, arith}
+use Rattle.std.proofs.lemmas.Bool.{or_cases, or_left, or_right}
 use Rattle.axioms.specs.Numbered.{Ontology, Class, IsClassAt, nothing}
 use Rattle.axioms.specs.WellFormed.{IsOntology}
-use Rattle.closure.specs.Closure.{Expression, In, IsFact}
+use Rattle.closure.specs.Closure.{Expression, In, IsRoot, IsFact}
+use Rattle.closure.proofs.Facts as fact
 use Rattle.closure.specs.Said.{Beginnings}
 use Rattle.engine.specs.Saturated.{SayTheClosure}
 use Rattle.facts.specs.declared.contexts.Fact as code_fact
-use Rattle.interpretation_spec.specs.Row.{has}
 use Rattle.normal_forms.specs.Forms.{Whole}
-use Rattle.taxonomy.specs.Relation.{AreOver, IsSquare, row_at, lies_below}
-use Rattle.classification.specs.Rows.{AreClassRows, AreTypeRows, related_row, IsTaxonomyOf, AreTypesOf}
+use Rattle.taxonomy.specs.Texts.{nothing_class}
+use Rattle.taxonomy.specs.Relation.{IsPreorder, is_below, is_listed, lies_below}
+use Rattle.classification.specs.Lists.{AreClassLists, AreTypeLists, IsTaxonomyOf, AreTypesOf}
+use Rattle.classification.proofs.Above.{facts_of_facts}
 use Rattle.classification.proofs.Saying.{below_by_fact, type_by_fact}
 
-length_related : (row : List Bool) → length (related_row row) ≡ length row
-length_related row = go (has row nothing)
-  where
-    go : (b : Bool) → length (if b then replicate (length row) true else row) ≡ length row
-    go true = length-replicate (length row) true
-    go false = refl
-
-over_related : (n : ℕ) (rows : List (List Bool)) → AreOver n rows → AreOver n (map related_row rows)
-over_related n rows over =
-    All-map (λ row. length row ≡ n) related_row rows (All-weaker (λ row. length row ≡ n) (λ row. length (related_row row) ≡ n) (λ row h. length_related row ∙ h) rows over)
-
-related_at : (rows : List (List Bool)) (c : ℕ) (row : List Bool) → slice_get rows c ≡ Some row → row_at (map related_row rows) c ≡ related_row row
-related_at rows c row at = get_or_from_slice_get (map related_row rows) c (related_row row) [] (slice_get_map related_row rows c row at)
-
--- a related row has all where it has owl:Nothing
-related_has : (row : List Bool) (d : ℕ) → d < length row → (has (related_row row) d ≡ true) ↔ ((has row nothing ≡ true) ⊎ (has row d ≡ true))
-related_has row d l = go (has row nothing) refl
-  where
-    go : (b : Bool) → has row nothing ≡ b → (has (if b then replicate (length row) true else row) d ≡ true) ↔ ((has row nothing ≡ true) ⊎ (has row d ≡ true))
-    go true e = (λ t. inl e, λ s. get_or-replicate (length row) d true false l)
-    go false e = (λ t. inr t, λ s. elim s [ inl k ↦ absurd (both_ways (has row nothing) e k) | inr k ↦ k ])
-
 module _ (o : Ontology) (w : IsOntology o) (b : Beginnings) (facts : List code_fact.Fact) (h : SayTheClosure o b facts) where
-  module _ (rows : List (List Bool)) (are : AreClassRows o facts rows) where
-    abbrev n : ℕ
-    n = length o.names.classes
-
-    pub square : (related : List (List Bool)) → related ≡ map related_row rows → IsSquare related
-    square related is =
-        let long : n ≡ length (map related_row rows) = sym (length-map rows related_row ∙ are.shaped.long) in
-        subst IsSquare (sym is) (subst (λ m. AreOver m (map related_row rows)) long (over_related n rows are.shaped.over))
-
-    row_says : (c e d f : ℕ) → IsClassAt o c e → IsClassAt o d f → (lies_below rows c d ≡ true) ↔ IsFact o [] (In (Whole f) (Expression e))
-    row_says c e d f class above =
+  module _ (lists : List (List ℕ)) (are : AreClassLists o facts lists) where
+    list_says : (c d e f : ℕ) → IsClassAt o c e → IsClassAt o d f → (is_listed lists c d ≡ true) ↔ IsFact o [] (In (Whole f) (Expression e))
+    list_says c d e f class above =
         let by = below_by_fact o w b facts h c d e f class above in
         (λ t. by.0 ((are.each c d).0 t), λ k. (are.each c d).1 (by.1 k))
 
-    below : (c d e f : ℕ) → IsClassAt o c e → IsClassAt o d f
-        → (lies_below (map related_row rows) c d ≡ true) ↔ (IsFact o [] (In (Whole nothing) (Expression e)) ⊎ IsFact o [] (In (Whole f) (Expression e)))
-    below c d e f class above =
-        let c_in : c < n = w.nodes e (Class c) class in
-        let d_in : d < n = w.nodes f (Class d) above in
-        let (row, at) = slice_get_there rows c (omega (arith, are.shaped.long)) in
-        let same : row_at rows c ≡ row = get_or_from_slice_get rows c row [] at in
-        let wide : length row ≡ n = ap length (sym same) ∙ are.shaped.over c [] (omega (arith, are.shaped.long)) in
-        let there = related_has row d (omega (arith, wide)) in
-        let bottom = row_says c e nothing nothing class w.nothing_node in
-        let here = row_says c e d f class above in
-        let is : lies_below (map related_row rows) c d ≡ has (related_row row) d = ap (λ (r : List Bool). has r d) (related_at rows c row at) in (
-          λ t. elim (there.0 (sym is ∙ t)) [
-            | inl k ↦ inl (bottom.0 (ap (λ (r : List Bool). has r nothing) same ∙ k))
-            | inr k ↦ inr (here.0 (ap (λ (r : List Bool). has r d) same ∙ k))
+    below : (rows : List (List Bool)) → length rows ≡ length lists → ((c d : ℕ) → c < length rows → d < length rows → lies_below rows c d ≡ is_below lists c d)
+        → (c d e f : ℕ) → IsClassAt o c e → IsClassAt o d f → (lies_below rows c d ≡ true) ↔ (IsFact o [] (In (Whole nothing) (Expression e)) ⊎ IsFact o [] (In (Whole f) (Expression e)))
+    below rows long each c d e f class above =
+        let c_in : c < length o.names.classes = w.nodes e (Class c) class in
+        let d_in : d < length o.names.classes = w.nodes f (Class d) above in
+        let is : lies_below rows c d ≡ (is_listed lists c nothing_class || is_listed lists c d) = each c d (omega (arith, long, are.long)) (omega (arith, long, are.long)) in
+        let bottom = list_says c nothing_class e nothing class w.nothing_node in
+        let here = list_says c d e f class above in (
+          λ t. elim (or_cases (is_listed lists c nothing_class) (is_listed lists c d) (sym is ∙ t)) [ inl k ↦ inl (bottom.0 k) | inr k ↦ inr (here.0 k) ],
+          λ s. is ∙ elim s [
+            | inl k ↦ or_left (is_listed lists c nothing_class) (is_listed lists c d) (bottom.1 k)
+            | inr k ↦ or_right (is_listed lists c nothing_class) (is_listed lists c d) (here.1 k)
           ],
-          λ s. is ∙ there.1 (elim s [
-            | inl k ↦ inl (ap (λ (r : List Bool). has r nothing) (sym same) ∙ bottom.1 k)
-            | inr k ↦ inr (ap (λ (r : List Bool). has r d) (sym same) ∙ here.1 k)
-          ]),
         )
 
-    pub is_taxonomy : (related : List (List Bool)) → related ≡ map related_row rows → IsTaxonomyOf o related
-    is_taxonomy related is = subst (IsTaxonomyOf o) (sym is) (record { long = length-map rows related_row ∙ are.shaped.long; below = below })
+    pub is_taxonomy : (rows : List (List Bool)) → length rows ≡ length lists → ((c d : ℕ) → c < length rows → d < length rows → lies_below rows c d ≡ is_below lists c d) → IsTaxonomyOf o rows
+    is_taxonomy rows long each = record { long = long ∙ are.long; below = below rows long each }
 
-  pub are_types : (rows : List (List Bool)) → AreTypeRows o facts rows → AreTypesOf o rows
-  are_types rows are = record {
-    shaped = are.shaped;
+  pub are_types : (lists : List (List ℕ)) → AreTypeLists o facts lists → AreTypesOf o lists
+  are_types lists are = record {
+    long = are.long;
+    over = λ a d t. let (n, fact, at, (i, f, is, same, above)) = (are.each a d).0 t in w.nodes f.0 (Class d) above;
     types = λ a d f l above.
         let by = type_by_fact o w b facts h a d f above in
         (λ t. by.0 ((are.each a d).0 t), λ k. (are.each a d).1 (by.1 k));
   }
+
+-- ---- the classes by the closure are a preorder
+
+module _ (o : Ontology) (w : IsOntology o) (rows : List (List Bool)) (is : IsTaxonomyOf o rows) where
+  -- owl:Nothing or the second class is in the first
+  IsBelow : ℕ → ℕ → Type 0
+  IsBelow e f = IsFact o [] (In (Whole nothing) (Expression e)) ⊎ IsFact o [] (In (Whole f) (Expression e))
+
+  onwards : (e f g : ℕ) → IsRoot o [] (Expression e) → IsBelow e f → IsBelow f g → IsBelow e g
+  unfolding IsBelow
+  onwards e f g root (inl empty) next = inl empty
+  onwards e f g root (inr there) (inl empty) = inl (facts_of_facts o [] e f root there (Whole nothing) empty)
+  onwards e f g root (inr there) (inr next) = inr (facts_of_facts o [] e f root there (Whole g) next)
+
+  below_itself : (c : ℕ) → c < length rows → lies_below rows c c ≡ true
+  below_itself c l =
+      let (e, class) = w.class_nodes c (omega (arith, is.long)) in
+      (is.below c c e e class class).1 (inr (fact.in_itself (fact.root (IsRoot.named c e class))))
+
+  below_all : (c d k : ℕ) → c < length rows → d < length rows → k < length rows → lies_below rows c d ≡ true → lies_below rows d k ≡ true → lies_below rows c k ≡ true
+  unfolding IsBelow
+  below_all c d k c_in d_in k_in first second =
+      let (e, class) = w.class_nodes c (omega (arith, is.long)) in
+      let (f, above) = w.class_nodes d (omega (arith, is.long)) in
+      let (g, last) = w.class_nodes k (omega (arith, is.long)) in
+      (is.below c k e g class last).1 (onwards e f g (IsRoot.named c e class) ((is.below c d e f class above).0 first) ((is.below d k f g above last).0 second))
+
+  pub is_preorder : IsPreorder rows
+  is_preorder = record { reflexive = below_itself; transitive = below_all }

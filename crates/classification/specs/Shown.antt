@@ -3,7 +3,7 @@ use Rattle.std.specs.Prelude.{List, [], Bool, true, false, Some, None}
 use Rattle.std.specs.declared.option.Option.{Option}
 use Rattle.axioms.specs.Numbered.{Ontology}
 use Rattle.certificate.specs.Certificate.{Line, Listed}
-use Rattle.classification.specs.Rows.{IsTaxonomyOf, AreTypesOf}
+use Rattle.classification.specs.Lists.{IsTaxonomyOf, AreTypesOf}
 use Rattle.exactness.specs.Acceptance.{IsListedFor}
 use Rattle.exactness.specs.Theorems.{HaveFacts}
 use Rattle.explain.specs.Needed.{ShowsContradiction}
@@ -12,7 +12,7 @@ use Rattle.taxonomy.specs.declared.outcome.Outcome.TheVariants.{Consistent, Inco
 
 -- the relations of the closure, or that there is a contradiction
 abbrev pub IsOutcomeOf : Ontology → Bool → Outcome → Type 0
-IsOutcomeOf o true (Consistent taxonomy types) = IsTaxonomyOf o taxonomy × AreTypesOf o types.items
+IsOutcomeOf o true (Consistent taxonomy types) = IsTaxonomyOf o taxonomy × AreTypesOf o types
 IsOutcomeOf o false Inconsistent = Unit {0}
 IsOutcomeOf o _ _ = ⊥
 

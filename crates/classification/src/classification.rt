@@ -9,7 +9,7 @@ ghost use Rattle.classification.specs.Shown.{AreShown, IsOutcomeOf};
 ghost use Rattle.closure_model.specs.Listed.{IsConsistent};
 ghost use Rattle.engine.specs.Saturated.{HasMoreFactsThan, IsSaturated};
 ghost use Rattle.saturate.specs.declared.known_facts.Stop.TheVariants as stops;
-ghost use Rattle.std.specs.Prelude.{◌↔◌, ◌≡◌, ◌<◌, ◌≤◌, ◌^◌, [], All, Err, IfOk, IfSome, IsTrue, length, option_map};
+ghost use Rattle.std.specs.Prelude.{◌↔◌, ◌≡◌, ◌<◌, ◌≤◌, ◌^◌, [], All, Err, IfOk, IfSome, IsTrue, false, length, option_map, true};
 ghost use Rattle.taxonomy.specs.Outcome.{IsMadeFor, instances_of, taxonomy_of};
 
 use crate::consistent::is_consistent;
@@ -45,6 +45,16 @@ pub struct Classification {
     pub certificate: Vec<u8>,
 }
 
+/// The relations of classes and of individuals by the closure.
+fn relations(alloc: Global, ontology: &Ontology, saturation: &Saturation) -> Result<Outcome, Memory>
+    requires { IsSaturated ontology.now saturation.now }
+    ensures { IfOk result (IsOutcomeOf ontology.now true) }
+{
+    let taxonomy = taxonomy_of(alloc, ontology, saturation)?;
+    let types = types_of(alloc, ontology, saturation)?;
+    Ok(Outcome::Consistent(taxonomy, types))
+}
+
 /// What the closure says: the relations of classes and individuals, or that there is no interpretation.
 fn outcome(
     alloc: Global,
@@ -55,12 +65,11 @@ fn outcome(
     requires { IsSaturated ontology.now saturation.now }
     ensures { IfOk result (IsOutcomeOf ontology.now consistent) }
 {
-    if !consistent {
-        return Ok(Outcome::Inconsistent);
+    if consistent {
+        relations(alloc, ontology, saturation)
+    } else {
+        Ok(Outcome::Inconsistent)
     }
-    let taxonomy = taxonomy_of(alloc, ontology, saturation)?;
-    let types = types_of(alloc, ontology, saturation)?;
-    Ok(Outcome::Consistent(taxonomy, types))
 }
 
 /// The certificate of these lines and of this interpretation.
@@ -79,7 +88,40 @@ fn certified(ontology: &Ontology, lines: Vec<Line>, listed: Option<Listed>) -> C
     }
 }
 
-/// The certificate of the closure: a derivation of all its facts with the interpretation that it lists, or of a contradiction.
+/// The certificate of a consistent closure: a derivation of all its facts, with the interpretation that it lists.
+fn certificate_of_closure(
+    alloc: Global,
+    ontology: &Ontology,
+    saturation: &Saturation,
+) -> Result<Certificate, Memory>
+    requires saturated { IsSaturated ontology.now saturation.now }
+    requires consistent { IsConsistent ontology.now [] }
+    ensures text { IfOk result (HasText ontology.now) }
+    ensures derivation { IfOk result (λ c. IsDerivation ontology.now c.lines) }
+    ensures shown { IfOk result (λ c. AreShown ontology.now true c.lines c.listed) }
+{
+    let lines = lines(alloc, ontology, saturation)?;
+    let listed = listed(alloc, ontology, saturation)?;
+    Ok(certified(ontology, lines, Some(listed)))
+}
+
+/// The certificate of a contradiction: a derivation of it.
+fn certificate_of_contradiction(
+    alloc: Global,
+    ontology: &Ontology,
+    saturation: &Saturation,
+) -> Result<Certificate, Memory>
+    requires saturated { IsSaturated ontology.now saturation.now }
+    requires contradictory { IsConsistent ontology.now [] → ⊥ }
+    ensures text { IfOk result (HasText ontology.now) }
+    ensures derivation { IfOk result (λ c. IsDerivation ontology.now c.lines) }
+    ensures shown { IfOk result (λ c. AreShown ontology.now false c.lines c.listed) }
+{
+    let lines = contradiction(alloc, ontology, saturation)?;
+    Ok(certified(ontology, lines, None))
+}
+
+/// The certificate of the closure, or of the contradiction that it has.
 fn certificate_of(
     alloc: Global,
     ontology: &Ontology,
@@ -93,12 +135,9 @@ fn certificate_of(
     ensures shown { IfOk result (λ c. AreShown ontology.now consistent c.lines c.listed) }
 {
     if consistent {
-        let lines = lines(alloc, ontology, saturation)?;
-        let listed = listed(alloc, ontology, saturation)?;
-        Ok(certified(ontology, lines, Some(listed)))
+        certificate_of_closure(alloc, ontology, saturation)
     } else {
-        let lines = contradiction(alloc, ontology, saturation)?;
-        Ok(certified(ontology, lines, None))
+        certificate_of_contradiction(alloc, ontology, saturation)
     }
 }
 

@@ -4,7 +4,6 @@
 mod classification;
 mod consistent;
 mod relation;
-mod rows;
 mod types;
 
 pub use classification::{Classification, Summary, classify};

@@ -1,67 +1,63 @@
 //! Which individuals belong to which named classes.
-ghost use Rattle.cert_check.specs.Rows.{Adds, AreRows};
-ghost use Rattle.classification.specs.Rows.{AreTypeRows, AreTypesOf, IsAboutIndividualOf, PutsInto};
+ghost use Rattle.classification.specs.Lists.{Adds, AreTypeLists, AreTypesOf, IsAboutIndividualOf, PutsInto};
 ghost use Rattle.engine.specs.Saturated.{IsSaturated};
-ghost use Rattle.std.specs.Prelude.{◌<◌, All, IfOk, MatchOption, length, ℕ};
+ghost use Rattle.std.specs.Prelude.{◌≡◌, All, IfOk, MatchOption, OnOk, length, ℕ};
 
-use crate::rows::{empty_rows, put_at};
-use axioms::{Memory, Ontology};
+use axioms::{ClassId, IndId, Memory, Ontology};
 use engine::Saturation;
 use facts::{Context, Fact};
-use interpretation_spec::Row;
 use normal_forms::Class2;
+use number_sets::{OpenLists, PackedLists};
 use std::alloc::Global;
 
 /// The individual that the fact is about, and the class that it puts it into.
-fn type_pair(ontology: &Ontology, fact: &Fact) -> Option<(usize, usize)>
+fn type_pair(ontology: &Ontology, fact: &Fact) -> Option<(IndId, ClassId)>
     ensures { MatchOption result ((a d : ℕ) → PutsInto ontology.now fact.now a d → ⊥)
-        (λ p. PutsInto ontology.now fact.now p.0 p.1 × (p.1 < length ontology.now.names.classes)) }
+        (λ p. PutsInto ontology.now fact.now p.0.0 p.1.0) }
 {
     match *fact {
         Fact::In(Class2::Expr(class), Context::Individual(individual)) => {
             let class = ontology.class_of(class)?;
-            Some((individual.0 as usize, class.0 as usize))
+            Some((individual, class))
         }
         _ => None,
     }
 }
 
 /// Adds the class that the fact puts an individual into.
-fn put_into(ontology: &Ontology, rows: &mut Vec<Row>, fact: &Fact)
+fn put_into(ontology: &Ontology, lists: &mut OpenLists, fact: &Fact) -> Result<(), Memory>
     requires within { IsAboutIndividualOf ontology.now fact.now }
-    requires rows { AreRows (length ontology.now.names.individuals) (length ontology.now.names.classes) rows.old.items }
-    ensures kept { AreRows (length ontology.now.names.individuals) (length ontology.now.names.classes) rows.new.items }
-    ensures added { Adds (PutsInto ontology.now fact.now) rows.old.items rows.new.items }
+    requires long { length lists.old ≡ length ontology.now.names.individuals }
+    ensures { OnOk result (Adds (PutsInto ontology.now fact.now) lists.old lists.new) }
 {
     match type_pair(ontology, fact) {
-        Some((individual, class)) => put_at(rows, individual, class),
+        Some((individual, class)) => lists.push(individual.index(), class.0)?,
         None => {}
     }
+    Ok(())
 }
 
-/// For each individual the row of the classes that a fact puts it into.
-fn type_rows(alloc: Global, ontology: &Ontology, facts: &[Fact]) -> Result<Vec<Row>, Memory>
+/// For each individual the list of the classes that a fact puts it into.
+fn type_lists(alloc: Global, ontology: &Ontology, facts: &[Fact]) -> Result<PackedLists, Memory>
     requires { All (IsAboutIndividualOf ontology.now) facts.now }
-    ensures { IfOk result (λ rows. AreTypeRows ontology.now facts.now rows.items) }
+    ensures { IfOk result (λ lists. AreTypeLists ontology.now facts.now lists) }
 {
-    let count = ontology.individuals().len();
-    let width = ontology.classes().len();
-    let mut rows = empty_rows(alloc, count, width)?;
+    let mut lists = OpenLists::new(alloc, ontology.individuals().len())?;
     for fact in facts {
-        put_into(ontology, &mut rows, fact);
+        put_into(ontology, &mut lists, fact)?;
     }
-    Ok(rows)
+    Ok(lists.packed(alloc)?)
 }
 
-/// For each individual the row of the classes that it belongs to by the closure.
+/// For each individual the list of the classes that it belongs to by the closure.
 pub(crate) fn types_of(
     alloc: Global,
     ontology: &Ontology,
     saturation: &Saturation,
-) -> Result<Vec<Row>, Memory>
+) -> Result<PackedLists, Memory>
     requires { IsSaturated ontology.now saturation.now }
-    ensures { IfOk result (λ rows. AreTypesOf ontology.now rows.items) }
+    ensures { IfOk result (λ lists. AreTypesOf ontology.now lists) }
 {
     ontology.well_formed();
-    type_rows(alloc, ontology, saturation.facts())
+    type_lists(alloc, ontology, saturation.facts())
 }

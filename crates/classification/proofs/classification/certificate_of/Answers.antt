@@ -1,10 +1,12 @@
 use Rattle.std.proofs.Common.{subst, sym}
-use Rattle.certificate.specs.Certificate.{Certificate}
-use Rattle.cert_check.specs.Derivation.{IsDerivation}
+use Rattle.std.specs.Prelude.{IfOk}
+use Rattle.classification.specs.Shown.{AreShown}
 use Rattle.classification.proofs.classification.certificate_of.Goals as goal
 
-pub returns-in_ok-listed-clause-derivation : goal.returns-in_ok-listed-clause-derivation
-returns-in_ok-listed-clause-derivation c = subst (λ (d : Certificate). IsDerivation c.args.ontology.now d.lines) (sym c.certified.ensures.made) c.in_ok-lines.ensures.derivation
+pub returns-then-consistent-clause-shown : goal.returns-then-consistent-clause-shown
+returns-then-consistent-clause-shown c =
+    subst (λ b. IfOk c.certificate_of_closure.result (λ d. AreShown c.args.ontology.now b d.lines d.listed)) (sym c.if-consistent.true) c.certificate_of_closure.ensures.shown
 
-pub returns-in_ok-lines-2-clause-derivation : goal.returns-in_ok-lines-2-clause-derivation
-returns-in_ok-lines-2-clause-derivation c = subst (λ (d : Certificate). IsDerivation c.args.ontology.now d.lines) (sym c.certified-else-consistent.ensures.made) c.in_ok-lines-2.ensures.derivation
+pub returns-else-consistent-clause-shown : goal.returns-else-consistent-clause-shown
+returns-else-consistent-clause-shown c =
+    subst (λ b. IfOk c.certificate_of_contradiction.result (λ d. AreShown c.args.ontology.now b d.lines d.listed)) (sym c.if-consistent.false) c.certificate_of_contradiction.ensures.shown

@@ -2,13 +2,13 @@ use Rattle.std.proofs.Common.{All, get_or, subst, sym}
 use Rattle.std.proofs.lemmas.List.Elements.{Contains-get_or}
 use Rattle.std.proofs.lemmas.Result.{IfOk-weaker}
 use Rattle.problem.specs.Made.{beginnings_of}
-use Rattle.classification.specs.Rows.{AreTypeRows, IsAboutIndividualOf}
+use Rattle.classification.specs.Lists.{AreTypeLists, IsAboutIndividualOf}
 use Rattle.classification.proofs.Saying.{about_individual}
 use Rattle.classification.proofs.Taxonomy.{are_types}
 use Rattle.classification.proofs.types.types_of.Goals as goal
 
-pub type_rows-requires : goal.type_rows-requires
-type_rows-requires c =
+pub type_lists-requires : goal.type_lists-requires
+type_lists-requires c =
     let o = c.args.ontology.now in
     let s = c.args.saturation.now in
     let fs = s.state.facts in
@@ -19,4 +19,4 @@ pub returns : goal.returns
 returns c =
     let o = c.args.ontology.now in
     let s = c.args.saturation.now in
-    IfOk-weaker c.type_rows.result _ _ (λ rows are. are_types o c.well_formed-2.ensures (beginnings_of s.normal) s.state.facts c.requires.facts rows.items (subst (λ fs. AreTypeRows o fs rows.items) c.facts.ensures are)) c.type_rows.ensures
+    IfOk-weaker c.type_lists.result _ _ (λ lists are. are_types o c.well_formed-2.ensures (beginnings_of s.normal) s.state.facts c.requires.facts lists (subst (λ fs. AreTypeLists o fs lists) c.facts.ensures are)) c.type_lists.ensures

@@ -1,18 +1,16 @@
--- What facts say of named classes and individuals, as rows of classes.
-use Rattle.std.specs.Prelude.{◌≡◌, ◌↔◌, ◌⊎◌, ◌<◌, ℕ, List, [], Bool, true, if◌then◌else◌, length, replicate, slice_get, Some}
+-- What facts say of named classes and individuals, as lists of classes.
+use Rattle.std.specs.Prelude.{◌≡◌, ◌↔◌, ◌⊎◌, ◌<◌, ℕ, List, [], Bool, true, length, slice_get, Some}
 use Rattle.axioms.specs.Numbered.{Ontology, IsClassAt, nothing}
 use Rattle.axioms.specs.declared.ids.ExprId.{ExprId}
 use Rattle.axioms.specs.declared.ids.IndId.{IndId}
-use Rattle.cert_check.specs.Rows.{AreRows}
 use Rattle.closure.specs.Closure.{Expression, IsFact}
 use Rattle.closure.specs.Closure as closure
 use Rattle.facts.specs.declared.contexts.Context.TheVariants as contexts
 use Rattle.facts.specs.declared.contexts.Fact.{Fact}
 use Rattle.facts.specs.declared.contexts.Fact.TheVariants.{In}
-use Rattle.interpretation_spec.specs.Row.{has}
 use Rattle.normal_forms.specs.declared.forms.Class2.TheVariants.{Expr}
 use Rattle.normal_forms.specs.Forms.{Whole}
-use Rattle.taxonomy.specs.Relation.{lies_below}
+use Rattle.taxonomy.specs.Relation.{is_listed, lies_below}
 
 -- the fact puts the class of number c below that of number d
 abbrev pub PutsBelow : Ontology → Fact → ℕ → ℕ → Type 0
@@ -31,22 +29,23 @@ IsAboutIndividualOf o _ = Unit {0}
 abbrev pub SomeFact : List Fact → (Fact → Type 0) → Type 0
 SomeFact facts P = (n : ℕ) × (fact : Fact) × (slice_get facts n ≡ Some fact) × P fact
 
--- rows that have exactly the numbers that facts put there
-pub record AreRowsBy (puts : Fact → ℕ → ℕ → Type 0) (count width : ℕ) (facts : List Fact) (rows : List (List Bool)) : Type 0 where
-  pub shaped : AreRows count width rows
-  pub each : (c d : ℕ) → (lies_below rows c d ≡ true) ↔ SomeFact facts (λ fact. puts fact c d)
+-- the new lists are as many as the old ones, and have their numbers and those that are put there
+pub record Adds (puts : ℕ → ℕ → Type 0) (old new : List (List ℕ)) : Type 0 where
+  pub long : length new ≡ length old
+  pub each : (c d : ℕ) → (is_listed new c d ≡ true) ↔ ((is_listed old c d ≡ true) ⊎ puts c d)
 
--- the row of each class has exactly the classes that a fact puts above it
-abbrev pub AreClassRows : Ontology → List Fact → List (List Bool) → Type 0
-AreClassRows o facts rows = AreRowsBy (PutsBelow o) (length o.names.classes) (length o.names.classes) facts rows
+-- so many lists, which have exactly the numbers that facts put there
+pub record AreListsBy (puts : Fact → ℕ → ℕ → Type 0) (count : ℕ) (facts : List Fact) (lists : List (List ℕ)) : Type 0 where
+  pub long : length lists ≡ count
+  pub each : (c d : ℕ) → (is_listed lists c d ≡ true) ↔ SomeFact facts (λ fact. puts fact c d)
 
--- the row of each individual has exactly the classes that a fact puts it into
-abbrev pub AreTypeRows : Ontology → List Fact → List (List Bool) → Type 0
-AreTypeRows o facts rows = AreRowsBy (PutsInto o) (length o.names.individuals) (length o.names.classes) facts rows
+-- the list of each class has exactly the classes that a fact puts above it
+abbrev pub AreClassLists : Ontology → List Fact → List (List ℕ) → Type 0
+AreClassLists o facts lists = AreListsBy (PutsBelow o) (length o.names.classes) facts lists
 
--- a class with owl:Nothing above it lies below all classes
-abbrev pub related_row : List Bool → List Bool
-related_row row = if has row nothing then replicate (length row) true else row
+-- the list of each individual has exactly the classes that a fact puts it into
+abbrev pub AreTypeLists : Ontology → List Fact → List (List ℕ) → Type 0
+AreTypeLists o facts lists = AreListsBy (PutsInto o) (length o.names.individuals) facts lists
 
 -- ---- by the closure
 
@@ -55,7 +54,8 @@ pub record IsTaxonomyOf (o : Ontology) (rows : List (List Bool)) : Type 0 where
   pub long : length rows ≡ length o.names.classes
   pub below : (c d e f : ℕ) → IsClassAt o c e → IsClassAt o d f → (lies_below rows c d ≡ true) ↔ (IsFact o [] (closure.In (Whole nothing) (Expression e)) ⊎ IsFact o [] (closure.In (Whole f) (Expression e)))
 
--- an individual belongs to what is a fact of it
-pub record AreTypesOf (o : Ontology) (rows : List (List Bool)) : Type 0 where
-  pub shaped : AreRows (length o.names.individuals) (length o.names.classes) rows
-  pub types : (a d f : ℕ) → a < length o.names.individuals → IsClassAt o d f → (lies_below rows a d ≡ true) ↔ IsFact o [] (closure.In (Whole f) (closure.Individual a))
+-- an individual belongs to what is a fact of it, and to named classes alone
+pub record AreTypesOf (o : Ontology) (lists : List (List ℕ)) : Type 0 where
+  pub long : length lists ≡ length o.names.individuals
+  pub over : (a d : ℕ) → is_listed lists a d ≡ true → d < length o.names.classes
+  pub types : (a d f : ℕ) → a < length o.names.individuals → IsClassAt o d f → (is_listed lists a d ≡ true) ↔ IsFact o [] (closure.In (Whole f) (closure.Individual a))
