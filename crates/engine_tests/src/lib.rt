@@ -1,4 +1,4 @@
-//! Tests of the engine: sets by number, work lists, paths of properties, what is read from saturations, and classifications.
+//! Tests of the engine: sets by number, work lists, paths of properties and classifications.
 #![tactic(auto)]
 
 #[cfg(test)]
@@ -7,7 +7,5 @@ mod classifications;
 mod lists;
 #[cfg(test)]
 mod paths;
-#[cfg(test)]
-mod saturations;
 #[cfg(test)]
 mod sets;
