@@ -12,7 +12,7 @@ use Rattle.axioms.proofs.Trees.{class_tree, some_tree, and_tree}
 use Rattle.interpretation_spec.specs.Interpretation.{IsIn}
 use Rattle.interpretation_spec.specs.Numbered.{NumberedInterpretation, IsNumberedInterpretation, IsMadeFor, members_of, targets_of}
 use Rattle.interpretation_spec.specs.ByName.{interpretation_of, IsExtension}
-use Rattle.interpretation_spec.specs.Row.{has}
+use Rattle.number_sets.specs.Members.{has}
 use Rattle.interpretation_spec.proofs.Extensions.{in_intersection, each_of_intersection}
 use Rattle.interpretation_spec.proofs.Names.{StandsFor, stands}
 

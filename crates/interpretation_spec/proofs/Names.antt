@@ -12,7 +12,7 @@ use Rattle.axioms.specs.WellFormed.{IsOntology, AreDistinct}
 use Rattle.interpretation_spec.specs.Interpretation.{Interpretation, IsInterpretation}
 use Rattle.interpretation_spec.specs.Numbered.{NumberedInterpretation, IsNumberedInterpretation, members_of}
 use Rattle.interpretation_spec.specs.ByName.{number_of, is_target, interpretation_of}
-use Rattle.interpretation_spec.specs.Row.{has}
+use Rattle.number_sets.specs.Members.{has}
 
 -- the number of the name that stands at a place, and at no other
 number_at : (names : List Iri) (c : ℕ) (name : Iri) → slice_get names c ≡ Some name → ((m : ℕ) → slice_get names m ≡ Some name → m ≡ c) → number_of names name ≡ c

@@ -15,7 +15,7 @@ use Rattle.axioms.specs.WellFormed.{IsOntology}
 use Rattle.interpretation_spec.specs.Interpretation.{Interpretation, IsIn, IsWithin, IsSubProperty, IsSameProperty, HasPath, Satisfies}
 use Rattle.interpretation_spec.specs.Numbered.{NumberedInterpretation, IsNumberedInterpretation, targets_of}
 use Rattle.interpretation_spec.specs.ByName.{is_target, interpretation_of, IsExtension, HasNumberedPath}
-use Rattle.interpretation_spec.specs.Row.{has}
+use Rattle.number_sets.specs.Members.{has}
 use Rattle.interpretation_spec.proofs.Names.{StandsFor, stands}
 use Rattle.interpretation_spec.proofs.Elements.{target_within}
 

@@ -7,7 +7,7 @@ use Rattle.axioms.specs.Numbered.{Names, Ontology, axiom_tree}
 use Rattle.axioms.specs.View.{at_number}
 use Rattle.interpretation_spec.specs.Interpretation.{Interpretation, IsIn, Satisfies}
 use Rattle.interpretation_spec.specs.Numbered.{NumberedInterpretation, members_of, targets_of}
-use Rattle.interpretation_spec.specs.Row.{has}
+use Rattle.number_sets.specs.Members.{has}
 
 -- the number of a name, or how many names there are where it is none of them
 abbrev pub number_of : List Iri → Iri → ℕ

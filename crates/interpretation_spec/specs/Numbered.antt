@@ -2,7 +2,7 @@
 use Rattle.std.specs.Prelude.{◌≡◌, ℕ, ◌-◌, ◌<◌, List, [], ◌∷◌, Bool, true, false, if◌then◌else◌, nat_lt, ◌==◌, length, slice_set, slice_index_or, replicate, All}
 use Rattle.std.specs.List.Sorted.{IsStrictlyIncreasing}
 use Rattle.axioms.specs.Numbered.{Names}
-use Rattle.interpretation_spec.specs.Row.{has}
+use Rattle.number_sets.specs.Members.{has}
 
 -- for each class its elements, for each property and each element its targets in ascending order, for each individual its element
 pub record NumberedInterpretation : Type 0 where

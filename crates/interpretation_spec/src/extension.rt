@@ -4,12 +4,12 @@ ghost use Rattle.std.specs.List.{list_any};
 ghost use Rattle.axioms.specs.Numbered.{expression as expression_of};
 ghost use Rattle.interpretation_spec.specs.ByName.{IsExtension, interpretation_of};
 ghost use Rattle.interpretation_spec.specs.Numbered.{IsMadeFor, targets_of};
-ghost use Rattle.interpretation_spec.specs.Row.{has};
+ghost use Rattle.number_sets.specs.Members.{has};
 
 use crate::interpretation::Interpretation;
 use crate::pairs::sources_in;
-use crate::row::Row;
 use axioms::{Expr, ExprId, Memory, Ontology, PropId};
+use number_sets::Row;
 
 impl Interpretation {
     /// The elements of the expression (OWL 2 Direct Semantics, section 2.2.3), which is of the ontology that this was made for.

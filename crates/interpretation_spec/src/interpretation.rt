@@ -5,8 +5,8 @@ ghost use Rattle.interpretation_spec.specs.Numbered.{IsNumberedInterpretation, e
 
 use crate::fault::InterpretationFault;
 use crate::pairs::{put_target, targets_in, without_pairs};
-use crate::row::Row;
 use axioms::{ClassId, IndId, Memory, Ontology, PropId};
+use number_sets::Row;
 use std::alloc::Global;
 use std::collections::BTreeMap;
 use std::marker::Model;

@@ -4,10 +4,10 @@ ghost use Rattle.std.specs.List.{list_any};
 ghost use Rattle.std.specs.List.Sorted.{IsStrictlyIncreasing};
 ghost use Rattle.interpretation_spec.specs.Kept.{kept_pairs, kept_targets};
 ghost use Rattle.interpretation_spec.specs.Numbered.{with_number};
-ghost use Rattle.interpretation_spec.specs.Row.{has};
+ghost use Rattle.number_sets.specs.Members.{has};
 
-use crate::row::Row;
 use axioms::Memory;
+use number_sets::Row;
 use std::alloc::{AllocError, Global};
 use std::collections::BTreeMap;
 

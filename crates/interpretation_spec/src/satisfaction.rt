@@ -6,12 +6,12 @@ ghost use Rattle.axioms.specs.WellFormed.{IsAxiomOf};
 ghost use Rattle.interpretation_spec.specs.ByName.{HasNumberedPath, IsFirstUnsatisfied, interpretation_of, is_target};
 ghost use Rattle.interpretation_spec.specs.Interpretation.{IsApart, IsModel, IsSame, IsWithin, Satisfies};
 ghost use Rattle.interpretation_spec.specs.Numbered.{IsMadeFor, targets_of};
-ghost use Rattle.interpretation_spec.specs.Row.{has};
+ghost use Rattle.number_sets.specs.Members.{has};
 
 use crate::interpretation::Interpretation;
 use crate::pairs::{put_targets, targets_in};
-use crate::row::Row;
 use axioms::{Axiom, ExprId, IndId, Memory, Ontology, PropId};
+use number_sets::Row;
 
 impl Interpretation {
     /// The least number, from 1, of an axiom that does not hold, of the ontology that this was made for.

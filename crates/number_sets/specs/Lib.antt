@@ -2,3 +2,4 @@ pub mod Members
 pub mod Marks
 pub mod Pieces
 pub mod Turned
+pub mod Words

@@ -1,12 +1,15 @@
-//! Sets of numbers, and lists by number, whose cost goes by their members.
+//! Sets of numbers below a bound, and lists by number: a row of bits, and sets and lists whose cost goes by their members.
 #![tactic(auto)]
 
 mod epoch_set;
 mod open_lists;
 mod packed_lists;
+mod row;
 mod turning;
+mod words;
 
 pub use epoch_set::EpochSet;
 pub use open_lists::OpenLists;
 pub use packed_lists::PackedLists;
+pub use row::Row;
 pub use turning::turned;

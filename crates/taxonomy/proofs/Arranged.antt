@@ -5,7 +5,7 @@ use Rattle.std.specs.List.Sorted.{IsPermutation}
 use Rattle.std.proofs.lemmas.Bool.{and_from, and_parts, cases_lt, eq-eqb, eqb-true, false_from_ne_true, false≢true, le-ltb, lt-ltb, or_cases, or_left, or_right}
 use Rattle.std.proofs.lemmas.List.Sorted.{ranks_by}
 use Rattle.std.proofs.Math.Bool.{and-true, and_comm}
-use Rattle.interpretation_spec.specs.Row.{has}
+use Rattle.number_sets.specs.Members.{has}
 use Rattle.number_sets.specs.Pieces.{list_at}
 use Rattle.taxonomy.specs.Marked.{Leads}
 use Rattle.taxonomy.specs.Relation.{is_listed}

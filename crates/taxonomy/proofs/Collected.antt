@@ -4,7 +4,7 @@ use Rattle.std.proofs.lemmas.Bool.{and_parts, cases_lt, false≢true, le-ltb, lt
 use Rattle.std.proofs.lemmas.List.{ext_get_or, get_or-map, length-map}
 use Rattle.std.proofs.Math.Bool.{and-true}
 use Rattle.number_sets.specs.Pieces.{list_at}
-use Rattle.interpretation_spec.specs.Row.{has}
+use Rattle.number_sets.specs.Members.{has}
 use Rattle.taxonomy.specs.Texts.{numbers_below, nothing_class}
 use Rattle.taxonomy.specs.Relation.{is_below, is_listed, IsSquare}
 use Rattle.taxonomy.specs.Superclasses.{is_among, filled, rows_of, AreOnce, AreSets, IsSetOf}

@@ -1,7 +1,7 @@
 -- Lists with those that are kept apart.
 use Rattle.std.proofs.Common.{◌≡◌, ℕ, zero, suc, Bool, cond, List, [], ◌∷◌, length, refl, sym, ap, ◌∙◌, arith}
 use Rattle.number_sets.specs.Pieces.{list_at}
-use Rattle.interpretation_spec.specs.Row.{has}
+use Rattle.number_sets.specs.Members.{has}
 use Rattle.taxonomy.specs.Texts.{numbers_below}
 use Rattle.taxonomy.specs.Superclasses.{filled}
 

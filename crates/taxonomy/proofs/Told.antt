@@ -5,7 +5,7 @@ use Rattle.std.proofs.lemmas.List.{length-map, get_or-map}
 use Rattle.std.proofs.lemmas.List.FromFn.{length-range_with_len, get_or-range_with_len}
 use Rattle.std.proofs.Math.Path.{fun_ext}
 use Rattle.number_sets.specs.Pieces.{list_at}
-use Rattle.interpretation_spec.specs.Row.{has}
+use Rattle.number_sets.specs.Members.{has}
 use Rattle.taxonomy.specs.Texts.{numbers_below, is_same, is_strictly_above}
 use Rattle.taxonomy.specs.Relation.{row_at, lies_below, is_listed}
 use Rattle.taxonomy.specs.Superclasses.{is_among, rows_of, AreSets}

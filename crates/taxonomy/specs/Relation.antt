@@ -1,7 +1,7 @@
 -- A relation on classes as rows: which classes lie above each; and as lists.
 use Rattle.std.specs.Prelude.{◌<◌, ◌≡◌, ℕ, List, [], Bool, true, length, slice_index_or, ◌||◌, ◌==◌}
 use Rattle.std.specs.List.{All, list_any}
-use Rattle.interpretation_spec.specs.Row.{has}
+use Rattle.number_sets.specs.Members.{has}
 use Rattle.number_sets.specs.Pieces.{list_at}
 use Rattle.taxonomy.specs.Texts.{nothing_class}
 

@@ -1,5 +1,5 @@
 //! The superclasses of each class, collected from lists or from rows.
-ghost use Rattle.interpretation_spec.specs.Row.{has};
+ghost use Rattle.number_sets.specs.Members.{has};
 ghost use Rattle.number_sets.specs.Pieces.{list_at};
 ghost use Rattle.std.specs.List.{filter};
 ghost use Rattle.std.specs.Prelude.{◌&&◌, ◌<◌, ◌==◌, ◌||◌, ◌≡◌, IfOk, length, map, nat_lt, not, ℕ};

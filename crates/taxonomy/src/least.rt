@@ -1,5 +1,5 @@
 //! Of classes, those that are strictly above no other of them.
-ghost use Rattle.interpretation_spec.specs.Row.{has};
+ghost use Rattle.number_sets.specs.Members.{has};
 ghost use Rattle.std.specs.List.{filter, list_any};
 ghost use Rattle.std.specs.List.Sorted.{IsPermutation};
 ghost use Rattle.std.specs.Prelude.{◌<◌, ◌||◌, ◌≡◌, IfOk, false, length, map, not, replicate, ℕ};

@@ -1,6 +1,6 @@
 use Rattle.std.proofs.Common.{◌≡◌, ℕ, ◌<◌, ◌||◌, ◌==◌, length, take}
 use Rattle.std.specs.List.{list_any}
-use Rattle.interpretation_spec.specs.Row.{has}
+use Rattle.number_sets.specs.Members.{has}
 use Rattle.interpretation_spec.proofs.pairs.put_targets.Given as goal
 
 abbrev pub invariant-loop-target : goal.invariant-loop-target

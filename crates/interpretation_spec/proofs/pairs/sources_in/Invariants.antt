@@ -1,7 +1,7 @@
 use Rattle.std.proofs.Common.{◌≡◌, ℕ, ◌<◌, ◌≤◌, length, false}
 use Rattle.std.specs.List.{list_any}
 use Rattle.interpretation_spec.specs.Kept.{kept_targets}
-use Rattle.interpretation_spec.specs.Row.{has}
+use Rattle.number_sets.specs.Members.{has}
 use Rattle.interpretation_spec.proofs.pairs.sources_in.Given as goal
 
 abbrev pub invariant-loop-source : goal.invariant-loop-source

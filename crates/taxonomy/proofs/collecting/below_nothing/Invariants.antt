@@ -1,5 +1,5 @@
 use Rattle.std.proofs.Common.{◌≡◌, ◌<◌, ◌≤◌, ℕ, false, length}
-use Rattle.interpretation_spec.specs.Row.{has}
+use Rattle.number_sets.specs.Members.{has}
 use Rattle.taxonomy.specs.Relation.{is_listed}
 use Rattle.taxonomy.specs.Texts.{nothing_class}
 use Rattle.taxonomy.proofs.collecting.below_nothing.Given as goal

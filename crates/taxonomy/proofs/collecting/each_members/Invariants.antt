@@ -1,5 +1,5 @@
 use Rattle.std.proofs.Common.{◌≡◌, filter, map, take}
-use Rattle.interpretation_spec.specs.Row.{has}
+use Rattle.number_sets.specs.Members.{has}
 use Rattle.taxonomy.proofs.collecting.each_members.Given as goal
 
 abbrev pub invariant-loop-row : goal.invariant-loop-row

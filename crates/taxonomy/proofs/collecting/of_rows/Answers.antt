@@ -1,5 +1,5 @@
 use Rattle.std.proofs.Common.{ap, map, filter, ◌∙◌}
-use Rattle.interpretation_spec.specs.Row.{has}
+use Rattle.number_sets.specs.Members.{has}
 use Rattle.taxonomy.proofs.Collected.{collected_sets, collected_rows}
 use Rattle.taxonomy.proofs.collecting.of_rows.Goals as goal
 

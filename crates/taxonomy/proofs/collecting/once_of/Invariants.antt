@@ -1,5 +1,5 @@
 use Rattle.std.proofs.Common.{◌≡◌, ℕ, ◌&&◌, ltb, length, take}
-use Rattle.interpretation_spec.specs.Row.{has}
+use Rattle.number_sets.specs.Members.{has}
 use Rattle.taxonomy.specs.Superclasses.{is_among, AreOnce}
 use Rattle.taxonomy.proofs.collecting.once_of.Given as goal
 

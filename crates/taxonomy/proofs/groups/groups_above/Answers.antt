@@ -2,7 +2,7 @@ use Rattle.std.proofs.Common.{map, filter, not, ap, ◌∙◌}
 use Rattle.std.specs.List.{list_any}
 use Rattle.std.specs.String.{string_bytes}
 use Rattle.std.proofs.lemmas.List.{length-map}
-use Rattle.interpretation_spec.specs.Row.{has}
+use Rattle.number_sets.specs.Members.{has}
 use Rattle.taxonomy.specs.Relation.{is_listed}
 use Rattle.taxonomy.specs.Texts.{by_name, is_strictly_above, sorted}
 use Rattle.taxonomy.proofs.Arranged.{above_placed}

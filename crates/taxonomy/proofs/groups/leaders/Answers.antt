@@ -1,6 +1,6 @@
 use Rattle.std.proofs.Common.{◌≡◌, ◌++◌, ◌<◌, length, get_or, sym, ap, ◌∙◌, arith}
 use Rattle.std.specs.List.{list_any}
-use Rattle.interpretation_spec.specs.Row.{has}
+use Rattle.number_sets.specs.Members.{has}
 use Rattle.taxonomy.specs.Texts.{is_same}
 use Rattle.taxonomy.specs.Relation.{is_listed}
 use Rattle.taxonomy.proofs.Lines.{firsts-skip, firsts-take}

@@ -1,6 +1,6 @@
 use Rattle.std.proofs.Common.{◌++◌, ◌<◌, ◌≡◌, ℕ, drop, length}
 use Rattle.std.specs.List.{list_any}
-use Rattle.interpretation_spec.specs.Row.{has}
+use Rattle.number_sets.specs.Members.{has}
 use Rattle.taxonomy.specs.Texts.{firsts, groups, is_same}
 use Rattle.taxonomy.specs.Relation.{is_listed}
 use Rattle.taxonomy.proofs.groups.leaders.Given as goal

@@ -1,7 +1,7 @@
 use Rattle.std.proofs.Common.{◌≡◌, length, map, filter, sym, ap, subst, ◌∙◌}
 use Rattle.std.specs.String.{string_bytes}
 use Rattle.std.proofs.lemmas.List.{length-map}
-use Rattle.interpretation_spec.specs.Row.{has}
+use Rattle.number_sets.specs.Members.{has}
 use Rattle.taxonomy.specs.Relation.{is_listed}
 use Rattle.taxonomy.specs.Superclasses.{is_among, IsSetOf}
 use Rattle.taxonomy.specs.Texts.{by_name, groups, in_byte_order, least_among, sorted}

@@ -1,5 +1,5 @@
 use Rattle.std.proofs.Common.{◌≡◌, ◌<◌, ℕ, length, take}
-use Rattle.interpretation_spec.specs.Row.{has}
+use Rattle.number_sets.specs.Members.{has}
 use Rattle.taxonomy.specs.Superclasses.{is_among}
 use Rattle.taxonomy.proofs.groups.set_of.Given as goal
 

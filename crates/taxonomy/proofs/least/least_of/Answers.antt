@@ -1,7 +1,7 @@
 use Rattle.std.proofs.Common.{not, get_or, length, sym, ap, subst, ◌∙◌, arith, ⊎_elim}
 use Rattle.std.proofs.lemmas.Bool.{cases_lt}
 use Rattle.std.specs.List.{list_any}
-use Rattle.interpretation_spec.specs.Row.{has}
+use Rattle.number_sets.specs.Members.{has}
 use Rattle.taxonomy.specs.Texts.{is_strictly_above}
 use Rattle.taxonomy.specs.Relation.{is_listed}
 use Rattle.std.specs.List.Sorted.{IsPermutation}

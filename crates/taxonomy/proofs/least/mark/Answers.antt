@@ -1,5 +1,5 @@
 use Rattle.std.proofs.Common.{arith, length, ltb}
-use Rattle.interpretation_spec.specs.Row.{has}
+use Rattle.number_sets.specs.Members.{has}
 use Rattle.number_sets.specs.Pieces.{list_at}
 use Rattle.std.proofs.Common.{ap, ◌∙◌, ◌&&◌, ◌||◌}
 use Rattle.taxonomy.specs.Relation.{is_listed}

@@ -13,7 +13,7 @@ use Rattle.axioms.specs.Numbered.{Class, And, Exists, expression}
 use Rattle.interpretation_spec.specs.Interpretation.{IsIn}
 use Rattle.interpretation_spec.specs.Numbered.{NumberedInterpretation, IsNumberedInterpretation, members_of, targets_of}
 use Rattle.interpretation_spec.specs.ByName.{IsExtension, interpretation_of}
-use Rattle.interpretation_spec.specs.Row.{has}
+use Rattle.number_sets.specs.Members.{has}
 use Rattle.interpretation_spec.proofs.Names.{stands}
 use Rattle.interpretation_spec.proofs.Elements.{class_elements, some_elements, and_elements}
 use Rattle.interpretation_spec.proofs.Steps.{all_step, IfOk-both}

@@ -3,7 +3,7 @@ use Rattle.axioms.specs.declared.ids.ExprId.{ExprId}
 use Rattle.axioms.specs.Numbered.{expression}
 use Rattle.interpretation_spec.specs.ByName.{interpretation_of}
 use Rattle.interpretation_spec.specs.Interpretation.{IsIn}
-use Rattle.interpretation_spec.specs.Row.{has}
+use Rattle.number_sets.specs.Members.{has}
 use Rattle.interpretation_spec.proofs.interpretation.Interpretation.+extension.Given as goal
 
 abbrev pub decreases-extension : goal.decreases-extension

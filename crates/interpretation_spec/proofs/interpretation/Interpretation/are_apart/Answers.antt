@@ -5,7 +5,7 @@ use Rattle.axioms.specs.declared.ids.ExprId.{ExprId}
 use Rattle.axioms.specs.Numbered.{expression}
 use Rattle.interpretation_spec.specs.Interpretation.{IsIn, IsApart}
 use Rattle.interpretation_spec.specs.ByName.{interpretation_of}
-use Rattle.interpretation_spec.specs.Row.{has}
+use Rattle.number_sets.specs.Members.{has}
 use Rattle.interpretation_spec.proofs.Names.{size_of}
 use Rattle.interpretation_spec.proofs.Shapes.{member_below, pairs_of_places_twice, places_of_pairs_twice}
 use Rattle.interpretation_spec.proofs.interpretation.Interpretation.are_apart.Goals as goal

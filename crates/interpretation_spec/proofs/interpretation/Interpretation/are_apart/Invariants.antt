@@ -2,7 +2,7 @@ use Rattle.std.proofs.Common.{◌≡◌, ◌↔◌, ℕ, ◌<◌, get_or, length
 use Rattle.axioms.specs.Numbered.{expression}
 use Rattle.interpretation_spec.specs.ByName.{interpretation_of}
 use Rattle.interpretation_spec.specs.Interpretation.{IsIn, IsApart}
-use Rattle.interpretation_spec.specs.Row.{has}
+use Rattle.number_sets.specs.Members.{has}
 use Rattle.interpretation_spec.proofs.interpretation.Interpretation.are_apart.Given as goal
 
 abbrev pub invariant-loop-operand : goal.invariant-loop-operand

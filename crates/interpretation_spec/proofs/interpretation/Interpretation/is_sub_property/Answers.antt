@@ -2,7 +2,7 @@ use Rattle.std.proofs.Common.{◌≡◌, ◌<◌, ℕ, List, Bool, true, false, 
 use Rattle.std.specs.List.{list_any}
 use Rattle.std.proofs.lemmas.Bool.{or_right, or_cases}
 use Rattle.std.proofs.lemmas.List.{length-replicate}
-use Rattle.interpretation_spec.specs.Row.{has}
+use Rattle.number_sets.specs.Members.{has}
 use Rattle.interpretation_spec.proofs.Shapes.{member_below, empty_row}
 use Rattle.interpretation_spec.proofs.interpretation.Interpretation.is_sub_property.Goals as goal
 

@@ -1,7 +1,7 @@
 use Rattle.std.proofs.Common.{◌≡◌, ◌↔◌, ℕ, ◌<◌, length, take, true}
 use Rattle.axioms.specs.View.{prop_numbers}
 use Rattle.interpretation_spec.specs.ByName.{HasNumberedPath}
-use Rattle.interpretation_spec.specs.Row.{has}
+use Rattle.number_sets.specs.Members.{has}
 use Rattle.interpretation_spec.proofs.interpretation.Interpretation.reached.Given as goal
 
 abbrev pub invariant-loop-property : goal.invariant-loop-property

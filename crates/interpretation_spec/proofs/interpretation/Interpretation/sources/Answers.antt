@@ -4,7 +4,7 @@ use Rattle.std.specs.List.{list_any}
 use Rattle.std.proofs.lemmas.List.{length-map}
 use Rattle.interpretation_spec.specs.Numbered.{NumberedInterpretation, targets_of}
 use Rattle.interpretation_spec.specs.Kept.{kept_targets, kept_pairs, kept_interpretation}
-use Rattle.interpretation_spec.specs.Row.{has}
+use Rattle.number_sets.specs.Members.{has}
 use Rattle.interpretation_spec.proofs.Keeping.{targets}
 use Rattle.interpretation_spec.proofs.interpretation.Interpretation.sources.Goals as goal
 

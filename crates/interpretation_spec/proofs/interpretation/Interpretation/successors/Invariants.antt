@@ -1,6 +1,6 @@
 use Rattle.std.proofs.Common.{◌≡◌, ◌↔◌, ℕ, ◌<◌, length, true}
 use Rattle.interpretation_spec.specs.ByName.{is_target}
-use Rattle.interpretation_spec.specs.Row.{has}
+use Rattle.number_sets.specs.Members.{has}
 use Rattle.interpretation_spec.proofs.interpretation.Interpretation.successors.Given as goal
 
 abbrev pub invariant-loop-source : goal.invariant-loop-source
