@@ -152,10 +152,10 @@ properties_rise rows h i j d l m =
       | inr b ↦ (let s : i ≡ j = omega arith in subst (λ (n : ℕ). (get_or rows i d).property.0 ≤ (get_or rows n d).property.0) s (omega arith))
     ]
 
-abbrev IsStart : List PairRow → ℕ → ℕ → Type 0
+abbrev pub IsStart : List PairRow → ℕ → ℕ → Type 0
 IsStart rows r a = IsPartitionPoint (λ (row : PairRow). ltb row.property.0 r ≡ true) (λ (row : PairRow). ltb row.property.0 r ≡ false) rows a
 
-abbrev IsEnd : List PairRow → ℕ → ℕ → Type 0
+abbrev pub IsEnd : List PairRow → ℕ → ℕ → Type 0
 IsEnd rows r b = IsPartitionPoint (λ (row : PairRow). leb row.property.0 r ≡ true) (λ (row : PairRow). leb row.property.0 r ≡ false) rows b
 
 pub range_ordered : (rows : List PairRow) (r a b : ℕ) → a ≤ length rows → IsStart rows r a → IsEnd rows r b → a ≤ b
@@ -195,4 +195,27 @@ range_means rows r a b la lb at_a at_b row =
           let inside : k - a < b - a = omega arith in
           let place : a + (k - a) ≡ k = omega arith in
           (k - a, omega arith, get_or-take (b - a) (drop a rows) (k - a) row inside ∙ get_or-drop a rows (k - a) row ∙ ap (λ n. get_or rows n row) place ∙ e),
+    )
+
+-- .. stand at the places from a up to b
+pub range_places : (rows : List PairRow) (r a b : ℕ) → IsStart rows r a → IsEnd rows r b → (k : ℕ) (row : PairRow) → slice_get rows k ≡ Some row → (row.property.0 ≡ r) ↔ ((a ≤ k) × (k < b))
+range_places rows r a b at_a at_b k row g =
+    let l = slice_get_within rows k row g in
+    let e = get_or_from_slice_get rows k row row g in
+    let p = get_or rows k row in
+    let same : p.property.0 ≡ row.property.0 = ap (λ (w : PairRow). w.property.0) e in (
+      λ f. (
+        elim (cases_lt k a) [
+          | inr h ↦ h
+          | inl h ↦ (let m = ltb-true p.property.0 r (at_a.0 k row (omega arith) h) in absurd (omega arith))
+        ],
+        elim (cases_lt k b) [
+          | inl h ↦ h
+          | inr h ↦ (let m = leb-false p.property.0 r (at_b.1 k row h l) in absurd (omega arith))
+        ],
+      ),
+      λ (low, high).
+          let u = ltb-false p.property.0 r (at_a.1 k row low l) in
+          let v = leb-true p.property.0 r (at_b.0 k row (omega arith) high) in
+          omega arith,
     )

@@ -1,8 +1,9 @@
 -- Which rows have an element among their targets, and what their sources are.
-use Rattle.std.proofs.Common.{◌≡◌, ◌↔◌, ◌⊎◌, inl, inr, ℕ, zero, suc, ◌+◌, ◌<◌, List, [], ◌∷◌, ◌++◌, true, length, map, take, get_or, slice_get, Some, All, eqb, refl, sym, ap, ap₂, ◌∙◌, subst, arith, true≢false}
+use Rattle.std.proofs.Common.{◌≡◌, ◌↔◌, ◌⊎◌, inl, inr, ℕ, zero, suc, ◌+◌, ◌<◌, ◌≤◌, ◌-◌, List, [], ◌∷◌, ◌++◌, true, length, map, take, get_or, slice_get, Some, All, eqb, refl, sym, ap, ap₂, ◌∙◌, subst, arith, true≢false}
 use Rattle.std.specs.Prelude.{◌||◌}
 use Rattle.std.proofs.lemmas.Bool.{cases_eq, eq-eqb, ne_eqb, or_cases, or_left, or_right, cases_lt}
-use Rattle.std.proofs.lemmas.List.{get_or-map, length-map}
+use Rattle.std.specs.List.Sorted.{IsNonDecreasing}
+use Rattle.std.proofs.lemmas.List.{get_or-map, length-map, length-append, get_or_append_left, get_or-append_right}
 use Rattle.std.proofs.lemmas.List.Elements.{Contains-get_or}
 use Rattle.std.proofs.lemmas.List.Folds.{list_any-append}
 use Rattle.std.proofs.lemmas.Option.{same_Some, slice_get_within, get_or_from_slice_get}
@@ -16,7 +17,7 @@ use Rattle.listed_model.specs.Listing.{targets_of}
 use Rattle.listed_model.specs.Members.{holds}
 use Rattle.listed_model.specs.Rows.{ArePairRows, IsHolders, IsSourceAmong}
 use Rattle.listed_model.proofs.Members.{holds_from_Contains}
-use Rattle.listed_model.proofs.Found.{targets_found, target_row}
+use Rattle.listed_model.proofs.Found.{IsStart, IsEnd, targets_found, target_row, range_places}
 use Rattle.listed_model.proofs.Walks.{holds_next}
 
 -- ---- lists turned around
@@ -50,9 +51,36 @@ below_mean (suc n) lists y k =
       ],
     )
 
--- the rows' targets turned around
-pub turned_rows : (rows : List PairRow) (lists : List (List ℕ)) (y : ℕ) (places : List ℕ) → lists ≡ map (λ (row : PairRow). row.targets.items) rows → places ≡ holders lists y → IsHolders rows y places
-turned_rows rows lists y places are is k =
+-- numbers below n, then n alone
+then_one : (n : ℕ) (xs ys : List ℕ) → IsNonDecreasing xs → ((v : ℕ) → holds xs v ≡ true → v < n) → ((v : ℕ) → holds ys v ≡ true → n ≡ v) → IsNonDecreasing (xs ++ ys)
+then_one n xs ys up low all i j d l m =
+    elim (cases_lt j (length xs)) [
+      | inl b ↦ rw (get_or_append_left xs ys d i (omega arith), get_or_append_left xs ys d j b) (up i j d l b)
+      | inr b ↦ subst (λ (v : ℕ). get_or (xs ++ ys) i d ≤ v) (behind j b m) (elim (cases_lt i (length xs)) [
+        | inl h ↦ (let low_i = low (get_or xs i d) (holds_from_Contains xs (get_or xs i d) (Contains-get_or xs i d h)) in rw (get_or_append_left xs ys d i h) (omega arith))
+        | inr h ↦ (let at_i : n ≡ get_or (xs ++ ys) i d = behind i h (omega arith) in omega arith)
+      ])
+    ]
+  where
+    behind : (k : ℕ) → length xs ≤ k → k < length (xs ++ ys) → n ≡ get_or (xs ++ ys) k d
+    behind k b m =
+        let long = length-append xs ys in
+        all (get_or ys (k - length xs) d) (holds_from_Contains ys (get_or ys (k - length xs) d) (Contains-get_or ys (k - length xs) d (omega arith)))
+        ∙ sym (get_or-append_right xs ys (length xs) k d refl b)
+
+-- the lists that have a number are counted upwards
+below_rise : (n : ℕ) (lists : List (List ℕ)) (y : ℕ) → IsNonDecreasing (holders_below n lists y)
+below_rise zero lists y = λ i j d l m. absurd (omega arith)
+below_rise (suc n) lists y =
+    let next : suc n ≡ n + 1 = omega arith in
+    let is : holders_below (suc n) lists y ≡ holders_below n lists y ++ copies n y (list_at lists n) = ap (λ m. holders_below m lists y) next ∙ holders_more n lists y in
+    subst IsNonDecreasing (sym is) (then_one n (holders_below n lists y) (copies n y (list_at lists n)) (below_rise n lists y)
+    (λ v h. ((below_mean n lists y v).0 h).0)
+    (λ v h. ((copies_mean n y (list_at lists n) v).0 h).0))
+
+turned_places : (rows : List PairRow) (lists : List (List ℕ)) (y : ℕ) (places : List ℕ) → lists ≡ map (λ (row : PairRow). row.targets.items) rows → places ≡ holders lists y
+    → (k : ℕ) → (holds places k ≡ true) ↔ ((row : PairRow) × (slice_get rows k ≡ Some row) × (holds row.targets.items y ≡ true))
+turned_places rows lists y places are is k =
     let T : PairRow → List ℕ = λ row. row.targets.items in
     let mean = below_mean (length lists) lists y k in
     let long : length lists ≡ length rows = ap length are ∙ length-map rows T in (
@@ -72,40 +100,50 @@ turned_rows rows lists y places are is k =
     at_row rows lists k row are g =
         ap (λ ls. list_at ls k) are ∙ get_or-map (λ (row : PairRow). row.targets.items) rows k row [] (slice_get_within rows k row g) ∙ ap (λ (w : PairRow). w.targets.items) (get_or_from_slice_get rows k row row g)
 
+-- the rows' targets turned around
+pub turned_rows : (rows : List PairRow) (lists : List (List ℕ)) (y : ℕ) (places : List ℕ) → lists ≡ map (λ (row : PairRow). row.targets.items) rows → places ≡ holders lists y → IsHolders rows y places
+turned_rows rows lists y places are is = record {
+  ascending = subst IsNonDecreasing (sym is) (below_rise (length lists) lists y);
+  those = turned_places rows lists y places are is;
+}
+
 -- ---- sources
 
 -- a place more
-pub one_place_more : (rows : List PairRow) (places : List ℕ) (i r x : ℕ) (row : PairRow) → i < length places → slice_get rows (get_or places i 0) ≡ Some row
-    → IsSourceAmong rows (take (i + 1) places) r x ↔ (IsSourceAmong rows (take i places) r x ⊎ ((row.property.0 ≡ r) × (row.source ≡ x)))
-one_place_more rows places i r x row l g = (
-  λ (k, other, t, h, p, s). elim ((holds_next places i 0 k l).0 t) [
-    | inl m ↦ inl (k, other, m, h, p, s)
-    | inr e ↦
-        (let same : other ≡ row = same_Some other row (sym h ∙ ap (slice_get rows) (sym e) ∙ g) in
-        inr (ap (λ (w : PairRow). w.property.0) (sym same) ∙ p, ap (λ (w : PairRow). w.source) (sym same) ∙ s))
+pub one_place_more : (rows : List PairRow) (places : List ℕ) (i x : ℕ) (row : PairRow) → i < length places → slice_get rows (get_or places i 0) ≡ Some row
+    → IsSourceAmong rows (take (i + 1) places) x ↔ (IsSourceAmong rows (take i places) x ⊎ (row.source ≡ x))
+one_place_more rows places i x row l g = (
+  λ (k, other, t, h, s). elim ((holds_next places i 0 k l).0 t) [
+    | inl m ↦ inl (k, other, m, h, s)
+    | inr e ↦ inr (ap (λ (w : PairRow). w.source) (sym (same_Some other row (sym h ∙ ap (slice_get rows) (sym e) ∙ g))) ∙ s)
   ],
   λ h. elim h [
-    | inl (k, other, m, g', p, s) ↦ (k, other, (holds_next places i 0 k l).1 (inl m), g', p, s)
-    | inr (p, s) ↦ (get_or places i 0, row, (holds_next places i 0 (get_or places i 0) l).1 (inr refl), g, p, s)
+    | inl (k, other, m, g', s) ↦ (k, other, (holds_next places i 0 k l).1 (inl m), g', s)
+    | inr s ↦ (get_or places i 0, row, (holds_next places i 0 (get_or places i 0) l).1 (inr refl), g, s)
   ],
 )
 
--- the sources of the rows at the places of an element are those that the property joins to it
-pub joined_by : (rows : List PairRow) (r x y : ℕ) (places : List ℕ) → ArePairRows rows → IsHolders rows y places → IsSourceAmong rows places r x ↔ (holds (targets_of (map pair_row_of rows) r x) y ≡ true)
-joined_by rows r x y places given those = (
-  λ (k, row, t, g, p, s).
-      let (other, h, u) = (those k).0 t in
-      let same : other ≡ row = same_Some other row (sym h ∙ g) in
+-- the sources of an element's rows of the property are those that the property joins to it
+pub joined_by : (rows : List PairRow) (r a b x y : ℕ) (list places : List ℕ) → ArePairRows rows → IsStart rows r a → IsEnd rows r b → IsHolders rows y list
+    → ((k : ℕ) → (holds places k ≡ true) ↔ ((holds list k ≡ true) × (a ≤ k) × (k < b)))
+    → IsSourceAmong rows places x ↔ (holds (targets_of (map pair_row_of rows) r x) y ≡ true)
+joined_by rows r a b x y list places given at_a at_b holder between = (
+  λ (k, row, t, g, s).
+      let (h, low, high) = (between k).0 t in
+      let (other, g', u) = (holder.those k).0 h in
+      let p = (range_places rows r a b at_a at_b k row g).1 (low, high) in
+      let same : other ≡ row = same_Some other row (sym g' ∙ g) in
       let is = ap₂ (targets_of (map pair_row_of rows)) (sym p) (sym s) ∙ targets_found rows given.ordered k row g in
       ap (λ ts. holds ts y) is ∙ subst (λ (w : PairRow). holds w.targets.items y ≡ true) same u,
   λ t.
       let (k, row, g, p, s, u) = target_row rows r x y t in
-      (k, row, (those k).1 (row, g, u), g, p, s),
+      let range = (range_places rows r a b at_a at_b k row g).0 p in
+      (k, row, (between k).1 ((holder.those k).1 (row, g, u), range.0, range.1), g, s),
 )
 
 -- the places are those of rows
-pub places_there : (rows : List PairRow) (y : ℕ) (places : List ℕ) → IsHolders rows y places → All (λ k. k < length rows) places
-places_there rows y places those k d l =
+pub places_there : (rows : List PairRow) (y : ℕ) (list places : List ℕ) → IsHolders rows y list → ((k : ℕ) → holds places k ≡ true → holds list k ≡ true) → All (λ k. k < length rows) places
+places_there rows y list places holder among k d l =
     let place = get_or places k d in
-    let (row, g, t) = (those place).0 (holds_from_Contains places place (Contains-get_or places k d l)) in
+    let (row, g, t) = (holder.those place).0 (among place (holds_from_Contains places place (Contains-get_or places k d l))) in
     slice_get_within rows place row g

@@ -6,3 +6,4 @@ pub mod Extensions
 pub mod Walks
 pub mod Said
 pub mod Holding
+pub mod Keys

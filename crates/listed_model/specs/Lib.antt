@@ -3,3 +3,4 @@ pub mod Interpreted
 pub mod Members
 pub mod Rows
 pub mod Extensions
+pub mod Shown

@@ -1,7 +1,7 @@
 -- Rows of pairs and of classes in the order of a certificate.
 use Rattle.std.specs.Prelude.{◌≡◌, ◌↔◌, ℕ, ◌<◌, List, [], ◌∷◌, Bool, true, slice_get, Some, length, nat_lt, ◌==◌, ◌&&◌, ◌||◌, All}
 use Rattle.std.specs.List.{AllPairs}
-use Rattle.std.specs.List.Sorted.{IsStrictlyIncreasing}
+use Rattle.std.specs.List.Sorted.{IsNonDecreasing, IsStrictlyIncreasing}
 use Rattle.certificate.specs.declared.listed.ClassRow.{ClassRow}
 use Rattle.certificate.specs.declared.listed.PairRow.{PairRow}
 use Rattle.certificate.specs.HasText.{IsPairBefore}
@@ -38,6 +38,10 @@ abbrev pub HasListedPath : List (ℕ × ℕ × List ℕ) → List ℕ → ℕ �
 HasListedPath rows [] x y = x ≡ y
 HasListedPath rows (r ∷ rs) x y = (z : ℕ) × (holds (targets_of rows r x) z ≡ true) × HasListedPath rows rs z y
 
+-- each pair of the property r is one of the property s
+abbrev pub LiesWithin : List (ℕ × ℕ × List ℕ) → ℕ → ℕ → Type 0
+LiesWithin rows r s = (x y : ℕ) → holds (targets_of rows r x) y ≡ true → holds (targets_of rows s x) y ≡ true
+
 -- from y the property leads to nothing but the targets
 abbrev pub LeadsWithin : List (ℕ × ℕ × List ℕ) → ℕ → List ℕ → ℕ → Type 0
 LeadsWithin rows r targets y = (z : ℕ) → holds (targets_of rows r y) z ≡ true → holds targets z ≡ true
@@ -46,17 +50,18 @@ LeadsWithin rows r targets y = (z : ℕ) → holds (targets_of rows r y) z ≡ t
 abbrev pub ClosedAt : List (ℕ × ℕ × List ℕ) → ℕ → ℕ → Type 0
 ClosedAt rows r x = (y : ℕ) → holds (targets_of rows r x) y ≡ true → LeadsWithin rows r (targets_of rows r x) y
 
--- the places of the rows that have y among their targets
-abbrev pub IsHolders : List PairRow → ℕ → List ℕ → Type 0
-IsHolders rows y places = (k : ℕ) → (holds places k ≡ true) ↔ ((row : PairRow) × (slice_get rows k ≡ Some row) × (holds row.targets.items y ≡ true))
+-- the places of the rows that have y among their targets, ascending
+pub record IsHolders (rows : List PairRow) (y : ℕ) (places : List ℕ) : Type 0 where
+  pub ascending : IsNonDecreasing places
+  pub those : (k : ℕ) → (holds places k ≡ true) ↔ ((row : PairRow) × (slice_get rows k ≡ Some row) × (holds row.targets.items y ≡ true))
 
 -- .. of each element
 abbrev pub AreHolders : List PairRow → ℕ → List (List ℕ) → Type 0
 AreHolders rows domain lists = (y : ℕ) → y < domain → IsHolders rows y (list_at lists y)
 
--- a row of the property at one of the places is of the source
-abbrev pub IsSourceAmong : List PairRow → List ℕ → ℕ → ℕ → Type 0
-IsSourceAmong rows places r x = (k : ℕ) × (row : PairRow) × (holds places k ≡ true) × (slice_get rows k ≡ Some row) × (row.property.0 ≡ r) × (row.source ≡ x)
+-- a row at one of the places is of the source
+abbrev pub IsSourceAmong : List PairRow → List ℕ → ℕ → Type 0
+IsSourceAmong rows places x = (k : ℕ) × (row : PairRow) × (holds places k ≡ true) × (slice_get rows k ≡ Some row) × (row.source ≡ x)
 
 -- the property joins x to one of the fillers
 abbrev pub Joined : List (ℕ × ℕ × List ℕ) → ℕ → List ℕ → ℕ → Type 0

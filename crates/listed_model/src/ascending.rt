@@ -1,8 +1,8 @@
 //! Ascending lists of numbers.
 ghost use Rattle.listed_model.specs.Members.{holds};
 ghost use Rattle.std.specs.List.{list_all, list_any};
-ghost use Rattle.std.specs.List.Sorted.{IsStrictlyIncreasing};
-ghost use Rattle.std.specs.Prelude.{◌≡◌, IfOk, filter, ℕ};
+ghost use Rattle.std.specs.List.Sorted.{IsNonDecreasing, IsPartitionPoint, IsStrictlyIncreasing};
+ghost use Rattle.std.specs.Prelude.{◌<◌, ◌≡◌, ◌≤◌, ◌↔◌, IfOk, false, filter, length, nat_lt, true, ℕ};
 
 use axioms::Memory;
 use std::alloc::Global;
@@ -53,6 +53,30 @@ pub(crate) fn common(alloc: Global, few: &[u32], list: &[u32]) -> Result<Vec<u32
         }
     }
     Ok(both)
+}
+
+// How many of the ascending numbers are below the bound.
+fn count_below(numbers: &[u32], bound: usize) -> usize
+    requires { IsNonDecreasing numbers.now }
+    ensures within { result ≤ length numbers.now }
+    ensures place { IsPartitionPoint (λ k. nat_lt k bound ≡ true) (λ k. nat_lt k bound ≡ false) numbers.now result }
+{
+    numbers.partition_point(
+        |number: &u32| -> bool
+            ensures { result ≡ nat_lt number.now bound }
+        { (*number as usize) < bound },
+    )
+}
+
+/// Those of the ascending numbers that are at least the start and below the end.
+pub(crate) fn between(numbers: &[u32], start: usize, end: usize) -> &[u32]
+    requires { IsNonDecreasing numbers.now }
+    ensures { (k : ℕ) → (holds result.now k ≡ true) ↔ ((holds numbers.now k ≡ true) × (start ≤ k) × (k < end)) }
+{
+    let first = count_below(numbers, start);
+    let rest = &numbers[first..];
+    let count = count_below(rest, end);
+    &rest[..count]
 }
 
 /// Sorts the numbers, and leaves of equal ones one.

@@ -10,6 +10,7 @@ mod restriction;
 mod rows;
 mod satisfaction;
 mod sets;
+mod shown;
 mod transitive;
 
 pub use satisfaction::first_unsatisfied;

@@ -7,8 +7,8 @@ ghost use Rattle.number_sets.specs.Pieces.{list_at};
 ghost use Rattle.std.specs.List.Sorted.{IsStrictlyIncreasing};
 ghost use Rattle.std.specs.Prelude.{◌<◌, ◌≡◌, ◌↔◌, ◌⊎◌, All, IfOk, OnOk, length, map, true, ℕ};
 
-use crate::ascending::{have_common, put_in_order};
-use crate::rows::rows_of;
+use crate::ascending::{between, have_common, put_in_order};
+use crate::rows::{end_of, rows_of, start_of};
 use axioms::{Memory, PropId};
 use certificate::PairRow;
 use number_sets::{PackedLists, turned};
@@ -25,7 +25,7 @@ fn targets_of_each(alloc: Global, rows: &[PairRow]) -> Result<PackedLists, Memor
     Ok(lists)
 }
 
-/// For each element the places of the rows that have it among their targets. It fails where memory is refused, or where
+/// For each element the places of the rows that have it among their targets, ascending. It fails where memory is refused, or where
 /// there are 2^32 rows.
 pub(crate) fn holders_of(
     alloc: Global,
@@ -41,26 +41,20 @@ pub(crate) fn holders_of(
     Ok(turned(alloc, &lists, domain as usize)?)
 }
 
-// Adds the sources of those rows at the places that are of the property.
-fn add_sources(
-    sources: &mut Vec<u32>,
-    rows: &[PairRow],
-    places: &[u32],
-    property: PropId,
-) -> Result<(), Memory>
+// Adds the sources of the rows at the places.
+fn add_sources(sources: &mut Vec<u32>, rows: &[PairRow], places: &[u32]) -> Result<(), Memory>
     requires { All (λ k. k < length rows.now) places.now }
-    ensures { OnOk result ((x : ℕ) → (holds sources.new.items x ≡ true) ↔ ((holds sources.old.items x ≡ true) ⊎ IsSourceAmong rows.now places.now property.0 x)) }
+    ensures { OnOk result ((x : ℕ) → (holds sources.new.items x ≡ true) ↔ ((holds sources.old.items x ≡ true) ⊎ IsSourceAmong rows.now places.now x)) }
 {
     for place in places {
         let row = &rows[*place as usize];
-        if row.property == property {
-            sources.push(row.source)?;
-        }
+        sources.push(row.source)?;
     }
     Ok(())
 }
 
-// The elements that the property joins to one of the fillers, by the fillers.
+// The elements that the property joins to one of the fillers, by the fillers. The rows of the property stand together, so of the
+// places of a filler's rows those that are of the property do, too.
 fn by_fillers(
     alloc: Global,
     rows: &[PairRow],
@@ -72,9 +66,12 @@ fn by_fillers(
     requires holders { (y : ℕ) → holds fillers.now y ≡ true → IsHolders rows.now y (list_at holders.now y) }
     ensures { IfOk result (λ sources. (x : ℕ) → (holds sources.items x ≡ true) ↔ Joined (map pair_row_of rows.now) property.0 fillers.now x) }
 {
+    let start = start_of(rows, property);
+    let end = end_of(rows, property);
     let mut sources = Vec::new(alloc);
     for filler in fillers {
-        add_sources(&mut sources, rows, holders.at(*filler as usize), property)?;
+        let places = between(holders.at(*filler as usize), start, end);
+        add_sources(&mut sources, rows, places)?;
     }
     Ok(sources)
 }

@@ -22,8 +22,8 @@ fn rows_before(rows: &[PairRow], property: PropId, source: u32) -> usize
     )
 }
 
-// How many rows are of properties with smaller numbers.
-fn start_of(rows: &[PairRow], property: PropId) -> usize
+/// How many rows are of properties with smaller numbers.
+pub(crate) fn start_of(rows: &[PairRow], property: PropId) -> usize
     requires { ArePairRows rows.now }
     ensures bound { result ≤ length rows.now }
     ensures place { IsPartitionPoint (λ row. nat_lt row.property.0 property.0 ≡ true) (λ row. nat_lt row.property.0 property.0 ≡ false) rows.now result }
@@ -35,8 +35,8 @@ fn start_of(rows: &[PairRow], property: PropId) -> usize
     )
 }
 
-// How many rows are of the property or of one with a smaller number.
-fn end_of(rows: &[PairRow], property: PropId) -> usize
+/// How many rows are of the property or of one with a smaller number.
+pub(crate) fn end_of(rows: &[PairRow], property: PropId) -> usize
     requires { ArePairRows rows.now }
     ensures bound { result ≤ length rows.now }
     ensures place { IsPartitionPoint (λ row. nat_le row.property.0 property.0 ≡ true) (λ row. nat_le row.property.0 property.0 ≡ false) rows.now result }

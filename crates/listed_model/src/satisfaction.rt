@@ -11,68 +11,94 @@ ghost use Rattle.listed_model.specs.Interpreted.{listed_interpretation};
 ghost use Rattle.listed_model.specs.Listing.{IsListing, targets_of};
 ghost use Rattle.listed_model.specs.Members.{holds};
 ghost use Rattle.listed_model.specs.Rows.{ArePairRows, HasListedPath};
-ghost use Rattle.std.specs.Prelude.{◌≡◌, ◌↔◌, ◌<◌, IfOk, IsNone, IfSome, IsTrue, MatchOption, length, map, true, ℕ};
+ghost use Rattle.listed_model.specs.Shown.{AreShown};
+ghost use Rattle.std.specs.Prelude.{◌≡◌, ◌↔◌, ◌<◌, IfOk, IsNone, IfSome, IsTrue, List, MatchOption, OnOk, length, map, true, ℕ};
 
 use crate::ascending::stands_in;
 use crate::class_axioms::{are_apart, are_same, is_within};
 use crate::extension::extensions;
 use crate::paths::is_chain_within;
-use crate::property_axioms::{
-    are_pairs_within, are_same_properties, has_sources_in, is_reflexive, leads_to,
-};
-use crate::transitive::is_transitive;
+use crate::property_axioms::{are_same_properties, has_sources_in, is_reflexive, leads_to};
+use crate::shown::{Shown, is_closed, lies_within};
 use axioms::{Axiom, Memory, Ontology, PropId};
 use certificate::{Listed, PairRow};
 use number_sets::{EpochSet, PackedLists};
 use std::alloc::Global;
 
-// Whether each path along the chain is a pair of the property above. The set is room to work in.
+// What tests work with: two sets of elements, and what was shown of properties.
+#[derive(Drop)]
+struct Room {
+    seen: EpochSet,
+    done: EpochSet,
+    shown: Shown,
+}
+
+impl Room {
+    // Room for so many elements, with nothing shown.
+    fn new(alloc: Global, domain: usize) -> Result<Room, Memory>
+        ensures seen { IfOk result (λ room. length room.seen ≡ domain) }
+        ensures shown { IfOk result (λ room. (rows : List (ℕ × ℕ × List ℕ)) → AreShown rows room.shown) }
+    {
+        let seen = EpochSet::new(alloc, domain)?;
+        let done = EpochSet::new(alloc, domain)?;
+        Ok(Room {
+            seen,
+            done,
+            shown: Shown::new(alloc),
+        })
+    }
+}
+
+// Whether each path along the chain is a pair of the property above.
 fn is_sub_property(
     alloc: Global,
     rows: &[PairRow],
-    seen: &mut EpochSet,
+    room: &mut Room,
     chain: &[PropId],
     above: PropId,
 ) -> Result<bool, Memory>
     requires rows { ArePairRows rows.now }
+    requires shown { AreShown (map pair_row_of rows.now) room.old.shown }
     requires some { 0 < length chain.now }
-    ensures len { length seen.new ≡ length seen.old }
+    ensures len { length room.new.seen ≡ length room.old.seen }
+    ensures shown { OnOk result (AreShown (map pair_row_of rows.now) room.new.shown) }
     ensures within { IfOk result (λ within. IsTrue within ↔ ((x y : ℕ) → HasListedPath (map pair_row_of rows.now) (prop_numbers chain.now) x y
         → holds (targets_of (map pair_row_of rows.now) above.0 x) y ≡ true)) }
 {
     let first = chain[0];
     let rest = &chain[1..];
     if rest.is_empty() {
-        return Ok(are_pairs_within(rows, first, above));
+        return lies_within(rows, &mut room.shown, first, above);
     }
-    is_chain_within(alloc, rows, seen, first, rest, above)
+    is_chain_within(alloc, rows, &mut room.seen, first, rest, above)
 }
 
-// Whether the axiom holds. The sets are room to work in.
+// Whether the axiom holds.
 fn satisfies(
     alloc: Global,
     ontology: &Ontology,
     listed: &Listed,
     made: &PackedLists,
-    seen: &mut EpochSet,
-    done: &mut EpochSet,
+    room: &mut Room,
     axiom: &Axiom,
 ) -> Result<bool, Memory>
     requires listed { IsListedOf ontology.now (listed_of listed.now) }
     requires made { AreExtensions ontology.now (listed_of listed.now) made.now }
     requires count { length made.now ≡ length ontology.now.nodes }
-    requires room { length seen.old ≡ listed.now.domain }
+    requires room { length room.old.seen ≡ listed.now.domain }
+    requires shown { AreShown (map pair_row_of listed.now.pairs.items) room.old.shown }
     requires of { IsAxiomOf ontology.now (axiom_of «axiom».now) }
-    ensures len { length seen.new ≡ length seen.old }
+    ensures len { length room.new.seen ≡ length room.old.seen }
+    ensures shown { OnOk result (AreShown (map pair_row_of listed.now.pairs.items) room.new.shown) }
     ensures satisfied { IfOk result (λ holds. IsTrue holds ↔ Satisfies (listed_interpretation ontology.now (listed_of listed.now)) (axiom_tree ontology.now (axiom_of «axiom».now))) }
 {
     ontology.well_formed();
     match axiom {
         Axiom::SubClass(sub, sup) => Ok(is_within(made, *sub, *sup)),
         Axiom::EquivalentClasses(operands) => Ok(are_same(made, operands)),
-        Axiom::DisjointClasses(operands) => Ok(are_apart(made, seen, operands)),
+        Axiom::DisjointClasses(operands) => Ok(are_apart(made, &mut room.seen, operands)),
         Axiom::SubProperty(chain, above) => {
-            is_sub_property(alloc, &listed.pairs, seen, chain, *above)
+            is_sub_property(alloc, &listed.pairs, room, chain, *above)
         }
         Axiom::EquivalentProperties(properties) => {
             Ok(are_same_properties(&listed.pairs, properties))
@@ -83,7 +109,14 @@ fn satisfies(
             made.at(class.index()),
         )),
         Axiom::Transitive(property) => {
-            is_transitive(alloc, &listed.pairs, seen, done, *property)
+            is_closed(
+                alloc,
+                &listed.pairs,
+                &mut room.seen,
+                &mut room.done,
+                &mut room.shown,
+                *property,
+            )
         }
         Axiom::Reflexive(property) => Ok(is_reflexive(&listed.pairs, listed.domain, *property)),
         Axiom::ClassAssertion(class, individual) => Ok(stands_in(
@@ -113,17 +146,17 @@ fn first_failing(
     ensures first { IfOk result (λ found. IfSome found (IsFirstUnsatisfied ontology.now (listed_interpretation ontology.now (listed_of listed.now)))) }
 {
     ontology.well_formed();
-    let mut seen = EpochSet::new(alloc, listed.domain as usize)?;
-    let mut done = EpochSet::new(alloc, listed.domain as usize)?;
+    let mut room = Room::new(alloc, listed.domain as usize)?;
     for (index, axiom) in ontology.axioms().iter().enumerate() {
-        if !satisfies(alloc, ontology, listed, made, &mut seen, &mut done, axiom)? {
+        if !satisfies(alloc, ontology, listed, made, &mut room, axiom)? {
             return Ok(Some(index + 1));
         }
     }
     Ok(None)
 }
 
-/// The least number, from 1, of an axiom that the listed interpretation does not satisfy. Fails where memory is refused.
+/// The least number, from 1, of an axiom that the listed interpretation does not satisfy. It fails where memory is refused, or
+/// where there are 2^32 rows of pairs.
 pub fn first_unsatisfied(
     alloc: Global,
     ontology: &Ontology,

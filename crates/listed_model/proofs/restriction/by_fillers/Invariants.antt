@@ -1,8 +1,8 @@
-use Rattle.std.proofs.Common.{◌≡◌, ◌↔◌, ℕ, take, true}
-use Rattle.number_sets.specs.Pieces.{list_at}
+use Rattle.std.proofs.Common.{◌≡◌, ◌↔◌, ℕ, map, take, true}
+use Rattle.certificate.specs.View.{pair_row_of}
 use Rattle.listed_model.specs.Members.{holds}
-use Rattle.listed_model.specs.Rows.{IsSourceAmong}
+use Rattle.listed_model.specs.Rows.{Joined}
 use Rattle.listed_model.proofs.restriction.by_fillers.Given as goal
 
 abbrev pub invariant-loop-filler : goal.invariant-loop-filler
-invariant-loop-filler l = (x : ℕ) → (holds l.sources.items x ≡ true) ↔ ((y : ℕ) × (holds (take l.filler-index l.fillers) y ≡ true) × IsSourceAmong l.rows (list_at l.holders y) l.fn.property.0 x)
+invariant-loop-filler l = (x : ℕ) → (holds l.sources.items x ≡ true) ↔ Joined (map pair_row_of l.rows) l.fn.property.0 (take l.filler-index l.fillers) x

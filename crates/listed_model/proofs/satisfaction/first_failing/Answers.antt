@@ -1,4 +1,4 @@
-use Rattle.std.proofs.Common.{◌≡◌, ◌<◌, ◌+◌, ℕ, zero, suc, List, Some, IfSome, IsSomeAnd, sym, ap, ◌∙◌, subst, length, get_or, slice_get, true≢false, add-one, arith, inl, inr}
+use Rattle.std.proofs.Common.{◌≡◌, ◌<◌, ◌+◌, ℕ, zero, suc, List, Some, IfSome, IsSomeAnd, sym, ap, ◌∙◌, subst, length, map, get_or, slice_get, true≢false, add-one, arith, inl, inr}
 use Rattle.std.proofs.lemmas.Bool.{cases_lt}
 use Rattle.std.proofs.lemmas.List.{length-map}
 use Rattle.std.proofs.lemmas.List.Elements.{All-contains, All-map}
@@ -8,7 +8,7 @@ use Rattle.lemmas.proofs.Members.{Contains-from_slice_get}
 use Rattle.axioms.specs.Numbered.{Axiom, axiom_tree}
 use Rattle.axioms.specs.View.{axiom_of, at_number}
 use Rattle.axioms.specs.WellFormed.{IsAxiomOf}
-use Rattle.certificate.specs.View.{listed_of}
+use Rattle.certificate.specs.View.{listed_of, pair_row_of}
 use Rattle.listed_model.specs.Interpreted.{listed_interpretation}
 use Rattle.listed_model.proofs.Interpreted.{interpretation_is}
 use Rattle.interpretation_spec.specs.Interpretation.{Satisfies}
@@ -19,6 +19,13 @@ use Rattle.listed_model.proofs.satisfaction.first_failing.Goals as goal
 so_far : (P : Axiom → Type 0) (xs : List Axiom) (n : ℕ) → ((k : ℕ) → k < n → (a : Axiom) → slice_get xs k ≡ Some a → P a) → (k : ℕ) → k < n + 1 → IfSome (at_number xs k) P
 so_far P xs n h zero l = tt
 so_far P xs n h (suc k) l = if_some P (slice_get xs k) (h k (omega arith))
+
+pub loop-index-init : goal.loop-index-init
+loop-index-init c = record {
+  room = c.in_ok-room.ensures.seen;
+  shown = c.in_ok-room.ensures.shown (map pair_row_of c.args.listed.now.pairs.items);
+  so_far = λ k l a g. absurd (omega arith);
+}
 
 pub satisfies-requires-clause-of : goal.satisfies-requires-clause-of
 satisfies-requires-clause-of c =
@@ -58,6 +65,7 @@ loop-index-preserved c =
     let there = subst (λ (xs : List Axiom). slice_get xs at ≡ Some (axiom_of item)) c.axioms-axiom-items.ensures here in
     record {
       room = c.in_ok-satisfies.ensures.len ∙ c.loop-index.invariant.room;
+      shown = c.in_ok-satisfies.ensures.shown;
       so_far = λ k lk a h. elim (cases_lt k at) [
         | inl b ↦ c.loop-index.invariant.so_far k b a h
         | inr b ↦

@@ -51,8 +51,8 @@ has_sources_in-requires-clause-rows c = subst ArePairRows (sym c.deref-in-Domain
 pub has_sources_in-requires-clause-members : goal.has_sources_in-requires-clause-members
 has_sources_in-requires-clause-members c = subst IsStrictlyIncreasing (sym c.at.ensures) (all_rise c.args.ontology.now (listed_of c.args.listed.now) c.args.made.now c.requires.made c.index.result)
 
-pub is_transitive-requires : goal.is_transitive-requires
-is_transitive-requires c = subst ArePairRows (sym c.deref-in-Transitive.ensures.value) (pair_rows_given c.args.ontology.now c.args.listed.now c.requires.listed)
+pub is_closed-requires-clause-rows : goal.is_closed-requires-clause-rows
+is_closed-requires-clause-rows c = subst ArePairRows (sym c.deref-in-Transitive.ensures.value) (pair_rows_given c.args.ontology.now c.args.listed.now c.requires.listed)
 
 pub is_reflexive-requires : goal.is_reflexive-requires
 is_reflexive-requires c = subst ArePairRows (sym c.deref-in-Reflexive.ensures.value) (pair_rows_given c.args.ontology.now c.args.listed.now c.requires.listed)
@@ -141,7 +141,7 @@ returns-in-Transitive-clause-satisfied c =
     let P : ℕ → Type 0 = λ (r : ℕ). r < length o.names.properties in
     let said = sub_property_said o c.well_formed-2.ensures l c.requires.listed (r ∷ r ∷ []) r (omega arith) (All-cons P r (r ∷ []) of (All-cons P r [] of (All-nil P))) of in
     let two = two_steps l.pairs r in
-    rw c.in-Transitive.is (said_by (λ h. said.0 (two.0 h), λ q. two.1 (said.1 q)) c.is_transitive.result (rw c.deref-in-Transitive.ensures.value at c.is_transitive.ensures.transitive))
+    rw c.in-Transitive.is (said_by (λ h. said.0 (two.0 h), λ q. two.1 (said.1 q)) c.is_closed.result (rw c.deref-in-Transitive.ensures.value at c.is_closed.ensures.transitive))
 
 pub returns-in-Reflexive-clause-satisfied : goal.returns-in-Reflexive-clause-satisfied
 returns-in-Reflexive-clause-satisfied c =
