@@ -1,20 +1,48 @@
 //! From bytes to an ontology.
 ghost use Rattle.device.specs.Device.{HasFailed, LosesFront};
-ghost use Rattle.document.specs.Documents.{IsTaken, ReadsAs};
+ghost use Rattle.document.specs.Documents.{AreTextOf, IsTaken, ReadsAs};
 ghost use Rattle.document.specs.Faults.{ReadsKnown, Refuses, RefusesKnown};
 ghost use Rattle.std.specs.Io.KnownBytes.{IsAtEnd};
+ghost use Rattle.fs_parser.specs.View.{document_of};
 ghost use Rattle.std.specs.Prelude.{◌≡◌, ◌≤◌, IfErr, IfOk, IsErrOf, OnOk, length};
 
 use crate::fault::DocumentFault;
 use axioms::Ontology;
 use device::{ReadFault, Source, read_all};
 use fs_lexer::tokens;
-use fs_parser::forms;
+use fs_parser::{Document, forms, streamed_forms};
 use profile::{Version, accept};
 use program::Limits;
 use std::alloc::Global;
 use std::hash::RandomState;
 use std::str;
+
+/// The document that a text is, by the list of its tokens, which are gone when its trees are there.
+fn listed_document<'a>(alloc: Global, text: &'a str) -> Result<Document<'a>, DocumentFault>
+    ensures written { IfOk result (λ d. AreTextOf text.now (document_of d)) }
+    ensures refused { IfErr result (λ e. Refuses e text.now) }
+{
+    let tokens = match tokens(alloc, text) {
+        Ok(tokens) => tokens,
+        Err(fault) => return Err(DocumentFault::from(fault)),
+    };
+    match forms(alloc, &tokens) {
+        Ok(document) => Ok(document),
+        Err(fault) => Err(DocumentFault::from(fault)),
+    }
+}
+
+/// The document that a text is. Its trees hold slices of the text. The list of its tokens, which takes more memory than the
+/// trees, is made only where it is none, for the fault.
+fn document_of<'a>(alloc: Global, text: &'a str) -> Result<Document<'a>, DocumentFault>
+    ensures written { IfOk result (λ d. AreTextOf text.now (document_of d)) }
+    ensures refused { IfErr result (λ e. Refuses e text.now) }
+{
+    match streamed_forms(alloc, text) {
+        Some(document) => Ok(document),
+        None => listed_document(alloc, text),
+    }
+}
 
 /// The ontology that a text reads as.
 fn read_text(alloc: Global, text: &str, state: RandomState) -> Result<Ontology, DocumentFault>
@@ -22,13 +50,9 @@ fn read_text(alloc: Global, text: &str, state: RandomState) -> Result<Ontology, 
     ensures taken { IfOk result IsTaken }
     ensures refused { IfErr result (λ e. Refuses e text.now) }
 {
-    let tokens = match tokens(alloc, text) {
-        Ok(tokens) => tokens,
-        Err(fault) => return Err(DocumentFault::from(fault)),
-    };
-    let document = match forms(alloc, &tokens) {
+    let document = match document_of(alloc, text) {
         Ok(document) => document,
-        Err(fault) => return Err(DocumentFault::from(fault)),
+        Err(fault) => return Err(fault),
     };
     match accept(alloc, &document, Version::V1, state) {
         Ok(ontology) => {

@@ -98,7 +98,7 @@ pub record IsStep (text : List ℕ) (tokens : List Token) (rest others : List �
   pub ends : IsCharBoundary text (length text - length others)
   pub next : IsState text (tokens ++ next_token text rest others kind ∷ []) (skip others)
 
-ahead_was : (o : Option Found) (kind : Kind) (others : List ℕ) → Some (kind, others) ≡ ahead o → (text : List ℕ) × (o ≡ Some (kind, text, others))
+pub ahead_was : (o : Option Found) (kind : Kind) (others : List ℕ) → Some (kind, others) ≡ ahead o → (text : List ℕ) × (o ≡ Some (kind, text, others))
 ahead_was None kind others e = absurd (none-some (kind, others) (sym e))
 ahead_was (Some f) kind others e =
     let p : Kind × List ℕ = (kind, others) in

@@ -7,9 +7,11 @@ ghost use Rattle.fs_lexer.specs.Faults as faults;
 
 mod bytes;
 mod front;
+mod next;
 mod reading;
 mod token;
 
+pub use next::{next_token, only_separators};
 pub use reading::tokens;
 pub use token::{Kind, LexFault, Token};
 

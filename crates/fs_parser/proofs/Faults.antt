@@ -18,7 +18,7 @@ use Rattle.fs_parser.specs.Front.{BeginsWith, IsTaken}
 use Rattle.fs_parser.specs.Laws.{TokensEndInText}
 use Rattle.fs_parser.specs.Machine.{Pending, Nothing, Word, Text, Typed, Frame, State, if_named, enter_if, enter, leave, plain, behind_text, behind_word, step_at, step}
 use Rattle.fs_parser.specs.Name.{Prefixes, standard_prefixes, IsNameOf, IsShort}
-use Rattle.fs_parser.specs.Said.{IsSaid, IsSaidOfTrees, IsSaidOfToken, IsSaidOfName, IsSaidOfIri, IsPlain}
+use Rattle.fs_parser.specs.Said.{IsEnd, IsSaid, IsSaidOfTrees, IsSaidOfToken, IsSaidOfName, IsSaidOfIri, IsPlain}
 use Rattle.fs_parser.specs.State.{frames_of, name_of_code}
 use Rattle.fs_parser.specs.Tree.{Tree, Name, PlainLiteral, TypedLiteral}
 use Rattle.fs_parser.specs.View.{tokens_of, iri_of}
@@ -353,3 +353,20 @@ placed_there ts i here ds e h k s = go e (subst (λ (x : List Token). IsSaid her
     go (faults.PrefixTwice at) s = record { declared = ds; rest = rest; declarations = h.1; allowed = h.2; holds = s }
     go (faults.StandardPrefixChanged at) s = record { declared = ds; rest = rest; declarations = h.1; allowed = h.2; holds = s }
     go (faults.TooDeep at) s = too_many_behind 65 at ds (tokens_of ts) rest h.1 s
+
+-- the tokens end before the trees do
+pub end_said : (limit here : ℕ) (known : Prefixes) (tokens : List Token) (e : ParseFault) → IsEnd here e → IsSaidOfTrees limit here known tokens e
+end_said limit here known tokens faults.Memory s = tt
+end_said limit here known tokens (faults.Unexpected at) s = absurd s
+end_said limit here known tokens (faults.UnexpectedEnd at) s = s
+end_said limit here known tokens (faults.UnknownPrefix at) s = absurd s
+end_said limit here known tokens (faults.PrefixTwice at) s = absurd s
+end_said limit here known tokens (faults.StandardPrefixChanged at) s = absurd s
+end_said limit here known tokens (faults.TooDeep at) s = absurd s
+
+-- the next token begins where it stands
+pub token_starts : (all : List Token) (ts : List lexer.Token) (d : lexer.Token) (n : ℕ) → 1 ≤ length ts → IsReadTo all (tokens_of ts) n → IsStart (get_or ts 0 d).at all
+token_starts all ts d n l h =
+    let t = token_of (get_or ts 0 d) in
+    let rest = tokens_of (take (length ts - 1) (drop 1 ts)) in
+    starts_there h.before t rest all t.at (h.tokens_are ∙ ap (λ (z : List Token). h.before ++ z) (tokens_front ts d l)) refl

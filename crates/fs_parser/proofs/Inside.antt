@@ -20,7 +20,7 @@ use Rattle.fs_parser.proofs.Sound.{read_is}
 
 -- ---- the closing parenthesis
 
-ends_closing : (frames : List Frame) (pending : Pending) (kind : Kind) → ends_at frames pending kind ≡ true → kind ≡ Closing
+pub ends_closing : (frames : List Frame) (pending : Pending) (kind : Kind) → ends_at frames pending kind ≡ true → kind ≡ Closing
 ends_closing [] Nothing Closing e = refl
 ends_closing [] (Text at text) Closing e = refl
 ends_closing _ _ _ e = absurd (false≢true e)

@@ -7,3 +7,5 @@ pub mod Steps
 pub mod Indexed
 pub mod Documents
 pub mod Faults
+pub mod ToEnd
+pub mod Streams

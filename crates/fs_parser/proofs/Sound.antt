@@ -181,7 +181,7 @@ text_reads limit prefixes frames done at text kind t a b tokens s h p k e g =
     (push limit prefixes frames done (PlainLiteral at text) a b h p (let l = low limit prefixes frames done a h in omega arith)) k
     (e ∙ sym (append_assoc a b (t ∷ []))) g
 
-step_reads : (limit : ℕ) (prefixes : Prefixes) (frames : List Frame) (done : List Tree) (pending : Pending) (t : Token) (a b tokens : List Token) (s : State)
+pub step_reads : (limit : ℕ) (prefixes : Prefixes) (frames : List Frame) (done : List Tree) (pending : Pending) (t : Token) (a b tokens : List Token) (s : State)
     → AreOpen limit prefixes frames done a → IsPending pending b → tokens ≡ a ++ (b ++ t ∷ [])
     → step_at limit (name_of prefixes t) frames done pending t.kind t ≡ Some s → HasRead limit prefixes s tokens
 step_reads limit prefixes frames done Nothing t a b tokens s h p e g =

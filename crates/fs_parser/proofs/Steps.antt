@@ -141,6 +141,23 @@ still_open (f ∷ fs) pending kind l = go (frames_of fs)
     go [] = refl
     go (g ∷ a) = refl
 
+pub none_outside : (fs : List code_frame.Frame) (done : List Tree) (pending : machine.Pending) (kind : Kind) → 0 < length fs → machine.begins_second_at (frames_of fs) done pending kind ≡ false
+none_outside [] done pending kind l = absurd (omega arith)
+none_outside (f ∷ fs) done pending kind l = go (frames_of fs)
+  where
+    go : (a : List machine.Frame) → machine.begins_second_at (a ++ frame_of f ∷ []) done pending kind ≡ false
+    go [] = refl
+    go (g ∷ a) = refl
+
+pub no_items : {A : Type 0} (xs : List A) → length xs ≡ 0 → xs ≡ []
+no_items [] e = refl
+no_items (x ∷ xs) e = absurd (omega arith)
+
+pub not_only : (trees : List Tree) (tree : Tree) → 0 < length trees → machine.only_one (Some (trees ++ tree ∷ [])) ≡ None
+not_only [] tree l = absurd (omega arith)
+not_only (t ∷ []) tree l = refl
+not_only (t ∷ u ∷ trees) tree l = refl
+
 pub ended : (fs : List code_frame.Frame) (done : List Tree) (at : ℕ) (text : List ℕ) → length fs ≡ 0 → machine.finish_at (frames_of fs) done (machine.Text at text) ≡ Some (done ++ PlainLiteral at text ∷ [])
 ended [] done at text e = refl
 ended (f ∷ fs) done at text e = absurd (omega arith)

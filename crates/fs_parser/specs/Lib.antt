@@ -4,6 +4,7 @@ pub mod Document
 pub mod View
 pub mod Index
 pub mod Known
+pub mod Owned
 pub mod Machine
 pub mod State
 pub mod Front
@@ -11,3 +12,4 @@ pub mod Faults
 pub mod Said
 pub mod Laws
 pub mod Printed
+pub mod Stream

@@ -1,5 +1,5 @@
 -- Reading tokens one after the other, with the open parentheses on a stack.
-use Rattle.std.specs.Prelude.{ℕ, nat_lt, List, [], ◌∷◌, ◌++◌, Bool, true, false, Option, Some, None, length}
+use Rattle.std.specs.Prelude.{ℕ, nat_lt, List, [], ◌∷◌, ◌++◌, Bool, true, false, not, Option, Some, None, length}
 use Rattle.fs_lexer.specs.declared.token.Kind.{Kind}
 use Rattle.fs_lexer.specs.declared.token.Kind.TheVariants.{Opening, Closing, Equals, Carets, FullIri, Quoted, LanguageTag, Keyword, Integer, PrefixName, ShortName, NodeLabel}
 use Rattle.fs_lexer.specs.Spelling.{Token}
@@ -106,3 +106,28 @@ finish s = finish_at s.frames s.done s.pending
 abbrev pub finish_before : List Token → State → Option (List Tree)
 finish_before [] s = finish s
 finish_before (t ∷ ts) s = None
+
+-- a token of the kind goes on with a string
+abbrev pub goes_on_with_text : Kind → Bool
+goes_on_with_text LanguageTag = true
+goes_on_with_text Carets = true
+goes_on_with_text _ = false
+
+-- outside of all parentheses: behind a whole tree a token of the kind begins another
+abbrev pub is_behind_tree : Pending → List Tree → Kind → Bool
+is_behind_tree Nothing [] kind = false
+is_behind_tree Nothing (tree ∷ trees) kind = true
+is_behind_tree (Text at text) done kind = not (goes_on_with_text kind)
+is_behind_tree _ done kind = false
+
+abbrev pub begins_second_at : List Frame → List Tree → Pending → Kind → Bool
+begins_second_at [] done pending kind = is_behind_tree pending done kind
+begins_second_at (f ∷ frames) done pending kind = false
+
+abbrev pub begins_second : State → Token → Bool
+begins_second s t = begins_second_at s.frames s.done s.pending t.kind
+
+-- the tree, where there is just one
+abbrev pub only_one : Option (List Tree) → Option Tree
+only_one (Some (tree ∷ [])) = Some tree
+only_one _ = None

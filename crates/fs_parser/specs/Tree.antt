@@ -81,3 +81,13 @@ pub record AreClosed (limit : ℕ) (prefixes : Prefixes) (trees : Trees) (tokens
   pub closes : IsSign Closing closing
   pub are_trees : AreTrees prefixes trees inner
   pub shallow : depth_of trees ≤ limit
+
+-- the tokens are exactly the tree, in which at most so many parentheses are open at once
+pub record IsShallow (limit : ℕ) (prefixes : Prefixes) (tree : Tree) (tokens : List Token) : Type 0 where
+  pub is_tree : IsTree prefixes tree tokens
+  pub shallow : depth tree ≤ limit
+
+-- .. the trees
+pub record AreShallow (limit : ℕ) (prefixes : Prefixes) (trees : Trees) (tokens : List Token) : Type 0 where
+  pub are_trees : AreTrees prefixes trees tokens
+  pub shallow : depth_of trees ≤ limit

@@ -43,7 +43,8 @@ impl Iri<'_> {
     pub fn text(&self, alloc: Global) -> Result<String, AllocError>
         ensures { IfOk result (λ text. string_bytes text ≡ iri_of self.now) }
     {
-        let mut text = String::new(alloc);
+        let room = self.base.len().saturating_add(self.local.len());
+        let mut text = String::with_capacity(alloc, room)?;
         self.push_to(&mut text)?;
         Ok(text)
     }

@@ -65,4 +65,15 @@ impl<'a> Known<'a> {
         declared.push(prefix)?;
         Ok(Known { declared, index })
     }
+
+    /// The standard prefixes and these.
+    pub fn of(alloc: Global, prefixes: &[Prefix<'a>]) -> Result<Known<'a>, AllocError>
+        ensures { IfOk result (λ known. prefixes_of_code known.declared.items ≡ prefixes_of_code prefixes.now) }
+    {
+        let mut known = Known::new(alloc);
+        for prefix in prefixes {
+            known = known.declare(*prefix)?;
+        }
+        Ok(known)
+    }
 }

@@ -7,14 +7,20 @@ mod document;
 mod fault;
 mod iri;
 mod known;
+mod parts;
 mod prefix;
+mod prefixes;
 mod reader;
+mod stream;
 mod tree;
 
 pub use document::forms;
 pub use fault::ParseFault;
 pub use iri::Iri;
+pub use parts::{expression, statements};
 pub use prefix::Prefix;
+pub use prefixes::Prefixes;
+pub use stream::streamed_forms;
 pub use tree::{Document, Tree};
 
 /// A law: tokens are at most one document. With prefixes that each stand for one IRI they are at most one list of trees,

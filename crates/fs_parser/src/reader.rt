@@ -4,11 +4,12 @@ ghost use Rattle.std.specs.Prelude.{◌≡◌, ℕ, Some, None, length, map};
 ghost use Rattle.std.specs.Result.{IfErr, IfOk, OnOk};
 ghost use Rattle.fs_lexer.specs.Views.{token_of};
 ghost use Rattle.fs_parser.specs.Machine as machine;
-ghost use Rattle.fs_parser.specs.Machine.{add, enter, leave, plain, behind_text, step, ends, finish, finish_before};
+ghost use Rattle.fs_parser.specs.Machine.{add, enter, leave, plain, behind_text, begins_second, step, ends, finish, finish_before, only_one};
 ghost use Rattle.fs_parser.specs.Name.{StandForOne};
 ghost use Rattle.fs_parser.specs.Said.{IsEnd, IsMemory, IsPlain, IsPlainAt, IsSaidOfToken, IsSaidOfTrees, IsTooDeepAt};
 ghost use Rattle.fs_parser.specs.State.{Gives, Fails, whole_of, frames_of, keyword_of, name_of_code, state_of};
-ghost use Rattle.fs_parser.specs.Tree.{Trees, AreClosed};
+ghost use Rattle.fs_parser.specs.Tree as spec;
+ghost use Rattle.fs_parser.specs.Tree.{Trees, AreClosed, AreShallow, IsShallow};
 ghost use Rattle.fs_parser.specs.Known.{known_of};
 ghost use Rattle.fs_parser.specs.View.{tokens_of, tree_of, trees_of};
 
@@ -92,14 +93,26 @@ fn whole<'a>(at: usize, keyword: Option<&'a str>, trees: Vec<Tree<'a>>) -> Tree<
     }
 }
 
+/// The trees in a list with room for no more than these. The list in which they came, which has room to spare, is freed
+/// for the next ones: of the trees of a document, most are alone or two.
+fn fitted<'a>(alloc: Global, mut trees: Vec<Tree<'a>>) -> Result<Vec<Tree<'a>>, ParseFault>
+    ensures same { IfOk result (λ v. v.items ≡ trees.entry.items) }
+    ensures said { IfErr result IsMemory }
+{
+    let mut fitted = Vec::with_capacity(alloc, trees.len())?;
+    fitted.append(&mut trees)?;
+    Ok(fitted)
+}
+
 /// One open parenthesis less.
-fn close(state: &mut State<'_>, here: usize) -> Result<(), ParseFault>
+fn close(alloc: Global, state: &mut State<'_>, here: usize) -> Result<(), ParseFault>
     ensures given { Gives (λ _. state_of state.new) result (leave (frames_of state.old.frames.items) (map tree_of state.old.done.items)) }
     ensures said { IfErr result (IsPlainAt here) }
 {
     match state.frames.pop() {
         Some(frame) => {
             let trees = mem::replace(&mut state.done, frame.before);
+            let trees = fitted(alloc, trees)?;
             push(state, whole(frame.at, frame.keyword, trees))
         }
         None => Err(ParseFault::Unexpected { at: here }),
@@ -130,7 +143,7 @@ fn take_plain<'a>(
 {
     match token.kind {
         Kind::Opening => open(alloc, limit, state, token.at, None, token.at),
-        Kind::Closing => close(state, token.at),
+        Kind::Closing => close(alloc, state, token.at),
         Kind::FullIri | Kind::ShortName => match name {
             Some(iri) => push(state, Tree::Name { at: token.at, iri }),
             None => Err(unnamed(token)),
@@ -197,7 +210,7 @@ fn take_behind_text<'a>(
 }
 
 /// One more token, which names the IRI, if any.
-fn take<'a>(
+pub fn take<'a>(
     alloc: Global,
     limit: usize,
     state: &mut State<'a>,
@@ -232,7 +245,7 @@ fn take<'a>(
 }
 
 /// The trees, at the end of the tokens.
-fn end(state: State<'_>, here: usize) -> Result<Vec<Tree<'_>>, ParseFault>
+pub fn end(state: State<'_>, here: usize) -> Result<Vec<Tree<'_>>, ParseFault>
     ensures given { Gives (λ v. map tree_of v.items) result (finish (state_of state.entry)) }
     ensures said { IfErr result (IsEnd here) }
 {
@@ -251,7 +264,7 @@ fn end(state: State<'_>, here: usize) -> Result<Vec<Tree<'_>>, ParseFault>
 }
 
 /// Whether the token closes a parenthesis that was open before the first of the trees, so that these are whole.
-fn is_ended_by(state: &State<'_>, token: &Token<'_>) -> bool
+pub fn is_ended_by(state: &State<'_>, token: &Token<'_>) -> bool
     ensures { result ≡ ends (state_of state.now) (token_of token.now) }
 {
     if !state.frames.is_empty() {
@@ -308,4 +321,89 @@ pub fn trees_inside<'a>(
         rest = others;
     }
     Err(ParseFault::UnexpectedEnd { at: here })
+}
+
+/// The trees that the tokens are. At most `limit` parentheses are open at once in them. `here` is where the tokens end.
+pub fn trees_to_end<'a>(
+    alloc: Global,
+    limit: usize,
+    known: &Known<'a>,
+    tokens: &[Token<'a>],
+    here: usize,
+) -> Result<Vec<Tree<'a>>, ParseFault>
+    requires { StandForOne (known_of known.now) }
+    ensures found { IfOk result (λ v. AreShallow limit (known_of known.now) (trees_of v.items) (tokens_of tokens.now)) }
+    // Where they are such trees these are found, unless memory runs out.
+    ensures only { (ts : Trees) → AreShallow limit (known_of known.now) ts (tokens_of tokens.now) → Gives (λ v. trees_of v.items) result (Some ts) }
+    // What a refusal speaks of stands at its place.
+    ensures said { IfErr result (IsSaidOfTrees limit here (known_of known.now) (tokens_of tokens.now)) }
+{
+    let mut state = State {
+        frames: Vec::new(alloc),
+        done: Vec::new(alloc),
+        pending: Pending::Nothing,
+    };
+    let mut rest = tokens;
+    while let [token, others @ ..] = rest {
+        take(alloc, limit, &mut state, token, expand(known, token))?;
+        rest = others;
+    }
+    end(state, here)
+}
+
+/// Whether the token begins a tree behind one that is whole, outside of all parentheses.
+fn begins_second(state: &State<'_>, token: &Token<'_>) -> bool
+    ensures { result ≡ begins_second (state_of state.now) (token_of token.now) }
+{
+    if !state.frames.is_empty() {
+        return false;
+    }
+    match state.pending {
+        Pending::Nothing => !state.done.is_empty(),
+        Pending::Text(..) => !matches!(token.kind, Kind::LanguageTag | Kind::Carets),
+        Pending::Word(..) | Pending::Typed(..) => false,
+    }
+}
+
+/// The one tree, at the end of the tokens, where no token began a second one.
+fn end_of_tree(state: State<'_>, here: usize) -> Result<Tree<'_>, ParseFault>
+    ensures given { Gives tree_of result (only_one (finish (state_of state.entry))) }
+    ensures said { IfErr result (IsEnd here) }
+{
+    let mut trees = end(state, here)?;
+    match trees.pop() {
+        Some(tree) if trees.is_empty() => Ok(tree),
+        _ => Err(ParseFault::UnexpectedEnd { at: here }),
+    }
+}
+
+/// The one tree that the tokens are. At most `limit` parentheses are open at once in it. `here` is where the tokens end.
+pub fn tree_to_end<'a>(
+    alloc: Global,
+    limit: usize,
+    known: &Known<'a>,
+    tokens: &[Token<'a>],
+    here: usize,
+) -> Result<Tree<'a>, ParseFault>
+    requires { StandForOne (known_of known.now) }
+    ensures found { IfOk result (λ t. IsShallow limit (known_of known.now) (tree_of t) (tokens_of tokens.now)) }
+    // Where they are such a tree it is found, unless memory runs out.
+    ensures only { (t : spec.Tree) → IsShallow limit (known_of known.now) t (tokens_of tokens.now) → Gives tree_of result (Some t) }
+    // What a refusal speaks of stands at its place.
+    ensures said { IfErr result (IsSaidOfTrees limit here (known_of known.now) (tokens_of tokens.now)) }
+{
+    let mut state = State {
+        frames: Vec::new(alloc),
+        done: Vec::new(alloc),
+        pending: Pending::Nothing,
+    };
+    let mut rest = tokens;
+    while let [token, others @ ..] = rest {
+        if begins_second(&state, token) {
+            return Err(ParseFault::Unexpected { at: token.at });
+        }
+        take(alloc, limit, &mut state, token, expand(known, token))?;
+        rest = others;
+    }
+    end_of_tree(state, here)
 }

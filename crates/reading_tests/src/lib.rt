@@ -5,3 +5,7 @@
 mod lexer;
 #[cfg(test)]
 mod parser;
+#[cfg(test)]
+mod parts;
+#[cfg(test)]
+mod stream;

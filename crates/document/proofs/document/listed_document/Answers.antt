@@ -5,10 +5,10 @@ use Rattle.fs_parser.specs.View.{tokens_of}
 use Rattle.document.specs.declared.fault.DocumentFault.{DocumentFault}
 use Rattle.document.specs.Faults.{Refuses}
 use Rattle.document.proofs.Readings.{parse_fault}
-use Rattle.document.proofs.document.read_text.Goals as goal
+use Rattle.document.proofs.document.listed_document.Goals as goal
 
-pub returns-in-Err-forms-clause-refused : goal.returns-in-Err-forms-clause-refused
-returns-in-Err-forms-clause-refused c =
+pub returns-clause-refused : goal.returns-clause-refused
+returns-clause-refused c =
     let text = c.args.text.now in
     let spelled : Spells text (tokens_of c.deref.result.now) =
     subst (λ (ts : List Token). Spells text (tokens_of ts)) (sym c.deref.ensures.value) c.in-Ok.ensures.found in

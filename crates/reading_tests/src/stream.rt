@@ -1,0 +1,55 @@
+use crate::parser::push_tree;
+use fs_lexer::{next_token, only_separators};
+use fs_parser::streamed_forms;
+use std::alloc::{AllocError, Global};
+
+/// The trees of a document that is read token by token, each with a space behind it; nothing where it is none.
+fn shown(alloc: Global, text: &str) -> Result<String, AllocError> {
+    let mut out = String::new(alloc);
+    if let Some(document) = streamed_forms(alloc, text) {
+        for tree in &document.trees {
+            push_tree(alloc, &mut out, tree)?;
+        }
+    }
+    Ok(out)
+}
+
+fn is_shown(alloc: Global, text: &str, expected: &str) -> Result<bool, AllocError> {
+    let found = shown(alloc, text)?;
+    Ok(found.as_str() == expected)
+}
+
+/// Texts, each with the trees of the document that it is, if any.
+const TEXTS: [(&str, &str); 8] = [
+    ("Ontology(<x:o>)", "<x:o> "),
+    (
+        "Prefix(:=<x:>) # a comment\nOntology(SubClassOf(:A owl:Thing) (\"a\"@en 1)) # end",
+        "SubClassOf(<x:A> <http://www.w3.org/2002/07/owl#Thing> ) (\"a\"@en 1 ) ",
+    ),
+    ("Ontology(\"a\")", "\"a\" "),
+    ("Ontology(<x:o>) <x:o>", ""),
+    ("Ontology(<x:o>", ""),
+    ("Ontology(q:A)", ""),
+    ("Prefix(:=<x:>) Prefix(:=<x:>) Ontology(<x:o>)", ""),
+    ("SubClassOf(<x:A> <x:B>)", ""),
+];
+
+#[test]
+fn documents_token_by_token(rt: HostRuntime) {
+    for (text, expected) in &TEXTS {
+        assert!(rt; is_shown(rt.alloc(), text, expected) == Ok(true), "{text}");
+    }
+}
+
+#[test]
+fn one_token(rt: HostRuntime) {
+    let text = " ( # a\n";
+    let mut found = false;
+    if let Some((token, behind)) = next_token(text, 0) {
+        found = token.at == 1 && token.text == "(" && behind == 2;
+    }
+    assert!(rt; found);
+    assert!(rt; next_token(text, 2).is_none());
+    assert!(rt; only_separators(text, 2));
+    assert!(rt; !only_separators(text, 0));
+}
