@@ -1,5 +1,5 @@
 -- What a look-up and an insertion in a numbered set give, by a view of its keys.
-use Rattle.std.proofs.Common.{◌≡◌, ℕ, zero, suc, Bool, true, false, inl, inr, List, [], ◌∷◌, ◌++◌, if◌then◌else◌, map, position, slice_get, Some, Contains, String, string_bytes, bytes_eq, refl, sym, ap, ap₂, ◌∙◌, subst, arith, nat_eq}
+use Rattle.std.proofs.Common.{◌≡◌, ℕ, zero, suc, Bool, true, false, inl, inr, List, ◌||◌, [], ◌∷◌, ◌++◌, if◌then◌else◌, map, position, slice_get, Some, Contains, String, string_bytes, bytes_eq, refl, sym, ap, ap₂, ◌∙◌, subst, arith, nat_eq}
 use Rattle.std.proofs.lemmas.Bool.{true≢false, both_ways, or_left, or_right}
 use Rattle.std.proofs.lemmas.Bool.Decides.{Decides-eqb, Decides-like, Decides-and}
 use Rattle.std.proofs.lemmas.List.{map-append, length-map}
@@ -95,3 +95,8 @@ same_expr (expr.And v) (expr.Some q f) = (λ h. absurd (true≢false (sym h)), �
 same_expr (expr.Some p e) (expr.Class d) = (λ h. absurd (true≢false (sym h)), λ h. cc)
 same_expr (expr.Some p e) (expr.And w) = (λ h. absurd (true≢false (sym h)), λ h. cc)
 same_expr (expr.Some p e) (expr.Some q f) = Decides-like _ (λ h. ap₂ Exists h.0 h.1) (λ h. (cc, cc)) (Decides-and _ _ (Decides-eqb p.0 q.0) (Decides-eqb e.0 f.0))
+
+-- whether a text is among texts
+pub any_text : (iri : List ℕ) (names : List (String Global)) → list_any (λ k. bytes_eq iri (string_bytes k)) names ≡ list_any (bytes_eq iri) (map string_bytes names)
+any_text iri [] = refl
+any_text iri (name ∷ names) = ap (λ b. bytes_eq iri (string_bytes name) || b) (any_text iri names)

@@ -1,12 +1,14 @@
 //! An ontology: names, class expressions and logical axioms by number.
 ghost use Rattle.std.specs.Prelude.{◌<◌, ◌≡◌, ◌↔◌, IfSome, IsSome, MatchOption, Some, length, map, option_map, slice_get, string_bytes, ℕ};
-ghost use Rattle.axioms.specs.Growth.{IsBounded};
+ghost use Rattle.std.specs.List.{list_any};
+ghost use Rattle.std.specs.Str.{bytes_eq};
+ghost use Rattle.axioms.specs.Growth.{IsBounded, names_of};
 ghost use Rattle.axioms.specs.Numbered.{Class, IsClassAt};
 ghost use Rattle.axioms.specs.View.{axiom_of, node_of, at_number};
 ghost use Rattle.axioms.specs.WellFormed.{IsOntology};
 
 use crate::ids::{ClassId, ExprId};
-use crate::terms::{Axiom, Expr};
+use crate::terms::{Axiom, Expr, Kind};
 use indexmap::IndexSet;
 use std::alloc::Global;
 use std::hash::RandomState;
@@ -34,6 +36,13 @@ impl Model for Ontology {
     ghost view = { kept_ontology };
 
     ghost invariant = { IsKept };
+}
+
+// Whether the IRI is one of the names.
+fn is_named(names: &IndexSet<String, RandomState>, iri: &str) -> bool
+    ensures { result ≡ list_any (bytes_eq iri.now) (map string_bytes names.now.keys) }
+{
+    names.contains(iri)
 }
 
 impl Ontology {
@@ -68,6 +77,17 @@ impl Ontology {
         ensures valid { IsOntology self.now }
     {
         self.expressions.get_index(id.index())
+    }
+
+    /// Whether the IRI is a name of that kind.
+    pub fn has_name(&self, kind: Kind, iri: &str) -> bool
+        ensures { result ≡ list_any (bytes_eq iri.now) (names_of self.now.names kind) }
+    {
+        match kind {
+            Kind::Class => is_named(&self.classes, iri),
+            Kind::Property => is_named(&self.properties, iri),
+            Kind::Individual => is_named(&self.individuals, iri),
+        }
     }
 
     /// How many expressions there are.

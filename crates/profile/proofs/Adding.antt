@@ -1,25 +1,30 @@
 -- An ontology and the statements that it grew by.
-use Rattle.std.proofs.Common.{◌≡◌, ℕ, zero, suc, ◌+◌, ◌<◌, ◌≤◌, inl, inr, Err, Ok, List, [], ◌∷◌, ◌++◌, length, take, drop, get_or, refl, sym, ap, ◌∙◌, subst, arith, append_assoc}
+use Rattle.std.proofs.Common.{◌≡◌, ℕ, zero, suc, ◌+◌, ◌<◌, ◌≤◌, inl, inr, Bool, Err, Ok, List, [], ◌∷◌, ◌++◌, length, take, drop, get_or, refl, sym, ap, ◌∙◌, subst, arith, append_assoc}
 use Rattle.std.specs.List.{filter_map, flat_map}
+use Rattle.std.specs.Str.{bytes_eq}
 use Rattle.std.proofs.lemmas.Grind.{flat_map-append}
 use Rattle.std.proofs.lemmas.List.{append-nil, take_all}
 use Rattle.std.proofs.lemmas.List.Elements.{filter_map-append}
 use Rattle.axioms.specs.Axiom as tree
 use Rattle.axioms.specs.Expression.{Iri, ClassExpression, Named, owl_thing, owl_nothing}
-use Rattle.axioms.specs.Growth.{empty_ontology}
-use Rattle.axioms.specs.Numbered.{Ontology}
-use Rattle.axioms.specs.Numbering.{Statement, IsOntologyOf, class_name, logical_axiom, statement_expressions, statement_properties, statement_individuals}
+use Rattle.axioms.specs.Growth.{IsBounded, empty_ontology}
+use Rattle.axioms.specs.Numbered.{Ontology, trees}
+use Rattle.axioms.specs.Numbering.{Statement, IsOntologyOf, class_name, first_places, same_expression, logical_axiom, statement_expressions, statement_properties, statement_individuals}
 use Rattle.axioms.specs.WellFormed.{IsOntology}
 use Rattle.axioms.specs.declared.fault.BuildFault.{BuildFault}
 use Rattle.axioms.specs.declared.fault.BuildFault.TheVariants.{TooManyNames, Memory}
+use Rattle.fs_parser.specs.Tree.{Trees}
 use Rattle.fs_parser.specs.View.{tree_of, trees_of}
 use Rattle.fs_parser.specs.declared.tree.Tree as code
-use Rattle.statements.specs.Additions.{Adds, AreTooMany, Overflows}
+use Rattle.statements.specs.Additions.{Adds, Appends, AreTooMany, Overflows}
 use Rattle.statements.specs.Statements.{statement_of, statements}
+use Rattle.statements.proofs.Appending.{places_join}
 use Rattle.statements.proofs.Overflowing.{overflow_later, overflow_more}
 use Rattle.statements.proofs.Stating.{names_first}
 use Rattle.statements.proofs.Steps.{adds_join, adds_nothing}
 use Rattle.profile.specs.Additions.{AddsStatements, OntologyRead, StatementsOverflow, StatementsRead}
+use Rattle.shapes.specs.Faults.{axiom_faults}
+use Rattle.profile.specs.Grown.{AreAddedAs, StatementsGrown}
 use Rattle.profile.specs.Reading.{HasFewNames, HaveTooManyNames}
 
 -- ---- statements and more
@@ -88,8 +93,8 @@ too_many ss (inr (inr h)) = inr (inr h)
 
 -- ---- trees so far
 
-pub none_read : (o : Ontology) → IsOntology o → o ≡ empty_ontology → AddsStatements [] empty_ontology o
-none_read o whole is = subst (λ (x : Ontology). AddsStatements [] x o) is (adds_nothing o whole)
+pub none_read : (o : Ontology) → IsOntology o → AddsStatements [] o o
+none_read o whole = adds_nothing o whole
 
 module _ (t : code.Tree) where
   pushed : (ts : List code.Tree) (n : ℕ) → n < length ts → t ≡ get_or ts n t → statements (trees_of (take n ts)) ++ statement_of (tree_of t) ≡ statements (trees_of (take (suc n) ts))
@@ -106,27 +111,77 @@ split (u ∷ us) (suc n) =
     append_assoc (statement_of (tree_of u)) (statements (trees_of (take n us))) (statements (trees_of (drop n us)))
     ∙ ap (λ (ss : List Statement). statement_of (tree_of u) ++ ss) (split us n)
 
-module _ (ts : List code.Tree) (n : ℕ) (p : Ontology) (so_far : AddsStatements (statements (trees_of (take n ts))) empty_ontology p) where
-  pub part_read : (t : code.Tree) (q : Ontology) → n < length ts → t ≡ get_or ts n t → AddsStatements (statement_of (tree_of t)) p q → AddsStatements (statements (trees_of (take (n + 1) ts))) empty_ontology q
+module _ (o : Ontology) (ts : List code.Tree) (n : ℕ) (p : Ontology) (so_far : AddsStatements (statements (trees_of (take n ts))) o p) where
+  pub part_read : (t : code.Tree) (q : Ontology) → n < length ts → t ≡ get_or ts n t → AddsStatements (statement_of (tree_of t)) p q → AddsStatements (statements (trees_of (take (n + 1) ts))) o q
   part_read t q within at more =
       let next : suc n ≡ n + 1 = omega arith in
-      subst (λ (ss : List Statement). AddsStatements ss empty_ontology q) (pushed t ts n within at ∙ ap (λ m. statements (trees_of (take m ts))) next)
-      (adds_more (statements (trees_of (take n ts))) (statement_of (tree_of t)) empty_ontology p q so_far more)
+      subst (λ (ss : List Statement). AddsStatements ss o q) (pushed t ts n within at ∙ ap (λ m. statements (trees_of (take m ts))) next)
+      (adds_more (statements (trees_of (take n ts))) (statement_of (tree_of t)) o p q so_far more)
 
-  pub part_refused : (t : code.Tree) (q : Ontology) → n < length ts → t ≡ get_or ts n t → (fault : BuildFault) → StatementsRead (Err fault) (statement_of (tree_of t)) p q → OntologyRead (Err fault) (statements (trees_of ts))
+  pub part_refused : (t : code.Tree) (q : Ontology) → n < length ts → t ≡ get_or ts n t → (fault : BuildFault) → StatementsRead (Err fault) (statement_of (tree_of t)) p q → StatementsRead (Err fault) (statements (trees_of ts)) o q
   part_refused t q within at TooManyNames h =
       let before = statements (trees_of (take n ts)) in
-      let with_it : StatementsOverflow (statements (trees_of (take (suc n) ts))) empty_ontology =
-      subst (λ (ss : List Statement). StatementsOverflow ss empty_ontology) (pushed t ts n within at) (overflows_later before (statement_of (tree_of t)) empty_ontology p so_far h) in
-      too_many (statements (trees_of ts))
-      (
-      subst (λ (ss : List Statement). StatementsOverflow ss empty_ontology) (split ts (suc n))
-      (overflows_with_more (statements (trees_of (take (suc n) ts))) (statements (trees_of (drop (suc n) ts))) empty_ontology with_it)
-      )
+      let with_it : StatementsOverflow (statements (trees_of (take (suc n) ts))) o =
+      subst (λ (ss : List Statement). StatementsOverflow ss o) (pushed t ts n within at) (overflows_later before (statement_of (tree_of t)) o p so_far h) in
+      subst (λ (ss : List Statement). StatementsOverflow ss o) (split ts (suc n))
+      (overflows_with_more (statements (trees_of (take (suc n) ts))) (statements (trees_of (drop (suc n) ts))) o with_it)
   part_refused t q within at Memory h = tt
 
-  pub all_read : length ts ≤ n → OntologyRead (Ok p) (statements (trees_of ts))
-  all_read all =
-      let adds : AddsStatements (statements (trees_of ts)) empty_ontology p =
-      subst (λ (us : List code.Tree). AddsStatements (statements (trees_of us)) empty_ontology p) (take_all n ts all) so_far in
-      (is_ontology_of (statements (trees_of ts)) p adds, adds.few_names few_at_first)
+  pub all_read : length ts ≤ n → AddsStatements (statements (trees_of ts)) o p
+  all_read all = subst (λ (us : List code.Tree). AddsStatements (statements (trees_of us)) o p) (take_all n ts all) so_far
+
+-- ---- .. from the ontology of no statements
+
+pub read_from_nothing : (ss : List Statement) (o p : Ontology) → o ≡ empty_ontology → AddsStatements ss o p → OntologyRead (Ok p) ss
+read_from_nothing ss o p is h =
+    let adds : AddsStatements ss empty_ontology p = subst (λ (x : Ontology). AddsStatements ss x p) is h in
+    (is_ontology_of ss p adds, adds.few_names few_at_first)
+
+pub refused_from_nothing : (ss : List Statement) (o p : Ontology) → o ≡ empty_ontology → (fault : BuildFault) → StatementsRead (Err fault) ss o p → OntologyRead (Err fault) ss
+refused_from_nothing ss o p is TooManyNames h = too_many ss (subst (StatementsOverflow ss) is h)
+refused_from_nothing ss o p is Memory h = tt
+
+-- ---- .. and from that of statements
+
+after : {A : Type 0} (same : A → A → Bool) (old xs added new : List A) → old ≡ first_places same xs → Appends same old added new → new ≡ first_places same (xs ++ added)
+after same old xs added new is grow = grow.places ∙ ap (λ zs. first_places same (zs ++ added)) is ∙ places_join same xs added
+
+pub joined : (ss us : List Statement) (o p : Ontology) → IsOntologyOf ss o → AddsStatements us o p → IsOntologyOf (ss ++ us) p
+joined ss us o p is h =
+    let standard : List ClassExpression = Named owl_thing ∷ Named owl_nothing ∷ [] in
+    let adds = h.grows in
+    record {
+      expressions =
+          after same_expression (trees o) (Named owl_thing ∷ Named owl_nothing ∷ flat_map statement_expressions ss) (flat_map statement_expressions us) (trees p) is.expressions adds.trees_grow
+          ∙ ap (λ es. first_places same_expression (standard ++ es)) (expressions ss us);
+      classes =
+          adds.classes_grow.places
+          ∙ ap (λ cs. first_places bytes_eq (cs ++ filter_map class_name (flat_map statement_expressions us))) is.classes
+          ∙ ap (first_places bytes_eq) (sym (filter_map-append class_name (trees o) (flat_map statement_expressions us)))
+          ∙ names_first (trees o ++ flat_map statement_expressions us)
+          ∙ ap (filter_map class_name) (sym adds.trees_grow.places);
+      properties =
+          after bytes_eq o.names.properties (flat_map statement_properties ss) (flat_map statement_properties us) p.names.properties is.properties adds.properties_grow
+          ∙ ap (first_places bytes_eq) (properties ss us);
+      individuals =
+          after bytes_eq o.names.individuals (flat_map statement_individuals ss) (flat_map statement_individuals us) p.names.individuals is.individuals adds.individuals_grow
+          ∙ ap (first_places bytes_eq) (individuals ss us);
+      axioms = adds.axioms_grow ∙ ap (λ xs. xs ++ filter_map logical_axiom us) is.axioms ∙ sym (filter_map-append logical_axiom ss us);
+    }
+
+-- ---- .. by trees without faults
+
+module _ (ts : Trees) (faultless : axiom_faults ts ≡ []) (b o p q : Ontology) (from : b ≡ o) where
+  pub grown_by : q ≡ p → IsBounded q → AddsStatements (statements ts) b p → AreAddedAs o ts q
+  grown_by to bounded h =
+      let adds : AddsStatements (statements ts) o q = subst (λ (x : Ontology). AddsStatements (statements ts) x q) from (subst (AddsStatements (statements ts) b) (sym to) h) in
+      record {
+        faultless = faultless;
+        adds = adds;
+        few_names = record { classes = bounded.classes; properties = bounded.properties; individuals = bounded.individuals };
+        ontology = λ ss is. joined ss (statements ts) o q is adds;
+      }
+
+  pub not_grown : (fault : BuildFault) → StatementsRead (Err fault) (statements ts) b p → StatementsGrown (Err fault) o ts
+  not_grown TooManyNames h = subst (StatementsOverflow (statements ts)) from h
+  not_grown Memory h = tt

@@ -1,9 +1,10 @@
 -- Trees without faults, taken apart: a form has as many operands as its shape says, and each operand has no fault.
-use Rattle.std.proofs.Common.{◌≡◌, ℕ, Bool, true, false, List, [], ◌∷◌, ◌++◌, Option, Some, None, refl, sym, ◌∙◌}
+use Rattle.std.proofs.Common.{◌≡◌, ℕ, Bool, true, false, List, [], ◌∷◌, ◌++◌, Option, Some, None, refl, sym, ap, ◌∙◌}
 use Rattle.fs_parser.specs.Tree.{Tree, Trees, Form, Then, place_of}
-use Rattle.shapes.specs.Faults.{Fault, RefusedConstruct, UnknownKeyword, WrongShape, RepeatedOperand, count_of, faults, faults_in, front_faults, is_repeated, own_trees}
+use Rattle.axioms.specs.Numbered.{Names}
+use Rattle.shapes.specs.Faults.{Fault, RefusedConstruct, UnknownKeyword, WrongShape, RepeatedOperand, count_of, faults, faults_among, faults_in, faults_inside, front_faults, is_repeated, own_trees}
 use Rattle.shapes.specs.Keywords.{is_known, is_refused}
-use Rattle.shapes.specs.Shapes.{Operands, fits_count, later_expected, next_expected, operands_of}
+use Rattle.shapes.specs.Shapes.{Operands, fits_count, later_expected, may_be_annotated, next_expected, operands_of}
 use Rattle.shapes.specs.declared.expected.Expected.{Expected}
 use Rattle.shapes.proofs.Lists.{fitting_form, unfitting_form}
 use Rattle.shapes.proofs.Placed.{placed_is_known, placed_is_not_refused}
@@ -44,14 +45,14 @@ module _ (expected : Expected) (at : ℕ) (keyword : List ℕ) (trees : Trees) w
       fit : (operands : Operands) → operands_of expected keyword ≡ Some operands → (b : Bool) → fits_count operands (count_of (own_trees expected trees)) ≡ b → AreOperandsOf expected keyword (own_trees expected trees)
       fit operands shape false f =
           absurd (one_is_not_none all (WrongShape at)
-          (unfitting_form expected at keyword trees operands (placed_is_not_refused expected keyword operands shape) (placed_is_known expected keyword operands shape) shape f) h)
+          (unfitting_form None expected at keyword trees operands (placed_is_not_refused expected keyword operands shape) (placed_is_known expected keyword operands shape) shape f) h)
       fit operands shape true f =
-          let is = fitting_form expected at keyword trees operands (placed_is_not_refused expected keyword operands shape) (placed_is_known expected keyword operands shape) shape f in
+          let is = fitting_form None expected at keyword trees operands (placed_is_not_refused expected keyword operands shape) (placed_is_known expected keyword operands shape) shape f in
           record {
             operands = operands;
             shape = shape;
             count = f;
-            faultless = none_second (front_faults expected trees) (faults_in false [] operands (own_trees expected trees)) (sym is ∙ h);
+            faultless = none_second (front_faults None expected trees) (faults_in false [] operands (own_trees expected trees)) (sym is ∙ h);
           }
 
       go : (o : Option Operands) → operands_of expected keyword ≡ o → AreOperandsOf expected keyword (own_trees expected trees)
@@ -60,25 +61,46 @@ module _ (expected : Expected) (at : ℕ) (keyword : List ℕ) (trees : Trees) w
 
 -- ---- operands
 
--- the first of the operands equals none before it, and has no fault, and so on
-pub record AreFaultless (earlier : List Tree) (operands : Operands) (first : Tree) (rest : Trees) : Type 0 where
+-- the first of the operands equals none before it, and has no fault, and so on; names may be any or only these
+pub record AreFaultless (names : Option Names) (earlier : List Tree) (operands : Operands) (first : Tree) (rest : Trees) : Type 0 where
   pub fresh : is_repeated operands first earlier ≡ false
-  pub faultless : faults (next_expected operands) first ≡ []
-  pub later : faults_in false (earlier ++ first ∷ []) (later_expected operands) rest ≡ []
+  pub faultless : faults_among names (next_expected operands) first ≡ []
+  pub later : faults_inside names false (earlier ++ first ∷ []) (later_expected operands) rest ≡ []
 
-pub operand_parts : (earlier : List Tree) (operands : Operands) (first : Tree) (rest : Trees) → faults_in false earlier operands (Then first rest) ≡ [] → AreFaultless earlier operands first rest
-operand_parts earlier operands first rest h = go (is_repeated operands first earlier) refl
+pub operand_parts_among : (names : Option Names) (earlier : List Tree) (operands : Operands) (first : Tree) (rest : Trees) → faults_inside names false earlier operands (Then first rest) ≡ [] → AreFaultless names earlier operands first rest
+operand_parts_among names earlier operands first rest h = go (is_repeated operands first earlier) refl
   where
-    go : (b : Bool) → is_repeated operands first earlier ≡ b → AreFaultless earlier operands first rest
+    go : (b : Bool) → is_repeated operands first earlier ≡ b → AreFaultless names earlier operands first rest
     go true e =
-        let after = faults_in false (earlier ++ first ∷ []) (later_expected operands) rest in
-        let is : faults_in false earlier operands (Then first rest) ≡ (RepeatedOperand (place_of first) ∷ []) ++ after = rw e refl in
+        let after = faults_inside names false (earlier ++ first ∷ []) (later_expected operands) rest in
+        let is : faults_inside names false earlier operands (Then first rest) ≡ (RepeatedOperand (place_of first) ∷ []) ++ after = rw e refl in
         cc
     go false e =
-        let after = faults_in false (earlier ++ first ∷ []) (later_expected operands) rest in
-        let is : faults_in false earlier operands (Then first rest) ≡ faults (next_expected operands) first ++ after = rw e refl in
+        let after = faults_inside names false (earlier ++ first ∷ []) (later_expected operands) rest in
+        let is : faults_inside names false earlier operands (Then first rest) ≡ faults_among names (next_expected operands) first ++ after = rw e refl in
         record {
           fresh = e;
-          faultless = none_first (faults (next_expected operands) first) after (sym is ∙ h);
-          later = none_second (faults (next_expected operands) first) after (sym is ∙ h);
+          faultless = none_first (faults_among names (next_expected operands) first) after (sym is ∙ h);
+          later = none_second (faults_among names (next_expected operands) first) after (sym is ∙ h);
         }
+
+pub operand_parts : (earlier : List Tree) (operands : Operands) (first : Tree) (rest : Trees) → faults_in false earlier operands (Then first rest) ≡ [] → AreFaultless None earlier operands first rest
+operand_parts = operand_parts_among None
+
+-- the operands of a form that no annotations may stand in front of, where it has no fault
+pub inside_of : (names : Option Names) (expected : Expected) (at : ℕ) (keyword : List ℕ) (trees : Trees) (operands : Operands) → operands_of expected keyword ≡ Some operands →
+    may_be_annotated expected ≡ false → faults_among names expected (Form at keyword trees) ≡ [] → faults_inside names false [] operands trees ≡ []
+inside_of names expected at keyword trees operands shape plain h = go (fits_count operands (count_of (own_trees expected trees))) refl
+  where
+    refused : is_refused keyword ≡ false
+    refused = placed_is_not_refused expected keyword operands shape
+
+    known : is_known keyword ≡ true
+    known = placed_is_known expected keyword operands shape
+
+    go : (b : Bool) → fits_count operands (count_of (own_trees expected trees)) ≡ b → faults_inside names false [] operands trees ≡ []
+    go false f = absurd (one_is_not_none (faults_among names expected (Form at keyword trees)) (WrongShape at) (unfitting_form names expected at keyword trees operands refused known shape f) h)
+    go true f =
+        let is = fitting_form names expected at keyword trees operands refused known shape f in
+        let own : own_trees expected trees ≡ trees = rw plain refl in
+        ap (faults_inside names false [] operands) (sym own) ∙ none_second (front_faults names expected trees) (faults_inside names false [] operands (own_trees expected trees)) (sym is ∙ h)

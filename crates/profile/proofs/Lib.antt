@@ -10,3 +10,4 @@ pub mod Items
 pub mod Stated
 pub mod Holding
 pub mod Adding
+pub mod KnownNames

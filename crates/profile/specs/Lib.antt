@@ -2,3 +2,4 @@ pub mod Reading
 pub mod Operands
 pub mod Parts
 pub mod Additions
+pub mod Grown

@@ -36,7 +36,7 @@ pub fn accept(
     ensures read { IfOk result (AreReadAs (trees_of document.now.trees.items)) }
     ensures refused { IfErr result (λ r. Refuses r (trees_of document.now.trees.items)) }
 {
-    let found = match document_faults(alloc, document, version) {
+    let found = match document_faults(alloc, document, version, state) {
         Ok(found) => found,
         Err(_) => return Err(Refusal::Memory),
     };

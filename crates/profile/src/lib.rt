@@ -1,11 +1,14 @@
-//! The profile: a document's trees as the one ontology that they state, or every fault in them.
+//! The profile: a document's trees as the one ontology that they state, or every fault in them; and how an ontology grows by
+//! more trees.
 #![tactic(auto)]
 
 mod acceptance;
 mod axiom_operands;
 mod building;
 mod entities;
+mod growth;
 mod parts;
 
 pub use acceptance::{Refusal, accept};
+pub use growth::{accept_expression, accept_statements};
 pub use shapes::{Fault, Version};

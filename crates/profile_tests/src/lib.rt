@@ -5,3 +5,5 @@
 mod acceptance;
 #[cfg(test)]
 mod class_expressions;
+#[cfg(test)]
+mod growth;

@@ -3,3 +3,4 @@ pub mod Lists
 pub mod Worked
 pub mod Apart
 pub mod Placed
+pub mod Table

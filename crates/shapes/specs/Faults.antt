@@ -5,10 +5,11 @@ use Rattle.std.specs.List.{list_any}
 use Rattle.std.specs.Str.{bytes_eq}
 use Rattle.fs_parser.specs.Tree.{Tree, Trees, Name, PlainLiteral, TaggedLiteral, TypedLiteral, Anonymous, Number, Group, Form, Empty, Then, place_of}
 use Rattle.shapes.specs.declared.expected.Expected.{Expected}
-use Rattle.shapes.specs.declared.expected.Expected.TheVariants.{Axiom, Annotation, NameOrLiteral}
+use Rattle.shapes.specs.declared.expected.Expected.TheVariants.{Axiom, Annotation, ClassExpression, NameOrLiteral}
 use Rattle.shapes.specs.Shapes.{Operands, Each, operands_of, may_be_annotated, fits_count, next_expected, later_expected, wants_distinct}
 use Rattle.shapes.specs.Keywords.{is_refused, is_known}
-use Rattle.shapes.specs.Names.{is_allowed, may_be_name}
+use Rattle.axioms.specs.Numbered.{Names}
+use Rattle.shapes.specs.Names.{is_allowed, is_there, may_be_name}
 use Rattle.shapes.specs.SameTree.{same_tree}
 
 -- what is wrong, and where it stands
@@ -19,13 +20,14 @@ pub data Fault : Type 0 where
   RepeatedOperand : (at : ℕ) → Fault
   ReservedName : (at : ℕ) → Fault
   AnonymousIndividual : (at : ℕ) → Fault
+  UnknownName : (at : ℕ) → Fault
 
 -- ---- of names and literals
 
-abbrev pub name_faults : Expected → ℕ → List ℕ → List Fault
-name_faults expected at iri =
+abbrev pub name_faults : Option Names → Expected → ℕ → List ℕ → List Fault
+name_faults names expected at iri =
     if not (may_be_name expected) then WrongShape at ∷ []
-    else (if is_allowed expected iri then [] else ReservedName at ∷ [])
+    else (if is_allowed expected iri then (if is_there names expected iri then [] else UnknownName at ∷ []) else ReservedName at ∷ [])
 
 abbrev pub literal_faults : Expected → ℕ → List Fault
 literal_faults NameOrLiteral at = []
@@ -68,37 +70,44 @@ abbrev pub is_repeated : Operands → Tree → List Tree → Bool
 is_repeated operands next earlier = wants_distinct operands && list_any (same_tree next) earlier
 
 abbrev mutual
-  -- the faults of a tree where one is expected, in the order of the text
-  pub faults : Expected → Tree → List Fault
-  faults expected (Anonymous at _) = AnonymousIndividual at ∷ []
-  faults expected (Name at iri) = name_faults expected at iri
-  faults expected (PlainLiteral at _) = literal_faults expected at
-  faults expected (TaggedLiteral at _ _) = literal_faults expected at
-  faults expected (TypedLiteral at _ _) = literal_faults expected at
-  faults expected (Number at _) = WrongShape at ∷ []
-  faults expected (Group at _) = WrongShape at ∷ []
-  faults expected (Form at keyword trees) =
+  -- the faults of a tree where one is expected, in the order of the text; of names, any may stand there or only these
+  pub faults_among : Option Names → Expected → Tree → List Fault
+  faults_among names expected (Anonymous at _) = AnonymousIndividual at ∷ []
+  faults_among names expected (Name at iri) = name_faults names expected at iri
+  faults_among names expected (PlainLiteral at _) = literal_faults expected at
+  faults_among names expected (TaggedLiteral at _ _) = literal_faults expected at
+  faults_among names expected (TypedLiteral at _ _) = literal_faults expected at
+  faults_among names expected (Number at _) = WrongShape at ∷ []
+  faults_among names expected (Group at _) = WrongShape at ∷ []
+  faults_among names expected (Form at keyword trees) =
       if is_refused keyword then RefusedConstruct at keyword ∷ []
       else (if not (is_known keyword) then UnknownKeyword at keyword ∷ []
       else form_faults at (operands_of expected keyword) (own_trees expected trees)
-      (faults_in (may_be_annotated expected) [] (operands_or_none (operands_of expected keyword)) trees))
+      (faults_inside names (may_be_annotated expected) [] (operands_or_none (operands_of expected keyword)) trees))
 
   -- of the annotations in front and of the operands, in order. An operand that equals an earlier one gives that alone
-  pub faults_in : Bool → List Tree → Operands → Trees → List Fault
-  faults_in annotated earlier operands Empty = []
-  faults_in annotated earlier operands (Then first rest) =
-      if annotated && is_annotation first then faults Annotation first ++ faults_in annotated earlier operands rest
-      else ((if is_repeated operands first earlier then RepeatedOperand (place_of first) ∷ [] else faults (next_expected operands) first)
-      ++ faults_in false (earlier ++ first ∷ []) (later_expected operands) rest)
+  pub faults_inside : Option Names → Bool → List Tree → Operands → Trees → List Fault
+  faults_inside names annotated earlier operands Empty = []
+  faults_inside names annotated earlier operands (Then first rest) =
+      if annotated && is_annotation first then faults_among names Annotation first ++ faults_inside names annotated earlier operands rest
+      else ((if is_repeated operands first earlier then RepeatedOperand (place_of first) ∷ [] else faults_among names (next_expected operands) first)
+      ++ faults_inside names false (earlier ++ first ∷ []) (later_expected operands) rest)
+
+-- where any name may stand, as in documents
+abbrev pub faults : Expected → Tree → List Fault
+faults = faults_among None
+
+abbrev pub faults_in : Bool → List Tree → Operands → Trees → List Fault
+faults_in = faults_inside None
 
 -- of the annotations in front
-abbrev pub annotation_faults : Trees → List Fault
-annotation_faults Empty = []
-annotation_faults (Then first rest) = if is_annotation first then faults Annotation first ++ annotation_faults rest else []
+abbrev pub annotation_faults : Option Names → Trees → List Fault
+annotation_faults names Empty = []
+annotation_faults names (Then first rest) = if is_annotation first then faults_among names Annotation first ++ annotation_faults names rest else []
 
 -- .. if there may be annotations where such a tree is expected
-abbrev pub front_faults : Expected → Trees → List Fault
-front_faults expected trees = if may_be_annotated expected then annotation_faults trees else []
+abbrev pub front_faults : Option Names → Expected → Trees → List Fault
+front_faults names expected trees = if may_be_annotated expected then annotation_faults names trees else []
 
 -- what is wrong with a form whose keyword has no shape where it stands
 abbrev pub misplaced : ℕ → List ℕ → Fault
@@ -108,22 +117,28 @@ misplaced at keyword =
 -- ---- of documents
 
 -- where each of the trees is expected to be the same
-abbrev pub each_faults : Expected → Trees → List Fault
-each_faults expected Empty = []
-each_faults expected (Then first rest) = faults expected first ++ each_faults expected rest
+abbrev pub each_faults : Option Names → Expected → Trees → List Fault
+each_faults names expected Empty = []
+each_faults names expected (Then first rest) = faults_among names expected first ++ each_faults names expected rest
 
 -- statements: each tree is expected to be an axiom
 abbrev pub axiom_faults : Trees → List Fault
-axiom_faults trees = each_faults Axiom trees
+axiom_faults trees = each_faults None Axiom trees
 
 -- what an ontology holds: some names, then annotations, then axioms
-abbrev pub ontology_faults : (names : ℕ) → Trees → List Fault
-ontology_faults names Empty = []
-ontology_faults names (Then first rest) =
-    if is_name first then (if nat_lt 0 names then [] else WrongShape (place_of first) ∷ []) ++ ontology_faults (names - 1) rest
-    else (if is_annotation first then faults Annotation first ++ ontology_faults 0 rest
-    else axiom_faults (Then first rest))
+abbrev pub ontology_faults : Option Names → (count : ℕ) → Trees → List Fault
+ontology_faults names count Empty = []
+ontology_faults names count (Then first rest) =
+    if is_name first then (if nat_lt 0 count then [] else WrongShape (place_of first) ∷ []) ++ ontology_faults names (count - 1) rest
+    else (if is_annotation first then faults_among names Annotation first ++ ontology_faults names 0 rest
+    else each_faults names Axiom (Then first rest))
 
 -- at most two names: of the ontology and of its version (section 3.1)
 abbrev pub document_faults : Trees → List Fault
-document_faults trees = ontology_faults 2 trees
+document_faults trees = ontology_faults None 2 trees
+
+-- ---- of expressions
+
+-- a class expression over the names of an ontology
+abbrev pub expression_faults : Names → Tree → List Fault
+expression_faults names tree = faults_among (Some names) ClassExpression tree

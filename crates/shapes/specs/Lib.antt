@@ -2,6 +2,8 @@ pub mod Shapes
 pub mod Keywords
 pub mod Names
 pub mod SameTree
+pub mod Writes
+pub mod TreeLaws
 pub mod Faults
 pub mod View
 pub mod Examples

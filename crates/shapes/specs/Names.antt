@@ -1,8 +1,12 @@
 -- Which IRIs may name what (OWL 2 Structural Specification, sections 2.4, 5.1, 5.3, 5.5 and 5.6).
-use Rattle.std.specs.Prelude.{ℕ, List, Bool, true, false, ◌||◌, not, codes, nat_eq}
-use Rattle.std.specs.List.{starts_with}
+use Rattle.std.specs.Prelude.{ℕ, List, Bool, true, false, ◌||◌, not, Option, Some, None, codes, nat_eq}
+use Rattle.std.specs.List.{list_any, starts_with}
 use Rattle.std.specs.Str.{bytes_eq}
 use Rattle.axioms.specs.Expression.{owl_thing, owl_nothing}
+use Rattle.axioms.specs.Growth.{names_of}
+use Rattle.axioms.specs.Numbered.{Names}
+use Rattle.axioms.specs.declared.terms.Kind.{Kind}
+use Rattle.axioms.specs.declared.terms.Kind.TheVariants as kinds
 use Rattle.shapes.specs.declared.expected.Expected.{Expected}
 use Rattle.shapes.specs.declared.expected.Expected.TheVariants.{Axiom, Annotation, Entity, ClassExpression, Class, Property, PropertyOrChain, Individual}
 
@@ -33,3 +37,21 @@ may_be_name Axiom = false
 may_be_name Annotation = false
 may_be_name Entity = false
 may_be_name _ = true
+
+-- the kind of the names that an ontology has for what is expected; it has none for what an annotation speaks of
+abbrev pub kind_of : Expected → Option Kind
+kind_of ClassExpression = Some kinds.Class
+kind_of Class = Some kinds.Class
+kind_of Property = Some kinds.Property
+kind_of PropertyOrChain = Some kinds.Property
+kind_of Individual = Some kinds.Individual
+kind_of _ = None
+
+abbrev pub is_of_kind : Names → Option Kind → List ℕ → Bool
+is_of_kind names None iri = true
+is_of_kind names (Some kind) iri = list_any (bytes_eq iri) (names_of names kind)
+
+-- whether there is such a name: any, or one of an ontology's names where only these may stand
+abbrev pub is_there : Option Names → Expected → List ℕ → Bool
+is_there None expected iri = true
+is_there (Some names) expected iri = is_of_kind names (kind_of expected) iri

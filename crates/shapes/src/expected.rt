@@ -1,8 +1,11 @@
 //! What may stand where.
 
 ghost use Rattle.std.specs.Prelude.{◌≡◌};
+ghost use Rattle.shapes.specs.Names.{kind_of};
 ghost use Rattle.shapes.specs.Shapes.{fits_count, later_expected, may_be_annotated, next_expected, wants_distinct};
 ghost use Rattle.shapes.specs.View.{operands_view};
+
+use axioms::Kind;
 
 /// What is expected at a place.
 #[derive(Clone, Copy, Debug, PartialEq, Eq)]
@@ -25,6 +28,18 @@ pub enum Expected {
 }
 
 impl Expected {
+    /// The kind of the names that an ontology has for what is expected, if it has any.
+    pub fn kind(self) -> Option<Kind>
+        ensures { result ≡ kind_of self }
+    {
+        match self {
+            Expected::ClassExpression | Expected::Class => Some(Kind::Class),
+            Expected::Property | Expected::PropertyOrChain => Some(Kind::Property),
+            Expected::Individual => Some(Kind::Individual),
+            _ => None,
+        }
+    }
+
     /// Whether annotations may stand in front of the operands.
     pub fn may_be_annotated(self) -> bool
         ensures { result ≡ may_be_annotated self }

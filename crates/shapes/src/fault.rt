@@ -18,6 +18,8 @@ pub enum Fault {
     ReservedName { at: usize },
     /// Anonymous individuals are not in the profile.
     Anonymous { at: usize },
+    /// The ontology has no such name.
+    UnknownName { at: usize },
 }
 
 impl fmt::Display for Fault {
@@ -35,6 +37,7 @@ impl fmt::Display for Fault {
             Fault::RepeatedOperand { at } => write!(f, "F4 at byte {at}"),
             Fault::ReservedName { at } => write!(f, "F5 at byte {at}"),
             Fault::Anonymous { at } => write!(f, "F6 at byte {at}"),
+            Fault::UnknownName { at } => write!(f, "F8 at byte {at}"),
         }
     }
 }

@@ -4,16 +4,18 @@
 ghost use Rattle.shapes.specs.Examples.{EveryFaultIsTold, OrderIsTold, RepeatedOperandIsTold};
 ghost use Rattle.shapes.specs.Laws.{EachTreeIsItself, KeywordsAreApart};
 
+mod context;
 mod equality;
 mod expected;
 mod fault;
 mod keywords;
 mod names;
+mod operand;
 mod walk;
 
 pub use expected::{Expected, Operands};
 pub use fault::Fault;
-pub use walk::{Version, annotation_count, document_faults};
+pub use walk::{Version, annotation_count, axiom_faults, document_faults, expression_faults};
 
 /// The faults of small documents.
 pub fn worked_documents()

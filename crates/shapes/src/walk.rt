@@ -1,20 +1,28 @@
 //! Every fault of a document's trees, in the order of the text.
 
-ghost use Rattle.std.specs.Prelude.{◌≡◌, ◌≤◌, ◌++◌, ◌∷◌, [], drop, false, length, map, OnOk, IfOk};
+ghost use Rattle.std.specs.Prelude.{◌≡◌, ◌≤◌, ◌++◌, ◌∷◌, [], drop, false, length, map, true, OnOk, IfOk};
 ghost use Rattle.fs_parser.specs.Tree.{Form};
 ghost use Rattle.fs_parser.specs.View.{iri_of, tree_of, trees_of};
 ghost use Rattle.shapes.specs.Faults as spec;
-ghost use Rattle.shapes.specs.Faults.{behind_annotations, each_faults, faults, faults_in, front_faults, is_annotation, is_name, is_repeated, literal_faults, misplaced, name_faults, ontology_faults, own_trees};
-ghost use Rattle.shapes.specs.View.{fault_of, faults_of, operands_view};
+ghost use Rattle.shapes.specs.Faults.{behind_annotations, each_faults, faults_among, faults_inside, front_faults, is_annotation, is_name, is_repeated, literal_faults, misplaced, name_faults, ontology_faults, own_trees};
+ghost use Rattle.shapes.specs.Shapes.{Many};
+ghost use Rattle.shapes.specs.View.{fault_of, faults_of, names_of, operands_view};
 
+use crate::context::Context;
 use crate::equality::is_among;
 use crate::expected::{Expected, Operands};
 use crate::fault::Fault;
 use crate::keywords::{is_known, is_refused, operands_of};
 use crate::names::{is_allowed, may_be_name};
-use axioms::Memory;
+use crate::operand::is_new;
+use axioms::{Memory, Ontology};
 use fs_parser::{Document, Iri, Tree};
+use indexmap::IndexSet;
 use std::alloc::Global;
+use std::hash::RandomState;
+
+/// How many operands are compared one by one; more are found in a table.
+const FEW_OPERANDS: usize = 8;
 
 /// Which constructs are taken.
 #[derive(Clone, Copy, Debug, PartialEq, Eq)]
@@ -96,18 +104,22 @@ fn is_repeated(operands: Operands<'_>, next: &Tree<'_>, earlier: &[Tree<'_>]) ->
 
 /// The fault of a name, if it has one.
 fn name_faults(
+    context: &Context<'_>,
     found: &mut Vec<Fault>,
     expected: Expected,
     at: usize,
     iri: &Iri<'_>,
 ) -> Result<(), Memory>
-    ensures { OnOk result (faults_of found.new.items ≡ faults_of found.old.items ++ name_faults expected at (iri_of iri.now)) }
+    ensures { OnOk result (faults_of found.new.items ≡ faults_of found.old.items ++ name_faults (names_of context.now) expected at (iri_of iri.now)) }
 {
     if !may_be_name(expected) {
         return tell(found, Fault::WrongShape { at });
     }
     if !is_allowed(expected, iri) {
         return tell(found, Fault::ReservedName { at });
+    }
+    if !context.has(expected, iri)? {
+        return tell(found, Fault::UnknownName { at });
     }
     Ok(())
 }
@@ -125,15 +137,15 @@ fn literal_faults(found: &mut Vec<Fault>, expected: Expected, at: usize) -> Resu
 /// The faults of a tree, where one is expected.
 #[cycle(faults)]
 fn tree_faults(
-    alloc: Global,
+    context: &Context<'_>,
     found: &mut Vec<Fault>,
     expected: Expected,
     tree: &Tree<'_>,
 ) -> Result<(), Memory>
-    ensures { OnOk result (faults_of found.new.items ≡ faults_of found.old.items ++ faults expected (tree_of tree.now)) }
+    ensures { OnOk result (faults_of found.new.items ≡ faults_of found.old.items ++ faults_among (names_of context.now) expected (tree_of tree.now)) }
 {
     match tree {
-        Tree::Name { at, iri } => name_faults(found, expected, *at, iri),
+        Tree::Name { at, iri } => name_faults(context, found, expected, *at, iri),
         Tree::PlainLiteral { at, .. }
         | Tree::TaggedLiteral { at, .. }
         | Tree::TypedLiteral { at, .. } => literal_faults(found, expected, *at),
@@ -142,7 +154,7 @@ fn tree_faults(
             tell(found, Fault::WrongShape { at: *at })
         }
         Tree::Form { at, keyword, trees } => form_faults(
-            alloc, found, expected, *at, keyword, trees,
+            context, found, expected, *at, keyword, trees,
         ),
     }
 }
@@ -150,35 +162,35 @@ fn tree_faults(
 /// The faults of a form with these trees in it, where one is expected.
 #[cycle(faults)]
 fn form_faults(
-    alloc: Global,
+    context: &Context<'_>,
     found: &mut Vec<Fault>,
     expected: Expected,
     at: usize,
     keyword: &str,
     trees: &[Tree<'_>],
 ) -> Result<(), Memory>
-    ensures { OnOk result (faults_of found.new.items ≡ faults_of found.old.items ++ faults expected (Form at keyword.now (trees_of trees.now))) }
+    ensures { OnOk result (faults_of found.new.items ≡ faults_of found.old.items ++ faults_among (names_of context.now) expected (Form at keyword.now (trees_of trees.now))) }
 {
     let Some(operands) = operands_of(expected, keyword) else {
-        return tell(found, misplaced(alloc, at, keyword)?);
+        return tell(found, misplaced(context.alloc, at, keyword)?);
     };
     let in_front = annotations_in_front(expected, trees);
     if !operands.fits_count(trees.len() - in_front) {
         return tell(found, Fault::WrongShape { at });
     }
-    annotation_faults(alloc, found, expected, trees)?;
-    operand_faults(alloc, found, operands, trees, in_front)
+    annotation_faults(context, found, expected, trees)?;
+    operand_faults(context, found, operands, trees, in_front)
 }
 
 /// The faults of the annotations in front, if there may be any where such a tree is expected.
 #[cycle(faults)]
 fn annotation_faults(
-    alloc: Global,
+    context: &Context<'_>,
     found: &mut Vec<Fault>,
     expected: Expected,
     trees: &[Tree<'_>],
 ) -> Result<(), Memory>
-    ensures { OnOk result (faults_of found.new.items ≡ faults_of found.old.items ++ front_faults expected (trees_of trees.now)) }
+    ensures { OnOk result (faults_of found.new.items ≡ faults_of found.old.items ++ front_faults (names_of context.now) expected (trees_of trees.now)) }
 {
     if !expected.may_be_annotated() {
         return Ok(());
@@ -187,7 +199,7 @@ fn annotation_faults(
         if !is_annotation(tree) {
             return Ok(());
         }
-        tree_faults(alloc, found, Expected::Annotation, tree)?;
+        tree_faults(context, found, Expected::Annotation, tree)?;
     }
     Ok(())
 }
@@ -195,13 +207,36 @@ fn annotation_faults(
 /// The faults of the operands behind so many trees. One that equals an earlier one, where none may, gives that alone.
 #[cycle(faults)]
 fn operand_faults(
-    alloc: Global,
+    context: &Context<'_>,
     found: &mut Vec<Fault>,
     operands: Operands<'_>,
     trees: &[Tree<'_>],
     in_front: usize,
 ) -> Result<(), Memory>
-    ensures { OnOk result (faults_of found.new.items ≡ faults_of found.old.items ++ faults_in false [] (operands_view operands.entry) (trees_of (drop in_front trees.now))) }
+    requires { in_front ≤ length trees.now }
+    ensures { OnOk result (faults_of found.new.items ≡ faults_of found.old.items ++ faults_inside (names_of context.now) false [] (operands_view operands.entry) (trees_of (drop in_front trees.now))) }
+{
+    match operands {
+        Operands::Many {
+            distinct: true,
+            operand,
+        } if trees.len() - in_front > FEW_OPERANDS => {
+            distinct_faults(context, found, operand, trees, in_front)
+        }
+        _ => few_faults(context, found, operands, trees, in_front),
+    }
+}
+
+/// The faults of few operands behind so many trees, each of which is compared to those before it.
+#[cycle(faults)]
+fn few_faults(
+    context: &Context<'_>,
+    found: &mut Vec<Fault>,
+    operands: Operands<'_>,
+    trees: &[Tree<'_>],
+    in_front: usize,
+) -> Result<(), Memory>
+    ensures { OnOk result (faults_of found.new.items ≡ faults_of found.old.items ++ faults_inside (names_of context.now) false [] (operands_view operands.entry) (trees_of (drop in_front trees.now))) }
 {
     let mut left = operands;
     for index in in_front..trees.len() {
@@ -209,31 +244,58 @@ fn operand_faults(
         if is_repeated(left, tree, &trees[in_front..index]) {
             tell(found, Fault::RepeatedOperand { at: tree.at() })?;
         } else {
-            tree_faults(alloc, found, left.next(), tree)?;
+            tree_faults(context, found, left.next(), tree)?;
         }
         left = left.later();
     }
     Ok(())
 }
 
+/// The faults of operands behind so many trees, of one kind and no two equal. Each is looked up in a table of those before it.
+#[cycle(faults)]
+fn distinct_faults(
+    context: &Context<'_>,
+    found: &mut Vec<Fault>,
+    operand: Expected,
+    trees: &[Tree<'_>],
+    in_front: usize,
+) -> Result<(), Memory>
+    ensures { OnOk result (faults_of found.new.items ≡ faults_of found.old.items ++ faults_inside (names_of context.now) false [] (Many true operand) (trees_of (drop in_front trees.now))) }
+{
+    let mut seen = IndexSet::with_hasher(context.alloc, context.state);
+    for index in in_front..trees.len() {
+        let tree = &trees[index];
+        if is_new(&mut seen, tree)? {
+            tree_faults(context, found, operand, tree)?;
+        } else {
+            tell(found, Fault::RepeatedOperand { at: tree.at() })?;
+        }
+    }
+    Ok(())
+}
+
 /// The faults of trees that are each expected to be the same.
 fn each_faults(
-    alloc: Global,
+    context: &Context<'_>,
     found: &mut Vec<Fault>,
     expected: Expected,
     trees: &[Tree<'_>],
 ) -> Result<(), Memory>
-    ensures { OnOk result (faults_of found.new.items ≡ faults_of found.old.items ++ each_faults expected (trees_of trees.now)) }
+    ensures { OnOk result (faults_of found.new.items ≡ faults_of found.old.items ++ each_faults (names_of context.now) expected (trees_of trees.now)) }
 {
     for tree in trees {
-        tree_faults(alloc, found, expected, tree)?;
+        tree_faults(context, found, expected, tree)?;
     }
     Ok(())
 }
 
 /// The faults of what an ontology holds: at most two names, then annotations, then axioms.
-fn ontology_faults(alloc: Global, found: &mut Vec<Fault>, trees: &[Tree<'_>]) -> Result<(), Memory>
-    ensures { OnOk result (faults_of found.new.items ≡ faults_of found.old.items ++ ontology_faults 2 (trees_of trees.now)) }
+fn ontology_faults(
+    context: &Context<'_>,
+    found: &mut Vec<Fault>,
+    trees: &[Tree<'_>],
+) -> Result<(), Memory>
+    ensures { OnOk result (faults_of found.new.items ≡ faults_of found.old.items ++ ontology_faults (names_of context.now) 2 (trees_of trees.now)) }
 {
     let mut names_left: usize = 2;
     for (index, tree) in trees.iter().enumerate() {
@@ -244,27 +306,92 @@ fn ontology_faults(alloc: Global, found: &mut Vec<Fault>, trees: &[Tree<'_>]) ->
                 names_left -= 1;
             }
         } else if is_annotation(tree) {
-            tree_faults(alloc, found, Expected::Annotation, tree)?;
+            tree_faults(context, found, Expected::Annotation, tree)?;
             names_left = 0;
         } else {
-            return each_faults(alloc, found, Expected::Axiom, &trees[index..]);
+            return each_faults(context, found, Expected::Axiom, &trees[index..]);
         }
     }
     Ok(())
 }
 
-/// Every fault of a document, in the order of the text.
+/// Every fault of a document, in the order of the text. Its tables hash by `state`.
+///
+/// # Errors
+///
+/// `Memory` where memory was refused.
 pub fn document_faults(
     alloc: Global,
     document: &Document<'_>,
     version: Version,
+    state: RandomState,
 ) -> Result<Vec<Fault>, Memory>
     ensures { IfOk result (λ found. faults_of found.items ≡ spec.document_faults (trees_of document.now.trees.items)) }
 {
     match version {
         Version::V1 => {
+            let context = Context {
+                alloc,
+                state,
+                ontology: None,
+            };
             let mut found = Vec::new(alloc);
-            ontology_faults(alloc, &mut found, &document.trees)?;
+            ontology_faults(&context, &mut found, &document.trees)?;
+            Ok(found)
+        }
+    }
+}
+
+/// Every fault of trees that are each expected to be an axiom or a declaration, in the order of the text.
+///
+/// # Errors
+///
+/// `Memory` where memory was refused.
+pub fn axiom_faults(
+    alloc: Global,
+    trees: &[Tree<'_>],
+    version: Version,
+    state: RandomState,
+) -> Result<Vec<Fault>, Memory>
+    ensures { IfOk result (λ found. faults_of found.items ≡ spec.axiom_faults (trees_of trees.now)) }
+{
+    match version {
+        Version::V1 => {
+            let context = Context {
+                alloc,
+                state,
+                ontology: None,
+            };
+            let mut found = Vec::new(alloc);
+            each_faults(&context, &mut found, Expected::Axiom, trees)?;
+            Ok(found)
+        }
+    }
+}
+
+/// Every fault of a tree that is expected to be a class expression over the names of the ontology, in the order of the text.
+///
+/// # Errors
+///
+/// `Memory` where memory was refused.
+pub fn expression_faults(
+    alloc: Global,
+    ontology: &Ontology,
+    tree: &Tree<'_>,
+    version: Version,
+    state: RandomState,
+) -> Result<Vec<Fault>, Memory>
+    ensures { IfOk result (λ found. faults_of found.items ≡ spec.expression_faults ontology.now.names (tree_of tree.now)) }
+{
+    match version {
+        Version::V1 => {
+            let context = Context {
+                alloc,
+                state,
+                ontology: Some(ontology),
+            };
+            let mut found = Vec::new(alloc);
+            tree_faults(&context, &mut found, Expected::ClassExpression, tree)?;
             Ok(found)
         }
     }

@@ -1,27 +1,21 @@
-use Rattle.std.proofs.Common.{Ok, arith, sym, subst}
+use Rattle.std.proofs.Common.{Ok, sym, subst}
 use Rattle.axioms.specs.Numbered.{Ontology}
 use Rattle.fs_parser.specs.View.{trees_of}
 use Rattle.statements.specs.Statements.{statements}
 use Rattle.profile.specs.Additions.{OntologyRead}
-use Rattle.profile.proofs.Adding.{all_read, none_read, part_read, part_refused}
-use Rattle.profile.proofs.Holding.{part_there}
+use Rattle.profile.proofs.Adding.{read_from_nothing, refused_from_nothing}
+use Rattle.profile.proofs.Holding.{parts}
 use Rattle.profile.proofs.building.ontology_of.Goals as goal
 
-pub loop-tree-init : goal.loop-tree-init
-loop-tree-init c = none_read c.in-Ok.builder c.well_formed-2.ensures c.in-Ok.ensures
+pub add_parts-requires : goal.add_parts-requires
+add_parts-requires c = parts 2 (trees_of c.args.trees.now) c.requires
 
-pub part-requires : goal.part-requires
-part-requires c = part_there c.args.trees.now c.loop-tree.tree-index c.tree-item.result c.requires c.loop-tree-test.true c.tree-item.is
+pub returns-in-Ok-add_parts : goal.returns-in-Ok-add_parts
+returns-in-Ok-add_parts c =
+    let ss = statements (trees_of c.args.trees.now) in
+    subst (λ (o : Ontology). OntologyRead (Ok o) ss) (sym c.finish.ensures)
+    (read_from_nothing ss c.in-Ok.builder c.add_parts.new.builder c.in-Ok.ensures c.in-Ok-add_parts.ensures)
 
-pub returns-in-Err-part : goal.returns-in-Err-part
-returns-in-Err-part c =
-    part_refused c.args.trees.now c.loop-tree.tree-index c.loop-tree.builder c.loop-tree.invariant c.tree-item.result c.part.new.builder c.loop-tree-test.true c.tree-item.is c.in-Err-part.fault c.in-Err-part.ensures
-
-pub loop-tree-preserved : goal.loop-tree-preserved
-loop-tree-preserved c =
-    part_read c.args.trees.now c.loop-tree.tree-index c.loop-tree.builder c.loop-tree.invariant c.tree-item.result c.part.new.builder c.loop-tree-test.true c.tree-item.is c.in-Ok-part.ensures
-
-pub returns : goal.returns
-returns c =
-    subst (λ (o : Ontology). OntologyRead (Ok o) (statements (trees_of c.args.trees.now))) (sym c.finish.ensures)
-    (all_read c.args.trees.now c.loop-tree.tree-index c.loop-tree.builder c.loop-tree.invariant (omega (arith, c.loop-tree-test.false)))
+pub returns-in-Err-add_parts : goal.returns-in-Err-add_parts
+returns-in-Err-add_parts c =
+    refused_from_nothing (statements (trees_of c.args.trees.now)) c.in-Ok.builder c.add_parts.new.builder c.in-Ok.ensures c.in-Err-add_parts.fault c.in-Err-add_parts.ensures
