@@ -12,3 +12,4 @@ pub mod LineMeaning
 pub mod RowMeaning
 pub mod Meaning
 pub mod LinesLeft
+pub mod LineTexts

@@ -70,7 +70,7 @@ axiom_tests o (Some n) h small = (
 abbrev pub IsPremise : ℕ → Type 0
 IsPremise n = (1 ≤ n) × (n < 2 ^ 64)
 
-premise_means : (n : ℕ) → is_premise n ≡ true → IsPremise n
+pub premise_means : (n : ℕ) → is_premise n ≡ true → IsPremise n
 premise_means n t = let p = and_parts (leb 1 n) (ltb n (2 ^ 64)) t in (leb-true 1 n p.0, ltb-true n (2 ^ 64) p.1)
 
 premise_tests : (n : ℕ) → IsPremise n → is_premise n ≡ true

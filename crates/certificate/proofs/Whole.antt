@@ -36,14 +36,14 @@ no_conclusion : (rest : List ℕ) → NoLine rest → conclusion_at rest ≡ Non
 unfolding conclusion_at
 no_conclusion rest h = rw (h.0, h.1) refl
 
-no_line : (rest : List ℕ) → NoLine rest → line_at rest ≡ None
+pub no_line : (rest : List ℕ) → NoLine rest → line_at rest ≡ None
 unfolding line_at
 no_line rest h = rw (no_conclusion rest h) refl
 
 abbrev pub FitsLineOf : Ontology → Option Line → Line → Type 0
 FitsLineOf o last line = FitsLine line × (fits_line o line ≡ true)
 
-line_follows : (line : Line) → 0 < length (line_text line)
+pub line_follows : (line : Line) → 0 < length (line_text line)
 line_follows line = omega (arith, length-append (line_front line) line_feed)
 
 pub each_line_reads : (o : Ontology) → ReadsEach Anything NoLine (FitsLineOf o) line_text (λ last. fitting_line_at o)

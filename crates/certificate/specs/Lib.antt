@@ -9,3 +9,4 @@ pub mod Fitting
 pub mod ListedReading
 pub mod Outcome
 pub mod Remaining
+pub mod LineText

@@ -56,7 +56,8 @@ fn is_premise(number: u64) -> bool
     1 <= number
 }
 
-fn are_premises(numbers: &[u64]) -> bool
+/// Whether the numbers may be those of lines.
+pub fn are_premises(numbers: &[u64]) -> bool
     ensures { result ≡ list_all is_premise numbers.now }
 {
     numbers.iter().all(|number| is_premise(*number))

@@ -1,5 +1,9 @@
 //! The lines of a derivation.
 
+ghost use Rattle.certificate.specs.LineText.{source_of};
+ghost use Rattle.certificate.specs.View.{conclusion_of, subject_of};
+ghost use Rattle.std.specs.Prelude.{◌≡◌};
+
 use axioms::{ExprId, IndId, PropId};
 
 /// What a line is about: the extension of an expression, or the one element of an individual.
@@ -16,6 +20,18 @@ pub enum Conclusion {
     Sub(Subject, ExprId),
     /// Each element of the first subject has a successor by the property in the second.
     Edge(Subject, PropId, Subject),
+}
+
+impl Conclusion {
+    /// What it speaks of: the subject, or the start of an edge.
+    pub fn source(self) -> Subject
+        ensures { subject_of result ≡ source_of (conclusion_of self) }
+    {
+        match self {
+            Conclusion::Sub(subject, _) => subject,
+            Conclusion::Edge(source, _, _) => source,
+        }
+    }
 }
 
 /// The rules of certificates, format 1.

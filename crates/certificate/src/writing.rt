@@ -103,7 +103,8 @@ fn push_elements(out: &mut Vec<u8>, elements: &[u32]) -> Result<(), AllocError>
     Ok(())
 }
 
-fn push_line(out: &mut Vec<u8>, line: &Line) -> Result<(), AllocError>
+/// The line.
+pub(crate) fn push_line(out: &mut Vec<u8>, line: &Line) -> Result<(), AllocError>
     ensures { OnOk result (out.new.items ≡ out.old.items ++ text.line_text (line_of line.now)) }
 {
     push_conclusion(out, line.conclusion)?;
@@ -191,7 +192,8 @@ fn push_claims(out: &mut Vec<u8>, claims: &[Claim]) -> Result<(), AllocError>
     Ok(())
 }
 
-fn push_listed(out: &mut Vec<u8>, listed: &Listed) -> Result<(), AllocError>
+/// What is listed.
+pub(crate) fn push_listed(out: &mut Vec<u8>, listed: &Listed) -> Result<(), AllocError>
     ensures { OnOk result (out.new.items ≡ out.old.items ++ text.listed_text (Some (listed_of listed.now))) }
 {
     push_number(out, b"domain ", u64::from(listed.domain))?;

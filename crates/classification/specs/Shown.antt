@@ -1,8 +1,10 @@
 -- What a classification finds, and what its certificate shows.
-use Rattle.std.specs.Prelude.{List, [], Bool, true, false, Some, None}
+use Rattle.std.specs.Prelude.{ℕ, List, [], Bool, true, false, Some, None}
 use Rattle.std.specs.declared.option.Option.{Option}
 use Rattle.axioms.specs.Numbered.{Ontology}
-use Rattle.certificate.specs.Certificate.{Line, Listed}
+use Rattle.cert_check.specs.Derivation.{IsDerivation}
+use Rattle.certificate.specs.Certificate.{Line, Listed, Certificate}
+use Rattle.certificate.specs.HasText.{IsTextOf}
 use Rattle.classification.specs.Lists.{IsTaxonomyOf, AreTypesOf}
 use Rattle.exactness.specs.Acceptance.{IsListedFor}
 use Rattle.exactness.specs.Theorems.{HaveFacts}
@@ -21,3 +23,10 @@ abbrev pub AreShown : Ontology → Bool → List Line → Option Listed → Type
 AreShown o true lines (Some listed) = HaveFacts o [] lines × IsListedFor o listed
 AreShown o false lines None = ShowsContradiction lines
 AreShown o _ lines _ = ⊥
+
+-- the text is that of a certificate of a derivation that shows it
+pub record IsCertificateOf (o : Ontology) (consistent : Bool) (text : List ℕ) : Type 0 where
+  pub certificate : Certificate
+  pub text_of : IsTextOf o text certificate
+  pub derivation : IsDerivation o certificate.lines
+  pub shown : AreShown o consistent certificate.lines certificate.listed

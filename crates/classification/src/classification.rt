@@ -1,24 +1,18 @@
 //! A classification with its texts.
 ghost use Rattle.cert_check.specs.Acceptable.{IsAcceptable};
-ghost use Rattle.cert_check.specs.Derivation.{IsDerivation};
-ghost use Rattle.certificate.specs.HasText.{HasText, IsListedOf, listed_numbers};
-ghost use Rattle.certificate.specs.Text.{certificate_text};
-ghost use Rattle.certificate.specs.View.{certificate_from, lines_of, listed_of};
 ghost use Rattle.classification.specs.Classified.{AreCountsOf, AreTextsOf};
-ghost use Rattle.classification.specs.Shown.{AreShown, IsOutcomeOf};
+ghost use Rattle.classification.specs.Shown.{IsCertificateOf, IsOutcomeOf};
 ghost use Rattle.closure_model.specs.Listed.{IsConsistent};
 ghost use Rattle.engine.specs.Saturated.{HasMoreFactsThan, IsSaturated};
 ghost use Rattle.saturate.specs.declared.known_facts.Stop.TheVariants as stops;
-ghost use Rattle.std.specs.Prelude.{◌↔◌, ◌≡◌, ◌<◌, ◌≤◌, ◌^◌, [], All, Err, IfOk, IfSome, IsTrue, false, length, option_map, true};
-ghost use Rattle.taxonomy.specs.Outcome.{IsMadeFor, instances_of, taxonomy_of};
+ghost use Rattle.std.specs.Prelude.{◌↔◌, ◌≡◌, ◌≤◌, [], Err, IfOk, IsTrue, false, length, true};
 
 use crate::consistent::is_consistent;
 use crate::relation::taxonomy_of;
 use crate::types::types_of;
 use axioms::{Memory, Ontology};
-use certificate::{Certificate, Line, Listed, certificate_bytes};
 use engine::{Saturation, Stop, saturated};
-use explain::{contradiction, lines};
+use explain::{contradiction_text, line_text};
 use listing::listed;
 use std::alloc::Global;
 use std::hash::RandomState;
@@ -72,67 +66,51 @@ fn outcome(
     }
 }
 
-/// The certificate of these lines and of this interpretation.
-fn certified(ontology: &Ontology, lines: Vec<Line>, listed: Option<Listed>) -> Certificate
-    requires derivation { IsDerivation ontology.now (lines_of lines.items) }
-    requires listed { IfSome (option_map listed_of listed) (IsListedOf ontology.now) }
-    requires numbers { All (λ n. n < 2 ^ 32) (listed_numbers (option_map listed_of listed)) }
-    ensures made { result ≡ certificate_from lines.items listed }
-    ensures text { HasText ontology.now result }
-{
-    ontology.bounded();
-    match Certificate::new(ontology, lines, listed) {
-        Ok(certificate) => certificate,
-        // All its numbers can be written.
-        Err(_) => unreachable!(),
-    }
-}
-
-/// The certificate of a consistent closure: a derivation of all its facts, with the interpretation that it lists.
+/// The text of the certificate of a consistent closure: a derivation of all its facts, with the interpretation that it lists.
 fn certificate_of_closure(
     alloc: Global,
     ontology: &Ontology,
     saturation: &Saturation,
-) -> Result<Certificate, Memory>
+) -> Result<Vec<u8>, Memory>
     requires saturated { IsSaturated ontology.now saturation.now }
     requires consistent { IsConsistent ontology.now [] }
-    ensures text { IfOk result (HasText ontology.now) }
-    ensures derivation { IfOk result (λ c. IsDerivation ontology.now c.lines) }
-    ensures shown { IfOk result (λ c. AreShown ontology.now true c.lines c.listed) }
+    ensures { IfOk result (λ v. IsCertificateOf ontology.now true v.items) }
 {
-    let lines = lines(alloc, ontology, saturation)?;
+    ontology.bounded();
+    let lines = line_text(alloc, ontology, saturation)?;
+    lines.bounded();
     let listed = listed(alloc, ontology, saturation)?;
-    Ok(certified(ontology, lines, Some(listed)))
+    let text = lines.with_listed(&listed)?;
+    Ok(text)
 }
 
-/// The certificate of a contradiction: a derivation of it.
+/// The text of the certificate of a contradiction: a derivation of it.
 fn certificate_of_contradiction(
     alloc: Global,
     ontology: &Ontology,
     saturation: &Saturation,
-) -> Result<Certificate, Memory>
+) -> Result<Vec<u8>, Memory>
     requires saturated { IsSaturated ontology.now saturation.now }
     requires contradictory { IsConsistent ontology.now [] → ⊥ }
-    ensures text { IfOk result (HasText ontology.now) }
-    ensures derivation { IfOk result (λ c. IsDerivation ontology.now c.lines) }
-    ensures shown { IfOk result (λ c. AreShown ontology.now false c.lines c.listed) }
+    ensures { IfOk result (λ v. IsCertificateOf ontology.now false v.items) }
 {
-    let lines = contradiction(alloc, ontology, saturation)?;
-    Ok(certified(ontology, lines, None))
+    ontology.bounded();
+    let lines = contradiction_text(alloc, ontology, saturation)?;
+    lines.bounded();
+    let text = lines.alone(alloc)?;
+    Ok(text)
 }
 
-/// The certificate of the closure, or of the contradiction that it has.
+/// The text of the certificate of the closure, or of the contradiction that it has.
 fn certificate_of(
     alloc: Global,
     ontology: &Ontology,
     saturation: &Saturation,
     consistent: bool,
-) -> Result<Certificate, Memory>
+) -> Result<Vec<u8>, Memory>
     requires saturated { IsSaturated ontology.now saturation.now }
     requires consistent { IsTrue consistent ↔ IsConsistent ontology.now [] }
-    ensures text { IfOk result (HasText ontology.now) }
-    ensures derivation { IfOk result (λ c. IsDerivation ontology.now c.lines) }
-    ensures shown { IfOk result (λ c. AreShown ontology.now consistent c.lines c.listed) }
+    ensures { IfOk result (λ v. IsCertificateOf ontology.now consistent v.items) }
 {
     if consistent {
         certificate_of_closure(alloc, ontology, saturation)
@@ -156,29 +134,24 @@ fn counted(ontology: &Ontology, saturation: &Saturation, consistent: bool) -> Su
     }
 }
 
-/// The texts of an outcome and of a certificate, with these counts.
-fn told(
+/// The taxonomy and the instances of the closure.
+fn relation_texts(
     alloc: Global,
     ontology: &Ontology,
-    summary: Summary,
-    outcome: &Outcome,
-    certificate: &Certificate,
-) -> Result<Classification, Memory>
-    requires { IsMadeFor ontology.now outcome.now }
-    ensures summary { IfOk result (λ c. c.summary ≡ summary) }
-    ensures taxonomy { IfOk result (λ c. c.taxonomy.items ≡ taxonomy_of ontology.now outcome.now) }
-    ensures instances { IfOk result (λ c. c.instances.items ≡ instances_of ontology.now outcome.now) }
-    ensures certificate { IfOk result (λ c. c.certificate.items ≡ certificate_text certificate.now) }
+    saturation: &Saturation,
+    consistent: bool,
+) -> Result<(Vec<u8>, Vec<u8>), Memory>
+    requires { IsSaturated ontology.now saturation.now }
+    ensures { IfOk result (λ texts. AreTextsOf ontology.now consistent texts.0.items texts.1.items) }
 {
-    Ok(Classification {
-        summary,
-        taxonomy: taxonomy_bytes(alloc, ontology, outcome)?,
-        instances: instances_bytes(alloc, ontology, outcome)?,
-        certificate: certificate_bytes(alloc, certificate)?,
-    })
+    let outcome = outcome(alloc, ontology, saturation, consistent)?;
+    let taxonomy = taxonomy_bytes(alloc, ontology, &outcome)?;
+    let instances = instances_bytes(alloc, ontology, &outcome)?;
+    Ok((taxonomy, instances))
 }
 
-/// The classification of a saturated ontology.
+/// The classification of a saturated ontology. The relations are made and told before there is a line of the certificate, whose text
+/// is the largest of all.
 fn classified(
     alloc: Global,
     ontology: &Ontology,
@@ -193,11 +166,30 @@ fn classified(
 {
     ontology.well_formed();
     let consistent = is_consistent(ontology, saturation);
+    let (taxonomy, instances) = relation_texts(alloc, ontology, saturation, consistent)?;
     let certificate = certificate_of(alloc, ontology, saturation, consistent)?;
-    let outcome = outcome(alloc, ontology, saturation, consistent)?;
-    let summary = counted(ontology, saturation, consistent);
-    let classification = told(alloc, ontology, summary, &outcome, &certificate)?;
-    Ok(classification)
+    Ok(Classification {
+        summary: counted(ontology, saturation, consistent),
+        taxonomy,
+        instances,
+        certificate,
+    })
+}
+
+/// The classification of an ontology with this saturation, which goes.
+fn classification_of(
+    alloc: Global,
+    ontology: &Ontology,
+    saturation: Saturation,
+) -> Result<Classification, Memory>
+    requires { IsSaturated ontology.now saturation }
+    ensures counts { IfOk result (λ c. AreCountsOf ontology.now c.summary) }
+    ensures facts { IfOk result (λ c. c.summary.facts ≡ length saturation.state.facts) }
+    ensures texts { IfOk result (λ c. AreTextsOf ontology.now c.summary.consistent c.taxonomy.items c.instances.items) }
+    ensures acceptable { IfOk result
+        (λ c. IsAcceptable ontology.now c.taxonomy.items c.instances.items c.certificate.items) }
+{
+    classified(alloc, ontology, &saturation)
 }
 
 /// The classification of an ontology whose closure has at most `max_facts` facts.
@@ -220,11 +212,12 @@ pub fn classify(
         (λ c. IsAcceptable ontology.now c.taxonomy.items c.instances.items c.certificate.items) }
     ensures limit { result ≡ Err stops.Limit → HasMoreFactsThan ontology.now max_facts }
 {
-    match saturated(alloc, state, ontology, max_facts) {
-        Ok(saturation) => match classified(alloc, ontology, &saturation) {
-            Ok(classification) => Ok(classification),
-            Err(_) => Err(Stop::Memory),
-        },
-        Err(stop) => Err(stop),
+    let saturation = match saturated(alloc, state, ontology, max_facts) {
+        Ok(saturation) => saturation,
+        Err(stop) => return Err(stop),
+    };
+    match classification_of(alloc, ontology, saturation) {
+        Ok(classification) => Ok(classification),
+        Err(_) => Err(Stop::Memory),
     }
 }

@@ -5,14 +5,59 @@ ghost use Rattle.closure_model.specs.Listed.{IsConsistent};
 ghost use Rattle.engine.specs.Saturated.{IsSaturated};
 ghost use Rattle.exactness.specs.Theorems.{HaveFacts};
 ghost use Rattle.explain.specs.Needed.{EachIsNeeded, ShowsContradiction};
-ghost use Rattle.std.specs.Prelude.{IfOk, []};
+ghost use Rattle.std.specs.Prelude.{◌≡◌, [], IfOk, OnOk};
 
-use crate::shown::lines_for;
+use crate::shown::add_lines;
 use crate::wanted::{first_contradiction, wanted};
 use axioms::{Memory, Ontology};
-use certificate::Line;
+use certificate::{Line, LineText};
 use engine::Saturation;
+use fact_lines::{Derivation, LineList, LineSink};
 use std::alloc::Global;
+
+/// Adds a derivation with a line for each named class that is a fact of a named class or of an individual.
+///
+/// # Errors
+///
+/// `Memory` where memory was refused, or 32 bits do not count the facts.
+fn add_facts<L: LineSink>(
+    alloc: Global,
+    ontology: &Ontology,
+    saturation: &Saturation,
+    derivation: &mut Derivation<L>,
+) -> Result<(), Memory>
+    requires saturated { IsSaturated ontology.now saturation.now }
+    requires none { derivation.old ≡ [] }
+    ensures derivation { OnOk result (IsDerivation ontology.now derivation.new) }
+    ensures facts { OnOk result (HaveFacts ontology.now [] derivation.new) }
+    ensures needed { OnOk result (EachIsNeeded ontology.now derivation.new) }
+{
+    let marks = wanted(alloc, ontology, saturation.facts())?;
+    add_lines(alloc, ontology, saturation, marks, derivation)
+}
+
+/// Adds a derivation of a contradiction, where there is one.
+///
+/// # Errors
+///
+/// `Memory` where memory was refused, or 32 bits do not count the facts.
+fn add_contradiction<L: LineSink>(
+    alloc: Global,
+    ontology: &Ontology,
+    saturation: &Saturation,
+    derivation: &mut Derivation<L>,
+) -> Result<(), Memory>
+    requires saturated { IsSaturated ontology.now saturation.now }
+    requires contradictory { IsConsistent ontology.now [] → ⊥ }
+    requires none { derivation.old ≡ [] }
+    ensures derivation { OnOk result (IsDerivation ontology.now derivation.new) }
+    ensures shown { OnOk result (ShowsContradiction derivation.new) }
+    ensures needed { OnOk result (EachIsNeeded ontology.now derivation.new) }
+{
+    ontology.well_formed();
+    let marks = first_contradiction(alloc, ontology, saturation.facts())?;
+    add_lines(alloc, ontology, saturation, marks, derivation)
+}
 
 /// A derivation with a line for each named class that is a fact of a named class or of an individual.
 ///
@@ -29,8 +74,9 @@ pub fn lines(
     ensures facts { IfOk result (λ v. HaveFacts ontology.now [] (lines_of v.items)) }
     ensures needed { IfOk result (λ v. EachIsNeeded ontology.now (lines_of v.items)) }
 {
-    let marks = wanted(alloc, ontology, saturation.facts())?;
-    lines_for(alloc, ontology, saturation, marks)
+    let mut derivation = Derivation::new(LineList::new(alloc));
+    add_facts(alloc, ontology, saturation, &mut derivation)?;
+    Ok(derivation.into_sink().into_lines())
 }
 
 /// A derivation of a contradiction, where there is one.
@@ -49,7 +95,48 @@ pub fn contradiction(
     ensures shown { IfOk result (λ v. ShowsContradiction (lines_of v.items)) }
     ensures needed { IfOk result (λ v. EachIsNeeded ontology.now (lines_of v.items)) }
 {
-    ontology.well_formed();
-    let marks = first_contradiction(alloc, ontology, saturation.facts())?;
-    lines_for(alloc, ontology, saturation, marks)
+    let mut derivation = Derivation::new(LineList::new(alloc));
+    add_contradiction(alloc, ontology, saturation, &mut derivation)?;
+    Ok(derivation.into_sink().into_lines())
+}
+
+/// The lines that `lines` gives, as text: no line is held in memory.
+///
+/// # Errors
+///
+/// `Memory` where memory was refused, or 32 bits do not count the facts.
+pub fn line_text(
+    alloc: Global,
+    ontology: &Ontology,
+    saturation: &Saturation,
+) -> Result<LineText, Memory>
+    requires { IsSaturated ontology.now saturation.now }
+    ensures derivation { IfOk result (λ t. IsDerivation ontology.now t) }
+    ensures facts { IfOk result (λ t. HaveFacts ontology.now [] t) }
+    ensures needed { IfOk result (λ t. EachIsNeeded ontology.now t) }
+{
+    let mut facts = Derivation::new(LineText::new(alloc)?);
+    add_facts(alloc, ontology, saturation, &mut facts)?;
+    Ok(facts.into_sink())
+}
+
+/// The lines that `contradiction` gives, as text.
+///
+/// # Errors
+///
+/// `Memory` where memory was refused, or 32 bits do not count the facts.
+pub fn contradiction_text(
+    alloc: Global,
+    ontology: &Ontology,
+    saturation: &Saturation,
+) -> Result<LineText, Memory>
+    requires saturated { IsSaturated ontology.now saturation.now }
+    requires contradictory { IsConsistent ontology.now [] → ⊥ }
+    ensures derivation { IfOk result (λ t. IsDerivation ontology.now t) }
+    ensures shown { IfOk result (λ t. ShowsContradiction t) }
+    ensures needed { IfOk result (λ t. EachIsNeeded ontology.now t) }
+{
+    let mut derivation = Derivation::new(LineText::new(alloc)?);
+    add_contradiction(alloc, ontology, saturation, &mut derivation)?;
+    Ok(derivation.into_sink())
 }

@@ -1,19 +1,17 @@
 //! The lines of marked facts.
 ghost use Rattle.cert_check.specs.Derivation.{IsDerivation};
-ghost use Rattle.certificate.specs.View.{lines_of};
 ghost use Rattle.engine.specs.Saturated.{IsSaturated};
 ghost use Rattle.explain.specs.Marks.{IsMarked, IsShown, IsWantedFact};
 ghost use Rattle.explain.specs.Needed.{EachIsNeeded};
 ghost use Rattle.explain.specs.Shown.{AreReady, IsShowing};
 ghost use Rattle.facts.specs.declared.contexts.Fact.{Fact as Fact2};
 ghost use Rattle.problem.specs.Made.{beginnings_of};
-ghost use Rattle.std.specs.Prelude.{◌+◌, ◌<◌, ◌≡◌, IfOk, OnOk, Some, length, slice_get, ℕ};
+ghost use Rattle.std.specs.Prelude.{◌+◌, ◌<◌, ◌≡◌, [], IfOk, OnOk, Some, length, slice_get, ℕ};
 
 use crate::marking::mark_older;
 use axioms::{Memory, Ontology};
-use certificate::Line;
 use engine::Saturation;
-use fact_lines::{Derivation, show};
+use fact_lines::{Derivation, LineSink, show};
 use facts::FactId;
 use normalise::property_forms_are_named;
 use number_sets::PackedLists;
@@ -59,10 +57,10 @@ struct Explainer<'a> {
 
 impl Explainer<'_> {
     // Shows the next fact, if it is marked.
-    fn show_next(
+    fn show_next<L: LineSink>(
         &self,
         fact: FactId,
-        derivation: &mut Derivation,
+        derivation: &mut Derivation<L>,
         shown: &mut PackedLists<u64>,
     ) -> Result<(), Memory>
         requires ready { AreReady self.now.ontology.now self.now.saturation.now self.now.paths.now self.now.marks.now }
@@ -90,40 +88,46 @@ impl Explainer<'_> {
         Ok(())
     }
 
-    // Lines that show each marked fact, of that many facts.
-    fn lines(&self, count: u32) -> Result<Vec<Line>, Memory>
+    // Adds lines that show each marked fact, of that many facts, to no lines.
+    fn add_lines<L: LineSink>(
+        &self,
+        count: u32,
+        derivation: &mut Derivation<L>,
+    ) -> Result<(), Memory>
         requires ready { AreReady self.now.ontology.now self.now.saturation.now self.now.paths.now self.now.marks.now }
         requires count { count ≡ length self.now.marks.now }
-        ensures derivation { IfOk result (λ v. IsDerivation self.now.ontology.now (lines_of v.items)) }
-        ensures shown { IfOk result (λ v. (n : ℕ) (f : Fact2) → IsMarked self.now.marks.now n → slice_get self.now.saturation.now.state.facts n ≡ Some f → IsShown (beginnings_of self.now.saturation.now.normal) (lines_of v.items) f) }
-        ensures needed { IfOk result (λ v. EachIsNeeded self.now.ontology.now (lines_of v.items)) }
+        requires none { derivation.old ≡ [] }
+        ensures derivation { OnOk result (IsDerivation self.now.ontology.now derivation.new) }
+        ensures shown { OnOk result ((n : ℕ) (f : Fact2) → IsMarked self.now.marks.now n → slice_get self.now.saturation.now.state.facts n ≡ Some f → IsShown (beginnings_of self.now.saturation.now.normal) derivation.new f) }
+        ensures needed { OnOk result (EachIsNeeded self.now.ontology.now derivation.new) }
     {
-        let mut derivation = Derivation::new(self.alloc);
         let mut shown = PackedLists::new(self.alloc);
         for number in 0..count {
-            self.show_next(FactId(number), &mut derivation, &mut shown)?;
+            self.show_next(FactId(number), derivation, &mut shown)?;
         }
-        Ok(derivation.into_lines())
+        Ok(())
     }
 }
 
-/// Lines that show each marked fact, which is wanted, with those of the facts that they rest on.
+/// Adds lines that show each marked fact, which is wanted, with those of the facts that they rest on, to no lines.
 ///
 /// # Errors
 ///
 /// `Memory` where memory was refused, or 32 bits do not count the facts.
-pub(crate) fn lines_for(
+pub(crate) fn add_lines<L: LineSink>(
     alloc: Global,
     ontology: &Ontology,
     saturation: &Saturation,
     mut marks: Vec<bool>,
-) -> Result<Vec<Line>, Memory>
+    derivation: &mut Derivation<L>,
+) -> Result<(), Memory>
     requires saturated { IsSaturated ontology.now saturation.now }
     requires long { length marks.items ≡ length saturation.now.state.facts }
     requires wanted { (n : ℕ) (f : Fact2) → slice_get saturation.now.state.facts n ≡ Some f → IsMarked marks.items n → IsWantedFact ontology.now f }
-    ensures derivation { IfOk result (λ v. IsDerivation ontology.now (lines_of v.items)) }
-    ensures shown { IfOk result (λ v. (n : ℕ) (f : Fact2) → IsMarked marks.items n → slice_get saturation.now.state.facts n ≡ Some f → IsShown (beginnings_of saturation.now.normal) (lines_of v.items) f) }
-    ensures needed { IfOk result (λ v. EachIsNeeded ontology.now (lines_of v.items)) }
+    requires none { derivation.old ≡ [] }
+    ensures derivation { OnOk result (IsDerivation ontology.now derivation.new) }
+    ensures shown { OnOk result ((n : ℕ) (f : Fact2) → IsMarked marks.items n → slice_get saturation.now.state.facts n ≡ Some f → IsShown (beginnings_of saturation.now.normal) derivation.new f) }
+    ensures needed { OnOk result (EachIsNeeded ontology.now derivation.new) }
 {
     let count = fact_count(saturation)?;
     mark_older(saturation, count, &mut marks);
@@ -135,5 +139,5 @@ pub(crate) fn lines_for(
         paths: &paths,
         marks: &marks,
     };
-    explainer.lines(count)
+    explainer.add_lines(count, derivation)
 }

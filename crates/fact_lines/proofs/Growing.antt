@@ -1,14 +1,15 @@
 -- How derivations grow: what is shown stays shown, numbers one behind the other show conclusions one behind the other, and the number of the last line shows its conclusion.
-use Rattle.std.proofs.Common.{◌≡◌, ℕ, zero, suc, List, [], ◌∷◌, ◌++◌, length, slice_get, Some, refl, sym, ap, ◌∙◌, arith}
+use Rattle.std.proofs.Common.{◌≡◌, ℕ, zero, suc, List, [], ◌∷◌, ◌++◌, length, slice_get, Some, refl, sym, ap, ◌∙◌, subst, arith}
+use Rattle.axioms.specs.Numbered.{Ontology}
 use Rattle.std.proofs.lemmas.List.{append_assoc, append-nil, map-append, length-append, length-map}
 use Rattle.std.proofs.lemmas.Option.{none-some}
 use Rattle.axioms.specs.View.{at_number}
 use Rattle.certificate.specs.Certificate.{Conclusion, Line}
 use Rattle.certificate.specs.View.{line_of, lines_of}
 use Rattle.certificate.specs.declared.line.Line as code
-use Rattle.cert_check.specs.Derivation.{at_numbers}
+use Rattle.cert_check.specs.Derivation.{IsDerivation, IsDerived, at_numbers}
 use Rattle.closure.specs.Said.{Beginnings}
-use Rattle.derivable.proofs.Derivable.{conclusions, prepended_list_parts}
+use Rattle.derivable.proofs.Derivable.{conclusions, derivation_push, prepended_list_parts}
 use Rattle.engine.specs.Saturated.{Saturated}
 use Rattle.fact_lines.specs.Older.{AreOlderShown}
 use Rattle.fact_lines.specs.Shown.{AreShowing, Lengthens}
@@ -81,6 +82,9 @@ added_line_at lines new line numbers n added number is = rw (is, added) (last_co
 -- a line more, as the code has it
 pub lines_pushed : (old new : List code.Line) (line : code.Line) → new ≡ old ++ line ∷ [] → lines_of new ≡ lines_of old ++ line_of line ∷ []
 lines_pushed old new line e = ap lines_of e ∙ map-append line_of old (line ∷ [])
+
+pub derivation_pushed : (o : Ontology) (old new : List Line) (line : Line) → new ≡ old ++ line ∷ [] → IsDerivation o old → IsDerived o old line → IsDerivation o new
+derivation_pushed o old new line e derivation derived = subst (IsDerivation o) (sym e) (derivation_push old line derivation derived)
 
 -- ---- facts
 

@@ -1,12 +1,14 @@
 -- Walks into owl:Nothing, from their end to their start.
 use Rattle.std.proofs.Common.{◌≡◌, ℕ, zero, suc, ◌+◌, ◌-◌, ◌<◌, ◌≤◌, List, [], ◌∷◌, ◌++◌, length, slice_get, get_or, take, Option, Some, None, refl, sym, ap, ◌∙◌, subst, arith}
 use Rattle.std.proofs.lemmas.Option.{same_Some, none-some, slice_get-get_or}
+use Rattle.std.specs.Option.{option_map}
 use Rattle.lemmas.proofs.Places.{take_push}
 use Rattle.axioms.specs.Numbered.{Ontology, nothing}
 use Rattle.axioms.specs.WellFormed.{IsOntology}
 use Rattle.axioms.specs.View.{at_number}
 use Rattle.certificate.specs.Certificate.{Subject, Conclusion, Sub, Edge, Line}
 use Rattle.certificate.specs.HasText.{IsConclusionOf}
+use Rattle.certificate.specs.LineText.{source_of}
 use Rattle.certificate.specs.declared.line.Rule.TheVariants.{K11}
 use Rattle.cert_check.specs.Derivation.{IsDerivation, IsDerived, at_numbers}
 use Rattle.cert_check.specs.Lines.{IsWalk}
@@ -97,22 +99,16 @@ carried_over_derived o lines edge end x w d l =
       follows = (refl, refl, refl, refl);
     }
 
-abbrev source_of : Subject → Option Conclusion → Subject
-source_of x None = x
-source_of x (Some (Sub y c)) = x
-source_of x (Some (Edge y r z)) = y
-
--- the source of the edge, where the line of its number is read
-pub same_source : (lines : List Line) (edge end : ℕ) (x y : Subject) (r : ℕ) (z : Subject) → LeadsToNothing lines (edge ∷ []) end x → Some (Edge y r z) ≡ at_number (conclusions lines) edge → y ≡ x
-same_source lines edge end x y r z l e =
+-- the source of the edge, where the line of its number is asked
+pub same_source : (lines : List Line) (edge end : ℕ) (x y : Subject) → LeadsToNothing lines (edge ∷ []) end x → Some y ≡ option_map source_of (at_number (conclusions lines) edge) → y ≡ x
+same_source lines edge end x y l e =
     let (s, t, at_edge, at_end) = edge_into_nothing lines edge end x l in
-    ap (source_of x) (e ∙ at_edge)
+    same_Some y x (e ∙ ap (option_map source_of) at_edge)
 
-pub no_class : (lines : List Line) (edge end : ℕ) (x y : Subject) (c : ℕ) → LeadsToNothing lines (edge ∷ []) end x → Some (Sub y c) ≡ at_number (conclusions lines) edge → ⊥
-no_class lines edge end x y c l e =
+pub no_source : (lines : List Line) (edge end : ℕ) (x : Subject) → LeadsToNothing lines (edge ∷ []) end x → None ≡ option_map source_of (at_number (conclusions lines) edge) → ⊥
+no_source lines edge end x l e =
     let (s, t, at_edge, at_end) = edge_into_nothing lines edge end x l in
-    let same : Some (Sub y c) ≡ Some (Edge x s t) = e ∙ at_edge in
-    cc
+    none-some x (e ∙ ap (option_map source_of) at_edge)
 
 pub carried_line : (o : Ontology) (lines : List Line) (edge end : ℕ) (x y : Subject) (premises : List ℕ) → IsOntology o → IsDerivation o lines → LeadsToNothing lines (edge ∷ []) end x → y ≡ x → premises ≡ edge ∷ end ∷ []
     → IsDerived o lines (record { conclusion = Sub y nothing; rule = K11; axiom' = None; premises = premises })

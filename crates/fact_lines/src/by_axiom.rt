@@ -17,6 +17,7 @@ use crate::derivation::Derivation;
 use crate::line::concluded;
 use crate::older::rests_on;
 use crate::premises::premises;
+use crate::sink::LineSink;
 use axioms::{Axiom, Memory, Ontology};
 use certificate::Rule;
 use engine::Saturation;
@@ -46,12 +47,12 @@ fn rule(stated: &Axiom) -> Rule
 /// # Errors
 ///
 /// `Memory` where memory was refused.
-pub(crate) fn shown_by_axiom(
+pub(crate) fn shown_by_axiom<L: LineSink>(
     alloc: Global,
     ontology: &Ontology,
     saturation: &Saturation,
     paths: &PropertyPaths,
-    derivation: &mut Derivation,
+    derivation: &mut Derivation<L>,
     shown: &PackedLists<u64>,
     fact: FactId,
     birth: &Birth,

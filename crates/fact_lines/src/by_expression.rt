@@ -15,6 +15,7 @@ ghost use Rattle.std.specs.Prelude.{◌≡◌, ◌<◌, IfOk, OnOk, Some, length
 use crate::derivation::Derivation;
 use crate::line::concluded;
 use crate::premises::premises;
+use crate::sink::LineSink;
 use axioms::{ExprId, Memory, Ontology};
 use certificate::Rule;
 use engine::Saturation;
@@ -41,12 +42,12 @@ fn rule(form: &Form) -> Rule
 /// # Errors
 ///
 /// `Memory` where memory was refused.
-pub(crate) fn shown_by_expression(
+pub(crate) fn shown_by_expression<L: LineSink>(
     alloc: Global,
     ontology: &Ontology,
     saturation: &Saturation,
     paths: &PropertyPaths,
-    derivation: &mut Derivation,
+    derivation: &mut Derivation<L>,
     shown: &PackedLists<u64>,
     fact: FactId,
     birth: &Birth,

@@ -2,45 +2,43 @@
 ghost use Rattle.axioms.specs.Numbered.{Ontology as Ontology2};
 ghost use Rattle.axioms.specs.View.{at_number};
 ghost use Rattle.cert_check.specs.Derivation.{IsDerivation, IsDerived};
-ghost use Rattle.certificate.specs.View.{conclusion_of, line_of, lines_of};
+ghost use Rattle.certificate.specs.LineText.{source_of};
+ghost use Rattle.certificate.specs.View.{line_of, subject_of};
 ghost use Rattle.std.specs.Prelude.{◌≡◌, ◌++◌, ◌∷◌, [], IfOk, OnErr, OnOk, length, map, option_map};
 
+use crate::sink::LineSink;
 use axioms::Memory;
-use certificate::{Conclusion, Line};
-use std::alloc::Global;
+use certificate::{Line, Subject};
 use std::marker::Model;
 
-/// Lines, numbered from 1.
+/// Lines, numbered from 1, in a sink.
 #[derive(Drop)]
-pub struct Derivation {
-    lines: Vec<Line>,
+pub struct Derivation<L: LineSink> {
+    sink: L,
 }
 
-impl Model for Derivation {
+impl<L: LineSink> Model for Derivation<L> {
     ghost use Rattle.std.specs.Prelude.{List};
     ghost use Rattle.certificate.specs.Certificate as spec;
-    ghost use Rattle.certificate.specs.View.{lines_of};
 
     ghost Value = { List spec.Line };
 
-    ghost view = { λ d. lines_of d.lines.items };
+    ghost view = { λ d. L.lines d.sink };
 }
 
-impl Derivation {
-    /// No lines.
-    pub fn new(alloc: Global) -> Derivation
-        ensures { result ≡ [] }
+impl<L: LineSink> Derivation<L> {
+    /// The lines of the sink.
+    pub fn new(sink: L) -> Derivation<L>
+        ensures { result ≡ L.lines sink }
     {
-        Derivation {
-            lines: Vec::new(alloc),
-        }
+        Derivation { sink }
     }
 
     /// Adds a line, and gives its number.
     ///
     /// # Errors
     ///
-    /// `Memory` where memory was refused; then nothing changes.
+    /// `Memory` where memory was refused, or the sink takes no such line; then nothing changes.
     pub fn add(&mut self, line: Line) -> Result<u64, Memory>
         ensures added { OnOk result (self.new ≡ self.old ++ line_of line ∷ []) }
         ensures number { IfOk result (λ n. n ≡ length self.new) }
@@ -48,24 +46,20 @@ impl Derivation {
         ensures derivation { OnOk result ((o : Ontology2) → IsDerivation o self.old → IsDerived o self.old (line_of line) → IsDerivation o self.new) }
         ensures err { OnErr result (self.new ≡ self.old) }
     {
-        self.lines.push(line)?;
-        Ok(self.lines.len() as u64)
+        self.sink.add(line)
     }
 
-    /// What the line of that number says.
-    pub fn conclusion(&self, number: u64) -> Option<Conclusion>
-        ensures { option_map conclusion_of result ≡ at_number (map (λ l. l.conclusion) self.now) number }
+    /// What the line of that number speaks of: its subject, or the start of its edge.
+    pub fn source(&self, number: u64) -> Option<Subject>
+        ensures { option_map subject_of result ≡ option_map source_of (at_number (map (λ l. l.conclusion) self.now) number) }
     {
-        if number == 0 || (self.lines.len() as u64) < number {
-            return None;
-        }
-        Some(self.lines[(number - 1) as usize].conclusion)
+        self.sink.source(number)
     }
 
-    /// The lines.
-    pub fn into_lines(self) -> Vec<Line>
-        ensures { lines_of result.items ≡ self }
+    /// The sink.
+    pub fn into_sink(self) -> L
+        ensures { L.lines result ≡ self }
     {
-        self.lines
+        self.sink
     }
 }

@@ -10,7 +10,9 @@ mod nothing;
 mod older;
 mod premises;
 mod showing;
+mod sink;
 
 pub use derivation::Derivation;
 pub use older::rests_on;
 pub use showing::show;
+pub use sink::{LineList, LineSink};

@@ -13,6 +13,7 @@ ghost use Rattle.std.specs.Prelude.{◌≡◌, IfOk, MatchOption, OnOk, ℕ};
 
 use crate::derivation::Derivation;
 use crate::line::concluded;
+use crate::sink::LineSink;
 use axioms::{Memory, Ontology, PropId};
 use certificate::Rule;
 use engine::Saturation;
@@ -41,11 +42,11 @@ fn step(normal: &Normal, form: usize) -> Option<(PropId, usize)>
 /// # Errors
 ///
 /// `Memory` where memory was refused.
-fn led_on(
+fn led_on<L: LineSink>(
     alloc: Global,
     ontology: &Ontology,
     saturation: &Saturation,
-    derivation: &mut Derivation,
+    derivation: &mut Derivation<L>,
     numbers: Vec<u64>,
     source: Context,
     target: Context,
@@ -73,12 +74,12 @@ fn led_on(
 /// # Errors
 ///
 /// `Memory` where memory was refused.
-pub(crate) fn lifted(
+pub(crate) fn lifted<L: LineSink>(
     alloc: Global,
     ontology: &Ontology,
     saturation: &Saturation,
     paths: &PropertyPaths,
-    derivation: &mut Derivation,
+    derivation: &mut Derivation<L>,
     numbers: &[u64],
     source: Context,
     property: PropId2,

@@ -9,6 +9,7 @@ ghost use Rattle.fact_lines.specs.Step.{LeadTo, said_by, subject_in};
 ghost use Rattle.std.specs.Prelude.{◌≡◌, IfOk, OnOk, option_map};
 
 use crate::derivation::Derivation;
+use crate::sink::LineSink;
 use axioms::Memory;
 use certificate::{Conclusion, Line, Rule, Subject};
 use facts::{Context, Fact};
@@ -44,9 +45,9 @@ pub(crate) fn conclusion(fact: Fact) -> Option<Conclusion>
 /// # Errors
 ///
 /// `Memory` where memory was refused.
-pub(crate) fn concluded(
+pub(crate) fn concluded<L: LineSink>(
     alloc: Global,
-    derivation: &mut Derivation,
+    derivation: &mut Derivation<L>,
     fact: Fact,
     rule: Rule,
     axiom_number: Option<usize>,

@@ -9,15 +9,16 @@ ghost use Rattle.fact_lines.specs.Shown.{Lengthens};
 ghost use Rattle.std.specs.Prelude.{◌≡◌, ◌++◌, ◌∷◌, [], IfOk, OnOk, Some, map};
 
 use crate::derivation::Derivation;
+use crate::sink::LineSink;
 use axioms::{ExprId, Memory, Ontology};
 use certificate::{Conclusion, Line, Rule};
 use std::alloc::Global;
 
 // Adds the line that carries owl:Nothing from the target of an edge to its source, and gives its number.
-fn carried_over(
+fn carried_over<L: LineSink>(
     alloc: Global,
     ontology: &Ontology,
-    derivation: &mut Derivation,
+    derivation: &mut Derivation<L>,
     edge: u64,
     end: u64,
 ) -> Result<u64, Memory>
@@ -29,10 +30,7 @@ fn carried_over(
     ensures used { IfOk result (λ n. Uses derivation.old derivation.new (IsAmong (edge ∷ end ∷ [])) (n ∷ [])) }
 {
     ontology.well_formed();
-    let Some(conclusion) = derivation.conclusion(edge) else {
-        unreachable!()
-    };
-    let Conclusion::Edge(source, _, _) = conclusion else {
+    let Some(source) = derivation.source(edge) else {
         unreachable!()
     };
     let mut premises = Vec::new(alloc);
@@ -53,10 +51,10 @@ fn carried_over(
 /// # Errors
 ///
 /// `Memory` where memory was refused.
-pub(crate) fn carried_back(
+pub(crate) fn carried_back<L: LineSink>(
     alloc: Global,
     ontology: &Ontology,
-    derivation: &mut Derivation,
+    derivation: &mut Derivation<L>,
     walk: &[u64],
     end: u64,
 ) -> Result<u64, Memory>

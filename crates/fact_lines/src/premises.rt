@@ -14,6 +14,7 @@ ghost use Rattle.std.specs.Prelude.{◌≡◌, ◌<◌, IfOk, List, OnOk, Some, 
 
 use crate::derivation::Derivation;
 use crate::lifting::lifted;
+use crate::sink::LineSink;
 use axioms::{Memory, Ontology};
 use engine::Saturation;
 use facts::{Fact, FactId, Older};
@@ -53,12 +54,12 @@ fn copied(alloc: Global, numbers: &[u64]) -> Result<Vec<u64>, Memory>
 }
 
 // The numbers of the lines that show an older fact; an edge is led up to the property, where there is one.
-fn led_up(
+fn led_up<L: LineSink>(
     alloc: Global,
     ontology: &Ontology,
     saturation: &Saturation,
     paths: &PropertyPaths,
-    derivation: &mut Derivation,
+    derivation: &mut Derivation<L>,
     shown: &PackedLists<u64>,
     older: FactId,
     property: Option<PropId2>,
@@ -95,12 +96,12 @@ fn led_up(
 /// # Errors
 ///
 /// `Memory` where memory was refused.
-pub(crate) fn premises(
+pub(crate) fn premises<L: LineSink>(
     alloc: Global,
     ontology: &Ontology,
     saturation: &Saturation,
     paths: &PropertyPaths,
-    derivation: &mut Derivation,
+    derivation: &mut Derivation<L>,
     shown: &PackedLists<u64>,
     older: Older,
     form: &Form,

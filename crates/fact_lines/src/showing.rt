@@ -15,6 +15,7 @@ use crate::by_expression::shown_by_expression;
 use crate::derivation::Derivation;
 use crate::line::concluded;
 use crate::nothing::carried_back;
+use crate::sink::LineSink;
 use axioms::{Memory, Ontology};
 use certificate::Rule;
 use engine::Saturation;
@@ -35,11 +36,11 @@ fn rule(fact: Fact) -> Rule
 }
 
 // Adds the line that puts a context into owl:Thing, or an expression into itself, and gives its number.
-fn shown_of_context(
+fn shown_of_context<L: LineSink>(
     alloc: Global,
     ontology: &Ontology,
     saturation: &Saturation,
-    derivation: &mut Derivation,
+    derivation: &mut Derivation<L>,
     fact: FactId,
     birth: &Birth,
 ) -> Result<Vec<u64>, Memory>
@@ -61,11 +62,11 @@ fn shown_of_context(
 }
 
 // Adds the lines that carry owl:Nothing from the target of an edge to its source, and gives the number of the last.
-fn shown_by_target(
+fn shown_by_target<L: LineSink>(
     alloc: Global,
     ontology: &Ontology,
     saturation: &Saturation,
-    derivation: &mut Derivation,
+    derivation: &mut Derivation<L>,
     shown: &PackedLists<u64>,
     fact: FactId,
     birth: &Birth,
@@ -94,11 +95,11 @@ fn shown_by_target(
 }
 
 // What no form gave: owl:Nothing that an edge carries, or what a context lies in.
-fn shown_without_form(
+fn shown_without_form<L: LineSink>(
     alloc: Global,
     ontology: &Ontology,
     saturation: &Saturation,
-    derivation: &mut Derivation,
+    derivation: &mut Derivation<L>,
     shown: &PackedLists<u64>,
     fact: FactId,
     birth: &Birth,
@@ -128,12 +129,12 @@ fn shown_without_form(
 /// # Errors
 ///
 /// `Memory` where memory was refused.
-pub fn show(
+pub fn show<L: LineSink>(
     alloc: Global,
     ontology: &Ontology,
     saturation: &Saturation,
     paths: &PropertyPaths,
-    derivation: &mut Derivation,
+    derivation: &mut Derivation<L>,
     shown: &PackedLists<u64>,
     fact: FactId,
 ) -> Result<Vec<u64>, Memory>

@@ -1,12 +1,16 @@
-use Rattle.std.proofs.Common.{true, subst, sym}
-use Rattle.certificate.specs.Certificate.{Certificate}
-use Rattle.cert_check.specs.Derivation.{IsDerivation}
-use Rattle.classification.specs.Shown.{AreShown}
+use Rattle.std.proofs.Common.{Some}
+use Rattle.certificate.specs.View.{listed_of}
+use Rattle.classification.proofs.Writing.{derivation_has_text}
 use Rattle.classification.proofs.classification.certificate_of_closure.Goals as goal
 
-pub returns-clause-derivation : goal.returns-clause-derivation
-returns-clause-derivation c = subst (λ (d : Certificate). IsDerivation c.args.ontology.now d.lines) (sym c.certified.ensures.made) c.in_ok-lines.ensures.derivation
-
-pub returns-clause-shown : goal.returns-clause-shown
-returns-clause-shown c =
-    subst (λ (d : Certificate). AreShown c.args.ontology.now true d.lines d.listed) (sym c.certified.ensures.made) (c.in_ok-lines.ensures.facts, c.in_ok-listed.ensures.listed)
+pub returns : goal.returns
+returns c =
+    let lines = c.in_ok-lines.lines in
+    let listed = Some (listed_of c.in_ok-listed.listed) in
+    let has_text = derivation_has_text c.args.ontology.now c.bounded.ensures lines listed c.in_ok-lines.ensures.derivation c.bounded-2.ensures c.in_ok-listed.ensures.text c.in_ok-listed.ensures.numbers in
+    record {
+      certificate = record { lines = lines; listed = listed };
+      text_of = record { has_text = has_text; spelled = c.in_ok-text.ensures };
+      derivation = c.in_ok-lines.ensures.derivation;
+      shown = (c.in_ok-lines.ensures.facts, c.in_ok-listed.ensures.listed);
+    }

@@ -1,14 +1,15 @@
-use Rattle.std.proofs.Common.{false, subst, sym}
-use Rattle.certificate.specs.Certificate.{Certificate}
-use Rattle.cert_check.specs.Derivation.{IsDerivation}
-use Rattle.classification.specs.Shown.{AreShown}
+use Rattle.std.proofs.Common.{None}
+use Rattle.std.proofs.lemmas.List.Elements.{All-nil}
+use Rattle.classification.proofs.Writing.{derivation_has_text}
 use Rattle.classification.proofs.classification.certificate_of_contradiction.Goals as goal
 
-pub certified-requires-clause-derivation : goal.certified-requires-clause-derivation
-certified-requires-clause-derivation c = c.in_ok-lines.ensures.derivation
-
-pub returns-clause-derivation : goal.returns-clause-derivation
-returns-clause-derivation c = subst (λ (d : Certificate). IsDerivation c.args.ontology.now d.lines) (sym c.certified.ensures.made) c.in_ok-lines.ensures.derivation
-
-pub returns-clause-shown : goal.returns-clause-shown
-returns-clause-shown c = subst (λ (d : Certificate). AreShown c.args.ontology.now false d.lines d.listed) (sym c.certified.ensures.made) c.in_ok-lines.ensures.shown
+pub returns : goal.returns
+returns c =
+    let lines = c.in_ok-lines.lines in
+    let has_text = derivation_has_text c.args.ontology.now c.bounded.ensures lines None c.in_ok-lines.ensures.derivation c.bounded-2.ensures tt (All-nil _) in
+    record {
+      certificate = record { lines = lines; listed = None };
+      text_of = record { has_text = has_text; spelled = c.in_ok-text.ensures };
+      derivation = c.in_ok-lines.ensures.derivation;
+      shown = c.in_ok-lines.ensures.shown;
+    }

@@ -19,6 +19,7 @@ use Rattle.fact_lines.specs.Shown.{AreShowing}
 use Rattle.fact_lines.proofs.Births.{rests_there, rests_lead_up}
 use Rattle.fact_lines.proofs.Used.{used_by_fact}
 use Rattle.fact_lines.proofs.Leading.{origin_of_form, read_in, form_inside, form_read, axiom_there, leads_to}
+use Rattle.fact_lines.proofs.by_axiom.shown_by_axiom.Given.{Over}
 use Rattle.fact_lines.proofs.by_axiom.shown_by_axiom.Goals as goal
 
 -- what is read where nothing is
@@ -29,45 +30,45 @@ abbrev no_fact : Fact
 no_fact = facts.In (classes.Expr (record { 0 = 0 })) (contexts.Expr (record { 0 = 0 }))
 
 pub unreachable-requires-in_default-axiom : goal.unreachable-requires-in_default-axiom
-unreachable-requires-in_default-axiom c =
+unreachable-requires-in_default-axiom g c =
     let s = c.args.saturation.now in
     let origin = origin_of_form s.normal.entries c.args.birth.now.form c.in-Some.form (origins.Axiom c.args.number) c.requires.origin c.in-Some.is in
     let (a, stated) = axiom_there c.args.ontology.now s c.in-Some.form c.args.number c.requires.saturated origin in
     none-some a (sym (ap (option_map (λ a. axiom_of a.now)) c.in_default-axiom.is) ∙ c.axiom.ensures ∙ stated)
 
 pub bounds-forms-form : goal.bounds-forms-form
-bounds-forms-form c =
+bounds-forms-form g c =
     let s = c.args.saturation.now in
     let origin = origin_of_form s.normal.entries c.args.birth.now.form c.in-Some.form (origins.Axiom c.args.number) c.requires.origin c.in-Some.is in
     form_inside s.normal.entries c.in-Some.form (origins.Axiom c.args.number) c.forms.result.now origin (c.forms.ensures ∙ ap (λ v. map form_in v.entries) c.normal.ensures)
 
 -- the facts that the line rests on
-rests : (c : goal.After-form-3-1) → numbers_of c.rests_on-older.result ≡ rests_on c.args.saturation.now.normal.entries (reason c.args.birth.now)
-rests c = c.rests_on-older.ensures ∙ ap (λ v. rests_on v.entries (reason c.args.birth.now)) c.normal-2.ensures
+rests : (g : Over) (c : goal.After-form-3-1 g) → numbers_of c.rests_on-older.result ≡ rests_on c.args.saturation.now.normal.entries (reason c.args.birth.now)
+rests g c = c.rests_on-older.ensures ∙ ap (λ v. rests_on v.entries (reason c.args.birth.now)) c.normal-2.ensures
 
 pub premises-requires-clause-shown : goal.premises-requires-clause-shown
-premises-requires-clause-shown c m there f at = c.requires.older (reason c.args.birth.now) c.requires.birth m (subst (λ ns. Contains ns m) (rests c) there) f at
+premises-requires-clause-shown g c m there f at = c.requires.older (reason c.args.birth.now) c.requires.birth m (subst (λ ns. Contains ns m) (rests g c) there) f at
 
 pub premises-requires-clause-there : goal.premises-requires-clause-there
-premises-requires-clause-there c m there =
+premises-requires-clause-there g c m there =
     let s = c.args.saturation.now in
     let origin = origin_of_form s.normal.entries c.args.birth.now.form c.in-Some.form (origins.Axiom c.args.number) c.requires.origin c.in-Some.is in
     let at_form = form_read c.args.ontology.now s c.in-Some.form (origins.Axiom c.args.number) c.forms.result.now no_form c.requires.saturated origin (c.forms.ensures ∙ ap (λ v. map form_in v.entries) c.normal.ensures) in
     let (f, at) = slice_get_there s.state.facts c.args.fact.0 c.requires.there in
     rests_there c.args.ontology.now s c.requires.saturated c.args.fact.0 (reason c.args.birth.now) c.requires.birth c.in-Some.form c.in-Some.is c.args.number origin (get_or c.forms.result.now c.in-Some.form no_form) f at_form at m
-    (subst (λ ns. Contains ns m) (rests c) there)
+    (subst (λ ns. Contains ns m) (rests g c) there)
 
 pub premises-requires-clause-below : goal.premises-requires-clause-below
-premises-requires-clause-below c fs at_fs =
+premises-requires-clause-below g c fs at_fs =
     let s = c.args.saturation.now in
     let origin = origin_of_form s.normal.entries c.args.birth.now.form c.in-Some.form (origins.Axiom c.args.number) c.requires.origin c.in-Some.is in
     let at_form = form_read c.args.ontology.now s c.in-Some.form (origins.Axiom c.args.number) c.forms.result.now no_form c.requires.saturated origin (c.forms.ensures ∙ ap (λ v. map form_in v.entries) c.normal.ensures) in
     let (f, at) = slice_get_there s.state.facts c.args.fact.0 c.requires.there in
     rests_lead_up c.args.ontology.now s c.requires.saturated c.args.fact.0 (reason c.args.birth.now) c.requires.birth c.in-Some.form c.in-Some.is c.args.number origin (get_or c.forms.result.now c.in-Some.form no_form) f at_form at fs
-    (ap (map (slice_get s.state.facts)) (sym (rests c)) ∙ at_fs)
+    (ap (map (slice_get s.state.facts)) (sym (rests g c)) ∙ at_fs)
 
-leading : (c : goal.In_ok-numbers-2) → LeadTo c.args.ontology.now (beginnings_of c.args.saturation.now.normal) c.premises.new.derivation c.rule.result (Some c.args.number) c.in_ok-numbers.numbers.items (get_or c.facts.result.now c.args.fact.0 no_fact)
-leading c =
+leading : (g : Over) (c : goal.In_ok-numbers-2 g) → LeadTo c.args.ontology.now (beginnings_of c.args.saturation.now.normal) c.premises.new.derivation c.rule.result (Some c.args.number) c.in_ok-numbers.numbers.items (get_or c.facts.result.now c.args.fact.0 no_fact)
+leading g c =
     let o = c.args.ontology.now in
     let s = c.args.saturation.now in
     let f = get_or c.facts.result.now c.args.fact.0 no_fact in
@@ -80,17 +81,17 @@ leading c =
     subst (λ (rule : Rule). LeadTo o (beginnings_of s.normal) c.premises.new.derivation rule (Some c.args.number) c.in_ok-numbers.numbers.items f) (sym c.rule.ensures) to
 
 pub returns-clause-derivation : goal.returns-clause-derivation
-returns-clause-derivation c = c.in_ok-numbers-2.ensures.derivation c.args.ontology.now (beginnings_of c.args.saturation.now.normal) c.in_ok-numbers.ensures.derivation (leading c)
+returns-clause-derivation g c = c.in_ok-numbers-2.ensures.derivation c.args.ontology.now (beginnings_of c.args.saturation.now.normal) c.in_ok-numbers.ensures.derivation (leading g c)
 
 pub returns-clause-shown : goal.returns-clause-shown
-returns-clause-shown c f at =
+returns-clause-shown g c f at =
     let s = c.args.saturation.now in
     let same = same_Some (get_or c.facts.result.now c.args.fact.0 no_fact) f (sym (read_in s.state.facts c.facts.result.now c.args.fact.0 no_fact c.facts.ensures c.requires.there) ∙ at) in
     subst (AreShowing (beginnings_of s.normal) c.concluded.new.derivation c.in_ok-numbers-2.numbers.items) same
-    (c.in_ok-numbers-2.ensures.shown c.args.ontology.now (beginnings_of s.normal) (leading c))
+    (c.in_ok-numbers-2.ensures.shown c.args.ontology.now (beginnings_of s.normal) (leading g c))
 
 pub returns-clause-used : goal.returns-clause-used
-returns-clause-used c =
+returns-clause-used g c =
     let rests = sym (c.rests_on-older.ensures ∙ ap (λ v. rests_on v.entries (reason c.args.birth.now)) c.normal-2.ensures) in
     used_by_fact c.args.saturation.now c.args.shown.now c.args.fact.0 (reason c.args.birth.now) _ c.requires.birth rests c.args.derivation.now c.premises.new.derivation c.concluded.new.derivation
     c.in_ok-numbers.numbers.items c.in_ok-numbers-2.numbers.items c.in_ok-numbers-2.ensures.longer c.in_ok-numbers.ensures.used c.in_ok-numbers-2.ensures.used

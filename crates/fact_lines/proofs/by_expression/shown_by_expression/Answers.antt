@@ -13,23 +13,23 @@ use Rattle.problem.specs.Made.{beginnings_of}
 use Rattle.fact_lines.proofs.by_expression.shown_by_expression.Goals as goal
 
 pub premises-requires-clause-there : goal.premises-requires-clause-there
-premises-requires-clause-there c =
+premises-requires-clause-there g c =
     let (f, there) = slice_get_there c.args.saturation.now.state.facts c.args.fact.0 c.requires.there in
     older_there c.args.ontology.now c.args.saturation.now c.well_formed-2.ensures c.requires.saturated c.args.fact.0 (reason c.args.birth.now) c.requires.birth f there c.in-Some.number c.args.whole c.in-Some.is c.requires.origin
 
 pub premises-requires-clause-shown : goal.premises-requires-clause-shown
-premises-requires-clause-shown c m member =
+premises-requires-clause-shown g c m member =
     let (f, there) = slice_get_there c.args.saturation.now.state.facts c.args.fact.0 c.requires.there in
     let rests = rests_on_all c.args.ontology.now c.args.saturation.now c.well_formed-2.ensures c.requires.saturated c.args.fact.0 (reason c.args.birth.now) c.requires.birth f there c.in-Some.number c.args.whole c.in-Some.is c.requires.origin in
     c.requires.older (reason c.args.birth.now) c.requires.birth m (subst (λ (ms : List ℕ). Contains ms m) (sym rests) member)
 
 pub premises-requires-clause-below : goal.premises-requires-clause-below
-premises-requires-clause-below c =
+premises-requires-clause-below g c =
     let (f, there) = slice_get_there c.args.saturation.now.state.facts c.args.fact.0 c.requires.there in
     (born_by_expression c.args.ontology.now c.args.saturation.now c.well_formed-2.ensures c.requires.saturated c.args.fact.0 (reason c.args.birth.now) c.requires.birth f there c.in-Some.number c.args.whole c.in-Some.is c.requires.origin c.forms.result.now _ (c.forms.ensures ∙ ap (λ (v : Listing). map form_in v.entries) c.normal.ensures)).lead_up
 
 pub returns-clause-derivation : goal.returns-clause-derivation
-returns-clause-derivation c =
+returns-clause-derivation g c =
     let facts = c.args.saturation.now.state.facts in
     let read = read_there facts c.facts.result.now c.args.fact.0 _ _ c.facts.ensures c.requires.there refl in
     let born = born_by_expression c.args.ontology.now c.args.saturation.now c.well_formed-2.ensures c.requires.saturated c.args.fact.0 (reason c.args.birth.now) c.requires.birth _ read c.in-Some.number c.args.whole c.in-Some.is c.requires.origin c.forms.result.now _ (c.forms.ensures ∙ ap (λ (v : Listing). map form_in v.entries) c.normal.ensures) in
@@ -38,7 +38,7 @@ returns-clause-derivation c =
     c.in_ok-numbers-2.ensures.derivation c.args.ontology.now b c.in_ok-numbers.ensures.derivation leads
 
 pub returns-clause-shown : goal.returns-clause-shown
-returns-clause-shown c f there =
+returns-clause-shown g c f there =
     let facts = c.args.saturation.now.state.facts in
     let read = read_there facts c.facts.result.now c.args.fact.0 _ _ c.facts.ensures c.requires.there refl in
     let born = born_by_expression c.args.ontology.now c.args.saturation.now c.well_formed-2.ensures c.requires.saturated c.args.fact.0 (reason c.args.birth.now) c.requires.birth _ read c.in-Some.number c.args.whole c.in-Some.is c.requires.origin c.forms.result.now _ (c.forms.ensures ∙ ap (λ (v : Listing). map form_in v.entries) c.normal.ensures) in
@@ -48,7 +48,7 @@ returns-clause-shown c f there =
     (c.in_ok-numbers-2.ensures.shown c.args.ontology.now b leads)
 
 pub returns-clause-used : goal.returns-clause-used
-returns-clause-used c =
+returns-clause-used g c =
     let (f, there) = slice_get_there c.args.saturation.now.state.facts c.args.fact.0 c.requires.there in
     let rests = rests_on_all c.args.ontology.now c.args.saturation.now c.well_formed-2.ensures c.requires.saturated c.args.fact.0 (reason c.args.birth.now) c.requires.birth f there c.in-Some.number c.args.whole c.in-Some.is c.requires.origin in
     used_by_fact c.args.saturation.now c.args.shown.now c.args.fact.0 (reason c.args.birth.now) _ c.requires.birth rests c.args.derivation.now c.premises.new.derivation c.concluded.new.derivation

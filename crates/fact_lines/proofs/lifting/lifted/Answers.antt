@@ -12,7 +12,7 @@ use Rattle.fact_lines.proofs.lifting.lifted.Goals as goal
 use Rattle.fact_lines.proofs.lifting.lifted.Goals.{in_default-via-in-Property+in_default, in_default-via-in_default}
 
 pub loop-form-preserved : goal.loop-form-preserved
-loop-form-preserved c =
+loop-form-preserved g c =
     let (r, to, above, path, shown) = c.loop-form.invariant.shown in
     let (t, at, rest) = path_on c.args.paths.now r to c.deref-form-items.result.now c.loop-form.form-index 0 (omega (arith, c.loop-form-test.true)) path in
     record {
@@ -23,7 +23,7 @@ loop-form-preserved c =
     }
 
 pub returns-in_default-clause-shown : goal.returns-in_default-clause-shown
-returns-in_default-clause-shown c =
+returns-in_default-clause-shown g c =
     let forms = c.args.saturation.now.state.problem.forms in
     let same : c.args.property ≡ c.args.above = elim c.in_default.branch [
       | in_default-via-in-Property+in_default w ↦ stays forms w.in_default.field-0-1 c.args.property c.args.above c.requires.below (inr w.in_default.is-1)

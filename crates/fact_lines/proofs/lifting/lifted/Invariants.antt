@@ -10,7 +10,7 @@ use Rattle.property_paths.specs.Paths.{IsPath}
 use Rattle.fact_lines.proofs.lifting.lifted.Given as goal
 
 abbrev pub invariant-loop-form : goal.invariant-loop-form
-invariant-loop-form l = record {
+invariant-loop-form g l = record {
   derivation : IsDerivation l.ontology l.derivation;
   longer : Lengthens l.initial.derivation l.derivation;
   shown : (r : PropId) × (to : PropId) × (l.fn.above ≡ Property to) × IsPath l.paths r (drop l.form-index l.form-items) to × AreShowing (beginnings_of l.saturation.normal) l.derivation l.lines.items (Edge l.source (Property r) l.target);

@@ -6,18 +6,18 @@ use Rattle.fact_lines.proofs.Used.{used_by_line}
 use Rattle.fact_lines.proofs.line.concluded.Goals as goal
 
 pub returns-clause-derivation : goal.returns-clause-derivation
-returns-clause-derivation c o b derivation leads =
+returns-clause-derivation g c o b derivation leads =
     c.in_ok-number.ensures.derivation o derivation (leads.line (conclusion_of c.in-Some.conclusion) (sym c.in-Some.ensures))
 
 pub returns-clause-shown : goal.returns-clause-shown
-returns-clause-shown c o b leads =
+returns-clause-shown g c o b leads =
     let number = c.in_ok-number.number in
     showing_line c.args.fact (conclusion_of c.in-Some.conclusion) (sym c.in-Some.ensures)
     (added_line_at c.args.derivation.now _ _ _ number c.in_ok-number.ensures.added c.in_ok-number.ensures.number
     (c.in_ok-push.ensures.items ∙ ap (λ ns. ns ++ number ∷ []) c.new-numbers.ensures.items))
 
 pub returns-clause-used : goal.returns-clause-used
-returns-clause-used c =
+returns-clause-used g c =
     let number = c.in_ok-number.number in
     used_by_line c.args.derivation.now _ _ _ number c.in_ok-number.ensures.added c.in_ok-number.ensures.number
     (c.in_ok-push.ensures.items ∙ ap (λ ns. ns ++ number ∷ []) c.new-numbers.ensures.items)

@@ -7,13 +7,13 @@ use Rattle.fact_lines.proofs.Walking.{shortens_by_one, no_walk}
 use Rattle.fact_lines.proofs.nothing.carried_back.Goals as goal
 
 pub carried_over-requires-clause-edge : goal.carried_over-requires-clause-edge
-carried_over-requires-clause-edge c =
+carried_over-requires-clause-edge g c =
     let (x, l) = c.requires.walk in
     let s = shortens_by_one c.loop-k.derivation c.args.walk.now c.loop-k.k c.loop-k.number x 0 (omega (arith, c.loop-k-test.true)) (omega (arith, c.loop-k.auto.k)) (c.loop-k.invariant.leads x l) in
     (s.source, s.last)
 
 pub loop-k-preserved : goal.loop-k-preserved
-loop-k-preserved c = record {
+loop-k-preserved g c = record {
   derivation = c.in_ok-number.ensures.derivation;
   longer = lengthened_twice c.loop-k.invariant.longer c.in_ok-number.ensures.longer;
   leads = λ x l.
@@ -25,11 +25,11 @@ loop-k-preserved c = record {
 }
 
 pub returns-clause-shown : goal.returns-clause-shown
-returns-clause-shown c x l =
+returns-clause-shown g c x l =
     let e : c.loop-k.k ≡ 0 = omega (arith, c.loop-k-test.false) in
     no_walk c.loop-k.derivation c.loop-k.number x (subst (λ k. LeadsToNothing c.loop-k.derivation (take k c.args.walk.now) c.loop-k.number x) e (c.loop-k.invariant.leads x l))
 
 pub returns-clause-used : goal.returns-clause-used
-returns-clause-used c =
+returns-clause-used g c =
     let e : c.loop-k.k ≡ 0 = omega (arith, c.loop-k-test.false) in
     subst (λ k. Uses c.args.derivation.now c.loop-k.derivation (IsAmong (c.args.walk.now ++ c.args.end ∷ [])) (take k c.args.walk.now ++ c.loop-k.number ∷ [])) e c.loop-k.invariant.used

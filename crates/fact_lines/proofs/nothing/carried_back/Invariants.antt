@@ -7,7 +7,7 @@ use Rattle.fact_lines.specs.Walks.{LeadsToNothing}
 use Rattle.fact_lines.proofs.nothing.carried_back.Given as goal
 
 abbrev pub invariant-loop-k : goal.invariant-loop-k
-invariant-loop-k l = record {
+invariant-loop-k g l = record {
   derivation : IsDerivation l.ontology l.derivation;
   longer : Lengthens l.fn.derivation l.derivation;
   leads : (x : Subject) → LeadsToNothing l.fn.derivation l.walk l.end x → LeadsToNothing l.derivation (take l.k l.walk) l.number x;

@@ -12,14 +12,14 @@ use Rattle.fact_lines.proofs.premises.led_up.Goals as goal
 use Rattle.fact_lines.proofs.premises.led_up.Goals.{in_default-via-in-Edge+in_default, in_default-via-in_default}
 
 pub lifted-requires-clause-below : goal.lifted-requires-clause-below
-lifted-requires-clause-below c =
+lifted-requires-clause-below g c =
     let facts = c.args.saturation.now.state.facts in
     let there = read_there facts _ c.args.older.0 _ _ c.facts.ensures c.requires.there c.in-Edge-Some.is-0 in
     subst (λ p. LeadsUp c.args.saturation.now.state.problem.forms p (Edge c.in-Edge-Some.source c.in-Edge-Some.below c.in-Edge-Some.target)) c.in-Edge-Some.is-1
     (c.requires.below _ there)
 
 pub returns-in_ok-numbers-in-Edge-Some-clause-shown : goal.returns-in_ok-numbers-in-Edge-Some-clause-shown
-returns-in_ok-numbers-in-Edge-Some-clause-shown c f there =
+returns-in_ok-numbers-in-Edge-Some-clause-shown g c f there =
     let facts = c.args.saturation.now.state.facts in
     let read = read_there facts _ c.args.older.0 _ _ c.facts.ensures c.requires.there c.in-Edge-Some.is-0 in
     let P : Option PropId2 → Fact → Type 0 = λ p g. AreShowing (beginnings_of c.args.saturation.now.normal) c.lifted.new.derivation c.in_ok-numbers-in-Edge-Some.numbers.items (led_up p g) in
@@ -27,7 +27,7 @@ returns-in_ok-numbers-in-Edge-Some-clause-shown c f there =
     (subst (P (Some c.in-Edge-Some.above)) (same_Some _ f (sym read ∙ there)) c.in_ok-numbers-in-Edge-Some.ensures.shown)
 
 pub returns-in_ok-numbers-in_default-clause-shown : goal.returns-in_ok-numbers-in_default-clause-shown
-returns-in_ok-numbers-in_default-clause-shown c f there =
+returns-in_ok-numbers-in_default-clause-shown g c f there =
     let facts = c.args.saturation.now.state.facts in
     let stays : led_up c.args.property f ≡ f =
     elim c.in_default.branch [
@@ -39,6 +39,6 @@ returns-in_ok-numbers-in_default-clause-shown c f there =
     (subst (λ ns. P ns f) (sym (c.in_ok-numbers-in_default.ensures ∙ c.at-known.ensures)) (c.requires.shown f there))
 
 pub returns-in_ok-numbers-in-Edge-Some-clause-used : goal.returns-in_ok-numbers-in-Edge-Some-clause-used
-returns-in_ok-numbers-in-Edge-Some-clause-used c =
+returns-in_ok-numbers-in-Edge-Some-clause-used g c =
     subst (λ ns. Uses c.args.derivation.now c.lifted.new.derivation (IsAmong ns) c.in_ok-numbers-in-Edge-Some.numbers.items) c.at-known.ensures
     c.in_ok-numbers-in-Edge-Some.ensures.used

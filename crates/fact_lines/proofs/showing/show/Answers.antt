@@ -9,7 +9,7 @@ use Rattle.fact_lines.proofs.Formless.{form_of_birth}
 use Rattle.fact_lines.proofs.showing.show.Goals as goal
 
 pub unreachable-requires-in-None : goal.unreachable-requires-in-None
-unreachable-requires-in-None c =
+unreachable-requires-in-None g c =
     let s = c.args.saturation.now in
     let (f, at) = slice_get_there s.state.facts c.args.fact.0 c.requires.there in
     let (form, at_form) = form_of_birth c.args.ontology.now s c.requires.saturated c.args.fact.0 (reason c.in-Some.birth.now) c.in-Some.ensures.reason f at c.in-Some-form.form c.in-Some-form.is in

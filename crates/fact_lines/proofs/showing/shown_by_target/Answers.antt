@@ -8,7 +8,7 @@ use Rattle.fact_lines.proofs.Formless.{is_carried, two_older, some_end, walk_lea
 use Rattle.fact_lines.proofs.showing.shown_by_target.Goals as goal
 
 pub unreachable-requires : goal.unreachable-requires
-unreachable-requires c =
+unreachable-requires g c =
     let s = c.args.saturation.now in
     let (f, at) = slice_get_there s.state.facts c.args.fact.0 c.requires.there in
     let k = is_carried c.args.ontology.now s c.requires.saturated c.args.fact.0 (reason c.args.birth.now) c.requires.birth f at c.requires.condition in
@@ -16,14 +16,14 @@ unreachable-requires c =
     c.in_default.not-Two x y is
 
 pub bounds-ends-0 : goal.bounds-ends-0
-bounds-ends-0 c =
+bounds-ends-0 g c =
     let s = c.args.saturation.now in
     let (f, at) = slice_get_there s.state.facts c.args.fact.0 c.requires.there in
     some_end c.args.ontology.now s c.requires.saturated c.args.fact.0 (reason c.args.birth.now) c.requires.birth f at c.requires.condition c.args.derivation.now c.args.shown.now c.requires.older c.in-Two.edge.0 c.in-Two.class.0 (ap numbers_of c.in-Two.is)
     c.at-ends.result.now c.at-ends.ensures
 
 pub carried_back-requires-clause-walk : goal.carried_back-requires-clause-walk
-carried_back-requires-clause-walk c =
+carried_back-requires-clause-walk g c =
     let s = c.args.saturation.now in
     let (f, at) = slice_get_there s.state.facts c.args.fact.0 c.requires.there in
     let k = is_carried c.args.ontology.now s c.requires.saturated c.args.fact.0 (reason c.args.birth.now) c.requires.birth f at c.requires.condition in (
@@ -33,7 +33,7 @@ carried_back-requires-clause-walk c =
     )
 
 pub returns-clause-shown : goal.returns-clause-shown
-returns-clause-shown c f at =
+returns-clause-shown g c f at =
     let s = c.args.saturation.now in
     let k = is_carried c.args.ontology.now s c.requires.saturated c.args.fact.0 (reason c.args.birth.now) c.requires.birth f at c.requires.condition in
     let leads = walk_leads c.args.ontology.now s c.requires.saturated c.args.fact.0 (reason c.args.birth.now) c.requires.birth f at c.requires.condition c.args.derivation.now c.args.shown.now c.requires.older c.in-Two.edge.0 c.in-Two.class.0 (ap numbers_of c.in-Two.is)
@@ -43,7 +43,7 @@ returns-clause-shown c f at =
     (c.in_ok-push.ensures.items ∙ ap (λ ns. ns ++ c.in_ok-number.number ∷ []) c.new-numbers.ensures.items)
 
 pub returns-clause-used : goal.returns-clause-used
-returns-clause-used c =
+returns-clause-used g c =
     let s = c.args.saturation.now in
     let (f, at) = slice_get_there s.state.facts c.args.fact.0 c.requires.there in
     carried_used c.args.ontology.now s c.requires.saturated c.args.fact.0 (reason c.args.birth.now) c.requires.birth f at c.requires.condition c.args.derivation.now c.args.shown.now c.requires.older c.in-Two.edge.0 c.in-Two.class.0 (ap numbers_of c.in-Two.is)

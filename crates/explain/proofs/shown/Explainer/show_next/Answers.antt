@@ -7,20 +7,20 @@ use Rattle.explain.proofs.Adding.{older_shown, showing_not, showing_more}
 use Rattle.explain.proofs.shown.Explainer.show_next.Goals as goal
 
 pub returns-then-not-self-number-clause-showing : goal.returns-then-not-self-number-clause-showing
-returns-then-not-self-number-clause-showing c =
+returns-then-not-self-number-clause-showing g c =
     let unmarked : slice_get c.args.self.now.marks.now c.args.fact.0 ≡ Some false = slice_get-get_or c.args.self.now.marks.now c.args.fact.0 false c.requires.there ∙ ap Some c.if-not-self-number.true in
     rw (c.in_ok-push_list.ensures.ok)
     (showing_not c.args.self.now.ontology.now c.args.self.now.saturation.now c.args.self.now.marks.now c.args.derivation.now c.args.shown.now
     (subst (λ k. slice_get c.args.self.now.marks.now k ≡ Some false) c.requires.next unmarked) c.requires.showing)
 
 pub show-requires-clause-older : goal.show-requires-clause-older
-show-requires-clause-older c =
+show-requires-clause-older g c =
     let marked : IsMarked c.args.self.now.marks.now c.args.fact.0 = slice_get-get_or c.args.self.now.marks.now c.args.fact.0 false c.requires.there ∙ ap Some c.if-not-self-number.false in
     older_shown c.args.self.now.ontology.now c.args.self.now.saturation.now c.args.self.now.marks.now c.args.derivation.now c.args.shown.now c.args.fact.0
     c.requires.ready.saturated c.requires.ready.closed marked c.requires.next (omega (arith, c.requires.there, c.requires.ready.long)) c.requires.showing
 
 pub returns-clause-showing : goal.returns-clause-showing
-returns-clause-showing c =
+returns-clause-showing g c =
     let o = c.args.self.now.ontology.now in
     let s = c.args.self.now.saturation.now in
     let marks = c.args.self.now.marks.now in

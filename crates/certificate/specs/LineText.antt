@@ -1,0 +1,47 @@
+-- The text of the lines of a derivation as it grows, behind the first line of a consistent certificate.
+use Rattle.std.specs.Prelude.{◌≡◌, ℕ, ◌++◌, List, length, map, drop, Option, Some, None, Bool, true, ◌&&◌, codes}
+use Rattle.std.specs.List.{list_all, flat_map}
+use Rattle.certificate.specs.Certificate.{Subject, Expression, Individual, Conclusion, Sub, Edge, Line}
+use Rattle.certificate.specs.Fitting.{is_small, is_premise}
+use Rattle.certificate.specs.LineReading.{line_at}
+use Rattle.certificate.specs.Reading.{many_from}
+use Rattle.certificate.specs.Text.{line_text}
+use Rattle.certificate.specs.View.{subject_of}
+use Rattle.certificate.specs.declared.line.Subject.{Subject as Subject2}
+
+abbrev pub first_line : List ℕ
+first_line = codes "elcert 1 consistent\n"
+
+-- the lines behind the first line of a text
+unfoldable pub lines_in : List ℕ → List Line
+lines_in text = (many_from (λ last. line_at) None (length (drop 20 text)) (drop 20 text)).0
+
+-- what a line speaks of: the subject, or the start of an edge
+abbrev pub source_of : Conclusion → Subject
+source_of (Sub x c) = x
+source_of (Edge x r y) = x
+
+-- ---- numbers that are read again: of 32 bits, and premises from 1
+
+abbrev pub is_small_subject : Subject → Bool
+is_small_subject (Expression e) = is_small e
+is_small_subject (Individual a) = is_small a
+
+abbrev pub is_small_conclusion : Conclusion → Bool
+is_small_conclusion (Sub x c) = is_small_subject x && is_small c
+is_small_conclusion (Edge x r y) = is_small_subject x && (is_small r && is_small_subject y)
+
+abbrev pub is_small_axiom : Option ℕ → Bool
+is_small_axiom None = true
+is_small_axiom (Some n) = is_small n
+
+abbrev pub fits_types : Line → Bool
+fits_types line = is_small_conclusion line.conclusion && (is_small_axiom line.axiom' && list_all is_premise line.premises)
+
+-- ---- a text with what is kept beside it
+
+-- the text is that of its lines, whose numbers are read again, and the sources are theirs
+pub record IsLineText (text : List ℕ) (sources : List Subject2) : Type 0 where
+  pub spelled : text ≡ first_line ++ flat_map line_text (lines_in text)
+  pub fit : list_all fits_types (lines_in text) ≡ true
+  pub kept : map subject_of sources ≡ map (λ l. source_of l.conclusion) (lines_in text)

@@ -1,0 +1,10 @@
+use Rattle.std.proofs.lemmas.Result.{on_ok_weaker}
+use Rattle.explain.proofs.Saying.{have_facts}
+use Rattle.explain.proofs.derivations.add_facts.Goals as goal
+
+pub returns-clause-facts : goal.returns-clause-facts
+returns-clause-facts g c =
+    on_ok_weaker c.add_lines.result
+    (λ shown. have_facts c.args.ontology.now c.args.saturation.now c.add_lines.new.derivation c.requires.saturated
+    (λ n f wanted at. shown n f ((c.in_ok-marks.ensures.exact n f (rw (c.facts.ensures) at)).1 wanted) at))
+    c.add_lines.ensures.shown

@@ -1,0 +1,10 @@
+use Rattle.std.proofs.Common.{sym, subst, ◌∙◌}
+use Rattle.cert_check.specs.Derivation.{IsDerivation}
+use Rattle.explain.specs.Needed.{EachIsNeeded}
+use Rattle.explain.proofs.derivations.line_text.Goals as goal
+
+pub returns-clause-derivation : goal.returns-clause-derivation
+returns-clause-derivation c = subst (IsDerivation c.args.ontology.now) (sym c.into_sink.ensures) c.in_ok-add_facts.ensures.derivation
+
+pub returns-clause-needed : goal.returns-clause-needed
+returns-clause-needed c = subst (EachIsNeeded c.args.ontology.now) (sym c.into_sink.ensures) c.in_ok-add_facts.ensures.needed
