@@ -1,5 +1,6 @@
 -- What the forms of an ontology lead to is its closure.
-use Rattle.std.proofs.Common.{◌≡◌, List, [], map, ap, ◌∙◌, sym, subst, Result, Ok, Err, IfOk}
+use Rattle.std.proofs.Common.{◌≡◌, ℕ, List, [], map, ap, ◌∙◌, sym, subst, Result, Ok, Err, IfOk}
+use Rattle.lemmas.proofs.Members.{slice_get-from_Contains}
 use Rattle.device.specs.declared.fault.Memory.{Memory}
 use Rattle.axioms.specs.Numbered.{Ontology}
 use Rattle.normal_forms.specs.declared.forms.Form.{Form}
@@ -15,7 +16,10 @@ use Rattle.problem.specs.Roots.{AreRoots}
 use Rattle.problem.proofs.Made.{makes_the_problem}
 use Rattle.saturate.specs.State.{Seen, AreBorn}
 use Rattle.saturate.specs.Working.{IsClosure}
-use Rattle.engine.specs.Saturated.{IsSaturated, SayTheClosure}
+use Rattle.saturate.specs.Derived as derived
+use Rattle.saturate.proofs.Growth.{sound}
+use Rattle.engine.specs.Saturated.{HasMoreFactsThan, IsSaturated, IsSound, SayFactsOfTheClosure, SayTheClosure}
+use Rattle.engine.proofs.Saying.{more_facts}
 
 -- the forms and roots that are there make the problem of the ontology
 pub is_problem : (o : Ontology) (v : Listing) (roots : List Context) (k : Problem) → IsNormalFor o v → v.asked ≡ [] → AreRoots o [] roots
@@ -40,11 +44,29 @@ says_the_closure o v s problem closure = record {
       (f, (closure f).1 is, says);
 }
 
-pub is_saturated : (o : Ontology) (v : Listing) (k : Problem) (s : Seen) → IsNormalFor o v → v.asked ≡ [] → IsProblemOf o [] (beginnings_of v) k
-    → k.forms ≡ map form_in v.entries → s.problem ≡ k → IsClosure s.problem s.facts → AreBorn s → IsSaturated o (record { normal = v; state = s })
-is_saturated o v k s normal asked problem forms same closure born =
-    let there : IsProblemOf o [] (beginnings_of v) s.problem = subst (IsProblemOf o [] (beginnings_of v)) (sym same) problem in
-    record { normal = normal; asked = asked; forms = ap (λ (p : Problem). p.forms) same ∙ forms; problem = there; facts = says_the_closure o v s there closure; born = born }
+says_facts : (o : Ontology) (v : Listing) (s : Seen) → IsProblemOf o [] (beginnings_of v) s.problem → AreBorn s → SayFactsOfTheClosure o (beginnings_of v) s.facts
+says_facts o v s problem born f there =
+    let (n, at) = slice_get-from_Contains s.facts f there in
+    said o [] (beginnings_of v) s.problem problem f (sound born n f at)
+
+-- facts that are born of the forms of the ontology are of its closure
+pub is_sound : (o : Ontology) (v : Listing) (s : Seen) → IsNormalFor o v → v.asked ≡ [] → s.problem.forms ≡ map form_in v.entries → IsProblemOf o [] (beginnings_of v) s.problem → AreBorn s
+    → IsSound o (record { normal = v; state = s })
+is_sound o v s normal asked forms problem born = record { normal = normal; asked = asked; forms = forms; problem = problem; facts = says_facts o v s problem born; born = born }
+
+-- .. and so are those that come of them
+pub still_sound : (o : Ontology) (v : Listing) (s t : Seen) → IsSound o (record { normal = v; state = s }) → t.problem ≡ s.problem → AreBorn t → IsSound o (record { normal = v; state = t })
+still_sound o v s t h same born = is_sound o v t h.normal h.asked
+    (ap (λ (k : Problem). k.forms) same ∙ h.forms)
+    (subst (IsProblemOf o [] (beginnings_of v)) (sym same) h.problem)
+    born
+
+-- where they are all that the forms lead to, they are the closure
+pub is_saturated : (o : Ontology) (v : Listing) (s : Seen) → IsSound o (record { normal = v; state = s }) → IsClosure s.problem s.facts → IsSaturated o (record { normal = v; state = s })
+is_saturated o v s h closure = record { normal = h.normal; asked = h.asked; forms = h.forms; problem = h.problem; facts = says_the_closure o v s h.problem closure; born = h.born }
+
+pub has_more : (o : Ontology) (v : Listing) (s : Seen) (most : ℕ) → IsSound o (record { normal = v; state = s }) → derived.HasMoreFactsThan s.problem most → HasMoreFactsThan o most
+has_more o v s most h more = more_facts o (beginnings_of v) s.problem h.problem most more
 
 abbrev err_or : {T E : Type 0} → E → Result T E → E
 err_or d (Ok x) = d

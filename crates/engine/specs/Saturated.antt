@@ -17,6 +17,24 @@ pub record Saturated : Type 0 where
   pub normal : Listing
   pub state : Seen
 
+-- the facts over numbers say facts of the closure, where nothing is asked about
+abbrev pub SayFactsOfTheClosure : Ontology → Beginnings → List code.Fact → Type 0
+SayFactsOfTheClosure o b facts = (f : code.Fact) → Contains facts f → (g : Fact) × SaysFact b f g × IsFact o [] g
+
+-- the normal forms are those of the ontology, and the facts are of its closure, each once and with what gave it: there may be more
+pub record IsSound (o : Ontology) (s : Saturated) : Type 0 where
+  pub normal : IsNormalFor o s.normal
+  pub asked : s.normal.asked ≡ []
+  -- .. in the same order
+  pub forms : s.state.problem.forms ≡ map form_in s.normal.entries
+  pub problem : IsProblemOf o [] (beginnings_of s.normal) s.state.problem
+  pub facts : SayFactsOfTheClosure o (beginnings_of s.normal) s.state.facts
+  pub born : AreBorn s.state
+
+-- all facts are served
+abbrev pub IsFinished : Saturated → Type 0
+IsFinished s = length s.state.served ≡ length s.state.facts
+
 -- the facts over numbers say exactly the facts of the closure, where nothing is asked about
 pub record SayTheClosure (o : Ontology) (b : Beginnings) (facts : List code.Fact) : Type 0 where
   pub each : (f : code.Fact) → Contains facts f → (g : Fact) × SaysFact b f g × IsFact o [] g

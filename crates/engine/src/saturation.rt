@@ -1,14 +1,16 @@
 //! All facts that an ontology leads to.
 ghost use Rattle.closure.specs.Said.{IsProblemOf};
-ghost use Rattle.engine.specs.Saturated.{HasMoreFactsThan, IsSaturated};
+ghost use Rattle.axioms.specs.Numbered.{Ontology as Ontology2};
+ghost use Rattle.engine.specs.Saturated.{HasMoreFactsThan, IsFinished, IsSaturated, IsSound};
 ghost use Rattle.facts.specs.Births.{IsBirth, reason};
 ghost use Rattle.facts.specs.declared.contexts.Fact.{Fact as Fact2};
 ghost use Rattle.normalise.specs.Entries.{form_in};
 ghost use Rattle.normalise.specs.Growing.{IsNormalFor};
 ghost use Rattle.problem.specs.Made.{beginnings_of};
 ghost use Rattle.saturate.specs.Closed.{IsClosureOf};
+ghost use Rattle.saturate.specs.State.{Extends};
 ghost use Rattle.saturate.specs.declared.known_facts.Stop.TheVariants as stops;
-ghost use Rattle.std.specs.Prelude.{◌≡◌, ◌≤◌, Err, IfNone, IfOk, IfSome, Some, [], length, map, slice_get, take};
+ghost use Rattle.std.specs.Prelude.{◌≡◌, ◌≤◌, ◌↔◌, Err, IfNone, IfOk, IfSome, IsTrue, OnOk, Some, [], length, map, slice_get, take};
 
 use crate::counts::counted;
 use axioms::{Memory, Ontology};
@@ -23,7 +25,7 @@ use std::hash::RandomState;
 use std::marker::Model;
 use work_list::Fifo;
 
-/// The normal forms of an ontology, and all facts that they lead to.
+/// The normal forms of an ontology, and facts that they lead to: after a run to the end all of them.
 #[derive(Drop)]
 pub struct Saturation {
     normal: Normal,
@@ -39,6 +41,60 @@ impl Model for Saturation {
 }
 
 impl Saturation {
+    /// The start of a saturation of the ontology, with nothing run.
+    ///
+    /// # Errors
+    ///
+    /// `Memory` where memory was refused, or there are 2^32 - 1 fresh names of a kind.
+    pub fn start(
+        alloc: Global,
+        state: RandomState,
+        ontology: &Ontology,
+    ) -> Result<Saturation, Memory>
+        ensures sound { IfOk result (IsSound ontology.now) }
+        ensures unserved { IfOk result (λ s. s.state.served ≡ []) }
+    {
+        let normal = normalise(alloc, state, ontology)?;
+        let state = begun(alloc, state, ontology, &normal)?;
+        state.well_formed();
+        Ok(Saturation { normal, state })
+    }
+
+    /// Serves all facts that are pending, and those that come of them, as long as there are at most `max_facts`.
+    ///
+    /// # Errors
+    ///
+    /// `Limit` where the closure has more facts than `max_facts`, and `Memory` where memory was refused. After either the facts
+    /// that are not served are still pending, and it may be called again.
+    pub fn resume(&mut self, max_facts: u32) -> Result<(), Stop>
+        // The forms are the same, and each fact stays at its place, with what gave it.
+        ensures normal { self.new.normal ≡ self.old.normal }
+        ensures extends { Extends self.old.state self.new.state }
+        ensures sound { (o : Ontology2) → IsSound o self.old → IsSound o self.new }
+        ensures finished { OnOk result (IsFinished self.new) }
+        ensures saturated { OnOk result ((o : Ontology2) → IsSound o self.old → IsSaturated o self.new) }
+        ensures within { OnOk result (length self.new.state.facts ≤ max_facts) }
+        ensures limit { result ≡ Err stops.Limit → (o : Ontology2) → IsSound o self.old → HasMoreFactsThan o max_facts }
+    {
+        self.state.run(max_facts)
+    }
+
+    /// How many of the facts are served.
+    pub fn served(&self) -> usize
+        ensures { result ≡ length self.now.state.served }
+    {
+        self.state.served()
+    }
+
+    /// Whether all facts are served: then they are the closure.
+    pub fn is_finished(&self) -> bool
+        ensures finished { IsTrue result ↔ IsFinished self.now }
+        ensures saturated { IsTrue result → (o : Ontology2) → IsSound o self.now → IsSaturated o self.now }
+    {
+        self.state.well_formed();
+        self.served() == self.facts().len()
+    }
+
     /// The normal forms. What fresh names in facts stand for is told there.
     pub fn normal(&self) -> &Normal
         ensures { result.now ≡ self.now.normal }
@@ -98,6 +154,7 @@ fn begun(
     requires asked { normal.now.asked ≡ [] }
     ensures problem { IfOk result (λ s. IsProblemOf ontology.now [] (beginnings_of normal.now) s.problem) }
     ensures forms { IfOk result (λ s. s.problem.forms ≡ map form_in normal.now.entries) }
+    ensures served { IfOk result (λ s. s.served ≡ []) }
 {
     let closure = closed(alloc, normal.forms())?;
     let forms = copied(alloc, normal.forms())?;
@@ -121,10 +178,12 @@ pub fn saturated(
     ensures within { IfOk result (λ s. length s.state.facts ≤ max_facts) }
     ensures limit { result ≡ Err stops.Limit → HasMoreFactsThan ontology.now max_facts }
 {
-    let normal = normalise(alloc, state, ontology)?;
-    let mut state = begun(alloc, state, ontology, &normal)?;
-    match state.run(max_facts) {
-        Ok(()) => Ok(Saturation { normal, state }),
-        Err(stop) => Err(stop),
+    let mut saturation = Saturation::start(alloc, state, ontology)?;
+    match saturation.resume(max_facts) {
+        Ok(()) => Ok(saturation),
+        Err(stop) => {
+            drop(saturation);
+            Err(stop)
+        }
     }
 }

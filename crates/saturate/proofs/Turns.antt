@@ -128,3 +128,16 @@ just_taken {queued = queued} {served = served} taken x q all =
       some = λ n e. let w = in_hand q n e in (w.0, rw (← take-append-le served taken (x ∷ []) short) w.1);
       none = λ e. absurd (none-some x (sym e ∙ at));
     }
+
+-- what was served was queued
+pub few_served : {bag : Bag} {queued served : ℕ} {taken : List ℕ} → IsQueue bag queued taken served → length (take served taken) ≤ queued
+few_served {queued = queued} {served = served} {taken = taken} q = simp length-take (omega (arith, q.tally))
+
+-- as many were served as were queued, so nothing waits
+pub all_served : {bag : Bag} {queued served : ℕ} {taken : List ℕ} → IsQueue bag queued taken served → (bag.total ≡ 0 → IsEmpty bag) → queued ≤ length (take served taken) → (n : ℕ) → n < queued → Contains (take served taken) n
+all_served {bag = bag} {queued = queued} {served = served} {taken = taken} q empty most n low =
+    let few : length (take served taken) ≤ served = simp length-take (omega arith) in
+    let long : length taken ≤ served = omega (arith, q.tally, few) in
+    let whole : take served taken ≡ taken = take_all served taken long in
+    let none : bag.total ≡ 0 = omega (arith, q.tally, q.low, few) in
+    rw whole (all_taken q (empty none) n low)

@@ -89,6 +89,14 @@ impl<W: WorkList> Queue<W> {
         self.served
     }
 
+    /// Where as many numbers were served as were queued, each of them was.
+    pub fn all_served(&self)
+        ensures few { length self.now.served ≤ self.now.queued }
+        ensures all { self.now.queued ≤ length self.now.served → (n : ℕ) → n < self.now.queued → Contains self.now.served n }
+    {
+        let _waiting = self.list.len();
+    }
+
     /// Queues the numbers of all facts.
     fn fill(&mut self, facts: &[Fact]) -> Result<(), Memory>
         requires few { length facts.now < 2 ^ 32 }

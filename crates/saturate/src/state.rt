@@ -114,6 +114,14 @@ impl<W: WorkList> State<W> {
         self.queue.served()
     }
 
+    /// Each fact is there once, born of older ones; and where all are served, they are the closure.
+    pub fn well_formed(&self)
+        ensures born { AreBorn self.now }
+        ensures closure { length self.now.served ≡ length self.now.facts → IsClosure self.now.problem self.now.facts }
+    {
+        self.queue.all_served();
+    }
+
     /// Serves a fact that is pending, or answers `false` where there is none.
     ///
     /// # Errors

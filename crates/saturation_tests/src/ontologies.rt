@@ -84,6 +84,28 @@ fn facts_of_one_subclass(rt: HostRuntime) -> Result<(), Fail> {
     Ok(())
 }
 
+/// Whether a saturation that stops at one fact too few goes on to so many, which are served.
+fn goes_on<R: AllocGlobal + RandomSource>(
+    rt: &R,
+    ontology: &Ontology,
+    facts: u32,
+) -> Result<bool, Fail> {
+    let mut saturation = Saturation::start(rt.alloc(), RandomState::new(rt)?, ontology)?;
+    let begun = saturation.served() == 0 && !saturation.is_finished();
+    let stopped = saturation.resume(facts.saturating_sub(1)) == Err(Stop::Limit);
+    let unfinished = !saturation.is_finished();
+    let ended = saturation.resume(facts) == Ok(());
+    let all = saturation.facts().len() == facts as usize && saturation.served() == facts as usize;
+    Ok(begun && stopped && unfinished && ended && all && saturation.is_finished())
+}
+
+#[test]
+fn a_stopped_saturation_goes_on(rt: HostRuntime) -> Result<(), Fail> {
+    let ontology = one_subclass(&rt)?;
+    assert!(rt; goes_on(&rt, &ontology, 8)?);
+    Ok(())
+}
+
 /// The property r, and the expression 4 that some r joins to the class.
 fn add_some<R: Abort>(rt: &R, builder: &mut Builder, filler: u32) -> Result<(), BuildFault> {
     builder.declare(Kind::Property, "x:r")?;

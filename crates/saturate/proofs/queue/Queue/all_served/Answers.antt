@@ -1,0 +1,9 @@
+use Rattle.std.proofs.Common.{◌∙◌}
+use Rattle.saturate.proofs.Turns.{few_served, all_served}
+use Rattle.saturate.proofs.queue.Queue.all_served.Goals as goal
+
+pub returns-clause-few : goal.returns-clause-few
+returns-clause-few g c = rw (← c.self.view_is) (few_served c.self.invariant)
+
+pub returns-clause-all : goal.returns-clause-all
+returns-clause-all g c = rw (← c.self.view_is) (λ most n low. all_served c.self.invariant (λ none. c.len-waiting.ensures.empty (c.len-waiting.ensures.value ∙ none)) most n low)
