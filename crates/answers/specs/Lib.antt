@@ -1,0 +1,3 @@
+pub mod Names
+pub mod Follows
+pub mod Asked

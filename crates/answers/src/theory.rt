@@ -1,0 +1,10 @@
+//! What the facts of a saturation say.
+ghost use Rattle.answers.specs.Follows.{ClassesFollow, ContradictionIsExact, TypesFollow};
+
+/// Exactly what follows from the axioms, in every finite interpretation in which they hold, is what a saturation has of named
+/// classes and individuals.
+pub fn what_follows()
+    ensures classes { ClassesFollow }
+    ensures types { TypesFollow }
+    ensures contradiction { ContradictionIsExact }
+{}
