@@ -1,0 +1,4 @@
+pub mod Names
+pub mod Proof
+pub mod Refutation
+pub mod Graphs

@@ -1,0 +1,191 @@
+//! The texts, in memory and written to a sink.
+ghost use Rattle.answer_texts.specs.Graphs as graphs;
+ghost use Rattle.answer_texts.specs.Proof as proof;
+ghost use Rattle.answer_texts.specs.Refutation as refutation;
+ghost use Rattle.certificate.specs.HasText.{IsLineOf};
+ghost use Rattle.certificate.specs.View.{lines_of};
+ghost use Rattle.device.specs.Device.{AppendsBeginning, HasFailed};
+ghost use Rattle.interpretation_spec.specs.Numbered.{IsMadeFor};
+ghost use Rattle.std.specs.Io.KnownBytes.{Appends, Keeps};
+ghost use Rattle.std.specs.Prelude.{◌≡◌, ◌≤◌, All, IfOk, IsErrOf, OnOk};
+
+use crate::proof::push_lines;
+use crate::refutation::push_refutation;
+use crate::{graph_of_proof, graph_of_refutation};
+use axioms::{Memory, Ontology};
+use certificate::Line;
+use device::{Sink, WriteFault, write_all};
+use interpretation_spec::Interpretation;
+use std::alloc::Global;
+
+/// The lines of a derivation over the ontology, as people read them: a line each, with its number, rule, axiom and premises, in memory.
+///
+/// # Errors
+///
+/// `Memory` where memory was refused.
+pub fn proof_bytes(alloc: Global, ontology: &Ontology, lines: &[Line]) -> Result<Vec<u8>, Memory>
+    requires { All (IsLineOf ontology.now) (lines_of lines.now) }
+    ensures { IfOk result (λ v. v.items ≡ proof.proof_text ontology.now (lines_of lines.now)) }
+{
+    let mut out = Vec::new(alloc);
+    push_lines(&mut out, ontology, lines)?;
+    Ok(out)
+}
+
+/// Writes the lines of a derivation over the ontology, as people read them: a line each, with its number, rule, axiom and premises.
+///
+/// `Io` comes only where the sink failed in this call. After `Memory` it did not fail and has taken nothing. After either
+/// it has taken a beginning of the text.
+pub fn write_proof<S: Sink>(
+    alloc: Global,
+    ontology: &Ontology,
+    lines: &[Line],
+    sink: &mut S,
+) -> Result<(), WriteFault>
+    requires { All (IsLineOf ontology.now) (lines_of lines.now) }
+    ensures ok { OnOk result (Appends (S.taken sink.old) (S.taken sink.new) (proof.proof_text ontology.now (lines_of lines.now))) }
+    ensures begun { AppendsBeginning (S.taken sink.old) (S.taken sink.new) (proof.proof_text ontology.now (lines_of lines.now)) }
+    ensures io { IsErrOf result WriteFault.Io → HasFailed (S.failures sink.old) (S.failures sink.new) }
+    ensures untouched { IsErrOf result WriteFault.Memory → Keeps (S.taken sink.old) (S.taken sink.new) }
+    ensures untried { IsErrOf result WriteFault.Memory → S.failures sink.new ≡ S.failures sink.old }
+    ensures unfailed { OnOk result (S.failures sink.new ≡ S.failures sink.old) }
+    ensures count { S.failures sink.old ≤ S.failures sink.new }
+{
+    let text = proof_bytes(alloc, ontology, lines)?;
+    write_all(sink, &text)?;
+    Ok(())
+}
+
+/// The text of a refutation: an interpretation that was made for the ontology, and one of its elements, in memory.
+///
+/// # Errors
+///
+/// `Memory` where memory was refused.
+pub fn refutation_bytes(
+    alloc: Global,
+    ontology: &Ontology,
+    interpretation: &Interpretation,
+    element: usize,
+) -> Result<Vec<u8>, Memory>
+    requires { IsMadeFor ontology.now.names interpretation.now }
+    ensures { IfOk result (λ v. v.items ≡ refutation.refutation_text ontology.now.names interpretation.now element) }
+{
+    let mut out = Vec::new(alloc);
+    push_refutation(alloc, &mut out, ontology, interpretation, element)?;
+    Ok(out)
+}
+
+/// Writes the text of a refutation: an interpretation that was made for the ontology, and one of its elements.
+///
+/// `Io` comes only where the sink failed in this call. After `Memory` it did not fail and has taken nothing. After either
+/// it has taken a beginning of the text.
+pub fn write_refutation<S: Sink>(
+    alloc: Global,
+    ontology: &Ontology,
+    interpretation: &Interpretation,
+    element: usize,
+    sink: &mut S,
+) -> Result<(), WriteFault>
+    requires { IsMadeFor ontology.now.names interpretation.now }
+    ensures ok { OnOk result (Appends (S.taken sink.old) (S.taken sink.new) (refutation.refutation_text ontology.now.names interpretation.now element)) }
+    ensures begun { AppendsBeginning (S.taken sink.old) (S.taken sink.new) (refutation.refutation_text ontology.now.names interpretation.now element) }
+    ensures io { IsErrOf result WriteFault.Io → HasFailed (S.failures sink.old) (S.failures sink.new) }
+    ensures untouched { IsErrOf result WriteFault.Memory → Keeps (S.taken sink.old) (S.taken sink.new) }
+    ensures untried { IsErrOf result WriteFault.Memory → S.failures sink.new ≡ S.failures sink.old }
+    ensures unfailed { OnOk result (S.failures sink.new ≡ S.failures sink.old) }
+    ensures count { S.failures sink.old ≤ S.failures sink.new }
+{
+    let text = refutation_bytes(alloc, ontology, interpretation, element)?;
+    write_all(sink, &text)?;
+    Ok(())
+}
+
+/// The lines of a derivation as a DOT document: a node for each line, and an edge to it from each premise, in memory.
+///
+/// # Errors
+///
+/// `Memory` where memory was refused.
+pub fn proof_graph_bytes(
+    alloc: Global,
+    ontology: &Ontology,
+    lines: &[Line],
+) -> Result<Vec<u8>, Memory>
+    requires { All (IsLineOf ontology.now) (lines_of lines.now) }
+    ensures { IfOk result (λ v. v.items ≡ graphs.proof_graph ontology.now (lines_of lines.now)) }
+{
+    let mut out = Vec::new(alloc);
+    out.extend_from_slice(b"digraph derivation {\n  node [shape=box];\n")?;
+    graph_of_proof::push_graph(alloc, &mut out, ontology, lines)?;
+    out.extend_from_slice(b"}\n")?;
+    Ok(out)
+}
+
+/// Writes the lines of a derivation as a DOT document: a node for each line, and an edge to it from each premise.
+///
+/// `Io` comes only where the sink failed in this call. After `Memory` it did not fail and has taken nothing. After either
+/// it has taken a beginning of the text.
+pub fn write_proof_graph<S: Sink>(
+    alloc: Global,
+    ontology: &Ontology,
+    lines: &[Line],
+    sink: &mut S,
+) -> Result<(), WriteFault>
+    requires { All (IsLineOf ontology.now) (lines_of lines.now) }
+    ensures ok { OnOk result (Appends (S.taken sink.old) (S.taken sink.new) (graphs.proof_graph ontology.now (lines_of lines.now))) }
+    ensures begun { AppendsBeginning (S.taken sink.old) (S.taken sink.new) (graphs.proof_graph ontology.now (lines_of lines.now)) }
+    ensures io { IsErrOf result WriteFault.Io → HasFailed (S.failures sink.old) (S.failures sink.new) }
+    ensures untouched { IsErrOf result WriteFault.Memory → Keeps (S.taken sink.old) (S.taken sink.new) }
+    ensures untried { IsErrOf result WriteFault.Memory → S.failures sink.new ≡ S.failures sink.old }
+    ensures unfailed { OnOk result (S.failures sink.new ≡ S.failures sink.old) }
+    ensures count { S.failures sink.old ≤ S.failures sink.new }
+{
+    let text = proof_graph_bytes(alloc, ontology, lines)?;
+    write_all(sink, &text)?;
+    Ok(())
+}
+
+/// A refutation as a DOT document: a node for each element, the refuting one with two outlines, and an edge for each pair, in memory.
+///
+/// # Errors
+///
+/// `Memory` where memory was refused.
+pub fn refutation_graph_bytes(
+    alloc: Global,
+    ontology: &Ontology,
+    interpretation: &Interpretation,
+    element: usize,
+) -> Result<Vec<u8>, Memory>
+    requires { IsMadeFor ontology.now.names interpretation.now }
+    ensures { IfOk result (λ v. v.items ≡ graphs.refutation_graph ontology.now.names interpretation.now element) }
+{
+    let mut out = Vec::new(alloc);
+    out.extend_from_slice(b"digraph refutation {\n  node [shape=ellipse];\n")?;
+    graph_of_refutation::push_graph(&mut out, ontology, interpretation, element)?;
+    out.extend_from_slice(b"}\n")?;
+    Ok(out)
+}
+
+/// Writes a refutation as a DOT document: a node for each element, the refuting one with two outlines, and an edge for each pair.
+///
+/// `Io` comes only where the sink failed in this call. After `Memory` it did not fail and has taken nothing. After either
+/// it has taken a beginning of the text.
+pub fn write_refutation_graph<S: Sink>(
+    alloc: Global,
+    ontology: &Ontology,
+    interpretation: &Interpretation,
+    element: usize,
+    sink: &mut S,
+) -> Result<(), WriteFault>
+    requires { IsMadeFor ontology.now.names interpretation.now }
+    ensures ok { OnOk result (Appends (S.taken sink.old) (S.taken sink.new) (graphs.refutation_graph ontology.now.names interpretation.now element)) }
+    ensures begun { AppendsBeginning (S.taken sink.old) (S.taken sink.new) (graphs.refutation_graph ontology.now.names interpretation.now element) }
+    ensures io { IsErrOf result WriteFault.Io → HasFailed (S.failures sink.old) (S.failures sink.new) }
+    ensures untouched { IsErrOf result WriteFault.Memory → Keeps (S.taken sink.old) (S.taken sink.new) }
+    ensures untried { IsErrOf result WriteFault.Memory → S.failures sink.new ≡ S.failures sink.old }
+    ensures unfailed { OnOk result (S.failures sink.new ≡ S.failures sink.old) }
+    ensures count { S.failures sink.old ≤ S.failures sink.new }
+{
+    let text = refutation_graph_bytes(alloc, ontology, interpretation, element)?;
+    write_all(sink, &text)?;
+    Ok(())
+}

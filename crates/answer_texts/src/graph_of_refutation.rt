@@ -1,0 +1,228 @@
+//! A refutation as a graph.
+ghost use Rattle.answer_texts.specs.Graphs as graphs;
+ghost use Rattle.axioms.specs.Numbered.{name_at};
+ghost use Rattle.interpretation_spec.specs.Numbered.{IsMadeFor};
+ghost use Rattle.std.specs.List.{enumerate_from, flat_map, range_with_len};
+ghost use Rattle.std.specs.Prelude.{◌++◌, ◌-◌, ◌≡◌, OnOk, length, map};
+ghost use Rattle.std.specs.String.{string_bytes};
+
+use crate::graph_of_proof::push_escaped;
+use crate::looking::{element_of, is_member, targets_of};
+use crate::names::{name_of, push_number};
+use axioms::{ClassId, IndId, Ontology, PropId};
+use interpretation_spec::Interpretation;
+use std::alloc::AllocError;
+
+// Adds the name in angle brackets, as it stands inside quotation marks.
+fn push_label(out: &mut Vec<u8>, names: &[String], n: usize) -> Result<(), AllocError>
+    ensures { OnOk result (out.new.items ≡ out.old.items ++ graphs.escaped_name (name_at (map string_bytes names.now) n)) }
+{
+    out.extend_from_slice(b"<")?;
+    push_escaped(out, name_of(names, n).as_bytes())?;
+    out.extend_from_slice(b">")
+}
+
+// Adds the name of the class, where the element is in it.
+fn push_class(
+    out: &mut Vec<u8>,
+    ontology: &Ontology,
+    interpretation: &Interpretation,
+    element: usize,
+    class: ClassId,
+) -> Result<(), AllocError>
+    ensures { OnOk result (out.new.items ≡ out.old.items ++ graphs.class_line ontology.now.names interpretation.now element class.0) }
+{
+    if !is_member(interpretation, class, element) {
+        return Ok(());
+    }
+    out.extend_from_slice(b"\\n")?;
+    push_label(out, ontology.classes(), class.index())
+}
+
+// Adds the names of the element's classes but owl:Thing.
+fn push_classes(
+    out: &mut Vec<u8>,
+    ontology: &Ontology,
+    interpretation: &Interpretation,
+    element: usize,
+) -> Result<(), AllocError>
+    ensures { OnOk result
+        (out.new.items
+        ≡ out.old.items ++ flat_map (graphs.class_line ontology.now.names interpretation.now element) (range_with_len 1 (length ontology.now.names.classes - 1))) }
+{
+    ontology.well_formed();
+    ontology.bounded();
+    for number in 1..ontology.classes().len() {
+        push_class(
+            out,
+            ontology,
+            interpretation,
+            element,
+            ClassId(number as u32),
+        )?;
+    }
+    Ok(())
+}
+
+// Adds the name of the individual, where the element is its own.
+fn push_individual(
+    out: &mut Vec<u8>,
+    ontology: &Ontology,
+    element: usize,
+    individual: usize,
+    own: usize,
+) -> Result<(), AllocError>
+    ensures { OnOk result (out.new.items ≡ out.old.items ++ graphs.individual_line ontology.now.names element (individual, own)) }
+{
+    if own != element {
+        return Ok(());
+    }
+    out.extend_from_slice(b"\\nindividual ")?;
+    push_label(out, ontology.individuals(), individual)
+}
+
+// Adds the names of the individuals whose element it is.
+fn push_individuals(
+    out: &mut Vec<u8>,
+    ontology: &Ontology,
+    interpretation: &Interpretation,
+    element: usize,
+) -> Result<(), AllocError>
+    requires { IsMadeFor ontology.now.names interpretation.now }
+    ensures { OnOk result
+        (out.new.items
+        ≡ out.old.items ++ flat_map (graphs.individual_line ontology.now.names element) (enumerate_from 0 interpretation.now.individuals)) }
+{
+    ontology.bounded();
+    for number in 0..ontology.individuals().len() {
+        let own = element_of(interpretation, IndId(number as u32));
+        push_individual(out, ontology, element, number, own)?;
+    }
+    Ok(())
+}
+
+// Adds what marks the element that refutes.
+fn push_outlines(out: &mut Vec<u8>, refuting: usize, element: usize) -> Result<(), AllocError>
+    ensures { OnOk result (out.new.items ≡ out.old.items ++ graphs.outlines refuting element) }
+{
+    if element != refuting {
+        return Ok(());
+    }
+    out.extend_from_slice(b", peripheries=2")
+}
+
+// Adds the node of an element.
+fn push_node(
+    out: &mut Vec<u8>,
+    ontology: &Ontology,
+    interpretation: &Interpretation,
+    refuting: usize,
+    element: usize,
+) -> Result<(), AllocError>
+    requires { IsMadeFor ontology.now.names interpretation.now }
+    ensures { OnOk result (out.new.items ≡ out.old.items ++ graphs.element_node ontology.now.names interpretation.now refuting element) }
+{
+    push_number(out, b"  ", element as u64)?;
+    push_number(out, b" [label=\"", element as u64)?;
+    push_classes(out, ontology, interpretation, element)?;
+    push_individuals(out, ontology, interpretation, element)?;
+    out.extend_from_slice(b"\"")?;
+    push_outlines(out, refuting, element)?;
+    out.extend_from_slice(b"];\n")
+}
+
+// Adds the nodes of all elements.
+fn push_nodes(
+    out: &mut Vec<u8>,
+    ontology: &Ontology,
+    interpretation: &Interpretation,
+    refuting: usize,
+) -> Result<(), AllocError>
+    requires { IsMadeFor ontology.now.names interpretation.now }
+    ensures { OnOk result
+        (out.new.items
+        ≡ out.old.items ++ flat_map (graphs.element_node ontology.now.names interpretation.now refuting) (range_with_len 0 interpretation.now.size)) }
+{
+    for element in 0..interpretation.size() {
+        push_node(out, ontology, interpretation, refuting, element)?;
+    }
+    Ok(())
+}
+
+// Adds an edge for each pair of the property from the source to a target.
+fn push_edges(
+    out: &mut Vec<u8>,
+    properties: &[String],
+    property: usize,
+    source: usize,
+    targets: &[usize],
+) -> Result<(), AllocError>
+    ensures { OnOk result
+        (out.new.items ≡ out.old.items ++ flat_map (graphs.pair_edge (name_at (map string_bytes properties.now) property) source) targets.now) }
+{
+    for target in targets {
+        push_number(out, b"  ", source as u64)?;
+        push_number(out, b" -> ", *target as u64)?;
+        out.extend_from_slice(b" [label=\"")?;
+        push_label(out, properties, property)?;
+        out.extend_from_slice(b"\"];\n")?;
+    }
+    Ok(())
+}
+
+// Adds the edges of the property.
+fn push_property(
+    out: &mut Vec<u8>,
+    ontology: &Ontology,
+    interpretation: &Interpretation,
+    property: PropId,
+) -> Result<(), AllocError>
+    ensures { OnOk result (out.new.items ≡ out.old.items ++ graphs.property_edges ontology.now.names interpretation.now property.0) }
+{
+    for source in 0..interpretation.size() {
+        let targets = targets_of(interpretation, property, source);
+        push_edges(
+            out,
+            ontology.properties(),
+            property.index(),
+            source,
+            targets,
+        )?;
+    }
+    Ok(())
+}
+
+// Adds the edges of all properties.
+fn push_properties(
+    out: &mut Vec<u8>,
+    ontology: &Ontology,
+    interpretation: &Interpretation,
+) -> Result<(), AllocError>
+    ensures { OnOk result
+        (out.new.items
+        ≡ out.old.items ++ flat_map (graphs.property_edges ontology.now.names interpretation.now) (range_with_len 0 (length ontology.now.names.properties))) }
+{
+    ontology.bounded();
+    for number in 0..ontology.properties().len() {
+        push_property(out, ontology, interpretation, PropId(number as u32))?;
+    }
+    Ok(())
+}
+
+/// Adds the nodes and the edges.
+pub(crate) fn push_graph(
+    out: &mut Vec<u8>,
+    ontology: &Ontology,
+    interpretation: &Interpretation,
+    refuting: usize,
+) -> Result<(), AllocError>
+    requires { IsMadeFor ontology.now.names interpretation.now }
+    ensures { OnOk result
+        (out.new.items
+        ≡ out.old.items
+        ++ (flat_map (graphs.element_node ontology.now.names interpretation.now refuting) (range_with_len 0 interpretation.now.size)
+        ++ flat_map (graphs.property_edges ontology.now.names interpretation.now) (range_with_len 0 (length ontology.now.names.properties)))) }
+{
+    push_nodes(out, ontology, interpretation, refuting)?;
+    push_properties(out, ontology, interpretation)
+}

@@ -1,0 +1,16 @@
+//! The texts of answers for people: derivations and refutations, as lines and as graphs.
+#![tactic(auto)]
+
+mod answers;
+mod expression;
+mod graph_of_proof;
+mod graph_of_refutation;
+mod looking;
+mod names;
+mod proof;
+mod refutation;
+
+pub use answers::{
+    proof_bytes, proof_graph_bytes, refutation_bytes, refutation_graph_bytes, write_proof,
+    write_proof_graph, write_refutation, write_refutation_graph,
+};

@@ -1,0 +1,196 @@
+//! An interpretation and one of its elements, as people read them.
+ghost use Rattle.answer_texts.specs.Names.{spaced_numbers};
+ghost use Rattle.answer_texts.specs.Refutation as text;
+ghost use Rattle.axioms.specs.Numbered.{name_at};
+ghost use Rattle.interpretation_spec.specs.Numbered.{IsMadeFor};
+ghost use Rattle.std.specs.List.{enumerate_from, flat_map, range_with_len};
+ghost use Rattle.std.specs.Prelude.{◌++◌, ◌-◌, ◌<◌, ◌≡◌, ◌^◌, ◌≤◌, IfOk, OnOk, length, map};
+ghost use Rattle.std.specs.String.{string_bytes};
+
+use crate::looking::{element_of, is_member, targets_of};
+use crate::names::{push_name, push_number};
+use axioms::{ClassId, IndId, Memory, Ontology, PropId};
+use interpretation_spec::Interpretation;
+use std::alloc::{AllocError, Global};
+
+// The elements of the class.
+fn elements_of(
+    alloc: Global,
+    interpretation: &Interpretation,
+    class: ClassId,
+) -> Result<Vec<usize>, Memory>
+    ensures { IfOk result (λ v. v.items ≡ text.elements_of interpretation.now class.0) }
+{
+    let mut elements = Vec::new(alloc);
+    for element in 0..interpretation.size() {
+        if is_member(interpretation, class, element) {
+            elements.push(element)?;
+        }
+    }
+    Ok(elements)
+}
+
+// Adds the numbers, each behind a space.
+fn push_elements(out: &mut Vec<u8>, elements: &[usize]) -> Result<(), AllocError>
+    ensures { OnOk result (out.new.items ≡ out.old.items ++ spaced_numbers elements.now) }
+{
+    for element in elements {
+        push_number(out, b" ", *element as u64)?;
+    }
+    Ok(())
+}
+
+// Adds the line of the class of that number, where it has elements.
+fn push_class(
+    out: &mut Vec<u8>,
+    ontology: &Ontology,
+    interpretation: &Interpretation,
+    class: ClassId,
+    elements: &[usize],
+) -> Result<(), AllocError>
+    requires { elements.now ≡ text.elements_of interpretation.now class.0 }
+    ensures { OnOk result (out.new.items ≡ out.old.items ++ text.class_text ontology.now.names interpretation.now class.0) }
+{
+    if elements.is_empty() {
+        return Ok(());
+    }
+    out.extend_from_slice(b"class ")?;
+    push_name(out, ontology.classes(), class.index())?;
+    push_elements(out, elements)?;
+    out.extend_from_slice(b"\n")
+}
+
+// Adds the lines of all classes but owl:Thing.
+fn push_classes(
+    alloc: Global,
+    out: &mut Vec<u8>,
+    ontology: &Ontology,
+    interpretation: &Interpretation,
+) -> Result<(), Memory>
+    ensures { OnOk result
+        (out.new.items
+        ≡ out.old.items ++ flat_map (text.class_text ontology.now.names interpretation.now) (range_with_len 1 (length ontology.now.names.classes - 1))) }
+{
+    ontology.well_formed();
+    ontology.bounded();
+    for number in 1..ontology.classes().len() {
+        let class = ClassId(number as u32);
+        let elements = elements_of(alloc, interpretation, class)?;
+        push_class(out, ontology, interpretation, class, &elements)?;
+    }
+    Ok(())
+}
+
+// Adds a line for each pair of the property from the source to a target.
+fn push_pairs(
+    out: &mut Vec<u8>,
+    properties: &[String],
+    property: usize,
+    source: usize,
+    targets: &[usize],
+) -> Result<(), AllocError>
+    ensures { OnOk result
+        (out.new.items ≡ out.old.items ++ flat_map (text.pair_text (name_at (map string_bytes properties.now) property) source) targets.now) }
+{
+    for target in targets {
+        out.extend_from_slice(b"pair ")?;
+        push_name(out, properties, property)?;
+        push_number(out, b" ", source as u64)?;
+        push_number(out, b" ", *target as u64)?;
+        out.extend_from_slice(b"\n")?;
+    }
+    Ok(())
+}
+
+// Adds the lines of the property.
+fn push_property(
+    out: &mut Vec<u8>,
+    ontology: &Ontology,
+    interpretation: &Interpretation,
+    property: PropId,
+) -> Result<(), AllocError>
+    ensures { OnOk result (out.new.items ≡ out.old.items ++ text.property_text ontology.now.names interpretation.now property.0) }
+{
+    for source in 0..interpretation.size() {
+        let targets = targets_of(interpretation, property, source);
+        push_pairs(
+            out,
+            ontology.properties(),
+            property.index(),
+            source,
+            targets,
+        )?;
+    }
+    Ok(())
+}
+
+// Adds the lines of all properties.
+fn push_properties(
+    out: &mut Vec<u8>,
+    ontology: &Ontology,
+    interpretation: &Interpretation,
+) -> Result<(), AllocError>
+    ensures { OnOk result
+        (out.new.items
+        ≡ out.old.items ++ flat_map (text.property_text ontology.now.names interpretation.now) (range_with_len 0 (length ontology.now.names.properties))) }
+{
+    ontology.bounded();
+    for number in 0..ontology.properties().len() {
+        push_property(out, ontology, interpretation, PropId(number as u32))?;
+    }
+    Ok(())
+}
+
+// Adds the line of an individual.
+fn push_individual(
+    out: &mut Vec<u8>,
+    ontology: &Ontology,
+    individual: usize,
+    element: usize,
+) -> Result<(), AllocError>
+    ensures { OnOk result (out.new.items ≡ out.old.items ++ text.individual_text ontology.now.names (individual, element)) }
+{
+    out.extend_from_slice(b"individual ")?;
+    push_name(out, ontology.individuals(), individual)?;
+    push_number(out, b" ", element as u64)?;
+    out.extend_from_slice(b"\n")
+}
+
+// Adds a line for each individual.
+fn push_individuals(
+    out: &mut Vec<u8>,
+    ontology: &Ontology,
+    interpretation: &Interpretation,
+) -> Result<(), AllocError>
+    requires { IsMadeFor ontology.now.names interpretation.now }
+    ensures { OnOk result
+        (out.new.items ≡ out.old.items ++ flat_map (text.individual_text ontology.now.names) (enumerate_from 0 interpretation.now.individuals)) }
+{
+    ontology.bounded();
+    for number in 0..ontology.individuals().len() {
+        let element = element_of(interpretation, IndId(number as u32));
+        push_individual(out, ontology, number, element)?;
+    }
+    Ok(())
+}
+
+/// Adds the whole text.
+pub(crate) fn push_refutation(
+    alloc: Global,
+    out: &mut Vec<u8>,
+    ontology: &Ontology,
+    interpretation: &Interpretation,
+    element: usize,
+) -> Result<(), Memory>
+    requires { IsMadeFor ontology.now.names interpretation.now }
+    ensures { OnOk result (out.new.items ≡ out.old.items ++ text.refutation_text ontology.now.names interpretation.now element) }
+{
+    push_number(out, b"no\ndomain ", interpretation.size() as u64)?;
+    out.extend_from_slice(b"\n")?;
+    push_classes(alloc, out, ontology, interpretation)?;
+    push_properties(out, ontology, interpretation)?;
+    push_individuals(out, ontology, interpretation)?;
+    push_number(out, b"element ", element as u64)?;
+    out.extend_from_slice(b"\n")?;
+    Ok(())
+}

@@ -1,0 +1,5 @@
+//! Tests of the texts of answers.
+#![tactic(auto)]
+
+#[cfg(test)]
+mod tests;
