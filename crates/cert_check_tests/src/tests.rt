@@ -4,10 +4,13 @@ mod models;
 mod ontologies;
 mod rules;
 
-use axioms::{ClassId, IndId, Memory, Ontology};
+use axioms::{ClassId, IndId, Ontology};
 use cert_check::{Reason, Verdict, check, soundness, worked_certificates};
-use ontologies::{circle_and_nothing, contradiction, one_member, one_subclass};
-use std::alloc::Global;
+use ontologies::{
+    CIRCLE_AND_NOTHING_DOCUMENT, CONTRADICTION_DOCUMENT, ONE_MEMBER_DOCUMENT,
+    ONE_SUBCLASS_DOCUMENT, ontology_of,
+};
+use std::alloc::{AllocError, Global};
 use std::process::Abort;
 use std::random::RandomSource;
 use std::test::Fail;
@@ -48,82 +51,84 @@ const CONTRADICTION: Texts<'static> = Texts {
     certificate: "elcert 1 inconsistent\nsub i0 e2 K15 a2\nsub i0 e3 K15 a3\nsub i0 e1 K7 a1 1 2\nend\n",
 };
 
-/// The verdict on the texts and the bytes of a certificate.
-fn verdict_on(
+/// The text between the two with each `;` as the end of a line.
+fn with_lines(alloc: Global, front: &str, lines: &str, back: &str) -> Result<String, AllocError> {
+    let mut text = String::from_str(alloc, front)?;
+    for character in lines.chars() {
+        text.push(if character == ';' { '\n' } else { character })?;
+    }
+    text.push_str(back)?;
+    Ok(text)
+}
+
+/// Whether this is the verdict on the texts with the certificate in place of theirs.
+fn has_verdict(
     alloc: Global,
     ontology: &Ontology,
     texts: Texts<'_>,
-    certificate: &[u8],
-) -> Result<Verdict, Memory> {
-    check(
+    certificate: &str,
+    expected: Verdict,
+) -> bool {
+    let found = check(
         alloc,
         ontology,
         texts.taxonomy.as_bytes(),
         texts.instances.as_bytes(),
-        certificate,
-    )
+        certificate.as_bytes(),
+    );
+    found == Ok(expected)
 }
+
+/// A part of a certificate, what stands in its place, and why the certificate is rejected then, if it is.
+type Change = (&'static str, &'static str, Option<Reason>);
 
 /// The text with one part of it replaced.
-fn changed(alloc: Global, text: &str, old: &str, new: &str) -> Result<String, Fail> {
-    let (front, back) = text.split_once(old).ok_or("the part to be replaced")?;
-    Ok(format!(in alloc; "{front}{new}{back}")?)
+fn changed(alloc: Global, text: &str, old: &str, new: &str) -> Result<String, AllocError> {
+    let (front, back) = text
+        .split_once(old)
+        .unwrap_or(("the part to be replaced: ", old));
+    format!(in alloc; "{front}{new}{back}")
 }
 
-/// The verdict where one part of the certificate is replaced.
-fn verdict_on_change(
-    alloc: Global,
-    ontology: &Ontology,
-    texts: Texts<'_>,
-    old: &str,
-    new: &str,
-) -> Result<Verdict, Fail> {
-    let certificate = changed(alloc, texts.certificate, old, new)?;
-    Ok(verdict_on(alloc, ontology, texts, certificate.as_bytes())?)
+/// Whether the change has its verdict.
+fn is_judged(alloc: Global, ontology: &Ontology, texts: Texts<'_>, change: Change) -> bool {
+    let (old, new, reason) = change;
+    let expected = match reason {
+        Some(reason) => Verdict::Rejected(reason),
+        None => Verdict::Accepted,
+    };
+    match changed(alloc, texts.certificate, old, new) {
+        Ok(certificate) => has_verdict(alloc, ontology, texts, &certificate, expected),
+        Err(_) => false,
+    }
 }
 
-/// Each change of a part of the certificate has this verdict.
+/// Each change of a part of the certificate has its verdict.
 fn are_judged<R: AllocGlobal + Abort>(
     rt: &R,
     ontology: &Ontology,
     texts: Texts<'_>,
-    changes: &[(&str, &str, Verdict)],
-) -> Result<(), Fail> {
-    for (old, new, expected) in changes {
-        let found = verdict_on_change(rt.alloc(), ontology, texts, old, new)?;
-        assert!(rt; found == *expected, "{new} in place of {old}");
+    changes: &[Change],
+) {
+    for change in changes {
+        let (old, new, _) = *change;
+        assert!(rt;
+            is_judged(rt.alloc(), ontology, texts, *change),
+            "{new} in place of {old}"
+        );
     }
+}
+
+/// The same of the ontology that the document states.
+fn judge<R: AllocGlobal + Abort + RandomSource>(
+    rt: &R,
+    document: &str,
+    texts: Texts<'_>,
+    changes: &[Change],
+) -> Result<(), Fail> {
+    let ontology = ontology_of(rt, document)?;
+    are_judged(rt, &ontology, texts, changes);
     Ok(())
-}
-
-/// The same of SubClassOf(A B).
-fn judge_one_subclass<R: AllocGlobal + Abort + RandomSource>(
-    rt: &R,
-    texts: Texts<'_>,
-    changes: &[(&str, &str, Verdict)],
-) -> Result<(), Fail> {
-    let ontology = one_subclass(rt)?;
-    are_judged(rt, &ontology, texts, changes)
-}
-
-/// The same of ClassAssertion(A a).
-fn judge_one_member<R: AllocGlobal + Abort + RandomSource>(
-    rt: &R,
-    texts: Texts<'_>,
-    changes: &[(&str, &str, Verdict)],
-) -> Result<(), Fail> {
-    let ontology = one_member(rt)?;
-    are_judged(rt, &ontology, texts, changes)
-}
-
-/// The same of DisjointClasses(A B) ClassAssertion(A a) ClassAssertion(B a).
-fn judge_contradiction<R: AllocGlobal + Abort + RandomSource>(
-    rt: &R,
-    texts: Texts<'_>,
-    changes: &[(&str, &str, Verdict)],
-) -> Result<(), Fail> {
-    let ontology = contradiction(rt)?;
-    are_judged(rt, &ontology, texts, changes)
 }
 
 fn bad_text(at: usize) -> Verdict {
@@ -144,175 +149,282 @@ fn claim_missing(class: u32) -> Verdict {
     })
 }
 
-fn claim_disagrees(class: u32) -> Verdict {
-    Verdict::Rejected(Reason::ClaimDisagrees {
-        class: ClassId(class),
-    })
-}
-
-fn individual_disagrees(individual: u32) -> Verdict {
-    Verdict::Rejected(Reason::IndividualDisagrees {
-        individual: IndId(individual),
-    })
-}
-
-fn taxonomy_differs(at: usize) -> Verdict {
-    Verdict::Rejected(Reason::TaxonomyDiffers { at })
-}
-
-fn instances_differ(at: usize) -> Verdict {
-    Verdict::Rejected(Reason::InstancesDiffer { at })
-}
-
 #[test]
 fn laws() {
     soundness();
     worked_certificates();
 }
 
+const CHANGED_CERTIFICATES_OF_ONE_SUBCLASS: &[Change] = &[
+    ("end", "end", None),
+    (
+        "claim e2 1",
+        "claim e2 0",
+        Some(Reason::ClaimDisagrees { class: ClassId(2) }),
+    ),
+    (
+        "sub e2 e3 K4 a1 3\n",
+        "",
+        Some(Reason::ClaimDisagrees { class: ClassId(2) }),
+    ),
+    ("K4 a1 3", "K4 a1 5", Some(Reason::BadLine { number: 5 })),
+    (
+        "class e3 1 2",
+        "class e3 2",
+        Some(Reason::AxiomFails { axiom: 1 }),
+    ),
+    (
+        "claim e3 2\n",
+        "",
+        Some(Reason::ClaimMissing { class: ClassId(3) }),
+    ),
+    (
+        "claim e3 2",
+        "claim e3 3",
+        Some(Reason::BadText { at: 171 }),
+    ),
+];
+
 #[test]
 fn changed_certificates_of_one_subclass(rt: HostRuntime) -> Result<(), Fail> {
-    let changes = [
-        ("end", "end", Verdict::Accepted),
-        ("claim e2 1", "claim e2 0", claim_disagrees(2)),
-        ("sub e2 e3 K4 a1 3\n", "", claim_disagrees(2)),
-        ("K4 a1 3", "K4 a1 5", bad_line(5)),
-        ("class e3 1 2", "class e3 2", axiom_fails(1)),
-        ("claim e3 2\n", "", claim_missing(3)),
-        ("claim e3 2", "claim e3 3", bad_text(171)),
-    ];
-    judge_one_subclass(&rt, ONE_SUBCLASS, &changes)
+    judge(
+        &rt,
+        ONE_SUBCLASS_DOCUMENT,
+        ONE_SUBCLASS,
+        CHANGED_CERTIFICATES_OF_ONE_SUBCLASS,
+    )
 }
+
+const FORGED_CERTIFICATES_OF_ONE_SUBCLASS: &[Change] = &[
+    ("K4 a1 3", "K4 a1 6", Some(Reason::BadLine { number: 5 })),
+    (
+        "K4 a1 3",
+        "K4 a1 99999999999",
+        Some(Reason::BadLine { number: 5 }),
+    ),
+    // The line that it rests on stands behind it.
+    (
+        "sub e2 e2 K1\nsub e2 e0 K2\nsub e2 e3 K4 a1 3",
+        "sub e2 e0 K2\nsub e2 e3 K4 a1 5\nsub e2 e2 K1",
+        Some(Reason::BadLine { number: 4 }),
+    ),
+    ("K4 a1 3", "K4 a1 0", Some(Reason::BadText { at: 72 })),
+    (
+        "K4 a1 3",
+        "K4 a1 18446744073709551616",
+        Some(Reason::BadText { at: 72 }),
+    ),
+    ("K4 a1 3", "K4 a2 3", Some(Reason::BadText { at: 72 })),
+    (
+        "domain 3",
+        "domain 4294967296",
+        Some(Reason::BadText { at: 116 }),
+    ),
+    (
+        "class e2 1",
+        "class e2 1\nclass e2 1",
+        Some(Reason::BadText { at: 136 }),
+    ),
+];
 
 #[test]
 fn forged_certificates_of_one_subclass(rt: HostRuntime) -> Result<(), Fail> {
-    let changes = [
-        ("K4 a1 3", "K4 a1 6", bad_line(5)),
-        ("K4 a1 3", "K4 a1 99999999999", bad_line(5)),
-        // The line that it rests on stands behind it.
-        (
-            "sub e2 e2 K1\nsub e2 e0 K2\nsub e2 e3 K4 a1 3",
-            "sub e2 e0 K2\nsub e2 e3 K4 a1 5\nsub e2 e2 K1",
-            bad_line(4),
-        ),
-        ("K4 a1 3", "K4 a1 0", bad_text(72)),
-        ("K4 a1 3", "K4 a1 18446744073709551616", bad_text(72)),
-        ("K4 a1 3", "K4 a2 3", bad_text(72)),
-        ("domain 3", "domain 4294967296", bad_text(116)),
-        ("class e2 1", "class e2 1\nclass e2 1", bad_text(136)),
-    ];
-    judge_one_subclass(&rt, ONE_SUBCLASS, &changes)
+    judge(
+        &rt,
+        ONE_SUBCLASS_DOCUMENT,
+        ONE_SUBCLASS,
+        FORGED_CERTIFICATES_OF_ONE_SUBCLASS,
+    )
 }
 
 // The first bad line is told, and a text that is that of no certificate before any line of it.
+const BAD_LINES_AND_BAD_TEXTS: &[Change] = &[
+    (
+        "sub e0 e0 K1\nsub e1 e1 K1",
+        "sub e0 e0 K1\nsub e1 e0 K1",
+        Some(Reason::BadLine { number: 2 }),
+    ),
+    (
+        "sub e0 e0 K1\nsub e1 e1 K1",
+        "sub e0 e1 K1\nsub e1 e0 K1",
+        Some(Reason::BadLine { number: 1 }),
+    ),
+    (
+        "sub e0 e0 K1\nsub e1 e1 K1",
+        "sub e0 e1 K1\nsub e1 e1 K17",
+        Some(Reason::BadText { at: 33 }),
+    ),
+    (
+        "sub e0 e0 K1\nsub e1 e1 K1",
+        "sub e0 e1 K1\nsub e1 e99 K1",
+        Some(Reason::BadText { at: 33 }),
+    ),
+];
+
 #[test]
 fn bad_lines_and_bad_texts(rt: HostRuntime) -> Result<(), Fail> {
-    let front = "sub e0 e0 K1\nsub e1 e1 K1";
-    let changes = [
-        (front, "sub e0 e0 K1\nsub e1 e0 K1", bad_line(2)),
-        (front, "sub e0 e1 K1\nsub e1 e0 K1", bad_line(1)),
-        (front, "sub e0 e1 K1\nsub e1 e1 K17", bad_text(33)),
-        (front, "sub e0 e1 K1\nsub e1 e99 K1", bad_text(33)),
-    ];
-    judge_one_subclass(&rt, ONE_SUBCLASS, &changes)
+    judge(
+        &rt,
+        ONE_SUBCLASS_DOCUMENT,
+        ONE_SUBCLASS,
+        BAD_LINES_AND_BAD_TEXTS,
+    )
 }
+
+const A_CLAIM_OF_NOTHING: &[Change] = &[(
+    "claim e2 1",
+    "claim e1 1\nclaim e2 1",
+    Some(Reason::ClaimDisagrees { class: ClassId(1) }),
+)];
 
 #[test]
 fn a_claim_of_nothing(rt: HostRuntime) -> Result<(), Fail> {
-    let changes = [("claim e2 1", "claim e1 1\nclaim e2 1", claim_disagrees(1))];
-    judge_one_subclass(&rt, ONE_SUBCLASS, &changes)
+    judge(&rt, ONE_SUBCLASS_DOCUMENT, ONE_SUBCLASS, A_CLAIM_OF_NOTHING)
 }
 
 // What lines say is counted once, however often they say it.
+const LINES_THAT_STAND_TWICE_SUPERCLASS: &[Change] = &[(
+    "sub e2 e3 K4 a1 3\n",
+    "sub e2 e3 K4 a1 3\nsub e2 e3 K4 a1 3\n",
+    None,
+)];
+
+const LINES_THAT_STAND_TWICE_CLASS: &[Change] = &[(
+    "sub i0 e0 K2\n",
+    "sub i0 e0 K2\nsub i0 e0 K2\nsub i0 e2 K15 a1\n",
+    None,
+)];
+
 #[test]
 fn lines_that_stand_twice(rt: HostRuntime) -> Result<(), Fail> {
-    let superclass = [(
-        "sub e2 e3 K4 a1 3\n",
-        "sub e2 e3 K4 a1 3\nsub e2 e3 K4 a1 3\n",
-        Verdict::Accepted,
-    )];
-    judge_one_subclass(&rt, ONE_SUBCLASS, &superclass)?;
-    let class = [(
-        "sub i0 e0 K2\n",
-        "sub i0 e0 K2\nsub i0 e0 K2\nsub i0 e2 K15 a1\n",
-        Verdict::Accepted,
-    )];
-    judge_one_member(&rt, ONE_MEMBER, &class)
+    judge(
+        &rt,
+        ONE_SUBCLASS_DOCUMENT,
+        ONE_SUBCLASS,
+        LINES_THAT_STAND_TWICE_SUPERCLASS,
+    )?;
+    judge(
+        &rt,
+        ONE_MEMBER_DOCUMENT,
+        ONE_MEMBER,
+        LINES_THAT_STAND_TWICE_CLASS,
+    )
 }
 
 // Not all lines of what is below owl:Nothing are there, and the classes of a circle have one element.
+const CLASSES_IN_A_CIRCLE_AND_BELOW_NOTHING: &[Change] = &[
+    ("end", "end", None),
+    (
+        "sub e4 e1 K4 a4 6",
+        "sub e4 e4 K1",
+        Some(Reason::ClaimMissing { class: ClassId(4) }),
+    ),
+    (
+        "sub e3 e2 K4 a2 11\n",
+        "",
+        Some(Reason::ClaimDisagrees { class: ClassId(3) }),
+    ),
+    (
+        "claim e3 1\n",
+        "claim e3 1\nclaim e4 1\n",
+        Some(Reason::ClaimDisagrees { class: ClassId(4) }),
+    ),
+];
+
 #[test]
 fn classes_in_a_circle_and_below_nothing(rt: HostRuntime) -> Result<(), Fail> {
-    let changes = [
-        ("end", "end", Verdict::Accepted),
-        ("sub e4 e1 K4 a4 6", "sub e4 e4 K1", claim_missing(4)),
-        ("sub e3 e2 K4 a2 11\n", "", claim_disagrees(3)),
-        (
-            "claim e3 1\n",
-            "claim e3 1\nclaim e4 1\n",
-            claim_disagrees(4),
-        ),
-    ];
-    let ontology = circle_and_nothing(&rt)?;
-    are_judged(&rt, &ontology, CIRCLE_AND_NOTHING, &changes)
+    judge(
+        &rt,
+        CIRCLE_AND_NOTHING_DOCUMENT,
+        CIRCLE_AND_NOTHING,
+        CLASSES_IN_A_CIRCLE_AND_BELOW_NOTHING,
+    )
 }
 
 // The claimed element is in more classes than lines put above its class, or the individual's than lines put it into.
+const ELEMENTS_IN_MORE_CLASSES_CLASSES: &[Change] = &[
+    (
+        "claim e3 2",
+        "claim e3 1",
+        Some(Reason::ClaimDisagrees { class: ClassId(3) }),
+    ),
+    (
+        "claim e0 0",
+        "claim e0 2",
+        Some(Reason::ClaimDisagrees { class: ClassId(0) }),
+    ),
+];
+
+const ELEMENTS_IN_MORE_CLASSES_INDIVIDUALS: &[Change] = &[(
+    "sub i0 e2 K15 a1\nsub i0 e0 K2",
+    "sub i0 e0 K2",
+    Some(Reason::IndividualDisagrees {
+        individual: IndId(0),
+    }),
+)];
+
 #[test]
 fn elements_in_more_classes(rt: HostRuntime) -> Result<(), Fail> {
-    let classes = [
-        ("claim e3 2", "claim e3 1", claim_disagrees(3)),
-        ("claim e0 0", "claim e0 2", claim_disagrees(0)),
-    ];
-    judge_one_subclass(&rt, ONE_SUBCLASS, &classes)?;
-    let individuals = [(
-        "sub i0 e2 K15 a1\nsub i0 e0 K2",
-        "sub i0 e0 K2",
-        individual_disagrees(0),
-    )];
-    judge_one_member(&rt, ONE_MEMBER, &individuals)
+    judge(
+        &rt,
+        ONE_SUBCLASS_DOCUMENT,
+        ONE_SUBCLASS,
+        ELEMENTS_IN_MORE_CLASSES_CLASSES,
+    )?;
+    judge(
+        &rt,
+        ONE_MEMBER_DOCUMENT,
+        ONE_MEMBER,
+        ELEMENTS_IN_MORE_CLASSES_INDIVIDUALS,
+    )
 }
 
-/// The certificate, cut anywhere in the line, stops at the start of that line.
-fn is_cut<R: AllocGlobal + Abort>(
-    rt: &R,
-    ontology: &Ontology,
-    start: usize,
-    end: usize,
-) -> Result<(), Fail> {
-    for cut in start..end {
-        let certificate = ONE_SUBCLASS.certificate.as_bytes();
-        let beginning = certificate.get(..cut).ok_or("a shorter text")?;
-        let found = verdict_on(rt.alloc(), ontology, ONE_SUBCLASS, beginning)?;
-        assert!(rt; found == bad_text(start), "cut after {cut}");
-    }
-    Ok(())
+/// Whether the certificate, cut there, stops at the start of its last line.
+fn is_cut(alloc: Global, ontology: &Ontology, cut: usize) -> bool {
+    let certificate = ONE_SUBCLASS.certificate;
+    let beginning = certificate.get(..cut).unwrap_or(certificate);
+    let start = beginning.rfind('\n').map_or(0, |at| at + 1);
+    has_verdict(alloc, ontology, ONE_SUBCLASS, beginning, bad_text(start))
 }
 
-/// The same of each of its lines, which end at these bytes.
-fn are_cut<R: AllocGlobal + Abort>(
-    rt: &R,
-    ontology: &Ontology,
-    ends: &[usize],
-) -> Result<(), Fail> {
-    let mut start = 0;
-    for end in ends {
-        is_cut(rt, ontology, start, *end)?;
-        start = *end;
+/// Each beginning of the certificate is cut so.
+fn are_cut<R: AllocGlobal + Abort>(rt: &R, ontology: &Ontology) {
+    for cut in 0..ONE_SUBCLASS.certificate.len() {
+        assert!(rt; is_cut(rt.alloc(), ontology, cut), "cut after {cut}");
     }
-    Ok(())
 }
 
 #[test]
 fn cut_certificates_of_one_subclass(rt: HostRuntime) -> Result<(), Fail> {
-    let ends = [
-        20, 33, 46, 59, 72, 90, 103, 116, 125, 136, 149, 160, 171, 182, 186,
-    ];
-    let ontology = one_subclass(&rt)?;
-    are_cut(&rt, &ontology, &ends)
+    let ontology = ontology_of(&rt, ONE_SUBCLASS_DOCUMENT)?;
+    are_cut(&rt, &ontology);
+    Ok(())
 }
 
 // What each rests on would fit, but it is the line itself or a later one.
+const LINES_THAT_REST_ON_NO_EARLIER_LINE: &[Change] = &[
+    (
+        "end",
+        "sub e0 e1 K3 1\nend",
+        Some(Reason::BadLine { number: 1 }),
+    ),
+    (
+        "end",
+        "sub e0 e1 K3 2\nsub e0 e1 K3 1\nend",
+        Some(Reason::BadLine { number: 1 }),
+    ),
+    (
+        "end",
+        "sub e0 e0 K1\nsub e0 e1 K3 2\nend",
+        Some(Reason::BadLine { number: 2 }),
+    ),
+    (
+        "end",
+        "sub e0 e0 K1\nsub e2 e3 K4 a1 3\nsub e2 e2 K1\nend",
+        Some(Reason::BadLine { number: 2 }),
+    ),
+];
+
 #[test]
 fn lines_that_rest_on_no_earlier_line(rt: HostRuntime) -> Result<(), Fail> {
     let texts = Texts {
@@ -320,40 +432,56 @@ fn lines_that_rest_on_no_earlier_line(rt: HostRuntime) -> Result<(), Fail> {
         instances: CONTRADICTION.instances,
         certificate: "elcert 1 inconsistent\nend\n",
     };
-    let exchanged = "sub e0 e0 K1\nsub e2 e3 K4 a1 3\nsub e2 e2 K1\nend";
-    let changes = [
-        ("end", "sub e0 e1 K3 1\nend", bad_line(1)),
-        ("end", "sub e0 e1 K3 2\nsub e0 e1 K3 1\nend", bad_line(1)),
-        ("end", "sub e0 e0 K1\nsub e0 e1 K3 2\nend", bad_line(2)),
-        ("end", exchanged, bad_line(2)),
-    ];
-    judge_one_subclass(&rt, texts, &changes)
+    judge(
+        &rt,
+        ONE_SUBCLASS_DOCUMENT,
+        texts,
+        LINES_THAT_REST_ON_NO_EARLIER_LINE,
+    )
 }
+
+const CHANGED_CERTIFICATES_OF_ONE_MEMBER: &[Change] = &[
+    ("end", "end", None),
+    ("ind i0 2", "ind i0 1", None),
+    (
+        "sub i0 e0 K2\n",
+        "",
+        Some(Reason::IndividualDisagrees {
+            individual: IndId(0),
+        }),
+    ),
+    (
+        "class e2 1 2",
+        "class e2 1",
+        Some(Reason::AxiomFails { axiom: 1 }),
+    ),
+];
 
 #[test]
 fn changed_certificates_of_one_member(rt: HostRuntime) -> Result<(), Fail> {
-    let changes = [
-        ("end", "end", Verdict::Accepted),
-        ("ind i0 2", "ind i0 1", Verdict::Accepted),
-        ("sub i0 e0 K2\n", "", individual_disagrees(0)),
-        ("class e2 1 2", "class e2 1", axiom_fails(1)),
-    ];
-    judge_one_member(&rt, ONE_MEMBER, &changes)
+    judge(
+        &rt,
+        ONE_MEMBER_DOCUMENT,
+        ONE_MEMBER,
+        CHANGED_CERTIFICATES_OF_ONE_MEMBER,
+    )
 }
+
+const CHANGED_CERTIFICATES_OF_A_CONTRADICTION: &[Change] = &[
+    ("end", "end", None),
+    ("sub i0 e1 K7 a1 1 2\n", "", Some(Reason::NoContradiction)),
+    ("a1 1 2", "a1 2 1", None),
+    ("a1 1 2", "a1 1 1", Some(Reason::BadLine { number: 3 })),
+];
 
 #[test]
 fn changed_certificates_of_a_contradiction(rt: HostRuntime) -> Result<(), Fail> {
-    let changes = [
-        ("end", "end", Verdict::Accepted),
-        (
-            "sub i0 e1 K7 a1 1 2\n",
-            "",
-            Verdict::Rejected(Reason::NoContradiction),
-        ),
-        ("a1 1 2", "a1 2 1", Verdict::Accepted),
-        ("a1 1 2", "a1 1 1", bad_line(3)),
-    ];
-    judge_contradiction(&rt, CONTRADICTION, &changes)
+    judge(
+        &rt,
+        CONTRADICTION_DOCUMENT,
+        CONTRADICTION,
+        CHANGED_CERTIFICATES_OF_A_CONTRADICTION,
+    )
 }
 
 /// A taxonomy text of SubClassOf(A B) in which more stands above A.
@@ -369,7 +497,12 @@ fn other_taxonomy_text(rt: HostRuntime) -> Result<(), Fail> {
             instances,
             certificate: ONE_SUBCLASS.certificate,
         };
-        judge_one_subclass(&rt, texts, &[("end", "end", taxonomy_differs(66))])?;
+        judge(
+            &rt,
+            ONE_SUBCLASS_DOCUMENT,
+            texts,
+            &[("end", "end", Some(Reason::TaxonomyDiffers { at: 66 }))],
+        )?;
     }
     Ok(())
 }
@@ -381,55 +514,80 @@ fn other_instances_text(rt: HostRuntime) -> Result<(), Fail> {
         instances: "elinst 1 consistent\n<x:a> : <http://www.w3.org/2002/07/owl#Thing>\n",
         certificate: ONE_MEMBER.certificate,
     };
-    judge_one_member(&rt, texts, &[("end", "end", instances_differ(29))])
+    judge(
+        &rt,
+        ONE_MEMBER_DOCUMENT,
+        texts,
+        &[("end", "end", Some(Reason::InstancesDiffer { at: 29 }))],
+    )
 }
 
 // Two things are wrong in each: the earlier reason is told, and of one reason the least place.
 
+const TEXT_AND_LINES_BEFORE_THE_INTERPRETATION: &[Change] = &[
+    (
+        "3\nsub e3 e3 K1\nsub e3 e0 K2\ndomain 3\n",
+        "5\nsub e3 e3 K1\nsub e3 e0 K2\n",
+        Some(Reason::BadText { at: 116 }),
+    ),
+    (
+        "sub e2 e2 K1\nsub e2 e0 K2\nsub e2 e3 K4 a1 3",
+        "sub e2 e2 K2\nsub e2 e0 K2\nsub e2 e3 K4 a1 5",
+        Some(Reason::BadLine { number: 3 }),
+    ),
+    (
+        "3\nsub e3 e3 K1\nsub e3 e0 K2\ndomain 3\nclass e2 1\nclass e3 1 2",
+        "5\nsub e3 e3 K1\nsub e3 e0 K2\ndomain 3\nclass e2 1\nclass e3 2",
+        Some(Reason::BadLine { number: 5 }),
+    ),
+];
+
 #[test]
 fn text_and_lines_before_the_interpretation(rt: HostRuntime) -> Result<(), Fail> {
-    let changes = [
-        (
-            "3\nsub e3 e3 K1\nsub e3 e0 K2\ndomain 3\n",
-            "5\nsub e3 e3 K1\nsub e3 e0 K2\n",
-            bad_text(116),
-        ),
-        (
-            "sub e2 e2 K1\nsub e2 e0 K2\nsub e2 e3 K4 a1 3",
-            "sub e2 e2 K2\nsub e2 e0 K2\nsub e2 e3 K4 a1 5",
-            bad_line(3),
-        ),
-        (
-            "3\nsub e3 e3 K1\nsub e3 e0 K2\ndomain 3\nclass e2 1\nclass e3 1 2",
-            "5\nsub e3 e3 K1\nsub e3 e0 K2\ndomain 3\nclass e2 1\nclass e3 2",
-            bad_line(5),
-        ),
-    ];
-    judge_one_subclass(&rt, ONE_SUBCLASS, &changes)
+    judge(
+        &rt,
+        ONE_SUBCLASS_DOCUMENT,
+        ONE_SUBCLASS,
+        TEXT_AND_LINES_BEFORE_THE_INTERPRETATION,
+    )
 }
+
+const INTERPRETATION_BEFORE_CLAIMS: &[Change] = &[
+    (
+        "class e3 1 2\nclaim e0 0\nclaim e2 1\nclaim e3 2",
+        "class e3 2\nclaim e0 0\nclaim e2 1",
+        Some(Reason::AxiomFails { axiom: 1 }),
+    ),
+    (
+        "class e3 1 2\nclaim e0 0\nclaim e2 1",
+        "class e3 2\nclaim e0 0\nclaim e2 0",
+        Some(Reason::AxiomFails { axiom: 1 }),
+    ),
+    (
+        "claim e2 1\nclaim e3 2",
+        "claim e2 0",
+        Some(Reason::ClaimMissing { class: ClassId(3) }),
+    ),
+    (
+        "claim e2 1\nclaim e3 2\n",
+        "",
+        Some(Reason::ClaimMissing { class: ClassId(2) }),
+    ),
+    (
+        "claim e2 1\nclaim e3 2",
+        "claim e2 0\nclaim e3 0",
+        Some(Reason::ClaimDisagrees { class: ClassId(2) }),
+    ),
+];
 
 #[test]
 fn interpretation_before_claims(rt: HostRuntime) -> Result<(), Fail> {
-    let changes = [
-        (
-            "class e3 1 2\nclaim e0 0\nclaim e2 1\nclaim e3 2",
-            "class e3 2\nclaim e0 0\nclaim e2 1",
-            axiom_fails(1),
-        ),
-        (
-            "class e3 1 2\nclaim e0 0\nclaim e2 1",
-            "class e3 2\nclaim e0 0\nclaim e2 0",
-            axiom_fails(1),
-        ),
-        ("claim e2 1\nclaim e3 2", "claim e2 0", claim_missing(3)),
-        ("claim e2 1\nclaim e3 2\n", "", claim_missing(2)),
-        (
-            "claim e2 1\nclaim e3 2",
-            "claim e2 0\nclaim e3 0",
-            claim_disagrees(2),
-        ),
-    ];
-    judge_one_subclass(&rt, ONE_SUBCLASS, &changes)
+    judge(
+        &rt,
+        ONE_SUBCLASS_DOCUMENT,
+        ONE_SUBCLASS,
+        INTERPRETATION_BEFORE_CLAIMS,
+    )
 }
 
 #[test]
@@ -439,8 +597,44 @@ fn least_axiom_that_fails(rt: HostRuntime) -> Result<(), Fail> {
         instances: CONTRADICTION.instances,
         certificate: "elcert 1 consistent\ndomain 1\nind i0 0\nend\n",
     };
-    judge_contradiction(&rt, texts, &[("end", "end", axiom_fails(2))])
+    judge(
+        &rt,
+        CONTRADICTION_DOCUMENT,
+        texts,
+        &[("end", "end", Some(Reason::AxiomFails { axiom: 2 }))],
+    )
 }
+
+const CLAIMS_AND_INDIVIDUALS_BEFORE_TEXTS: &[Change] = &[
+    (
+        "class e2 1 2",
+        "class e2 1",
+        Some(Reason::AxiomFails { axiom: 1 }),
+    ),
+    (
+        "claim e2 1\n",
+        "",
+        Some(Reason::ClaimMissing { class: ClassId(2) }),
+    ),
+    (
+        "claim e2 1",
+        "claim e2 0",
+        Some(Reason::ClaimDisagrees { class: ClassId(2) }),
+    ),
+    (
+        "sub i0 e0 K2\ndomain 3\nclass e2 1 2\nind i0 2\nclaim e0 0\nclaim e2 1",
+        "domain 3\nclass e2 1 2\nind i0 2\nclaim e0 0\nclaim e2 0",
+        Some(Reason::ClaimDisagrees { class: ClassId(2) }),
+    ),
+    (
+        "sub i0 e0 K2\n",
+        "",
+        Some(Reason::IndividualDisagrees {
+            individual: IndId(0),
+        }),
+    ),
+    ("end", "end", Some(Reason::TaxonomyDiffers { at: 0 })),
+];
 
 #[test]
 fn claims_and_individuals_before_texts(rt: HostRuntime) -> Result<(), Fail> {
@@ -449,20 +643,24 @@ fn claims_and_individuals_before_texts(rt: HostRuntime) -> Result<(), Fail> {
         instances: "",
         certificate: ONE_MEMBER.certificate,
     };
-    let changes = [
-        ("class e2 1 2", "class e2 1", axiom_fails(1)),
-        ("claim e2 1\n", "", claim_missing(2)),
-        ("claim e2 1", "claim e2 0", claim_disagrees(2)),
-        (
-            "sub i0 e0 K2\ndomain 3\nclass e2 1 2\nind i0 2\nclaim e0 0\nclaim e2 1",
-            "domain 3\nclass e2 1 2\nind i0 2\nclaim e0 0\nclaim e2 0",
-            claim_disagrees(2),
-        ),
-        ("sub i0 e0 K2\n", "", individual_disagrees(0)),
-        ("end", "end", taxonomy_differs(0)),
-    ];
-    judge_one_member(&rt, texts, &changes)
+    judge(
+        &rt,
+        ONE_MEMBER_DOCUMENT,
+        texts,
+        CLAIMS_AND_INDIVIDUALS_BEFORE_TEXTS,
+    )
 }
+
+const DERIVATION_BEFORE_CONTRADICTION_BEFORE_TEXTS: &[Change] = &[
+    ("end\n", "", Some(Reason::BadText { at: 76 })),
+    (
+        "sub i0 e3 K15 a3\nsub i0 e1 K7 a1 1 2",
+        "sub i0 e3 K15 a2",
+        Some(Reason::BadLine { number: 2 }),
+    ),
+    ("sub i0 e1 K7 a1 1 2\n", "", Some(Reason::NoContradiction)),
+    ("end", "end", Some(Reason::TaxonomyDiffers { at: 0 })),
+];
 
 #[test]
 fn derivation_before_contradiction_before_texts(rt: HostRuntime) -> Result<(), Fail> {
@@ -471,21 +669,12 @@ fn derivation_before_contradiction_before_texts(rt: HostRuntime) -> Result<(), F
         instances: "",
         certificate: CONTRADICTION.certificate,
     };
-    let changes = [
-        ("end\n", "", bad_text(76)),
-        (
-            "sub i0 e3 K15 a3\nsub i0 e1 K7 a1 1 2",
-            "sub i0 e3 K15 a2",
-            bad_line(2),
-        ),
-        (
-            "sub i0 e1 K7 a1 1 2\n",
-            "",
-            Verdict::Rejected(Reason::NoContradiction),
-        ),
-        ("end", "end", taxonomy_differs(0)),
-    ];
-    judge_contradiction(&rt, texts, &changes)
+    judge(
+        &rt,
+        CONTRADICTION_DOCUMENT,
+        texts,
+        DERIVATION_BEFORE_CONTRADICTION_BEFORE_TEXTS,
+    )
 }
 
 #[test]
@@ -495,5 +684,10 @@ fn first_byte_that_differs(rt: HostRuntime) -> Result<(), Fail> {
         instances: "elinst 2 inconsistent\n\n",
         certificate: CONTRADICTION.certificate,
     };
-    judge_contradiction(&rt, texts, &[("end", "end", instances_differ(7))])
+    judge(
+        &rt,
+        CONTRADICTION_DOCUMENT,
+        texts,
+        &[("end", "end", Some(Reason::InstancesDiffer { at: 7 }))],
+    )
 }

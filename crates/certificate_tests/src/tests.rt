@@ -1,8 +1,10 @@
 //! The certificate of one subclass axiom, its text cut and changed, and small texts and certificates beside it.
+//!
+//! Two tests make the ontologies, and functions that borrow them look at all the rest.
 
 ghost use Rattle.certificate.specs.HasText.{HasText};
 
-use axioms::{ExprId, IndId, Ontology, PropId};
+use axioms::{ExprId, IndId, Memory, Ontology, PropId};
 use certificate::{
     CertFault, Certificate, Claim, Conclusion, Line, LineReader, MakeFault, Rule, Subject,
     certificate_bytes, one_certificate, one_text, read_certificate, write_certificate,
@@ -18,6 +20,10 @@ use std::test::Fail;
 /// A certificate of the ontology of the one axiom SubClassOf(A B).
 const TEXT: &[u8] =
     b"elcert 1 consistent\nsub e0 e0 K1\nsub e1 e1 K1\nsub e2 e2 K1\nsub e2 e0 K2\nsub e2 e3 K4 a1 3\nsub e3 e3 K1\nsub e3 e0 K2\ndomain 3\nclass e2 1\nclass e3 1 2\nclaim e0 0\nclaim e2 1\nclaim e3 2\nend\n";
+
+/// Lines with no premise, with two and with one, one after another.
+const LINES: &[u8] =
+    b"elcert 1 inconsistent\nsub e0 e0 K1\nedge i0 p0 i1 K11 18446744073709551615 2\nsub i0 e2 K9 1\nend\n";
 
 /// The ontology that the document states.
 fn ontology_of<R: AllocGlobal + RandomSource>(rt: &R, document: &str) -> Result<Ontology, Fail> {
@@ -39,176 +45,175 @@ Declaration(NamedIndividual(:a)) Declaration(NamedIndividual(:b)))",
     )
 }
 
-/// Where reading the bytes stops, if it does.
-fn place(alloc: Global, ontology: &Ontology, bytes: &[u8]) -> Result<Option<usize>, Fail> {
-    match read_certificate(alloc, ontology, bytes) {
-        Ok(_) => Ok(None),
-        Err(CertFault::BadText { at }) => Ok(Some(at)),
-        Err(CertFault::Memory) => Err(Fail::from("memory")),
-    }
+/// Whether reading the bytes stops there, or where no place is given, whether they are read.
+fn stops_at(alloc: Global, ontology: &Ontology, bytes: &[u8], place: Option<usize>) -> bool {
+    let expected = place.map(|at| CertFault::BadText { at });
+    read_certificate(alloc, ontology, bytes).err() == expected
 }
 
 /// Whether this is the certificate's text, in memory.
-fn has_bytes(alloc: Global, certificate: &Certificate, text: &[u8]) -> Result<bool, Fail> {
-    let bytes = certificate_bytes(alloc, certificate)?;
-    Ok(bytes.as_slice() == text)
+fn has_bytes(alloc: Global, certificate: &Certificate, text: &[u8]) -> bool {
+    match certificate_bytes(alloc, certificate) {
+        Ok(bytes) => bytes.as_slice() == text,
+        Err(_) => false,
+    }
 }
 
 /// Whether this is the certificate's text, in memory and through a sink.
-fn is_text(
-    alloc: Global,
-    ontology: &Ontology,
-    certificate: &Certificate,
-    text: &[u8],
-) -> Result<bool, Fail>
+fn is_text(alloc: Global, ontology: &Ontology, certificate: &Certificate, text: &[u8]) -> bool
     requires { HasText ontology.now certificate.now }
 {
     let mut sink = BufferSink::new(alloc);
-    write_certificate(alloc, ontology, certificate, &mut sink)?;
-    Ok(sink.bytes() == text && has_bytes(alloc, certificate, text)?)
+    write_certificate(alloc, ontology, certificate, &mut sink).is_ok()
+        && sink.bytes() == text
+        && has_bytes(alloc, certificate, text)
 }
 
 /// Whether the text is read, and written again as it was.
-fn is_kept(alloc: Global, ontology: &Ontology, text: &[u8]) -> Result<bool, Fail> {
-    let certificate = read_certificate(alloc, ontology, text)?;
-    is_text(alloc, ontology, &certificate, text)
+fn is_kept(alloc: Global, ontology: &Ontology, text: &[u8]) -> bool {
+    match read_certificate(alloc, ontology, text) {
+        Ok(certificate) => is_text(alloc, ontology, &certificate, text),
+        Err(_) => false,
+    }
 }
 
-/// How many lines the certificate has, and the domain and the claims of its interpretation.
-fn has_members(
-    alloc: Global,
-    ontology: &Ontology,
-    text: &[u8],
-    lines: usize,
-    domain: u32,
-    claims: &[Claim],
-) -> Result<bool, Fail> {
-    let certificate = read_certificate(alloc, ontology, text)?;
+/// Whether the certificate has so many lines, and the domain and the claims of its interpretation are these.
+fn are_members(certificate: &Certificate, lines: usize, domain: u32, claims: &[Claim]) -> bool {
     let Some(listed) = certificate.listed() else {
-        return Ok(false);
+        return false;
     };
-    Ok(
-        certificate.lines().len() == lines
-            && listed.domain == domain
-            && listed.claims.as_slice() == claims,
-    )
+    certificate.lines().len() == lines
+        && listed.domain == domain
+        && listed.claims.as_slice() == claims
 }
 
-/// The text is kept, and has these members.
-fn assert_kept<R: AllocGlobal + Abort>(rt: &R, ontology: &Ontology) -> Result<(), Fail> {
+/// Whether the certificate of the text has these members.
+fn has_members(alloc: Global, ontology: &Ontology) -> bool {
     let claims = [(0, 0), (2, 1), (3, 2)].map(|(class, element)| Claim {
         class: ExprId(class),
         element,
     });
-    assert!(rt; is_kept(rt.alloc(), ontology, TEXT)?);
-    assert!(rt; has_members(rt.alloc(), ontology, TEXT, 7, 3, &claims)?);
-    Ok(())
+    match read_certificate(alloc, ontology, TEXT) {
+        Ok(certificate) => are_members(&certificate, 7, 3, &claims),
+        Err(_) => false,
+    }
 }
 
-#[test]
-fn certificate_of_one_subclass(rt: HostRuntime) -> Result<(), Fail> {
-    let ontology = one_subclass(&rt)?;
-    assert_kept(&rt, &ontology)
+/// The text is kept, and has its members.
+fn assert_kept<R: AllocGlobal + Abort>(rt: &R, ontology: &Ontology) {
+    assert!(rt; is_kept(rt.alloc(), ontology, TEXT), "kept");
+    assert!(rt; has_members(rt.alloc(), ontology), "members");
+}
+
+/// The premises of the line that the reader gives next, which take the room, where that is the line.
+fn premises_of_next(
+    reader: &mut LineReader,
+    room: Vec<u64>,
+    expected: &Line,
+) -> Result<Option<Vec<u64>>, Memory> {
+    match reader.next(room)? {
+        Some(line) if line == *expected => Ok(Some(line.premises)),
+        _ => Ok(None),
+    }
 }
 
 /// Whether the reader gives these lines, one after another, and then no more.
-fn gives_lines(alloc: Global, reader: &mut LineReader, lines: &[Line]) -> Result<bool, Fail> {
+fn gives_lines(alloc: Global, reader: &mut LineReader, lines: &[Line]) -> Result<bool, Memory> {
     let mut room = Vec::new(alloc);
-    for expected in lines {
-        let Some(line) = reader.next(room)? else {
+    for line in lines {
+        let Some(premises) = premises_of_next(reader, room, line)? else {
             return Ok(false);
         };
-        if line != *expected {
-            return Ok(false);
-        }
-        room = line.premises;
+        room = premises;
     }
     Ok(reader.next(room)?.is_none())
 }
 
+/// Whether a reader of the text gives these lines.
+fn reader_gives(alloc: Global, ontology: &Ontology, text: &[u8], lines: &[Line]) -> bool {
+    match LineReader::new(ontology, text) {
+        Ok(mut reader) => gives_lines(alloc, &mut reader, lines) == Ok(true),
+        Err(_) => false,
+    }
+}
+
 /// Whether a reader gives the lines of the certificate that is read from the text.
-fn gives_all(alloc: Global, ontology: &Ontology, text: &[u8]) -> Result<bool, Fail> {
-    let certificate = read_certificate(alloc, ontology, text)?;
-    let mut reader = LineReader::new(ontology, text)?;
-    gives_lines(alloc, &mut reader, certificate.lines())
+fn gives_all(alloc: Global, ontology: &Ontology, text: &[u8]) -> bool {
+    match read_certificate(alloc, ontology, text) {
+        Ok(certificate) => reader_gives(alloc, ontology, text, certificate.lines()),
+        Err(_) => false,
+    }
 }
 
-/// Lines with no premise, with two and with one, one after another.
-const LINES: &[u8] =
-    b"elcert 1 inconsistent\nsub e0 e0 K1\nedge i0 p0 i1 K11 18446744073709551615 2\nsub i0 e2 K9 1\nend\n";
-
-#[test]
-fn lines_one_after_another(rt: HostRuntime) -> Result<(), Fail> {
-    let ontology = one_subclass(&rt)?;
-    assert!(rt; gives_all(rt.alloc(), &ontology, TEXT)?);
-    let ontology = names(&rt)?;
-    assert!(rt; gives_all(rt.alloc(), &ontology, LINES)?);
-    Ok(())
+/// A reader gives the lines of the text's certificate.
+fn assert_lines<R: AllocGlobal + Abort>(rt: &R, ontology: &Ontology, text: &[u8]) {
+    assert!(rt; gives_all(rt.alloc(), ontology, text));
 }
 
-/// Where the reader, which gives so many lines, refuses what stands behind them, and whether it lists an interpretation.
-fn place_behind(
+/// Whether the reader gives so many lines and then, behind them, an interpretation or none, or refuses what stands there.
+fn finishes(
     alloc: Global,
     reader: &mut LineReader,
     lines: usize,
-) -> Result<(Option<usize>, bool), Fail> {
+    expected: Result<bool, CertFault>,
+) -> Result<bool, Memory> {
     for _ in 0..lines {
         if reader.next(Vec::new(alloc))?.is_none() {
-            return Err(Fail::from("one more line"));
+            return Ok(false);
         }
     }
     match reader.next(Vec::new(alloc))? {
-        Some(_) => Err(Fail::from("no more lines")),
-        None => match reader.finish(alloc) {
-            Ok(listed) => Ok((None, listed.is_some())),
-            Err(CertFault::BadText { at }) => Ok((Some(at), false)),
-            Err(CertFault::Memory) => Err(Fail::from("memory")),
-        },
+        Some(_) => Ok(false),
+        None => Ok(reader.finish(alloc).map(|listed| listed.is_some()) == expected),
     }
 }
 
-/// The same of the text, whose first line is that of a certificate.
-fn place_behind_lines(
+/// The same of a reader of the text.
+fn text_finishes(
     alloc: Global,
     ontology: &Ontology,
     text: &[u8],
     lines: usize,
-) -> Result<(Option<usize>, bool), Fail> {
-    let mut reader = LineReader::new(ontology, text)?;
-    place_behind(alloc, &mut reader, lines)
-}
-
-#[test]
-fn a_line_that_names_what_is_not_there(rt: HostRuntime) -> Result<(), Fail> {
-    let ontology = names(&rt)?;
-    let text = b"elcert 1 inconsistent\nsub e0 e0 K1\nsub e9 e0 K2\nsub e0 e0 K1\nend\n";
-    assert!(rt; place_behind_lines(rt.alloc(), &ontology, text, 1)? == (Some(35), false));
-    assert!(rt; place_behind_lines(rt.alloc(), &ontology, LINES, 3)? == (None, false));
-    Ok(())
-}
-
-#[test]
-fn an_interpretation_behind_lines(rt: HostRuntime) -> Result<(), Fail> {
-    let ontology = one_subclass(&rt)?;
-    assert!(rt; place_behind_lines(rt.alloc(), &ontology, TEXT, 7)? == (None, true));
-    Ok(())
-}
-
-#[test]
-fn a_text_of_no_certificate(rt: HostRuntime) -> Result<(), Fail> {
-    let ontology = names(&rt)?;
-    for text in [
-        &b""[..],
-        b"elcert 2 consistent\nend\n",
-        b"elcert 1 consistent",
-    ] {
-        let refused = matches!(
-            LineReader::new(&ontology, text),
-            Err(CertFault::BadText { at: 0 })
-        );
-        assert!(rt; refused);
+    expected: Result<bool, CertFault>,
+) -> bool {
+    match LineReader::new(ontology, text) {
+        Ok(mut reader) => finishes(alloc, &mut reader, lines, expected) == Ok(true),
+        Err(_) => false,
     }
-    Ok(())
+}
+
+/// What stands behind one line names what is not there; behind three stands no interpretation.
+fn assert_refused_behind_lines<R: AllocGlobal + Abort>(rt: &R, ontology: &Ontology) {
+    let text = b"elcert 1 inconsistent\nsub e0 e0 K1\nsub e9 e0 K2\nsub e0 e0 K1\nend\n";
+    let refused = Err(CertFault::BadText { at: 35 });
+    assert!(rt;
+        text_finishes(rt.alloc(), ontology, text, 1, refused),
+        "refused"
+    );
+    assert!(rt;
+        text_finishes(rt.alloc(), ontology, LINES, 3, Ok(false)),
+        "none"
+    );
+}
+
+/// Behind the seven lines of the text an interpretation is listed.
+fn assert_listed_behind_lines<R: AllocGlobal + Abort>(rt: &R, ontology: &Ontology) {
+    assert!(rt; text_finishes(rt.alloc(), ontology, TEXT, 7, Ok(true)));
+}
+
+/// Whether no reader is made for the text.
+fn has_no_reader(ontology: &Ontology, text: &[u8]) -> bool {
+    LineReader::new(ontology, text).err() == Some(CertFault::BadText { at: 0 })
+}
+
+/// Nothing, a text of another version and a first line that is cut have no reader.
+fn assert_no_readers<R: Abort>(rt: &R, ontology: &Ontology) {
+    assert!(rt; has_no_reader(ontology, b""), "nothing");
+    assert!(rt;
+        has_no_reader(ontology, b"elcert 2 consistent\nend\n"),
+        "version 2"
+    );
+    assert!(rt; has_no_reader(ontology, b"elcert 1 consistent"), "cut");
 }
 
 #[test]
@@ -217,183 +222,112 @@ fn laws() {
     one_text();
 }
 
-/// Whether reading the text, cut in this line, stops at its start.
-fn is_cut<R: AllocGlobal + Abort>(
-    rt: &R,
-    ontology: &Ontology,
-    text: &[u8],
-    start: usize,
-    end: usize,
-) -> Result<(), Fail> {
-    for cut in start..end {
-        let beginning = text.get(..cut).ok_or("a shorter text")?;
-        let found = place(rt.alloc(), ontology, beginning)?;
-        assert!(rt; found == Some(start), "cut after {cut}");
+/// Whether reading the text, cut there, stops at the start of its last line.
+fn is_cut(alloc: Global, ontology: &Ontology, cut: usize) -> bool {
+    let beginning = TEXT.get(..cut).unwrap_or(TEXT);
+    let last_end = beginning.iter().rposition(|byte| *byte == b'\n');
+    let start = last_end.map_or(0, |at| at + 1);
+    stops_at(alloc, ontology, beginning, Some(start))
+}
+
+/// Each beginning of the text is cut so.
+fn are_cut<R: AllocGlobal + Abort>(rt: &R, ontology: &Ontology) {
+    for cut in 0..TEXT.len() {
+        assert!(rt; is_cut(rt.alloc(), ontology, cut), "cut after {cut}");
     }
-    Ok(())
 }
 
-/// Each beginning of the text, whose lines end at these bytes, stops at the start of its last line.
-fn are_cut<R: AllocGlobal + Abort>(
-    rt: &R,
-    ontology: &Ontology,
-    ends: &[usize],
-) -> Result<(), Fail> {
-    let mut start = 0;
-    for end in ends {
-        is_cut(rt, ontology, TEXT, start, *end)?;
-        start = *end;
+/// From which byte to which a part of the text is replaced, by what, and where reading it stops then, if it does.
+type Change = (usize, usize, &'static str, Option<usize>);
+
+/// Texts of other certificates, then lines and then interpretations that are those of none.
+const CHANGES: &[Change] = &[
+    (169, 170, "0", None),
+    (72, 90, "", None),
+    (88, 89, "5", None),
+    (88, 89, "6", None),
+    (88, 89, "99999999999", None),
+    (88, 89, "18446744073709551615", None),
+    (145, 148, "2", None),
+    (171, 182, "", None),
+    (88, 89, "0", Some(72)),
+    (88, 89, "18446744073709551616", Some(72)),
+    (85, 87, "a2", Some(72)),
+    (85, 87, "a0", Some(72)),
+    (25, 26, "00", Some(20)),
+    (31, 32, "17", Some(20)),
+    (28, 29, "4", Some(20)),
+    (23, 24, "  ", Some(20)),
+    (123, 124, "0", Some(116)),
+    (123, 124, "4294967296", Some(116)),
+    (143, 144, "2", Some(136)),
+    (145, 148, "2 1", Some(136)),
+    (144, 148, "", Some(136)),
+    (180, 181, "3", Some(171)),
+    (182, 186, "", Some(182)),
+    (186, 186, "x", Some(186)),
+];
+
+/// The text with one part of it replaced.
+fn changed(alloc: Global, from: usize, to: usize, part: &str) -> Result<Vec<u8>, AllocError> {
+    let mut text = Vec::from_slice(alloc, TEXT.get(..from).unwrap_or(b""))?;
+    text.extend_from_slice(part.as_bytes())?;
+    text.extend_from_slice(TEXT.get(to..).unwrap_or(b""))?;
+    Ok(text)
+}
+
+/// Whether reading the changed text stops there.
+fn is_changed(alloc: Global, ontology: &Ontology, change: Change) -> bool {
+    let (from, to, part, at) = change;
+    match changed(alloc, from, to, part) {
+        Ok(text) => stops_at(alloc, ontology, &text, at),
+        Err(_) => false,
     }
-    Ok(())
 }
 
-#[test]
-fn cut_texts(rt: HostRuntime) -> Result<(), Fail> {
-    let ends = [
-        20, 33, 46, 59, 72, 90, 103, 116, 125, 136, 149, 160, 171, 182, 186,
-    ];
-    let ontology = one_subclass(&rt)?;
-    are_cut(&rt, &ontology, &ends)
-}
-
-/// Where reading stops where this stands in place of a part of the text, if it does.
-fn place_of_change(
-    alloc: Global,
-    ontology: &Ontology,
-    text: &[u8],
-    from: usize,
-    to: usize,
-    part: &str,
-) -> Result<Option<usize>, Fail> {
-    let front = text.get(..from).ok_or("a part of the text")?;
-    let back = text.get(to..).ok_or("a part of the text")?;
-    let mut changed = Vec::from_slice(alloc, front)?;
-    changed.extend_from_slice(part.as_bytes())?;
-    changed.extend_from_slice(back)?;
-    place(alloc, ontology, &changed)
-}
-
-/// Each change of a part of the text, from a byte to a byte, has reading stop there.
-fn are_changed<R: AllocGlobal + Abort>(
-    rt: &R,
-    ontology: &Ontology,
-    changes: &[(usize, usize, &str, Option<usize>)],
-) -> Result<(), Fail> {
-    for (from, to, part, at) in changes {
-        let found = place_of_change(rt.alloc(), ontology, TEXT, *from, *to, part)?;
-        assert!(rt; found == *at, "{part} at {from}");
+/// Each change has reading stop at its place.
+fn are_changed<R: AllocGlobal + Abort>(rt: &R, ontology: &Ontology) {
+    for change in CHANGES {
+        let (from, _, part, _) = *change;
+        assert!(rt;
+            is_changed(rt.alloc(), ontology, *change),
+            "{part} at {from}"
+        );
     }
-    Ok(())
 }
 
-/// The same of the certificate of the one axiom.
-fn assert_changes<R: AllocGlobal + Abort + RandomSource>(
-    rt: &R,
-    changes: &[(usize, usize, &str, Option<usize>)],
-) -> Result<(), Fail> {
-    let ontology = one_subclass(rt)?;
-    are_changed(rt, &ontology, changes)
-}
-
-#[test]
-fn texts_of_other_certificates(rt: HostRuntime) -> Result<(), Fail> {
-    let changes = [
-        (169, 170, "0", None),
-        (72, 90, "", None),
-        (88, 89, "5", None),
-        (88, 89, "6", None),
-        (88, 89, "99999999999", None),
-        (88, 89, "18446744073709551615", None),
-        (145, 148, "2", None),
-        (171, 182, "", None),
-    ];
-    assert_changes(&rt, &changes)
-}
-
-#[test]
-fn changed_lines(rt: HostRuntime) -> Result<(), Fail> {
-    let changes = [
-        (88, 89, "0", Some(72)),
-        (88, 89, "18446744073709551616", Some(72)),
-        (85, 87, "a2", Some(72)),
-        (85, 87, "a0", Some(72)),
-        (25, 26, "00", Some(20)),
-        (31, 32, "17", Some(20)),
-        (28, 29, "4", Some(20)),
-        (23, 24, "  ", Some(20)),
-    ];
-    assert_changes(&rt, &changes)
-}
-
-#[test]
-fn changed_interpretations(rt: HostRuntime) -> Result<(), Fail> {
-    let changes = [
-        (123, 124, "0", Some(116)),
-        (123, 124, "4294967296", Some(116)),
-        (143, 144, "2", Some(136)),
-        (145, 148, "2 1", Some(136)),
-        (144, 148, "", Some(136)),
-        (180, 181, "3", Some(171)),
-        (182, 186, "", Some(182)),
-        (186, 186, "x", Some(186)),
-    ];
-    assert_changes(&rt, &changes)
-}
+/// Texts over the names: lines of individuals, then listed individuals and pairs; and where reading stops, if it does.
+const TEXTS: &[(&str, Option<usize>)] = &[
+    (
+        "elcert 1 inconsistent\nedge i1 p0 e2 K8 1\nedge e2 p1 i0 K16\nend\n",
+        None,
+    ),
+    ("elcert 1 inconsistent\nedge i2 p0 e2 K8 1\nend\n", Some(22)),
+    ("elcert 1 inconsistent\nedge i1 p2 e2 K8 1\nend\n", Some(22)),
+    ("elcert 1 inconsistent\ndomain 1\nend\n", Some(22)),
+    (
+        "elcert 1 consistent\ndomain 2\nsucc p0 1 0 1\nsucc p1 0 0\nind i0 0\nind i1 0\nend\n",
+        None,
+    ),
+    (
+        "elcert 1 consistent\ndomain 2\nsucc p1 0 0\nsucc p0 1 0 1\nind i0 0\nind i1 0\nend\n",
+        Some(41),
+    ),
+    ("elcert 1 consistent\ndomain 2\nind i0 0\nend\n", Some(38)),
+    (
+        "elcert 1 consistent\ndomain 2\nind i0 0\nind i1 2\nend\n",
+        Some(38),
+    ),
+];
 
 /// Reading each of the texts stops there.
-fn are_read<R: AllocGlobal + Abort>(
-    rt: &R,
-    ontology: &Ontology,
-    texts: &[(&str, Option<usize>)],
-) -> Result<(), Fail> {
-    for (text, at) in texts {
-        let found = place(rt.alloc(), ontology, text.as_bytes())?;
-        assert!(rt; found == *at, "{text}");
+fn are_read<R: AllocGlobal + Abort>(rt: &R, ontology: &Ontology) {
+    for (text, at) in TEXTS {
+        assert!(rt;
+            stops_at(rt.alloc(), ontology, text.as_bytes(), *at),
+            "{text}"
+        );
     }
-    Ok(())
-}
-
-/// The same of texts over the names.
-fn assert_texts<R: AllocGlobal + Abort + RandomSource>(
-    rt: &R,
-    texts: &[(&str, Option<usize>)],
-) -> Result<(), Fail> {
-    let ontology = names(rt)?;
-    are_read(rt, &ontology, texts)
-}
-
-#[test]
-fn lines_of_individuals(rt: HostRuntime) -> Result<(), Fail> {
-    let texts = [
-        (
-            "elcert 1 inconsistent\nedge i1 p0 e2 K8 1\nedge e2 p1 i0 K16\nend\n",
-            None,
-        ),
-        ("elcert 1 inconsistent\nedge i2 p0 e2 K8 1\nend\n", Some(22)),
-        ("elcert 1 inconsistent\nedge i1 p2 e2 K8 1\nend\n", Some(22)),
-        ("elcert 1 inconsistent\ndomain 1\nend\n", Some(22)),
-    ];
-    assert_texts(&rt, &texts)
-}
-
-#[test]
-fn listed_individuals_and_pairs(rt: HostRuntime) -> Result<(), Fail> {
-    let texts = [
-        (
-            "elcert 1 consistent\ndomain 2\nsucc p0 1 0 1\nsucc p1 0 0\nind i0 0\nind i1 0\nend\n",
-            None,
-        ),
-        (
-            "elcert 1 consistent\ndomain 2\nsucc p1 0 0\nsucc p0 1 0 1\nind i0 0\nind i1 0\nend\n",
-            Some(41),
-        ),
-        ("elcert 1 consistent\ndomain 2\nind i0 0\nend\n", Some(38)),
-        (
-            "elcert 1 consistent\ndomain 2\nind i0 0\nind i1 2\nend\n",
-            Some(38),
-        ),
-    ];
-    assert_texts(&rt, &texts)
 }
 
 /// The line that the expression leads to the individual a by s, by K16.
@@ -413,38 +347,75 @@ fn edge(
     })
 }
 
-/// The certificate of this one line.
-fn made(
+/// This one line.
+fn one_edge(
+    alloc: Global,
+    expression: u32,
+    axiom: Option<usize>,
+    premise: u64,
+) -> Result<Vec<Line>, AllocError> {
+    let line = edge(alloc, expression, axiom, premise)?;
+    Ok(vec![in alloc; line]?)
+}
+
+/// Whether the certificate of a line that is there has its text.
+fn is_made(alloc: Global, ontology: &Ontology) -> Result<bool, AllocError> {
+    let text = b"elcert 1 inconsistent\nedge e2 p1 i0 K16 7\nend\n";
+    let lines = one_edge(alloc, 2, None, 7)?;
+    match Certificate::new(ontology, lines, None) {
+        Ok(certificate) => Ok(has_bytes(alloc, &certificate, text)),
+        Err(_) => Ok(false),
+    }
+}
+
+/// Whether no certificate is made of the line.
+fn is_not_made(
     alloc: Global,
     ontology: &Ontology,
     expression: u32,
     axiom: Option<usize>,
     premise: u64,
-) -> Result<Result<Certificate, MakeFault>, AllocError> {
-    let line = edge(alloc, expression, axiom, premise)?;
-    let lines = vec![in alloc; line]?;
-    Ok(Certificate::new(ontology, lines, None))
-}
-
-/// Whether the certificate of a line that is there has this text.
-fn is_made(alloc: Global, ontology: &Ontology, text: &[u8]) -> Result<bool, Fail> {
-    let certificate = made(alloc, ontology, 2, None, 7)??;
-    has_bytes(alloc, &certificate, text)
+) -> Result<bool, AllocError> {
+    let lines = one_edge(alloc, expression, axiom, premise)?;
+    Ok(Certificate::new(ontology, lines, None).err() == Some(MakeFault::NoText))
 }
 
 /// A certificate is made of a line, and none where a number is out of range.
-fn assert_made<R: AllocGlobal + Abort>(rt: &R, ontology: &Ontology) -> Result<(), Fail> {
-    let text = b"elcert 1 inconsistent\nedge e2 p1 i0 K16 7\nend\n";
-    assert!(rt; is_made(rt.alloc(), ontology, text)?);
-    for (expression, axiom, premise) in [(3, None, 7), (2, Some(1), 7), (2, None, 0)] {
-        let made = made(rt.alloc(), ontology, expression, axiom, premise)?;
-        assert!(rt; made.err() == Some(MakeFault::NoText));
-    }
+fn assert_made<R: AllocGlobal + Abort>(rt: &R, ontology: &Ontology) {
+    let alloc = rt.alloc();
+    assert!(rt; is_made(alloc, ontology) == Ok(true), "made");
+    assert!(rt;
+        is_not_made(alloc, ontology, 3, None, 7) == Ok(true),
+        "expression"
+    );
+    assert!(rt;
+        is_not_made(alloc, ontology, 2, Some(1), 7) == Ok(true),
+        "axiom"
+    );
+    assert!(rt;
+        is_not_made(alloc, ontology, 2, None, 0) == Ok(true),
+        "premise"
+    );
+}
+
+#[test]
+fn certificates_of_one_subclass(rt: HostRuntime) -> Result<(), Fail> {
+    let ontology = one_subclass(&rt)?;
+    assert_kept(&rt, &ontology);
+    assert_lines(&rt, &ontology, TEXT);
+    assert_listed_behind_lines(&rt, &ontology);
+    are_cut(&rt, &ontology);
+    are_changed(&rt, &ontology);
     Ok(())
 }
 
 #[test]
-fn made_certificates(rt: HostRuntime) -> Result<(), Fail> {
+fn certificates_over_names(rt: HostRuntime) -> Result<(), Fail> {
     let ontology = names(&rt)?;
-    assert_made(&rt, &ontology)
+    assert_lines(&rt, &ontology, LINES);
+    assert_refused_behind_lines(&rt, &ontology);
+    assert_no_readers(&rt, &ontology);
+    are_read(&rt, &ontology);
+    assert_made(&rt, &ontology);
+    Ok(())
 }

@@ -1,228 +1,85 @@
 //! Listed interpretations in which an axiom holds, or does not: one axiom of each shape, over the elements 0, 1 and 2.
 
 use super::ontologies::ontology_of;
-use super::{ONE_SUBCLASS, axiom_fails, claim_missing, verdict_on};
+use super::{ONE_SUBCLASS, axiom_fails, claim_missing, has_verdict, with_lines};
+use axioms::Ontology;
+use cert_check::Verdict;
+use std::alloc::Global;
 use std::process::Abort;
 use std::random::RandomSource;
 use std::test::Fail;
 
-/// An axiom, members of an interpretation as a certificate has them, and whether the axiom holds there.
-#[derive(Clone, Copy)]
-struct Case<'a> {
-    axiom: &'a str,
-    members: &'a str,
-    holds: bool,
-}
+/// A row is an axiom and then, behind `|`, members of an interpretation as a certificate has them, each with `;` behind it. The
+/// axiom holds there behind `+`, and does not behind `-`.
+const MODELS: &str = "+ TransitiveObjectProperty(:r) | succ p0 0 1 2;succ p0 1 2;
+- TransitiveObjectProperty(:r) | succ p0 0 1;succ p0 1 2;
+- TransitiveObjectProperty(:r) | succ p0 0 1 2;succ p0 1 2;succ p0 2 1;
++ TransitiveObjectProperty(:r) | succ p0 0 0 1;succ p0 1 0 1;
++ SubObjectPropertyOf(ObjectPropertyChain(:r :s) :t) | succ p0 0 1;succ p1 1 2;succ p2 0 2;
+- SubObjectPropertyOf(ObjectPropertyChain(:r :s) :t) | succ p0 0 1;succ p1 1 2;succ p2 0 1;
++ SubObjectPropertyOf(ObjectPropertyChain(:r :s) :t) | succ p0 0 1;succ p1 0 2;
+- SubClassOf(ObjectSomeValuesFrom(:r :A) :B) | class e2 1;succ p0 0 1;
++ SubClassOf(ObjectSomeValuesFrom(:r :A) :B) | class e2 1;class e4 0;succ p0 0 1;
++ SubClassOf(ObjectSomeValuesFrom(:r :A) :B) | class e2 2;succ p0 0 1;
+- SubClassOf(ObjectSomeValuesFrom(:r :A) :B) | class e2 0 1 2;class e4 0;succ p0 0 1;succ p0 2 1;
++ EquivalentClasses(:A ObjectIntersectionOf(:B :C)) | class e2 1;class e3 1 2;class e4 1;
+- EquivalentClasses(:A ObjectIntersectionOf(:B :C)) | class e2 2;class e3 1 2;class e4 1;
++ DisjointClasses(:A :B) | class e2 1;class e3 2;
+- DisjointClasses(:A :B) | class e2 1;class e3 1 2;
++ EquivalentObjectProperties(:r :s) | succ p0 0 1;succ p1 0 1;
+- EquivalentObjectProperties(:r :s) | succ p0 0 1;
+- EquivalentObjectProperties(:r :s) | succ p1 0 1;
++ SubObjectPropertyOf(:r :s) | succ p1 0 1;
+- SubObjectPropertyOf(:r :s) | succ p0 0 1;succ p1 0 2;
++ ObjectPropertyDomain(:r :A) | class e2 0;succ p0 0 1;
+- ObjectPropertyDomain(:r :A) | class e2 1;succ p0 0 1;
++ ReflexiveObjectProperty(:r) | succ p0 0 0;succ p0 1 1;succ p0 2 2;
+- ReflexiveObjectProperty(:r) | succ p0 0 0;succ p0 1 1;
++ ClassAssertion(:A :a) | class e2 1;ind i0 1;
+- ClassAssertion(:A :a) | class e2 1;ind i0 2;
++ ObjectPropertyAssertion(:r :a :b) | succ p0 0 1;ind i0 0;ind i1 1;
+- ObjectPropertyAssertion(:r :a :b) | succ p0 0 1;ind i0 1;ind i1 0;";
 
-const TRANSITIVE: &str = "TransitiveObjectProperty(:r)";
-
-const CHAIN: &str = "SubObjectPropertyOf(ObjectPropertyChain(:r :s) :t)";
-
-const SOME: &str = "SubClassOf(ObjectSomeValuesFrom(:r :A) :B)";
-
-const BOTH: &str = "EquivalentClasses(:A ObjectIntersectionOf(:B :C))";
-
-const APART: &str = "DisjointClasses(:A :B)";
-
-const SAME: &str = "EquivalentObjectProperties(:r :s)";
-
-const PLAIN: &str = "SubObjectPropertyOf(:r :s)";
-
-const DOMAIN: &str = "ObjectPropertyDomain(:r :A)";
-
-const REFLEXIVE: &str = "ReflexiveObjectProperty(:r)";
-
-const MEMBER: &str = "ClassAssertion(:A :a)";
-
-const PAIR: &str = "ObjectPropertyAssertion(:r :a :b)";
-
-/// The case is judged so: where its axiom holds, the claim for owl:Thing is missed next.
-fn is_judged<R: AllocGlobal + Abort + RandomSource>(rt: &R, case: &Case<'_>) -> Result<(), Fail> {
-    let Case {
-        axiom,
-        members,
-        holds,
-    } = case;
-    let alloc = rt.alloc();
-    let document = format!(in alloc; "Prefix(:=<x:>) Ontology({axiom})")?;
-    let ontology = ontology_of(rt, &document)?;
-    let certificate = format!(in alloc; "elcert 1 consistent\ndomain 3\n{members}end\n")?;
-    let found = verdict_on(alloc, &ontology, ONE_SUBCLASS, certificate.as_bytes())?;
-    let expected = if *holds {
+/// The verdict that the sign of a row asks for: where its axiom holds, the claim for owl:Thing is missed next.
+fn expected(sign: &str) -> Verdict {
+    if sign == "+" {
         claim_missing(0)
     } else {
         axiom_fails(1)
-    };
-    assert!(rt; found == expected, "{axiom} in {members}");
-    Ok(())
-}
-
-#[test]
-fn paths_along_properties(rt: HostRuntime) -> Result<(), Fail> {
-    let cases = [
-        Case {
-            axiom: TRANSITIVE,
-            members: "succ p0 0 1 2\nsucc p0 1 2\n",
-            holds: true,
-        },
-        Case {
-            axiom: TRANSITIVE,
-            members: "succ p0 0 1\nsucc p0 1 2\n",
-            holds: false,
-        },
-        Case {
-            axiom: TRANSITIVE,
-            members: "succ p0 0 1 2\nsucc p0 1 2\nsucc p0 2 1\n",
-            holds: false,
-        },
-        Case {
-            axiom: TRANSITIVE,
-            members: "succ p0 0 0 1\nsucc p0 1 0 1\n",
-            holds: true,
-        },
-        Case {
-            axiom: CHAIN,
-            members: "succ p0 0 1\nsucc p1 1 2\nsucc p2 0 2\n",
-            holds: true,
-        },
-        Case {
-            axiom: CHAIN,
-            members: "succ p0 0 1\nsucc p1 1 2\nsucc p2 0 1\n",
-            holds: false,
-        },
-        Case {
-            axiom: CHAIN,
-            members: "succ p0 0 1\nsucc p1 0 2\n",
-            holds: true,
-        },
-    ];
-    for case in &cases {
-        is_judged(&rt, case)?;
     }
-    Ok(())
 }
 
-#[test]
-fn elements_of_expressions(rt: HostRuntime) -> Result<(), Fail> {
-    let cases = [
-        Case {
-            axiom: SOME,
-            members: "class e2 1\nsucc p0 0 1\n",
-            holds: false,
-        },
-        Case {
-            axiom: SOME,
-            members: "class e2 1\nclass e4 0\nsucc p0 0 1\n",
-            holds: true,
-        },
-        Case {
-            axiom: SOME,
-            members: "class e2 2\nsucc p0 0 1\n",
-            holds: true,
-        },
-        Case {
-            axiom: SOME,
-            members: "class e2 0 1 2\nclass e4 0\nsucc p0 0 1\nsucc p0 2 1\n",
-            holds: false,
-        },
-        Case {
-            axiom: BOTH,
-            members: "class e2 1\nclass e3 1 2\nclass e4 1\n",
-            holds: true,
-        },
-        Case {
-            axiom: BOTH,
-            members: "class e2 2\nclass e3 1 2\nclass e4 1\n",
-            holds: false,
-        },
-        Case {
-            axiom: APART,
-            members: "class e2 1\nclass e3 2\n",
-            holds: true,
-        },
-        Case {
-            axiom: APART,
-            members: "class e2 1\nclass e3 1 2\n",
-            holds: false,
-        },
-    ];
-    for case in &cases {
-        is_judged(&rt, case)?;
+/// Whether the members have this verdict.
+fn are_members(alloc: Global, ontology: &Ontology, members: &str, expected: Verdict) -> bool {
+    match with_lines(alloc, "elcert 1 consistent\ndomain 3\n", members, "end\n") {
+        Ok(certificate) => has_verdict(alloc, ontology, ONE_SUBCLASS, &certificate, expected),
+        Err(_) => false,
     }
-    Ok(())
+}
+
+/// Whether the members have the verdict of the sign over the ontology of the axiom.
+fn is_judged<R: AllocGlobal + RandomSource>(
+    rt: &R,
+    sign: &str,
+    axiom: &str,
+    members: &str,
+) -> Result<bool, Fail> {
+    let document = format!(in rt.alloc(); "Prefix(:=<x:>) Ontology({axiom})")?;
+    let ontology = ontology_of(rt, &document)?;
+    Ok(are_members(rt.alloc(), &ontology, members, expected(sign)))
+}
+
+/// The same of a row.
+fn is_row_judged<R: AllocGlobal + RandomSource>(rt: &R, row: &str) -> Result<bool, Fail> {
+    let (sign, rest) = row.split_once(" ").ok_or("a sign")?;
+    let (axiom, members) = rest.split_once(" | ").ok_or("an axiom and members")?;
+    is_judged(rt, sign, axiom, members)
 }
 
 #[test]
-fn pairs_and_individuals(rt: HostRuntime) -> Result<(), Fail> {
-    let cases = [
-        Case {
-            axiom: SAME,
-            members: "succ p0 0 1\nsucc p1 0 1\n",
-            holds: true,
-        },
-        Case {
-            axiom: SAME,
-            members: "succ p0 0 1\n",
-            holds: false,
-        },
-        Case {
-            axiom: SAME,
-            members: "succ p1 0 1\n",
-            holds: false,
-        },
-        Case {
-            axiom: PLAIN,
-            members: "succ p1 0 1\n",
-            holds: true,
-        },
-        Case {
-            axiom: PLAIN,
-            members: "succ p0 0 1\nsucc p1 0 2\n",
-            holds: false,
-        },
-        Case {
-            axiom: DOMAIN,
-            members: "class e2 0\nsucc p0 0 1\n",
-            holds: true,
-        },
-        Case {
-            axiom: DOMAIN,
-            members: "class e2 1\nsucc p0 0 1\n",
-            holds: false,
-        },
-        Case {
-            axiom: REFLEXIVE,
-            members: "succ p0 0 0\nsucc p0 1 1\nsucc p0 2 2\n",
-            holds: true,
-        },
-        Case {
-            axiom: REFLEXIVE,
-            members: "succ p0 0 0\nsucc p0 1 1\n",
-            holds: false,
-        },
-        Case {
-            axiom: MEMBER,
-            members: "class e2 1\nind i0 1\n",
-            holds: true,
-        },
-        Case {
-            axiom: MEMBER,
-            members: "class e2 1\nind i0 2\n",
-            holds: false,
-        },
-        Case {
-            axiom: PAIR,
-            members: "succ p0 0 1\nind i0 0\nind i1 1\n",
-            holds: true,
-        },
-        Case {
-            axiom: PAIR,
-            members: "succ p0 0 1\nind i0 1\nind i1 0\n",
-            holds: false,
-        },
-    ];
-    for case in &cases {
-        is_judged(&rt, case)?;
+fn axioms_in_interpretations(rt: HostRuntime) -> Result<(), Fail> {
+    for row in MODELS.split('\n') {
+        assert!(rt; is_row_judged(&rt, row)?, "{row}");
     }
     Ok(())
 }

@@ -15,31 +15,19 @@ pub(super) fn ontology_of<R: AllocGlobal + RandomSource>(
 }
 
 /// SubClassOf(A B), of the classes of the numbers 2 and 3.
-pub(super) fn one_subclass<R: AllocGlobal + RandomSource>(rt: &R) -> Result<Ontology, Fail> {
-    ontology_of(rt, "Ontology(SubClassOf(<x:A> <x:B>))")
-}
+pub(super) const ONE_SUBCLASS_DOCUMENT: &str = "Ontology(SubClassOf(<x:A> <x:B>))";
 
 /// ClassAssertion(A a), of the class of number 2 and the individual of number 0.
-pub(super) fn one_member<R: AllocGlobal + RandomSource>(rt: &R) -> Result<Ontology, Fail> {
-    ontology_of(rt, "Ontology(ClassAssertion(<x:A> <x:a>))")
-}
+pub(super) const ONE_MEMBER_DOCUMENT: &str = "Ontology(ClassAssertion(<x:A> <x:a>))";
 
 /// DisjointClasses(A B) ClassAssertion(A a) ClassAssertion(B a), of the classes of the numbers 2 and 3 and the individual of
 /// number 0.
-pub(super) fn contradiction<R: AllocGlobal + RandomSource>(rt: &R) -> Result<Ontology, Fail> {
-    ontology_of(
-        rt,
-        "Prefix(:=<x:>) Ontology(DisjointClasses(:A :B) ClassAssertion(:A :a) ClassAssertion(:B :a))",
-    )
-}
+pub(super) const CONTRADICTION_DOCUMENT: &str =
+    "Prefix(:=<x:>) Ontology(DisjointClasses(:A :B) ClassAssertion(:A :a) ClassAssertion(:B :a))";
 
 /// SubClassOf(A B) SubClassOf(B A) SubClassOf(C D) SubClassOf(D owl:Nothing), of the classes of the numbers 2 to 5.
-pub(super) fn circle_and_nothing<R: AllocGlobal + RandomSource>(rt: &R) -> Result<Ontology, Fail> {
-    ontology_of(
-        rt,
-        "Prefix(:=<x:>) Ontology(SubClassOf(:A :B) SubClassOf(:B :A) SubClassOf(:C :D) SubClassOf(:D owl:Nothing))",
-    )
-}
+pub(super) const CIRCLE_AND_NOTHING_DOCUMENT: &str =
+    "Prefix(:=<x:>) Ontology(SubClassOf(:A :B) SubClassOf(:B :A) SubClassOf(:C :D) SubClassOf(:D owl:Nothing))";
 
 /// The classes A, B and C of the numbers 2, 3 and 4, the properties r, s and t of the numbers 0, 1 and 2, the individuals a and
 /// b of the numbers 0 and 1; the axioms
