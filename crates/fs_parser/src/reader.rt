@@ -39,12 +39,13 @@ pub struct Frame<'a> {
     pub before: Vec<Tree<'a>>,
 }
 
-/// What was read so far.
+/// What was read so far, and a list whose room the next trees in parentheses take.
 #[derive(Drop)]
 pub struct State<'a> {
     pub frames: Vec<Frame<'a>>,
     pub done: Vec<Tree<'a>>,
     pub pending: Pending<'a>,
+    pub spare: Vec<Tree<'a>>,
 }
 
 /// One more tree.
@@ -73,7 +74,9 @@ fn open<'a>(
     if state.frames.len() >= limit {
         return Err(ParseFault::TooDeep { at: here });
     }
-    let before = mem::replace(&mut state.done, Vec::new(alloc));
+    let mut room = mem::replace(&mut state.spare, Vec::new(alloc));
+    room.clear();
+    let before = mem::replace(&mut state.done, room);
     state.frames.push(Frame {
         at,
         keyword,
@@ -93,14 +96,14 @@ fn whole<'a>(at: usize, keyword: Option<&'a str>, trees: Vec<Tree<'a>>) -> Tree<
     }
 }
 
-/// The trees in a list with room for no more than these. The list in which they came, which has room to spare, is freed
-/// for the next ones: of the trees of a document, most are alone or two.
-fn fitted<'a>(alloc: Global, mut trees: Vec<Tree<'a>>) -> Result<Vec<Tree<'a>>, ParseFault>
-    ensures same { IfOk result (λ v. v.items ≡ trees.entry.items) }
+/// The trees in a list with room for no more than these. The list in which they came keeps its room, for the next ones: of
+/// the trees of a document, most are alone or two.
+fn fitted<'a>(alloc: Global, trees: &mut Vec<Tree<'a>>) -> Result<Vec<Tree<'a>>, ParseFault>
+    ensures same { IfOk result (λ v. v.items ≡ trees.old.items) }
     ensures said { IfErr result IsMemory }
 {
     let mut fitted = Vec::with_capacity(alloc, trees.len())?;
-    fitted.append(&mut trees)?;
+    fitted.append(trees)?;
     Ok(fitted)
 }
 
@@ -111,8 +114,9 @@ fn close(alloc: Global, state: &mut State<'_>, here: usize) -> Result<(), ParseF
 {
     match state.frames.pop() {
         Some(frame) => {
-            let trees = mem::replace(&mut state.done, frame.before);
-            let trees = fitted(alloc, trees)?;
+            let mut room = mem::replace(&mut state.done, frame.before);
+            let trees = fitted(alloc, &mut room)?;
+            state.spare = room;
             push(state, whole(frame.at, frame.keyword, trees))
         }
         None => Err(ParseFault::Unexpected { at: here }),
@@ -311,6 +315,7 @@ pub fn trees_inside<'a>(
         frames: Vec::new(alloc),
         done: Vec::new(alloc),
         pending: Pending::Nothing,
+        spare: Vec::new(alloc),
     };
     let mut rest = tokens;
     while let [token, others @ ..] = rest {
@@ -342,6 +347,7 @@ pub fn trees_to_end<'a>(
         frames: Vec::new(alloc),
         done: Vec::new(alloc),
         pending: Pending::Nothing,
+        spare: Vec::new(alloc),
     };
     let mut rest = tokens;
     while let [token, others @ ..] = rest {
@@ -396,6 +402,7 @@ pub fn tree_to_end<'a>(
         frames: Vec::new(alloc),
         done: Vec::new(alloc),
         pending: Pending::Nothing,
+        spare: Vec::new(alloc),
     };
     let mut rest = tokens;
     while let [token, others @ ..] = rest {

@@ -95,6 +95,7 @@ fn trees_behind<'a>(
         frames: Vec::new(alloc),
         done: Vec::new(alloc),
         pending: Pending::Nothing,
+        spare: Vec::new(alloc),
     };
     let mut from = start;
     while let Some((token, behind)) = next_token(text, from) {
