@@ -54,7 +54,7 @@ fn read_text(alloc: Global, text: &str, state: RandomState) -> Result<Ontology, 
         Ok(document) => document,
         Err(fault) => return Err(fault),
     };
-    match accept(alloc, &document, Version::V1, state) {
+    match accept(alloc, &document, Version::One, state) {
         Ok(ontology) => {
             ontology.well_formed();
             Ok(ontology)

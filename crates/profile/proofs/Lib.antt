@@ -7,6 +7,7 @@ pub mod ClassTrees
 pub mod GivenOperands
 pub mod Fits
 pub mod Items
+pub mod Rows
 pub mod Stated
 pub mod Holding
 pub mod Adding

@@ -43,7 +43,7 @@ pub fn accept(
     if !found.is_empty() {
         return Err(Refusal::Faults(found));
     }
-    match ontology_of(alloc, &document.trees, state) {
+    match ontology_of(alloc, &document.trees, version, state) {
         Ok(ontology) => Ok(ontology),
         Err(BuildFault::TooManyNames) => Err(Refusal::TooManyNames),
         Err(BuildFault::Memory) => Err(Refusal::Memory),

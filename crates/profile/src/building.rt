@@ -10,18 +10,24 @@ ghost use Rattle.std.specs.Prelude.{◌≡◌, []};
 use crate::parts::part;
 use axioms::{BuildFault, Builder, ExprId, Ontology};
 use fs_parser::Tree;
+use shapes::Version;
 use statements::class_expression;
 use std::alloc::Global;
 use std::hash::RandomState;
 
 /// Adds what the trees state.
-fn add_parts(alloc: Global, builder: &mut Builder, trees: &[Tree<'_>]) -> Result<(), BuildFault>
+fn add_parts(
+    alloc: Global,
+    builder: &mut Builder,
+    trees: &[Tree<'_>],
+    version: Version,
+) -> Result<(), BuildFault>
     requires { ArePartsOfOntology (trees_of trees.now) }
     ensures { StatementsRead result (statements (trees_of trees.now)) builder.old builder.new }
 {
     builder.well_formed();
     for tree in trees {
-        match part(alloc, builder, tree) {
+        match part(alloc, builder, version, tree) {
             Ok(()) => {}
             Err(fault) => return Err(fault),
         }
@@ -33,6 +39,7 @@ fn add_parts(alloc: Global, builder: &mut Builder, trees: &[Tree<'_>]) -> Result
 pub(crate) fn ontology_of(
     alloc: Global,
     trees: &[Tree<'_>],
+    version: Version,
     state: RandomState,
 ) -> Result<Ontology, BuildFault>
     requires { document_faults (trees_of trees.now) ≡ [] }
@@ -42,7 +49,7 @@ pub(crate) fn ontology_of(
         Ok(builder) => builder,
         Err(_) => return Err(BuildFault::Memory),
     };
-    match add_parts(alloc, &mut builder, trees) {
+    match add_parts(alloc, &mut builder, trees, version) {
         Ok(()) => Ok(builder.finish()),
         Err(fault) => Err(fault),
     }
@@ -53,6 +60,7 @@ pub(crate) fn grown(
     alloc: Global,
     ontology: &Ontology,
     trees: &[Tree<'_>],
+    version: Version,
 ) -> Result<Ontology, BuildFault>
     requires { axiom_faults (trees_of trees.now) ≡ [] }
     ensures { StatementsGrown result ontology.now (trees_of trees.now) }
@@ -61,7 +69,7 @@ pub(crate) fn grown(
         Ok(copy) => Builder::from(copy),
         Err(_) => return Err(BuildFault::Memory),
     };
-    match add_parts(alloc, &mut builder, trees) {
+    match add_parts(alloc, &mut builder, trees, version) {
         Ok(()) => {
             let grown = builder.finish();
             grown.bounded();

@@ -34,7 +34,7 @@ pub fn accept_statements(
     if !faults.is_empty() {
         return Err(Refusal::Faults(faults));
     }
-    match grown(alloc, ontology, trees) {
+    match grown(alloc, ontology, trees, version) {
         Ok(grown) => Ok(grown),
         Err(BuildFault::TooManyNames) => Err(Refusal::TooManyNames),
         Err(BuildFault::Memory) => Err(Refusal::Memory),

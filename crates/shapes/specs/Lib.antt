@@ -1,3 +1,4 @@
+pub mod Meanings
 pub mod Shapes
 pub mod Keywords
 pub mod Names

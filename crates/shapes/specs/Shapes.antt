@@ -1,79 +1,117 @@
--- The shapes of axioms, annotations, entities and expressions of the profile: which operands each keyword takes (OWL 2
--- Profiles, sections 2.2.1 to 2.2.5; OWL 2 Structural Specification, sections 3.1, 3.5, 5.8, 8.1.1, 8.2.1, 9 and 10).
-use Rattle.std.specs.Prelude.{ℕ, List, [], ◌∷◌, Bool, true, false, Option, Some, None, if◌then◌else◌, codes, length, nat_lt, ◌==◌}
+-- The table of shapes of the profile: which operands each keyword takes, and what a form of it says (OWL 2 Profiles, sections
+-- 2.2.1 to 2.2.5; OWL 2 Structural Specification, sections 3.1, 3.5, 5.8, 8.1.1, 8.2.1, 9 and 10).
+use Rattle.std.specs.Prelude.{ℕ, List, [], ◌∷◌, Bool, true, false, Option, Some, None, if◌then◌else◌, codes, length, map, nat_lt, ◌==◌}
 use Rattle.std.specs.Str.{bytes_eq}
+use Rattle.axioms.specs.Axiom as axioms
+use Rattle.axioms.specs.Numbering.{Statement, DeclaresClass, DeclaresProperty, DeclaresIndividual, States}
+use Rattle.fs_parser.specs.Tree.{Trees}
 use Rattle.shapes.specs.declared.expected.Expected.{Expected}
 use Rattle.shapes.specs.declared.expected.Expected.TheVariants.{Axiom, Annotation, Entity, ClassExpression, Class, Property, PropertyOrChain, Individual, AnyName, NameOrLiteral}
+use Rattle.shapes.specs.declared.form.Form.{Form}
+use Rattle.shapes.specs.declared.form.Form.TheVariants as forms
+use Rattle.shapes.specs.declared.version.Version.{Version}
+use Rattle.shapes.specs.declared.version.Version.TheVariants.{One}
+use Rattle.shapes.specs.Meanings.{operand, class_of, classes_of, iri_of, iris_of, chain_of}
 
 -- these operands, or two or more of one kind, of which no two may be equal where it says so
 pub data Operands : Type 0 where
   Each : List Expected → Operands
   Many : (distinct : Bool) (operand : Expected) → Operands
 
--- keywords with their operands
-abbrev pub Shapes : Type 0
-Shapes = List (List ℕ × Operands)
+-- what a form says of its operands, if it says something by itself
+abbrev pub Says : Type 0
+Says = Option (Trees → Statement)
 
--- axioms (Structural Specification, sections 5.8.1, 9.1, 9.2, 9.6 and 10.2)
-abbrev pub axiom_shapes : Shapes
-axiom_shapes =
-    (codes "SubClassOf", Each (ClassExpression ∷ ClassExpression ∷ []))
-    ∷ (codes "EquivalentClasses", Many true ClassExpression)
-    ∷ (codes "DisjointClasses", Many true ClassExpression)
-    ∷ (codes "SubObjectPropertyOf", Each (PropertyOrChain ∷ Property ∷ []))
-    ∷ (codes "EquivalentObjectProperties", Many true Property)
-    ∷ (codes "ObjectPropertyDomain", Each (Property ∷ ClassExpression ∷ []))
-    ∷ (codes "TransitiveObjectProperty", Each (Property ∷ []))
-    ∷ (codes "ReflexiveObjectProperty", Each (Property ∷ []))
-    ∷ (codes "ClassAssertion", Each (ClassExpression ∷ Individual ∷ []))
-    ∷ (codes "ObjectPropertyAssertion", Each (Property ∷ Individual ∷ Individual ∷ []))
-    ∷ (codes "Declaration", Each (Entity ∷ []))
-    ∷ (codes "AnnotationAssertion", Each (AnyName ∷ AnyName ∷ NameOrLiteral ∷ []))
-    ∷ (codes "SubAnnotationPropertyOf", Each (AnyName ∷ AnyName ∷ []))
-    ∷ (codes "AnnotationPropertyDomain", Each (AnyName ∷ AnyName ∷ []))
-    ∷ (codes "AnnotationPropertyRange", Each (AnyName ∷ AnyName ∷ []))
-    ∷ []
+-- a row: the keyword of a form, the operands that it takes, and what it says of them
+abbrev pub Row : Type 0
+Row = List ℕ × Operands × Says
 
--- annotations (section 10.1)
-abbrev pub annotation_shapes : Shapes
-annotation_shapes = (codes "Annotation", Each (AnyName ∷ NameOrLiteral ∷ [])) ∷ []
+abbrev pub row : Form → Row
+-- axioms (Structural Specification, sections 9.1, 9.2 and 9.6)
+row forms.SubClassOf =
+    (codes "SubClassOf", Each (ClassExpression ∷ ClassExpression ∷ []), Some (λ ts. States (axioms.SubClassOf (class_of (operand ts 0)) (class_of (operand ts 1)))))
+row forms.EquivalentClasses = (codes "EquivalentClasses", Many true ClassExpression, Some (λ ts. States (axioms.EquivalentClasses (classes_of ts))))
+row forms.DisjointClasses = (codes "DisjointClasses", Many true ClassExpression, Some (λ ts. States (axioms.DisjointClasses (classes_of ts))))
+row forms.SubObjectPropertyOf =
+    (codes "SubObjectPropertyOf", Each (PropertyOrChain ∷ Property ∷ []), Some (λ ts. States (axioms.SubPropertyOf (chain_of (operand ts 0)) (iri_of (operand ts 1)))))
+row forms.EquivalentObjectProperties =
+    (codes "EquivalentObjectProperties", Many true Property, Some (λ ts. States (axioms.EquivalentProperties (iris_of ts))))
+row forms.ObjectPropertyDomain =
+    (codes "ObjectPropertyDomain", Each (Property ∷ ClassExpression ∷ []), Some (λ ts. States (axioms.PropertyDomain (iri_of (operand ts 0)) (class_of (operand ts 1)))))
+row forms.TransitiveObjectProperty =
+    (codes "TransitiveObjectProperty", Each (Property ∷ []), Some (λ ts. States (axioms.TransitiveProperty (iri_of (operand ts 0)))))
+row forms.ReflexiveObjectProperty =
+    (codes "ReflexiveObjectProperty", Each (Property ∷ []), Some (λ ts. States (axioms.ReflexiveProperty (iri_of (operand ts 0)))))
+row forms.ClassAssertion =
+    (codes "ClassAssertion", Each (ClassExpression ∷ Individual ∷ []), Some (λ ts. States (axioms.ClassAssertion (class_of (operand ts 0)) (iri_of (operand ts 1)))))
+row forms.ObjectPropertyAssertion =
+    (codes "ObjectPropertyAssertion", Each (Property ∷ Individual ∷ Individual ∷ []), Some (λ ts. States (axioms.PropertyAssertion (iri_of (operand ts 0)) (iri_of (operand ts 1)) (iri_of (operand ts 2)))))
+-- declarations (section 5.8.1), which say what their operand says, and what is declared (section 5.8)
+row forms.Declaration = (codes "Declaration", Each (Entity ∷ []), None)
+row forms.Class = (codes "Class", Each (Class ∷ []), Some (λ ts. DeclaresClass (iri_of (operand ts 0))))
+row forms.ObjectProperty = (codes "ObjectProperty", Each (Property ∷ []), Some (λ ts. DeclaresProperty (iri_of (operand ts 0))))
+row forms.NamedIndividual = (codes "NamedIndividual", Each (Individual ∷ []), Some (λ ts. DeclaresIndividual (iri_of (operand ts 0))))
+row forms.AnnotationProperty = (codes "AnnotationProperty", Each (AnyName ∷ []), None)
+-- axioms of annotations (section 10.2), and annotations (section 10.1)
+row forms.AnnotationAssertion = (codes "AnnotationAssertion", Each (AnyName ∷ AnyName ∷ NameOrLiteral ∷ []), None)
+row forms.SubAnnotationPropertyOf = (codes "SubAnnotationPropertyOf", Each (AnyName ∷ AnyName ∷ []), None)
+row forms.AnnotationPropertyDomain = (codes "AnnotationPropertyDomain", Each (AnyName ∷ AnyName ∷ []), None)
+row forms.AnnotationPropertyRange = (codes "AnnotationPropertyRange", Each (AnyName ∷ AnyName ∷ []), None)
+row forms.Annotation = (codes "Annotation", Each (AnyName ∷ NameOrLiteral ∷ []), None)
+-- class expressions other than names (sections 8.1.1 and 8.2.1), and chains of properties (section 9.2.1)
+row forms.ObjectIntersectionOf = (codes "ObjectIntersectionOf", Many true ClassExpression, None)
+row forms.ObjectSomeValuesFrom = (codes "ObjectSomeValuesFrom", Each (Property ∷ ClassExpression ∷ []), None)
+row forms.ObjectPropertyChain = (codes "ObjectPropertyChain", Many false Property, None)
 
--- what is declared (section 5.8)
-abbrev pub entity_shapes : Shapes
-entity_shapes =
-    (codes "Class", Each (Class ∷ []))
-    ∷ (codes "ObjectProperty", Each (Property ∷ []))
-    ∷ (codes "NamedIndividual", Each (Individual ∷ []))
-    ∷ (codes "AnnotationProperty", Each (AnyName ∷ []))
-    ∷ []
+-- the first version that takes the form
+abbrev pub since : Form → Version
+since form = One
 
--- class expressions other than names (sections 8.1.1 and 8.2.1)
-abbrev pub expression_shapes : Shapes
-expression_shapes =
-    (codes "ObjectIntersectionOf", Many true ClassExpression)
-    ∷ (codes "ObjectSomeValuesFrom", Each (Property ∷ ClassExpression ∷ []))
-    ∷ []
+abbrev pub axiom_forms : List Form
+axiom_forms =
+    forms.SubClassOf ∷ forms.EquivalentClasses ∷ forms.DisjointClasses ∷ forms.SubObjectPropertyOf ∷ forms.EquivalentObjectProperties
+    ∷ forms.ObjectPropertyDomain ∷ forms.TransitiveObjectProperty ∷ forms.ReflexiveObjectProperty ∷ forms.ClassAssertion
+    ∷ forms.ObjectPropertyAssertion ∷ forms.Declaration ∷ forms.AnnotationAssertion ∷ forms.SubAnnotationPropertyOf
+    ∷ forms.AnnotationPropertyDomain ∷ forms.AnnotationPropertyRange ∷ []
 
--- chains of properties (section 9.2.1)
-abbrev pub chain_shapes : Shapes
-chain_shapes = (codes "ObjectPropertyChain", Many false Property) ∷ []
+abbrev pub entity_forms : List Form
+entity_forms = forms.Class ∷ forms.ObjectProperty ∷ forms.NamedIndividual ∷ forms.AnnotationProperty ∷ []
 
 -- the forms that may stand where such a tree is expected
-abbrev pub shapes_of : Expected → Shapes
-shapes_of Axiom = axiom_shapes
-shapes_of Annotation = annotation_shapes
-shapes_of Entity = entity_shapes
-shapes_of ClassExpression = expression_shapes
-shapes_of PropertyOrChain = chain_shapes
-shapes_of _ = []
+abbrev pub forms_of : Expected → List Form
+forms_of Axiom = axiom_forms
+forms_of Annotation = forms.Annotation ∷ []
+forms_of Entity = entity_forms
+forms_of ClassExpression = forms.ObjectIntersectionOf ∷ forms.ObjectSomeValuesFrom ∷ []
+forms_of PropertyOrChain = forms.ObjectPropertyChain ∷ []
+forms_of _ = []
 
-abbrev pub shape_in : Shapes → List ℕ → Option Operands
+-- a form with its keyword and operands, and its first version
+abbrev pub Shape : Type 0
+Shape = Form × List ℕ × Operands × Version
+
+abbrev pub shape : Form → Shape
+shape form = (form, (row form).0, (row form).1, since form)
+
+-- .. of the forms that may stand where such a tree is expected
+abbrev pub shapes_of : Expected → List Shape
+shapes_of expected = map shape (forms_of expected)
+
+abbrev pub shape_in : List Shape → List ℕ → Option Operands
 shape_in [] keyword = None
-shape_in (shape ∷ shapes) keyword = if bytes_eq shape.0 keyword then Some shape.1 else shape_in shapes keyword
+shape_in (shape ∷ shapes) keyword = if bytes_eq shape.1 keyword then Some shape.2 else shape_in shapes keyword
 
 -- the operands of a form where such a tree is expected, if it may stand there
 abbrev pub operands_of : Expected → List ℕ → Option Operands
 operands_of expected keyword = shape_in (shapes_of expected) keyword
+
+abbrev pub form_in : List Shape → List ℕ → Option Form
+form_in [] keyword = None
+form_in (shape ∷ shapes) keyword = if bytes_eq shape.1 keyword then Some shape.0 else form_in shapes keyword
+
+-- the form of that keyword where such a tree is expected, if it may stand there
+abbrev pub form_of : Expected → List ℕ → Option Form
+form_of expected keyword = form_in (shapes_of expected) keyword
 
 -- axioms and annotations may begin with annotations (section 10.1)
 abbrev pub may_be_annotated : Expected → Bool

@@ -11,7 +11,7 @@ use Rattle.shapes.specs.declared.operand.Operand as code_operand
 use Rattle.fs_parser.specs.Tree.{Tree}
 use Rattle.fs_parser.specs.View.{tree_of}
 use Rattle.shapes.specs.Faults.{Fault, RefusedConstruct, UnknownKeyword, WrongShape, RepeatedOperand, ReservedName, AnonymousIndividual, UnknownName}
-use Rattle.shapes.specs.Shapes.{Operands, Each, Many}
+use Rattle.shapes.specs.Shapes.{Operands, Each, Many, Shape}
 
 abbrev pub fault_of : code.Fault → Fault
 fault_of (faults.RefusedConstruct at keyword) = RefusedConstruct at (string_bytes keyword)
@@ -29,8 +29,8 @@ abbrev pub operands_view : code_operands.Operands → Operands
 operands_view (operands.Each expected) = Each expected.now
 operands_view (operands.Many distinct operand) = Many distinct operand
 
-abbrev pub shape_view : code_shape.Shape → List ℕ × Operands
-shape_view s = (s.keyword.now, operands_view s.operands)
+abbrev pub shape_view : code_shape.Shape → Shape
+shape_view s = (s.form, s.keyword.now, operands_view s.operands, s.since)
 
 abbrev pub operand_tree : code_operand.Operand → Tree
 operand_tree o = tree_of o.tree.now

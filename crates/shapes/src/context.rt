@@ -6,16 +6,18 @@ ghost use Rattle.shapes.specs.Names.{is_there};
 ghost use Rattle.shapes.specs.View.{names_of};
 
 use crate::expected::Expected;
+use crate::version::Version;
 use axioms::{Memory, Ontology};
 use fs_parser::Iri;
 use std::alloc::Global;
 use std::hash::RandomState;
 
-/// Where memory comes from, how the tables of operands hash, and the ontology of whose names alone there may be any.
+/// Where memory comes from, how the tables of operands hash, the version of the profile, and the ontology of whose names alone there may be any.
 #[derive(Clone, Copy)]
 pub(crate) struct Context<'o> {
     pub(crate) alloc: Global,
     pub(crate) state: RandomState,
+    pub(crate) version: Version,
     pub(crate) ontology: Option<&'o Ontology>,
 }
 

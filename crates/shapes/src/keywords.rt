@@ -2,18 +2,23 @@
 
 ghost use Rattle.std.specs.Prelude.{◌≡◌, map, option_map};
 ghost use Rattle.shapes.specs.Keywords.{has_shape, is_known, is_refused};
-ghost use Rattle.shapes.specs.Shapes.{operands_of, shapes_of};
+ghost use Rattle.shapes.specs.Shapes.{form_of, operands_of, shapes_of};
 ghost use Rattle.shapes.specs.View.{operands_view, shape_view};
 
 use crate::expected::Expected::{
     AnyName, Class, ClassExpression, Entity, Individual, NameOrLiteral, Property, PropertyOrChain,
 };
 use crate::expected::{Expected, Operands};
+use crate::form::Form;
+use crate::version::Version;
 
-/// A keyword with the operands that it takes.
-struct Shape {
-    keyword: &'static str,
-    operands: Operands<'static>,
+/// A row of the table: a form, its keyword, the operands that it takes, and the first version that has it.
+#[derive(Clone, Copy, Debug)]
+pub struct Shape {
+    pub form: Form,
+    pub keyword: &'static str,
+    pub operands: Operands<'static>,
+    pub since: Version,
 }
 
 const DISTINCT_CLASSES: Operands<'static> = Operands::Many {
@@ -33,107 +38,153 @@ const PROPERTIES: Operands<'static> = Operands::Many {
 
 static AXIOMS: [Shape; 15] = [
     Shape {
+        form: Form::SubClassOf,
         keyword: "SubClassOf",
         operands: Operands::Each(&[ClassExpression, ClassExpression]),
+        since: Version::One,
     },
     Shape {
+        form: Form::EquivalentClasses,
         keyword: "EquivalentClasses",
         operands: DISTINCT_CLASSES,
+        since: Version::One,
     },
     Shape {
+        form: Form::DisjointClasses,
         keyword: "DisjointClasses",
         operands: DISTINCT_CLASSES,
+        since: Version::One,
     },
     Shape {
+        form: Form::SubObjectPropertyOf,
         keyword: "SubObjectPropertyOf",
         operands: Operands::Each(&[PropertyOrChain, Property]),
+        since: Version::One,
     },
     Shape {
+        form: Form::EquivalentObjectProperties,
         keyword: "EquivalentObjectProperties",
         operands: DISTINCT_PROPERTIES,
+        since: Version::One,
     },
     Shape {
+        form: Form::ObjectPropertyDomain,
         keyword: "ObjectPropertyDomain",
         operands: Operands::Each(&[Property, ClassExpression]),
+        since: Version::One,
     },
     Shape {
+        form: Form::TransitiveObjectProperty,
         keyword: "TransitiveObjectProperty",
         operands: Operands::Each(&[Property]),
+        since: Version::One,
     },
     Shape {
+        form: Form::ReflexiveObjectProperty,
         keyword: "ReflexiveObjectProperty",
         operands: Operands::Each(&[Property]),
+        since: Version::One,
     },
     Shape {
+        form: Form::ClassAssertion,
         keyword: "ClassAssertion",
         operands: Operands::Each(&[ClassExpression, Individual]),
+        since: Version::One,
     },
     Shape {
+        form: Form::ObjectPropertyAssertion,
         keyword: "ObjectPropertyAssertion",
         operands: Operands::Each(&[Property, Individual, Individual]),
+        since: Version::One,
     },
     Shape {
+        form: Form::Declaration,
         keyword: "Declaration",
         operands: Operands::Each(&[Entity]),
+        since: Version::One,
     },
     Shape {
+        form: Form::AnnotationAssertion,
         keyword: "AnnotationAssertion",
         operands: Operands::Each(&[AnyName, AnyName, NameOrLiteral]),
+        since: Version::One,
     },
     Shape {
+        form: Form::SubAnnotationPropertyOf,
         keyword: "SubAnnotationPropertyOf",
         operands: Operands::Each(&[AnyName, AnyName]),
+        since: Version::One,
     },
     Shape {
+        form: Form::AnnotationPropertyDomain,
         keyword: "AnnotationPropertyDomain",
         operands: Operands::Each(&[AnyName, AnyName]),
+        since: Version::One,
     },
     Shape {
+        form: Form::AnnotationPropertyRange,
         keyword: "AnnotationPropertyRange",
         operands: Operands::Each(&[AnyName, AnyName]),
+        since: Version::One,
     },
 ];
 
 static ANNOTATIONS: [Shape; 1] = [Shape {
+    form: Form::Annotation,
     keyword: "Annotation",
     operands: Operands::Each(&[AnyName, NameOrLiteral]),
+    since: Version::One,
 }];
 
 static ENTITIES: [Shape; 4] = [
     Shape {
+        form: Form::Class,
         keyword: "Class",
         operands: Operands::Each(&[Class]),
+        since: Version::One,
     },
     Shape {
+        form: Form::ObjectProperty,
         keyword: "ObjectProperty",
         operands: Operands::Each(&[Property]),
+        since: Version::One,
     },
     Shape {
+        form: Form::NamedIndividual,
         keyword: "NamedIndividual",
         operands: Operands::Each(&[Individual]),
+        since: Version::One,
     },
     Shape {
+        form: Form::AnnotationProperty,
         keyword: "AnnotationProperty",
         operands: Operands::Each(&[AnyName]),
+        since: Version::One,
     },
 ];
 
 static EXPRESSIONS: [Shape; 2] = [
     Shape {
+        form: Form::ObjectIntersectionOf,
         keyword: "ObjectIntersectionOf",
         operands: DISTINCT_CLASSES,
+        since: Version::One,
     },
     Shape {
+        form: Form::ObjectSomeValuesFrom,
         keyword: "ObjectSomeValuesFrom",
         operands: Operands::Each(&[Property, ClassExpression]),
+        since: Version::One,
     },
 ];
 
 static NONE: [Shape; 0] = [];
 
 static CHAINS: [Shape; 1] = [Shape {
+    form: Form::ObjectPropertyChain,
     keyword: "ObjectPropertyChain",
     operands: PROPERTIES,
+    since: Version::One,
 }];
 
 static REFUSED: [&str; 46] = [
@@ -199,14 +250,15 @@ fn shapes_of(expected: Expected) -> &'static [Shape]
     }
 }
 
-/// The operands of a form with this keyword where such a tree is expected, if it may stand there.
-pub fn operands_of(expected: Expected, keyword: &str) -> Option<Operands<'static>>
-    ensures { option_map operands_view result ≡ operands_of expected keyword.now }
+/// The row of this keyword where such a tree is expected, if the version has a form that may stand there.
+pub fn shape_of(expected: Expected, keyword: &str, version: Version) -> Option<Shape>
+    ensures operands { option_map (λ s. operands_view s.operands) result ≡ operands_of expected keyword.now }
+    ensures form { option_map (λ s. s.form) result ≡ form_of expected keyword.now }
 {
     let shapes = shapes_of(expected);
     for shape in shapes {
-        if shape.keyword == keyword {
-            return Some(shape.operands);
+        if shape.keyword == keyword && version.has(shape.since) {
+            return Some(*shape);
         }
     }
     None
@@ -224,7 +276,7 @@ pub fn is_refused(keyword: &str) -> bool
 fn has_shape(expected: Expected, keyword: &str) -> bool
     ensures { result ≡ has_shape expected keyword.now }
 {
-    operands_of(expected, keyword).is_some()
+    shape_of(expected, keyword, Version::One).is_some()
 }
 
 /// Whether the keyword is one of documents and of the profile.

@@ -8,14 +8,19 @@ mod context;
 mod equality;
 mod expected;
 mod fault;
+mod form;
 mod keywords;
 mod names;
 mod operand;
+mod version;
 mod walk;
 
 pub use expected::{Expected, Operands};
 pub use fault::Fault;
-pub use walk::{Version, annotation_count, axiom_faults, document_faults, expression_faults};
+pub use form::Form;
+pub use keywords::{Shape, shape_of};
+pub use version::Version;
+pub use walk::{annotation_count, axiom_faults, document_faults, expression_faults};
 
 /// The faults of small documents.
 pub fn worked_documents()

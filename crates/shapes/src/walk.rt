@@ -12,9 +12,10 @@ use crate::context::Context;
 use crate::equality::is_among;
 use crate::expected::{Expected, Operands};
 use crate::fault::Fault;
-use crate::keywords::{is_known, is_refused, operands_of};
+use crate::keywords::{is_known, is_refused, shape_of};
 use crate::names::{is_allowed, may_be_name};
 use crate::operand::is_new;
+use crate::version::Version;
 use axioms::{Memory, Ontology};
 use fs_parser::{Document, Iri, Tree};
 use indexmap::IndexSet;
@@ -23,12 +24,6 @@ use std::hash::RandomState;
 
 /// How many operands are compared one by one; more are found in a table.
 const FEW_OPERANDS: usize = 8;
-
-/// Which constructs are taken.
-#[derive(Clone, Copy, Debug, PartialEq, Eq)]
-pub enum Version {
-    V1,
-}
 
 /// Whether the tree is a name.
 fn is_name(tree: &Tree<'_>) -> bool
@@ -171,15 +166,15 @@ fn form_faults(
 ) -> Result<(), Memory>
     ensures { OnOk result (faults_of found.new.items ≡ faults_of found.old.items ++ faults_among (names_of context.now) expected (Form at keyword.now (trees_of trees.now))) }
 {
-    let Some(operands) = operands_of(expected, keyword) else {
+    let Some(shape) = shape_of(expected, keyword, context.version) else {
         return tell(found, misplaced(context.alloc, at, keyword)?);
     };
     let in_front = annotations_in_front(expected, trees);
-    if !operands.fits_count(trees.len() - in_front) {
+    if !shape.operands.fits_count(trees.len() - in_front) {
         return tell(found, Fault::WrongShape { at });
     }
     annotation_faults(context, found, expected, trees)?;
-    operand_faults(context, found, operands, trees, in_front)
+    operand_faults(context, found, shape.operands, trees, in_front)
 }
 
 /// The faults of the annotations in front, if there may be any where such a tree is expected.
@@ -328,18 +323,15 @@ pub fn document_faults(
 ) -> Result<Vec<Fault>, Memory>
     ensures { IfOk result (λ found. faults_of found.items ≡ spec.document_faults (trees_of document.now.trees.items)) }
 {
-    match version {
-        Version::V1 => {
-            let context = Context {
-                alloc,
-                state,
-                ontology: None,
-            };
-            let mut found = Vec::new(alloc);
-            ontology_faults(&context, &mut found, &document.trees)?;
-            Ok(found)
-        }
-    }
+    let context = Context {
+        alloc,
+        state,
+        version,
+        ontology: None,
+    };
+    let mut found = Vec::new(alloc);
+    ontology_faults(&context, &mut found, &document.trees)?;
+    Ok(found)
 }
 
 /// Every fault of trees that are each expected to be an axiom or a declaration, in the order of the text.
@@ -355,18 +347,15 @@ pub fn axiom_faults(
 ) -> Result<Vec<Fault>, Memory>
     ensures { IfOk result (λ found. faults_of found.items ≡ spec.axiom_faults (trees_of trees.now)) }
 {
-    match version {
-        Version::V1 => {
-            let context = Context {
-                alloc,
-                state,
-                ontology: None,
-            };
-            let mut found = Vec::new(alloc);
-            each_faults(&context, &mut found, Expected::Axiom, trees)?;
-            Ok(found)
-        }
-    }
+    let context = Context {
+        alloc,
+        state,
+        version,
+        ontology: None,
+    };
+    let mut found = Vec::new(alloc);
+    each_faults(&context, &mut found, Expected::Axiom, trees)?;
+    Ok(found)
 }
 
 /// Every fault of a tree that is expected to be a class expression over the names of the ontology, in the order of the text.
@@ -383,16 +372,13 @@ pub fn expression_faults(
 ) -> Result<Vec<Fault>, Memory>
     ensures { IfOk result (λ found. faults_of found.items ≡ spec.expression_faults ontology.now.names (tree_of tree.now)) }
 {
-    match version {
-        Version::V1 => {
-            let context = Context {
-                alloc,
-                state,
-                ontology: Some(ontology),
-            };
-            let mut found = Vec::new(alloc);
-            tree_faults(&context, &mut found, Expected::ClassExpression, tree)?;
-            Ok(found)
-        }
-    }
+    let context = Context {
+        alloc,
+        state,
+        version,
+        ontology: Some(ontology),
+    };
+    let mut found = Vec::new(alloc);
+    tree_faults(&context, &mut found, Expected::ClassExpression, tree)?;
+    Ok(found)
 }

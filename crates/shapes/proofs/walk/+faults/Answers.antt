@@ -15,22 +15,22 @@ pub form_faults-returns-then-not-fits_count : goal.form_faults-returns-then-not-
 form_faults-returns-then-not-fits_count t c =
     let expected = c.args.expected in
     let ts = c.args.trees.now in
-    let operands = operands_view c.in-Some.operands in
+    let operands = operands_view c.in-Some.shape.operands in
     let n = c.annotations_in_front-in_front.result in
     let fits = fits_behind expected operands ts n _ c.annotations_in_front-in_front.ensures.others c.if-not-fits_count.ensures in
     on_ok_weaker c.tell-then-not-fits_count.result
     (λ h. h ∙ ap (λ (fs : List Fault). faults_of c.args.found.now.items ++ fs)
-    (sym (unfitting_form (names_of c.args.context.now) expected c.args.at c.args.keyword.now (trees_of ts) operands (placed_is_not_refused expected c.args.keyword.now operands (sym c.in-Some.ensures)) (placed_is_known expected c.args.keyword.now operands (sym c.in-Some.ensures)) (sym c.in-Some.ensures) fits)))
+    (sym (unfitting_form (names_of c.args.context.now) expected c.args.at c.args.keyword.now (trees_of ts) operands (placed_is_not_refused expected c.args.keyword.now operands (sym c.in-Some.ensures.operands)) (placed_is_known expected c.args.keyword.now operands (sym c.in-Some.ensures.operands)) (sym c.in-Some.ensures.operands) fits)))
     c.tell-then-not-fits_count.ensures
 
 pub form_faults-returns : goal.form_faults-returns
 form_faults-returns t c =
     let expected = c.args.expected in
     let ts = c.args.trees.now in
-    let operands = operands_view c.in-Some.operands in
+    let operands = operands_view c.in-Some.shape.operands in
     let n = c.annotations_in_front-in_front.result in
     let fits = fits_behind expected operands ts n _ c.annotations_in_front-in_front.ensures.others c.if-not-fits_count.ensures in
-    let all = fitting_form (names_of c.args.context.now) expected c.args.at c.args.keyword.now (trees_of ts) operands (placed_is_not_refused expected c.args.keyword.now operands (sym c.in-Some.ensures)) (placed_is_known expected c.args.keyword.now operands (sym c.in-Some.ensures)) (sym c.in-Some.ensures) fits in
+    let all = fitting_form (names_of c.args.context.now) expected c.args.at c.args.keyword.now (trees_of ts) operands (placed_is_not_refused expected c.args.keyword.now operands (sym c.in-Some.ensures.operands)) (placed_is_known expected c.args.keyword.now operands (sym c.in-Some.ensures.operands)) (sym c.in-Some.ensures.operands) fits in
     on_ok_weaker c.operand_faults.result
     (form_found (names_of c.args.context.now) (faults_of c.args.found.now.items) (front_faults (names_of c.args.context.now) expected (trees_of ts)) _ _ (faults_among (names_of c.args.context.now) expected (Form c.args.at c.args.keyword.now (trees_of ts))) operands _ (own_trees expected (trees_of ts))
     c.annotations_in_front-in_front.ensures.others all c.in_ok-annotation_faults.ensures) c.operand_faults.ensures

@@ -1,0 +1,19 @@
+//! Versions of the profile.
+ghost use Rattle.std.specs.Prelude.{◌≡◌, true};
+
+/// Which constructs are taken.
+#[derive(Clone, Copy, Debug, PartialEq, Eq)]
+pub enum Version {
+    One,
+}
+
+impl Version {
+    /// Whether this version takes what has been taken since that one. There is one version, which takes all.
+    pub(crate) fn has(self, since: Version) -> bool
+        ensures { result ≡ true }
+    {
+        match (self, since) {
+            (Version::One, Version::One) => true,
+        }
+    }
+}
