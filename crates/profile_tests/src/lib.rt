@@ -2,8 +2,10 @@
 #![tactic(auto)]
 
 #[cfg(test)]
-mod acceptance;
+mod by_hand;
 #[cfg(test)]
-mod class_expressions;
+mod documents;
 #[cfg(test)]
 mod growth;
+#[cfg(test)]
+mod tables;

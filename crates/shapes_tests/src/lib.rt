@@ -1,5 +1,9 @@
-//! Tests of what the shapes of trees allow.
+//! Tests of the faults that documents have.
 #![tactic(auto)]
 
 #[cfg(test)]
+mod faults;
+#[cfg(test)]
 mod tests;
+#[cfg(test)]
+mod told;
