@@ -5,7 +5,7 @@ use Rattle.normal_forms.specs.declared.forms.Class2.TheVariants as class
 use Rattle.normal_forms.specs.declared.forms.PropId2.{PropId2}
 use Rattle.normal_forms.specs.declared.forms.PropId2.TheVariants as property
 use Rattle.normal_forms.specs.declared.forms.Form.{Form}
-use Rattle.normal_forms.specs.declared.forms.Form.TheVariants.{N1, N2, N3, N4, N6, N7, N8, N9}
+use Rattle.normal_forms.specs.declared.forms.Form.TheVariants.{N1, N2, N3, N4, N5, N6, N7, N8, N9}
 use Rattle.number_table.specs.declared.keys.Key.{Key}
 use Rattle.number_table.specs.declared.keys.Key.TheVariants as key
 
@@ -49,3 +49,8 @@ by_filler _ = None
 abbrev pub by_chain : Form → Option Key
 by_chain (N6 r _ _) = Some (property_key r)
 by_chain _ = None
+
+-- the property that it puts below another, and no chain
+abbrev pub by_plain : Form → Option Key
+by_plain (N5 r _) = Some (key.Whole r.0)
+by_plain _ = None

@@ -1,7 +1,7 @@
 //! A problem whose forms are found by key.
-ghost use Rattle.std.specs.Prelude.{◌≡◌, ◌↔◌, ℕ, Contains, IfOk};
+ghost use Rattle.std.specs.Prelude.{◌≡◌, ◌↔◌, ◌++◌, [], ℕ, Contains, IfOk};
 ghost use Rattle.number_table.specs.declared.keys.Key.TheVariants as keys;
-ghost use Rattle.form_index.specs.Named.{class_key, property_key, by_kind, by_alone, by_first, by_second, by_filler, by_chain};
+ghost use Rattle.form_index.specs.Named.{class_key, property_key, by_kind, by_alone, by_first, by_second, by_filler, by_chain, by_plain};
 ghost use Rattle.form_index.specs.Under.{IsUnder};
 
 use crate::form_index::FormIndex;
@@ -15,6 +15,7 @@ use std::marker::Model;
 /// Normal forms, found by their classes and properties, and the contexts that are there from the start.
 #[derive(Drop)]
 pub struct IndexedProblem {
+    alloc: Global,
     forms: Vec<Form>,
     roots: Vec<Context>,
     index: FormIndex,
@@ -31,7 +32,41 @@ impl Model for IndexedProblem {
     ghost invariant = { λ p. IsFormIndex p.forms.items p.index };
 }
 
+/// The elements of the first list, and then those of the second.
+fn joined<T: Copy + Drop>(alloc: Global, first: &[T], second: &[T]) -> Result<Vec<T>, AllocError>
+    ensures { IfOk result (λ all. all.items ≡ first.now ++ second.now) }
+{
+    let mut all = Vec::new(alloc);
+    all.extend_from_slice(first)?;
+    all.extend_from_slice(second)?;
+    Ok(all)
+}
+
 impl IndexedProblem {
+    /// No forms and no contexts.
+    pub fn empty(alloc: Global) -> Self
+        ensures forms { result.forms ≡ [] }
+        ensures roots { result.roots ≡ [] }
+    {
+        IndexedProblem {
+            alloc,
+            forms: Vec::new(alloc),
+            roots: Vec::new(alloc),
+            index: FormIndex::new(alloc),
+        }
+    }
+
+    /// The problem with these forms and contexts behind its own; the problem itself stays. Fails where memory is refused, and where
+    /// there would be 2^32 forms.
+    pub fn grown(&self, forms: &[Form], roots: &[Context]) -> Result<Self, AllocError>
+        ensures forms { IfOk result (λ p. p.forms ≡ self.now.forms ++ forms.now) }
+        ensures roots { IfOk result (λ p. p.roots ≡ self.now.roots ++ roots.now) }
+    {
+        let forms = joined(self.alloc, &self.forms, forms)?;
+        let roots = joined(self.alloc, &self.roots, roots)?;
+        IndexedProblem::new(self.alloc, forms, roots)
+    }
+
     /// The problem of these forms, of which there are fewer than 2^32, and roots. Fails where memory is refused.
     pub fn new(alloc: Global, forms: Vec<Form>, roots: Vec<Context>) -> Result<Self, AllocError>
         ensures forms { IfOk result (λ p. p.forms ≡ forms.items) }
@@ -42,6 +77,7 @@ impl IndexedProblem {
         }
         let index = FormIndex::of(alloc, &forms)?;
         Ok(IndexedProblem {
+            alloc,
             forms,
             roots,
             index,
@@ -109,5 +145,11 @@ impl IndexedProblem {
         ensures { (n : ℕ) → Contains result.now n ↔ IsUnder by_chain self.now.forms (property_key property) n }
     {
         self.index.chains.of(key_of_property(property))
+    }
+    /// The forms that put that property below another, and no chain.
+    pub fn plain_from(&self, property: PropId2) -> &[u32]
+        ensures { (n : ℕ) → Contains result.now n ↔ IsUnder by_plain self.now.forms (property_key property) n }
+    {
+        self.index.plain.of(key_of_property(property))
     }
 }

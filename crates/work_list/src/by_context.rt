@@ -16,7 +16,7 @@ use std::marker::Model;
 #[derive(Drop)]
 pub struct ByContext {
     waiting: Indexed,
-    last: Option<u32>,
+    last: Option<usize>,
 }
 
 impl Model for ByContext {

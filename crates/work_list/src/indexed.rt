@@ -54,7 +54,7 @@ impl Indexed {
     }
 
     /// Takes an item of the context, which has one.
-    pub(crate) fn take(&mut self, context: u32) -> Item
+    pub(crate) fn take(&mut self, context: usize) -> Item
         requires indexed { IsIndexed self.old }
         requires there { 0 < length (at self.old.places context) }
         ensures indexed { IsIndexed self.new }
@@ -73,7 +73,7 @@ impl Indexed {
     }
 
     /// The context to take from next: that of the last time, where it has an item, or else that of some item.
-    pub(crate) fn next_context(&self, last: Option<u32>) -> Option<u32>
+    pub(crate) fn next_context(&self, last: Option<usize>) -> Option<usize>
         requires { IsIndexed self.now }
         ensures there { IfSome result (λ c. 0 < length (at self.now.places c)) }
         ensures together { IfSome result (λ c. (other : AnItem) → Contains self.now.items.items other → last ≡ Some other.context → last ≡ Some c) }

@@ -39,12 +39,11 @@ impl Places {
     }
 
     /// How many places the context has.
-    pub(crate) fn count(&self, context: u32) -> usize
+    pub(crate) fn count(&self, context: usize) -> usize
         ensures { result ≡ length (at self.now context) }
     {
-        let k = context as usize;
-        if k < self.lists.len() {
-            self.lists[k].len()
+        if context < self.lists.len() {
+            self.lists[context].len()
         } else {
             0
         }
@@ -62,12 +61,12 @@ impl Places {
     }
 
     // Adds a place at the end of the list of a context that has one.
-    fn put(&mut self, context: u32, place: usize) -> Result<(), AllocError>
+    fn put(&mut self, context: usize, place: usize) -> Result<(), AllocError>
         requires { context < length self.old }
         ensures ok { OnOk result (self.new ≡ slice_set self.old context (at self.old context ++ place ∷ [])) }
         ensures err { OnErr result (self.new ≡ self.old) }
     {
-        let list = &mut self.lists[context as usize];
+        let list = &mut self.lists[context];
         let Ok(()) = list.push(place) else {
             return Err(AllocError);
         };
@@ -75,11 +74,11 @@ impl Places {
     }
 
     /// Adds a place at the end of the list of the context.
-    pub(crate) fn add(&mut self, context: u32, place: usize) -> Result<(), AllocError>
+    pub(crate) fn add(&mut self, context: usize, place: usize) -> Result<(), AllocError>
         ensures ok { OnOk result (AddsAt self.old self.new context place) }
         ensures err { OnErr result (IsSame self.old self.new) }
     {
-        while self.len() <= context as usize {
+        while self.len() <= context {
             self.grow()?;
         }
         self.put(context, place)?;
@@ -87,11 +86,11 @@ impl Places {
     }
 
     /// Takes the last place of the context, which has one.
-    pub(crate) fn take(&mut self, context: u32) -> usize
+    pub(crate) fn take(&mut self, context: usize) -> usize
         requires { 0 < length (at self.old context) }
         ensures { TakesAt self.old self.new context result }
     {
-        let list = &mut self.lists[context as usize];
+        let list = &mut self.lists[context];
         let last = list.len() - 1;
         let place = list[last];
         list.truncate(last);
@@ -99,11 +98,11 @@ impl Places {
     }
 
     /// Writes another place into the list of the context, where it has one in that slot.
-    pub(crate) fn set(&mut self, context: u32, slot: usize, place: usize)
+    pub(crate) fn set(&mut self, context: usize, slot: usize, place: usize)
         requires { slot < length (at self.old context) }
         ensures { SetsAt self.old self.new context slot place }
     {
-        let list = &mut self.lists[context as usize];
+        let list = &mut self.lists[context];
         list[slot] = place;
     }
 }
