@@ -1,10 +1,11 @@
 -- What the forms of an ontology lead to is its closure.
-use Rattle.std.proofs.Common.{◌≡◌, ℕ, List, [], map, ap, ◌∙◌, sym, subst, Result, Ok, Err, IfOk}
+use Rattle.std.proofs.Common.{◌≡◌, ℕ, List, [], ◌∷◌, map, Result, Ok, Err, Contains, refl, arith, ap, ◌∙◌, sym, subst}
 use Rattle.lemmas.proofs.Members.{slice_get-from_Contains}
-use Rattle.device.specs.declared.fault.Memory.{Memory}
 use Rattle.axioms.specs.Numbered.{Ontology}
 use Rattle.normal_forms.specs.declared.forms.Form.{Form}
+use Rattle.facts.specs.Births.{Reason}
 use Rattle.facts.specs.declared.contexts.Context.{Context}
+use Rattle.facts.specs.declared.contexts.Fact.{Fact}
 use Rattle.facts.specs.Closure.{Problem}
 use Rattle.closure.specs.Said.{IsProblemOf}
 use Rattle.closure.proofs.Said.{said, sayer}
@@ -14,7 +15,8 @@ use Rattle.normalise.specs.Listing.{Listing}
 use Rattle.problem.specs.Made.{beginnings_of, problem_of}
 use Rattle.problem.specs.Roots.{AreRoots}
 use Rattle.problem.proofs.Made.{makes_the_problem}
-use Rattle.saturate.specs.State.{Seen, AreBorn}
+use Rattle.saturate.specs.Growing.{HasGrown, KeepsServed, with_more}
+use Rattle.saturate.specs.State.{Seen, AreBorn, nothing_seen}
 use Rattle.saturate.specs.Working.{IsClosure}
 use Rattle.saturate.specs.Derived as derived
 use Rattle.saturate.proofs.Growth.{sound}
@@ -29,12 +31,6 @@ is_problem o v roots k normal asked are forms_are roots_are =
     let unasked : IsProblemOf o [] (beginnings_of v) (problem_of v roots) = subst (λ a. IsProblemOf o a (beginnings_of v) (problem_of v roots)) asked made in
     let formed : IsProblemOf o [] (beginnings_of v) (record { forms = k.forms; roots = roots }) = subst (λ (fs : List Form). IsProblemOf o [] (beginnings_of v) (record { forms = fs; roots = roots })) (sym forms_are) unasked in
     subst (λ (xs : List Context). IsProblemOf o [] (beginnings_of v) (record { forms = k.forms; roots = xs })) (sym roots_are) formed
-
--- what begins with these forms and roots begins with that problem
-pub begins_with : (r : Result Seen Memory) (forms : List Form) (roots : List Context) (P : Problem → Type 0) → IfOk r (λ s. s.problem.forms ≡ forms) → IfOk r (λ s. s.problem.roots ≡ roots)
-    → ((k : Problem) → k.forms ≡ forms → k.roots ≡ roots → P k) → IfOk r (λ s. P s.problem)
-begins_with (Ok s) forms roots P f r h = h s.problem f r
-begins_with (Err e) forms roots P f r h = tt
 
 says_the_closure : (o : Ontology) (v : Listing) (s : Seen) → IsProblemOf o [] (beginnings_of v) s.problem → IsClosure s.problem s.facts → SayTheClosure o (beginnings_of v) s.facts
 says_the_closure o v s problem closure = record {
@@ -65,6 +61,19 @@ still_sound o v s t h same born = is_sound o v t h.normal h.asked
 pub is_saturated : (o : Ontology) (v : Listing) (s : Seen) → IsSound o (record { normal = v; state = s }) → IsClosure s.problem s.facts → IsSaturated o (record { normal = v; state = s })
 is_saturated o v s h closure = record { normal = h.normal; asked = h.asked; forms = h.forms; problem = h.problem; facts = says_the_closure o v s h.problem closure; born = h.born }
 
+-- .. and they are, whichever were served
+pub saturated_still : (o : Ontology) (v : Listing) (s t : Seen) → t.problem ≡ s.problem → t.facts ≡ s.facts → t.births ≡ s.births → IsSaturated o (record { normal = v; state = s }) → IsSaturated o (record { normal = v; state = t })
+saturated_still o v s t problem facts births h = record {
+  normal = h.normal;
+  asked = h.asked;
+  forms = ap (λ (k : Problem). k.forms) problem ∙ h.forms;
+  problem = subst (IsProblemOf o [] (beginnings_of v)) (sym problem) h.problem;
+  facts = subst (SayTheClosure o (beginnings_of v)) (sym facts) h.facts;
+  born = subst (λ (k : Problem). derived.IsDerived k (record { facts = t.facts; births = t.births })) (sym problem)
+      (subst (λ (fs : List Fact). derived.IsDerived s.problem (record { facts = fs; births = t.births })) (sym facts)
+      (subst (λ (rs : List Reason). derived.IsDerived s.problem (record { facts = s.facts; births = rs })) (sym births) h.born));
+}
+
 pub has_more : (o : Ontology) (v : Listing) (s : Seen) (most : ℕ) → IsSound o (record { normal = v; state = s }) → derived.HasMoreFactsThan s.problem most → HasMoreFactsThan o most
 has_more o v s most h more = more_facts o (beginnings_of v) s.problem h.problem most more
 
@@ -74,3 +83,25 @@ err_or d (Err y) = y
 
 pub same_Err : {T E : Type 0} (x y : E) → ◌≡◌ {A = Result T E} (Err x) (Err y) → x ≡ y
 same_Err x y e = ap (err_or x) e
+
+-- a state that was empty and has grown by the forms and roots has just these
+pub grown_problem : (old new : Seen) (forms : List Form) (roots : List Context) → old ≡ nothing_seen → HasGrown forms roots old new → new.problem ≡ record { forms = forms; roots = roots }
+grown_problem old new forms roots empty grown = grown.problem ∙ ap (λ (s : Seen). with_more s.problem forms roots) empty
+
+pub grown_forms : (old new : Seen) (forms : List Form) (roots : List Context) → old ≡ nothing_seen → HasGrown forms roots old new → new.problem.forms ≡ forms
+grown_forms old new forms roots empty grown = ap (λ (k : Problem). k.forms) (grown_problem old new forms roots empty grown)
+
+pub grown_into : (o : Ontology) (v : Listing) (old new : Seen) (forms : List Form) (roots : List Context) → IsNormalFor o v → v.asked ≡ [] → AreRoots o [] roots → old ≡ nothing_seen → forms ≡ map form_in v.entries → HasGrown forms roots old new
+    → IsProblemOf o [] (beginnings_of v) new.problem
+grown_into o v old new forms roots normal asked are empty same grown =
+    is_problem o v roots new.problem normal asked are (grown_forms old new forms roots empty grown ∙ same) (ap (λ (k : Problem). k.roots) (grown_problem old new forms roots empty grown))
+
+-- .. and nothing of it is served
+no_members : (ns : List ℕ) → ((n : ℕ) → Contains ns n → ⊥) → ns ≡ []
+no_members [] none = refl
+no_members (n ∷ ns) none = absurd (none n (0, omega arith, refl))
+
+pub nothing_served : (old new : Seen) (forms added : List Form) → old ≡ nothing_seen → KeepsServed forms added old.facts old.served new.served → new.served ≡ []
+nothing_served old new forms added empty keeps = no_members new.served (λ n there.
+    let before = subst (λ (ns : List ℕ). Contains ns n) (ap (λ (s : Seen). s.served) empty) ((keeps n).0 there).0 in
+    absurd (omega (arith, before.1)))

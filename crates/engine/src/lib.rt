@@ -1,7 +1,6 @@
 //! From an ontology to the facts of its closure.
 #![tactic(auto)]
 
-mod counts;
 mod saturation;
 
 pub use saturate::Stop;

@@ -12,14 +12,12 @@ ghost use Rattle.saturate.specs.State.{Extends};
 ghost use Rattle.saturate.specs.declared.known_facts.Stop.TheVariants as stops;
 ghost use Rattle.std.specs.Prelude.{◌≡◌, ◌≤◌, ◌↔◌, Err, IfNone, IfOk, IfSome, IsTrue, OnOk, Some, [], length, map, slice_get, take};
 
-use crate::counts::counted;
 use axioms::{Memory, Ontology};
 use facts::{Birth, Fact, FactId};
-use normal_forms::Form;
 use normalise::{Normal, normalise};
 use problem::roots;
-use property_closure::{PropertyClosure, close};
-use saturate::{State, Stop};
+use property_closure::PropertyClosure;
+use saturate::{Progress, State, Stop};
 use std::alloc::Global;
 use std::hash::RandomState;
 use std::marker::Model;
@@ -29,7 +27,7 @@ use work_list::Fifo;
 #[derive(Drop)]
 pub struct Saturation {
     normal: Normal,
-    state: State<Fifo>,
+    state: Progress<Fifo>,
 }
 
 impl Model for Saturation {
@@ -57,7 +55,10 @@ impl Saturation {
         let normal = normalise(alloc, state, ontology)?;
         let state = begun(alloc, state, ontology, &normal)?;
         state.well_formed();
-        Ok(Saturation { normal, state })
+        Ok(Saturation {
+            normal,
+            state: Progress::new(state),
+        })
     }
 
     /// Serves all facts that are pending, and those that come of them, as long as there are at most `max_facts`.
@@ -77,6 +78,29 @@ impl Saturation {
         ensures limit { result ≡ Err stops.Limit → (o : Ontology2) → IsSound o self.old → HasMoreFactsThan o max_facts }
     {
         self.state.run(max_facts)
+    }
+
+    /// Lets go what only a run needs: the tables that find facts, and whose turn it is. All facts are served. What is left is read as
+    /// before, and may be resumed.
+    ///
+    /// # Errors
+    ///
+    /// `Memory` where memory was refused.
+    pub fn release(self) -> Result<Saturation, Memory>
+        requires { IsFinished self }
+        ensures normal { IfOk result (λ s. s.normal ≡ self.normal) }
+        ensures problem { IfOk result (λ s. s.state.problem ≡ self.state.problem) }
+        ensures facts { IfOk result (λ s. s.state.facts ≡ self.state.facts) }
+        ensures births { IfOk result (λ s. s.state.births ≡ self.state.births) }
+        ensures finished { IfOk result IsFinished }
+        ensures saturated { IfOk result (λ s. (o : Ontology2) → IsSaturated o self → IsSaturated o s) }
+    {
+        let Saturation { normal, state } = self;
+        let kept = state.release()?;
+        Ok(Saturation {
+            normal,
+            state: kept,
+        })
     }
 
     /// How many of the facts are served.
@@ -126,23 +150,6 @@ impl Saturation {
     }
 }
 
-/// What the forms say of properties.
-fn closed(alloc: Global, forms: &[Form]) -> Result<PropertyClosure, Memory>
-    ensures { IfOk result (λ c. IsClosureOf forms.now c) }
-{
-    let counts = counted(forms);
-    close(alloc, counts.properties, counts.partials, forms)
-}
-
-/// The same forms.
-fn copied(alloc: Global, forms: &[Form]) -> Result<Vec<Form>, Memory>
-    ensures { IfOk result (λ v. v.items ≡ forms.now) }
-{
-    let mut all = Vec::new(alloc);
-    all.extend_from_slice(forms)?;
-    Ok(all)
-}
-
 /// The start of a saturation by the normal forms of the ontology.
 fn begun(
     alloc: Global,
@@ -156,13 +163,18 @@ fn begun(
     ensures forms { IfOk result (λ s. s.problem.forms ≡ map form_in normal.now.entries) }
     ensures served { IfOk result (λ s. s.served ≡ []) }
 {
-    let closure = closed(alloc, normal.forms())?;
-    let forms = copied(alloc, normal.forms())?;
     let roots = roots(alloc, ontology, &[])?;
-    State::new(alloc, state, forms, roots, closure, Fifo::new(alloc))
+    let mut begun = State::new(alloc, state, Fifo::new(alloc))?;
+    match begun.extend(normal.forms(), &roots) {
+        Ok(()) => Ok(begun),
+        Err(error) => {
+            drop(begun);
+            Err(error)
+        }
+    }
 }
 
-/// The facts of the closure of the ontology, of which there are at most `max_facts`.
+/// The facts of the closure of the ontology, of which there are at most `max_facts`, without what only the run needed.
 ///
 /// # Errors
 ///
@@ -180,7 +192,10 @@ pub fn saturated(
 {
     let mut saturation = Saturation::start(alloc, state, ontology)?;
     match saturation.resume(max_facts) {
-        Ok(()) => Ok(saturation),
+        Ok(()) => {
+            let kept = saturation.release()?;
+            Ok(kept)
+        }
         Err(stop) => {
             drop(saturation);
             Err(stop)

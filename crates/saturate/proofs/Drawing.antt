@@ -1,5 +1,6 @@
 -- What facts give, form by form.
 use Rattle.std.proofs.Common.{◌≡◌, ℕ, ◌+◌, ◌<◌, ◌≤◌, ⊎_elim, List, [], ◌∷◌, length, get_or, map, take, slice_get, Some, Contains, refl, ap, ap₂, subst, arith}
+use Rattle.std.proofs.lemmas.Bool.Decides.{eqb_tells}
 use Rattle.std.proofs.lemmas.List.{take_all}
 use Rattle.std.proofs.lemmas.List.Elements.{Contains-push_cases}
 use Rattle.std.proofs.lemmas.Option.{slice_get-get_or}
@@ -7,8 +8,9 @@ use Rattle.normal_forms.specs.declared.forms.Form.{Form}
 use Rattle.facts.specs.declared.contexts.Context.{Context}
 use Rattle.facts.specs.declared.contexts.Context.TheVariants.{Expr}
 use Rattle.facts.specs.declared.contexts.Fact.{Fact}
-use Rattle.facts.specs.Closure.{Problem, CarriesBack, IsContextBy, in_thing, in_itself, by_form, unsatisfiable, loop}
+use Rattle.facts.specs.Closure.{Problem, CarriesBack, IsContextBy, IsLoop, in_thing, in_itself, by_form, unsatisfiable, loop}
 use Rattle.saturate.specs.Derived.{Keeps, Derived, Grows}
+use Rattle.saturate.specs.Growing.{LoopIsDrawn}
 use Rattle.saturate.specs.Working.{AreAt, AllDrawn, DrawnAt, AreDrawn, IsEntered, Drawn, MeetEachOther, AreMet, AreMetBefore, AreMetBehind}
 use Rattle.saturate.proofs.Growth.{there_still}
 use Rattle.saturate.proofs.Lists.{Contains-from_slice_get, one_value, take_push}
@@ -85,3 +87,10 @@ before_earlier s f numbers new met n there g at = met n there g (s.facts n g at)
 
 pub behind_earlier : {k : Problem} {most : ℕ} {a b : Derived} → Grows k most a b → (f : Fact) (numbers : List ℕ) (new : List Fact) → AreMetBehind k f b.facts numbers new → AreMetBehind k f a.facts numbers new
 behind_earlier s f numbers new met n there g at = met n there g (s.facts n g at)
+
+-- the loops at the targets of the first so many facts, and of the next
+pub loops_more : {k : Problem} {most : ℕ} {a b d : Derived} (i : ℕ) → Grows k most a b → Grows k most b d → ((n : ℕ) → n < i → LoopIsDrawn k a.facts b.facts n) → LoopIsDrawn k b.facts d.facts i → (n : ℕ) → n < i + 1 → LoopIsDrawn k a.facts d.facts n
+loops_more {k} {b = b} i s t before here n low f x at target = ⊎_elim
+    (λ w. here f x (subst (λ (j : ℕ). slice_get b.facts j ≡ Some f) w.1 (s.facts n f at)) target)
+    (λ w. all_still t (IsLoop x) k.forms (before n (omega (arith, low, w.1)) f x at target))
+    (eqb_tells n i)

@@ -10,3 +10,7 @@ pub mod Visiting
 pub mod Counting
 pub mod Edges
 pub mod Below
+pub mod Asking
+pub mod Extending
+pub mod Naming
+pub mod Flagging

@@ -220,3 +220,7 @@ pub finish_listed : {k : Problem} {most : ℕ} {old new : Derived} {index : Inde
 finish_listed {old = old} {n = n} {f = f} q r s hand at t grows within same =
     let low : (i : ℕ) → Contains (q.served ++ n ∷ []) i → i < length old.facts = λ i c. ⊎_elim (within i) (λ e. subst (λ (j : ℕ). j < length old.facts) e (slice_get_within old.facts n f at)) (Contains-push_cases q.served n i c) in
     fewer r.served (r.served ++ option_list r.hand) (still_listed grows low (listed s at t)) (λ i c. rw same at c) (λ i c. Contains-append_left r.served (option_list r.hand) i (rw same (rw hand at c)))
+
+-- one fact more is listed
+pub one_more : {facts : List Fact} {w : List ℕ} {old new : Index} {n : ℕ} {f : Fact} → IsIndex facts w w old → MayList old new n f → slice_get facts n ≡ Some f → Lists new n f → IsIndex facts (w ++ n ∷ []) (w ++ n ∷ []) new
+one_more {w = w} {n = n} s m at t = listed (may (fewer w (w ++ n ∷ []) s (λ i c. c) (λ i c. Contains-append_left w (n ∷ []) i c)) m at (Contains-push w n)) at t

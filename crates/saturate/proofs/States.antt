@@ -2,14 +2,12 @@
 use Rattle.std.proofs.Common.{◌≡◌, ℕ, ◌<◌, ◌≤◌, ◌⊎◌, inl, inr, ⊎_elim, List, [], ◌∷◌, ◌++◌, length, slice_get, Some, Contains, sym, ap, ◌∙◌, subst, arith}
 use Rattle.std.specs.List.{AllByRecursion}
 use Rattle.std.proofs.lemmas.List.Elements.{Contains-push_cases}
-use Rattle.std.proofs.lemmas.Option.{slice_get_within, slice_get-get_or}
+use Rattle.std.proofs.lemmas.Option.{none-some, slice_get_within, slice_get-get_or}
 use Rattle.facts.specs.declared.contexts.Fact.{Fact}
-use Rattle.facts.specs.Closure.{Problem, IsFact, AreFacts, given, none, more}
+use Rattle.facts.specs.Closure.{Problem, IsFact, AreFacts, given, none, more, in_thing, in_itself, by_form, unsatisfiable, loop}
 use Rattle.facts.proofs.Premises.{no_three}
 use Rattle.saturate.specs.Derived.{Derived, IsDerived, Grows, HasMoreFactsThan}
 use Rattle.saturate.specs.Queued.{Queued}
-use Rattle.property_closure.specs.Closed.{Known}
-use Rattle.saturate.specs.Closed.{IsClosureOf}
 use Rattle.saturate.specs.Working.{IsServed, IsClosure, Drawn, MeetEachOther}
 use Rattle.saturate.specs.State.{IsState}
 use Rattle.saturate.proofs.Lists.{one_value, slice_get_there}
@@ -23,9 +21,8 @@ was_there {old = old} t n f low at =
     before.1 ∙ ap Some (one_value _ before.0 f (t.facts n before.0 before.1) at)
 
 -- facts are added
-pub grown : {k : Problem} {most : ℕ} {closure : Known} {old new : Derived} {q r : Queued} → IsState k closure old q → Grows k most old new → r.queued ≤ length old.facts → r.served ≡ q.served → IsState k closure new r
+pub grown : {k : Problem} {most : ℕ} {old new : Derived} {q r : Queued} → IsState k old q → Grows k most old new → r.queued ≤ length old.facts → r.served ≡ q.served → IsState k new r
 grown {k} {old = old} {new = new} {q = q} {r = r} s t low same = record {
-  closed = s.closed;
   derived = t.derived;
   queued = omega (arith, low, t.longer);
   within = λ n c. omega (arith, within n c, t.longer);
@@ -40,7 +37,7 @@ grown {k} {old = old} {new = new} {q = q} {r = r} s t low same = record {
     were (f ∷ fs) all = ((all.0.0, subst (λ (ns : List ℕ). Contains ns all.0.0) same all.0.1, was_there t all.0.0 f (within all.0.0 all.0.1) all.0.2), were fs all.1)
 
 -- a fact is served, since what it gives with others is there
-module _ {k : Problem} {most : ℕ} {closure : Known} {old new : Derived} {q : Queued} (s : IsState k closure old q) (t : Grows k most old new) (n : ℕ) (f : Fact) (at : slice_get old.facts n ≡ Some f)
+module _ {k : Problem} {most : ℕ} {old new : Derived} {q : Queued} (s : IsState k old q) (t : Grows k most old new) (n : ℕ) (f : Fact) (at : slice_get old.facts n ≡ Some f)
     (alone : Drawn k (f ∷ []) new.facts)
     (met : (m : ℕ) → Contains (q.served ++ n ∷ []) m → (g : Fact) → slice_get old.facts m ≡ Some g → MeetEachOther k f g new.facts) where
   within : (m : ℕ) → Contains (q.served ++ n ∷ []) m → m < length old.facts
@@ -69,9 +66,8 @@ module _ {k : Problem} {most : ℕ} {closure : Known} {old new : Derived} {q : Q
       (cases g all.0)
   complete (g ∷ h ∷ i ∷ rest) all = λ c form new gives. absurd (no_three gives)
 
-  pub one_served : {r : Queued} → r.queued ≤ length old.facts → r.served ≡ q.served ++ n ∷ [] → IsState k closure new r
+  pub one_served : {r : Queued} → r.queued ≤ length old.facts → r.served ≡ q.served ++ n ∷ [] → IsState k new r
   one_served {r} low same = record {
-    closed = s.closed;
     derived = t.derived;
     queued = omega (arith, low, t.longer);
     within = λ m c. omega (arith, within m (subst (λ (ns : List ℕ). Contains ns m) same c), t.longer);
@@ -79,7 +75,7 @@ module _ {k : Problem} {most : ℕ} {closure : Known} {old new : Derived} {q : Q
   }
 
 -- where all are served the facts are the closure
-module _ {k : Problem} {closure : Known} {d : Derived} {q : Queued} (s : IsState k closure d q) (all : (n : ℕ) → n < length d.facts → Contains q.served n) where
+module _ {k : Problem} {d : Derived} {q : Queued} (s : IsState k d q) (all : (n : ℕ) → n < length d.facts → Contains q.served n) where
   served : (f : Fact) → Contains d.facts f → IsServed d.facts q.served f
   served f c = (c.0, all c.0 c.1, slice_get-get_or d.facts c.0 f c.1 ∙ ap Some c.2)
 
@@ -94,22 +90,36 @@ module _ {k : Problem} {closure : Known} {d : Derived} {q : Queued} (s : IsState
   pub finished : IsClosure k d.facts
   finished f = (λ c. sound s.derived c.0 f (slice_get-get_or d.facts c.0 f c.1 ∙ ap Some c.2), whole f)
 
--- nothing was served
-pub begun : {k : Problem} {closure : Known} {d : Derived} {q : Queued} → IsClosureOf k.forms closure → IsDerived k d → Drawn k [] d.facts → q.queued ≡ 0 → q.served ≡ [] → IsState k closure d q
-begun {k} {d = d} {q = q} closed derived drawn zero empty = record {
-  closed = closed;
-  derived = derived;
-  queued = omega (arith, zero);
-  within = λ n c. absurd (none n c);
-  complete = complete;
-}
-  where
-    none : (n : ℕ) → Contains q.served n → ⊥
-    none n c = let c' = subst (λ (ns : List ℕ). Contains ns n) empty c in absurd (omega (arith, c'.1))
+-- there are no forms, no contexts and no facts
+module _ {k : Problem} (forms : k.forms ≡ []) (roots : k.roots ≡ []) where
+  nowhere : {X : Type 0} (xs : List X) → xs ≡ [] → (n : ℕ) (x : X) → slice_get xs n ≡ Some x → ⊥
+  nowhere {X} xs e n x at = none-some x (subst (λ (ys : List X). slice_get ys n ≡ Some x) e at)
 
-    complete : (older : List Fact) → AllByRecursion (IsServed d.facts q.served) older → Drawn k older d.facts
-    complete [] all = drawn
-    complete (f ∷ fs) all = absurd (none all.0.0 all.0.1)
+  no_member : {X : Type 0} (xs : List X) → xs ≡ [] → (x : X) → Contains xs x → ⊥
+  no_member {X} xs e x c = let c' = subst (λ (ys : List X). Contains ys x) e c in absurd (omega (arith, c'.1))
+
+  nothing_given : (facts : List Fact) → Drawn k [] facts
+  nothing_given facts c o f (in_thing {x = x} there) = absurd (no_member k.roots roots x there)
+  nothing_given facts c o f (in_itself there) = absurd (no_member k.roots roots _ there)
+  nothing_given facts c o f (by_form n form at gives) = absurd (nowhere k.forms forms n form at)
+  nothing_given facts c o f (unsatisfiable back) = absurd back
+  nothing_given facts c o f (loop x n form at l there) = absurd (nowhere k.forms forms n form at)
+
+  pub begun : {d : Derived} {q : Queued} → d.facts ≡ [] → d.births ≡ [] → q.queued ≡ 0 → q.served ≡ [] → IsState k d q
+  begun {d} {q} facts births zero empty = record {
+    derived = record {
+      distinct = λ m n f a b. absurd (nowhere d.facts facts m f a);
+      long = ap length births ∙ sym (ap length facts);
+      born = λ n f r a b. absurd (nowhere d.facts facts n f a);
+    };
+    queued = omega (arith, zero);
+    within = λ n c. absurd (no_member q.served empty n c);
+    complete = complete;
+  }
+    where
+      complete : (older : List Fact) → AllByRecursion (IsServed d.facts q.served) older → Drawn k older d.facts
+      complete [] all = nothing_given d.facts
+      complete (f ∷ fs) all = absurd (no_member q.served empty all.0.0 all.0.1)
 
 pub too_many : {k : Problem} {d : Derived} → IsDerived k d → (limit : ℕ) → limit < length d.facts → HasMoreFactsThan k limit
 too_many {d = d} s limit low = record { facts = d.facts; distinct = s.distinct; each = sound s; many = low }

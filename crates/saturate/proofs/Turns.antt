@@ -1,11 +1,14 @@
 -- A number that is queued, and one that is taken from the list.
-use Rattle.std.proofs.Common.{◌≡◌, ℕ, ◌+◌, ◌<◌, ◌≤◌, inl, inr, ⊎_elim, Bool, true, false, if◌then◌else◌, List, [], ◌∷◌, ◌++◌, length, take, slice_get, Some, None, Contains, refl, sym, ap, ◌∙◌, subst, arith, length-append}
+use Rattle.std.proofs.Common.{◌≡◌, ℕ, ◌+◌, ◌<◌, ◌≤◌, inl, inr, ⊎_elim, Bool, true, false, not, if◌then◌else◌, List, [], ◌∷◌, ◌++◌, length, take, drop, slice_get, Some, None, Contains, refl, sym, ap, ◌∙◌, subst, arith, length-append}
 use Rattle.std.proofs.lemmas.Bool.Decides.{eqb_tells, nat_tests}
 use Rattle.std.proofs.lemmas.Option.{slice_get_within, none-some}
-use Rattle.std.proofs.lemmas.List.{take-append-le, take_all, length-take}
+use Rattle.std.proofs.lemmas.List.{take-append-le, take-append-drop, take_all, length-take}
+use Rattle.std.proofs.lemmas.List.Sorted.{Contains-permutation, IsPermutation-append_left, IsPermutation-filter_both, IsPermutation-sym, length_permutation}
+use Rattle.std.specs.List.Sorted.{IsPermutation}
 use Rattle.std.proofs.lemmas.List.Elements.{Contains-append_left, Contains-push, Contains-push_cases}
 use Rattle.work_list.specs.declared.item.Item.{Item}
 use Rattle.work_list.specs.Bag.{Bag, is_item, Adds, IsEmpty}
+use Rattle.saturate.specs.Flagged.{asked, is_flagged, is_kept, kept}
 use Rattle.saturate.specs.Queued.{item, IsQueue, HasTurn}
 use Rattle.saturate.proofs.Lists.{one_value, Contains-from_slice_get, slice_get_there, slice_get_push, slice_get_push_cases, keeps_push}
 
@@ -44,7 +47,6 @@ queued_more {old} {new} {queued} {served} {c} {taken} q s = record {
   within = λ n t. omega (arith, q.within n t);
   tally = omega (arith, q.tally, s.total);
   low = q.low;
-  high = q.high;
 }
   where
     none : (n d : ℕ) → n ≡ queued → old.count (item n d) ≡ 0
@@ -84,7 +86,6 @@ module _ {old new : Bag} {queued served : ℕ} {taken : List ℕ} {x : Item} (q 
     within = λ n t. ⊎_elim (λ before. q.within n before) (λ e. omega (arith, fresh.0, e)) (Contains-push_cases taken x.fact n t);
     tally = omega (arith, q.tally, s.total, length-append taken (x.fact ∷ []));
     low = omega (arith, all, length-append taken (x.fact ∷ []));
-    high = omega (arith, all, length-append taken (x.fact ∷ []));
   }
     where
       here : (n c : ℕ) → slice_get q.contexts n ≡ Some c → n ≡ x.fact → new.count (item n c) ≡ 0
@@ -141,3 +142,42 @@ all_served {bag = bag} {queued = queued} {served = served} {taken = taken} q emp
     let whole : take served taken ≡ taken = take_all served taken long in
     let none : bag.total ≡ 0 = omega (arith, q.tally, q.low, few) in
     rw whole (all_taken q (empty none) n low)
+
+-- the numbers that were taken change places
+pub moved : {bag : Bag} {queued served : ℕ} {taken : List ℕ} (moves : List ℕ) (served_now : ℕ) → IsQueue bag queued taken served → IsPermutation taken moves → served_now ≤ length moves → IsQueue bag queued moves served_now
+moved {taken = taken} moves served_now q p low = record {
+  contexts = q.contexts;
+  long = q.long;
+  each = λ n c at. ⊎_elim
+      (λ w. inl (w.0, λ t. w.1 (Contains-permutation moves taken n (IsPermutation-sym taken moves p) t)))
+      (λ w. inr (w.0, Contains-permutation taken moves n p w.1))
+      (q.each n c at);
+  known = q.known;
+  within = λ n t. q.within n (Contains-permutation moves taken n (IsPermutation-sym taken moves p) t);
+  tally = omega (arith, q.tally, length_permutation taken moves p);
+  low = low;
+}
+
+not_not : (b : Bool) → b ≡ not (not b)
+not_not true = refl
+not_not false = refl
+
+-- those that are kept, those that are not, and the rest
+pub parted : (flags : List Bool) (served : ℕ) (taken : List ℕ) → IsPermutation taken (kept flags (take served taken) ++ asked flags (take served taken) ++ drop served taken)
+parted flags served taken =
+    let all : take served taken ++ drop served taken ≡ taken = take-append-drop served taken in
+    let front : List ℕ = take served taken in
+    subst (λ (xs : List ℕ). IsPermutation xs (kept flags front ++ asked flags front ++ drop served taken)) all
+    (IsPermutation-append_left (drop served taken) front (kept flags front ++ asked flags front) (IsPermutation-filter_both (is_kept flags) (is_flagged flags) (λ x. not_not (is_flagged flags x)) front))
+
+pub turned_back : {bag : Bag} {queued served : ℕ} {taken : List ℕ} (flags : List Bool) → IsQueue bag queued taken served → IsQueue bag queued (kept flags (take served taken) ++ asked flags (take served taken) ++ drop served taken) (length (kept flags (take served taken)))
+turned_back {served = served} {taken = taken} flags q =
+    let front : List ℕ = take served taken in
+    moved _ (length (kept flags front)) q (parted flags served taken) (omega (arith, length-append (kept flags front ++ asked flags front) (drop served taken), length-append (kept flags front) (asked flags front)))
+
+pub front_kept : (flags : List Bool) (served : ℕ) (taken : List ℕ) → take (length (kept flags (take served taken))) (kept flags (take served taken) ++ asked flags (take served taken) ++ drop served taken) ≡ kept flags (take served taken)
+front_kept flags served taken =
+    let xs : List ℕ = kept flags (take served taken) in
+    let ys : List ℕ = asked flags (take served taken) in
+    let zs : List ℕ = drop served taken in
+    take-append-le (length xs) (xs ++ ys) zs (omega (arith, length-append xs ys)) ∙ take-append-le (length xs) xs ys (omega arith) ∙ take_all (length xs) xs (omega arith)

@@ -5,3 +5,9 @@ pub mod Queued
 pub mod State
 pub mod Listed
 pub mod Visited
+pub mod Asked
+pub mod Flagged
+pub mod Growing
+pub mod Counts
+pub mod Kept
+pub mod Progress

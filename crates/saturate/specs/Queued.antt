@@ -4,7 +4,7 @@ use Rattle.std.specs.List.{Contains}
 use Rattle.work_list.specs.declared.item.Item.{Item}
 use Rattle.work_list.specs.Bag.{Bag}
 
--- so many numbers were queued; those that were served, in order; and the one in hand
+-- so many numbers were queued; those that were served, in order; and the one in hand, that has its turn next
 pub record Queued : Type 0 where
   pub queued : ℕ
   pub served : List ℕ
@@ -29,7 +29,6 @@ pub record IsQueue (bag : Bag) (queued : ℕ) (taken : List ℕ) (served : ℕ) 
   pub within : (n : ℕ) → Contains taken n → n < queued
   pub tally : bag.total + length taken ≡ queued
   pub low : served ≤ length taken
-  pub high : length taken ≤ served + 1
 
 -- it is the turn of the number, if there is one that was not served
 pub record HasTurn (size : ℕ) (served : List ℕ) (hand : Option ℕ) : Type 0 where

@@ -1,13 +1,11 @@
 -- The engine's state.
-use Rattle.std.specs.Prelude.{◌≡◌, ℕ, ◌<◌, ◌≤◌, List, length}
+use Rattle.std.specs.Prelude.{◌≡◌, ℕ, ◌<◌, ◌≤◌, List, [], length}
 use Rattle.std.specs.List.{Contains}
 use Rattle.facts.specs.declared.contexts.Fact.{Fact}
 use Rattle.facts.specs.Closure.{Problem}
 use Rattle.facts.specs.Births.{Reason}
 use Rattle.saturate.specs.Derived.{Derived, IsDerived, Keeps}
 use Rattle.saturate.specs.Queued.{Queued}
-use Rattle.property_closure.specs.Closed.{Known}
-use Rattle.saturate.specs.Closed.{IsClosureOf}
 use Rattle.saturate.specs.Working.{IsComplete}
 
 -- what callers see: the problem, the facts in order of birth with what gave them, and the numbers of those served, in order
@@ -17,9 +15,12 @@ pub record Seen : Type 0 where
   pub births : List Reason
   pub served : List ℕ
 
+-- no forms, no contexts, no facts
+abbrev pub nothing_seen : Seen
+nothing_seen = record { problem = record { forms = []; roots = [] }; facts = []; births = []; served = [] }
+
 -- facts with reasons, and what served facts give is there
-pub record IsState (k : Problem) (closure : Known) (d : Derived) (q : Queued) : Type 0 where
-  pub closed : IsClosureOf k.forms closure
+pub record IsState (k : Problem) (d : Derived) (q : Queued) : Type 0 where
   pub derived : IsDerived k d
   pub queued : q.queued ≤ length d.facts
   pub within : (n : ℕ) → Contains q.served n → n < length d.facts

@@ -11,10 +11,10 @@ use normal_forms::{Class2, Form, PropId2};
 use property_closure::PropertyClosure;
 
 /// `owl:Thing`.
-pub(crate) const THING: Class2 = Class2::Expr(ExprId(0));
+pub(crate) const THING: Class2 = Class2::Expr(ExprId::THING);
 
 /// `owl:Nothing`.
-pub(crate) const NOTHING: Class2 = Class2::Expr(ExprId(1));
+pub(crate) const NOTHING: Class2 = Class2::Expr(ExprId::NOTHING);
 
 /// The condition that the form stands in.
 pub(crate) fn condition_of(form: &Form) -> u8

@@ -2,7 +2,7 @@
 ghost use Rattle.facts.specs.Births.{IsBirth, reason};
 ghost use Rattle.saturate.specs.Derived.{with_fact, IsDerived, Grows, HasMoreFactsThan};
 ghost use Rattle.saturate.specs.declared.known_facts.Stop.TheVariants as stops;
-ghost use Rattle.std.specs.Prelude.{◌≡◌, ◌↔◌, ◌<◌, ◌^◌, ◌++◌, ◌∷◌, Some, [], length, slice_get, Contains, Err, IsTrue, OnOk, OnErr};
+ghost use Rattle.std.specs.Prelude.{◌≡◌, ◌↔◌, ◌<◌, ◌^◌, ◌++◌, ◌∷◌, Some, [], length, map, take, slice_get, Contains, Err, IfOk, IsTrue, OnOk, OnErr};
 
 use axioms::Memory;
 use facts::{Birth, Fact, Older};
@@ -102,6 +102,16 @@ impl KnownFacts {
         &self.births[number as usize]
     }
 
+    /// The facts, and what gave them, without the table that finds a fact.
+    pub fn into_lists(self, alloc: Global) -> Result<(Vec<Fact>, Vec<Birth>), Memory>
+        ensures facts { IfOk result (λ p. p.0.items ≡ self.facts) }
+        ensures births { IfOk result (λ p. map reason p.1.items ≡ self.births) }
+    {
+        let KnownFacts { facts, births } = self;
+        let list = Vec::from_iter(alloc, facts)?;
+        Ok((list, births))
+    }
+
     /// Whether the fact is there.
     fn contains(&self, fact: &Fact) -> bool
         ensures { IsTrue result ↔ Contains self.now.facts fact.now }
@@ -120,6 +130,15 @@ impl KnownFacts {
         insert(&mut self.facts, fact)?;
         let _ = self.births.push(birth);
         Ok(())
+    }
+
+    /// Keeps the first so many facts.
+    pub fn truncate(&mut self, len: usize)
+        ensures facts { self.new.facts ≡ take len self.old.facts }
+        ensures births { self.new.births ≡ take len self.old.births }
+    {
+        self.facts.truncate(len);
+        self.births.truncate(len);
     }
 
     /// Adds a fact, unless it is there.

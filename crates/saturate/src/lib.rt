@@ -1,8 +1,14 @@
 //! Saturation: all facts that normal forms lead to, in any order of work.
 #![tactic(auto)]
 
+mod additions;
 mod conclusions;
+mod counts;
+mod extension;
+mod ground;
+mod kept;
 mod known_facts;
+mod progress;
 mod properties;
 mod queue;
 mod rules;
@@ -10,4 +16,5 @@ mod state;
 mod visits;
 
 pub use known_facts::Stop;
+pub use progress::Progress;
 pub use state::State;

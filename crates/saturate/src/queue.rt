@@ -1,5 +1,6 @@
 //! Whose turn it is.
-ghost use Rattle.std.specs.Prelude.{◌≡◌, ◌<◌, ◌≤◌, ◌^◌, ◌+◌, ◌++◌, ◌∷◌, [], ℕ, None, Some, length, Contains, OnOk, OnErr, IfOk, IfSome};
+ghost use Rattle.std.specs.Prelude.{◌≡◌, ◌<◌, ◌≤◌, ◌^◌, ◌+◌, ◌++◌, ◌∷◌, [], ℕ, None, Some, length, take, drop, Contains, OnOk, OnErr, IfOk, IfSome};
+ghost use Rattle.saturate.specs.Flagged.{asked, is_flagged, kept};
 ghost use Rattle.saturate.specs.Queued.{with_one_more, HasTurn};
 ghost use Rattle.work_list.specs.Bag.{IsEmpty};
 
@@ -9,7 +10,8 @@ use std::alloc::Global;
 use std::marker::Model;
 use work_list::{Item, WorkList};
 
-/// Numbers from 0 on, each of which has one turn: some wait in a list of work, then one is in hand, then it is served.
+/// Numbers from 0 on, each of which has one turn: some wait in a list of work, some were taken from it, of which the first are
+/// served and the next is in hand.
 #[derive(Drop)]
 pub(crate) struct Queue<W: WorkList> {
     list: W,
@@ -29,14 +31,82 @@ impl<W: WorkList> Model for Queue<W> {
     ghost invariant = { λ q. IsQueue (W.pending q.list) q.queued q.taken.items q.served };
 }
 
-/// The number of a fact's context.
-fn context_of(fact: &Fact) -> u32 {
+/// The number of a fact's context: expressions have the even ones, and individuals the odd ones.
+fn context_of(fact: &Fact) -> usize {
     match fact {
         Fact::In(_, x) | Fact::Edge(x, _, _) => match x {
-            Context::Expr(id) => id.0,
-            Context::Individual(id) => u32::MAX - id.0,
+            Context::Expr(id) => 2 * id.0 as usize,
+            Context::Individual(id) => 2 * id.0 as usize + 1,
         },
     }
+}
+
+/// Whether the number is flagged: past the end it is not.
+pub(crate) fn has_flag(flags: &[bool], number: u32) -> bool
+    ensures { result ≡ is_flagged flags.now number }
+{
+    let place = number as usize;
+    if place < flags.len() {
+        flags[place]
+    } else {
+        false
+    }
+}
+
+/// Adds those of the numbers that are not flagged.
+fn add_kept(list: &mut Vec<u32>, numbers: &[u32], flags: &[bool]) -> Result<(), Memory>
+    ensures { OnOk result (list.new.items ≡ list.old.items ++ kept flags.now numbers.now) }
+{
+    for number in numbers {
+        if !has_flag(flags, *number) {
+            list.push(*number)?;
+        }
+    }
+    Ok(())
+}
+
+/// Adds those that are.
+fn add_flagged(list: &mut Vec<u32>, numbers: &[u32], flags: &[bool]) -> Result<(), Memory>
+    ensures { OnOk result (list.new.items ≡ list.old.items ++ asked flags.now numbers.now) }
+{
+    for number in numbers {
+        if has_flag(flags, *number) {
+            list.push(*number)?;
+        }
+    }
+    Ok(())
+}
+
+/// Numbers that were taken, of which the first so many are served.
+#[derive(Drop)]
+struct Turns {
+    taken: Vec<u32>,
+    served: usize,
+}
+
+impl Turns {
+    /// The same numbers, of which those that were served and are flagged wait again, behind those that are served still.
+    fn of(alloc: Global, served: &[u32], rest: &[u32], flags: &[bool]) -> Result<Turns, Memory>
+        ensures taken { IfOk result (λ t. t.taken.items ≡ kept flags.now served.now ++ asked flags.now served.now ++ rest.now) }
+        ensures served { IfOk result (λ t. t.served ≡ length (kept flags.now served.now)) }
+    {
+        let mut taken = Vec::new(alloc);
+        add_kept(&mut taken, served, flags)?;
+        let kept = taken.len();
+        add_flagged(&mut taken, served, flags)?;
+        taken.extend_from_slice(rest)?;
+        Ok(Turns {
+            taken,
+            served: kept,
+        })
+    }
+}
+
+/// A list that counts no items has none. This changes nothing.
+fn none_waits<W: WorkList>(list: &W)
+    ensures { (W.pending list.now).total ≡ 0 → IsEmpty (W.pending list.now) }
+{
+    list.len();
 }
 
 impl<W: WorkList> Queue<W> {
@@ -63,7 +133,7 @@ impl<W: WorkList> Queue<W> {
     }
 
     /// Queues the next number.
-    fn wait(&mut self, context: u32) -> Result<(), Memory>
+    fn wait(&mut self, context: usize) -> Result<(), Memory>
         requires { self.old.queued < u32.MAX }
         ensures ok { OnOk result (self.new ≡ with_one_more self.old) }
         ensures err { OnErr result (self.new ≡ self.old) }
@@ -94,7 +164,7 @@ impl<W: WorkList> Queue<W> {
         ensures few { length self.now.served ≤ self.now.queued }
         ensures all { self.now.queued ≤ length self.now.served → (n : ℕ) → n < self.now.queued → Contains self.now.served n }
     {
-        let _waiting = self.list.len();
+        none_waits(&self.list);
     }
 
     /// Queues the numbers of all facts.
@@ -166,9 +236,28 @@ impl<W: WorkList> Queue<W> {
         requires { self.old.hand ≡ Some hand }
         ensures queued { self.new.queued ≡ self.old.queued }
         ensures served { self.new.served ≡ self.old.served ++ hand ∷ [] }
-        ensures hand { self.new.hand ≡ None }
     {
         let _ = hand;
         self.served += 1;
+    }
+
+    /// The numbers that were served, in order.
+    pub fn numbers(&self) -> &[u32]
+        ensures { result.now ≡ self.now.served }
+    {
+        &self.taken[..self.served]
+    }
+
+    /// Numbers that were served and are flagged wait again.
+    pub fn unserve(&mut self, alloc: Global, flags: &[bool]) -> Result<(), Memory>
+        ensures queued { self.new.queued ≡ self.old.queued }
+        ensures ok { OnOk result (self.new.served ≡ kept flags.now self.old.served) }
+        ensures err { OnErr result (self.new ≡ self.old) }
+    {
+        let (served, rest) = self.taken.split_at(self.served);
+        let turns = Turns::of(alloc, served, rest, flags)?;
+        self.taken = turns.taken;
+        self.served = turns.served;
+        Ok(())
     }
 }

@@ -14,6 +14,7 @@ ghost use Rattle.saturate.specs.Closed.{IsClosureOf};
 ghost use Rattle.saturate.specs.Working.{AreAt, AllDrawn, DrawnAt, AreDrawnAt, AreDrawn, IsEntered, Drawn, MeetEachOther, AreMet, AreMetBefore, AreMetBehind};
 ghost use Rattle.saturate.specs.Visited.{AreAll, ChainsDrawn, GiveNothing, HasProperty, IsBy, IsClassFact, IsEdge};
 ghost use Rattle.saturate.specs.Listed.{IsWithin, AllListedAreMet};
+ghost use Rattle.saturate.specs.Growing.{HasBegun, LoopIsDrawn, LoopsAreDrawn};
 
 use crate::conclusions::{THING, carried_back, conclusion, condition_of, loop_at};
 use crate::known_facts::{KnownFacts, Stop};
@@ -259,6 +260,47 @@ impl Rules<'_> {
         for root in self.problem.roots() {
             self.enter(facts, *root, &[], &[])?;
         }
+        Ok(())
+    }
+
+    /// Adds the loops of reflexive properties at the target of the fact of that number, where it is an edge.
+    fn draw_target(&self, facts: &mut KnownFacts, number: u32) -> Result<(), Stop>
+        requires derived { IsDerived self.now.problem.now facts.old }
+        requires number { number < length facts.old.facts }
+        ensures grows { Grows self.now.problem.now self.now.max_facts facts.old facts.new }
+        ensures limit { result ≡ Err Stop.Limit → HasMoreFactsThan self.now.problem.now self.now.max_facts }
+        ensures drawn { OnOk result (LoopIsDrawn self.now.problem.now facts.old.facts facts.new.facts number) }
+    {
+        let fact = facts.get(number);
+        if let Fact::Edge(_, _, target) = fact {
+            self.draw_loops(facts, target, &[number], &[fact])?;
+        }
+        Ok(())
+    }
+
+    /// Adds the loops of reflexive properties at the targets of the edges.
+    fn draw_targets(&self, facts: &mut KnownFacts) -> Result<(), Stop>
+        requires { IsDerived self.now.problem.now facts.old }
+        ensures grows { Grows self.now.problem.now self.now.max_facts facts.old facts.new }
+        ensures limit { result ≡ Err Stop.Limit → HasMoreFactsThan self.now.problem.now self.now.max_facts }
+        ensures drawn { OnOk result (LoopsAreDrawn self.now.problem.now facts.old.facts facts.new.facts) }
+    {
+        for number in 0..facts.len() {
+            self.draw_target(facts, number as u32)?;
+        }
+        Ok(())
+    }
+
+    /// Adds what is there at once where facts are there already: what is there with no fact, and loops at their targets.
+    pub fn begin_again(&self, facts: &mut KnownFacts) -> Result<(), Stop>
+        requires closed { IsClosureOf self.now.problem.now.forms self.now.closure.now }
+        requires derived { IsDerived self.now.problem.now facts.old }
+        ensures grows { Grows self.now.problem.now self.now.max_facts facts.old facts.new }
+        ensures limit { result ≡ Err Stop.Limit → HasMoreFactsThan self.now.problem.now self.now.max_facts }
+        ensures begun { OnOk result (HasBegun self.now.problem.now self.now.max_facts facts.old facts.new) }
+    {
+        self.draw_targets(facts)?;
+        self.begin(facts)?;
         Ok(())
     }
 

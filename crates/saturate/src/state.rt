@@ -3,18 +3,21 @@ ghost use Rattle.std.specs.Prelude.{OnErr, ◌≡◌, ◌↔◌, ◌<◌, ◌≤
 ghost use Rattle.facts.specs.Births.{IsBirth, reason};
 ghost use Rattle.saturate.specs.Derived.{HasMoreFactsThan};
 ghost use Rattle.facts.specs.declared.contexts.Fact.{Fact as Fact2};
-ghost use Rattle.saturate.specs.State.{AreBorn, Extends};
+ghost use Rattle.saturate.specs.State.{AreBorn, Extends, nothing_seen};
+ghost use Rattle.saturate.specs.Growing.{HasGrown, KeepsServed};
 ghost use Rattle.saturate.specs.Closed.{IsClosureOf};
 ghost use Rattle.saturate.specs.Working.{IsClosure};
 ghost use Rattle.work_list.specs.Bag.{IsEmpty};
 
+use crate::extension::restart;
+use crate::ground::Ground;
+use crate::kept::Kept;
 use crate::known_facts::{KnownFacts, Stop};
 use crate::queue::Queue;
 use crate::rules::Rules;
 use axioms::Memory;
 use fact_index::Index;
 use facts::{Birth, Context, Fact, FactId};
-use form_index::IndexedProblem;
 use normal_forms::Form;
 use property_closure::PropertyClosure;
 use std::alloc::Global;
@@ -25,8 +28,8 @@ use work_list::WorkList;
 /// The facts so far, some of them served.
 #[derive(Drop)]
 pub struct State<W: WorkList> {
-    problem: IndexedProblem,
-    closure: PropertyClosure,
+    alloc: Global,
+    ground: Ground,
     facts: KnownFacts,
     queue: Queue<W>,
     index: Index,
@@ -38,45 +41,62 @@ impl<W: WorkList> Model for State<W> {
 
     ghost Value = { Seen };
 
-    ghost view = { λ s. record { problem = s.problem; facts = s.facts.facts; births = s.facts.births; served = s.queue.served } };
+    ghost view = { λ s. record { problem = s.ground; facts = s.facts.facts; births = s.facts.births; served = s.queue.served } };
 
-    ghost invariant = { λ s. IsState s.problem s.closure s.facts s.queue × ListsServed s.facts s.queue s.index };
+    ghost invariant = { λ s. IsState s.ground s.facts s.queue × ListsServed s.facts s.queue s.index };
 }
 
 impl<W: WorkList> State<W> {
-    /// What is there with no fact, nothing of it served.
-    pub fn new(
-        alloc: Global,
-        state: RandomState,
-        forms: Vec<Form>,
-        roots: Vec<Context>,
-        closure: PropertyClosure,
-        list: W,
-    ) -> Result<Self, Memory>
+    /// No forms, no contexts and so no facts.
+    ///
+    /// # Errors
+    ///
+    /// `Memory` where memory was refused.
+    pub fn new(alloc: Global, state: RandomState, list: W) -> Result<Self, Memory>
     where
         W: Drop,
-        requires closed { IsClosureOf forms.items closure }
-        requires empty { IsEmpty (W.pending list) }
-        ensures forms { IfOk result (λ s. s.problem.forms ≡ forms.items) }
-        ensures roots { IfOk result (λ s. s.problem.roots ≡ roots.items) }
-        ensures served { IfOk result (λ s. s.served ≡ []) }
+        requires { IsEmpty (W.pending list) }
+        ensures { IfOk result (λ s. s ≡ nothing_seen) }
     {
-        let problem = IndexedProblem::new(alloc, forms, roots)?;
-        let mut facts = KnownFacts::new(alloc, state);
-        let rules = Rules {
-            problem: &problem,
-            closure: &closure,
-            max_facts: u32::MAX,
-        };
-        match rules.begin(&mut facts) {
-            Ok(()) => Ok(State {
-                problem,
-                closure,
-                facts,
-                queue: Queue::new(alloc, list),
-                index: Index::new(alloc),
-            }),
-            Err(_) => Err(Memory),
+        let ground = Ground::empty(alloc)?;
+        Ok(State {
+            alloc,
+            ground,
+            facts: KnownFacts::new(alloc, state),
+            queue: Queue::new(alloc, list),
+            index: Index::new(alloc),
+        })
+    }
+
+    /// Adds forms and contexts that are there from the start. Facts that are served stay so, but for those that an added form
+    /// asks for: these are pending again.
+    ///
+    /// # Errors
+    ///
+    /// `Memory` where memory was refused, or there would be 2^32 forms or facts; then nothing changes.
+    pub fn extend(&mut self, forms: &[Form], roots: &[Context]) -> Result<(), Memory>
+        ensures grown { OnOk result (HasGrown forms.now roots.now self.old self.new) }
+        ensures served { OnOk result (KeepsServed self.new.problem.forms forms.now self.old.facts self.old.served self.new.served) }
+        ensures born { AreBorn self.new }
+        ensures err { OnErr result (self.new ≡ self.old) }
+    {
+        let ground = self.ground.grown(self.alloc, forms, roots)?;
+        match restart(
+            self.alloc,
+            &ground,
+            forms,
+            &mut self.facts,
+            &mut self.queue,
+            &mut self.index,
+        ) {
+            Ok(()) => {
+                self.ground = ground;
+                Ok(())
+            }
+            Err(error) => {
+                drop(ground);
+                Err(error)
+            }
         }
     }
 
@@ -84,7 +104,7 @@ impl<W: WorkList> State<W> {
     pub fn closure(&self) -> &PropertyClosure
         ensures { IsClosureOf self.now.problem.forms result.now }
     {
-        &self.closure
+        self.ground.closure()
     }
 
     /// The facts, in order of birth.
@@ -122,6 +142,33 @@ impl<W: WorkList> State<W> {
         self.queue.all_served();
     }
 
+    /// What is kept where all facts are served: the tables that only a run needs go before the facts are copied from theirs.
+    pub(crate) fn kept(self) -> Result<Kept, Memory>
+    where
+        W: Drop,
+        requires { length self.served ≡ length self.facts }
+        ensures problem { IfOk result (λ k. k.problem ≡ self.problem) }
+        ensures facts { IfOk result (λ k. k.facts ≡ self.facts) }
+        ensures births { IfOk result (λ k. k.births ≡ self.births) }
+    {
+        self.well_formed();
+        let State {
+            alloc,
+            ground,
+            facts,
+            queue,
+            index,
+        } = self;
+        drop(queue);
+        drop(index);
+        let (facts, births) = facts.into_lists(alloc)?;
+        Ok(Kept {
+            ground,
+            facts,
+            births,
+        })
+    }
+
     /// Serves a fact that is pending, or answers `false` where there is none.
     ///
     /// # Errors
@@ -147,8 +194,8 @@ impl<W: WorkList> State<W> {
             return Err(Stop::Memory);
         };
         let rules = Rules {
-            problem: &self.problem,
-            closure: &self.closure,
+            problem: self.ground.problem(),
+            closure: self.ground.closure(),
             max_facts,
         };
         rules.serve(&mut self.facts, &self.index, hand, fact)?;

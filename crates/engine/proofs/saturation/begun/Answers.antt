@@ -1,10 +1,14 @@
-use Rattle.std.proofs.Common.{[], ◌∙◌}
-use Rattle.closure.specs.Said.{IsProblemOf}
-use Rattle.problem.specs.Made.{beginnings_of}
-use Rattle.engine.proofs.Saturating.{begins_with, is_problem}
+use Rattle.engine.proofs.Saturating.{grown_forms, grown_into, nothing_served}
+use Rattle.std.proofs.Common.{◌∙◌}
 use Rattle.engine.proofs.saturation.begun.Goals as goal
 
-pub returns-clause-problem : goal.returns-clause-problem
-returns-clause-problem c =
-    begins_with c.new-2.result c.in_ok-forms.forms.items c.in_ok-roots.roots.items (IsProblemOf c.args.ontology.now [] (beginnings_of c.args.normal.now)) c.new-2.ensures.forms c.new-2.ensures.roots
-    (λ k forms roots. is_problem c.args.ontology.now c.args.normal.now c.in_ok-roots.roots.items k c.requires.normal c.requires.asked c.in_ok-roots.ensures (forms ∙ (c.in_ok-forms.ensures ∙ c.forms-2.ensures)) roots)
+pub returns-in-Ok-clause-problem : goal.returns-in-Ok-clause-problem
+returns-in-Ok-clause-problem c =
+    grown_into c.args.ontology.now c.args.normal.now c.in_ok-begun.begun c.extend.new.self c.forms.result.now c.deref.result.now c.requires.normal c.requires.asked
+    (rw c.deref.ensures.value c.in_ok-roots.ensures) c.in_ok-begun.ensures c.forms.ensures c.in-Ok.ensures.grown
+
+pub returns-in-Ok-clause-forms : goal.returns-in-Ok-clause-forms
+returns-in-Ok-clause-forms c = grown_forms c.in_ok-begun.begun c.extend.new.self c.forms.result.now c.deref.result.now c.in_ok-begun.ensures c.in-Ok.ensures.grown ∙ c.forms.ensures
+
+pub returns-in-Ok-clause-served : goal.returns-in-Ok-clause-served
+returns-in-Ok-clause-served c = nothing_served c.in_ok-begun.begun c.extend.new.self _ c.forms.result.now c.in_ok-begun.ensures c.in-Ok.ensures.served

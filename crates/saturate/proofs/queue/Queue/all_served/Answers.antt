@@ -1,4 +1,3 @@
-use Rattle.std.proofs.Common.{◌∙◌}
 use Rattle.saturate.proofs.Turns.{few_served, all_served}
 use Rattle.saturate.proofs.queue.Queue.all_served.Goals as goal
 
@@ -6,4 +5,4 @@ pub returns-clause-few : goal.returns-clause-few
 returns-clause-few g c = rw (← c.self.view_is) (few_served c.self.invariant)
 
 pub returns-clause-all : goal.returns-clause-all
-returns-clause-all g c = rw (← c.self.view_is) (λ most n low. all_served c.self.invariant (λ none. c.len-waiting.ensures.empty (c.len-waiting.ensures.value ∙ none)) most n low)
+returns-clause-all g c = rw (← c.self.view_is) (λ most n low. all_served c.self.invariant c.none_waits.ensures most n low)

@@ -1,4 +1,4 @@
-use Rattle.std.proofs.Common.{subst, sym, List, ℕ, ◌++◌}
+use Rattle.std.proofs.Common.{ℕ, List, ◌++◌, subst, sym}
 use Rattle.fact_index.specs.Indexed.{IsIndex}
 use Rattle.saturate.specs.Queued.{option_list}
 use Rattle.saturate.proofs.States.{begun}
@@ -6,8 +6,7 @@ use Rattle.saturate.proofs.Listing.{nothing_listed}
 use Rattle.saturate.proofs.state.State.new.Goals as goal
 
 pub invariant_of-result : goal.invariant_of-result
-invariant_of-result g c =
-    let q = c.new-in-Ok.result in (
-      begun (rw c.in_ok-problem.ensures.forms c.requires.closed) c.begin.ensures.grows.derived c.in-Ok.ensures.drawn c.new-in-Ok.ensures.queued c.new-in-Ok.ensures.served,
-      subst (λ (ns : List ℕ). IsIndex c.begin.new.facts.facts ns (q.served ++ option_list q.hand) c.new-in-Ok-2.result) (sym c.new-in-Ok.ensures.served) (nothing_listed c.begin.new.facts.facts _ c.new-in-Ok-2.result c.new-in-Ok-2.ensures),
-    )
+invariant_of-result g c = (
+  begun c.in_ok-ground.ensures.forms c.in_ok-ground.ensures.roots c.new.ensures.facts c.new.ensures.births c.new-2.ensures.queued c.new-2.ensures.served,
+  subst (λ (ns : List ℕ). IsIndex c.new.result.facts ns (c.new-2.result.served ++ option_list c.new-2.result.hand) c.new-3.result) (sym c.new-2.ensures.served) (nothing_listed c.new.result.facts _ c.new-3.result c.new-3.ensures),
+)

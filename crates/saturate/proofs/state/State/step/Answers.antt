@@ -1,13 +1,16 @@
-use Rattle.std.proofs.Common.{◌≡◌, length, Some, refl, sym, ap, ◌∙◌, arith}
+use Rattle.std.proofs.Common.{◌≡◌, length, Some, [], ◌∷◌, refl, sym, ap, subst, ◌∙◌, arith}
+use Rattle.facts.specs.Closure.{Problem}
+use Rattle.saturate.specs.Derived.{Grows}
+use Rattle.saturate.specs.Working.{Drawn}
 use Rattle.saturate.specs.State.{IsState}
-use Rattle.saturate.specs.Listed.{ListsServed}
+use Rattle.saturate.specs.Listed.{ListsServed, AllListedAreMet}
 use Rattle.saturate.proofs.Growth.{grows_same}
 use Rattle.saturate.proofs.States.{grown, one_served, finished}
 use Rattle.saturate.proofs.Listing.{turned, may, listed, still_listed, all_within, all_met, in_most, finish_listed}
 use Rattle.saturate.proofs.state.State.step.Goals as goal
 use Rattle.saturate.proofs.state.State.step.Goals.{After-turn, After-add}
 
-kept : (g : _) (c : After-turn g) → IsState c.self.inside.problem c.self.inside.closure c.self.inside.facts c.turn.new.self × ListsServed c.self.inside.facts c.turn.new.self c.self.inside.index
+kept : (g : _) (c : After-turn g) → IsState c.self.inside.ground c.self.inside.facts c.turn.new.self × ListsServed c.self.inside.facts c.turn.new.self c.self.inside.index
 kept g c = (
   grown {most = 0} c.self.invariant.0 (grows_same c.self.invariant.0.derived) (omega (arith, c.turn.ensures.queued, ap length c.as_slice.ensures.value)) c.turn.ensures.served,
   turned c.self.inside.queue c.turn.new.self c.self.invariant.1 c.turn.ensures.served c.turn.ensures.kept,
@@ -42,7 +45,8 @@ pub invariant_of-self-in_err-serve : goal.invariant_of-self-in_err-serve
 invariant_of-self-in_err-serve g c =
     let d = goal.at.invariant_of-self-in_err-serve g c in
     let s = (kept g d.After-turn).0 in
-    (grown s c.serve.ensures.grows (omega (arith, c.turn.ensures.queued, ap length c.as_slice.ensures.value)) refl, still_listed c.serve.ensures.grows s.within (indexed g d.After-add))
+    let grows = subst (λ (k : Problem). Grows k c.args.max_facts c.self.inside.facts c.serve.new.facts) c.problem.ensures c.serve.ensures.grows in
+    (grown s grows (omega (arith, c.turn.ensures.queued, ap length c.as_slice.ensures.value)) refl, still_listed grows s.within (indexed g d.After-add))
 
 pub invariant_of-self-2 : goal.invariant_of-self-2
 invariant_of-self-2 g c =
@@ -50,10 +54,14 @@ invariant_of-self-2 g c =
     let s = (kept g d.After-turn).0 in
     let n = c.in-Some.hand in
     let f = c.get-fact.result in
+    let new = c.serve.new.facts in
+    let grows = subst (λ (k : Problem). Grows k c.args.max_facts c.self.inside.facts new) c.problem.ensures c.serve.ensures.grows in
+    let alone = subst (λ (k : Problem). Drawn k (f ∷ []) new.facts) c.problem.ensures c.in_ok-serve.ensures.alone in
+    let met = subst (λ (k : Problem). AllListedAreMet k f c.self.inside.facts.facts c.add.new.self new.facts) c.problem.ensures c.in_ok-serve.ensures.met in
     let whole = listed (indexed g d.After-add) c.get-fact.ensures c.in-Ok.ensures.ok in (
-      one_served s c.serve.ensures.grows n f c.get-fact.ensures c.in_ok-serve.ensures.alone
-          (λ m t h at. all_met whole c.serve.new.facts.facts m t f h c.in_ok-serve.ensures.met at)
+      one_served s grows n f c.get-fact.ensures alone
+          (λ m t h at. all_met whole new.facts m t f h met at)
           (omega (arith, c.finish.ensures.queued, c.turn.ensures.queued, ap length c.as_slice.ensures.value))
           c.finish.ensures.served,
-      finish_listed c.turn.new.self c.finish.new.self (indexed g d.After-add) (handed g d.After-add) c.get-fact.ensures c.in-Ok.ensures.ok c.serve.ensures.grows s.within c.finish.ensures.served,
+      finish_listed c.turn.new.self c.finish.new.self (indexed g d.After-add) (handed g d.After-add) c.get-fact.ensures c.in-Ok.ensures.ok grows s.within c.finish.ensures.served,
     )

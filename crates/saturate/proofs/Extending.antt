@@ -1,0 +1,238 @@
+-- What holds of more forms and roots.
+use Rattle.std.proofs.Common.{◌≡◌, ◌↔◌, ℕ, zero, suc, ◌<◌, ◌≤◌, ◌⊎◌, inl, inr, ⊎_elim, List, [], ◌∷◌, ◌++◌, length, map, take, slice_get, Some, None, Option, Contains, refl, sym, ap, ap₂, ◌∙◌, subst, arith, length-append}
+use Rattle.std.specs.List.{AllByRecursion}
+use Rattle.std.proofs.lemmas.List.Elements.{Contains-append_left, Contains-append_cases}
+use Rattle.std.proofs.lemmas.Option.{none-some, same_Some, slice_get_within}
+use Rattle.normal_forms.specs.declared.forms.Form.{Form}
+use Rattle.normal_forms.specs.declared.forms.Form.TheVariants.{N1, N2, N3, N4, N5, N6, N7, N8, N9}
+use Rattle.normal_forms.specs.declared.forms.PropId2.{PropId2}
+use Rattle.normal_forms.specs.declared.forms.PropId2.TheVariants.{Property}
+use Rattle.normal_forms.specs.Properties.{IsAtOrBelow, same, step}
+use Rattle.facts.specs.declared.contexts.Context.{Context}
+use Rattle.facts.specs.declared.contexts.Fact.{Fact}
+use Rattle.facts.specs.declared.contexts.Fact.TheVariants.{In, Edge}
+use Rattle.facts.specs.Closure.{Problem, IsContextBy, FromOne, FromTwo, Concludes, Gives, in_thing, in_itself, by_form, unsatisfiable, loop}
+use Rattle.facts.specs.Births.{Reason}
+use Rattle.facts.proofs.Premises.{no_three}
+use Rattle.saturate.specs.Asked.{Asks, IsAsked, IsAskedAt}
+use Rattle.saturate.specs.Derived.{Derived, IsDerived, Grows, Keeps}
+use Rattle.saturate.specs.Growing.{with_more, KeepsServed, HasBegun}
+use Rattle.saturate.specs.Working.{IsComplete, IsServed, Drawn}
+use Rattle.saturate.proofs.Lists.{Contains-from_slice_get, one_value}
+use Rattle.saturate.proofs.Growth.{there_still}
+use Rattle.saturate.specs.State.{IsState}
+use Rattle.saturate.specs.Queued.{Queued, option_list}
+use Rattle.fact_index.specs.declared.index.Index.{Index}
+use Rattle.fact_index.specs.Indexed.{IsIndex}
+use Rattle.saturate.proofs.Listing.{fewer}
+use Rattle.saturate.proofs.States.{was_there}
+
+-- ---- lists that are appended
+
+slice_get_more : {X : Type 0} (xs ys : List X) (n : ℕ) (x : X) → slice_get xs n ≡ Some x → slice_get (xs ++ ys) n ≡ Some x
+slice_get_more [] ys n x e = absurd (none-some x e)
+slice_get_more (y ∷ xs) ys zero x e = e
+slice_get_more (y ∷ xs) ys (suc n) x e = slice_get_more xs ys n x e
+
+slice_get_cases : {X : Type 0} (xs ys : List X) (n : ℕ) (x : X) → slice_get (xs ++ ys) n ≡ Some x → (slice_get xs n ≡ Some x) ⊎ Contains ys x
+slice_get_cases [] ys n x e = inr (Contains-from_slice_get ys n x e)
+slice_get_cases (y ∷ xs) ys zero x e = inl e
+slice_get_cases (y ∷ xs) ys (suc n) x e = slice_get_cases xs ys n x e
+
+-- what was there at first is the first part
+pub front : {X : Type 0} (xs ys : List X) → Keeps xs ys → take (length xs) ys ≡ xs
+front [] ys keeps = refl
+front (x ∷ xs) [] keeps = absurd (none-some x (keeps 0 x refl))
+front (x ∷ xs) (y ∷ ys) keeps = ap₂ (λ z zs. z ∷ zs) (same_Some y x (keeps 0 x refl)) (front xs ys (λ n z e. keeps (suc n) z e))
+
+-- ---- properties
+
+below_more : (forms added : List Form) (p q : PropId2) → IsAtOrBelow forms p q → IsAtOrBelow (forms ++ added) p q
+below_more forms added p _ same = same
+below_more forms added p _ (step s t h c) = step s t (below_more forms added p (Property s) h) (Contains-append_left forms added (N5 s t) c)
+
+-- a path that is new has a form that is added, whose lower property lies above its beginning
+below_cases : (forms added : List Form) (p q : PropId2) → IsAtOrBelow (forms ++ added) p q → IsAtOrBelow forms p q ⊎ ((x y : Context) → IsAsked (forms ++ added) added (Edge x p y))
+below_cases forms added p _ same = inl same
+below_cases forms added p _ (step s t h c) = ⊎_elim
+    (λ low. ⊎_elim
+    (λ old. inl (step s t low old))
+    (λ new. inr (λ x y. (N5 s t, new, h)))
+    (Contains-append_cases forms added (N5 s t) c))
+    (λ asked. inr asked)
+    (below_cases forms added p (Property s) h)
+
+-- ---- what facts give
+
+module _ (k : Problem) (forms : List Form) (roots : List Context) where
+  more_two : (form : Form) (g h f : Fact) → FromTwo k form g h f → FromTwo (with_more k forms roots) form g h f
+  more_two (N2 a b c) (In d x) (In e y) f w = w
+  more_two (N2 a b c) (In d x) (Edge _ _ _) f w = absurd w
+  more_two (N2 a b c) (Edge _ _ _) h f w = absurd w
+  more_two (N4 r a b) (Edge x q y) (In c z) f w = (below_more k.forms forms q (Property r) w.0, w.1, w.2, w.3)
+  more_two (N4 r a b) (Edge x q y) (Edge _ _ _) f w = absurd w
+  more_two (N4 r a b) (In _ _) h f w = absurd w
+  more_two (N6 r s t) (Edge x p y) (Edge z q v) f w = (below_more k.forms forms p r w.0, below_more k.forms forms q s w.1, w.2, w.3)
+  more_two (N6 r s t) (Edge x p y) (In _ _) f w = absurd w
+  more_two (N6 r s t) (In _ _) h f w = absurd w
+  more_two (N1 _ _) g h f w = absurd w
+  more_two (N3 _ _ _) g h f w = absurd w
+  more_two (N5 _ _) g h f w = absurd w
+  more_two (N7 _) g h f w = absurd w
+  more_two (N8 _ _) g h f w = absurd w
+  more_two (N9 _ _ _) g h f w = absurd w
+
+  concludes_more : (form : Form) (older : List Fact) (f : Fact) → Concludes k form older f → Concludes (with_more k forms roots) form older f
+  concludes_more form [] f w = w
+  concludes_more form (g ∷ []) f w = w
+  concludes_more form (g ∷ h ∷ []) f w = more_two form g h f w
+  concludes_more form (g ∷ h ∷ i ∷ rest) f w = absurd w
+
+  context_more : (older : List Fact) (x : Context) → IsContextBy k older x → IsContextBy (with_more k forms roots) older x
+  context_more [] x c = Contains-append_left k.roots roots x c
+  context_more (g ∷ []) x c = c
+  context_more (g ∷ h ∷ rest) x c = absurd c
+
+  gives_more : {c : ℕ} {o : Option ℕ} {older : List Fact} {f : Fact} → Gives k c o older f → Gives (with_more k forms roots) c o older f
+  gives_more {older = older} (in_thing {x = x} c) = in_thing (context_more older x c)
+  gives_more {older = older} (in_itself {e = e} c) = in_itself (context_more older _ c)
+  gives_more {older = older} {f = f} (by_form n form at w) = by_form n form (slice_get_more k.forms forms n form at) (concludes_more form older f w)
+  gives_more (unsatisfiable b) = unsatisfiable b
+  gives_more {older = older} (loop x n form at l c) = loop x n form (slice_get_more k.forms forms n form at) l (context_more older x c)
+
+  -- facts keep their reasons
+  pub derived_more : {d : Derived} → IsDerived k d → IsDerived (with_more k forms roots) d
+  derived_more s = record {
+    distinct = s.distinct;
+    long = s.long;
+    born = λ n f r at why. let b = s.born n f r at why in (b.0, b.1, gives_more b.2);
+  }
+
+  -- ---- what facts that no added form asks for give was given before
+
+  abbrev Unasked : Fact → Type 0
+  Unasked f = IsAsked (k.forms ++ forms) forms f → ⊥
+
+  asks_one : (form : Form) (g f : Fact) → FromOne form g f → Asks (k.forms ++ forms) form g
+  asks_one (N1 a b) (In c x) f w = w.0
+  asks_one (N1 a b) (Edge _ _ _) f w = absurd w
+  asks_one (N3 a r b) (In c x) f w = w.0
+  asks_one (N3 a r b) (Edge _ _ _) f w = absurd w
+  asks_one (N2 _ _ _) g f w = absurd w
+  asks_one (N4 _ _ _) g f w = absurd w
+  asks_one (N5 _ _) g f w = absurd w
+  asks_one (N6 _ _ _) g f w = absurd w
+  asks_one (N7 _) g f w = absurd w
+  asks_one (N8 _ _) g f w = absurd w
+  asks_one (N9 _ _ _) g f w = absurd w
+
+  asks_two : (form : Form) (g h f : Fact) → FromTwo (with_more k forms roots) form g h f → Asks (k.forms ++ forms) form g ⊎ Asks (k.forms ++ forms) form h
+  asks_two (N2 a b c) (In d x) (In e y) f w = inl w.0
+  asks_two (N2 a b c) (In d x) (Edge _ _ _) f w = absurd w
+  asks_two (N2 a b c) (Edge _ _ _) h f w = absurd w
+  asks_two (N4 r a b) (Edge x q y) (In c z) f w = inr w.1
+  asks_two (N4 r a b) (Edge x q y) (Edge _ _ _) f w = absurd w
+  asks_two (N4 r a b) (In _ _) h f w = absurd w
+  asks_two (N6 r s t) (Edge x p y) (Edge z q v) f w = inl w.0
+  asks_two (N6 r s t) (Edge x p y) (In _ _) f w = absurd w
+  asks_two (N6 r s t) (In _ _) h f w = absurd w
+  asks_two (N1 _ _) g h f w = absurd w
+  asks_two (N3 _ _ _) g h f w = absurd w
+  asks_two (N5 _ _) g h f w = absurd w
+  asks_two (N7 _) g h f w = absurd w
+  asks_two (N8 _ _) g h f w = absurd w
+  asks_two (N9 _ _ _) g h f w = absurd w
+
+  was_below : (x : Context) (p : PropId2) (y : Context) (q : PropId2) → Unasked (Edge x p y) → IsAtOrBelow (k.forms ++ forms) p q → IsAtOrBelow k.forms p q
+  was_below x p y q unasked low = ⊎_elim (λ old. old) (λ asked. absurd (unasked (asked x y))) (below_cases k.forms forms p q low)
+
+  two_before : (form : Form) (g h f : Fact) → Unasked g → Unasked h → FromTwo (with_more k forms roots) form g h f → FromTwo k form g h f
+  two_before (N2 a b c) (In d x) (In e y) f u v w = w
+  two_before (N2 a b c) (In d x) (Edge _ _ _) f u v w = absurd w
+  two_before (N2 a b c) (Edge _ _ _) h f u v w = absurd w
+  two_before (N4 r a b) (Edge x q y) (In c z) f u v w = (was_below x q y (Property r) u w.0, w.1, w.2, w.3)
+  two_before (N4 r a b) (Edge x q y) (Edge _ _ _) f u v w = absurd w
+  two_before (N4 r a b) (In _ _) h f u v w = absurd w
+  two_before (N6 r s t) (Edge x p y) (Edge z q i) f u v w = (was_below x p y r u w.0, was_below z q i s v w.1, w.2, w.3)
+  two_before (N6 r s t) (Edge x p y) (In _ _) f u v w = absurd w
+  two_before (N6 r s t) (In _ _) h f u v w = absurd w
+  two_before (N1 _ _) g h f u v w = absurd w
+  two_before (N3 _ _ _) g h f u v w = absurd w
+  two_before (N5 _ _) g h f u v w = absurd w
+  two_before (N7 _) g h f u v w = absurd w
+  two_before (N8 _ _) g h f u v w = absurd w
+  two_before (N9 _ _ _) g h f u v w = absurd w
+
+  -- ---- so what served facts give is there still
+
+  module _ {most : ℕ} {old new : Derived} (s : HasBegun (with_more k forms roots) most old new) (served : List ℕ)
+      (within : (n : ℕ) → Contains served n → n < length old.facts) (complete : IsComplete k old.facts served) (now : List ℕ) (keeps : KeepsServed (k.forms ++ forms) forms old.facts served now) where
+    was_served : (f : Fact) → IsServed new.facts now f → (n : ℕ) × Contains served n × (slice_get old.facts n ≡ Some f) × Unasked f
+    was_served f w =
+        let before = (keeps w.0).0 w.1 in
+        let at = was_there s.grows w.0 f (within w.0 before.0) w.2 in
+        (w.0, before.0, at, λ asked. before.1 (f, at, asked))
+
+    one : (g f : Fact) {c : ℕ} {o : Option ℕ} → IsServed new.facts now g → Gives (with_more k forms roots) c o (g ∷ []) f → Contains new.facts f
+    one g _ w (in_thing c) = let v = was_served g w in there_still s.grows _ (complete (g ∷ []) ((v.0, v.1, v.2), tt) 1 None _ (in_thing c))
+    one g _ w (in_itself c) = let v = was_served g w in there_still s.grows _ (complete (g ∷ []) ((v.0, v.1, v.2), tt) 1 None _ (in_itself c))
+    one g f w (by_form n form at gives) =
+        let v = was_served g w in
+        ⊎_elim
+        (λ before. there_still s.grows f (complete (g ∷ []) ((v.0, v.1, v.2), tt) _ _ f (by_form n form before gives)))
+        (λ added. absurd (v.3 (form, added, asks_one form g f gives)))
+        (slice_get_cases k.forms forms n form at)
+    one g f w (unsatisfiable b) = absurd b
+    one g f w (loop x n form at l c) = let v = was_served g w in s.loops v.0 g x v.2 c form (Contains-from_slice_get (k.forms ++ forms) n form at) f l
+
+    two : (g h f : Fact) {c : ℕ} {o : Option ℕ} → IsServed new.facts now g → IsServed new.facts now h → Gives (with_more k forms roots) c o (g ∷ h ∷ []) f → Contains new.facts f
+    two g h _ w v (in_thing c) = absurd c
+    two g h _ w v (in_itself c) = absurd c
+    two g h f w v (by_form n form at gives) =
+        let a = was_served g w in
+        let b = was_served h v in
+        ⊎_elim
+        (λ before. there_still s.grows f (complete (g ∷ h ∷ []) ((a.0, a.1, a.2), ((b.0, b.1, b.2), tt)) _ _ f (by_form n form before (two_before form g h f a.3 b.3 gives))))
+        (λ added. ⊎_elim (λ asks. absurd (a.3 (form, added, asks))) (λ asks. absurd (b.3 (form, added, asks))) (asks_two form g h f gives))
+        (slice_get_cases k.forms forms n form at)
+    two g h f w v (unsatisfiable back) =
+        let a = was_served g w in
+        let b = was_served h v in
+        there_still s.grows f (complete (g ∷ h ∷ []) ((a.0, a.1, a.2), ((b.0, b.1, b.2), tt)) 8 None f (unsatisfiable back))
+    two g h f w v (loop x n form at l c) = absurd c
+
+    pub complete_still : IsComplete (with_more k forms roots) new.facts now
+    complete_still [] all c o f gives = s.given c o f gives
+    complete_still (g ∷ []) all c o f gives = one g f all.0 gives
+    complete_still (g ∷ h ∷ []) all c o f gives = two g h f all.0 all.1.0 gives
+    complete_still (g ∷ h ∷ i ∷ rest) all c o f gives = absurd (no_three gives)
+
+-- ---- the state of what has grown
+
+module _ (k : Problem) (forms : List Form) (roots : List Context) {j : Problem} (same : j ≡ with_more k forms roots) where
+  pub derived_then : {d : Derived} → IsDerived k d → IsDerived j d
+  derived_then {d} s = subst (λ (i : Problem). IsDerived i d) (sym same) (derived_more k forms roots s)
+
+  pub extended : {most : ℕ} {old new : Derived} {q r : Queued} → IsState k old q → HasBegun j most old new → r.queued ≡ q.queued → KeepsServed j.forms forms old.facts q.served r.served → IsState j new r
+  extended {most} {old} {new} {q} {r} s begun queued keeps = record {
+    derived = begun.grows.derived;
+    queued = omega (arith, queued, s.queued, begun.grows.longer);
+    within = λ n c. omega (arith, s.within n ((keeps n).0 c).0, begun.grows.longer);
+    complete = subst (λ (i : Problem). IsComplete i new.facts r.served) (sym same)
+        (complete_still k forms roots (subst (λ (i : Problem). HasBegun i most old new) same begun) q.served s.within s.complete r.served
+        (subst (λ (i : Problem). KeepsServed i.forms forms old.facts q.served r.served) same keeps));
+  }
+
+pub listed_again : {facts : List Fact} {index : Index} (r : Queued) → IsIndex facts r.served r.served index → IsIndex facts r.served (r.served ++ option_list r.hand) index
+listed_again r s = fewer r.served (r.served ++ option_list r.hand) s (λ n c. c) (λ n c. Contains-append_left r.served (option_list r.hand) n c)
+
+-- ---- what was added is taken away again
+
+abbrev pub derived_of : List Fact → List Reason → Derived
+derived_of facts births = record { facts = facts; births = births }
+
+pub restored : {k j : Problem} {most : ℕ} {old mid new : Derived} → IsDerived k old → Grows j most old mid → (n : ℕ) → n ≡ length old.facts → new.facts ≡ take n mid.facts → new.births ≡ take n mid.births → new ≡ old
+restored {old = old} {mid = mid} {new = new} d s n long facts births =
+    let f : new.facts ≡ old.facts = facts ∙ ap (λ (m : ℕ). take m mid.facts) long ∙ front old.facts mid.facts s.facts in
+    let b : new.births ≡ old.births = births ∙ ap (λ (m : ℕ). take m mid.births) (long ∙ sym d.long) ∙ front old.births mid.births s.births in
+    ap₂ derived_of f b

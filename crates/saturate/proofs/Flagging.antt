@@ -1,0 +1,62 @@
+-- Flags of the facts that added forms ask for.
+use Rattle.std.proofs.Common.{◌≡◌, ℕ, ◌+◌, ◌<◌, ◌⊎◌, inl, inr, ⊎_elim, Bool, true, false, not, List, [], ◌∷◌, ◌++◌, length, take, get_or, cond, slice_get, Some, Contains, refl, sym, ap, ◌∙◌, subst, arith}
+use Rattle.std.proofs.Math.Seq.{get_or-append_seam}
+use Rattle.std.proofs.lemmas.Bool.Decides.{eqb_tells}
+use Rattle.std.proofs.lemmas.List.{append-nil, get_or_append_left}
+use Rattle.std.proofs.lemmas.List.Elements.{filter_more}
+use Rattle.std.proofs.lemmas.Option.{slice_get-get_or}
+use Rattle.normal_forms.specs.declared.forms.Form.{Form}
+use Rattle.facts.specs.declared.contexts.Fact.{Fact}
+use Rattle.normal_forms.proofs.Filters.{kept as is_kept_of, from_kept, passes}
+use Rattle.saturate.specs.Asked.{IsAsked, IsAskedAt}
+use Rattle.saturate.specs.Flagged.{IsFlagged, is_flagged, is_kept, kept}
+use Rattle.saturate.specs.Growing.{KeepsServed}
+use Rattle.saturate.proofs.Lists.{one_value}
+
+-- one flag more
+pub flag_more : (all added : List Form) (facts : List Fact) (flags : List Bool) (flag : Bool) (i : ℕ) (f : Fact) → length flags ≡ i → slice_get facts i ≡ Some f
+    → ((n : ℕ) → n < i → IsFlagged all added facts flags n) → (flag ≡ true → IsAsked all added f) → (flag ≡ false → IsAsked all added f → ⊥)
+    → (n : ℕ) → n < i + 1 → IsFlagged all added facts (flags ++ flag ∷ []) n
+flag_more all added facts flags flag i f long at before asked unasked n low = ⊎_elim
+    (λ w.
+    let here : is_flagged (flags ++ flag ∷ []) n ≡ flag = subst (λ (j : ℕ). get_or (flags ++ flag ∷ []) j false ≡ flag) (long ∙ sym w.1) (get_or-append_seam flags flag [] false) in
+    let there : slice_get facts n ≡ Some f = subst (λ (j : ℕ). slice_get facts j ≡ Some f) (sym w.1) at in
+    record {
+      yes = λ e. (f, there, asked (sym here ∙ e));
+      no = λ e h. unasked (sym here ∙ e) (subst (λ (g : Fact). IsAsked all added g) (one_value _ h.0 f h.1 there) h.2);
+    })
+    (λ w.
+    let less : n < i = omega (arith, low, w.1) in
+    let same : is_flagged (flags ++ flag ∷ []) n ≡ is_flagged flags n = get_or_append_left flags (flag ∷ []) false n (omega (arith, less, long)) in
+    let b = before n less in
+    record { yes = λ e. b.yes (sym same ∙ e); no = λ e. b.no (sym same ∙ e) })
+    (eqb_tells n i)
+
+not_flagged : (b : Bool) → not b ≡ true → b ≡ false
+not_flagged true e = sym e
+not_flagged false e = refl
+
+by_flag : (b : Bool) → (b ≡ true) ⊎ (b ≡ false)
+by_flag true = inl refl
+by_flag false = inr refl
+
+-- those that are not flagged are exactly those that no added form asks for
+pub keeps_served : (all added : List Form) (facts : List Fact) (flags : List Bool) (served : List ℕ) → ((n : ℕ) → Contains served n → IsFlagged all added facts flags n) → KeepsServed all added facts served (kept flags served)
+keeps_served all added facts flags served flagged n = (
+  λ there. let before = from_kept (is_kept flags) served n there in (before, (flagged n before).no (not_flagged (is_flagged flags n) (passes (is_kept flags) served n there))),
+  λ w. is_kept_of (is_kept flags) served n w.0 (⊎_elim (λ yes_flag. absurd (w.1 ((flagged n w.0).yes yes_flag))) (λ no_flag. ap not no_flag) (by_flag (is_flagged flags n))),
+)
+
+-- ---- a number more
+
+pub kept_one : (flags : List Bool) (w : List ℕ) (n : ℕ) → is_flagged flags n ≡ false → w ++ kept flags (n ∷ []) ≡ w ++ n ∷ []
+kept_one flags w n e = ap (λ b. w ++ cond (not b) (n ∷ []) []) e
+
+pub kept_none : (flags : List Bool) (w : List ℕ) (n : ℕ) → is_flagged flags n ≡ true → w ++ kept flags (n ∷ []) ≡ w
+kept_none flags w n e = ap (λ b. w ++ cond (not b) (n ∷ []) []) e ∙ append-nil w
+
+pub kept_more : (flags : List Bool) (xs : List ℕ) (i d : ℕ) → i < length xs → kept flags (take (i + 1) xs) ≡ kept flags (take i xs) ++ kept flags (get_or xs i d ∷ [])
+kept_more flags xs i d low = filter_more (is_kept flags) xs i d low
+
+pub read : {X : Type 0} (xs items : List X) (n : ℕ) (d : X) → items ≡ xs → n < length items → slice_get xs n ≡ Some (get_or items n d)
+read {X} xs items n d same low = subst (λ (ys : List X). slice_get ys n ≡ Some (get_or items n d)) same (slice_get-get_or items n d low)

@@ -1,0 +1,10 @@
+use Rattle.std.proofs.Common.{sym, ◌∙◌}
+use Rattle.saturate.proofs.Flagging.{kept_none, kept_one}
+use Rattle.saturate.proofs.Listing.{one_more}
+use Rattle.saturate.proofs.extension.index_kept.Goals as goal
+
+pub returns-then-has_flag : goal.returns-then-has_flag
+returns-then-has_flag c = λ w s. rw (kept_none c.args.flags.now w c.args.number (sym c.has_flag.ensures ∙ c.if-has_flag.true)) s
+
+pub returns : goal.returns
+returns c = λ w s. rw (kept_one c.args.flags.now w c.args.number (sym c.has_flag.ensures ∙ c.if-has_flag.false)) (one_more s c.add.ensures.may c.get.ensures c.in_ok-add.ensures.ok)

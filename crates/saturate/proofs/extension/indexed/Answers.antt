@@ -1,0 +1,9 @@
+use Rattle.std.proofs.lemmas.List.Elements.{Contains-get_or}
+use Rattle.saturate.proofs.Flagging.{kept_more}
+use Rattle.saturate.proofs.extension.indexed.Goals as goal
+
+pub index_kept-requires : goal.index_kept-requires
+index_kept-requires c = c.requires _ (Contains-get_or c.args.numbers.now c.loop-number.number-index 0 c.loop-number-test.true)
+
+pub loop-number-preserved : goal.loop-number-preserved
+loop-number-preserved c = rw (kept_more c.args.flags.now c.args.numbers.now c.loop-number.number-index 0 c.loop-number-test.true) (c.in_ok-index_kept.ensures _ c.loop-number.invariant)

@@ -1,0 +1,10 @@
+use Rattle.std.proofs.Common.{ℕ, ◌<◌}
+use Rattle.saturate.specs.Derived.{Grows}
+use Rattle.saturate.specs.Growing.{LoopIsDrawn}
+use Rattle.saturate.proofs.rules.Rules.draw_targets.Given as goal
+
+abbrev pub invariant-loop-number : goal.invariant-loop-number
+invariant-loop-number l = record {
+  grows : Grows l.self.problem.now l.self.max_facts l.fn.facts l.facts;
+  drawn : (n : ℕ) → n < l.number → LoopIsDrawn l.self.problem.now l.fn.facts.facts l.facts.facts n;
+}

@@ -1,0 +1,34 @@
+-- Which facts forms that are added ask for: what they give with others has to be drawn again.
+use Rattle.std.specs.Prelude.{◌≡◌, ℕ, List, slice_get, Some}
+use Rattle.std.specs.List.{Contains}
+use Rattle.normal_forms.specs.declared.forms.Form.{Form}
+use Rattle.normal_forms.specs.declared.forms.Form.TheVariants.{N1, N2, N3, N4, N5, N6}
+use Rattle.normal_forms.specs.declared.forms.PropId2.{PropId2}
+use Rattle.normal_forms.specs.declared.forms.PropId2.TheVariants.{Property}
+use Rattle.normal_forms.specs.Properties.{IsAtOrBelow}
+use Rattle.facts.specs.declared.contexts.Fact.{Fact}
+use Rattle.facts.specs.declared.contexts.Fact.TheVariants.{In, Edge}
+
+-- the form names the class of the fact, or a property at or above that of the edge: of two facts that a form needs one is enough
+abbrev pub Asks : List Form → Form → Fact → Type 0
+Asks forms (N1 a b) (In c x) = c ≡ a
+Asks forms (N2 a b c) (In d x) = d ≡ a
+Asks forms (N3 a r b) (In c x) = c ≡ a
+Asks forms (N4 r a b) (In c x) = c ≡ a
+Asks forms (N5 r s) (Edge x p y) = IsAtOrBelow forms p (Property r)
+Asks forms (N6 r s t) (Edge x p y) = IsAtOrBelow forms p r
+Asks forms _ _ = ⊥
+
+-- the form puts the property below another, or is a chain that begins with it
+abbrev pub BeginsWith : Form → PropId2 → Type 0
+BeginsWith (N5 r s) p = p ≡ Property r
+BeginsWith (N6 r s t) p = p ≡ r
+BeginsWith _ p = ⊥
+
+-- one of the added forms asks for the fact, by all forms
+abbrev pub IsAsked : List Form → List Form → Fact → Type 0
+IsAsked forms added f = (form : Form) × Contains added form × Asks forms form f
+
+-- .. for the fact of that number
+abbrev pub IsAskedAt : List Form → List Form → List Fact → ℕ → Type 0
+IsAskedAt forms added facts n = (f : Fact) × (slice_get facts n ≡ Some f) × IsAsked forms added f

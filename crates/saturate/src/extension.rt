@@ -1,0 +1,156 @@
+//! Facts and their turns after forms and roots were added.
+ghost use Rattle.fact_index.specs.Indexed.{IsIndex};
+ghost use Rattle.saturate.specs.Derived.{IsDerived};
+ghost use Rattle.saturate.specs.Flagged.{IsFlagged, kept};
+ghost use Rattle.saturate.specs.Growing.{HasBegun, KeepsServed};
+ghost use Rattle.std.specs.Prelude.{◌≡◌, ◌<◌, ◌++◌, ◌∷◌, [], ℕ, List, Contains, IfOk, OnErr, OnOk, length};
+
+use crate::additions::asks_for;
+use crate::ground::Ground;
+use crate::known_facts::KnownFacts;
+use crate::queue::{Queue, has_flag};
+use crate::rules::Rules;
+use axioms::Memory;
+use fact_index::Index;
+use form_index::IndexedProblem;
+use normal_forms::Form;
+use std::alloc::Global;
+use work_list::WorkList;
+
+/// Of each fact whether one of the added forms asks for it.
+fn flagged(
+    alloc: Global,
+    ground: &Ground,
+    added: &IndexedProblem,
+    facts: &KnownFacts,
+) -> Result<Vec<bool>, Memory>
+    requires { IsDerived ground.now facts.now }
+    ensures { IfOk result (λ flags. (n : ℕ) → n < length facts.now.facts → IsFlagged ground.now.forms added.now.forms facts.now.facts flags.items n) }
+{
+    let closure = ground.closure();
+    let mut flags = Vec::new(alloc);
+    for fact in facts.as_slice() {
+        flags.push(asks_for(added, closure, *fact))?;
+    }
+    Ok(flags)
+}
+
+/// Of the facts that are served whether one of the added forms asks for them.
+fn flags_of(
+    alloc: Global,
+    ground: &Ground,
+    forms: &[Form],
+    facts: &KnownFacts,
+    served: &[u32],
+) -> Result<Vec<bool>, Memory>
+    requires derived { IsDerived ground.now facts.now }
+    requires served { (n : ℕ) → Contains served.now n → n < length facts.now.facts }
+    ensures { IfOk result (λ flags. (n : ℕ) → Contains served.now n → IsFlagged ground.now.forms forms.now facts.now.facts flags.items n) }
+{
+    if served.is_empty() {
+        return Ok(Vec::new(alloc));
+    }
+    let added = IndexedProblem::empty(alloc).grown(forms, &[])?;
+    let flags = flagged(alloc, ground, &added, facts);
+    drop(added);
+    flags
+}
+
+/// Lists the fact of that number, unless it is flagged.
+fn index_kept(
+    index: &mut Index,
+    facts: &KnownFacts,
+    number: u32,
+    flags: &[bool],
+) -> Result<(), Memory>
+    requires { number < length facts.now.facts }
+    ensures { OnOk result ((w : List ℕ) → IsIndex facts.now.facts w w index.old → IsIndex facts.now.facts (w ++ kept flags.now (number ∷ [])) (w ++ kept flags.now (number ∷ [])) index.new) }
+{
+    if has_flag(flags, number) {
+        return Ok(());
+    }
+    index.add(number, facts.get(number))?;
+    Ok(())
+}
+
+/// An index of those of the facts that are not flagged.
+fn indexed(
+    alloc: Global,
+    facts: &KnownFacts,
+    numbers: &[u32],
+    flags: &[bool],
+) -> Result<Index, Memory>
+    requires { (n : ℕ) → Contains numbers.now n → n < length facts.now.facts }
+    ensures { IfOk result (λ index. IsIndex facts.now.facts (kept flags.now numbers.now) (kept flags.now numbers.now) index) }
+{
+    let mut index = Index::new(alloc);
+    for number in numbers {
+        index_kept(&mut index, facts, *number, flags)?;
+    }
+    Ok(index)
+}
+
+/// Adds what is there at once, and makes the facts that are flagged wait again. Changes nothing where memory is refused.
+fn begun_again<W: WorkList>(
+    alloc: Global,
+    ground: &Ground,
+    facts: &mut KnownFacts,
+    queue: &mut Queue<W>,
+    flags: &[bool],
+) -> Result<(), Memory>
+    requires { IsDerived ground.now facts.old }
+    ensures begun { OnOk result (HasBegun ground.now u32.MAX facts.old facts.new) }
+    ensures queued { queue.new.queued ≡ queue.old.queued }
+    ensures served { OnOk result (queue.new.served ≡ kept flags.now queue.old.served) }
+    ensures facts { OnErr result (facts.new ≡ facts.old) }
+    ensures queue { OnErr result (queue.new ≡ queue.old) }
+{
+    let before = facts.len();
+    let rules = Rules {
+        problem: ground.problem(),
+        closure: ground.closure(),
+        max_facts: u32::MAX,
+    };
+    let Ok(()) = rules.begin_again(facts) else {
+        facts.truncate(before);
+        return Err(Memory);
+    };
+    let Ok(()) = queue.unserve(alloc, flags) else {
+        facts.truncate(before);
+        return Err(Memory);
+    };
+    Ok(())
+}
+
+/// Goes on from more forms and roots. Changes nothing where memory is refused.
+pub(crate) fn restart<W: WorkList>(
+    alloc: Global,
+    ground: &Ground,
+    forms: &[Form],
+    facts: &mut KnownFacts,
+    queue: &mut Queue<W>,
+    index: &mut Index,
+) -> Result<(), Memory>
+    requires derived { IsDerived ground.now facts.old }
+    requires served { (n : ℕ) → Contains queue.old.served n → n < length facts.old.facts }
+    ensures begun { OnOk result (HasBegun ground.now u32.MAX facts.old facts.new) }
+    ensures queued { queue.new.queued ≡ queue.old.queued }
+    ensures served { OnOk result (KeepsServed ground.now.forms forms.now facts.old.facts queue.old.served queue.new.served) }
+    ensures index { OnOk result (IsIndex facts.new.facts queue.new.served queue.new.served index.new) }
+    ensures facts { OnErr result (facts.new ≡ facts.old) }
+    ensures queue { OnErr result (queue.new ≡ queue.old) }
+    ensures same { OnErr result (index.new ≡ index.old) }
+{
+    let flags = flags_of(alloc, ground, forms, facts, queue.numbers())?;
+    let again = indexed(alloc, facts, queue.numbers(), &flags)?;
+    match begun_again(alloc, ground, facts, queue, &flags) {
+        Ok(()) => {
+            *index = again;
+            Ok(())
+        }
+        Err(error) => {
+            drop(again);
+            Err(error)
+        }
+    }
+}

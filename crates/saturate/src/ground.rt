@@ -1,0 +1,79 @@
+//! What facts are drawn from.
+ghost use Rattle.saturate.specs.Closed.{IsClosureOf};
+ghost use Rattle.saturate.specs.Growing.{with_more};
+ghost use Rattle.std.specs.Prelude.{◌≡◌, [], IfOk};
+
+use crate::counts::counted;
+use axioms::Memory;
+use facts::Context;
+use form_index::IndexedProblem;
+use normal_forms::Form;
+use property_closure::{PropertyClosure, close};
+use std::alloc::Global;
+use std::marker::Model;
+
+/// Normal forms and the contexts that are there from the start, with what the forms say of properties.
+#[derive(Drop)]
+pub(crate) struct Ground {
+    problem: IndexedProblem,
+    closure: PropertyClosure,
+}
+
+impl Model for Ground {
+    ghost use Rattle.facts.specs.Closure.{Problem};
+    ghost use Rattle.saturate.specs.Closed.{IsClosureOf};
+
+    ghost Value = { Problem };
+
+    ghost view = { λ g. g.problem };
+
+    ghost invariant = { λ g. IsClosureOf g.problem.forms g.closure };
+}
+
+/// What the forms say of properties.
+fn closed(alloc: Global, forms: &[Form]) -> Result<PropertyClosure, Memory>
+    ensures { IfOk result (λ c. IsClosureOf forms.now c) }
+{
+    let counts = counted(forms);
+    close(alloc, counts.properties, counts.partials, forms)
+}
+
+impl Ground {
+    /// No forms and no contexts.
+    pub fn empty(alloc: Global) -> Result<Ground, Memory>
+        ensures forms { IfOk result (λ g. g.forms ≡ []) }
+        ensures roots { IfOk result (λ g. g.roots ≡ []) }
+    {
+        let closure = closed(alloc, &[])?;
+        let problem = IndexedProblem::empty(alloc);
+        Ok(Ground { problem, closure })
+    }
+
+    /// The same forms and contexts, and then those that are added.
+    pub fn grown(&self, alloc: Global, forms: &[Form], roots: &[Context]) -> Result<Ground, Memory>
+        ensures { IfOk result (λ g. g ≡ with_more self.now forms.now roots.now) }
+    {
+        let problem = self.problem.grown(forms, roots)?;
+        match closed(alloc, problem.forms()) {
+            Ok(closure) => Ok(Ground { problem, closure }),
+            Err(error) => {
+                drop(problem);
+                Err(error)
+            }
+        }
+    }
+
+    /// The forms and contexts.
+    pub fn problem(&self) -> &IndexedProblem
+        ensures { result.now ≡ self.now }
+    {
+        &self.problem
+    }
+
+    /// What the forms say of properties.
+    pub fn closure(&self) -> &PropertyClosure
+        ensures { IsClosureOf self.now.forms result.now }
+    {
+        &self.closure
+    }
+}

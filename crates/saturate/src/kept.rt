@@ -1,0 +1,110 @@
+//! What is kept of a state that has run to its end.
+ghost use Rattle.std.specs.Prelude.{◌≡◌, ◌<◌, ◌≤◌, Err, IfNone, IfSome, OnOk, Some, length, slice_get, take};
+ghost use Rattle.facts.specs.Births.{IsBirth, reason};
+ghost use Rattle.facts.specs.declared.contexts.Fact.{Fact as Fact2};
+ghost use Rattle.saturate.specs.Closed.{IsClosureOf};
+ghost use Rattle.saturate.specs.Derived.{HasMoreFactsThan};
+ghost use Rattle.saturate.specs.State.{AreBorn};
+ghost use Rattle.saturate.specs.Working.{IsClosure};
+
+use crate::ground::Ground;
+use crate::known_facts::Stop;
+use facts::{Birth, Fact, FactId};
+use property_closure::PropertyClosure;
+use std::marker::Model;
+
+/// The facts of a state that has run to its end, with what gave them. What only a run needs, to find facts and to know whose turn it
+/// is, is gone: two thirds of the memory are left. It is seen as a state that served its facts in the order of birth.
+#[derive(Drop)]
+pub(crate) struct Kept {
+    pub ground: Ground,
+    pub facts: Vec<Fact>,
+    pub births: Vec<Birth>,
+}
+
+impl Model for Kept {
+    ghost use Rattle.std.specs.Prelude.{map};
+    ghost use Rattle.facts.specs.Births.{reason};
+    ghost use Rattle.saturate.specs.State.{Seen};
+    ghost use Rattle.saturate.specs.Kept.{served_all, IsKept};
+
+    ghost Value = { Seen };
+
+    ghost view = { λ k. served_all k.ground k.facts.items (map reason k.births.items) };
+
+    ghost invariant = { λ k. IsKept (served_all k.ground k.facts.items (map reason k.births.items)) };
+}
+
+impl Kept {
+    /// The closure of the properties.
+    pub fn closure(&self) -> &PropertyClosure
+        ensures { IsClosureOf self.now.problem.forms result.now }
+    {
+        self.ground.closure()
+    }
+
+    /// The facts, in order of birth.
+    pub fn facts(&self) -> &[Fact]
+        ensures { result.now ≡ self.now.facts }
+    {
+        &self.facts
+    }
+
+    /// What gave the fact of that number.
+    fn birth(&self, number: u32) -> &Birth
+        requires { number < length self.now.births }
+        ensures { slice_get self.now.births number ≡ Some (reason result.now) }
+    {
+        &self.births[number as usize]
+    }
+
+    /// What gave the fact of that number, if there is one: a condition, older facts and a form.
+    pub fn born(&self, fact: FactId) -> Option<&Birth>
+        ensures reason { IfSome result (λ b. slice_get self.now.births fact.0 ≡ Some (reason b.now)) }
+        ensures gives { IfSome result (λ b. (f : Fact2) → slice_get self.now.facts fact.0 ≡ Some f → IsBirth self.now.problem (take fact.0 self.now.facts) f (reason b.now)) }
+        ensures none { IfNone result (length self.now.facts ≤ fact.0) }
+    {
+        self.well_formed();
+        let FactId(number) = fact;
+        if number as usize >= self.facts.len() {
+            return None;
+        }
+        Some(self.birth(number))
+    }
+
+    /// How many facts are served: all.
+    pub fn served(&self) -> usize
+        ensures value { result ≡ length self.now.served }
+        ensures all { result ≡ length self.now.facts }
+    {
+        self.facts.len()
+    }
+
+    /// Each fact is there once, born of older ones, and they are the closure.
+    pub fn well_formed(&self)
+        ensures born { AreBorn self.now }
+        ensures closure { IsClosure self.now.problem self.now.facts }
+    {
+        let _count = self.facts.len();
+    }
+
+    /// Serves nothing more: all facts are served.
+    ///
+    /// # Errors
+    ///
+    /// `Limit` where there are more than so many facts.
+    pub fn run(&self, max_facts: u32) -> Result<(), Stop>
+        ensures born { AreBorn self.now }
+        ensures done { IsClosure self.now.problem self.now.facts }
+        ensures served { length self.now.served ≡ length self.now.facts }
+        ensures within { OnOk result (length self.now.facts ≤ max_facts) }
+        ensures few { OnOk result (HasMoreFactsThan self.now.problem max_facts → ⊥) }
+        ensures limit { result ≡ Err Stop.Limit → HasMoreFactsThan self.now.problem max_facts }
+    {
+        self.well_formed();
+        if self.served() > max_facts as usize {
+            return Err(Stop::Limit);
+        }
+        Ok(())
+    }
+}

@@ -1,0 +1,152 @@
+//! A saturation under way, or ended.
+ghost use Rattle.std.specs.Prelude.{◌≡◌, ◌≤◌, ◌^◌, Err, IfNone, IfOk, IfSome, OnOk, Some, length, slice_get, take};
+ghost use Rattle.facts.specs.Births.{IsBirth, reason};
+ghost use Rattle.facts.specs.declared.contexts.Fact.{Fact as Fact2};
+ghost use Rattle.saturate.specs.Closed.{IsClosureOf};
+ghost use Rattle.saturate.specs.Derived.{HasMoreFactsThan};
+ghost use Rattle.saturate.specs.State.{AreBorn, Extends};
+ghost use Rattle.saturate.specs.Working.{IsClosure};
+
+use crate::kept::Kept;
+use crate::known_facts::Stop;
+use crate::state::State;
+use axioms::Memory;
+use facts::{Birth, Fact, FactId};
+use property_closure::PropertyClosure;
+use std::marker::Model;
+use work_list::WorkList;
+
+/// A state that may still grow, or what is kept of one.
+#[derive(Drop)]
+enum Stage<W: WorkList> {
+    Growing(State<W>),
+    Kept(Kept),
+}
+
+/// A state, which may let go what only a run needs once it has run to its end.
+#[derive(Drop)]
+pub struct Progress<W: WorkList> {
+    stage: Stage<W>,
+}
+
+impl<W: WorkList> Model for Progress<W> {
+    ghost use Rattle.saturate.specs.State.{Seen};
+    ghost use Rattle.saturate.specs.Progress.{seen_of};
+
+    ghost Value = { Seen };
+
+    ghost view = { λ p. seen_of p.stage };
+}
+
+impl<W: WorkList> Progress<W> {
+    /// The state.
+    pub fn new(state: State<W>) -> Progress<W>
+        ensures { result ≡ state }
+    {
+        Progress {
+            stage: Stage::Growing(state),
+        }
+    }
+
+    /// The closure of the properties.
+    pub fn closure(&self) -> &PropertyClosure
+        ensures { IsClosureOf self.now.problem.forms result.now }
+    {
+        match &self.stage {
+            Stage::Growing(state) => state.closure(),
+            Stage::Kept(kept) => kept.closure(),
+        }
+    }
+
+    /// The facts, in order of birth.
+    pub fn facts(&self) -> &[Fact]
+        ensures { result.now ≡ self.now.facts }
+    {
+        match &self.stage {
+            Stage::Growing(state) => state.facts(),
+            Stage::Kept(kept) => kept.facts(),
+        }
+    }
+
+    /// What gave the fact of that number, if there is one: a condition, older facts and a form.
+    pub fn born(&self, fact: FactId) -> Option<&Birth>
+        ensures reason { IfSome result (λ b. slice_get self.now.births fact.0 ≡ Some (reason b.now)) }
+        ensures gives { IfSome result (λ b. (f : Fact2) → slice_get self.now.facts fact.0 ≡ Some f → IsBirth self.now.problem (take fact.0 self.now.facts) f (reason b.now)) }
+        ensures none { IfNone result (length self.now.facts ≤ fact.0) }
+    {
+        match &self.stage {
+            Stage::Growing(state) => state.born(fact),
+            Stage::Kept(kept) => kept.born(fact),
+        }
+    }
+
+    /// How many facts are served.
+    pub fn served(&self) -> usize
+        ensures { result ≡ length self.now.served }
+    {
+        match &self.stage {
+            Stage::Growing(state) => state.served(),
+            Stage::Kept(kept) => kept.served(),
+        }
+    }
+
+    /// Each fact is there once, born of older ones; and where all are served, they are the closure.
+    pub fn well_formed(&self)
+        ensures born { AreBorn self.now }
+        ensures closure { length self.now.served ≡ length self.now.facts → IsClosure self.now.problem self.now.facts }
+    {
+        match &self.stage {
+            Stage::Growing(state) => state.well_formed(),
+            Stage::Kept(kept) => kept.well_formed(),
+        }
+    }
+
+    /// Serves all facts that are pending, and those that come of them.
+    ///
+    /// # Errors
+    ///
+    /// As for `State::run`; it may be called again.
+    pub fn run(&mut self, max_facts: u32) -> Result<(), Stop>
+        ensures extends { Extends self.old self.new }
+        ensures born { AreBorn self.new }
+        ensures done { OnOk result (IsClosure self.new.problem self.new.facts) }
+        ensures served { OnOk result (length self.new.served ≡ length self.new.facts) }
+        ensures within { OnOk result (length self.new.facts ≤ max_facts) }
+        ensures few { OnOk result (HasMoreFactsThan self.new.problem max_facts → ⊥) }
+        ensures limit { result ≡ Err Stop.Limit → HasMoreFactsThan self.old.problem max_facts }
+    {
+        match &mut self.stage {
+            Stage::Growing(state) => state.run(max_facts),
+            Stage::Kept(kept) => kept.run(max_facts),
+        }
+    }
+
+    /// Lets go what only a run needs. All facts are served.
+    ///
+    /// # Errors
+    ///
+    /// `Memory` where memory was refused.
+    pub fn release(self) -> Result<Progress<W>, Memory>
+    where
+        W: Drop,
+        requires { length self.served ≡ length self.facts }
+        ensures problem { IfOk result (λ p. p.problem ≡ self.problem) }
+        ensures facts { IfOk result (λ p. p.facts ≡ self.facts) }
+        ensures births { IfOk result (λ p. p.births ≡ self.births) }
+        ensures served { IfOk result (λ p. length p.served ≡ length p.facts) }
+    {
+        let Progress { stage } = self;
+        match stage {
+            Stage::Growing(state) => {
+                let kept = state.kept()?;
+                let _count = kept.served();
+                Ok(Progress {
+                    stage: Stage::Kept(kept),
+                })
+            }
+            Stage::Kept(kept) => Ok(Progress {
+                stage: Stage::Kept(kept),
+            }),
+        }
+    }
+}
