@@ -194,10 +194,12 @@ fn answer(alloc: Global, ontology: &Ontology, saturation: &Saturation, asked: As
 
 /// The answer for the saturation of an ontology. Here alone a saturation is alive.
 fn answer_for(alloc: Global, state: RandomState, ontology: &Ontology, asked: Asked) -> bool {
-    match saturated(alloc, state, ontology, 100) {
-        Ok(saturation) => answer(alloc, ontology, &saturation, asked),
-        Err(_) => false,
-    }
+    let Ok(saturation) = saturated(alloc, state, ontology, 100) else {
+        return false;
+    };
+    let right = answer(alloc, ontology, &saturation, asked);
+    drop(saturation);
+    right
 }
 
 /// The answer for the ontology of the document.

@@ -4,6 +4,10 @@
 #[cfg(test)]
 mod forms;
 #[cfg(test)]
+mod growing;
+#[cfg(test)]
+mod lists;
+#[cfg(test)]
 mod ontologies;
 #[cfg(test)]
 mod problems;

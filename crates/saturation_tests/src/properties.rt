@@ -26,14 +26,21 @@ fn circle(alloc: Global) -> Result<PropertyClosure, Memory> {
     close(alloc, 4, 0, &forms)
 }
 
+/// Whether r is below all, and each of the others below the others.
+fn is_circle(closure: &PropertyClosure) -> bool {
+    let others = [S, T, U];
+    closure.supers(R) == [R, S, T, U].as_slice()
+        && closure.supers(S) == others.as_slice()
+        && closure.supers(T) == others.as_slice()
+        && closure.supers(U) == others.as_slice()
+}
+
 #[test]
 fn equivalences_in_a_circle(rt: HostRuntime) -> Result<(), Fail> {
     let closure = circle(rt.alloc())?;
-    let all = [R, S, T, U];
-    assert!(rt; closure.supers(R) == all.as_slice());
-    for id in [S, T, U] {
-        assert!(rt; closure.supers(id) == &all[1..]);
-    }
+    let right = is_circle(&closure);
+    drop(closure);
+    assert!(rt; right);
     Ok(())
 }
 
@@ -48,12 +55,20 @@ fn hierarchy(alloc: Global) -> Result<PropertyClosure, Memory> {
     close(alloc, 4, 0, &forms)
 }
 
+/// Whether all but r are reflexive.
+fn is_hierarchy(closure: &PropertyClosure) -> bool {
+    !closure.is_reflexive(R)
+        && closure.is_reflexive(S)
+        && closure.is_reflexive(T)
+        && closure.is_reflexive(U)
+}
+
 #[test]
 fn reflexivity_through_a_hierarchy(rt: HostRuntime) -> Result<(), Fail> {
     let closure = hierarchy(rt.alloc())?;
-    for (id, reflexive) in [(R, false), (S, true), (T, true), (U, true)] {
-        assert!(rt; closure.is_reflexive(id) == reflexive);
-    }
+    let right = is_hierarchy(&closure);
+    drop(closure);
+    assert!(rt; right);
     Ok(())
 }
 
@@ -64,26 +79,31 @@ fn long_chain(alloc: Global) -> Result<PropertyClosure, Memory> {
     close(alloc, 4, 1, &forms)
 }
 
-#[test]
-fn chain_of_three(rt: HostRuntime) -> Result<(), Fail> {
-    let closure = long_chain(rt.alloc())?;
+/// Whether r begins the beginning, and that the chain.
+fn is_long_chain(closure: &PropertyClosure) -> bool {
     let beginning = PropId2::Partial(0);
-    assert!(rt; closure.chains_from(R) == [(S, beginning)].as_slice());
-    assert!(rt; closure.chains_from(beginning) == [(T, U)].as_slice());
-    assert!(rt; closure.chains_from(S).is_empty());
-    assert!(rt; closure.supers(beginning) == [beginning].as_slice());
-    assert!(rt; !closure.is_reflexive(beginning));
-    Ok(())
+    closure.chains_from(R) == [(S, beginning)].as_slice()
+        && closure.chains_from(beginning) == [(T, U)].as_slice()
+        && closure.chains_from(S).is_empty()
+        && closure.supers(beginning) == [beginning].as_slice()
+        && !closure.is_reflexive(beginning)
+}
+
+/// Whether nothing is known of it.
+fn is_out_of_range(closure: &PropertyClosure, id: PropId2) -> bool {
+    closure.supers(id).is_empty() && !closure.is_reflexive(id) && closure.chains_from(id).is_empty()
 }
 
 #[test]
-fn out_of_range(rt: HostRuntime) -> Result<(), Fail> {
+fn chain_of_three_and_what_is_out_of_range(rt: HostRuntime) -> Result<(), Fail> {
     let closure = long_chain(rt.alloc())?;
-    for id in [PropId2::Property(PropId(4)), PropId2::Partial(1)] {
-        assert!(rt; closure.supers(id).is_empty());
-        assert!(rt; !closure.is_reflexive(id));
-        assert!(rt; closure.chains_from(id).is_empty());
-    }
+    let chain = is_long_chain(&closure);
+    let property = is_out_of_range(&closure, PropId2::Property(PropId(4)));
+    let beginning = is_out_of_range(&closure, PropId2::Partial(1));
+    drop(closure);
+    assert!(rt; chain);
+    assert!(rt; property);
+    assert!(rt; beginning);
     Ok(())
 }
 
@@ -103,7 +123,9 @@ fn many_chains(alloc: Global) -> Result<PropertyClosure, Memory> {
 fn chains_ascend_and_none_stands_twice(rt: HostRuntime) -> Result<(), Fail> {
     let closure = many_chains(rt.alloc())?;
     let chains = [(R, R), (S, U), (S, PropId2::Partial(0)), (T, U)];
-    assert!(rt; closure.chains_from(R) == chains.as_slice());
+    let right = closure.chains_from(R) == chains.as_slice();
+    drop(closure);
+    assert!(rt; right);
     Ok(())
 }
 
@@ -116,13 +138,21 @@ fn grown(alloc: Global) -> Result<PropertyClosure, Memory> {
     Ok(closure)
 }
 
+/// Whether s is above r and reflexive, and u and the beginning are only above themselves.
+fn has_grown(closure: &PropertyClosure) -> bool {
+    let beginning = PropId2::Partial(0);
+    closure.supers(R) == [R, S].as_slice()
+        && closure.is_reflexive(S)
+        && closure.supers(U) == [U].as_slice()
+        && !closure.is_reflexive(U)
+        && closure.supers(beginning) == [beginning].as_slice()
+}
+
 #[test]
 fn growth(rt: HostRuntime) -> Result<(), Fail> {
     let closure = grown(rt.alloc())?;
-    assert!(rt; closure.supers(R) == [R, S].as_slice());
-    assert!(rt; closure.is_reflexive(S));
-    assert!(rt; closure.supers(U) == [U].as_slice());
-    assert!(rt; !closure.is_reflexive(U));
-    assert!(rt; closure.supers(PropId2::Partial(0)) == [PropId2::Partial(0)].as_slice());
+    let right = has_grown(&closure);
+    drop(closure);
+    assert!(rt; right);
     Ok(())
 }
