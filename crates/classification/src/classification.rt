@@ -152,7 +152,11 @@ fn relation_texts(
 
 /// The classification of a saturated ontology. The relations are made and told before there is a line of the certificate, whose text
 /// is the largest of all.
-fn classified(
+///
+/// # Errors
+///
+/// `Memory` where memory was refused.
+pub fn classified(
     alloc: Global,
     ontology: &Ontology,
     saturation: &Saturation,
@@ -161,6 +165,7 @@ fn classified(
     ensures counts { IfOk result (λ c. AreCountsOf ontology.now c.summary) }
     ensures facts { IfOk result (λ c. c.summary.facts ≡ length saturation.now.state.facts) }
     ensures texts { IfOk result (λ c. AreTextsOf ontology.now c.summary.consistent c.taxonomy.items c.instances.items) }
+    // The certificate shows that the taxonomy and the instances are right.
     ensures acceptable { IfOk result
         (λ c. IsAcceptable ontology.now c.taxonomy.items c.instances.items c.certificate.items) }
 {
@@ -189,7 +194,9 @@ fn classification_of(
     ensures acceptable { IfOk result
         (λ c. IsAcceptable ontology.now c.taxonomy.items c.instances.items c.certificate.items) }
 {
-    classified(alloc, ontology, &saturation)
+    let made = classified(alloc, ontology, &saturation);
+    drop(saturation);
+    made
 }
 
 /// The classification of an ontology whose closure has at most `max_facts` facts.

@@ -6,6 +6,6 @@ mod consistent;
 mod relation;
 mod types;
 
-pub use classification::{Classification, Summary, classify};
+pub use classification::{Classification, Summary, classified, classify};
 pub use consistent::is_consistent;
 pub use engine::Stop;
