@@ -1,2 +1,5 @@
 pub mod Generated
 pub mod Theorems
+pub mod ByElement
+pub mod Search
+pub mod Part

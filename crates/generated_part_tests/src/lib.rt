@@ -1,0 +1,5 @@
+//! Tests of generated parts.
+#![tactic(auto)]
+
+#[cfg(test)]
+mod tests;

@@ -1,0 +1,102 @@
+//! The parts that are reached from an element, as they are written for people.
+ghost use Rattle.interpretation_spec.specs.Numbered.{IsMadeFor};
+ghost use Rattle.std.specs.Prelude.{IfOk};
+
+use answer_texts::refutation_bytes;
+use axioms::Ontology;
+use cert_check::interpretation_of;
+use certificate::read_certificate;
+use document::read_bytes;
+use generated_part::generated;
+use interpretation_spec::Interpretation;
+use std::alloc::Global;
+use std::hash::RandomState;
+use std::random::RandomSource;
+use std::rt::HostRuntime;
+use std::test::Fail;
+
+/// The ontology that the document states.
+fn ontology_of<R: AllocGlobal + RandomSource>(rt: &R, document: &str) -> Result<Ontology, Fail> {
+    Ok(read_bytes(rt.alloc(), document.as_bytes(), RandomState::new(rt)?)?)
+}
+
+/// The interpretation that the certificate lists.
+fn listed_in(alloc: Global, ontology: &Ontology, certificate: &[u8]) -> Result<Interpretation, Fail>
+    ensures { IfOk result (IsMadeFor ontology.now.names) }
+{
+    let certificate = read_certificate(alloc, ontology, certificate)?;
+    match certificate.listed() {
+        Some(listed) => Ok(interpretation_of(alloc, ontology, listed)?),
+        None => Err(Fail::from("nothing is listed")),
+    }
+}
+
+/// Whether the part that is reached from the element is written so.
+fn is_part_written(
+    alloc: Global,
+    ontology: &Ontology,
+    interpretation: &Interpretation,
+    from: usize,
+    text: &[u8],
+) -> Result<bool, Fail>
+    requires { IsMadeFor ontology.now.names interpretation.now }
+{
+    if from >= interpretation.size() {
+        return Ok(false);
+    }
+    let (part, element) = generated(alloc, interpretation, ontology, from)?;
+    let written = refutation_bytes(alloc, ontology, &part, element)?;
+    Ok(written.as_slice() == text)
+}
+
+/// Whether the part of the interpretation that the certificate lists is written so.
+fn is_written(
+    alloc: Global,
+    ontology: &Ontology,
+    certificate: &[u8],
+    from: usize,
+    text: &[u8],
+) -> Result<bool, Fail> {
+    let interpretation = listed_in(alloc, ontology, certificate)?;
+    is_part_written(alloc, ontology, &interpretation, from, text)
+}
+
+#[test]
+fn one_element_refutes_one_subclass(rt: HostRuntime) -> Result<(), Fail> {
+    let ontology = ontology_of(&rt, "Ontology(SubClassOf(<x:A> <x:B>))")?;
+    let listed = b"elcert 1 consistent\ndomain 3\nclass e2 1\nclass e3 1 2\nend\n";
+    let text = b"no\ndomain 1\nclass <x:B> 0\nelement 0\n";
+    let is_written = is_written(rt.alloc(), &ontology, listed, 2, text)?;
+    assert!(rt; is_written, "the element of B alone");
+    Ok(())
+}
+
+#[test]
+fn two_elements_are_reached(rt: HostRuntime) -> Result<(), Fail> {
+    let ontology = ontology_of(
+        &rt,
+        "Prefix(:=<x:>) Ontology(ReflexiveObjectProperty(:q) SubObjectPropertyOf(:q :p) EquivalentClasses(:B ObjectSomeValuesFrom(:p :A)))",
+    )?;
+    let listed =
+        b"elcert 1 consistent\ndomain 3\nclass e2 1 2\nclass e3 2\nsucc p0 0 0\nsucc p0 1 1\nsucc p0 2 2\nsucc p1 0 0\nsucc p1 1 1 2\nsucc p1 2 2\nend\n";
+    let text =
+        b"no\ndomain 2\nclass <x:B> 0 1\nclass <x:A> 1\npair <x:q> 0 0\npair <x:q> 1 1\npair <x:p> 0 0\npair <x:p> 0 1\npair <x:p> 1 1\nelement 0\n";
+    let is_written = is_written(rt.alloc(), &ontology, listed, 1, text)?;
+    assert!(rt; is_written, "those of B and A");
+    Ok(())
+}
+
+#[test]
+fn individuals_are_reached(rt: HostRuntime) -> Result<(), Fail> {
+    let ontology = ontology_of(
+        &rt,
+        "Prefix(:=<x:>) Ontology(SubClassOf(:A :B) ClassAssertion(:A :a) ObjectPropertyAssertion(:r :a :b))",
+    )?;
+    let listed =
+        b"elcert 1 consistent\ndomain 5\nclass e2 1 3\nclass e3 1 2 3\nsucc p0 3 4\nind i0 3\nind i1 4\nend\n";
+    let text =
+        b"no\ndomain 3\nclass <x:A> 1\nclass <x:B> 0 1\npair <x:r> 1 2\nindividual <x:a> 1\nindividual <x:b> 2\nelement 0\n";
+    let is_written = is_written(rt.alloc(), &ontology, listed, 2, text)?;
+    assert!(rt; is_written, "that of B and the individuals");
+    Ok(())
+}
