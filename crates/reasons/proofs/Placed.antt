@@ -1,0 +1,83 @@
+-- Two lists of the satisfiable contexts are the same.
+use Rattle.std.proofs.Common.{◌≡◌, ℕ, ◌<◌, zero, suc, List, [], ◌∷◌, slice_get, Some, AllPairs, refl, sym, ap₂, ◌∙◌, subst, arith}
+use Rattle.std.proofs.lemmas.Option.{same_Some, none-some, slice_get_within, get_or_from_slice_get}
+use Rattle.axioms.specs.Numbered.{Ontology}
+use Rattle.closure.specs.Closure.{Context, Expression, Individual}
+use Rattle.closure_model.specs.Listed.{IsBefore, AreSatisfiableContexts}
+use Rattle.countermodel.specs.Built.{IsBuilt}
+use Rattle.generated_part.specs.Generated.{IsGenerated}
+use Rattle.interpretation_spec.specs.ByName.{interpretation_of}
+use Rattle.interpretation_spec.specs.Numbered.{NumberedInterpretation, IsMadeFor}
+use Rattle.interpretation_spec.proofs.Names.{size_of}
+use Rattle.reasons.specs.Numbered.{IsPartFor}
+
+irreflexive : (x : Context) → IsBefore x x → ⊥
+irreflexive (Expression e) h = omega arith
+irreflexive (Individual a) h = omega arith
+
+asymmetric : (x y : Context) → IsBefore x y → IsBefore y x → ⊥
+asymmetric (Expression e) (Expression f) h k = omega arith
+asymmetric (Expression e) (Individual a) h k = elim k [ ]
+asymmetric (Individual a) (Expression e) h k = elim h [ ]
+asymmetric (Individual a) (Individual b) h k = omega arith
+
+head_before : (x : Context) (xs : List Context) → AllPairs IsBefore (x ∷ xs) → (m : ℕ) (y : Context) → slice_get xs m ≡ Some y → IsBefore x y
+head_before x xs ascend m y h =
+    subst (IsBefore x) (get_or_from_slice_get xs m y x h) (ascend 0 (suc m) x (omega arith) (omega (arith, slice_get_within xs m y h)))
+
+tail_ascends : (x : Context) (xs : List Context) → AllPairs IsBefore (x ∷ xs) → AllPairs IsBefore xs
+tail_ascends x xs ascend m n d l k = ascend (suc m) (suc n) d (omega arith) (omega arith)
+
+-- each of the first list is in the second
+abbrev IsPartOf : List Context → List Context → Type 0
+IsPartOf xs ys = (m : ℕ) (x : Context) → slice_get xs m ≡ Some x → (n : ℕ) × (slice_get ys n ≡ Some x)
+
+same_head : (x y : Context) (xs ys : List Context) → AllPairs IsBefore (x ∷ xs) → AllPairs IsBefore (y ∷ ys) → IsPartOf (x ∷ xs) (y ∷ ys) → IsPartOf (y ∷ ys) (x ∷ xs) → x ≡ y
+same_head x y xs ys up up' h k = go (h 0 x refl).0 (k 0 y refl).0 (h 0 x refl).1 (k 0 y refl).1
+  where
+    go : (m n : ℕ) → slice_get (y ∷ ys) m ≡ Some x → slice_get (x ∷ xs) n ≡ Some y → x ≡ y
+    go zero n p q = sym (same_Some y x p)
+    go (suc m) zero p q = same_Some x y q
+    go (suc m) (suc n) p q = absurd (asymmetric x y (head_before x xs up n y q) (head_before y ys up' m x p))
+
+tail_part : (x y : Context) (xs ys : List Context) → x ≡ y → AllPairs IsBefore (x ∷ xs) → IsPartOf (x ∷ xs) (y ∷ ys) → IsPartOf xs ys
+tail_part x y xs ys same up h m z p = go (h (suc m) z p).0 (h (suc m) z p).1
+  where
+    go : (n : ℕ) → slice_get (y ∷ ys) n ≡ Some z → (n : ℕ) × (slice_get ys n ≡ Some z)
+    go zero q = absurd (irreflexive x (subst (IsBefore x) (sym (same ∙ same_Some y z q)) (head_before x xs up m z p)))
+    go (suc n) q = (n, q)
+
+same_elements : (xs ys : List Context) → AllPairs IsBefore xs → AllPairs IsBefore ys → IsPartOf xs ys → IsPartOf ys xs → xs ≡ ys
+same_elements [] [] up up' h k = refl
+same_elements [] (y ∷ ys) up up' h k = absurd (none-some y (k 0 y refl).1)
+same_elements (x ∷ xs) [] up up' h k = absurd (none-some x (h 0 x refl).1)
+same_elements (x ∷ xs) (y ∷ ys) up up' h k =
+    let same = same_head x y xs ys up up' h k in
+    ap₂ ◌∷◌ same (same_elements xs ys (tail_ascends x xs up) (tail_ascends y ys up')
+    (tail_part x y xs ys same up h) (tail_part y x ys xs (sym same) up' k))
+
+pub contexts_determined : (o : Ontology) (xs ys : List Context) → AreSatisfiableContexts o [] xs → AreSatisfiableContexts o [] ys → xs ≡ ys
+contexts_determined o xs ys p q =
+    same_elements xs ys p.ascend q.ascend (λ m x h. q.listed x (p.satisfiable m x h)) (λ m x h. p.listed x (q.satisfiable m x h))
+
+-- ---- the element in the interpretation that was built
+
+module _ (o : Ontology) (x : Context) (xs : List Context) (i : NumberedInterpretation) (from : ℕ) (contexts : AreSatisfiableContexts o [] xs) (at : slice_get xs from ≡ Some x) (built : IsBuilt o i) where
+  placed : slice_get built.elements from ≡ Some x
+  placed = subst (λ (ys : List Context). slice_get ys from ≡ Some x) (contexts_determined o xs built.elements contexts built.listed.contexts) at
+
+  pub placed_within : from < i.size
+  placed_within = omega (arith, slice_get_within built.elements from x placed, built.listed.size, size_of o.names i)
+
+  pub part_made : (part : NumberedInterpretation) (new : ℕ) → IsMadeFor o.names part → IsGenerated o (interpretation_of o.names i) from (interpretation_of o.names part) new → IsPartFor o x part new
+  part_made part new made generated = record {
+    made = made;
+    elements = built.elements;
+    whole = interpretation_of o.names i;
+    listed = built.listed;
+    agrees = built.agrees;
+    model = built.model;
+    from = from;
+    own = placed;
+    generated = generated;
+  }

@@ -1,0 +1,5 @@
+//! Tests of explanations.
+#![tactic(auto)]
+
+#[cfg(test)]
+mod tests;
