@@ -1,0 +1,57 @@
+-- What a session says where it is asked, and where its texts are written.
+use Rattle.std.specs.Prelude.{◌≡◌, ◌≤◌, ℕ, List, Result, Ok, Err, length}
+use Rattle.std.specs.List.{Contains}
+use Rattle.axioms.specs.Expression.{Iri}
+use Rattle.cert_check.specs.Acceptable.{IsAcceptable}
+use Rattle.classification.specs.Classified.{AreCountsOf, AreTextsOf}
+use Rattle.classification.specs.declared.classification.Summary.{Summary}
+use Rattle.device.specs.declared.device.Sink.{Ghosts}
+use Rattle.engine.specs.Saturated.{IsFinished}
+use Rattle.session.specs.Opened.{Opened}
+use Rattle.session.specs.Written.{Sinks, Texts, AreWritten, AreWrittenUntil, all_seen}
+use Rattle.session.specs.declared.fault.AskFault.{AskFault}
+use Rattle.session.specs.declared.fault.AskFault.TheVariants as asking
+use Rattle.session.specs.declared.fault.TextFault.{TextFault}
+use Rattle.session.specs.declared.fault.TextFault.TheVariants as writing
+
+-- nothing is pending, and the name is that of a class
+pub record HasClass (s : Opened) (name : Iri) : Type 0 where
+  pub finished : IsFinished s.saturation
+  pub known : Contains s.ontology.names.classes name
+
+-- what a refusal says of a question about a class: facts are pending; or none are, and the name that is told is that of the
+-- question, and of no class
+abbrev pub IsClassRefusal : Opened → Iri → AskFault → Type 0
+IsClassRefusal s name asking.Unfinished = ¬ IsFinished s.saturation
+IsClassRefusal s name (asking.UnknownName unknown) = IsFinished s.saturation × (unknown.now ≡ name) × ¬ Contains s.ontology.names.classes name
+IsClassRefusal s name asking.Memory = IsFinished s.saturation
+
+-- ---- texts
+
+-- nothing is pending; these are the counts and the texts of the ontology, and the certificate shows that the other two are right
+pub record IsMade (s : Opened) (summary : Summary) (texts : Texts) : Type 0 where
+  pub finished : IsFinished s.saturation
+  pub counts : AreCountsOf s.ontology summary
+  pub facts : summary.facts ≡ length s.saturation.state.facts
+  pub texts_are : AreTextsOf s.ontology summary.consistent texts.taxonomy texts.instances
+  pub acceptable : IsAcceptable s.ontology texts.taxonomy texts.instances texts.certificate
+
+-- what a fault says of the session where no text is made: facts are pending, or memory was refused
+abbrev pub IsUnmade : Opened → TextFault → Type 0
+IsUnmade s writing.Unfinished = ¬ IsFinished s.saturation
+IsUnmade s writing.Memory = IsFinished s.saturation
+IsUnmade s (writing.Io n) = ⊥
+
+-- .. and what was written: nothing, or the texts until the sink that is told, by its number from 1
+abbrev pub IsTextFault : Opened → (old new : Sinks) → TextFault → Type 0
+IsTextFault s old new (writing.Io n) = (1 ≤ n) × (n ≤ 3) × ((summary : Summary) × (texts : Texts) × IsMade s summary texts × AreWrittenUntil n old new texts)
+IsTextFault s old new fault = IsUnmade s fault × (new ≡ old)
+
+-- what an answer says of the session and of what was written
+abbrev pub IsWritten : Opened → (old new : Sinks) → Result Summary TextFault → Type 0
+IsWritten s old new (Ok summary) = (texts : Texts) × IsMade s summary texts × AreWritten old new texts
+IsWritten s old new (Err fault) = IsTextFault s old new fault
+
+-- .. of the three sinks before and after a call
+abbrev pub Writes : {T I C : Type 0} → Ghosts T → Ghosts I → Ghosts C → Opened → (old new : T × I × C) → Result Summary TextFault → Type 0
+Writes T I C s old new answer = IsWritten s (all_seen T I C old) (all_seen T I C new) answer

@@ -1,0 +1,4 @@
+pub mod Devices
+pub mod Written
+pub mod Opened
+pub mod Asking

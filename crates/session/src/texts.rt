@@ -1,0 +1,53 @@
+//! The texts of a session.
+ghost use Rattle.session.specs.Asking.{IsMade, IsUnmade, Writes};
+ghost use Rattle.session.specs.Written.{texts_of};
+ghost use Rattle.std.specs.Prelude.{◌≡◌, IfErr, IfOk};
+
+use crate::fault::TextFault;
+use crate::session::Session;
+use crate::writing::write_texts;
+use classification::{Classification, Summary, classified};
+use device::Sink;
+
+impl Session {
+    /// The three texts and the counts.
+    fn made(&self) -> Result<Classification, TextFault>
+        ensures made { IfOk result (λ c. IsMade self.now c.summary (texts_of c)) }
+        ensures unmade { IfErr result (IsUnmade self.now) }
+    {
+        if !self.saturation.is_finished() {
+            return Err(TextFault::Unfinished);
+        }
+        match classified(self.alloc, &self.ontology, &self.saturation) {
+            Ok(made) => Ok(made),
+            Err(_) => Err(TextFault::Memory),
+        }
+    }
+
+    /// Writes the taxonomy, the instances and the certificate, in this order, and gives the counts. All three are made in memory
+    /// before anything is written.
+    ///
+    /// # Errors
+    ///
+    /// `Unfinished`, before all others, where facts are pending; `Memory` where memory was refused; `Io` with the number of a sink
+    /// that failed.
+    pub fn write<T: Sink, I: Sink, C: Sink>(
+        &self,
+        taxonomy: &mut T,
+        instances: &mut I,
+        certificate: &mut C,
+    ) -> Result<Summary, TextFault>
+        // What the answer says of the session, and what each sink has taken; a sink is named only where it failed.
+        ensures written { Writes T.Sink I.Sink C.Sink self.now (taxonomy.old, instances.old, certificate.old) (taxonomy.new, instances.new, certificate.new) result }
+        ensures paths { (T.path taxonomy.new ≡ T.path taxonomy.old) × (I.path instances.new ≡ I.path instances.old) × (C.path certificate.new ≡ C.path certificate.old) }
+    {
+        let made = match self.made() {
+            Ok(made) => made,
+            Err(fault) => return Err(fault),
+        };
+        match write_texts(&made, taxonomy, instances, certificate) {
+            Ok(()) => Ok(made.summary),
+            Err(number) => Err(TextFault::Io(number)),
+        }
+    }
+}

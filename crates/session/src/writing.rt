@@ -1,0 +1,32 @@
+//! The three texts of a classification, written to sinks.
+ghost use Rattle.session.specs.Written.{AreWrittenAsFar, all_seen, texts_of};
+ghost use Rattle.std.specs.Prelude.{◌≡◌};
+
+use classification::Classification;
+use device::{Sink, write_all};
+
+/// Writes the texts to the three sinks, in their order.
+///
+/// # Errors
+///
+/// The number of the sink that failed.
+pub fn write_texts<T: Sink, I: Sink, C: Sink>(
+    made: &Classification,
+    taxonomy: &mut T,
+    instances: &mut I,
+    certificate: &mut C,
+) -> Result<(), usize>
+    ensures written { AreWrittenAsFar result (all_seen T.Sink I.Sink C.Sink (taxonomy.old, instances.old, certificate.old)) (all_seen T.Sink I.Sink C.Sink (taxonomy.new, instances.new, certificate.new)) (texts_of made.now) }
+    ensures paths { (T.path taxonomy.new ≡ T.path taxonomy.old) × (I.path instances.new ≡ I.path instances.old) × (C.path certificate.new ≡ C.path certificate.old) }
+{
+    if write_all(taxonomy, &made.taxonomy).is_err() {
+        return Err(1);
+    }
+    if write_all(instances, &made.instances).is_err() {
+        return Err(2);
+    }
+    if write_all(certificate, &made.certificate).is_err() {
+        return Err(3);
+    }
+    Ok(())
+}

@@ -1,0 +1,5 @@
+//! Tests of sessions over documents.
+#![tactic(auto)]
+
+#[cfg(test)]
+mod sessions;
