@@ -1,8 +1,0 @@
-use Rattle.engine.specs.Counts.{HasNamesBelow, IsSmall}
-use Rattle.engine.proofs.counts.counted.Given as goal
-
-abbrev pub invariant-loop-form : goal.invariant-loop-form
-invariant-loop-form l = record {
-  small : IsSmall l.counts;
-  has : HasNamesBelow l.counts l.forms l.form-index;
-}
