@@ -14,7 +14,7 @@ use property_closure::PropertyClosure;
 use std::marker::Model;
 
 /// The facts of a state that has run to its end, with what gave them. What only a run needs, to find facts and to know whose turn it
-/// is, is gone: two thirds of the memory are left. It is seen as a state that served its facts in the order of birth.
+/// is, is gone. It is seen as a state that served its facts in the order of birth.
 #[derive(Drop)]
 pub(crate) struct Kept {
     pub ground: Ground,
