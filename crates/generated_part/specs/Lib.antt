@@ -3,3 +3,4 @@ pub mod Theorems
 pub mod ByElement
 pub mod Search
 pub mod Part
+pub mod Items
