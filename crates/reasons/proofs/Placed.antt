@@ -1,14 +1,22 @@
 -- Two lists of the satisfiable contexts are the same.
-use Rattle.std.proofs.Common.{◌≡◌, ℕ, ◌<◌, zero, suc, List, [], ◌∷◌, slice_get, Some, AllPairs, refl, sym, ap₂, ◌∙◌, subst, arith}
+use Rattle.std.proofs.Common.{◌≡◌, ℕ, ◌<◌, zero, suc, List, [], ◌∷◌, length, slice_get, Some, AllPairs, refl, sym, ap₂, ◌∙◌, subst, arith}
 use Rattle.std.proofs.lemmas.Option.{same_Some, none-some, slice_get_within, get_or_from_slice_get}
-use Rattle.axioms.specs.Numbered.{Ontology}
+use Rattle.std.proofs.lemmas.List.Elements.{All-nil}
+use Rattle.axioms.specs.Numbered.{Ontology, axiom_trees}
+use Rattle.axioms.specs.WellFormed.{IsOntology}
+use Rattle.certificate.specs.Certificate.{Listed}
+use Rattle.certificate.specs.HasText.{IsListedOf}
 use Rattle.closure.specs.Closure.{Context, Expression, Individual}
-use Rattle.closure_model.specs.Listed.{IsBefore, AreSatisfiableContexts}
-use Rattle.countermodel.specs.Built.{IsBuilt}
+use Rattle.closure_model.specs.Listed.{IsBefore, AreSatisfiableContexts, IsListedInterpretation, AgreesWithClosure}
+use Rattle.closure_model.proofs.Complete.{listed_is_model, listed_agrees}
+use Rattle.countermodel.proofs.Listed.{same_members}
+use Rattle.exactness.specs.Acceptance.{IsListedFor}
 use Rattle.generated_part.specs.Generated.{IsGenerated}
 use Rattle.interpretation_spec.specs.ByName.{interpretation_of}
+use Rattle.interpretation_spec.specs.Interpretation.{Interpretation, IsModel}
 use Rattle.interpretation_spec.specs.Numbered.{NumberedInterpretation, IsMadeFor}
-use Rattle.interpretation_spec.proofs.Names.{size_of}
+use Rattle.listed_model.specs.Interpreted.{listed_interpretation}
+use Rattle.listed_model.proofs.Interpreted.{listing_is, interpretation_is}
 use Rattle.reasons.specs.Numbered.{IsPartFor}
 
 irreflexive : (x : Context) → IsBefore x x → ⊥
@@ -60,24 +68,39 @@ pub contexts_determined : (o : Ontology) (xs ys : List Context) → AreSatisfiab
 contexts_determined o xs ys p q =
     same_elements xs ys p.ascend q.ascend (λ m x h. q.listed x (p.satisfiable m x h)) (λ m x h. p.listed x (q.satisfiable m x h))
 
--- ---- the element in the interpretation that was built
+-- ---- the element in the interpretation that is listed
 
-module _ (o : Ontology) (x : Context) (xs : List Context) (i : NumberedInterpretation) (from : ℕ) (contexts : AreSatisfiableContexts o [] xs) (at : slice_get xs from ≡ Some x) (built : IsBuilt o i) where
-  placed : slice_get built.elements from ≡ Some x
-  placed = subst (λ (ys : List Context). slice_get ys from ≡ Some x) (contexts_determined o xs built.elements contexts built.listed.contexts) at
+module _ (o : Ontology) (w : IsOntology o) (x : Context) (xs : List Context) (l : Listed) (from : ℕ) (contexts : AreSatisfiableContexts o [] xs) (at : slice_get xs from ≡ Some x) (for : IsListedFor o l) where
+  placed : slice_get for.elements from ≡ Some x
+  placed = subst (λ (ys : List Context). slice_get ys from ≡ Some x) (contexts_determined o xs for.elements contexts for.interpretation.contexts) at
 
-  pub placed_within : from < i.size
-  placed_within = omega (arith, slice_get_within built.elements from x placed, built.listed.size, size_of o.names i)
+  pub placed_within : from < l.domain
+  placed_within = omega (arith, slice_get_within for.elements from x placed, for.interpretation.size, for.listing.size)
 
-  pub part_made : (part : NumberedInterpretation) (new : ℕ) → IsMadeFor o.names part → IsGenerated o (interpretation_of o.names i) from (interpretation_of o.names part) new → IsPartFor o x part new
-  part_made part new made generated = record {
-    made = made;
-    elements = built.elements;
-    whole = interpretation_of o.names i;
-    listed = built.listed;
-    agrees = built.agrees;
-    model = built.model;
-    from = from;
-    own = placed;
-    generated = generated;
-  }
+  module _ (fits : IsListedOf o l) where
+    whole : Interpretation
+    whole = listed_interpretation o l
+
+    is_listed : IsListedInterpretation o [] for.elements whole
+    unfolding whole
+    is_listed = same_members o w l fits for.elements for.i whole for.interpretation for.listing (listing_is o w l fits) (interpretation_is o w l fits)
+
+    agrees : AgreesWithClosure o [] for.elements whole
+    agrees = listed_agrees o [] for.elements whole w (All-nil (λ e. e < length o.nodes)) is_listed
+
+    model : IsModel whole (axiom_trees o)
+    model = listed_is_model o [] for.elements whole w (All-nil (λ e. e < length o.nodes)) is_listed for.consistent
+
+    pub part_made : (part : NumberedInterpretation) (new : ℕ) → IsMadeFor o.names part → IsGenerated o (listed_interpretation o l) from (interpretation_of o.names part) new → IsPartFor o x part new
+    unfolding whole
+    part_made part new made generated = record {
+      made = made;
+      elements = for.elements;
+      whole = listed_interpretation o l;
+      listed = is_listed;
+      agrees = agrees;
+      model = model;
+      from = from;
+      own = placed;
+      generated = generated;
+    }

@@ -6,16 +6,16 @@ ghost use Rattle.reasons.specs.Numbered.{IsPartFor};
 ghost use Rattle.std.specs.Prelude.{[], IfOk};
 
 use axioms::{Memory, Ontology};
-use countermodel::build;
 use elements::Elements;
 use engine::Saturation;
 use facts::Context;
-use generated_part::generated;
+use generated_part::listed_part;
 use interpretation_spec::Interpretation;
+use listing::listed;
 use std::alloc::Global;
 
 /// The part of the interpretation that the closure lists that is reached from the context's own element and from the
-/// individuals, and the number of that element in it.
+/// individuals, and the number of that element in it. It is made from the lists of members.
 ///
 /// # Errors
 ///
@@ -31,11 +31,12 @@ pub(crate) fn part_for(
     requires satisfiable { IsSatisfiable ontology.now [] (context_of context) }
     ensures { IfOk result (λ part. IsPartFor ontology.now (context_of context) part.0 part.1) }
 {
+    ontology.well_formed();
     let elements = Elements::of(alloc, ontology, saturation)?;
     let Some(from) = elements.element(context) else {
         unreachable!()
     };
-    let whole = build(alloc, ontology, saturation)?;
-    let part = generated(alloc, &whole, ontology, from as usize)?;
+    let whole = listed(alloc, ontology, saturation)?;
+    let part = listed_part(alloc, &whole, ontology, from as usize)?;
     Ok(part)
 }

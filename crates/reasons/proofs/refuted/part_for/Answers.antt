@@ -1,12 +1,13 @@
+use Rattle.certificate.specs.View.{listed_of}
 use Rattle.elements.specs.Elements.{context_of}
 use Rattle.reasons.proofs.Placed.{placed_within, part_made}
 use Rattle.reasons.proofs.refuted.part_for.Goals as goal
 
-pub generated-requires-clause-there : goal.generated-requires-clause-there
-generated-requires-clause-there c =
-    placed_within c.args.ontology.now (context_of c.args.context) c.in_ok-elements.elements c.in_ok-whole.whole c.in-Some.from c.in_ok-elements.ensures c.in-Some.ensures c.in_ok-whole.ensures.built
+pub listed_part-requires-clause-there : goal.listed_part-requires-clause-there
+listed_part-requires-clause-there c =
+    placed_within c.args.ontology.now c.well_formed-2.ensures (context_of c.args.context) c.in_ok-elements.elements (listed_of c.in_ok-whole.whole) c.in-Some.from c.in_ok-elements.ensures c.in-Some.ensures c.in_ok-whole.ensures.listed
 
 pub returns : goal.returns
 returns c =
-    part_made c.args.ontology.now (context_of c.args.context) c.in_ok-elements.elements c.in_ok-whole.whole c.in-Some.from c.in_ok-elements.ensures c.in-Some.ensures c.in_ok-whole.ensures.built
-    c.in_ok-part.part.0 c.in_ok-part.part.1 c.in_ok-part.ensures.made c.in_ok-part.ensures.generated
+    part_made c.args.ontology.now c.well_formed-2.ensures (context_of c.args.context) c.in_ok-elements.elements (listed_of c.in_ok-whole.whole) c.in-Some.from c.in_ok-elements.ensures c.in-Some.ensures c.in_ok-whole.ensures.listed
+    c.in_ok-whole.ensures.text c.in_ok-part.part.0 c.in_ok-part.part.1 c.in_ok-part.ensures.made c.in_ok-part.ensures.generated
