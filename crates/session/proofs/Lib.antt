@@ -1,2 +1,3 @@
 pub mod Outcomes
 pub mod Opening
+pub mod Finding

@@ -1,12 +1,19 @@
 -- What a session says where it is asked, and where its texts are written.
-use Rattle.std.specs.Prelude.{◌≡◌, ◌≤◌, ℕ, List, Result, Ok, Err, length}
+use Rattle.std.specs.Prelude.{◌≡◌, ◌≤◌, ◌⊎◌, ◌∷◌, [], List, Result, Ok, Err, length}
 use Rattle.std.specs.List.{Contains}
 use Rattle.axioms.specs.Expression.{Iri}
+use Rattle.axioms.specs.Growth.{names_of}
+use Rattle.axioms.specs.Numbered.{Ontology}
+use Rattle.axioms.specs.declared.terms.Kind.{Kind}
+use Rattle.axioms.specs.declared.terms.Kind.TheVariants as kinds
 use Rattle.cert_check.specs.Acceptable.{IsAcceptable}
 use Rattle.classification.specs.Classified.{AreCountsOf, AreTextsOf}
 use Rattle.classification.specs.declared.classification.Summary.{Summary}
 use Rattle.device.specs.declared.device.Sink.{Ghosts}
 use Rattle.engine.specs.Saturated.{IsFinished}
+use Rattle.reasons.specs.Explained.{IsKnown}
+use Rattle.reasons.specs.declared.asked.Asked.{Asked}
+use Rattle.reasons.specs.declared.asked.Asked.TheVariants as subjects
 use Rattle.session.specs.Opened.{Opened}
 use Rattle.session.specs.Written.{Sinks, Texts, AreWritten, AreWrittenUntil, all_seen}
 use Rattle.session.specs.declared.fault.AskFault.{AskFault}
@@ -25,6 +32,38 @@ abbrev pub IsClassRefusal : Opened → Iri → AskFault → Type 0
 IsClassRefusal s name asking.Unfinished = ¬ IsFinished s.saturation
 IsClassRefusal s name (asking.UnknownName unknown) = IsFinished s.saturation × (unknown.now ≡ name) × ¬ Contains s.ontology.names.classes name
 IsClassRefusal s name asking.Memory = IsFinished s.saturation
+
+-- ---- names in a question
+
+-- the names, each with its kind
+abbrev pub class_name : Iri → Kind × Iri
+class_name class = (kinds.Class, class)
+
+abbrev pub subject_name : Asked → Kind × Iri
+subject_name (subjects.Class c) = (kinds.Class, c.now)
+subject_name (subjects.Individual a) = (kinds.Individual, a.now)
+
+abbrev pub HasName : Ontology → Kind × Iri → Type 0
+HasName o named = Contains (names_of o.names named.0) named.1
+
+-- it is the first of the names, from the left, that the ontology lacks
+abbrev pub IsFirstUnknown : Ontology → (names : List (Kind × Iri)) → Iri → Type 0
+IsFirstUnknown o [] unknown = ⊥
+IsFirstUnknown o (named ∷ later) unknown = (¬ HasName o named × (unknown ≡ named.1)) ⊎ (HasName o named × IsFirstUnknown o later unknown)
+
+-- nothing is pending, and both names are known
+pub record HasNames (s : Opened) (asked : Asked) (class : Iri) : Type 0 where
+  pub finished : IsFinished s.saturation
+  pub subject : IsKnown s.ontology asked
+  pub known : Contains s.ontology.names.classes class
+
+-- what a refusal says of a question about a subject and a class: facts are pending; or none are, and the name that is told is the first
+-- that is unknown
+abbrev pub IsQuestionRefusal : Opened → Asked → Iri → AskFault → Type 0
+IsQuestionRefusal s asked class asking.Unfinished = ¬ IsFinished s.saturation
+IsQuestionRefusal s asked class (asking.UnknownName unknown) =
+    IsFinished s.saturation × IsFirstUnknown s.ontology (subject_name asked ∷ class_name class ∷ []) unknown.now
+IsQuestionRefusal s asked class asking.Memory = IsFinished s.saturation
 
 -- ---- texts
 

@@ -2,6 +2,7 @@
 #![tactic(auto)]
 
 mod classes;
+mod explaining;
 mod fault;
 mod individuals;
 mod session;
@@ -12,5 +13,6 @@ pub use classification::Summary;
 pub use document::{DocumentFault, Limits};
 pub use engine::Stop;
 pub use fault::{AskFault, TextFault};
+pub use reasons::{Asked, Explanation};
 pub use session::Session;
 pub use writing::write_texts;
