@@ -1,0 +1,5 @@
+//! Tests of questions about documents.
+#![tactic(auto)]
+
+#[cfg(test)]
+mod questions_asked;
