@@ -1,15 +1,17 @@
 -- The program's command line, as clap reads it.
-use Rattle.std.specs.Prelude.{◌≡◌, ◌≤◌, ℕ, List, [], ◌∷◌, Option, Some, None, codes, true, ⊤}
+use Rattle.std.specs.Prelude.{◌≡◌, ◌≤◌, ℕ, Bool, List, [], ◌∷◌, Option, Some, None, codes, if◌then◌else◌, true, ⊤}
 use Rattle.std.specs.Fmt.{decimal}
 use Rattle.std.specs.Str.Parse.{IsNumeral, digits_value, without_leading_plus}
 use Rattle.clap.specs.Words.{App, Row, Rule, Text, new_app, new_rule, with_rule, with_subcommand, first_of, one_of, subcommand_of, takes}
 use Rattle.clap.specs.Simple.{on_top}
+use Rattle.clap.specs.declared.builder.action.ArgAction.TheVariants.{SetTrue}
 use Rattle.clap.specs.declared.builder.value_parser.ValueParser.TheVariants as vp
 use Rattle.command_line.specs.declared.tasks.Paths.{Paths}
+use Rattle.command_line.specs.declared.tasks.Question.{Question}
 use Rattle.command_line.specs.declared.tasks.LineFault.{LineFault}
 use Rattle.command_line.specs.declared.tasks.LineFault.TheVariants.{Line, Memory}
 use Rattle.command_line.specs.declared.tasks.Task.{Task}
-use Rattle.command_line.specs.declared.tasks.Task.TheVariants.{Check, Classify}
+use Rattle.command_line.specs.declared.tasks.Task.TheVariants.{Check, Classify, Explain, Instances}
 use Rattle.program.specs.declared.limits.TheConstants.{MOST_BYTES, MOST_FACTS}
 
 -- ---- the commands
@@ -22,7 +24,7 @@ most_facts = MOST_FACTS
 abbrev pub most_bytes : ℕ
 most_bytes = MOST_BYTES
 
--- a path that has to be given
+-- a path or a name that has to be given
 abbrev pub path : Text → Rule
 path id = record (new_rule id) { required = true }
 
@@ -38,6 +40,14 @@ max_facts = number (codes "max-facts") most_facts (decimal most_facts)
 abbrev pub max_bytes : Rule
 max_bytes = number (codes "max-bytes") most_bytes (decimal most_bytes)
 
+-- `[--max-facts N] [--max-bytes N]`
+abbrev pub with_limits : App → App
+with_limits app = with_rule (with_rule app max_facts) max_bytes
+
+-- a word that may stand or not, as `--dot`
+abbrev pub flag : Text → Rule
+flag id = record (new_rule id) { long = Some id; action = Some SetTrue }
+
 -- `DOC TAX INST CERT`
 abbrev pub with_paths : App → App
 with_paths app =
@@ -51,9 +61,29 @@ classify_app = with_rule (with_rule (with_paths (new_app (codes "classify"))) ma
 abbrev pub check_app : App
 check_app = with_rule (with_paths (new_app (codes "check"))) max_bytes
 
+-- `instances DOC CLASS [--max-facts N] [--max-bytes N]`
+abbrev pub instances_app : App
+instances_app = with_limits (with_rule (with_rule (new_app (codes "instances")) (path (codes "DOC"))) (path (codes "CLASS")))
+
+-- `DOC SUB SUPER`
+abbrev pub with_names : App → App
+with_names app = with_rule (with_rule (with_rule app (path (codes "DOC"))) (path (codes "SUB"))) (path (codes "SUPER"))
+
+-- `[--individual] [--dot]`
+abbrev pub with_flags : App → App
+with_flags app = with_rule (with_rule app (flag (codes "individual"))) (flag (codes "dot"))
+
+-- `explain DOC SUB SUPER [--individual] [--dot] [--max-facts N] [--max-bytes N]`
+abbrev pub explain_app : App
+explain_app = with_limits (with_flags (with_names (new_app (codes "explain"))))
+
+-- the commands that ask about a document
+abbrev pub with_questions : App → App
+with_questions app = with_subcommand (with_subcommand app instances_app.top) explain_app.top
+
 -- the program, whose first word after its name is one of the commands
 abbrev pub elc_app : App
-elc_app = with_subcommand (with_subcommand (on_top (λ s. record s { subcommand_required = true }) (new_app (codes "elc"))) classify_app.top) check_app.top
+elc_app = with_questions (with_subcommand (with_subcommand (on_top (λ s. record s { subcommand_required = true }) (new_app (codes "elc"))) classify_app.top) check_app.top)
 
 -- ---- what the words ask for
 
@@ -73,10 +103,24 @@ pub record ArePaths (rows : List Row) (paths : Paths) : Type 0 where
   pub instances : first_of (codes "INST") rows ≡ Some paths.instances.now
   pub certificate : first_of (codes "CERT") rows ≡ Some paths.certificate.now
 
+-- a flag is true where its word stands, and false where it does not: clap keeps the text of the one or the other
+abbrev pub IsFlag : (id : Text) → (rows : List Row) → (stands : Bool) → Type 0
+IsFlag id rows stands = first_of id rows ≡ Some (if stands then codes "true" else codes "false")
+
+-- the question is what the words in their places and the flags say
+pub record IsQuestion (rows : List Row) (question : Question) : Type 0 where
+  pub document : first_of (codes "DOC") rows ≡ Some question.document.now
+  pub subject : first_of (codes "SUB") rows ≡ Some question.subject.now
+  pub class : first_of (codes "SUPER") rows ≡ Some question.class.now
+  pub individual : IsFlag (codes "individual") rows question.individual
+  pub dot : IsFlag (codes "dot") rows question.dot
+
 -- the task is what a command's name and its matches say
 abbrev pub IsTask : Text → List Row → Task → Type 0
 IsTask name rows (Classify paths facts bytes) = (name ≡ codes "classify") × ArePaths rows paths × IsNumber (codes "max-facts") most_facts rows facts × IsNumber (codes "max-bytes") most_bytes rows bytes
 IsTask name rows (Check paths bytes) = (name ≡ codes "check") × ArePaths rows paths × IsNumber (codes "max-bytes") most_bytes rows bytes
+IsTask name rows (Instances document class facts bytes) = (name ≡ codes "instances") × (first_of (codes "DOC") rows ≡ Some document.now) × (first_of (codes "CLASS") rows ≡ Some class.now) × IsNumber (codes "max-facts") most_facts rows facts × IsNumber (codes "max-bytes") most_bytes rows bytes
+IsTask name rows (Explain question facts bytes) = (name ≡ codes "explain") × IsQuestion rows question × IsNumber (codes "max-facts") most_facts rows facts × IsNumber (codes "max-bytes") most_bytes rows bytes
 
 -- there is a command, and the task is what it says
 pub record NamesTask (entered : Option (Text × List Row)) (task : Task) : Type 0 where

@@ -2,22 +2,60 @@
 ghost use Rattle.std.specs.Prelude.{◌≡◌, IfOk, false};
 ghost use Rattle.clap.specs.Words.{app_of, rule_of, with_rule};
 ghost use Rattle.clap.specs.declared.builder.command.Command.TheViews.{out-Command as fields_of};
-ghost use Rattle.command_line.specs.CommandLine.{path, max_facts, max_bytes, with_paths as app_with_paths, check_app, classify_app, elc_app};
+ghost use Rattle.command_line.specs.CommandLine.{path, flag, max_facts, max_bytes, with_paths as app_with_paths, with_names as app_with_names, with_flags as app_with_flags, with_limits as app_with_limits, with_questions as app_with_questions, check_app, classify_app, instances_app, explain_app, elc_app};
 
-use clap::{Arg, Command, value_parser};
+use clap::{Arg, ArgAction, Command, value_parser};
 use program::{MOST_BYTES, MOST_FACTS};
 use std::alloc::{AllocError, Global};
 
-/// The command with one path more.
+const ABOUT: &str = "Classifies ontologies in OWL 2 EL, and says why";
+
+const EXAMPLES: &str = "Examples:
+  elc classify food.ofn food.tax food.inst food.cert
+  elc check food.ofn food.tax food.inst food.cert
+  elc instances food.ofn http://example.org/Pizza
+  elc explain food.ofn http://example.org/Pizza http://example.org/Food
+  elc explain food.ofn http://example.org/margherita http://example.org/Pizza --individual
+Names are written in full, without < and >.";
+
+const CLASSIFY_ABOUT: &str = "Writes the taxonomy, the instances and a certificate of both";
+
+const CHECK_ABOUT: &str = "Checks the three texts of a classification against the document";
+
+const INSTANCES_ABOUT: &str = "Prints the individuals that belong to a class";
+
+const EXPLAIN_ABOUT: &str =
+    "Prints whether a class or an individual lies under a class, and the proof or a counterexample";
+
+const DOCUMENT_HELP: &str = "The file of the ontology, in functional-style syntax";
+
+const TAXONOMY_HELP: &str = "The file of the taxonomy";
+
+const INSTANCES_HELP: &str = "The file of the instances";
+
+const CERTIFICATE_HELP: &str = "The file of the certificate";
+
+const CLASS_HELP: &str = "The class, by its name in full, as http://example.org/Pizza";
+
+const SUBJECT_HELP: &str = "The class below, or the individual, by its name in full";
+
+const SUPER_HELP: &str = "The class above, by its name in full";
+
+const INDIVIDUAL_HELP: &str = "SUB is an individual";
+
+const DOT_HELP: &str = "Prints a graph for the program dot";
+
+/// The command with one path or name more.
 fn with_path<'a>(
     alloc: Global,
     command: Command<'a>,
     id: &'a str,
+    help: &'a str,
 ) -> Result<Command<'a>, AllocError>
     ensures app { IfOk result (λ c. app_of c ≡ with_rule (app_of command.entry) (path id.entry.now)) }
     ensures local { (fields_of command.entry).has_globals ≡ false → IfOk result (λ c. (fields_of c).has_globals ≡ false) }
 {
-    command.arg(Arg::new(alloc, id).required(true))
+    command.arg(Arg::new(alloc, id).required(true).help(help))
 }
 
 /// The command with the four paths.
@@ -25,10 +63,10 @@ fn with_paths<'a>(alloc: Global, command: Command<'a>) -> Result<Command<'a>, Al
     ensures app { IfOk result (λ c. app_of c ≡ app_with_paths (app_of command.entry)) }
     ensures local { (fields_of command.entry).has_globals ≡ false → IfOk result (λ c. (fields_of c).has_globals ≡ false) }
 {
-    let command = with_path(alloc, command, "DOC")?;
-    let command = with_path(alloc, command, "TAX")?;
-    let command = with_path(alloc, command, "INST")?;
-    with_path(alloc, command, "CERT")
+    let command = with_path(alloc, command, "DOC", DOCUMENT_HELP)?;
+    let command = with_path(alloc, command, "TAX", TAXONOMY_HELP)?;
+    let command = with_path(alloc, command, "INST", INSTANCES_HELP)?;
+    with_path(alloc, command, "CERT", CERTIFICATE_HELP)
 }
 
 fn max_facts_option<'a>(alloc: Global) -> Arg<'a>
@@ -37,6 +75,7 @@ fn max_facts_option<'a>(alloc: Global) -> Arg<'a>
 {
     Arg::new(alloc, "max-facts")
         .long("max-facts")
+        .help("The most facts to draw from the document, from 1 to 100000000")
         .value_parser(value_parser!(u64).range(1..=MOST_FACTS as i64))
         .default_value("100000000")
 }
@@ -47,15 +86,26 @@ fn max_bytes_option<'a>(alloc: Global) -> Arg<'a>
 {
     Arg::new(alloc, "max-bytes")
         .long("max-bytes")
+        .help("The most bytes to read of the document, from 1 to 268435456")
         .value_parser(value_parser!(u64).range(1..=MOST_BYTES as i64))
         .default_value("268435456")
+}
+
+/// The command with the two limits.
+fn with_limits<'a>(alloc: Global, command: Command<'a>) -> Result<Command<'a>, AllocError>
+    ensures app { IfOk result (λ c. app_of c ≡ app_with_limits (app_of command.entry)) }
+    ensures local { (fields_of command.entry).has_globals ≡ false → IfOk result (λ c. (fields_of c).has_globals ≡ false) }
+{
+    command
+        .arg(max_facts_option(alloc))?
+        .arg(max_bytes_option(alloc))
 }
 
 fn classify_command<'a>(alloc: Global) -> Result<Command<'a>, AllocError>
     ensures app { IfOk result (λ c. app_of c ≡ classify_app) }
     ensures local { IfOk result (λ c. (fields_of c).has_globals ≡ false) }
 {
-    with_paths(alloc, Command::new(alloc, "classify"))?
+    with_paths(alloc, Command::new(alloc, "classify").about(CLASSIFY_ABOUT))?
         .arg(max_facts_option(alloc))?
         .arg(max_bytes_option(alloc))
 }
@@ -64,7 +114,73 @@ fn check_command<'a>(alloc: Global) -> Result<Command<'a>, AllocError>
     ensures app { IfOk result (λ c. app_of c ≡ check_app) }
     ensures local { IfOk result (λ c. (fields_of c).has_globals ≡ false) }
 {
-    with_paths(alloc, Command::new(alloc, "check"))?.arg(max_bytes_option(alloc))
+    with_paths(alloc, Command::new(alloc, "check").about(CHECK_ABOUT))?.arg(max_bytes_option(alloc))
+}
+
+fn instances_command<'a>(alloc: Global) -> Result<Command<'a>, AllocError>
+    ensures app { IfOk result (λ c. app_of c ≡ instances_app) }
+    ensures local { IfOk result (λ c. (fields_of c).has_globals ≡ false) }
+{
+    let command = Command::new(alloc, "instances").about(INSTANCES_ABOUT);
+    let command = with_path(alloc, command, "DOC", DOCUMENT_HELP)?;
+    let command = with_path(alloc, command, "CLASS", CLASS_HELP)?;
+    with_limits(alloc, command)
+}
+
+/// The command with the document and the two names that a question is of.
+fn with_names<'a>(alloc: Global, command: Command<'a>) -> Result<Command<'a>, AllocError>
+    ensures app { IfOk result (λ c. app_of c ≡ app_with_names (app_of command.entry)) }
+    ensures local { (fields_of command.entry).has_globals ≡ false → IfOk result (λ c. (fields_of c).has_globals ≡ false) }
+{
+    let command = with_path(alloc, command, "DOC", DOCUMENT_HELP)?;
+    let command = with_path(alloc, command, "SUB", SUBJECT_HELP)?;
+    with_path(alloc, command, "SUPER", SUPER_HELP)
+}
+
+/// The command with one flag more.
+fn with_flag<'a>(
+    alloc: Global,
+    command: Command<'a>,
+    id: &'a str,
+    help: &'a str,
+) -> Result<Command<'a>, AllocError>
+    ensures app { IfOk result (λ c. app_of c ≡ with_rule (app_of command.entry) (flag id.entry.now)) }
+    ensures local { (fields_of command.entry).has_globals ≡ false → IfOk result (λ c. (fields_of c).has_globals ≡ false) }
+{
+    command.arg(
+        Arg::new(alloc, id)
+            .long(id)
+            .action(ArgAction::SetTrue)
+            .help(help),
+    )
+}
+
+/// The command with the two flags of a question.
+fn with_flags<'a>(alloc: Global, command: Command<'a>) -> Result<Command<'a>, AllocError>
+    ensures app { IfOk result (λ c. app_of c ≡ app_with_flags (app_of command.entry)) }
+    ensures local { (fields_of command.entry).has_globals ≡ false → IfOk result (λ c. (fields_of c).has_globals ≡ false) }
+{
+    let command = with_flag(alloc, command, "individual", INDIVIDUAL_HELP)?;
+    with_flag(alloc, command, "dot", DOT_HELP)
+}
+
+fn explain_command<'a>(alloc: Global) -> Result<Command<'a>, AllocError>
+    ensures app { IfOk result (λ c. app_of c ≡ explain_app) }
+    ensures local { IfOk result (λ c. (fields_of c).has_globals ≡ false) }
+{
+    let command = Command::new(alloc, "explain").about(EXPLAIN_ABOUT);
+    let command = with_names(alloc, command)?;
+    let command = with_flags(alloc, command)?;
+    with_limits(alloc, command)
+}
+
+/// The command with those that ask about a document.
+fn with_questions<'a>(alloc: Global, command: Command<'a>) -> Result<Command<'a>, AllocError>
+    ensures app { IfOk result (λ c. app_of c ≡ app_with_questions (app_of command.entry)) }
+    ensures local { (fields_of command.entry).has_globals ≡ false → IfOk result (λ c. (fields_of c).has_globals ≡ false) }
+{
+    let command = command.subcommand(instances_command(alloc)?)?;
+    command.subcommand(explain_command(alloc)?)
 }
 
 /// The program's command line.
@@ -74,8 +190,11 @@ pub(crate) fn elc_command<'a>(alloc: Global) -> Result<Command<'a>, AllocError>
 {
     let classify = classify_command(alloc)?;
     let check = check_command(alloc)?;
-    Command::new(alloc, "elc")
+    let command = Command::new(alloc, "elc")
+        .about(ABOUT)
+        .after_help(EXAMPLES)
         .subcommand_required(true)
         .subcommand(classify)?
-        .subcommand(check)
+        .subcommand(check)?;
+    with_questions(alloc, command)
 }

@@ -9,6 +9,20 @@ pub struct Paths<'a> {
     pub certificate: &'a str,
 }
 
+/// Whether a document says that a class or an individual lies under a class.
+#[derive(Clone, Copy, Debug, PartialEq, Eq)]
+pub struct Question<'a> {
+    pub document: &'a str,
+    /// The name of the class or the individual that is asked of.
+    pub subject: &'a str,
+    /// The name of the class above.
+    pub class: &'a str,
+    /// Whether the subject is an individual.
+    pub individual: bool,
+    /// Whether the answer is wanted as a graph.
+    pub dot: bool,
+}
+
 /// What the program is asked to do.
 #[derive(Clone, Copy, Debug, PartialEq, Eq)]
 pub enum Task<'a> {
@@ -21,6 +35,19 @@ pub enum Task<'a> {
     /// Check the other three files against the document.
     Check {
         paths: Paths<'a>,
+        max_bytes: u64,
+    },
+    /// Print the individuals that belong to the class.
+    Instances {
+        document: &'a str,
+        class: &'a str,
+        max_facts: u64,
+        max_bytes: u64,
+    },
+    /// Answer the question, with the reason.
+    Explain {
+        question: Question<'a>,
+        max_facts: u64,
         max_bytes: u64,
     },
 }

@@ -1,16 +1,17 @@
 //! Reads the program's words.
 ghost use Rattle.std.specs.Prelude.{◌≡◌, ℕ, IfOk, IfErr, map, codes, option_map, true};
 ghost use Rattle.clap.specs.Words.{subcommand_rows_of, rows_of, found_of, first_of, takes};
-ghost use Rattle.command_line.specs.CommandLine.{ArePaths, IsNumber, IsTask, IsTaskOf, NamesTask, Finds, Refuses};
+ghost use Rattle.command_line.specs.CommandLine.{ArePaths, IsFlag, IsNumber, IsQuestion, IsTask, IsTaskOf, NamesTask, Finds, Refuses};
 
 use crate::command::elc_command;
-use crate::tasks::{LineFault, Paths, Task};
+use crate::tasks::{LineFault, Paths, Question, Task};
 use clap::error::ErrorKind;
 use clap::{ArgMatches, Command};
 use program::{MOST_BYTES, MOST_FACTS};
 use std::alloc::Global;
 
-fn path<'a>(inner: &ArgMatches<'a>, id: &str) -> Option<&'a str>
+/// The word that stands for the argument.
+fn word<'a>(inner: &ArgMatches<'a>, id: &str) -> Option<&'a str>
     ensures { option_map (λ s. s.now) result ≡ first_of id.now (rows_of (found_of inner.now)) }
 {
     inner.get_str(id)
@@ -21,10 +22,34 @@ fn paths<'a>(inner: &ArgMatches<'a>) -> Option<Paths<'a>>
     ensures { Finds (ArePaths (rows_of (found_of inner.now))) result }
 {
     Some(Paths {
-        document: path(inner, "DOC")?,
-        taxonomy: path(inner, "TAX")?,
-        instances: path(inner, "INST")?,
-        certificate: path(inner, "CERT")?,
+        document: word(inner, "DOC")?,
+        taxonomy: word(inner, "TAX")?,
+        instances: word(inner, "INST")?,
+        certificate: word(inner, "CERT")?,
+    })
+}
+
+/// Whether the word of the flag stands.
+fn flag(inner: &ArgMatches<'_>, id: &str) -> Option<bool>
+    ensures { Finds (IsFlag id.now (rows_of (found_of inner.now))) result }
+{
+    match word(inner, id)? {
+        "true" => Some(true),
+        "false" => Some(false),
+        _ => None,
+    }
+}
+
+/// The question, whose names the command requires.
+fn question<'a>(inner: &ArgMatches<'a>) -> Option<Question<'a>>
+    ensures { Finds (IsQuestion (rows_of (found_of inner.now))) result }
+{
+    Some(Question {
+        document: word(inner, "DOC")?,
+        subject: word(inner, "SUB")?,
+        class: word(inner, "SUPER")?,
+        individual: flag(inner, "individual")?,
+        dot: flag(inner, "dot")?,
     })
 }
 
@@ -58,6 +83,27 @@ fn check_task<'a>(inner: &ArgMatches<'a>) -> Option<Task<'a>>
     })
 }
 
+fn instances_task<'a>(inner: &ArgMatches<'a>) -> Option<Task<'a>>
+    ensures { Finds (IsTask (codes "instances") (rows_of (found_of inner.now))) result }
+{
+    Some(Task::Instances {
+        document: word(inner, "DOC")?,
+        class: word(inner, "CLASS")?,
+        max_facts: number(inner, "max-facts", MOST_FACTS)?,
+        max_bytes: number(inner, "max-bytes", MOST_BYTES)?,
+    })
+}
+
+fn explain_task<'a>(inner: &ArgMatches<'a>) -> Option<Task<'a>>
+    ensures { Finds (IsTask (codes "explain") (rows_of (found_of inner.now))) result }
+{
+    Some(Task::Explain {
+        question: question(inner)?,
+        max_facts: number(inner, "max-facts", MOST_FACTS)?,
+        max_bytes: number(inner, "max-bytes", MOST_BYTES)?,
+    })
+}
+
 /// The task of the command that was entered.
 fn entered<'a>(matches: &ArgMatches<'a>) -> Option<Task<'a>>
     ensures { Finds (NamesTask (subcommand_rows_of matches.now)) result }
@@ -66,6 +112,8 @@ fn entered<'a>(matches: &ArgMatches<'a>) -> Option<Task<'a>>
     match name {
         "classify" => classify_task(inner),
         "check" => check_task(inner),
+        "instances" => instances_task(inner),
+        "explain" => explain_task(inner),
         _ => None,
     }
 }

@@ -22,3 +22,13 @@ returns-in-None-clause-refused c =
     let rows : subcommand_rows_of matches ≡ subcommand_of elc_app words = (has refl).1 in
     let Q : Task → Option (Text × List Row) → Type 0 = λ task entered. NamesTask entered task in
     refuses words c.missing_command.result (λ task h. c.in-None.ensures task (subst (Q task) (sym rows) h))
+
+pub returns-in-Some-clause-asked : goal.returns-in-Some-clause-asked
+returns-in-Some-clause-asked c =
+    let words = map (λ w. w.now) c.args.words.now in
+    let matches = c.in-Ok-try_get_matches_from_mut.matches in
+    let P : App → Type 0 = λ app. HasMatchesOf app words matches in
+    let has : HasMatchesOf elc_app words matches = subst P c.in-Ok.ensures.app c.in-Ok-try_get_matches_from_mut.ensures.ok.2 in
+    let rows : subcommand_rows_of matches ≡ subcommand_of elc_app words = (has refl).1 in
+    let Q : Option (Text × List Row) → Type 0 = λ entered. NamesTask entered c.in-Some.task in
+    subst Q rows c.in-Some.ensures
