@@ -10,7 +10,7 @@ use Rattle.command_line.specs.declared.tasks.LineFault.{LineFault}
 use Rattle.command_line.specs.declared.tasks.LineFault.TheVariants as line
 use Rattle.command_line.specs.declared.tasks.Paths.{Paths}
 use Rattle.command_line.specs.declared.tasks.Task.{Task}
-use Rattle.command_line.specs.declared.tasks.Task.TheVariants.{Check, Classify}
+use Rattle.command_line.specs.declared.tasks.Task.TheVariants.{Check, Classify, Explain, Instances}
 use Rattle.cli.specs.declared.fault.CheckFault.TheVariants as checking
 use Rattle.std.specs.Prelude.{codes}
 use Rattle.std.specs.Str.Parse.{digits_value, without_leading_plus}
@@ -125,6 +125,14 @@ classify_run words paths facts bytes (Check paths' most) known content content' 
     let rows : (of.name, of.rows) ≡ (of'.name, of'.rows) = one_value _ _ _ of.found of'.found in
     let bad : codes "classify" ≡ codes "check" = sym of.is.0 ∙ ap (λ (p : Text × List Row). p.0) rows ∙ of'.is.0 in
     absurd (cc)
+classify_run words paths facts bytes (Instances document' class' facts' bytes') known content content' old new status of of' run =
+    let rows : (of.name, of.rows) ≡ (of'.name, of'.rows) = one_value _ _ _ of.found of'.found in
+    let bad : codes "classify" ≡ codes "instances" = sym of.is.0 ∙ ap (λ (p : Text × List Row). p.0) rows ∙ of'.is.0 in
+    absurd (cc)
+classify_run words paths facts bytes (Explain question' facts' bytes') known content content' old new status of of' run =
+    let rows : (of.name, of.rows) ≡ (of'.name, of'.rows) = one_value _ _ _ of.found of'.found in
+    let bad : codes "classify" ≡ codes "explain" = sym of.is.0 ∙ ap (λ (p : Text × List Row). p.0) rows ∙ of'.is.0 in
+    absurd (cc)
 
 -- .. and of a check
 check_run : (words : List Text) (paths : Paths) (most : ℕ) (task : Task) (known : Bool) (content content' : Content) (old new : Output) (status : ℕ) → IsTaskOf words (Check paths most) → IsTaskOf words task → IsTaskRun task known content content' old new status → (paths' : Paths) × AreSamePaths paths paths' × IsCheckRun paths' most content old new status
@@ -139,6 +147,14 @@ check_run words paths most (Check paths' most') known content content' old new s
 check_run words paths most (Classify paths' facts' bytes') known content content' old new status of of' run =
     let rows : (of.name, of.rows) ≡ (of'.name, of'.rows) = one_value _ _ _ of.found of'.found in
     let bad : codes "check" ≡ codes "classify" = sym of.is.0 ∙ ap (λ (p : Text × List Row). p.0) rows ∙ of'.is.0 in
+    absurd (cc)
+check_run words paths most (Instances document' class' facts' bytes') known content content' old new status of of' run =
+    let rows : (of.name, of.rows) ≡ (of'.name, of'.rows) = one_value _ _ _ of.found of'.found in
+    let bad : codes "check" ≡ codes "instances" = sym of.is.0 ∙ ap (λ (p : Text × List Row). p.0) rows ∙ of'.is.0 in
+    absurd (cc)
+check_run words paths most (Explain question' facts' bytes') known content content' old new status of of' run =
+    let rows : (of.name, of.rows) ≡ (of'.name, of'.rows) = one_value _ _ _ of.found of'.found in
+    let bad : codes "check" ≡ codes "explain" = sym of.is.0 ∙ ap (λ (p : Text × List Row). p.0) rows ∙ of'.is.0 in
     absurd (cc)
 
 -- ---- two runs of the program

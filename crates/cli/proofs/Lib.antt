@@ -1,4 +1,5 @@
 pub mod Kept
+pub mod Questions
 pub mod Telling
 pub mod Outcomes
 pub mod Stored

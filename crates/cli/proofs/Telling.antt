@@ -26,3 +26,9 @@ told_status old new (Ok m) status answered is said =
     let P : Status → Type 0 = λ s. IsPrinted old new (string_bytes m.text) s answered in
     inl (string_bytes m.text, tt, subst P is said)
 told_status old new (Err e) status answered is said = inr said
+
+-- bytes that are printed are the answer
+pub answered_bytes : (old new : Output) (given text : List ℕ) (status : Status) (answered : ℕ) → given ≡ text → IsPrinted old.out new.out given status answered → new.err ≡ old.err → IsAnswered old new text status answered
+answered_bytes old new given text status answered same printed kept =
+    let P : List ℕ → Type 0 = λ t. IsPrinted old.out new.out t status answered in
+    inl (subst P same printed, kept)

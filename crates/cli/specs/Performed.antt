@@ -1,16 +1,17 @@
 -- What a run of the program does.
-use Rattle.std.specs.Prelude.{◌≡◌, ℕ, zero, suc, ◌⊎◌, List, Bool, true, false, Option, Some, take}
+use Rattle.std.specs.Prelude.{◌≡◌, ℕ, zero, suc, ◌⊎◌, List, [], ◌∷◌, Bool, true, false, if◌then◌else◌, Option, Some, take}
 use Rattle.axioms.specs.Numbered.{Ontology}
 use Rattle.cert_check.specs.declared.verdict.Verdict.{Verdict}
 use Rattle.classification.specs.declared.classification.Summary.{Summary}
 use Rattle.clap.specs.Words.{Text}
-use Rattle.command_line.specs.CommandLine.{IsTaskOf, Refuses}
+use Rattle.command_line.specs.CommandLine.{IsTaskOf, Refuses, most_facts}
 use Rattle.command_line.specs.declared.tasks.LineFault.{LineFault}
 use Rattle.command_line.specs.declared.tasks.Paths.{Paths}
+use Rattle.command_line.specs.declared.tasks.Question.{Question}
 use Rattle.command_line.specs.declared.tasks.Task.{Task}
-use Rattle.command_line.specs.declared.tasks.Task.TheVariants.{Check, Classify}
+use Rattle.command_line.specs.declared.tasks.Task.TheVariants.{Check, Classify, Explain, Instances}
 use Rattle.cli.specs.Checked.{IsChecked, IsCheckFault}
-use Rattle.cli.specs.Printed.{Output, IsAnswered, IsTold, verdict_text, verdict_status, outputs, summary_text, IsCheckText, check_status, IsClassifyText, classify_status, IsLineTold}
+use Rattle.cli.specs.Printed.{Output, IsAnswered, IsTold, verdict_text, verdict_status, outputs, summary_text, IsCheckText, check_status, IsClassifyText, classify_status, IsQuestionText, question_status, IsLineTold}
 use Rattle.cli.specs.Writing.{IsClassified, IsFaultOf, Texts}
 use Rattle.cli.specs.declared.fault.CheckFault.{CheckFault}
 use Rattle.cli.specs.declared.fault.ClassifyFault.{ClassifyFault}
@@ -18,6 +19,14 @@ use Rattle.cli.specs.declared.fault.ClassifyFault.TheVariants.{Io}
 use Rattle.device.specs.declared.device.Sink as sinks
 use Rattle.program.specs.declared.limits.Limits.{Limits}
 use Rattle.program.specs.declared.status.Status.TheVariants as statuses
+use Rattle.questions.specs.Answered as asking
+use Rattle.questions.specs.Answered.{AnswersInstances, AnswersWhy}
+use Rattle.questions.specs.declared.fault.QuestionFault.{QuestionFault}
+use Rattle.questions.specs.declared.form.Form.{Form}
+use Rattle.questions.specs.declared.form.Form.TheVariants.{Graph, Lines}
+use Rattle.reasons.specs.declared.asked.Asked.{Asked}
+use Rattle.reasons.specs.declared.asked.Asked.TheVariants.{Class, Individual}
+use Rattle.session.specs.Asking.{class_name, subject_name}
 use Rattle.system_files.specs.Contents.{Content}
 use Rattle.system_files.specs.declared.files.Files as files
 
@@ -99,9 +108,45 @@ IsCheckRun paths bytes content old new status =
     × IsAnswered old new (verdict_text o verdict) (verdict_status verdict) status)
     ⊎ ((fault : CheckFault) × IsCheckFault bytes (content paths.document.now) fault × (new.out ≡ old.out) × IsTold old.err new.err (IsCheckText paths bytes fault) (check_status fault) status)
 
+-- a run of `instances`: the individuals of the class are printed; or a fault is told
+abbrev pub IsInstancesRun : (path class : List ℕ) → (facts bytes : ℕ) → Content → (old new : Output) → (status : ℕ) → Type 0
+IsInstancesRun path class facts bytes content old new status =
+    ((text : List ℕ) × AnswersInstances bytes (content path) class text × IsAnswered old new text statuses.Done status)
+    ⊎ ((fault : QuestionFault) × asking.IsFaultOf bytes facts (content path) (class_name class ∷ []) fault × (new.out ≡ old.out) × IsTold old.err new.err (IsQuestionText path bytes facts fault) (question_status fault) status)
+
+-- what a question asks about
+abbrev pub asked_by : Question → Asked
+asked_by q = if q.individual then Individual q.subject else Class q.subject
+
+-- .. and in which form it is answered
+abbrev pub form_of : Question → Form
+form_of q = if q.dot then Graph else Lines
+
+-- a run of `explain`: why the subject is in the class, or is not, is printed; or a fault is told
+abbrev pub IsExplainRun : Question → (facts bytes : ℕ) → Content → (old new : Output) → (status : ℕ) → Type 0
+IsExplainRun q facts bytes content old new status =
+    ((text : List ℕ) × AnswersWhy bytes (content q.document.now) (asked_by q) q.class.now (form_of q) text × IsAnswered old new text statuses.Done status)
+    ⊎ ((fault : QuestionFault) × asking.IsFaultOf bytes facts (content q.document.now) (subject_name (asked_by q) ∷ class_name q.class.now ∷ []) fault × (new.out ≡ old.out)
+    × IsTold old.err new.err (IsQuestionText q.document.now bytes facts fault) (question_status fault) status)
+
+-- how many bytes the document of a task may have, and how many facts may be drawn: a check has no limit of these of its own
+abbrev pub max_bytes_of : Task → ℕ
+max_bytes_of (Classify paths facts bytes) = bytes
+max_bytes_of (Check paths bytes) = bytes
+max_bytes_of (Instances document class facts bytes) = bytes
+max_bytes_of (Explain question facts bytes) = bytes
+
+abbrev pub max_facts_of : Task → ℕ
+max_facts_of (Classify paths facts bytes) = facts
+max_facts_of (Check paths bytes) = most_facts
+max_facts_of (Instances document class facts bytes) = facts
+max_facts_of (Explain question facts bytes) = facts
+
 abbrev pub IsTaskRun : Task → Bool → (content content' : Content) → (old new : Output) → (status : ℕ) → Type 0
 IsTaskRun (Classify paths facts bytes) known content content' old new status = IsClassifyRun paths facts bytes known content content' old new status
 IsTaskRun (Check paths bytes) known content content' old new status = IsCheckRun paths bytes content old new status
+IsTaskRun (Instances document class facts bytes) known content content' old new status = IsInstancesRun document.now class.now facts bytes content old new status
+IsTaskRun (Explain question facts bytes) known content content' old new status = IsExplainRun question facts bytes content old new status
 
 -- a run of the program: of the task that the words ask for; or the words are no task, which is told
 abbrev pub IsPerformed : List Text → Bool → (content content' : Content) → (old new : Output) → (status : ℕ) → Type 0

@@ -23,6 +23,8 @@ use Rattle.document.specs.declared.fault.DocumentFault.TheVariants.{TooLarge, Io
 use Rattle.program.specs.Status.{code_of}
 use Rattle.program.specs.declared.status.Status.{Status}
 use Rattle.program.specs.declared.status.Status.TheVariants as statuses
+use Rattle.questions.specs.declared.fault.QuestionFault.{QuestionFault}
+use Rattle.questions.specs.declared.fault.QuestionFault.TheVariants as asking
 
 -- ---- what standard output and standard error show
 
@@ -147,6 +149,19 @@ abbrev pub IsCheckText : Paths → (max_bytes : ℕ) → CheckFault → List ℕ
 IsCheckText paths bytes (checking.Document fault) text = IsDocumentText paths.document.now bytes fault text
 IsCheckText paths bytes checking.Memory text = text ≡ out_of_memory
 IsCheckText paths bytes (checking.Io n) text = text ≡ cannot_read (read_path paths n)
+
+abbrev pub question_status : QuestionFault → Status
+question_status (asking.Document fault) = status_of fault
+question_status asking.Limit = statuses.Limit
+question_status (asking.UnknownName name) = statuses.Usage
+question_status asking.Memory = statuses.Memory
+
+-- the text is told of a question about the document at the path that is not answered
+abbrev pub IsQuestionText : (path : List ℕ) → (max_bytes max_facts : ℕ) → QuestionFault → List ℕ → Type 0
+IsQuestionText path bytes facts (asking.Document fault) text = IsDocumentText path bytes fault text
+IsQuestionText path bytes facts asking.Limit text = text ≡ codes "limit: more than " ++ (decimal facts ++ codes " facts\n")
+IsQuestionText path bytes facts (asking.UnknownName name) text = text ≡ codes "unknown name <" ++ (name.now ++ codes ">\n")
+IsQuestionText path bytes facts asking.Memory text = text ≡ out_of_memory
 
 abbrev pub line_status : LineFault → Status
 line_status (line.Line error) = statuses.Usage

@@ -3,6 +3,7 @@
 
 ghost use Rattle.cli.specs.Theorems.{EveryDocumentIsClassified, WhatIsWrittenIsAccepted, WrittenFilesAreAccepted};
 
+mod asking;
 mod checking;
 mod classifying;
 mod fault;
@@ -14,7 +15,7 @@ pub use cert_check::{Reason, Verdict};
 pub use checking::check_document;
 pub use classification::Summary;
 pub use classifying::classify_document;
-pub use command_line::{LineFault, Paths, Task, task};
+pub use command_line::{LineFault, Paths, Question, Task, task};
 pub use document::{DocumentFault, Limits, read_document};
 pub use fault::{CheckFault, ClassifyFault};
 pub use run::perform;

@@ -1,6 +1,6 @@
 //! What the program prints, and its statuses.
 ghost use Rattle.cli.specs.Devices.{seen};
-ghost use Rattle.cli.specs.Printed.{IsPrinted, IsToldMessage, IsAnsweredMessage, IsDocumentText, IsClassifyText, IsCheckText, classify_status, check_status, name_at, outputs, reason_text as text_of_reason, summary_text, verdict_text, verdict_status, written_path as path_written, read_path as path_read, out_of_memory};
+ghost use Rattle.cli.specs.Printed.{IsPrinted, IsToldMessage, IsAnsweredMessage, IsDocumentText, IsClassifyText, IsCheckText, IsQuestionText, classify_status, check_status, question_status, name_at, outputs, reason_text as text_of_reason, summary_text, verdict_text, verdict_status, written_path as path_written, read_path as path_read, out_of_memory};
 ghost use Rattle.document.specs.Printed.{status_of};
 ghost use Rattle.std.specs.Prelude.{◌≡◌, ℕ, IfOk, Ok, map, string_bytes};
 
@@ -12,6 +12,7 @@ use command_line::Paths;
 use device::{Sink, write_all};
 use document::{DocumentFault, Limits};
 use program::Status;
+use questions::QuestionFault;
 use std::alloc::{AllocError, Global};
 
 /// A text for standard output or standard error, and the status that goes with it.
@@ -21,14 +22,21 @@ pub(crate) struct Message {
     pub status: Status,
 }
 
+/// Prints the bytes and gives the status; where the sink fails, that of a file.
+pub(crate) fn print_bytes<W: Sink>(sink: &mut W, bytes: &[u8], status: Status) -> u8
+    ensures { IsPrinted (seen W.Sink sink.old) (seen W.Sink sink.new) bytes.now status result }
+{
+    match write_all(sink, bytes) {
+        Ok(()) => status.code(),
+        Err(_) => Status::File.code(),
+    }
+}
+
 /// Prints the text and gives the status; where the sink fails, that of a file.
 pub(crate) fn print<W: Sink>(sink: &mut W, text: &str, status: Status) -> u8
     ensures { IsPrinted (seen W.Sink sink.old) (seen W.Sink sink.new) text.now status result }
 {
-    match write_all(sink, text.as_bytes()) {
-        Ok(()) => status.code(),
-        Err(_) => Status::File.code(),
-    }
+    print_bytes(sink, text.as_bytes(), status)
 }
 
 /// Tells that there is no memory.
@@ -172,6 +180,35 @@ pub(crate) fn check_message(
             let path = read_path(paths, *number);
             message_of(format!(in alloc; "cannot read {path}\n"), Status::File)
         }
+    }
+}
+
+/// What to tell where a question about the document at the path is not answered.
+pub(crate) fn question_message(
+    alloc: Global,
+    fault: &QuestionFault<'_>,
+    path: &str,
+    limits: &Limits,
+) -> Result<Message, AllocError>
+    ensures { IfOk result (λ m. IsQuestionText path.now limits.now.max_bytes limits.now.max_facts fault.now (string_bytes m.text) × (m.status ≡ question_status fault.now)) }
+{
+    match fault {
+        QuestionFault::Document(fault) => document_message(alloc, fault, path, limits),
+        QuestionFault::Limit => {
+            let most = limits.max_facts;
+            message_of(
+                format!(in alloc; "limit: more than {most} facts\n"),
+                Status::Limit,
+            )
+        }
+        QuestionFault::UnknownName(name) => message_of(
+            format!(in alloc; "unknown name <{name}>\n"),
+            Status::Usage,
+        ),
+        QuestionFault::Memory => message_of(
+            String::from_str(alloc, "out of memory\n"),
+            Status::Memory,
+        ),
     }
 }
 

@@ -1,11 +1,12 @@
 //! A whole run of the program.
 ghost use Rattle.cli.specs.Devices.{seen};
-ghost use Rattle.cli.specs.Performed.{AskForNoClassification, Classifies, IsCheckRun, Performs};
+ghost use Rattle.cli.specs.Performed.{AskForNoClassification, Classifies, IsCheckRun, Performs, max_bytes_of, max_facts_of};
 ghost use Rattle.cli.specs.Printed.{IsLineTold, outputs};
 ghost use Rattle.cli.specs.Stored.{HasFresh};
 ghost use Rattle.std.specs.Io.KnownBytes.{Keeps};
 ghost use Rattle.std.specs.Prelude.{◌≡◌, ℕ, List, IfOk, map};
 
+use crate::asking::{perform_explain, perform_instances};
 use crate::checking::checked;
 use crate::classifying::classify_document;
 use crate::printing::{
@@ -148,6 +149,30 @@ fn refuse<E: Sink>(alloc: Global, fault: &LineFault, err: &mut E) -> u8
     }
 }
 
+/// How many bytes the document may have.
+fn max_bytes(task: &Task<'_>) -> u64
+    ensures { result ≡ max_bytes_of task.now }
+{
+    match *task {
+        Task::Classify { max_bytes, .. } => max_bytes,
+        Task::Check { max_bytes, .. } => max_bytes,
+        Task::Instances { max_bytes, .. } => max_bytes,
+        Task::Explain { max_bytes, .. } => max_bytes,
+    }
+}
+
+/// How many facts may be drawn: a check draws none, and has the greatest number.
+fn max_facts(task: &Task<'_>) -> u64
+    ensures { result ≡ max_facts_of task.now }
+{
+    match *task {
+        Task::Classify { max_facts, .. } => max_facts,
+        Task::Check { .. } => MOST_FACTS,
+        Task::Instances { max_facts, .. } => max_facts,
+        Task::Explain { max_facts, .. } => max_facts,
+    }
+}
+
 /// Does what the words ask for, the first being the program's name: reads and writes the files, prints to `out` and
 /// `err`, and gives the exit status.
 pub fn perform<F: Files, O: Sink, E: Sink>(
@@ -163,21 +188,25 @@ pub fn perform<F: Files, O: Sink, E: Sink>(
     // Only a classification writes files.
     ensures untouched { AskForNoClassification (map (λ w. w.now) words.entry.now) → files.new ≡ files.old }
 {
-    match task(alloc, words) {
-        Ok(
-            Task::Classify {
-                paths,
-                max_facts,
-                max_bytes,
-            },
-        ) => match Limits::new(max_bytes, max_facts) {
-            Some(limits) => perform_classify(alloc, &paths, &limits, files, out, err, state),
-            None => unreachable!(),
-        },
-        Ok(Task::Check { paths, max_bytes }) => match Limits::new(max_bytes, MOST_FACTS) {
-            Some(limits) => perform_check(alloc, &paths, &limits, files, out, err, state),
-            None => unreachable!(),
-        },
-        Err(fault) => refuse(alloc, &fault, err),
+    let task = match task(alloc, words) {
+        Ok(task) => task,
+        Err(fault) => return refuse(alloc, &fault, err),
+    };
+    let Some(limits) = Limits::new(max_bytes(&task), max_facts(&task)) else {
+        unreachable!()
+    };
+    match task {
+        Task::Classify { paths, .. } => {
+            perform_classify(alloc, &paths, &limits, files, out, err, state)
+        }
+        Task::Check { paths, .. } => perform_check(alloc, &paths, &limits, files, out, err, state),
+        Task::Instances {
+            document,
+            class,
+            ..
+        } => perform_instances(alloc, document, class, &limits, files, out, err, state),
+        Task::Explain { question, .. } => {
+            perform_explain(alloc, &question, &limits, files, out, err, state)
+        }
     }
 }

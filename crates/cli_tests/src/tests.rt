@@ -1,5 +1,6 @@
 //! Whole runs over files in memory, on documents worked out by hand.
 
+mod asking;
 mod checking;
 mod failing;
 mod hierarchies;

@@ -1,0 +1,27 @@
+-- What is answered of a source's bytes is answered of those of its file.
+use Rattle.std.proofs.Common.{ℕ, List, Option}
+use Rattle.std.specs.Io.KnownBytes.{Keeps}
+use Rattle.axioms.specs.Expression.{Iri}
+use Rattle.axioms.specs.Numbered.{Ontology}
+use Rattle.axioms.specs.declared.terms.Kind.{Kind}
+use Rattle.cli.proofs.Kept.{reads_file, refuses_file}
+use Rattle.questions.specs.Answered.{AnswersInstances, AnswersWhy, IsFaultOf, IsReadAs}
+use Rattle.questions.specs.declared.fault.QuestionFault.{QuestionFault}
+use Rattle.questions.specs.declared.fault.QuestionFault.TheVariants.{Document, Limit, UnknownName, Memory}
+use Rattle.questions.specs.declared.form.Form.{Form}
+use Rattle.reasons.specs.declared.asked.Asked.{Asked}
+
+read_as_file : (file left : Option (List ℕ)) (most : ℕ) (o : Ontology) → Keeps file left → IsReadAs most left o → IsReadAs most file o
+read_as_file file left most o kept is = record { reads = reads_file file left most o kept is.reads; taken = is.taken }
+
+pub instances_of_file : (file left : Option (List ℕ)) (most : ℕ) (class text : List ℕ) → Keeps file left → AnswersInstances most left class text → AnswersInstances most file class text
+instances_of_file file left most class text kept is = (is.0, read_as_file file left most is.0 kept is.1, is.2)
+
+pub why_of_file : (file left : Option (List ℕ)) (most : ℕ) (asked : Asked) (class : List ℕ) (form : Form) (text : List ℕ) → Keeps file left → AnswersWhy most left asked class form text → AnswersWhy most file asked class form text
+why_of_file file left most asked class form text kept is = (is.0, read_as_file file left most is.0 kept is.1, is.2)
+
+pub question_fault_of_file : (file left : Option (List ℕ)) (most facts : ℕ) (names : List (Kind × Iri)) (fault : QuestionFault) → Keeps file left → IsFaultOf most facts left names fault → IsFaultOf most facts file names fault
+question_fault_of_file file left most facts names (Document fault) kept is = refuses_file file left most fault kept is
+question_fault_of_file file left most facts names Limit kept is = (is.0, read_as_file file left most is.0 kept is.1, is.2)
+question_fault_of_file file left most facts names (UnknownName name) kept is = (is.0, read_as_file file left most is.0 kept is.1, is.2)
+question_fault_of_file file left most facts names Memory kept is = (is.0, read_as_file file left most is.0 kept is.1)

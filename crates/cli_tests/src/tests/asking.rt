@@ -1,0 +1,262 @@
+//! Runs that answer a question about a document, where no file can be written.
+
+use super::*;
+
+const SUBCLASS: &str = "Prefix(:=<x:>) Ontology(SubClassOf(:A :B))";
+
+const INDIVIDUALS: &str =
+    "Prefix(:=<x:>) Ontology(SubClassOf(:A :B) ClassAssertion(:A :a) ObjectPropertyAssertion(:r :a :b) ObjectPropertyDomain(:r :C) Declaration(NamedIndividual(:c)))";
+
+const REFLEXIVE: &str =
+    "Prefix(:=<x:>) Ontology(ReflexiveObjectProperty(:q) SubObjectPropertyOf(:q :p) EquivalentClasses(:B ObjectSomeValuesFrom(:p :A)))";
+
+const CONTRADICTION: &str =
+    "Prefix(:=<x:>) Ontology(Declaration(Class(:A)) SubClassOf(owl:Thing owl:Nothing))";
+
+/// A run on a document: its words behind the name of the program, its status, and what it prints, or tells where it fails.
+struct Row {
+    case: &'static str,
+    document: &'static str,
+    words: &'static [&'static str],
+    status: u8,
+    text: &'static str,
+}
+
+const MEMBERS: &[Row] = &[
+    Row {
+        case: "one individual",
+        document: INDIVIDUALS,
+        words: &["elc", "instances", "doc", "x:B"],
+        status: 0,
+        text: "<x:a>\n",
+    },
+    Row {
+        case: "all individuals in byte order",
+        document: INDIVIDUALS,
+        words: &[
+            "elc",
+            "instances",
+            "doc",
+            "http://www.w3.org/2002/07/owl#Thing",
+        ],
+        status: 0,
+        text: "<x:a>\n<x:b>\n<x:c>\n",
+    },
+    Row {
+        case: "no individual",
+        document: SUBCLASS,
+        words: &["elc", "instances", "doc", "x:B"],
+        status: 0,
+        text: "",
+    },
+    Row {
+        case: "as many facts as the limit",
+        document: INDIVIDUALS,
+        words: &["elc", "instances", "doc", "x:C", "--max-facts", "17"],
+        status: 0,
+        text: "<x:a>\n",
+    },
+    Row {
+        case: "more facts than the limit",
+        document: INDIVIDUALS,
+        words: &["elc", "instances", "doc", "x:C", "--max-facts", "16"],
+        status: 5,
+        text: "limit: more than 16 facts\n",
+    },
+    Row {
+        case: "more bytes than the limit",
+        document: SUBCLASS,
+        words: &["elc", "instances", "doc", "x:A", "--max-bytes", "41"],
+        status: 5,
+        text: "limit: more than 41 bytes\n",
+    },
+    Row {
+        case: "an unknown class",
+        document: SUBCLASS,
+        words: &["elc", "instances", "doc", "x:Q"],
+        status: 2,
+        text: "unknown name <x:Q>\n",
+    },
+    Row {
+        case: "an individual is no class",
+        document: INDIVIDUALS,
+        words: &["elc", "instances", "doc", "x:a"],
+        status: 2,
+        text: "unknown name <x:a>\n",
+    },
+    Row {
+        case: "no document",
+        document: SUBCLASS,
+        words: &["elc", "instances", "other", "x:A"],
+        status: 6,
+        text: "cannot read other\n",
+    },
+    Row {
+        case: "a refused document",
+        document: "Ontology(",
+        words: &["elc", "instances", "doc", "x:A"],
+        status: 3,
+        text: "P2 at byte 9\n",
+    },
+];
+
+const REASONS: &[Row] = &[
+    Row {
+        case: "it follows",
+        document: SUBCLASS,
+        words: &["elc", "explain", "doc", "x:A", "x:B"],
+        status: 0,
+        text: "yes\n1. sub <x:A> <x:A> by K1\n2. sub <x:A> <x:B> by K4 axiom 1 from 1\n",
+    },
+    Row {
+        case: "it does not follow",
+        document: SUBCLASS,
+        words: &["elc", "explain", "doc", "x:B", "x:A"],
+        status: 0,
+        text: "no\ndomain 1\nclass <x:B> 0\nelement 0\n",
+    },
+    Row {
+        case: "it does not follow, by pairs of a reflexive property",
+        document: REFLEXIVE,
+        words: &["elc", "explain", "doc", "x:B", "x:A"],
+        status: 0,
+        text: "no\ndomain 2\nclass <x:B> 0 1\nclass <x:A> 1\npair <x:q> 0 0\npair <x:q> 1 1\npair <x:p> 0 0\npair <x:p> 0 1\npair <x:p> 1 1\nelement 0\n",
+    },
+    Row {
+        case: "it does not follow, as a graph",
+        document: SUBCLASS,
+        words: &["elc", "explain", "doc", "x:B", "x:A", "--dot"],
+        status: 0,
+        text: "digraph refutation {\n  node [shape=ellipse];\n  0 [label=\"0\\n<x:B>\", peripheries=2];\n}\n",
+    },
+    Row {
+        case: "an individual",
+        document: INDIVIDUALS,
+        words: &["elc", "explain", "doc", "x:a", "x:A", "--individual"],
+        status: 0,
+        text: "yes\n1. sub individual <x:a> <x:A> by K15 axiom 2\n",
+    },
+    Row {
+        case: "an individual is no class",
+        document: INDIVIDUALS,
+        words: &["elc", "explain", "doc", "x:a", "x:A"],
+        status: 2,
+        text: "unknown name <x:a>\n",
+    },
+    Row {
+        case: "a class is no individual",
+        document: SUBCLASS,
+        words: &["elc", "explain", "doc", "x:A", "x:B", "--individual"],
+        status: 2,
+        text: "unknown name <x:A>\n",
+    },
+    Row {
+        case: "the first unknown name",
+        document: SUBCLASS,
+        words: &["elc", "explain", "doc", "x:Y", "x:Z"],
+        status: 2,
+        text: "unknown name <x:Y>\n",
+    },
+    Row {
+        case: "the class is unknown",
+        document: SUBCLASS,
+        words: &["elc", "explain", "doc", "x:A", "x:Z", "--dot"],
+        status: 2,
+        text: "unknown name <x:Z>\n",
+    },
+    Row {
+        case: "more facts than the limit",
+        document: SUBCLASS,
+        words: &["elc", "explain", "doc", "x:A", "x:B", "--max-facts", "1"],
+        status: 5,
+        text: "limit: more than 1 facts\n",
+    },
+    Row {
+        case: "no document",
+        document: SUBCLASS,
+        words: &["elc", "explain", "other", "x:A", "x:B"],
+        status: 6,
+        text: "cannot read other\n",
+    },
+    Row {
+        case: "a refused document",
+        document: "Ontology(SubClassOf(<x:A>))",
+        words: &["elc", "explain", "doc", "x:A", "x:A"],
+        status: 3,
+        text: "F3 at byte 9\n",
+    },
+];
+
+/// Whether the run ends so.
+fn is_so<R: AllocGlobal + RandomSource>(rt: &R, row: &Row) -> Result<bool, Fail> {
+    let run = alone(rt, row.words, row.document.as_bytes())?;
+    let (out, err) = if row.status == 0 {
+        (row.text, "")
+    } else {
+        ("", row.text)
+    };
+    Ok(is_run(&run, row.status, out, err))
+}
+
+#[test]
+fn individuals_of_a_class(rt: HostRuntime) -> Result<(), Fail> {
+    for row in MEMBERS {
+        assert!(rt; is_so(&rt, row)?, "{}", row.case);
+    }
+    Ok(())
+}
+
+#[test]
+fn reasons(rt: HostRuntime) -> Result<(), Fail> {
+    for row in REASONS {
+        assert!(rt; is_so(&rt, row)?, "{}", row.case);
+    }
+    Ok(())
+}
+
+#[test]
+fn words_without_a_question(rt: HostRuntime) -> Result<(), Fail> {
+    let without_class = ["elc", "explain", "doc", "x:A"];
+    assert!(rt; status(&rt, &without_class, SUBCLASS.as_bytes())? == 2);
+    let unknown_flag = ["elc", "instances", "doc", "x:A", "--individual"];
+    assert!(rt; status(&rt, &unknown_flag, SUBCLASS.as_bytes())? == 2);
+    Ok(())
+}
+
+/// Whether the run on the document ends well, its text begins with `first`, and `last` stands in its last line.
+fn runs_from_to<R: AllocGlobal + RandomSource>(
+    rt: &R,
+    words: &[&str],
+    document: &str,
+    first: &str,
+    last: &str,
+) -> Result<bool, Fail> {
+    let run = alone(rt, words, document.as_bytes())?;
+    let Ok(text) = str::from_utf8(&run.out) else {
+        return Ok(false);
+    };
+    let is_last = text
+        .trim_end()
+        .rsplit_once('\n')
+        .is_some_and(|(_, line)| line.contains(last));
+    Ok(run.status == 0 && run.err.is_empty() && text.starts_with(first) && is_last)
+}
+
+#[test]
+fn a_contradiction(rt: HostRuntime) -> Result<(), Fail> {
+    let words = ["elc", "explain", "doc", "x:A", "x:A"];
+    let last =
+        " sub <http://www.w3.org/2002/07/owl#Thing> <http://www.w3.org/2002/07/owl#Nothing> ";
+    let is_shown = runs_from_to(&rt, &words, CONTRADICTION, "contradictory\n", last)?;
+    assert!(rt; is_shown);
+    Ok(())
+}
+
+#[test]
+fn graphs(rt: HostRuntime) -> Result<(), Fail> {
+    let yes = ["elc", "explain", "doc", "x:A", "x:B", "--dot"];
+    assert!(rt; runs_from_to(&rt, &yes, SUBCLASS, "digraph derivation {\n", "}")?);
+    let no = ["elc", "explain", "--dot", "doc", "x:B", "x:A"];
+    assert!(rt; runs_from_to(&rt, &no, REFLEXIVE, "digraph refutation {\n", "}")?);
+    Ok(())
+}
