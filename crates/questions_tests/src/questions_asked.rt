@@ -151,7 +151,7 @@ const WHYS: &[Why] = &[
         class: "x:A",
         form: Form::Lines,
         facts: 100,
-        wanted: Wanted::Text("yes\n1. sub individual <x:A> <x:A> by K18 axiom 1\n"),
+        wanted: Wanted::Text("yes\n1. sub individual <x:A> <x:A> by K15 axiom 1\n"),
     },
     Why {
         case: "the subject is told before the class",
