@@ -82,7 +82,7 @@ fn is_refuted(
 }
 
 /// Whether the explanation is judged right.
-pub fn is_right_of(
+pub(crate) fn is_right_of(
     alloc: Global,
     ontology: &Ontology,
     found: Explanation,
