@@ -1,12 +1,13 @@
 -- What an index lists.
-use Rattle.std.specs.Prelude.{◌≡◌, ℕ, ◌⊎◌, List, slice_get, Some}
+use Rattle.std.specs.Prelude.{◌≡◌, ℕ, ◌⊎◌, List, [], ◌∷◌, ◌++◌, slice_get, Some}
 use Rattle.std.specs.List.{Contains}
 use Rattle.facts.specs.declared.contexts.Context.{Context}
 use Rattle.facts.specs.declared.contexts.Fact.{Fact}
 use Rattle.facts.specs.declared.contexts.Fact.TheVariants.{In, Edge}
 use Rattle.fact_index.specs.declared.by_context.ByContext.{ByContext}
 use Rattle.fact_index.specs.declared.index.Index.{Index}
-use Rattle.fact_index.specs.Contexts.{at_context}
+use Rattle.fact_index.specs.Contexts.{at_context, IsLast}
+use Rattle.fact_index.specs.Parts.{ArePartOf}
 
 -- the fact puts a class into the context
 abbrev pub IsIn : Context → Fact → Type 0
@@ -23,10 +24,11 @@ abbrev pub IsInto : Context → Fact → Type 0
 IsInto x (In a y) = ⊥
 IsInto x (Edge y r z) = z ≡ x
 
--- nothing is lost, and at most that fact is listed more
+-- nothing is lost, and at most that fact is listed more, at the end of lists of which it is not the last
 pub record MayListIn (has : Context → Fact → Type 0) (old new : ByContext) (number : ℕ) (fact : Fact) : Type 0 where
   pub kept : (x : Context) (n : ℕ) → Contains (at_context old x) n → Contains (at_context new x) n
   pub only : (x : Context) (n : ℕ) → Contains (at_context new x) n → Contains (at_context old x) n ⊎ (has x fact × (n ≡ number))
+  pub last : (x : Context) → (at_context new x ≡ at_context old x) ⊎ (has x fact × (IsLast (at_context old x) number → ⊥) × (at_context new x ≡ at_context old x ++ number ∷ []))
 
 pub record MayList (old new : Index) (number : ℕ) (fact : Fact) : Type 0 where
   pub classes : MayListIn IsIn old.classes new.classes number fact
@@ -39,10 +41,11 @@ pub record Lists (index : Index) (number : ℕ) (fact : Fact) : Type 0 where
   pub from : (x : Context) → IsFrom x fact → Contains (at_context index.from x) number
   pub into : (x : Context) → IsInto x fact → Contains (at_context index.into x) number
 
--- exactly the facts of these numbers are listed: those of the first list are, and none but those of the second
+-- exactly the facts of these numbers are listed: those of the first list are, and none but those of the second, in its order
 pub record ListsIn (has : Context → Fact → Type 0) (facts : List Fact) (whole most : List ℕ) (table : ByContext) : Type 0 where
   pub all : (x : Context) (n : ℕ) (f : Fact) → Contains whole n → slice_get facts n ≡ Some f → has x f → Contains (at_context table x) n
   pub only : (x : Context) (n : ℕ) → Contains (at_context table x) n → Contains most n × (f : Fact) × (slice_get facts n ≡ Some f) × has x f
+  pub order : (x : Context) → ArePartOf (at_context table x) most
 
 pub record IsIndex (facts : List Fact) (whole most : List ℕ) (index : Index) : Type 0 where
   pub classes : ListsIn IsIn facts whole most index.classes

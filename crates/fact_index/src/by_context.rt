@@ -1,6 +1,6 @@
 //! Lists of numbers by context.
-ghost use Rattle.std.specs.Prelude.{◌≡◌, [], OnOk, OnErr};
-ghost use Rattle.fact_index.specs.Contexts.{at_context, AddsAt, IsSameAt};
+ghost use Rattle.std.specs.Prelude.{◌≡◌, [], OnOk, OnErr, false, true};
+ghost use Rattle.fact_index.specs.Contexts.{at_context, AddsAt, EndsAt, IsLast, IsSameAt, PutsLastAt};
 
 use facts::Context;
 use number_table::Table;
@@ -11,6 +11,14 @@ use std::alloc::{AllocError, Global};
 pub struct ByContext {
     pub expressions: Table,
     pub individuals: Table,
+}
+
+/// Whether the number is the last of the list.
+fn is_last(list: &[u32], number: u32) -> bool
+    ensures yes { result ≡ true → IsLast list.now number }
+    ensures no { result ≡ false → IsLast list.now number → ⊥ }
+{
+    list.ends_with(&[number])
 }
 
 impl ByContext {
@@ -35,9 +43,10 @@ impl ByContext {
         }
     }
 
-    /// Adds a number to the list of a context. Fails where memory is refused; then each list is what it was.
-    pub fn add(&mut self, context: Context, number: u32) -> Result<(), AllocError>
+    /// Puts a number at the end of the list of a context. Fails where memory is refused; then each list is what it was.
+    fn put(&mut self, context: Context, number: u32) -> Result<(), AllocError>
         ensures ok { OnOk result (AddsAt self.old self.new context number) }
+        ensures last { OnOk result (PutsLastAt self.old self.new context number) }
         ensures err { OnErr result (IsSameAt self.old self.new) }
     {
         match context {
@@ -45,5 +54,18 @@ impl ByContext {
             Context::Individual(a) => self.individuals.add(a.0 as usize, number)?,
         }
         Ok(())
+    }
+
+    /// Adds a number at the end of the list of a context, unless it is the last there. Fails where memory is refused; then each
+    /// list is what it was.
+    pub fn add(&mut self, context: Context, number: u32) -> Result<(), AllocError>
+        ensures ok { OnOk result (AddsAt self.old self.new context number) }
+        ensures last { OnOk result (EndsAt self.old self.new context number) }
+        ensures err { OnErr result (IsSameAt self.old self.new) }
+    {
+        if is_last(self.of(context), number) {
+            return Ok(());
+        }
+        self.put(context, number)
     }
 }

@@ -48,7 +48,7 @@ impl Index {
         self.into.of(context)
     }
 
-    /// Lists a fact. Where memory is refused it may be listed in part.
+    /// Lists a fact, once where it was the last to be listed. Where memory is refused it may be listed in part.
     pub fn add(&mut self, number: u32, fact: Fact) -> Result<(), AllocError>
         ensures may { MayList self.old self.new number fact }
         ensures ok { OnOk result (Lists self.new number fact) }

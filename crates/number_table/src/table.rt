@@ -1,6 +1,6 @@
 //! Lists of numbers by the number of a key.
 ghost use Rattle.std.specs.Prelude.{◌≡◌, ◌<◌, [], ◌∷◌, ◌++◌, length, slice_set, OnOk, OnErr};
-ghost use Rattle.number_table.specs.Lists.{at, Adds, IsSame};
+ghost use Rattle.number_table.specs.Lists.{at, Adds, IsSame, PutsLast};
 
 use std::alloc::{AllocError, Global};
 use std::marker::Model;
@@ -74,6 +74,7 @@ impl Table {
     /// Adds a number to the list of the key. Fails where memory is refused; then each list is what it was.
     pub fn add(&mut self, key: usize, number: u32) -> Result<(), AllocError>
         ensures ok { OnOk result (Adds self.old self.new key number) }
+        ensures last { OnOk result (PutsLast self.old self.new key number) }
         ensures err { OnErr result (IsSame self.old self.new) }
     {
         while self.len() <= key {

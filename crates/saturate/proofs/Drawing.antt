@@ -13,6 +13,7 @@ use Rattle.saturate.specs.Derived.{Keeps, Derived, Grows}
 use Rattle.saturate.specs.Growing.{LoopIsDrawn}
 use Rattle.saturate.specs.Working.{AreAt, AllDrawn, DrawnAt, AreDrawn, IsEntered, Drawn, MeetEachOther, AreMet, AreMetBefore, AreMetBehind}
 use Rattle.saturate.proofs.Growth.{there_still}
+use Rattle.saturate.proofs.Sparing.{but_spared_still}
 use Rattle.saturate.proofs.Lists.{Contains-from_slice_get, one_value, take_push}
 
 -- facts stay where they are
@@ -65,27 +66,27 @@ drawn_still s older drawn condition form f gives = there_still s f (drawn condit
 pub entered_still : {k : Problem} {most : ℕ} {a b : Derived} → Grows k most a b → (x : Context) → IsEntered k x a.facts → IsEntered k x b.facts
 entered_still s x w = record { top = there_still s _ w.top; itself = λ e h. there_still s _ (w.itself e h); loops = all_still s _ _ w.loops }
 
-pub met_still : {k : Problem} {most : ℕ} {a b : Derived} → Grows k most a b → (f g : Fact) → MeetEachOther k f g a.facts → MeetEachOther k f g b.facts
-met_still s f g w = record { first = drawn_still s _ w.first; second = drawn_still s _ w.second }
+pub met_still : {k : Problem} {most : ℕ} {a b : Derived} → Grows k most a b → (f g : Fact) → MeetEachOther k f g a → MeetEachOther k f g b
+met_still s f g w = record { first = but_spared_still s (f ∷ g ∷ []) w.first; second = but_spared_still s (g ∷ f ∷ []) w.second }
 
-pub all_met_still : {k : Problem} {most : ℕ} {a b : Derived} → Grows k most a b → (f : Fact) (old : List Fact) (numbers : List ℕ) → AreMet k f old numbers a.facts → AreMet k f old numbers b.facts
+pub all_met_still : {k : Problem} {most : ℕ} {a b : Derived} → Grows k most a b → (f : Fact) (old : List Fact) (numbers : List ℕ) → AreMet k f old numbers a → AreMet k f old numbers b
 all_met_still s f old numbers met n there g at = met_still s f g (met n there g at)
 
 -- facts that were there later were there before, if they are asked about there
-pub met_earlier : {k : Problem} {most : ℕ} {a b : Derived} → Grows k most a b → (f : Fact) (numbers : List ℕ) (new : List Fact) → AreMet k f b.facts numbers new → AreMet k f a.facts numbers new
+pub met_earlier : {k : Problem} {most : ℕ} {a b : Derived} → Grows k most a b → (f : Fact) (numbers : List ℕ) (new : Derived) → AreMet k f b.facts numbers new → AreMet k f a.facts numbers new
 met_earlier s f numbers new met n there g at = met n there g (s.facts n g at)
 
 -- .. the same of what one of two gives in one order
-pub before_still : {k : Problem} {most : ℕ} {a b : Derived} → Grows k most a b → (f : Fact) (old : List Fact) (numbers : List ℕ) → AreMetBefore k f old numbers a.facts → AreMetBefore k f old numbers b.facts
-before_still s f old numbers met n there g at = drawn_still s (f ∷ g ∷ []) (met n there g at)
+pub before_still : {k : Problem} {most : ℕ} {a b : Derived} → Grows k most a b → (f : Fact) (old : List Fact) (numbers : List ℕ) → AreMetBefore k f old numbers a → AreMetBefore k f old numbers b
+before_still s f old numbers met n there g at = but_spared_still s (f ∷ g ∷ []) (met n there g at)
 
-pub behind_still : {k : Problem} {most : ℕ} {a b : Derived} → Grows k most a b → (f : Fact) (old : List Fact) (numbers : List ℕ) → AreMetBehind k f old numbers a.facts → AreMetBehind k f old numbers b.facts
-behind_still s f old numbers met n there g at = drawn_still s (g ∷ f ∷ []) (met n there g at)
+pub behind_still : {k : Problem} {most : ℕ} {a b : Derived} → Grows k most a b → (f : Fact) (old : List Fact) (numbers : List ℕ) → AreMetBehind k f old numbers a → AreMetBehind k f old numbers b
+behind_still s f old numbers met n there g at = but_spared_still s (g ∷ f ∷ []) (met n there g at)
 
-pub before_earlier : {k : Problem} {most : ℕ} {a b : Derived} → Grows k most a b → (f : Fact) (numbers : List ℕ) (new : List Fact) → AreMetBefore k f b.facts numbers new → AreMetBefore k f a.facts numbers new
+pub before_earlier : {k : Problem} {most : ℕ} {a b : Derived} → Grows k most a b → (f : Fact) (numbers : List ℕ) (new : Derived) → AreMetBefore k f b.facts numbers new → AreMetBefore k f a.facts numbers new
 before_earlier s f numbers new met n there g at = met n there g (s.facts n g at)
 
-pub behind_earlier : {k : Problem} {most : ℕ} {a b : Derived} → Grows k most a b → (f : Fact) (numbers : List ℕ) (new : List Fact) → AreMetBehind k f b.facts numbers new → AreMetBehind k f a.facts numbers new
+pub behind_earlier : {k : Problem} {most : ℕ} {a b : Derived} → Grows k most a b → (f : Fact) (numbers : List ℕ) (new : Derived) → AreMetBehind k f b.facts numbers new → AreMetBehind k f a.facts numbers new
 behind_earlier s f numbers new met n there g at = met n there g (s.facts n g at)
 
 -- the loops at the targets of the first so many facts, and of the next

@@ -1,8 +1,7 @@
 -- What holds of more forms and roots.
-use Rattle.std.proofs.Common.{◌≡◌, ◌↔◌, ℕ, zero, suc, ◌<◌, ◌≤◌, ◌⊎◌, inl, inr, ⊎_elim, List, [], ◌∷◌, ◌++◌, length, map, take, slice_get, Some, None, Option, Contains, refl, sym, ap, ap₂, ◌∙◌, subst, arith, length-append}
-use Rattle.std.specs.List.{AllByRecursion}
+use Rattle.std.proofs.Common.{◌≡◌, ℕ, zero, suc, ◌<◌, ◌⊎◌, inl, inr, ⊎_elim, List, [], ◌∷◌, ◌++◌, length, take, slice_get, Some, None, Option, Contains, refl, sym, ap, ap₂, ◌∙◌, subst, arith}
 use Rattle.std.proofs.lemmas.List.Elements.{Contains-append_left, Contains-append_cases}
-use Rattle.std.proofs.lemmas.Option.{none-some, same_Some, slice_get_within}
+use Rattle.std.proofs.lemmas.Option.{none-some, same_Some}
 use Rattle.normal_forms.specs.declared.forms.Form.{Form}
 use Rattle.normal_forms.specs.declared.forms.Form.TheVariants.{N1, N2, N3, N4, N5, N6, N7, N8, N9}
 use Rattle.normal_forms.specs.declared.forms.PropId2.{PropId2}
@@ -14,16 +13,18 @@ use Rattle.facts.specs.declared.contexts.Fact.TheVariants.{In, Edge}
 use Rattle.facts.specs.Closure.{Problem, IsContextBy, FromOne, FromTwo, Concludes, Gives, in_thing, in_itself, by_form, unsatisfiable, loop}
 use Rattle.facts.specs.Births.{Reason}
 use Rattle.facts.proofs.Premises.{no_three}
-use Rattle.saturate.specs.Asked.{Asks, IsAsked, IsAskedAt}
+use Rattle.saturate.specs.Asked.{Asks, IsAsked}
 use Rattle.saturate.specs.Derived.{Derived, IsDerived, Grows, Keeps}
 use Rattle.saturate.specs.Growing.{with_more, KeepsServed, HasBegun}
-use Rattle.saturate.specs.Working.{IsComplete, IsServed, Drawn}
-use Rattle.saturate.proofs.Lists.{Contains-from_slice_get, one_value}
+use Rattle.saturate.specs.Working.{IsCompleteButSpared, IsServed, AreSpared}
+use Rattle.saturate.proofs.Lists.{Contains-from_slice_get}
 use Rattle.saturate.proofs.Growth.{there_still}
+use Rattle.saturate.proofs.Sparing.{spared_still}
 use Rattle.saturate.specs.State.{IsState}
 use Rattle.saturate.specs.Queued.{Queued, option_list}
 use Rattle.fact_index.specs.declared.index.Index.{Index}
 use Rattle.fact_index.specs.Indexed.{IsIndex}
+use Rattle.fact_index.proofs.Parts.{part_same, part_more}
 use Rattle.saturate.proofs.Listing.{fewer}
 use Rattle.saturate.proofs.States.{was_there}
 
@@ -163,47 +164,74 @@ module _ (k : Problem) (forms : List Form) (roots : List Context) where
   two_before (N8 _ _) g h f u v w = absurd w
   two_before (N9 _ _ _) g h f u v w = absurd w
 
+  -- ---- what was spared is spared still
+
+  spared_more : (d : Derived) (older : List Fact) (o : Option ℕ) → AreSpared k d older o → AreSpared (with_more k forms roots) d older o
+  spared_more d [] o w = w
+  spared_more d (g ∷ []) o w = w
+  spared_more d (g ∷ h ∷ []) None w = w
+  spared_more d (g ∷ h ∷ []) (Some n) w = record {
+    property = w.property;
+    transitive = slice_get_more k.forms forms n (N6 w.property w.property w.property) w.transitive;
+    place = w.place;
+    there = w.there;
+    birth = w.birth;
+    born = w.born;
+    by = w.by;
+  }
+  spared_more d (g ∷ h ∷ i ∷ more) o w = w
+
   -- ---- so what served facts give is there still
 
   module _ {most : ℕ} {old new : Derived} (s : HasBegun (with_more k forms roots) most old new) (served : List ℕ)
-      (within : (n : ℕ) → Contains served n → n < length old.facts) (complete : IsComplete k old.facts served) (now : List ℕ) (keeps : KeepsServed (k.forms ++ forms) forms old.facts served now) where
+      (within : (n : ℕ) → Contains served n → n < length old.facts) (complete : IsCompleteButSpared k old served) (now : List ℕ) (keeps : KeepsServed (k.forms ++ forms) forms old.facts served now) where
     was_served : (f : Fact) → IsServed new.facts now f → (n : ℕ) × Contains served n × (slice_get old.facts n ≡ Some f) × Unasked f
     was_served f w =
         let before = (keeps w.0).0 w.1 in
         let at = was_there s.grows w.0 f (within w.0 before.0) w.2 in
         (w.0, before.0, at, λ asked. before.1 (f, at, asked))
 
+    alone : (g f : Fact) {c : ℕ} {o : Option ℕ} → IsServed old.facts served g → Gives k c o (g ∷ []) f → Contains new.facts f
+    alone g f {c} {o} w gives = ⊎_elim (λ there. there_still s.grows f there) (λ spared. absurd spared) (complete (g ∷ []) (w, tt) c o f gives)
+
     one : (g f : Fact) {c : ℕ} {o : Option ℕ} → IsServed new.facts now g → Gives (with_more k forms roots) c o (g ∷ []) f → Contains new.facts f
-    one g _ w (in_thing c) = let v = was_served g w in there_still s.grows _ (complete (g ∷ []) ((v.0, v.1, v.2), tt) 1 None _ (in_thing c))
-    one g _ w (in_itself c) = let v = was_served g w in there_still s.grows _ (complete (g ∷ []) ((v.0, v.1, v.2), tt) 1 None _ (in_itself c))
+    one g f w (in_thing c) = let v = was_served g w in alone g f (v.0, v.1, v.2) (in_thing c)
+    one g f w (in_itself c) = let v = was_served g w in alone g f (v.0, v.1, v.2) (in_itself c)
     one g f w (by_form n form at gives) =
         let v = was_served g w in
         ⊎_elim
-        (λ before. there_still s.grows f (complete (g ∷ []) ((v.0, v.1, v.2), tt) _ _ f (by_form n form before gives)))
+        (λ before. alone g f (v.0, v.1, v.2) (by_form n form before gives))
         (λ added. absurd (v.3 (form, added, asks_one form g f gives)))
         (slice_get_cases k.forms forms n form at)
     one g f w (unsatisfiable b) = absurd b
     one g f w (loop x n form at l c) = let v = was_served g w in s.loops v.0 g x v.2 c form (Contains-from_slice_get (k.forms ++ forms) n form at) f l
 
-    two : (g h f : Fact) {c : ℕ} {o : Option ℕ} → IsServed new.facts now g → IsServed new.facts now h → Gives (with_more k forms roots) c o (g ∷ h ∷ []) f → Contains new.facts f
+    -- what two facts were given is there still, or spared still
+    given_before : (g h f : Fact) {c : ℕ} {o : Option ℕ} → IsServed old.facts served g → IsServed old.facts served h → Gives k c o (g ∷ h ∷ []) f → Contains new.facts f ⊎ AreSpared (with_more k forms roots) new (g ∷ h ∷ []) o
+    given_before g h f {c} {o} w v gives = ⊎_elim
+        (λ there. inl (there_still s.grows f there))
+        (λ spared. inr (spared_still s.grows (g ∷ h ∷ []) o (spared_more old (g ∷ h ∷ []) o spared)))
+        (complete (g ∷ h ∷ []) (w, (v, tt)) c o f gives)
+
+    two : (g h f : Fact) {c : ℕ} {o : Option ℕ} → IsServed new.facts now g → IsServed new.facts now h → Gives (with_more k forms roots) c o (g ∷ h ∷ []) f → Contains new.facts f ⊎ AreSpared (with_more k forms roots) new (g ∷ h ∷ []) o
     two g h _ w v (in_thing c) = absurd c
     two g h _ w v (in_itself c) = absurd c
     two g h f w v (by_form n form at gives) =
         let a = was_served g w in
         let b = was_served h v in
         ⊎_elim
-        (λ before. there_still s.grows f (complete (g ∷ h ∷ []) ((a.0, a.1, a.2), ((b.0, b.1, b.2), tt)) _ _ f (by_form n form before (two_before form g h f a.3 b.3 gives))))
+        (λ before. given_before g h f (a.0, a.1, a.2) (b.0, b.1, b.2) (by_form n form before (two_before form g h f a.3 b.3 gives)))
         (λ added. ⊎_elim (λ asks. absurd (a.3 (form, added, asks))) (λ asks. absurd (b.3 (form, added, asks))) (asks_two form g h f gives))
         (slice_get_cases k.forms forms n form at)
     two g h f w v (unsatisfiable back) =
         let a = was_served g w in
         let b = was_served h v in
-        there_still s.grows f (complete (g ∷ h ∷ []) ((a.0, a.1, a.2), ((b.0, b.1, b.2), tt)) 8 None f (unsatisfiable back))
+        given_before g h f (a.0, a.1, a.2) (b.0, b.1, b.2) (unsatisfiable back)
     two g h f w v (loop x n form at l c) = absurd c
 
-    pub complete_still : IsComplete (with_more k forms roots) new.facts now
-    complete_still [] all c o f gives = s.given c o f gives
-    complete_still (g ∷ []) all c o f gives = one g f all.0 gives
+    pub complete_still : IsCompleteButSpared (with_more k forms roots) new now
+    complete_still [] all c o f gives = inl (s.given c o f gives)
+    complete_still (g ∷ []) all c o f gives = inl (one g f all.0 gives)
     complete_still (g ∷ h ∷ []) all c o f gives = two g h f all.0 all.1.0 gives
     complete_still (g ∷ h ∷ i ∷ rest) all c o f gives = absurd (no_three gives)
 
@@ -218,13 +246,13 @@ module _ (k : Problem) (forms : List Form) (roots : List Context) {j : Problem} 
     derived = begun.grows.derived;
     queued = omega (arith, queued, s.queued, begun.grows.longer);
     within = λ n c. omega (arith, s.within n ((keeps n).0 c).0, begun.grows.longer);
-    complete = subst (λ (i : Problem). IsComplete i new.facts r.served) (sym same)
+    complete = subst (λ (i : Problem). IsCompleteButSpared i new r.served) (sym same)
         (complete_still k forms roots (subst (λ (i : Problem). HasBegun i most old new) same begun) q.served s.within s.complete r.served
         (subst (λ (i : Problem). KeepsServed i.forms forms old.facts q.served r.served) same keeps));
   }
 
 pub listed_again : {facts : List Fact} {index : Index} (r : Queued) → IsIndex facts r.served r.served index → IsIndex facts r.served (r.served ++ option_list r.hand) index
-listed_again r s = fewer r.served (r.served ++ option_list r.hand) s (λ n c. c) (λ n c. Contains-append_left r.served (option_list r.hand) n c)
+listed_again r s = fewer r.served (r.served ++ option_list r.hand) s (λ n c. c) (part_more (option_list r.hand) (part_same r.served))
 
 -- ---- what was added is taken away again
 

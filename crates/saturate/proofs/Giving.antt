@@ -1,5 +1,5 @@
 -- Facts that give nothing with one another.
-use Rattle.std.proofs.Common.{◌≡◌, ℕ, List, [], ◌∷◌, slice_get, Some, refl, sym, ap, subst}
+use Rattle.std.proofs.Common.{◌≡◌, ℕ, [], ◌∷◌, slice_get, Some, refl, sym, ap, subst}
 use Rattle.normal_forms.specs.declared.forms.Form.{Form}
 use Rattle.normal_forms.specs.declared.forms.Form.TheVariants.{N1, N2, N3, N4, N5, N6, N7, N8, N9}
 use Rattle.normal_forms.specs.declared.forms.Class2.{Class2}
@@ -11,7 +11,8 @@ use Rattle.facts.specs.declared.contexts.Fact.TheVariants.{In, Edge}
 use Rattle.facts.specs.Closure.{Problem, FromTwo, Carries, in_thing, in_itself, by_form, unsatisfiable, loop, nothing}
 use Rattle.form_index.specs.Named.{class_key, property_key, by_first, by_second, by_filler, by_chain}
 use Rattle.saturate.specs.Visited.{GiveNothing, NoneUnder, IsEdge, IsBy, IsClassFact}
-use Rattle.saturate.specs.Working.{Drawn, MeetEachOther}
+use Rattle.saturate.specs.Derived.{Derived}
+use Rattle.saturate.specs.Working.{DrawnButSpared, MeetEachOther}
 
 -- two facts give something by a form, or owl:Nothing is carried back
 by_form_or_back : (k : Problem) (f g : Fact) → ((n : ℕ) (form : Form) (h : Fact) → slice_get k.forms n ≡ Some form → FromTwo k form f g h → ⊥) → ((h : Fact) → Carries f g h → ⊥) → GiveNothing k f g
@@ -57,7 +58,7 @@ filler k (N8 _ _) x y z r c h w = absurd w
 filler k (N9 _ _ _) x y z r c h w = absurd w
 
 -- from two edges, a property at or above that of the first
-beginning : (k : Problem) (form : Form) (x y z v : Context) (p q : PropId2) (h : Fact) → FromTwo k form (Edge x p y) (Edge z q v) h → (r : PropId2) × IsAtOrBelow k.forms p r × (by_chain form ≡ Some (property_key r))
+pub beginning : (k : Problem) (form : Form) (x y z v : Context) (p q : PropId2) (h : Fact) → FromTwo k form (Edge x p y) (Edge z q v) h → (r : PropId2) × IsAtOrBelow k.forms p r × (by_chain form ≡ Some (property_key r))
 beginning k (N1 _ _) x y z v p q h w = absurd w
 beginning k (N2 _ _ _) x y z v p q h w = absurd w
 beginning k (N3 _ _ _) x y z v p q h w = absurd w
@@ -99,11 +100,11 @@ no_order k a x y z r = by_form_or_back k (In a x) (Edge y r z) (λ n form h at w
 
 -- ---- so nothing is missing
 
-pub nothing_missing : (k : Problem) (f g : Fact) (facts : List Fact) → GiveNothing k f g → Drawn k (f ∷ g ∷ []) facts
+pub nothing_missing : (k : Problem) (f g : Fact) (facts : Derived) → GiveNothing k f g → DrawnButSpared k (f ∷ g ∷ []) facts
 nothing_missing k f g facts none condition form h gives = absurd (none condition form h gives)
 
 -- a class that is no operand meets a class
-pub no_operand : (k : Problem) (a : Class2) (x : Context) (g : Fact) (facts : List Fact) → NoneUnder by_first k.forms (class_key a) → NoneUnder by_second k.forms (class_key a) → IsClassFact g → MeetEachOther k (In a x) g facts
+pub no_operand : (k : Problem) (a : Class2) (x : Context) (g : Fact) (facts : Derived) → NoneUnder by_first k.forms (class_key a) → NoneUnder by_second k.forms (class_key a) → IsClassFact g → MeetEachOther k (In a x) g facts
 no_operand k a x (In b y) facts first second is = record {
   first = nothing_missing k (In a x) (In b y) facts (no_first k a b x y first);
   second = nothing_missing k (In b y) (In a x) facts (no_second k b a y x second);
@@ -111,12 +112,12 @@ no_operand k a x (In b y) facts first second is = record {
 no_operand k a x (Edge y r z) facts first second is = absurd is
 
 -- nothing is carried for a class along an edge
-pub not_carried : (k : Problem) (c : Class2) (z : Context) (g : Fact) (facts : List Fact) → (c ≡ nothing → ⊥) → NoneUnder by_filler k.forms (class_key c) → IsEdge g → Drawn k (g ∷ In c z ∷ []) facts
+pub not_carried : (k : Problem) (c : Class2) (z : Context) (g : Fact) (facts : Derived) → (c ≡ nothing → ⊥) → NoneUnder by_filler k.forms (class_key c) → IsEdge g → DrawnButSpared k (g ∷ In c z ∷ []) facts
 not_carried k c z (In b y) facts other none is = absurd is
 not_carried k c z (Edge x r y) facts other none is = nothing_missing k (Edge x r y) (In c z) facts (no_filler k x y z r c other none)
 
 -- no chain begins with an edge
-pub no_beginning : (k : Problem) (p : PropId2) (f g : Fact) (facts : List Fact) → IsBy p f → ((r : PropId2) → IsAtOrBelow k.forms p r → NoneUnder by_chain k.forms (property_key r)) → IsEdge g → Drawn k (f ∷ g ∷ []) facts
+pub no_beginning : (k : Problem) (p : PropId2) (f g : Fact) (facts : Derived) → IsBy p f → ((r : PropId2) → IsAtOrBelow k.forms p r → NoneUnder by_chain k.forms (property_key r)) → IsEdge g → DrawnButSpared k (f ∷ g ∷ []) facts
 no_beginning k p (In a x) g facts by none is = absurd by
 no_beginning k p (Edge x r y) (In b z) facts by none is = absurd is
 no_beginning k p (Edge x r y) (Edge z q v) facts by none is =

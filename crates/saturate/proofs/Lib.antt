@@ -1,9 +1,12 @@
 pub mod Lists
 pub mod Growth
+pub mod Sparing
+pub mod Joining
 pub mod Turns
 pub mod Drawing
 pub mod States
 pub mod Listing
+pub mod Exact
 pub mod Found
 pub mod Giving
 pub mod Visiting

@@ -8,11 +8,12 @@ use Rattle.facts.specs.Closure.{Problem, IsFact, AreFacts, given, none, more, in
 use Rattle.facts.proofs.Premises.{no_three}
 use Rattle.saturate.specs.Derived.{Derived, IsDerived, Grows, HasMoreFactsThan}
 use Rattle.saturate.specs.Queued.{Queued}
-use Rattle.saturate.specs.Working.{IsServed, IsClosure, Drawn, MeetEachOther}
+use Rattle.saturate.specs.Working.{IsServed, IsClosure, Drawn, DrawnButSpared, MeetEachOther}
 use Rattle.saturate.specs.State.{IsState}
-use Rattle.saturate.proofs.Lists.{one_value, slice_get_there}
+use Rattle.saturate.proofs.Lists.{one_value, slice_get_there, Contains-from_slice_get}
 use Rattle.saturate.proofs.Growth.{sound}
-use Rattle.saturate.proofs.Drawing.{drawn_still}
+use Rattle.saturate.proofs.Sparing.{all_drawn, but_spared_still}
+use Rattle.saturate.proofs.Joining.{all_joined}
 
 -- a fact that is there still, and was there before
 pub was_there : {k : Problem} {most : ℕ} {old new : Derived} → Grows k most old new → (n : ℕ) (f : Fact) → n < length old.facts → slice_get new.facts n ≡ Some f → slice_get old.facts n ≡ Some f
@@ -26,7 +27,7 @@ grown {k} {old = old} {new = new} {q = q} {r = r} s t low same = record {
   derived = t.derived;
   queued = omega (arith, low, t.longer);
   within = λ n c. omega (arith, within n c, t.longer);
-  complete = λ older served. drawn_still t older (s.complete older (were older served));
+  complete = λ older served. but_spared_still t older (s.complete older (were older served));
 }
   where
     within : (n : ℕ) → Contains r.served n → n < length old.facts
@@ -39,11 +40,11 @@ grown {k} {old = old} {new = new} {q = q} {r = r} s t low same = record {
 -- a fact is served, since what it gives with others is there
 module _ {k : Problem} {most : ℕ} {old new : Derived} {q : Queued} (s : IsState k old q) (t : Grows k most old new) (n : ℕ) (f : Fact) (at : slice_get old.facts n ≡ Some f)
     (alone : Drawn k (f ∷ []) new.facts)
-    (met : (m : ℕ) → Contains (q.served ++ n ∷ []) m → (g : Fact) → slice_get old.facts m ≡ Some g → MeetEachOther k f g new.facts) where
+    (met : (m : ℕ) → Contains (q.served ++ n ∷ []) m → (g : Fact) → slice_get old.facts m ≡ Some g → MeetEachOther k f g new) where
   within : (m : ℕ) → Contains (q.served ++ n ∷ []) m → m < length old.facts
   within m c = ⊎_elim (s.within m) (λ e. subst (λ (i : ℕ). i < length old.facts) e (slice_get_within old.facts n f at)) (Contains-push_cases q.served n m c)
 
-  meets : (g : Fact) → IsServed new.facts (q.served ++ n ∷ []) g → MeetEachOther k f g new.facts
+  meets : (g : Fact) → IsServed new.facts (q.served ++ n ∷ []) g → MeetEachOther k f g new
   meets g w = met w.0 w.1 g (was_there t w.0 g (within w.0 w.1) w.2)
 
   cases : (g : Fact) → IsServed new.facts (q.served ++ n ∷ []) g → IsServed old.facts q.served g ⊎ (f ≡ g)
@@ -51,18 +52,18 @@ module _ {k : Problem} {most : ℕ} {old new : Derived} {q : Queued} (s : IsStat
       let before = was_there t w.0 g (within w.0 w.1) w.2 in
       ⊎_elim (λ c. inl (w.0, c, before)) (λ e. inr (one_value _ f g at (subst (λ (i : ℕ). slice_get old.facts i ≡ Some g) (sym e) before))) (Contains-push_cases q.served n w.0 w.1)
 
-  complete : (older : List Fact) → AllByRecursion (IsServed new.facts (q.served ++ n ∷ [])) older → Drawn k older new.facts
-  complete [] all = drawn_still t [] (s.complete [] tt)
+  complete : (older : List Fact) → AllByRecursion (IsServed new.facts (q.served ++ n ∷ [])) older → DrawnButSpared k older new
+  complete [] all = but_spared_still t [] (s.complete [] tt)
   complete (g ∷ []) all = ⊎_elim
-      (λ w. drawn_still t (g ∷ []) (s.complete (g ∷ []) (w, tt)))
-      (λ e. subst (λ (x : Fact). Drawn k (x ∷ []) new.facts) e alone)
+      (λ w. but_spared_still t (g ∷ []) (s.complete (g ∷ []) (w, tt)))
+      (λ e. subst (λ (x : Fact). DrawnButSpared k (x ∷ []) new) e (all_drawn k (f ∷ []) new alone))
       (cases g all.0)
   complete (g ∷ h ∷ []) all = ⊎_elim
       (λ w. ⊎_elim
-      (λ v. drawn_still t (g ∷ h ∷ []) (s.complete (g ∷ h ∷ []) (w, (v, tt))))
-      (λ e. subst (λ (x : Fact). Drawn k (g ∷ x ∷ []) new.facts) e (meets g all.0).second)
+      (λ v. but_spared_still t (g ∷ h ∷ []) (s.complete (g ∷ h ∷ []) (w, (v, tt))))
+      (λ e. subst (λ (x : Fact). DrawnButSpared k (g ∷ x ∷ []) new) e (meets g all.0).second)
       (cases h all.1.0))
-      (λ e. subst (λ (x : Fact). Drawn k (x ∷ h ∷ []) new.facts) e (meets h all.1.0).first)
+      (λ e. subst (λ (x : Fact). DrawnButSpared k (x ∷ h ∷ []) new) e (meets h all.1.0).first)
       (cases g all.0)
   complete (g ∷ h ∷ i ∷ rest) all = λ c form new gives. absurd (no_three gives)
 
@@ -79,9 +80,22 @@ module _ {k : Problem} {d : Derived} {q : Queued} (s : IsState k d q) (all : (n 
   served : (f : Fact) → Contains d.facts f → IsServed d.facts q.served f
   served f c = (c.0, all c.0 c.1, slice_get-get_or d.facts c.0 f c.1 ∙ ap Some c.2)
 
+  -- what two give is there: what they are spared is given by others
+  pairs : (f g : Fact) → Contains d.facts f → Contains d.facts g → DrawnButSpared k (f ∷ g ∷ []) d
+  pairs f g c e = s.complete (f ∷ g ∷ []) (served f c, (served g e, tt))
+
+  there : (f : Fact) → IsServed d.facts q.served f → Contains d.facts f
+  there f w = Contains-from_slice_get d.facts w.0 f w.2
+
+  all_there : (older : List Fact) → AllByRecursion (IsServed d.facts q.served) older → Drawn k older d.facts
+  all_there [] all c form f gives = ⊎_elim (λ w. w) (λ w. absurd w) (s.complete [] tt c form f gives)
+  all_there (g ∷ []) all c form f gives = ⊎_elim (λ w. w) (λ w. absurd w) (s.complete (g ∷ []) all c form f gives)
+  all_there (g ∷ h ∷ []) all c form f gives = all_joined s.derived pairs g h (there g all.0) (there h all.1.0) c form f gives
+  all_there (g ∷ h ∷ i ∷ rest) all c form f gives = absurd (no_three gives)
+
   mutual
     whole : (f : Fact) → IsFact k f → Contains d.facts f
-    whole f (given condition form older gives fs) = s.complete older (whole_all older fs) condition form f gives
+    whole f (given condition form older gives fs) = all_there older (whole_all older fs) condition form f gives
 
     whole_all : (facts : List Fact) → AreFacts k facts → AllByRecursion (IsServed d.facts q.served) facts
     whole_all _ none = tt
@@ -117,8 +131,8 @@ module _ {k : Problem} (forms : k.forms ≡ []) (roots : k.roots ≡ []) where
     complete = complete;
   }
     where
-      complete : (older : List Fact) → AllByRecursion (IsServed d.facts q.served) older → Drawn k older d.facts
-      complete [] all = nothing_given d.facts
+      complete : (older : List Fact) → AllByRecursion (IsServed d.facts q.served) older → DrawnButSpared k older d
+      complete [] all = all_drawn k [] d (nothing_given d.facts)
       complete (f ∷ fs) all = absurd (no_member q.served empty all.0.0 all.0.1)
 
 pub too_many : {k : Problem} {d : Derived} → IsDerived k d → (limit : ℕ) → limit < length d.facts → HasMoreFactsThan k limit

@@ -1,7 +1,10 @@
 -- A number that is queued, and one that is taken from the list.
-use Rattle.std.proofs.Common.{◌≡◌, ℕ, ◌+◌, ◌<◌, ◌≤◌, inl, inr, ⊎_elim, Bool, true, false, not, if◌then◌else◌, List, [], ◌∷◌, ◌++◌, length, take, drop, slice_get, Some, None, Contains, refl, sym, ap, ◌∙◌, subst, arith, length-append}
+use Rattle.std.proofs.Common.{◌≡◌, ℕ, ◌+◌, ◌<◌, ◌≤◌, inl, inr, ⊎_elim, Bool, true, false, true≢false, not, eqb, get_or, if◌then◌else◌, List, [], ◌∷◌, ◌++◌, length, take, drop, slice_get, Some, None, Contains, refl, sym, ap, ◌∙◌, subst, arith, length-append}
 use Rattle.std.proofs.lemmas.Bool.Decides.{eqb_tells, nat_tests}
-use Rattle.std.proofs.lemmas.Option.{slice_get_within, none-some}
+use Rattle.std.proofs.lemmas.Bool.{cases_lt}
+use Rattle.std.proofs.lemmas.Option.{slice_get_within, slice_get-get_or, get_or_from_slice_get, none-some}
+use Rattle.std.proofs.lemmas.Map.Keys.{IsDistinct-IsPermutation, IsDistinct-from_apart, apart_from_distinct}
+use Rattle.std.specs.List.{IsDistinct}
 use Rattle.std.proofs.lemmas.List.{take-append-le, take-append-drop, take_all, length-take}
 use Rattle.std.proofs.lemmas.List.Sorted.{Contains-permutation, IsPermutation-append_left, IsPermutation-filter_both, IsPermutation-sym, length_permutation}
 use Rattle.std.specs.List.Sorted.{IsPermutation}
@@ -9,8 +12,10 @@ use Rattle.std.proofs.lemmas.List.Elements.{Contains-append_left, Contains-push,
 use Rattle.work_list.specs.declared.item.Item.{Item}
 use Rattle.work_list.specs.Bag.{Bag, is_item, Adds, IsEmpty}
 use Rattle.saturate.specs.Flagged.{asked, is_flagged, is_kept, kept}
-use Rattle.saturate.specs.Queued.{item, IsQueue, HasTurn}
-use Rattle.saturate.proofs.Lists.{one_value, Contains-from_slice_get, slice_get_there, slice_get_push, slice_get_push_cases, keeps_push}
+use Rattle.axioms.specs.WellFormed.{AreDistinct}
+use Rattle.axioms.proofs.Growing.{AreDistinct-push}
+use Rattle.saturate.specs.Queued.{item, IsQueue, HasTurn, IsServedOnce}
+use Rattle.saturate.proofs.Lists.{one_value, Contains-from_slice_get, slice_get-from_Contains, slice_get_there, slice_get_push, slice_get_push_cases, slice_get_take, keeps_push}
 
 same_item : (n c : ℕ) → is_item (item n c) (item n c) ≡ true
 same_item n c = grind (arith, nat_tests)
@@ -45,6 +50,7 @@ queued_more {old} {new} {queued} {served} {c} {taken} q s = record {
       (slice_get_push_cases q.contexts c n d at);
   known = λ x lt. known x lt (is_item x (item queued c)) refl;
   within = λ n t. omega (arith, q.within n t);
+  distinct = q.distinct;
   tally = omega (arith, q.tally, s.total);
   low = q.low;
 }
@@ -84,6 +90,7 @@ module _ {old new : Bag} {queued served : ℕ} {taken : List ℕ} {x : Item} (q 
         (eqb_tells n x.fact);
     known = λ y lt. q.known y (omega (arith, s.each y, lt));
     within = λ n t. ⊎_elim (λ before. q.within n before) (λ e. omega (arith, fresh.0, e)) (Contains-push_cases taken x.fact n t);
+    distinct = AreDistinct-push taken x.fact q.distinct fresh.1;
     tally = omega (arith, q.tally, s.total, length-append taken (x.fact ∷ []));
     low = omega (arith, all, length-append taken (x.fact ∷ []));
   }
@@ -143,6 +150,37 @@ all_served {bag = bag} {queued = queued} {served = served} {taken = taken} q emp
     let none : bag.total ≡ 0 = omega (arith, q.tally, q.low, few) in
     rw whole (all_taken q (empty none) n low)
 
+-- ---- no number was taken twice
+
+differ : (x y : ℕ) → (x ≡ y → ⊥) → eqb x y ≡ false
+differ x y apart = ⊎_elim (λ w. absurd (apart w.1)) (λ w. w.0) (eqb_tells x y)
+
+same_place : (xs : List ℕ) → IsDistinct eqb xs → (m n x : ℕ) → m < n → slice_get xs m ≡ Some x → slice_get xs n ≡ Some x → ⊥
+same_place xs distinct m n x low a b =
+    let apart = apart_from_distinct eqb xs m n x distinct low (slice_get_within xs n x b) in
+    let same : get_or xs m x ≡ get_or xs n x = get_or_from_slice_get xs m x x a ∙ sym (get_or_from_slice_get xs n x x b) in
+    ⊎_elim (λ w. true≢false (sym w.0 ∙ apart)) (λ w. w.1 same) (eqb_tells (get_or xs m x) (get_or xs n x))
+
+distinct_moved : (xs ys : List ℕ) → IsPermutation xs ys → AreDistinct xs → AreDistinct ys
+distinct_moved xs ys p distinct m n x a b =
+    let before = IsDistinct-from_apart eqb xs (λ i j d low within. differ (get_or xs i d) (get_or xs j d) (λ e.
+    let at : slice_get xs i ≡ Some (get_or xs i d) = slice_get-get_or xs i d (omega (arith, low, within)) in
+    omega (arith, low, distinct i j (get_or xs i d) at (slice_get-get_or xs j d within ∙ ap Some (sym e))))) in
+    let after = IsDistinct-IsPermutation eqb (λ i j. grind (arith, nat_tests)) xs ys p before in
+    ⊎_elim (λ low. absurd (same_place ys after m n x low a b))
+    (λ high. ⊎_elim (λ w. w.1) (λ w. absurd (same_place ys after n m x (omega (arith, high, w.1)) b a)) (eqb_tells m n))
+    (cases_lt m n)
+
+-- so no number was served twice, and the one in hand was not served
+pub served_once : {bag : Bag} {queued served : ℕ} {taken : List ℕ} → IsQueue bag queued taken served → IsServedOnce (record { queued = queued; served = take served taken; hand = slice_get taken served })
+served_once {served = served} {taken = taken} q = record {
+  distinct = λ i j x a b. q.distinct i j x (slice_get_take served taken i x a).1 (slice_get_take served taken j x b).1;
+  fresh = λ n at c.
+      let there = slice_get-from_Contains (take served taken) n c in
+      let before = slice_get_take served taken there.0 n there.1 in
+      absurd (omega (arith, before.0, q.distinct there.0 served n before.1 at));
+}
+
 -- the numbers that were taken change places
 pub moved : {bag : Bag} {queued served : ℕ} {taken : List ℕ} (moves : List ℕ) (served_now : ℕ) → IsQueue bag queued taken served → IsPermutation taken moves → served_now ≤ length moves → IsQueue bag queued moves served_now
 moved {taken = taken} moves served_now q p low = record {
@@ -154,6 +192,7 @@ moved {taken = taken} moves served_now q p low = record {
       (q.each n c at);
   known = q.known;
   within = λ n t. q.within n (Contains-permutation moves taken n (IsPermutation-sym taken moves p) t);
+  distinct = distinct_moved taken moves p q.distinct;
   tally = omega (arith, q.tally, length_permutation taken moves p);
   low = low;
 }

@@ -4,6 +4,7 @@ pub mod Derived
 pub mod Queued
 pub mod State
 pub mod Listed
+pub mod Served
 pub mod Visited
 pub mod Asked
 pub mod Flagged

@@ -18,9 +18,9 @@ pub record IsWithin (facts : List Fact) (index : Index) : Type 0 where
   pub from : (x : Context) (n : ℕ) → Contains (at_context index.from x) n → (f : Fact) × (slice_get facts n ≡ Some f) × IsFrom x f
   pub into : (x : Context) (n : ℕ) → Contains (at_context index.into x) n → (f : Fact) × (slice_get facts n ≡ Some f) × IsInto x f
 
--- what the fact gives with those that the index lists is there: a class in a context with the classes in it, and behind the
+-- what the fact gives with those that the index lists is there or spared: a class in a context with the classes in it, and behind the
 -- edges into it; an edge before the classes in its target and the edges on from it, and behind the edges into its source
-abbrev pub AllListedAreMet : Problem → Fact → List Fact → Index → List Fact → Type 0
+abbrev pub AllListedAreMet : Problem → Fact → List Fact → Index → Derived → Type 0
 AllListedAreMet k (In a x) old index new =
     AreMet k (In a x) old (at_context index.classes x) new
     × AreMetBehind k (In a x) old (at_context index.into x) new

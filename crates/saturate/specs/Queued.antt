@@ -1,6 +1,8 @@
 -- Numbers that have their turns.
-use Rattle.std.specs.Prelude.{◌≡◌, ℕ, ◌+◌, ◌<◌, ◌≤◌, ◌⊎◌, List, [], ◌∷◌, length, slice_get, Option, Some, None}
+use Rattle.std.specs.Prelude.{◌≡◌, ℕ, ◌+◌, ◌<◌, ◌≤◌, ◌⊎◌, List, [], ◌∷◌, ◌++◌, length, slice_get, Option, Some, None}
 use Rattle.std.specs.List.{Contains}
+use Rattle.axioms.specs.WellFormed.{AreDistinct}
+use Rattle.fact_index.specs.Contexts.{IsLast}
 use Rattle.work_list.specs.declared.item.Item.{Item}
 use Rattle.work_list.specs.Bag.{Bag}
 
@@ -27,6 +29,7 @@ pub record IsQueue (bag : Bag) (queued : ℕ) (taken : List ℕ) (served : ℕ) 
   pub each : (n c : ℕ) → slice_get contexts n ≡ Some c → ((bag.count (item n c) ≡ 1) × (Contains taken n → ⊥)) ⊎ ((bag.count (item n c) ≡ 0) × Contains taken n)
   pub known : (x : Item) → 0 < bag.count x → slice_get contexts x.fact ≡ Some x.context
   pub within : (n : ℕ) → Contains taken n → n < queued
+  pub distinct : AreDistinct taken
   pub tally : bag.total + length taken ≡ queued
   pub low : served ≤ length taken
 
@@ -34,3 +37,17 @@ pub record IsQueue (bag : Bag) (queued : ℕ) (taken : List ℕ) (served : ℕ) 
 pub record HasTurn (size : ℕ) (served : List ℕ) (hand : Option ℕ) : Type 0 where
   pub some : (n : ℕ) → hand ≡ Some n → (n < size) × (length served < size)
   pub none : hand ≡ None → (length served ≡ size) × ((n : ℕ) → n < size → Contains served n)
+
+-- no number was served twice, and the one in hand was not served
+pub record IsServedOnce (q : Queued) : Type 0 where
+  pub distinct : AreDistinct q.served
+  pub fresh : (n : ℕ) → q.hand ≡ Some n → Contains q.served n → ⊥
+
+-- the list without the number, where that is its last
+abbrev pub IsWithoutLast : ℕ → List ℕ → List ℕ → Type 0
+IsWithoutLast n list rest = (list ≡ rest ++ n ∷ []) ⊎ ((rest ≡ list) × (IsLast list n → ⊥))
+
+-- .. the number in hand, if there is one
+abbrev pub IsWithoutHand : Option ℕ → List ℕ → List ℕ → Type 0
+IsWithoutHand None list rest = rest ≡ list
+IsWithoutHand (Some n) list rest = IsWithoutLast n list rest

@@ -6,7 +6,7 @@ use Rattle.facts.specs.Closure.{Problem}
 use Rattle.facts.specs.Births.{Reason}
 use Rattle.saturate.specs.Derived.{Derived, IsDerived, Keeps}
 use Rattle.saturate.specs.Queued.{Queued}
-use Rattle.saturate.specs.Working.{IsComplete}
+use Rattle.saturate.specs.Working.{IsCompleteButSpared}
 
 -- what callers see: the problem, the facts in order of birth with what gave them, and the numbers of those served, in order
 pub record Seen : Type 0 where
@@ -19,12 +19,12 @@ pub record Seen : Type 0 where
 abbrev pub nothing_seen : Seen
 nothing_seen = record { problem = record { forms = []; roots = [] }; facts = []; births = []; served = [] }
 
--- facts with reasons, and what served facts give is there
+-- facts with reasons, and what served facts give is there, but for what they are spared
 pub record IsState (k : Problem) (d : Derived) (q : Queued) : Type 0 where
   pub derived : IsDerived k d
   pub queued : q.queued ≤ length d.facts
   pub within : (n : ℕ) → Contains q.served n → n < length d.facts
-  pub complete : IsComplete k d.facts q.served
+  pub complete : IsCompleteButSpared k d q.served
 
 -- facts and what gave them are kept
 pub record Extends (old new : Seen) : Type 0 where

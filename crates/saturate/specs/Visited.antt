@@ -3,7 +3,9 @@ use Rattle.std.specs.Prelude.{◌≡◌, ℕ, List, [], ◌∷◌, slice_get, Op
 use Rattle.std.specs.List.{Contains}
 use Rattle.number_table.specs.declared.keys.Key.{Key}
 use Rattle.normal_forms.specs.declared.forms.Form.{Form}
+use Rattle.normal_forms.specs.declared.forms.Form.TheVariants.{N6}
 use Rattle.normal_forms.specs.declared.forms.PropId2.{PropId2}
+use Rattle.normal_forms.specs.Properties.{IsAtOrBelow}
 use Rattle.facts.specs.declared.contexts.Fact.{Fact}
 use Rattle.facts.specs.declared.contexts.Fact.TheVariants.{In, Edge}
 use Rattle.facts.specs.Closure.{Problem, Concludes, Gives}
@@ -58,3 +60,8 @@ chained_property (f ∷ g ∷ h ∷ more) = None
 -- what the chains that begin with r give from these facts is there
 abbrev pub ChainsDrawn : Problem → List Fact → List Fact → PropId2 → Type 0
 ChainsDrawn k older facts r = (n : ℕ) → IsUnder by_chain k.forms (property_key r) n → DrawnAt (λ form. Concludes k form older) k.forms facts n
+
+-- the form of that number makes the property transitive, and no other chain begins with the property or one above it
+pub record IsOnlyChain (forms : List Form) (p : PropId2) (n : ℕ) : Type 0 where
+  pub transitive : slice_get forms n ≡ Some (N6 p p p)
+  pub only : (r : PropId2) → IsAtOrBelow forms p r → (m : ℕ) → IsUnder by_chain forms (property_key r) m → m ≡ n

@@ -8,6 +8,7 @@ mod extension;
 mod ground;
 mod kept;
 mod known_facts;
+mod listed_facts;
 mod progress;
 mod properties;
 mod queue;

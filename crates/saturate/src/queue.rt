@@ -1,7 +1,7 @@
 //! Whose turn it is.
 ghost use Rattle.std.specs.Prelude.{◌≡◌, ◌<◌, ◌≤◌, ◌^◌, ◌+◌, ◌++◌, ◌∷◌, [], ℕ, None, Some, length, take, drop, Contains, OnOk, OnErr, IfOk, IfSome};
 ghost use Rattle.saturate.specs.Flagged.{asked, is_flagged, kept};
-ghost use Rattle.saturate.specs.Queued.{with_one_more, HasTurn};
+ghost use Rattle.saturate.specs.Queued.{with_one_more, HasTurn, IsServedOnce, IsWithoutHand, IsWithoutLast};
 ghost use Rattle.work_list.specs.Bag.{IsEmpty};
 
 use axioms::Memory;
@@ -100,6 +100,13 @@ impl Turns {
             served: kept,
         })
     }
+}
+
+/// The list without the number, where that is its last.
+fn without_last(list: &[u32], number: u32) -> &[u32]
+    ensures { IsWithoutLast number list.now result.now }
+{
+    list.strip_suffix(&[number]).unwrap_or(list)
 }
 
 /// A list that counts no items has none. This changes nothing.
@@ -205,11 +212,23 @@ impl<W: WorkList> Queue<W> {
     fn hand(&self) -> Option<u32>
         ensures value { result ≡ self.now.hand }
         ensures some { (n : ℕ) → result ≡ Some n → (n < self.now.queued) × (length self.now.served < self.now.queued) }
+        ensures once { IsServedOnce self.now }
     {
         if self.served < self.taken.len() {
             Some(self.taken[self.served])
         } else {
             None
+        }
+    }
+
+    /// The list without the number in hand, where that is its last. No number was served twice, and the one in hand was not.
+    pub fn without_hand<'a>(&self, list: &'a [u32]) -> &'a [u32]
+        ensures without { IsWithoutHand self.now.hand list.now result.now }
+        ensures once { IsServedOnce self.now }
+    {
+        match self.hand() {
+            Some(hand) => without_last(list, hand),
+            None => list,
         }
     }
 

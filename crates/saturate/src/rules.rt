@@ -11,14 +11,16 @@ ghost use Rattle.saturate.specs.Derived.{IsDerived, Grows, HasMoreFactsThan};
 ghost use Rattle.normal_forms.specs.Properties.{IsAtOrBelow};
 ghost use Rattle.property_closure.specs.Closed.{Has};
 ghost use Rattle.saturate.specs.Closed.{IsClosureOf};
-ghost use Rattle.saturate.specs.Working.{AreAt, AllDrawn, DrawnAt, AreDrawnAt, AreDrawn, IsEntered, Drawn, MeetEachOther, AreMet, AreMetBefore, AreMetBehind};
-ghost use Rattle.saturate.specs.Visited.{AreAll, ChainsDrawn, GiveNothing, HasProperty, IsBy, IsClassFact, IsEdge};
+ghost use Rattle.saturate.specs.Working.{AreAt, AllDrawn, DrawnAt, AreDrawnAt, AreDrawn, IsEntered, IsGivenBy, Drawn, DrawnButSpared, MeetEachOther, AreMet, AreMetBefore, AreMetBehind};
+ghost use Rattle.saturate.specs.Visited.{AreAll, ChainsDrawn, GiveNothing, HasProperty, IsBy, IsClassFact, IsEdge, IsOnlyChain};
 ghost use Rattle.saturate.specs.Listed.{IsWithin, AllListedAreMet};
 ghost use Rattle.saturate.specs.Growing.{HasBegun, LoopIsDrawn, LoopsAreDrawn};
 
 use crate::conclusions::{THING, carried_back, conclusion, condition_of, loop_at};
 use crate::known_facts::{KnownFacts, Stop};
-use crate::visits::{begins_chain, chained, has_any, is_carried, is_operand, visited};
+use crate::visits::{
+    begins_chain, chained, has_any, is_by, is_carried, is_operand, only_chain, visited,
+};
 use fact_index::Index;
 use facts::{Context, Fact};
 use form_index::IndexedProblem;
@@ -369,7 +371,7 @@ impl Rules<'_> {
         requires second { slice_get facts.old.facts n ≡ Some g }
         ensures grows { Grows self.now.problem.now self.now.max_facts facts.old facts.new }
         ensures limit { result ≡ Err Stop.Limit → HasMoreFactsThan self.now.problem.now self.now.max_facts }
-        ensures met { OnOk result (MeetEachOther self.now.problem.now f g facts.new.facts) }
+        ensures met { OnOk result (MeetEachOther self.now.problem.now f g facts.new) }
     {
         self.draw_pair(facts, m, f, n, g)?;
         self.draw_pair(facts, n, g, m, f)?;
@@ -390,7 +392,7 @@ impl Rules<'_> {
         requires numbers { (n : ℕ) → Contains numbers.now n → n < length facts.old.facts }
         ensures grows { Grows self.now.problem.now self.now.max_facts facts.old facts.new }
         ensures limit { result ≡ Err Stop.Limit → HasMoreFactsThan self.now.problem.now self.now.max_facts }
-        ensures met { OnOk result (AreMet self.now.problem.now fact facts.old.facts numbers.now facts.new.facts) }
+        ensures met { OnOk result (AreMet self.now.problem.now fact facts.old.facts numbers.now facts.new) }
     {
         for number in numbers {
             let partner = facts.get(*number);
@@ -414,7 +416,7 @@ impl Rules<'_> {
         requires numbers { AreAll IsClassFact facts.old.facts numbers.now }
         ensures grows { Grows self.now.problem.now self.now.max_facts facts.old facts.new }
         ensures limit { result ≡ Err Stop.Limit → HasMoreFactsThan self.now.problem.now self.now.max_facts }
-        ensures met { OnOk result (AreMet self.now.problem.now (the_facts.In class context) facts.old.facts numbers.now facts.new.facts) }
+        ensures met { OnOk result (AreMet self.now.problem.now (the_facts.In class context) facts.old.facts numbers.now facts.new) }
     {
         if is_operand(self.problem, class) {
             self.meet_all(facts, hand, Fact::In(class, context), numbers)?;
@@ -436,7 +438,7 @@ impl Rules<'_> {
         requires numbers { (n : ℕ) → Contains numbers.now n → n < length facts.old.facts }
         ensures grows { Grows self.now.problem.now self.now.max_facts facts.old facts.new }
         ensures limit { result ≡ Err Stop.Limit → HasMoreFactsThan self.now.problem.now self.now.max_facts }
-        ensures met { OnOk result (AreMetBefore self.now.problem.now fact facts.old.facts numbers.now facts.new.facts) }
+        ensures met { OnOk result (AreMetBefore self.now.problem.now fact facts.old.facts numbers.now facts.new) }
     {
         for number in numbers {
             let partner = facts.get(*number);
@@ -459,7 +461,7 @@ impl Rules<'_> {
         requires numbers { (n : ℕ) → Contains numbers.now n → n < length facts.old.facts }
         ensures grows { Grows self.now.problem.now self.now.max_facts facts.old facts.new }
         ensures limit { result ≡ Err Stop.Limit → HasMoreFactsThan self.now.problem.now self.now.max_facts }
-        ensures met { OnOk result (AreMetBehind self.now.problem.now fact facts.old.facts numbers.now facts.new.facts) }
+        ensures met { OnOk result (AreMetBehind self.now.problem.now fact facts.old.facts numbers.now facts.new) }
     {
         for number in numbers {
             let partner = facts.get(*number);
@@ -483,10 +485,65 @@ impl Rules<'_> {
         requires numbers { AreAll IsEdge facts.old.facts numbers.now }
         ensures grows { Grows self.now.problem.now self.now.max_facts facts.old facts.new }
         ensures limit { result ≡ Err Stop.Limit → HasMoreFactsThan self.now.problem.now self.now.max_facts }
-        ensures met { OnOk result (AreMetBehind self.now.problem.now (the_facts.In class context) facts.old.facts numbers.now facts.new.facts) }
+        ensures met { OnOk result (AreMetBehind self.now.problem.now (the_facts.In class context) facts.old.facts numbers.now facts.new) }
     {
         if is_carried(self.problem, class) {
             self.meet_behind(facts, hand, Fact::In(class, context), numbers)?;
+        }
+        Ok(())
+    }
+
+    /// Adds what two edges give in this order, unless the only chain that begins with the first one gave the second.
+    fn join(
+        &self,
+        facts: &mut KnownFacts,
+        hand: u32,
+        edge: Fact,
+        property: PropId2,
+        chain: u32,
+        number: u32,
+    ) -> Result<(), Stop>
+        requires closed { IsClosureOf self.now.problem.now.forms self.now.closure.now }
+        requires derived { IsDerived self.now.problem.now facts.old }
+        requires hand { slice_get facts.old.facts hand ≡ Some edge }
+        requires property { IsBy property edge }
+        requires chain { IsOnlyChain self.now.problem.now.forms property chain }
+        requires number { (g : Fact2) × (slice_get facts.old.facts number ≡ Some g) × IsEdge g }
+        ensures grows { Grows self.now.problem.now self.now.max_facts facts.old facts.new }
+        ensures limit { result ≡ Err Stop.Limit → HasMoreFactsThan self.now.problem.now self.now.max_facts }
+        ensures drawn { OnOk result ((g : Fact2) → slice_get facts.old.facts number ≡ Some g → DrawnButSpared self.now.problem.now (edge ∷ g ∷ []) facts.new) }
+    {
+        if facts.is_given_by(number, chain) {
+            return Ok(());
+        }
+        let partner = facts.get(number);
+        self.draw_pair(facts, hand, edge, number, partner)?;
+        Ok(())
+    }
+
+    /// Adds what the edge gives as the first of two, with each of the edges of those numbers but those that the only chain that begins
+    /// with the edge gave.
+    fn join_all(
+        &self,
+        facts: &mut KnownFacts,
+        hand: u32,
+        edge: Fact,
+        property: PropId2,
+        chain: u32,
+        numbers: &[u32],
+    ) -> Result<(), Stop>
+        requires closed { IsClosureOf self.now.problem.now.forms self.now.closure.now }
+        requires derived { IsDerived self.now.problem.now facts.old }
+        requires hand { slice_get facts.old.facts hand ≡ Some edge }
+        requires property { IsBy property edge }
+        requires chain { IsOnlyChain self.now.problem.now.forms property chain }
+        requires numbers { AreAll IsEdge facts.old.facts numbers.now }
+        ensures grows { Grows self.now.problem.now self.now.max_facts facts.old facts.new }
+        ensures limit { result ≡ Err Stop.Limit → HasMoreFactsThan self.now.problem.now self.now.max_facts }
+        ensures met { OnOk result (AreMetBefore self.now.problem.now edge facts.old.facts numbers.now facts.new) }
+    {
+        for number in numbers {
+            self.join(facts, hand, edge, property, chain, *number)?;
         }
         Ok(())
     }
@@ -507,11 +564,99 @@ impl Rules<'_> {
         requires numbers { AreAll IsEdge facts.old.facts numbers.now }
         ensures grows { Grows self.now.problem.now self.now.max_facts facts.old facts.new }
         ensures limit { result ≡ Err Stop.Limit → HasMoreFactsThan self.now.problem.now self.now.max_facts }
-        ensures met { OnOk result (AreMetBefore self.now.problem.now edge facts.old.facts numbers.now facts.new.facts) }
+        ensures met { OnOk result (AreMetBefore self.now.problem.now edge facts.old.facts numbers.now facts.new) }
     {
+        if let Some(chain) = only_chain(self.problem, self.closure, property) {
+            return self.join_all(facts, hand, edge, property, chain, numbers);
+        }
         if begins_chain(self.problem, self.closure, property) {
             self.meet_before(facts, hand, edge, numbers)?;
         }
+        Ok(())
+    }
+
+    /// Adds what two edges give in this order, unless the first is by the property with which one chain alone begins, that gave the
+    /// second.
+    fn follow(
+        &self,
+        facts: &mut KnownFacts,
+        hand: u32,
+        edge: Fact,
+        property: PropId2,
+        chain: u32,
+        number: u32,
+    ) -> Result<(), Stop>
+        requires closed { IsClosureOf self.now.problem.now.forms self.now.closure.now }
+        requires derived { IsDerived self.now.problem.now facts.old }
+        requires hand { slice_get facts.old.facts hand ≡ Some edge }
+        requires edge { IsEdge edge }
+        requires chain { IsOnlyChain self.now.problem.now.forms property chain }
+        requires given { IsGivenBy self.now.problem.now facts.old chain edge }
+        requires number { number < length facts.old.facts }
+        ensures grows { Grows self.now.problem.now self.now.max_facts facts.old facts.new }
+        ensures limit { result ≡ Err Stop.Limit → HasMoreFactsThan self.now.problem.now self.now.max_facts }
+        ensures drawn { OnOk result ((g : Fact2) → slice_get facts.old.facts number ≡ Some g → DrawnButSpared self.now.problem.now (g ∷ edge ∷ []) facts.new) }
+    {
+        let partner = facts.get(number);
+        if is_by(partner, property) {
+            return Ok(());
+        }
+        self.draw_pair(facts, number, partner, hand, edge)?;
+        Ok(())
+    }
+
+    /// Adds what the edge, which the chain gave, gives as the second of two with each of the edges of those numbers but those by the
+    /// property.
+    fn follow_all(
+        &self,
+        facts: &mut KnownFacts,
+        hand: u32,
+        edge: Fact,
+        property: PropId2,
+        chain: u32,
+        numbers: &[u32],
+    ) -> Result<(), Stop>
+        requires closed { IsClosureOf self.now.problem.now.forms self.now.closure.now }
+        requires derived { IsDerived self.now.problem.now facts.old }
+        requires hand { slice_get facts.old.facts hand ≡ Some edge }
+        requires edge { IsEdge edge }
+        requires chain { IsOnlyChain self.now.problem.now.forms property chain }
+        requires given { IsGivenBy self.now.problem.now facts.old chain edge }
+        requires numbers { (n : ℕ) → Contains numbers.now n → n < length facts.old.facts }
+        ensures grows { Grows self.now.problem.now self.now.max_facts facts.old facts.new }
+        ensures limit { result ≡ Err Stop.Limit → HasMoreFactsThan self.now.problem.now self.now.max_facts }
+        ensures met { OnOk result (AreMetBehind self.now.problem.now edge facts.old.facts numbers.now facts.new) }
+    {
+        for number in numbers {
+            self.follow(facts, hand, edge, property, chain, *number)?;
+        }
+        Ok(())
+    }
+
+    /// Adds what the edge gives as the second of two, with the edges into its source, which have those numbers.
+    fn lead_up(
+        &self,
+        facts: &mut KnownFacts,
+        hand: u32,
+        edge: Fact,
+        property: PropId2,
+        numbers: &[u32],
+    ) -> Result<(), Stop>
+        requires closed { IsClosureOf self.now.problem.now.forms self.now.closure.now }
+        requires derived { IsDerived self.now.problem.now facts.old }
+        requires hand { slice_get facts.old.facts hand ≡ Some edge }
+        requires property { IsBy property edge }
+        requires numbers { (n : ℕ) → Contains numbers.now n → n < length facts.old.facts }
+        ensures grows { Grows self.now.problem.now self.now.max_facts facts.old facts.new }
+        ensures limit { result ≡ Err Stop.Limit → HasMoreFactsThan self.now.problem.now self.now.max_facts }
+        ensures met { OnOk result (AreMetBehind self.now.problem.now edge facts.old.facts numbers.now facts.new) }
+    {
+        if let Some(chain) = only_chain(self.problem, self.closure, property) {
+            if facts.is_given_by(hand, chain) {
+                return self.follow_all(facts, hand, edge, property, chain, numbers);
+            }
+        }
+        self.meet_behind(facts, hand, edge, numbers)?;
         Ok(())
     }
 
@@ -529,7 +674,7 @@ impl Rules<'_> {
         requires index { IsWithin facts.old.facts index.now }
         ensures grows { Grows self.now.problem.now self.now.max_facts facts.old facts.new }
         ensures limit { result ≡ Err Stop.Limit → HasMoreFactsThan self.now.problem.now self.now.max_facts }
-        ensures met { OnOk result (AllListedAreMet self.now.problem.now fact facts.old.facts index.now facts.new.facts) }
+        ensures met { OnOk result (AllListedAreMet self.now.problem.now fact facts.old.facts index.now facts.new) }
     {
         match fact {
             Fact::In(class, x) => {
@@ -539,7 +684,7 @@ impl Rules<'_> {
             Fact::Edge(x, property, y) => {
                 self.meet_before(facts, hand, fact, index.classes_in(y))?;
                 self.lead_on(facts, hand, fact, property, index.edges_from(y))?;
-                self.meet_behind(facts, hand, fact, index.edges_into(x))?;
+                self.lead_up(facts, hand, fact, property, index.edges_into(x))?;
             }
         }
         Ok(())
@@ -560,7 +705,7 @@ impl Rules<'_> {
         ensures grows { Grows self.now.problem.now self.now.max_facts facts.old facts.new }
         ensures limit { result ≡ Err Stop.Limit → HasMoreFactsThan self.now.problem.now self.now.max_facts }
         ensures alone { OnOk result (Drawn self.now.problem.now (fact ∷ []) facts.new.facts) }
-        ensures met { OnOk result (AllListedAreMet self.now.problem.now fact facts.old.facts index.now facts.new.facts) }
+        ensures met { OnOk result (AllListedAreMet self.now.problem.now fact facts.old.facts index.now facts.new) }
     {
         self.draw_alone(facts, hand, fact)?;
         self.meet_listed(facts, index, hand, fact)?;

@@ -31,8 +31,8 @@ pub struct State<W: WorkList> {
     alloc: Global,
     ground: Ground,
     facts: KnownFacts,
-    queue: Queue<W>,
-    index: Index,
+    pub(crate) queue: Queue<W>,
+    pub(crate) index: Index,
 }
 
 impl<W: WorkList> Model for State<W> {

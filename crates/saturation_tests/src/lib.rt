@@ -6,6 +6,8 @@ mod forms;
 #[cfg(test)]
 mod growing;
 #[cfg(test)]
+mod listed_facts;
+#[cfg(test)]
 mod lists;
 #[cfg(test)]
 mod ontologies;

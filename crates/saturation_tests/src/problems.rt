@@ -50,6 +50,8 @@ const IND1: Context = Context::Individual(IndId(1));
 
 const IND2: Context = Context::Individual(IndId(2));
 
+const IND4: Context = Context::Individual(IndId(4));
+
 /// A fact, and by which condition and form two older ones gave it.
 #[derive(Drop)]
 pub(crate) struct Born {
@@ -183,6 +185,70 @@ pub(crate) const PROBLEMS: &[Problem] = &[
             condition: 9,
             form: 8,
         }),
+    },
+    // Five individuals, each by a transitive property before the next: 10 edges.
+    Problem {
+        name: "transitive_chain",
+        forms: &[
+            Form::N6(EDGES_R, EDGES_R, EDGES_R),
+            Form::N9(IndId(0), R, IndId(1)),
+            Form::N9(IndId(1), R, IndId(2)),
+            Form::N9(IndId(2), R, IndId(3)),
+            Form::N9(IndId(3), R, IndId(4)),
+        ],
+        roots: &[IN0, IN1, IND0],
+        facts: 18,
+        born: Some(Born {
+            fact: Fact::Edge(IND0, EDGES_R, IND4),
+            condition: 9,
+            form: 0,
+        }),
+    },
+    // .. and the form that makes it transitive comes last.
+    Problem {
+        name: "transitivity_comes_last",
+        forms: &[
+            Form::N9(IndId(3), R, IndId(4)),
+            Form::N9(IndId(1), R, IndId(2)),
+            Form::N9(IndId(0), R, IndId(1)),
+            Form::N9(IndId(2), R, IndId(3)),
+            Form::N6(EDGES_R, EDGES_R, EDGES_R),
+        ],
+        roots: &[IND2, IND0, IN1, IN0],
+        facts: 18,
+        born: Some(Born {
+            fact: Fact::Edge(IND0, EDGES_R, IND4),
+            condition: 9,
+            form: 4,
+        }),
+    },
+    // Four individuals by s, which is below the transitive r: 3 edges by s, and 3 by r.
+    Problem {
+        name: "transitive_above_another",
+        forms: &[
+            Form::N5(S, R),
+            Form::N9(IndId(0), S, IndId(1)),
+            Form::N9(IndId(1), S, IndId(2)),
+            Form::N9(IndId(2), S, IndId(3)),
+            Form::N6(EDGES_R, EDGES_R, EDGES_R),
+        ],
+        roots: &[IN0, IN1, IND0],
+        facts: 13,
+        born: None,
+    },
+    // Four individuals by the transitive r, and r then r below s: 6 edges by r, and 3 by s.
+    Problem {
+        name: "transitive_and_a_chain",
+        forms: &[
+            Form::N6(EDGES_R, EDGES_R, EDGES_R),
+            Form::N9(IndId(0), R, IndId(1)),
+            Form::N9(IndId(1), R, IndId(2)),
+            Form::N9(IndId(2), R, IndId(3)),
+            Form::N6(EDGES_R, EDGES_R, EDGES_S),
+        ],
+        roots: &[IN0, IN1, IND0],
+        facts: 16,
+        born: None,
     },
 ];
 

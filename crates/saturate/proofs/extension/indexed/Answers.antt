@@ -1,6 +1,11 @@
+use Rattle.std.proofs.Common.{[]}
 use Rattle.std.proofs.lemmas.List.Elements.{Contains-get_or}
 use Rattle.saturate.proofs.Flagging.{kept_more}
+use Rattle.saturate.proofs.Listing.{nothing_listed}
 use Rattle.saturate.proofs.extension.indexed.Goals as goal
+
+pub loop-number-init : goal.loop-number-init
+loop-number-init c = nothing_listed c.args.facts.now.facts [] c.new-index.result c.new-index.ensures
 
 pub index_kept-requires : goal.index_kept-requires
 index_kept-requires c = c.requires _ (Contains-get_or c.args.numbers.now c.loop-number.number-index 0 c.loop-number-test.true)

@@ -8,5 +8,5 @@ meet_behind-requires-clause-numbers c = numbers_within IsEdge c.args.facts.now.f
 
 pub returns-else-is_carried-clause-met : goal.returns-else-is_carried-clause-met
 returns-else-is_carried-clause-met c = λ n there g at.
-    not_carried c.args.self.now.problem.now c.args.class c.args.context g c.args.facts.now.facts (c.is_carried.ensures.nothing c.if-is_carried.false) (c.is_carried.ensures.filler c.if-is_carried.false)
+    not_carried c.args.self.now.problem.now c.args.class c.args.context g c.args.facts.now (c.is_carried.ensures.nothing c.if-is_carried.false) (c.is_carried.ensures.filler c.if-is_carried.false)
     (kind_of IsEdge c.args.facts.now.facts c.args.numbers.now c.requires.numbers n there g at)

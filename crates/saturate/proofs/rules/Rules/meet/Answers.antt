@@ -1,9 +1,13 @@
+use Rattle.std.proofs.Common.{[], ◌∷◌}
 use Rattle.saturate.proofs.Drawing.{drawn_still}
+use Rattle.saturate.proofs.Sparing.{all_drawn}
 use Rattle.saturate.proofs.rules.Rules.meet.Goals as goal
 
 pub returns-clause-met : goal.returns-clause-met
 returns-clause-met c =
+    let k = c.args.self.now.problem.now in
+    let new = c.draw_pair-2.new.facts in
     record {
-      first = drawn_still c.draw_pair-2.ensures.grows _ c.in_ok-draw_pair.ensures.drawn;
-      second = c.in_ok-draw_pair-2.ensures.drawn;
+      first = all_drawn k (c.args.f ∷ c.args.g ∷ []) new (drawn_still c.draw_pair-2.ensures.grows _ c.in_ok-draw_pair.ensures.drawn);
+      second = all_drawn k (c.args.g ∷ c.args.f ∷ []) new c.in_ok-draw_pair-2.ensures.drawn;
     }

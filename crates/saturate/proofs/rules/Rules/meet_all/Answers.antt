@@ -21,14 +21,14 @@ loop-number-preserved c =
     record {
       grows = grows_trans s c.meet.ensures.grows;
       met = each_more
-          (λ n. (h : Fact) → slice_get old n ≡ Some h → MeetEachOther k f h c.loop-number.facts.facts)
-          (λ n. (h : Fact) → slice_get old n ≡ Some h → MeetEachOther k f h c.meet.new.facts.facts)
+          (λ n. (h : Fact) → slice_get old n ≡ Some h → MeetEachOther k f h c.loop-number.facts)
+          (λ n. (h : Fact) → slice_get old n ≡ Some h → MeetEachOther k f h c.meet.new.facts)
           c.args.numbers.now c.args.numbers.now c.loop-number.number-index 0 refl c.loop-number-test.true c.loop-number.invariant.met
           (λ n w h at. met_still c.meet.ensures.grows f h (w h at))
-          (λ h at. subst (λ (x : Fact). MeetEachOther k f x c.meet.new.facts.facts) (one_value _ _ _ c.get-partner.ensures (s.facts _ h at)) c.in_ok-meet.ensures.met);
+          (λ h at. subst (λ (x : Fact). MeetEachOther k f x c.meet.new.facts) (one_value _ _ _ c.get-partner.ensures (s.facts _ h at)) c.in_ok-meet.ensures.met);
     }
 
 pub returns-clause-met : goal.returns-clause-met
 returns-clause-met c =
     let k = c.args.self.now.problem.now in
-    each (λ n. (h : Fact) → slice_get c.args.facts.now.facts n ≡ Some h → MeetEachOther k c.args.fact h c.loop-number.facts.facts) c.args.numbers.now c.args.numbers.now c.loop-number.number-index refl c.loop-number-test.false c.loop-number.invariant.met
+    each (λ n. (h : Fact) → slice_get c.args.facts.now.facts n ≡ Some h → MeetEachOther k c.args.fact h c.loop-number.facts) c.args.numbers.now c.args.numbers.now c.loop-number.number-index refl c.loop-number-test.false c.loop-number.invariant.met

@@ -9,4 +9,4 @@ pub returns-clause-alone : goal.returns-clause-alone
 returns-clause-alone c = drawn_still c.meet_listed.ensures.grows _ c.in_ok-draw_alone.ensures.drawn
 
 pub returns-clause-met : goal.returns-clause-met
-returns-clause-met c = listed_earlier c.args.index.now c.meet_listed.new.facts.facts c.draw_alone.ensures.grows c.args.fact c.in_ok-meet_listed.ensures.met
+returns-clause-met c = listed_earlier c.args.index.now c.meet_listed.new.facts c.draw_alone.ensures.grows c.args.fact c.in_ok-meet_listed.ensures.met

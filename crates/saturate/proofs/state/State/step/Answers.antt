@@ -57,10 +57,10 @@ invariant_of-self-2 g c =
     let new = c.serve.new.facts in
     let grows = subst (λ (k : Problem). Grows k c.args.max_facts c.self.inside.facts new) c.problem.ensures c.serve.ensures.grows in
     let alone = subst (λ (k : Problem). Drawn k (f ∷ []) new.facts) c.problem.ensures c.in_ok-serve.ensures.alone in
-    let met = subst (λ (k : Problem). AllListedAreMet k f c.self.inside.facts.facts c.add.new.self new.facts) c.problem.ensures c.in_ok-serve.ensures.met in
+    let met = subst (λ (k : Problem). AllListedAreMet k f c.self.inside.facts.facts c.add.new.self new) c.problem.ensures c.in_ok-serve.ensures.met in
     let whole = listed (indexed g d.After-add) c.get-fact.ensures c.in-Ok.ensures.ok in (
       one_served s grows n f c.get-fact.ensures alone
-          (λ m t h at. all_met whole new.facts m t f h met at)
+          (λ m t h at. all_met whole new m t f h met at)
           (omega (arith, c.finish.ensures.queued, c.turn.ensures.queued, ap length c.as_slice.ensures.value))
           c.finish.ensures.served,
       finish_listed c.turn.new.self c.finish.new.self (indexed g d.After-add) (handed g d.After-add) c.get-fact.ensures c.in-Ok.ensures.ok grows s.within c.finish.ensures.served,
