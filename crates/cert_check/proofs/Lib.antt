@@ -1,10 +1,11 @@
 pub mod Places
 pub mod Checked
-pub mod OneMore
+pub mod Readings
 pub mod Made
 pub mod Rowwise
 pub mod Additions
 pub mod Listwise
+pub mod OneMore
 pub mod Relations
 pub mod Claimed
 pub mod ListedRows

@@ -1,8 +1,8 @@
 -- Lists to which numbers are added.
-use Rattle.std.proofs.Common.{◌≡◌, ◌↔◌, ℕ, zero, suc, ◌+◌, ◌<◌, ◌⊎◌, inl, inr, true, false, List, [], ◌∷◌, ◌++◌, length, map, take, get_or, slice_get, slice_set, replicate, Some, Contains, refl, sym, ap, ◌∙◌, subst, arith}
+use Rattle.std.proofs.Common.{◌≡◌, ◌↔◌, ℕ, zero, suc, ◌+◌, ◌<◌, ◌⊎◌, inl, inr, true, false, List, [], ◌∷◌, ◌++◌, length, map, take, slice_get, slice_set, replicate, Some, Contains, refl, sym, ap, ◌∙◌, subst, arith}
 use Rattle.std.proofs.lemmas.Bool.{cases_eq, cases_lt, false≢true}
 use Rattle.std.proofs.lemmas.List.{length-set, get_or-set_same, get_or-set_other, length-replicate}
-use Rattle.std.proofs.lemmas.Option.{slice_get-get_or}
+use Rattle.lemmas.proofs.Places.{slice_get_push, keeps_push, slice_get_push_cases}
 use Rattle.axioms.specs.Numbered.{Ontology, IsClassAt}
 use Rattle.axioms.proofs.Trees.{one_class}
 use Rattle.certificate.specs.Certificate.{Conclusion, Sub, Expression, Individual}
@@ -102,11 +102,24 @@ Say puts said lists = (c d : ℕ) → c < length lists → (is_listed lists c d 
 pub say_none : (puts : ℕ → ℕ → Conclusion → Type 0) (n : ℕ) → Say puts [] (replicate n [])
 say_none puts n c d lc = (λ t. absurd (false≢true (sym (no_list n c d) ∙ t)), λ s. absurd (some_none (puts c d) s))
 
-pub say_more : {X : Type 0} (puts : ℕ → ℕ → Conclusion → Type 0) (f : X → Conclusion) (xs : List X) (k : ℕ) (x : X) → slice_get xs k ≡ Some x → (old new : List (List ℕ))
-    → AddsNumbers (λ c d. puts c d (f x)) old new → Say puts (map f (take k xs)) old → Say puts (map f (take (k + 1) xs)) new
-say_more puts f xs k x g old new adds says c d lc =
+-- some row does among these and one more
+pub some_push : {A : Type 0} (P : A → Type 0) (xs : List A) (x : A) → SomeRow (xs ++ x ∷ []) P ↔ (SomeRow xs P ⊎ P x)
+some_push P xs x = (
+  λ (k, row, g, p). elim (slice_get_push_cases xs x k row g) [
+    | inl there ↦ inl (k, row, there, p)
+    | inr at_end ↦ inr (subst P (sym at_end.1) p)
+  ],
+  λ s. elim s [
+    | inl t ↦ (t.0, t.1, keeps_push xs x t.0 t.1 t.2, t.3)
+    | inr p ↦ (length xs, x, slice_get_push xs x, p)
+  ],
+)
+
+say_push : (puts : ℕ → ℕ → Conclusion → Type 0) (said : List Conclusion) (a : Conclusion) (old new : List (List ℕ))
+    → AddsNumbers (λ c d. puts c d a) old new → Say puts said old → Say puts (said ++ a ∷ []) new
+say_push puts said a old new adds says c d lc =
     let lo : c < length old = subst (λ n. c < n) adds.long lc in
-    let line = some_next (puts c d) f xs k x g in (
+    let line = some_push (puts c d) said a in (
       λ t. elim ((adds.each c d lo).0 t) [ inl u ↦ line.1 (inl ((says c d lo).0 u)) | inr p ↦ line.1 (inr p) ],
       λ s. elim (line.0 s) [ inl u ↦ (adds.each c d lo).1 (inl ((says c d lo).1 u)) | inr p ↦ (adds.each c d lo).1 (inr p) ],
     )
@@ -115,22 +128,22 @@ pub superclasses_start : (o : Ontology) (n : ℕ) (lists : List (List ℕ)) → 
 superclasses_start o n lists e many =
     subst (AreSuperclasses o []) (sym e) (record { long = length-replicate n [] ∙ many; each = say_none (λ c d a. PutsBelow o a c d) n })
 
-pub superclasses_more : {X : Type 0} (o : Ontology) (f : X → Conclusion) (xs : List X) (k : ℕ) (x : X) → k < length xs → (old new : List (List ℕ))
-    → AreSuperclasses o (map f (take k xs)) old → AddsNumbers (PutsBelow o (f (get_or xs k x))) old new → AreSuperclasses o (map f (take (k + 1) xs)) new
-superclasses_more o f xs k x l old new before adds = record {
+pub superclasses_push : (o : Ontology) (said : List Conclusion) (a : Conclusion) (old new : List (List ℕ)) → AddsNumbers (PutsBelow o a) old new
+    → AreSuperclasses o said old → AreSuperclasses o (said ++ a ∷ []) new
+superclasses_push o said a old new adds before = record {
   long = adds.long ∙ before.long;
-  each = say_more (λ c d a. PutsBelow o a c d) f xs k (get_or xs k x) (slice_get-get_or xs k x l) old new adds before.each;
+  each = say_push (λ c d b. PutsBelow o b c d) said a old new adds before.each;
 }
 
 pub types_start : (o : Ontology) (n : ℕ) (lists : List (List ℕ)) → lists ≡ replicate n [] → n ≡ length o.names.individuals → AreTypes o [] lists
 types_start o n lists e many =
     subst (AreTypes o []) (sym e) (record { long = length-replicate n [] ∙ many; each = say_none (λ c d a. PutsInto o a c d) n })
 
-pub types_more : {X : Type 0} (o : Ontology) (f : X → Conclusion) (xs : List X) (k : ℕ) (x : X) → k < length xs → (old new : List (List ℕ))
-    → AreTypes o (map f (take k xs)) old → AddsNumbers (PutsInto o (f (get_or xs k x))) old new → AreTypes o (map f (take (k + 1) xs)) new
-types_more o f xs k x l old new before adds = record {
+pub types_push : (o : Ontology) (said : List Conclusion) (a : Conclusion) (old new : List (List ℕ)) → AddsNumbers (PutsInto o a) old new
+    → AreTypes o said old → AreTypes o (said ++ a ∷ []) new
+types_push o said a old new adds before = record {
   long = adds.long ∙ before.long;
-  each = say_more (λ c d a. PutsInto o a c d) f xs k (get_or xs k x) (slice_get-get_or xs k x l) old new adds before.each;
+  each = say_push (λ c d b. PutsInto o b c d) said a old new adds before.each;
 }
 
 -- ---- the classes of elements

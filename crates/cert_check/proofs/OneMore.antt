@@ -1,24 +1,22 @@
 -- One more line behind lines that were tested.
-use Rattle.std.proofs.Common.{◌≡◌, ◌↔◌, ℕ, ◌+◌, ◌<◌, List, [], ◌∷◌, ◌++◌, length, map, take, get_or, slice_get, Some, None, Option, refl, sym, ap, ◌∙◌, subst, inl, inr, arith}
+use Rattle.std.proofs.Common.{◌≡◌, ◌↔◌, ℕ, ◌+◌, ◌⊎◌, ◌||◌, Bool, IsTrue, true, false, List, [], ◌∷◌, ◌++◌, length, take, slice_get, Some, None, Option, refl, sym, ap, ◌∙◌, subst, inl, inr, arith}
+use Rattle.std.proofs.lemmas.Bool.{false≢true}
 use Rattle.std.proofs.lemmas.List.{length-map, map_push}
-use Rattle.std.proofs.lemmas.Option.{none-some, slice_get-get_or, slice_get_within}
+use Rattle.std.proofs.lemmas.Option.{none-some, slice_get_within}
 use Rattle.std.proofs.Math.Seq.{take-append_seam}
 use Rattle.std.proofs.lemmas.List.{take-append-le}
-use Rattle.lemmas.proofs.Mapped.{slice_get_map, slice_get_map_from}
 use Rattle.lemmas.proofs.Places.{slice_get_push, keeps_push, slice_get_push_cases}
 use Rattle.axioms.specs.Numbered.{Ontology}
 use Rattle.certificate.specs.Certificate.{Line, Conclusion}
 use Rattle.taxonomy.specs.Texts.{inconsistent_taxonomy_text, inconsistent_instances_text}
 use Rattle.cert_check.specs.Derivation.{IsDerived, IsDerivation}
 use Rattle.cert_check.specs.Faults.{IsFirstBadLine}
-use Rattle.cert_check.specs.Lists.{said_by}
-use Rattle.cert_check.specs.Additions.{SomeRow}
-use Rattle.cert_check.specs.Rows.{SomeLine}
-use Rattle.cert_check.specs.Tested.{AreTested}
-use Rattle.cert_check.specs.Verdict.{IsContradiction, HasContradiction, SaysContradiction, TextsAgainst, ContradictionAgainst, AgainstSaid}
+use Rattle.cert_check.specs.Lists.{said_by, AddsNumbers, PutsBelow, PutsInto, AreSuperclasses, AreTypes}
+use Rattle.cert_check.specs.Tested.{AreTested, AreKept}
+use Rattle.cert_check.specs.Verdict.{IsContradiction, HasContradiction, AreShown, TextsAgainst, ContradictionAgainst, ContradictionAgainstShown}
 use Rattle.cert_check.specs.declared.verdict.Reason.{Reason}
 use Rattle.cert_check.specs.declared.verdict.Reason.TheVariants.{BadText, BadLine, AxiomFails, ClaimMissing, ClaimDisagrees, IndividualDisagrees, NoContradiction, TaxonomyDiffers, InstancesDiffer}
-use Rattle.cert_check.proofs.Additions.{some_next}
+use Rattle.cert_check.proofs.Listwise.{some_push, superclasses_push, types_push}
 
 -- what stands before a place does not hang on a line behind it
 before_same : (lines : List Line) (last : Line) (n : ℕ) (line : Line) → slice_get lines n ≡ Some line → take n (lines ++ last ∷ []) ≡ take n lines
@@ -90,21 +88,41 @@ tested_later o lines last said n t = record {
   bad_is = bad_stays o lines last n t.bad_is;
 }
 
--- ---- what is said
+-- ---- what lines show
 
--- a line says so, where that is said
-pub some_said : (P : Conclusion → Type 0) (lines : List Line) → SomeLine lines P ↔ SomeRow (said_by lines) P
-some_said P lines = (
-  λ (k, line, g, p). (k, line.conclusion, slice_get_map (λ l. l.conclusion) lines k line g, p),
-  λ (k, c, g, p). (let there = slice_get_map_from (λ l. l.conclusion) lines k c g in (k, there.0, there.1, subst P (sym there.2) p)),
-)
+either : (b c : Bool) → (b || c ≡ true) ↔ ((b ≡ true) ⊎ (c ≡ true))
+either true c = (λ t. inl refl, λ h. refl)
+either false c = (λ t. inr t, λ h. elim h [ inl e ↦ absurd (false≢true e) | inr e ↦ e ])
 
-pub said_now : {X : Type 0} (P : Conclusion → Type 0) (f : X → Conclusion) (xs : List X) (k : ℕ) (x : X) → k < length xs → P (f (get_or xs k x)) → SomeRow (map f xs) P
-said_now P f xs k x l p = (k, f (get_or xs k x), slice_get_map f xs k (get_or xs k x) (slice_get-get_or xs k x l), p)
+pub contradiction_more : (lines : List Line) (last : Line) (before now : Bool) → (IsTrue before ↔ HasContradiction lines) → (IsTrue now ↔ IsContradiction last.conclusion)
+    → IsTrue (before || now) ↔ HasContradiction (lines ++ last ∷ [])
+contradiction_more lines last before now b n =
+    let e = either before now in
+    let p = some_push (λ (l : Line). IsContradiction l.conclusion) lines last in (
+      λ t. elim (e.0 t) [ inl u ↦ p.1 (inl (b.0 u)) | inr u ↦ p.1 (inr (n.0 u)) ],
+      λ s. elim (p.0 s) [ inl u ↦ e.1 (inl (b.1 u)) | inr u ↦ e.1 (inr (n.1 u)) ],
+    )
 
-pub not_said_yet : {X : Type 0} (P : Conclusion → Type 0) (f : X → Conclusion) (xs : List X) (k : ℕ) (x : X) → k < length xs
-    → (SomeRow (map f (take k xs)) P → ⊥) → (P (f (get_or xs k x)) → ⊥) → SomeRow (map f (take (k + 1) xs)) P → ⊥
-not_said_yet P f xs k x l before now s = elim ((some_next P f xs k (get_or xs k x) (slice_get-get_or xs k x l)).0 s) [ inl h ↦ before h | inr p ↦ now p ]
+pub none_kept : (o : Ontology) (above types : List (List ℕ)) → AreSuperclasses o [] above → AreTypes o [] types → AreKept o [] [] None false above types
+none_kept o above types a t = record {
+  tested = none_tested o;
+  shown = record {
+    contradiction = (λ e. absurd (false≢true e), λ (k, line, g, p). absurd (none-some line g));
+    superclasses = a;
+    members = t;
+  };
+}
+
+pub shown_more : (o : Ontology) (lines : List Line) (last : Line) (old now : Bool) (above above' types types' : List (List ℕ)) → AreShown o lines old above types
+    → (IsTrue now ↔ HasContradiction (lines ++ last ∷ [])) → AddsNumbers (PutsBelow o last.conclusion) above above' → AddsNumbers (PutsInto o last.conclusion) types types'
+    → AreShown o (lines ++ last ∷ []) now above' types'
+shown_more o lines last old now above above' types types' s c a t = record {
+  contradiction = c;
+  superclasses = subst (λ (said : List Conclusion). AreSuperclasses o said above') (sym (one_more_said lines last)) (superclasses_push o (said_by lines) last.conclusion above above' a s.superclasses);
+  members = subst (λ (said : List Conclusion). AreTypes o said types') (sym (one_more_said lines last)) (types_push o (said_by lines) last.conclusion types types' t s.members);
+}
+
+-- ---- the texts where a contradiction is to be shown
 
 texts_against : (t i : List ℕ) (lines : List Line) (reason : Option Reason) → HasContradiction lines → TextsAgainst t i inconsistent_taxonomy_text inconsistent_instances_text reason → ContradictionAgainst t i lines reason
 texts_against t i lines None h x = (h, x)
@@ -118,11 +136,10 @@ texts_against t i lines (Some (ClaimMissing c)) h x = absurd x
 texts_against t i lines (Some (ClaimDisagrees c)) h x = absurd x
 texts_against t i lines (Some (IndividualDisagrees c)) h x = absurd x
 
--- where a contradiction is said, the texts are against it
-pub contradiction_said : (o : Ontology) (t i : List ℕ) (said : List Conclusion) (reason : Option Reason) → SaysContradiction said
-    → TextsAgainst t i inconsistent_taxonomy_text inconsistent_instances_text reason → AgainstSaid o t i said None reason
-contradiction_said o t i said reason h x lines is =
-    texts_against t i lines reason ((some_said IsContradiction lines).1 (subst SaysContradiction is h)) x
+-- where a contradiction is shown, the texts are against it
+pub contradiction_shown : (t i : List ℕ) (shown : Bool) (reason : Option Reason) → shown ≡ true
+    → TextsAgainst t i inconsistent_taxonomy_text inconsistent_instances_text reason → ContradictionAgainstShown t i shown reason
+contradiction_shown t i shown reason e x lines is = texts_against t i lines reason (is.0 e) x
 
-pub no_contradiction_said : (o : Ontology) (t i : List ℕ) (said : List Conclusion) → (SaysContradiction said → ⊥) → AgainstSaid o t i said None (Some NoContradiction)
-no_contradiction_said o t i said h lines is c = h (subst SaysContradiction (sym is) ((some_said IsContradiction lines).0 c))
+pub no_contradiction_shown : (t i : List ℕ) (shown : Bool) → shown ≡ false → ContradictionAgainstShown t i shown (Some NoContradiction)
+no_contradiction_shown t i shown e lines is c = false≢true (sym e ∙ is.1 c)

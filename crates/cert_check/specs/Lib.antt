@@ -5,8 +5,8 @@ pub mod Faults
 pub mod Rows
 pub mod Additions
 pub mod Lists
-pub mod Tested
 pub mod Verdict
+pub mod Tested
 pub mod Acceptable
 pub mod Soundness
 pub mod Examples

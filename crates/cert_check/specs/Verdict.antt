@@ -1,5 +1,5 @@
 -- What the checker's answers mean.
-use Rattle.std.specs.Prelude.{◌≡◌, ℕ, ◌<◌, ◌≤◌, List, Bool, length, slice_get, Some, None}
+use Rattle.std.specs.Prelude.{◌≡◌, ◌↔◌, ℕ, ◌<◌, ◌≤◌, List, Bool, IsTrue, length, slice_get, Some, None}
 use Rattle.std.specs.declared.option.Option.{Option}
 use Rattle.std.specs.List.{Contains}
 use Rattle.axioms.specs.Numbered.{Ontology, IsClassAt, axiom_trees, thing, nothing}
@@ -13,7 +13,6 @@ use Rattle.cert_check.specs.declared.verdict.Reason.{Reason}
 use Rattle.cert_check.specs.declared.verdict.Reason.TheVariants.{BadText, BadLine, AxiomFails, ClaimMissing, ClaimDisagrees, IndividualDisagrees, NoContradiction, TaxonomyDiffers, InstancesDiffer}
 use Rattle.cert_check.specs.declared.verdict.Verdict.{Verdict}
 use Rattle.cert_check.specs.declared.verdict.Verdict.TheVariants.{Accepted, Rejected}
-use Rattle.cert_check.specs.Additions.{SomeRow}
 use Rattle.cert_check.specs.Derivation.{IsDerivation, HasLine}
 use Rattle.cert_check.specs.Acceptable.{Agrees, ClaimHolds, LiesBelow, Belongs}
 use Rattle.listed_model.specs.Listing.{IsListing}
@@ -38,10 +37,6 @@ TextsAgainst t i t' i' None = (t ≡ t') × (i ≡ i')
 TextsAgainst t i t' i' (Some (TaxonomyDiffers at)) = DifferFirstAt t t' at
 TextsAgainst t i t' i' (Some (InstancesDiffer at)) = (t ≡ t') × DifferFirstAt i i' at
 TextsAgainst _ _ _ _ _ = ⊥
-
--- .. of which this is said
-abbrev pub SaysContradiction : List Conclusion → Type 0
-SaysContradiction said = SomeRow said IsContradiction
 
 -- what speaks against them where a derivation is to show a contradiction
 abbrev pub ContradictionAgainst : (taxonomy instances : List ℕ) → List Line → Option Reason → Type 0
@@ -123,22 +118,34 @@ pub record ConsistentAgainst (o : Ontology) (taxonomy instances : List ℕ) (lin
   pub interpretation : IsInterpretation i
   pub against : ListingAgainst o taxonomy instances lines listed i reason
 
--- some derivation's lines say this
-abbrev pub HasDerivation : Ontology → List Conclusion → Type 0
-HasDerivation o said = (lines : List Line) × (said ≡ said_by lines) × IsDerivation o lines
+-- what is kept of lines: whether they show a contradiction, and for each class and each individual the list of the classes that
+-- they put it into
+pub record AreShown (o : Ontology) (lines : List Line) (contradictory : Bool) (above types : List (List ℕ)) : Type 0 where
+  pub contradiction : IsTrue contradictory ↔ HasContradiction lines
+  pub superclasses : AreSuperclasses o (said_by lines) above
+  pub members : AreTypes o (said_by lines) types
 
--- .. and the texts are measured, for whichever lines say this
-abbrev pub ConsistentAgainstSaid : Ontology → (taxonomy instances : List ℕ) → List Conclusion → Listed → Option Reason → Type 0
-ConsistentAgainstSaid o t i said listed reason = (lines : List Line) → said ≡ said_by lines → ConsistentAgainst o t i lines listed reason
+-- this is kept of some derivation's lines
+abbrev pub HasDerivation : Ontology → Bool → (above types : List (List ℕ)) → Type 0
+HasDerivation o contradictory above types = (lines : List Line) × AreShown o lines contradictory above types × IsDerivation o lines
+
+-- .. and the texts are measured, for whichever lines these are the lists of
+abbrev pub ConsistentAgainstShown : Ontology → (taxonomy instances : List ℕ) → (above types : List (List ℕ)) → Listed → Option Reason → Type 0
+ConsistentAgainstShown o t i above types listed reason =
+    (lines : List Line) → AreSuperclasses o (said_by lines) above → AreTypes o (said_by lines) types → ConsistentAgainst o t i lines listed reason
+
+-- .. for whichever lines show a contradiction, or do not
+abbrev pub ContradictionAgainstShown : (taxonomy instances : List ℕ) → Bool → Option Reason → Type 0
+ContradictionAgainstShown t i contradictory reason = (lines : List Line) → (IsTrue contradictory ↔ HasContradiction lines) → ContradictionAgainst t i lines reason
 
 -- what speaks against a certificate
 abbrev pub Against : Ontology → (taxonomy instances : List ℕ) → List Line → Option Listed → Option Reason → Type 0
 Against o t i lines None reason = ContradictionAgainst t i lines reason
 Against o t i lines (Some listed) reason = ConsistentAgainst o t i lines listed reason
 
--- .. where its lines say this, whichever they are
-abbrev pub AgainstSaid : Ontology → (taxonomy instances : List ℕ) → List Conclusion → Option Listed → Option Reason → Type 0
-AgainstSaid o t i said listed reason = (lines : List Line) → said ≡ said_by lines → Against o t i lines listed reason
+-- .. where this is kept of its lines, whichever they are
+abbrev pub AgainstShown : Ontology → (taxonomy instances : List ℕ) → Bool → (above types : List (List ℕ)) → Option Listed → Option Reason → Type 0
+AgainstShown o t i contradictory above types listed reason = (lines : List Line) → AreShown o lines contradictory above types → Against o t i lines listed reason
 
 abbrev pub verdict_of_reason : Option Reason → Verdict
 verdict_of_reason None = Accepted

@@ -6,9 +6,11 @@ use Rattle.axioms.specs.declared.ids.PropId.{PropId}
 use Rattle.axioms.specs.Numbered as numbered
 use Rattle.certificate.specs.declared.line.Conclusion as code
 use Rattle.certificate.specs.declared.line.Subject as code_subject
-use Rattle.certificate.specs.Certificate.{Subject, Conclusion, Sub, Edge}
+use Rattle.certificate.specs.Certificate.{Subject, Expression, Individual, Conclusion, Sub, Edge}
 use Rattle.certificate.specs.declared.line.Rule.{Rule}
 use Rattle.certificate.specs.View.{conclusion_of, subject_of}
+use Rattle.cert_check.specs.declared.short_conclusion.ShortConclusion.{ShortConclusion}
+use Rattle.cert_check.specs.declared.short_conclusion.ShortConclusion.TheVariants as short
 use Rattle.cert_check.specs.Lines.{Follows}
 
 -- the conclusion follows by the rule from the premises, in their order, and the axiom, if there is one
@@ -28,3 +30,12 @@ IsFirstIn premises subject expression =
 abbrev pub IsFirstEdge : List code.Conclusion → code_subject.Subject → PropId → Type 0
 IsFirstEdge premises source property =
     (end : Subject) × (others : List Conclusion) × (map conclusion_of premises ≡ Edge (subject_of source) property.0 end ∷ others)
+
+-- what the code keeps of a conclusion
+abbrev pub said_of : ShortConclusion → Conclusion
+said_of (short.Expr x c) = Sub (Expression x.0) c.0
+said_of (short.Individual a c) = Sub (Individual a.0) c.0
+said_of (short.ExprExpr x r y) = Edge (Expression x.0) r.0 (Expression y.0)
+said_of (short.ExprIndividual x r b) = Edge (Expression x.0) r.0 (Individual b.0)
+said_of (short.IndividualExpr a r y) = Edge (Individual a.0) r.0 (Expression y.0)
+said_of (short.IndividualIndividual a r b) = Edge (Individual a.0) r.0 (Individual b.0)

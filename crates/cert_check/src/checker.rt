@@ -3,12 +3,13 @@ ghost use Rattle.axioms.specs.Numbered.{axiom_trees};
 ghost use Rattle.cert_check.specs.Acceptable.{AreRight, IsAcceptable};
 ghost use Rattle.listed_model.specs.Listing.{IsListing};
 ghost use Rattle.cert_check.specs.Lists.{AreLists, ArePreorder};
-ghost use Rattle.cert_check.specs.Verdict.{AgainstSaid, ClaimsAgainstLists, ConsistentAgainstSaid, HasDerivation, HasTrueLines, IsContradiction, IsVerdict, PassesLines, RelationAgainstLists, SaysContradiction, TextsAgainst, verdict_of_reason};
+ghost use Rattle.cert_check.specs.Tested.{IsReading};
+ghost use Rattle.cert_check.specs.Verdict.{AgainstShown, ClaimsAgainstLists, ConsistentAgainstShown, ContradictionAgainstShown, HasDerivation, HasTrueLines, IsVerdict, PassesLines, RelationAgainstLists, TextsAgainst, verdict_of_reason};
 ghost use Rattle.certificate.specs.HasText.{IsListedOf};
-ghost use Rattle.certificate.specs.View.{conclusion_of, listed_of};
+ghost use Rattle.certificate.specs.View.{listed_of};
 ghost use Rattle.interpretation_spec.specs.ByName.{IsFirstUnsatisfied};
 ghost use Rattle.interpretation_spec.specs.Interpretation.{Interpretation, IsInterpretation, IsModel};
-ghost use Rattle.std.specs.Prelude.{◌↔◌, ◌≡◌, IfOk, IfSome, IsTrue, MatchOption, None, length, map, option_map};
+ghost use Rattle.std.specs.Prelude.{◌↔◌, ◌≡◌, IfOk, IfSome, IsTrue, List, MatchOption, None, length, map, option_map, ℕ};
 ghost use Rattle.taxonomy.specs.Outcome.{IsMadeFor, instances_of, taxonomy_of};
 
 use crate::claims::{
@@ -16,11 +17,10 @@ use crate::claims::{
     first_unclaimed,
 };
 use crate::compare::first_difference;
-use crate::derivation::tested_certificate;
-use crate::superclasses::{superclasses, types};
+use crate::derivation::{ShownLines, TestedCertificate, tested_certificate};
 use crate::verdict::{Reason, Verdict};
-use axioms::{ExprId, Memory, Ontology};
-use certificate::{CertFault, Conclusion, Listed, Subject};
+use axioms::{Memory, Ontology};
+use certificate::{CertFault, Listed};
 use listed_model::first_unsatisfied;
 use number_sets::{EpochSet, PackedLists};
 use std::alloc::Global;
@@ -45,34 +45,53 @@ pub fn check(
     // What it accepts says what follows from the axioms.
     ensures says { IfOk result (λ v. v ≡ Verdict.Accepted → AreRight ontology.now taxonomy.now instances.now certificate.now) }
 {
-    let verdict = verdict_on(alloc, ontology, taxonomy, instances, certificate)?;
+    let read = tested_certificate(alloc, ontology, certificate);
+    let verdict = verdict_on(alloc, ontology, taxonomy, instances, read)?;
     ontology.well_formed();
     Ok(verdict)
 }
 
-// The verdict: the first reason that holds, where there is one.
+/// The same as [`check`]. The text of the certificate, which may be the greatest of all, is let go as soon as it is read.
+pub fn check_owned(
+    alloc: Global,
+    ontology: &Ontology,
+    taxonomy: &[u8],
+    instances: &[u8],
+    certificate: Vec<u8>,
+) -> Result<Verdict, Memory>
+    ensures verdict { IfOk result (IsVerdict ontology.now taxonomy.now instances.now certificate.items) }
+    ensures accepted { IfOk result (λ v. (v ≡ Verdict.Accepted) ↔ IsAcceptable ontology.now taxonomy.now instances.now certificate.items) }
+    ensures lines { IfOk result (λ v. PassesLines v → HasTrueLines ontology.now certificate.items) }
+    ensures says { IfOk result (λ v. v ≡ Verdict.Accepted → AreRight ontology.now taxonomy.now instances.now certificate.items) }
+{
+    let read = tested_certificate(alloc, ontology, &certificate);
+    drop(certificate);
+    let found = verdict_on(alloc, ontology, taxonomy, instances, read)?;
+    ontology.well_formed();
+    Ok(found)
+}
+
+// The verdict on a certificate that was read: the first reason that holds, where there is one.
 fn verdict_on(
     alloc: Global,
     ontology: &Ontology,
     taxonomy: &[u8],
     instances: &[u8],
-    certificate: &[u8],
+    read: Result<TestedCertificate, CertFault>,
 ) -> Result<Verdict, Memory>
-    ensures { IfOk result (IsVerdict ontology.now taxonomy.now instances.now certificate.now) }
+    requires { (text : List ℕ) × IsReading ontology.now text read }
+    ensures { IfOk result (λ v. (text : List ℕ) → IsReading ontology.now text read → IsVerdict ontology.now taxonomy.now instances.now text v) }
 {
-    let read = match tested_certificate(alloc, ontology, certificate) {
+    let read = match read {
         Ok(read) => read,
         Err(CertFault::BadText { at }) => return Ok(Verdict::Rejected(Reason::BadText { at })),
         Err(CertFault::Memory) => return Err(Memory),
     };
-    match read.lines.bad {
-        Some(number) => Ok(Verdict::Rejected(Reason::BadLine { number })),
-        None => {
-            let said = &read.lines.said;
-            let found = against(alloc, ontology, taxonomy, instances, said, &read.listed)?;
-            Ok(verdict_of(found))
-        }
+    if let Some(number) = read.lines.bad {
+        return Ok(Verdict::Rejected(Reason::BadLine { number }));
     }
+    let found = against(alloc, ontology, taxonomy, instances, read)?;
+    Ok(verdict_of(found))
 }
 
 // The verdict, where this speaks against the certificate.
@@ -85,44 +104,44 @@ fn verdict_of(found: Option<Reason>) -> Verdict
     }
 }
 
-// What speaks against a certificate whose lines, which say these, are a derivation.
+// What speaks against a certificate whose lines are a derivation.
 fn against(
     alloc: Global,
     ontology: &Ontology,
     taxonomy: &[u8],
     instances: &[u8],
-    said: &[Conclusion],
-    listed: &Option<Listed>,
+    read: TestedCertificate,
 ) -> Result<Option<Reason>, Memory>
-    requires derived { HasDerivation ontology.now (map conclusion_of said.now) }
-    requires listed { IfSome (option_map listed_of listed.now) (IsListedOf ontology.now) }
-    ensures { IfOk result (AgainstSaid ontology.now taxonomy.now instances.now (map conclusion_of said.now) (option_map listed_of listed.now)) }
+    requires derived { HasDerivation ontology.now read.lines.is_contradictory read.lines.above read.lines.types }
+    requires listed { IfSome (option_map listed_of read.listed) (IsListedOf ontology.now) }
+    ensures { IfOk result (AgainstShown ontology.now taxonomy.now instances.now read.lines.is_contradictory read.lines.above read.lines.types (option_map listed_of read.listed)) }
 {
+    let TestedCertificate { lines, listed } = read;
     match listed {
-        Some(listed) => against_consistent(alloc, ontology, taxonomy, instances, said, listed),
-        None => against_contradiction(alloc, ontology, taxonomy, instances, said),
+        Some(listed) => against_consistent(alloc, ontology, taxonomy, instances, lines, &listed),
+        None => against_contradiction(alloc, ontology, taxonomy, instances, lines.is_contradictory),
     }
 }
 
-// What speaks against a certificate with a listed interpretation whose lines, which say these, are a derivation.
+// What speaks against a certificate with a listed interpretation whose lines are a derivation.
 fn against_consistent(
     alloc: Global,
     ontology: &Ontology,
     taxonomy: &[u8],
     instances: &[u8],
-    said: &[Conclusion],
+    lines: ShownLines,
     listed: &Listed,
 ) -> Result<Option<Reason>, Memory>
-    requires derived { HasDerivation ontology.now (map conclusion_of said.now) }
+    requires derived { HasDerivation ontology.now lines.is_contradictory lines.above lines.types }
     requires listed { IsListedOf ontology.now (listed_of listed.now) }
-    ensures { IfOk result (ConsistentAgainstSaid ontology.now taxonomy.now instances.now (map conclusion_of said.now) (listed_of listed.now)) }
+    ensures { IfOk result (ConsistentAgainstShown ontology.now taxonomy.now instances.now lines.above lines.types (listed_of listed.now)) }
 {
     ontology.well_formed();
     if let Some(axiom) = first_failing_axiom(alloc, ontology, listed)? {
         return Ok(Some(Reason::AxiomFails { axiom }));
     }
-    let above = superclasses(alloc, ontology, said)?;
-    let types = types(alloc, ontology, said)?;
+    let above = lines.above;
+    let types = lines.types;
     let claims = against_claims(alloc, ontology, listed, &above, &types)?;
     if claims.is_some() {
         return Ok(claims);
@@ -195,44 +214,20 @@ fn against_relation(
     against_texts(alloc, ontology, taxonomy, instances, &outcome)
 }
 
-// What speaks against a certificate of a contradiction whose lines, which say these, are a derivation.
+// What speaks against a certificate of a contradiction whose lines show one, or do not.
 fn against_contradiction(
     alloc: Global,
     ontology: &Ontology,
     taxonomy: &[u8],
     instances: &[u8],
-    said: &[Conclusion],
+    is_contradictory: bool,
 ) -> Result<Option<Reason>, Memory>
-    ensures { IfOk result (AgainstSaid ontology.now taxonomy.now instances.now (map conclusion_of said.now) None) }
+    ensures { IfOk result (ContradictionAgainstShown taxonomy.now instances.now is_contradictory) }
 {
-    if !has_contradiction(said) {
+    if !is_contradictory {
         return Ok(Some(Reason::NoContradiction));
     }
     against_texts(alloc, ontology, taxonomy, instances, &Outcome::Inconsistent)
-}
-
-// Whether one of these puts owl:Thing or an individual below owl:Nothing.
-fn has_contradiction(said: &[Conclusion]) -> bool
-    ensures { IsTrue result ↔ SaysContradiction (map conclusion_of said.now) }
-{
-    for conclusion in said {
-        if is_contradiction(*conclusion) {
-            return true;
-        }
-    }
-    false
-}
-
-// Whether the conclusion puts owl:Thing or an individual below owl:Nothing.
-fn is_contradiction(conclusion: Conclusion) -> bool
-    ensures { IsTrue result ↔ IsContradiction (conclusion_of conclusion) }
-{
-    match conclusion {
-        Conclusion::Sub(Subject::Expr(expression), above) => expression == ExprId::THING
-            && above == ExprId::NOTHING,
-        Conclusion::Sub(Subject::Individual(_), above) => above == ExprId::NOTHING,
-        Conclusion::Edge(..) => false,
-    }
 }
 
 // Where the texts differ from those of the outcome.

@@ -2,7 +2,9 @@
 ghost use Rattle.axioms.specs.View.{at_number, axiom_of};
 ghost use Rattle.cert_check.specs.Derivation.{IsDerived, at_numbers, axiom_at};
 ghost use Rattle.cert_check.specs.Lists.{said_by};
-ghost use Rattle.cert_check.specs.Tested.{AreTested, IsTested};
+ghost use Rattle.cert_check.specs.Tested.{AreKept, AreTested, IsTested};
+ghost use Rattle.cert_check.specs.Verdict.{HasContradiction, IsContradiction};
+ghost use Rattle.cert_check.specs.View.{said_of};
 ghost use Rattle.certificate.specs.Certificate as spec;
 ghost use Rattle.certificate.specs.HasText.{IsLineOf};
 ghost use Rattle.certificate.specs.Outcome.{IsRefused};
@@ -11,36 +13,54 @@ ghost use Rattle.certificate.specs.View.{conclusion_of, line_of, listed_of};
 ghost use Rattle.std.specs.Prelude.{◌↔◌, ◌≡◌, ◌++◌, ◌∷◌, [], List, IfErr, IfOk, IsTrue, None, OnOk, Some, if◌then◌else◌, map, option_map, slice_get};
 
 use crate::rules::follows;
-use axioms::{Axiom, Memory, Ontology};
-use certificate::{CertFault, Conclusion, Line, LineReader, Listed};
+use crate::short_conclusion::ShortConclusion;
+use crate::superclasses::{put_below, put_into};
+use axioms::{Axiom, ExprId, Memory, Ontology};
+use certificate::{CertFault, Conclusion, Line, LineReader, Listed, Subject};
+use number_sets::{OpenLists, PackedLists};
 use std::alloc::Global;
 
-/// What is kept of lines that are read and tested one after another.
+/// What is kept of lines while they are read and tested one after another.
 #[derive(Drop)]
-pub(crate) struct TestedLines {
+struct TestedLines {
     /// What the lines say.
-    pub(crate) said: Vec<Conclusion>,
+    said: Vec<ShortConclusion>,
     /// The number of the first line, counted from 1, that does not follow by its rule from lines before it.
+    bad: Option<usize>,
+    /// Whether a line puts owl:Thing or an individual below owl:Nothing.
+    is_contradictory: bool,
+    /// For each class the list of the classes that a line puts above it, once for each that does.
+    above: OpenLists,
+    /// For each individual the list of the classes that a line puts it into, once for each that does.
+    types: OpenLists,
+}
+
+/// What is kept of lines that were read and tested: what they say, but for the lists of classes, is let go.
+#[derive(Drop)]
+pub(crate) struct ShownLines {
     pub(crate) bad: Option<usize>,
+    pub(crate) is_contradictory: bool,
+    pub(crate) above: PackedLists,
+    pub(crate) types: PackedLists,
 }
 
 /// What is kept of a certificate whose lines were read and tested one after another.
 #[derive(Drop)]
 pub(crate) struct TestedCertificate {
-    pub(crate) lines: TestedLines,
+    pub(crate) lines: ShownLines,
     pub(crate) listed: Option<Listed>,
 }
 
 // What is said at that place, counted from 0.
-fn at_place(said: &[Conclusion], place: usize) -> Option<Conclusion>
+fn at_place(said: &[ShortConclusion], place: usize) -> Option<ShortConclusion>
     ensures { result ≡ slice_get said.now place }
 {
     said.get(place).copied()
 }
 
 // What is said at that number, counted from 1.
-fn said_at(said: &[Conclusion], number: u64) -> Option<Conclusion>
-    ensures { option_map conclusion_of result ≡ at_number (map conclusion_of said.now) number }
+fn said_at(said: &[ShortConclusion], number: u64) -> Option<ShortConclusion>
+    ensures { option_map said_of result ≡ at_number (map said_of said.now) number }
 {
     let place = number.checked_sub(1)?;
     at_place(said, place as usize)
@@ -49,15 +69,15 @@ fn said_at(said: &[Conclusion], number: u64) -> Option<Conclusion>
 // Makes the list that of what is said at these numbers. It answers no where a number is none of what is said.
 fn gather(
     premises: &mut Vec<Conclusion>,
-    said: &[Conclusion],
+    said: &[ShortConclusion],
     numbers: &[u64],
 ) -> Result<bool, Memory>
-    ensures { IfOk result (λ all. at_numbers (map conclusion_of said.now) numbers.now ≡ if all then Some (map conclusion_of premises.new.items) else None) }
+    ensures { IfOk result (λ all. at_numbers (map said_of said.now) numbers.now ≡ if all then Some (map conclusion_of premises.new.items) else None) }
 {
     premises.clear();
     for number in numbers {
         match said_at(said, *number) {
-            Some(conclusion) => premises.push(conclusion)?,
+            Some(short) => premises.push(short.conclusion())?,
             None => return Ok(false),
         }
     }
@@ -78,17 +98,29 @@ fn axiom_at(ontology: &Ontology, number: Option<usize>) -> Option<&Axiom>
 fn is_derived(
     ontology: &Ontology,
     premises: &mut Vec<Conclusion>,
-    said: &[Conclusion],
+    said: &[ShortConclusion],
     line: &Line,
 ) -> Result<bool, Memory>
     requires { IsLineOf ontology.now (line_of line.now) }
-    ensures { IfOk result (λ yes. (before : List spec.Line) → map conclusion_of said.now ≡ said_by before → IsTrue yes ↔ IsDerived ontology.now before (line_of line.now)) }
+    ensures { IfOk result (λ yes. (before : List spec.Line) → map said_of said.now ≡ said_by before → IsTrue yes ↔ IsDerived ontology.now before (line_of line.now)) }
 {
     if !gather(premises, said, &line.premises)? {
         return Ok(false);
     }
     let stated = axiom_at(ontology, line.axiom);
     Ok(follows(ontology, line.rule, premises, stated, line.conclusion))
+}
+
+// Whether the conclusion puts owl:Thing or an individual below owl:Nothing.
+fn is_contradiction(conclusion: Conclusion) -> bool
+    ensures { IsTrue result ↔ IsContradiction (conclusion_of conclusion) }
+{
+    match conclusion {
+        Conclusion::Sub(Subject::Expr(expression), above) => expression == ExprId::THING
+            && above == ExprId::NOTHING,
+        Conclusion::Sub(Subject::Individual(_), above) => above == ExprId::NOTHING,
+        Conclusion::Edge(..) => false,
+    }
 }
 
 impl TestedLines {
@@ -100,8 +132,8 @@ impl TestedLines {
         line: &Line,
     ) -> Result<Option<usize>, Memory>
         requires { IsLineOf ontology.now (line_of line.now) }
-        ensures { IfOk result (λ bad. (lines : List spec.Line) → AreTested ontology.now lines (map conclusion_of self.now.said.items) self.now.bad
-            → AreTested ontology.now (lines ++ line_of line.now ∷ []) (map conclusion_of self.now.said.items ++ conclusion_of line.now.conclusion ∷ []) bad) }
+        ensures { IfOk result (λ bad. (lines : List spec.Line) → AreTested ontology.now lines (map said_of self.now.said.items) self.now.bad
+            → AreTested ontology.now (lines ++ line_of line.now ∷ []) (map said_of self.now.said.items ++ conclusion_of line.now.conclusion ∷ []) bad) }
     {
         if let Some(number) = self.bad {
             return Ok(Some(number));
@@ -112,6 +144,13 @@ impl TestedLines {
         Ok(Some(self.said.len() + 1))
     }
 
+    // Whether a line is a contradiction, with this line behind the others.
+    fn is_contradictory_with(&self, line: &Line) -> bool
+        ensures { (lines : List spec.Line) → (IsTrue self.now.is_contradictory ↔ HasContradiction lines) → (IsTrue result ↔ HasContradiction (lines ++ line_of line.now ∷ [])) }
+    {
+        self.is_contradictory || is_contradiction(line.conclusion)
+    }
+
     // Adds the line. The list is to work in.
     fn add(
         &mut self,
@@ -120,13 +159,47 @@ impl TestedLines {
         line: &Line,
     ) -> Result<(), Memory>
         requires { IsLineOf ontology.now (line_of line.now) }
-        ensures { OnOk result ((lines : List spec.Line) → AreTested ontology.now lines (map conclusion_of self.old.said.items) self.old.bad
-            → AreTested ontology.now (lines ++ line_of line.now ∷ []) (map conclusion_of self.new.said.items) self.new.bad) }
+        ensures { OnOk result ((lines : List spec.Line) → AreKept ontology.now lines (map said_of self.old.said.items) self.old.bad self.old.is_contradictory self.old.above self.old.types
+            → AreKept ontology.now (lines ++ line_of line.now ∷ []) (map said_of self.new.said.items) self.new.bad self.new.is_contradictory self.new.above self.new.types) }
     {
         self.bad = self.first_bad_with(ontology, premises, line)?;
-        self.said.push(line.conclusion)?;
+        self.is_contradictory = self.is_contradictory_with(line);
+        put_below(ontology, &mut self.above, line.conclusion)?;
+        put_into(ontology, &mut self.types, line.conclusion)?;
+        self.said.push(ShortConclusion::of(line.conclusion))?;
         Ok(())
     }
+
+    // What is kept of the lines when all are read.
+    fn shown(self, alloc: Global) -> Result<ShownLines, Memory>
+        ensures { IfOk result (λ l. (l.bad ≡ self.bad) × (l.is_contradictory ≡ self.is_contradictory) × (l.above ≡ self.above) × (l.types ≡ self.types)) }
+    {
+        drop(self.said);
+        let above = self.above.packed(alloc)?;
+        drop(self.above);
+        let types = self.types.packed(alloc)?;
+        Ok(ShownLines {
+            bad: self.bad,
+            is_contradictory: self.is_contradictory,
+            above,
+            types,
+        })
+    }
+}
+
+// What is kept of no lines.
+fn no_lines(alloc: Global, ontology: &Ontology) -> Result<TestedLines, Memory>
+    ensures { IfOk result (λ t. AreKept ontology.now [] (map said_of t.said.items) t.bad t.is_contradictory t.above t.types) }
+{
+    let above = OpenLists::new(alloc, ontology.classes().len())?;
+    let types = OpenLists::new(alloc, ontology.individuals().len())?;
+    Ok(TestedLines {
+        said: Vec::new(alloc),
+        bad: None,
+        is_contradictory: false,
+        above,
+        types,
+    })
 }
 
 // Reads and tests all lines that come.
@@ -137,12 +210,9 @@ fn tested_lines(
 ) -> Result<TestedLines, Memory>
     requires { reader.old.ontology ≡ ontology.now }
     ensures { IfOk result (λ tested. (lines : List spec.Line) × (reader.old ≡ with_lines lines reader.new) × (reader.new.lines ≡ [])
-        × AreTested ontology.now lines (map conclusion_of tested.said.items) tested.bad) }
+        × AreKept ontology.now lines (map said_of tested.said.items) tested.bad tested.is_contradictory tested.above tested.types) }
 {
-    let mut tested = TestedLines {
-        said: Vec::new(alloc),
-        bad: None,
-    };
+    let mut tested = no_lines(alloc, ontology)?;
     let mut premises = Vec::new(alloc);
     let mut room = Vec::new(alloc);
     while let Some(line) = reader.next(room)? {
@@ -154,18 +224,18 @@ fn tested_lines(
 
 /// Reads the certificate whose text this is, and tests each line when it is read, by those before it.
 ///
-/// Of a line only what it says is kept. Refused as by [`read_certificate`](certificate::read_certificate): a text that is that of no
+/// Of a line only what it says is kept, and when all are read only the classes that they put above classes and individuals. Refused as by [`read_certificate`](certificate::read_certificate): a text that is that of no
 /// certificate is, whichever line of it is bad.
 pub(crate) fn tested_certificate(
     alloc: Global,
     ontology: &Ontology,
     text: &[u8],
 ) -> Result<TestedCertificate, CertFault>
-    ensures tested { IfOk result (λ c. IsTested ontology.now text.now (map conclusion_of c.lines.said.items) c.lines.bad (option_map listed_of c.listed)) }
+    ensures tested { IfOk result (λ c. IsTested ontology.now text.now c.lines.bad c.lines.is_contradictory c.lines.above c.lines.types (option_map listed_of c.listed)) }
     ensures refused { IfErr result (λ fault. IsRefused fault ontology.now text.now) }
 {
     let mut reader = LineReader::new(ontology, text)?;
-    let lines = tested_lines(alloc, ontology, &mut reader)?;
+    let lines = tested_lines(alloc, ontology, &mut reader)?.shown(alloc)?;
     let listed = reader.finish(alloc)?;
     Ok(TestedCertificate { lines, listed })
 }

@@ -8,11 +8,12 @@ mod derivation;
 mod listing;
 mod operands;
 mod rules;
+mod short_conclusion;
 mod superclasses;
 mod theory;
 mod verdict;
 
-pub use checker::check;
+pub use checker::{check, check_owned};
 pub use listing::interpretation_of;
 pub use theory::{soundness, worked_certificates};
 pub use verdict::{Reason, Verdict};

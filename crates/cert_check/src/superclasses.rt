@@ -1,12 +1,11 @@
 //! The classes that lines put above each class and each individual.
-ghost use Rattle.cert_check.specs.Lists.{AddsNumbers, AreSuperclasses, AreTypes, PutsBelow, PutsInto};
+ghost use Rattle.cert_check.specs.Lists.{AddsNumbers, PutsBelow, PutsInto};
 ghost use Rattle.certificate.specs.View.{conclusion_of};
-ghost use Rattle.std.specs.Prelude.{◌<◌, ◌≡◌, IfOk, MatchOption, OnOk, length, map, ℕ};
+ghost use Rattle.std.specs.Prelude.{◌<◌, ◌≡◌, MatchOption, OnOk, ℕ};
 
 use axioms::{ClassId, IndId, Memory, Ontology};
 use certificate::{Conclusion, Subject};
-use number_sets::{OpenLists, PackedLists};
-use std::alloc::Global;
+use number_sets::OpenLists;
 
 // The class that the conclusion is about, and the class that it puts above it.
 fn class_pair(ontology: &Ontology, conclusion: Conclusion) -> Option<(ClassId, ClassId)>
@@ -37,8 +36,10 @@ fn type_pair(ontology: &Ontology, conclusion: Conclusion) -> Option<(IndId, Clas
     }
 }
 
-// Adds the class that the conclusion puts above a class.
-fn put_below(
+/// Adds the class that the conclusion puts above a class.
+///
+/// It fails only where memory is refused.
+pub(crate) fn put_below(
     ontology: &Ontology,
     lists: &mut OpenLists,
     conclusion: Conclusion,
@@ -51,8 +52,10 @@ fn put_below(
     Ok(())
 }
 
-// Adds the class that the conclusion puts an individual into.
-fn put_into(
+/// Adds the class that the conclusion puts an individual into.
+///
+/// It fails only where memory is refused.
+pub(crate) fn put_into(
     ontology: &Ontology,
     lists: &mut OpenLists,
     conclusion: Conclusion,
@@ -63,38 +66,4 @@ fn put_into(
         lists.push(individual.0 as usize, above.0)?;
     }
     Ok(())
-}
-
-/// For each class the list of the classes that a conclusion puts above it, once for each that does.
-///
-/// It fails only where memory is refused.
-pub fn superclasses(
-    alloc: Global,
-    ontology: &Ontology,
-    conclusions: &[Conclusion],
-) -> Result<PackedLists, Memory>
-    ensures { IfOk result (λ lists. AreSuperclasses ontology.now (map conclusion_of conclusions.now) lists) }
-{
-    let mut lists = OpenLists::new(alloc, ontology.classes().len())?;
-    for conclusion in conclusions {
-        put_below(ontology, &mut lists, *conclusion)?;
-    }
-    Ok(lists.packed(alloc)?)
-}
-
-/// For each individual the list of the classes that a conclusion puts it into, once for each that does.
-///
-/// It fails only where memory is refused.
-pub fn types(
-    alloc: Global,
-    ontology: &Ontology,
-    conclusions: &[Conclusion],
-) -> Result<PackedLists, Memory>
-    ensures { IfOk result (λ lists. AreTypes ontology.now (map conclusion_of conclusions.now) lists) }
-{
-    let mut lists = OpenLists::new(alloc, ontology.individuals().len())?;
-    for conclusion in conclusions {
-        put_into(ontology, &mut lists, *conclusion)?;
-    }
-    Ok(lists.packed(alloc)?)
 }

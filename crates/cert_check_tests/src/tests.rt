@@ -5,7 +5,7 @@ mod ontologies;
 mod rules;
 
 use axioms::{ClassId, IndId, Ontology};
-use cert_check::{Reason, Verdict, check, soundness, worked_certificates};
+use cert_check::{Reason, Verdict, check, check_owned, soundness, worked_certificates};
 use ontologies::{
     CIRCLE_AND_NOTHING_DOCUMENT, CONTRADICTION_DOCUMENT, ONE_MEMBER_DOCUMENT,
     ONE_SUBCLASS_DOCUMENT, ontology_of,
@@ -61,7 +61,7 @@ fn with_lines(alloc: Global, front: &str, lines: &str, back: &str) -> Result<Str
     Ok(text)
 }
 
-/// Whether this is the verdict on the texts with the certificate in place of theirs.
+/// Whether this is the verdict on the texts with the certificate in place of theirs, which is lent or given away.
 fn has_verdict(
     alloc: Global,
     ontology: &Ontology,
@@ -76,7 +76,17 @@ fn has_verdict(
         texts.instances.as_bytes(),
         certificate.as_bytes(),
     );
-    found == Ok(expected)
+    let Ok(bytes) = Vec::from_slice(alloc, certificate.as_bytes()) else {
+        return false;
+    };
+    let owned = check_owned(
+        alloc,
+        ontology,
+        texts.taxonomy.as_bytes(),
+        texts.instances.as_bytes(),
+        bytes,
+    );
+    found == Ok(expected) && owned == Ok(expected)
 }
 
 /// A part of a certificate, what stands in its place, and why the certificate is rejected then, if it is.

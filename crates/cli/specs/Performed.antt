@@ -129,7 +129,8 @@ IsExplainRun q facts bytes content old new status =
     ⊎ ((fault : QuestionFault) × asking.IsFaultOf bytes facts (content q.document.now) (subject_name (asked_by q) ∷ class_name q.class.now ∷ []) fault × (new.out ≡ old.out)
     × IsTold old.err new.err (IsQuestionText q.document.now bytes facts fault) (question_status fault) status)
 
--- how many bytes the document of a task may have, and how many facts may be drawn: a check has no limit of these of its own
+-- how many bytes the document of a task may have, and how many facts may be drawn for it: a check draws none, so it has no limit
+-- of its own, and the greatest stands for it
 abbrev pub max_bytes_of : Task → ℕ
 max_bytes_of (Classify paths facts bytes) = bytes
 max_bytes_of (Check paths bytes) = bytes

@@ -5,7 +5,7 @@ ghost use Rattle.std.specs.Prelude.{IfErr, IfOk};
 
 use crate::fault::CheckFault;
 use axioms::Ontology;
-use cert_check::{Verdict, check};
+use cert_check::{Verdict, check_owned};
 use device::{ReadFault, Source, read_all};
 use document::{Limits, read_document};
 use std::alloc::Global;
@@ -84,13 +84,12 @@ pub(crate) fn checked<D: Source, T: Source, I: Source, C: Source>(
         Ok(texts) => texts,
         Err(fault) => return Err(fault),
     };
-    match check(
-        alloc,
-        &ontology,
-        &texts.taxonomy,
-        &texts.instances,
-        &texts.certificate,
-    ) {
+    let TextBytes {
+        taxonomy,
+        instances,
+        certificate,
+    } = texts;
+    match check_owned(alloc, &ontology, &taxonomy, &instances, certificate) {
         Ok(verdict) => Ok((ontology, verdict)),
         Err(_) => Err(CheckFault::Memory),
     }

@@ -1,5 +1,10 @@
 use Rattle.cert_check.proofs.Exactness.{accepted_exactly, accepted_right, passed_lines}
+use Rattle.cert_check.proofs.Readings.{reading}
 use Rattle.cert_check.proofs.checker.check.Goals as goal
+
+pub verdict_on-requires : goal.verdict_on-requires
+verdict_on-requires c =
+    (c.args.certificate.now, reading c.args.ontology.now c.args.certificate.now c.tested_certificate-read.result c.tested_certificate-read.ensures.tested c.tested_certificate-read.ensures.refused)
 
 pub returns : goal.returns
 returns c =
@@ -7,10 +12,11 @@ returns c =
     let t = c.args.taxonomy.now in
     let i = c.args.instances.now in
     let text = c.args.certificate.now in
-    let verdict = c.in_ok-verdict.ensures in
+    let v = c.in_ok-verdict.verdict in
+    let verdict = c.in_ok-verdict.ensures text (reading o text c.tested_certificate-read.result c.tested_certificate-read.ensures.tested c.tested_certificate-read.ensures.refused) in
     record {
       verdict = verdict;
-      accepted = accepted_exactly o c.well_formed-2.ensures t i text c.in_ok-verdict.verdict verdict;
-      lines = passed_lines o c.well_formed-2.ensures t i text c.in_ok-verdict.verdict verdict;
-      says = accepted_right o c.well_formed-2.ensures t i text c.in_ok-verdict.verdict verdict;
+      accepted = accepted_exactly o c.well_formed-2.ensures t i text v verdict;
+      lines = passed_lines o c.well_formed-2.ensures t i text v verdict;
+      says = accepted_right o c.well_formed-2.ensures t i text v verdict;
     }
