@@ -1,7 +1,6 @@
 -- A document has at least as many bytes as its ontology has axioms.
-use Rattle.std.proofs.Common.{ℕ, ◌+◌, ◌<◌, ◌≤◌, inl, inr, Bool, true, false, List, [], ◌∷◌, ◌++◌, length, Option, Some, None, if◌then◌else◌, codes, sym, ap, arith, length-append, true≢false}
+use Rattle.std.proofs.Common.{ℕ, ◌+◌, ◌<◌, ◌≤◌, inl, inr, List, [], ◌∷◌, ◌++◌, length, Option, Some, None, sym, ap, arith, length-append, true≢false}
 use Rattle.std.specs.List.{cons_option, filter_map}
-use Rattle.std.specs.Str.{bytes_eq}
 use Rattle.std.proofs.lemmas.List.{length-map}
 use Rattle.axioms.specs.Numbered.{axiom_tree}
 use Rattle.axioms.specs.Numbering.{logical_axiom}
@@ -12,8 +11,10 @@ use Rattle.fs_lexer.specs.declared.token.Kind.TheVariants.{Opening, Closing, Equ
 use Rattle.fs_parser.specs.Document.{AreDeclarations}
 use Rattle.fs_parser.specs.Name.{Prefixes}
 use Rattle.fs_parser.specs.Tree.{AreTrees, IsTree, Tree, Trees, Empty, Then, Name, PlainLiteral, TaggedLiteral, TypedLiteral, Anonymous, Number, Group, Form}
-use Rattle.shapes.specs.Faults.{behind_annotations, count_of}
-use Rattle.statements.specs.Statements.{Meanings, axiom_meanings, entity_meanings, entity_statement, operand, said_by, statement_of, statements}
+use Rattle.shapes.specs.Faults.{count_of}
+use Rattle.shapes.specs.Shapes.{Says, row}
+use Rattle.shapes.specs.Stated.{Stated, meaning, said, statement_in}
+use Rattle.statements.specs.Statements.{statement_of, statements}
 
 -- ---- tokens take bytes
 
@@ -66,37 +67,16 @@ declarations_take (d ∷ ds) tokens rest h = omega (arith, ap length h.1.tokens_
 
 -- ---- a tree states at most one axiom
 
-chosen : {A : Type 0} (test : Bool) (xs ys : List A) → length xs ≤ 1 → length ys ≤ 1 → length (if test then xs else ys) ≤ 1
-chosen true xs ys h k = h
-chosen false xs ys h k = k
-
-one_said : (meanings : Meanings) (keyword : List ℕ) (trees : Trees) → length (said_by meanings keyword trees) ≤ 1
-one_said [] keyword trees = omega arith
-one_said (m ∷ ms) keyword trees =
-    chosen (bytes_eq m.0 keyword) (m.1 trees ∷ []) (said_by ms keyword trees) (omega arith) (one_said ms keyword trees)
-
-one_declared : (tree : Tree) → length (entity_statement tree) ≤ 1
-one_declared (Form at keyword trees) = one_said entity_meanings keyword trees
-one_declared (Name at iri) = omega arith
-one_declared (PlainLiteral at text) = omega arith
-one_declared (TaggedLiteral at text tag) = omega arith
-one_declared (TypedLiteral at text type) = omega arith
-one_declared (Anonymous at label) = omega arith
-one_declared (Number at digits) = omega arith
-one_declared (Group at trees) = omega arith
+said_once : (says : Says) (trees : Trees) → length (said says trees) ≤ 1
+said_once None trees = omega arith
+said_once (Some says) trees = omega arith
 
 one_stated : (tree : Tree) → length (statement_of tree) ≤ 1
-one_stated (Form at keyword trees) =
-    chosen (bytes_eq keyword (codes "Declaration"))
-    (entity_statement (operand (behind_annotations trees) 0)) (said_by axiom_meanings keyword (behind_annotations trees))
-    (one_declared (operand (behind_annotations trees) 0)) (one_said axiom_meanings keyword (behind_annotations trees))
-one_stated (Name at iri) = omega arith
-one_stated (PlainLiteral at text) = omega arith
-one_stated (TaggedLiteral at text tag) = omega arith
-one_stated (TypedLiteral at text type) = omega arith
-one_stated (Anonymous at label) = omega arith
-one_stated (Number at digits) = omega arith
-one_stated (Group at trees) = omega arith
+one_stated tree = go (statement_in tree)
+  where
+    go : (stated : Option Stated) → length (meaning stated) ≤ 1
+    go None = omega arith
+    go (Some stated) = said_once (row stated.0).2 stated.1
 
 all_stated : (trees : Trees) → length (statements trees) ≤ count_of trees
 all_stated Empty = omega arith

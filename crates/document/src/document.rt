@@ -7,10 +7,11 @@ ghost use Rattle.fs_parser.specs.View.{document_of};
 ghost use Rattle.std.specs.Prelude.{◌≡◌, ◌≤◌, IfErr, IfOk, IsErrOf, OnOk, length};
 
 use crate::fault::DocumentFault;
+use crate::streamed::streamed;
 use axioms::Ontology;
 use device::{ReadFault, Source, read_all};
 use fs_lexer::tokens;
-use fs_parser::{Document, forms, streamed_forms};
+use fs_parser::{Document, forms};
 use profile::{Version, accept};
 use program::Limits;
 use std::alloc::Global;
@@ -32,25 +33,13 @@ fn listed_document<'a>(alloc: Global, text: &'a str) -> Result<Document<'a>, Doc
     }
 }
 
-/// The document that a text is. Its trees hold slices of the text. The list of its tokens, which takes more memory than the
-/// trees, is made only where it is none, for the fault.
-fn document_of<'a>(alloc: Global, text: &'a str) -> Result<Document<'a>, DocumentFault>
-    ensures written { IfOk result (λ d. AreTextOf text.now (document_of d)) }
-    ensures refused { IfErr result (λ e. Refuses e text.now) }
-{
-    match streamed_forms(alloc, text) {
-        Some(document) => Ok(document),
-        None => listed_document(alloc, text),
-    }
-}
-
-/// The ontology that a text reads as.
-fn read_text(alloc: Global, text: &str, state: RandomState) -> Result<Ontology, DocumentFault>
+/// The ontology that a text reads as, by the document with all its trees.
+fn listed_text(alloc: Global, text: &str, state: RandomState) -> Result<Ontology, DocumentFault>
     ensures read { IfOk result (ReadsAs text.now) }
     ensures taken { IfOk result IsTaken }
     ensures refused { IfErr result (λ e. Refuses e text.now) }
 {
-    let document = match document_of(alloc, text) {
+    let document = match listed_document(alloc, text) {
         Ok(document) => document,
         Err(fault) => return Err(fault),
     };
@@ -60,6 +49,19 @@ fn read_text(alloc: Global, text: &str, state: RandomState) -> Result<Ontology, 
             Ok(ontology)
         }
         Err(refusal) => Err(DocumentFault::from(refusal)),
+    }
+}
+
+/// The ontology that a text reads as. Its trees are read one by one; the lists of all tokens and of all trees are made only where
+/// it is no document, for the fault.
+fn read_text(alloc: Global, text: &str, state: RandomState) -> Result<Ontology, DocumentFault>
+    ensures read { IfOk result (ReadsAs text.now) }
+    ensures taken { IfOk result IsTaken }
+    ensures refused { IfErr result (λ e. Refuses e text.now) }
+{
+    match streamed(alloc, text, state) {
+        Some(answer) => answer,
+        None => listed_text(alloc, text, state),
     }
 }
 

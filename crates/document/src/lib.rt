@@ -5,6 +5,7 @@ ghost use Rattle.document.specs.Theorems.{AxiomsTakeBytes, BytesHaveOneFaultList
 
 mod document;
 mod fault;
+mod streamed;
 
 pub use document::{read_bytes, read_document};
 pub use fault::DocumentFault;

@@ -9,3 +9,4 @@ pub mod Documents
 pub mod Faults
 pub mod ToEnd
 pub mod Streams
+pub mod TreeReading

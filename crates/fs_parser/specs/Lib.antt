@@ -13,3 +13,4 @@ pub mod Said
 pub mod Laws
 pub mod Printed
 pub mod Stream
+pub mod TreesLeft

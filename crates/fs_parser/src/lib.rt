@@ -13,6 +13,7 @@ mod prefixes;
 mod reader;
 mod stream;
 mod tree;
+mod tree_reader;
 
 pub use document::forms;
 pub use fault::ParseFault;
@@ -22,6 +23,7 @@ pub use prefix::Prefix;
 pub use prefixes::Prefixes;
 pub use stream::streamed_forms;
 pub use tree::{Document, Tree};
+pub use tree_reader::{Stopped, TreeReader};
 
 /// A law: tokens are at most one document. With prefixes that each stand for one IRI they are at most one list of trees,
 /// and the prefixes of a document are such. The tokens of a text end in the text.

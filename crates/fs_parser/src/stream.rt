@@ -24,7 +24,7 @@ fn ends_header(tokens: &[Token<'_>]) -> bool {
 }
 
 /// The tokens at the front of the text up to the first `Ontology(`, and how many bytes stand before what follows it.
-fn header<'a>(alloc: Global, text: &'a str) -> Option<(Vec<Token<'a>>, usize)>
+pub(crate) fn header<'a>(alloc: Global, text: &'a str) -> Option<(Vec<Token<'a>>, usize)>
     ensures { IfSome result (λ r. BeginText text.now (tokens_of r.0.items) r.1) }
 {
     let mut tokens = Vec::new(alloc);
@@ -56,7 +56,7 @@ fn closed_header<'a>(mut header: Vec<Token<'a>>) -> Option<Vec<Token<'a>>>
 }
 
 /// The prefixes of a header: closed at once it is a document without trees.
-fn declared_by<'a>(alloc: Global, header: Vec<Token<'a>>) -> Option<Known<'a>>
+pub(crate) fn declared_by<'a>(alloc: Global, header: Vec<Token<'a>>) -> Option<Known<'a>>
     ensures { IfSome result (λ known. IsHeader (prefixes_of_code known.declared.items) (tokens_of header.entry.items)) }
 {
     let closed = closed_header(header)?;

@@ -56,16 +56,16 @@ module _ (ss us : List Statement) where
   individuals : individuals_of ss ++ individuals_of us ≡ individuals_of (ss ++ us)
   individuals = sym (flat_map-append statement_individuals ss us)
 
-  adds_more : (o p q : Ontology) → AddsStatements ss o p → AddsStatements us p q → AddsStatements (ss ++ us) o q
+  pub adds_more : (o p q : Ontology) → AddsStatements ss o p → AddsStatements us p q → AddsStatements (ss ++ us) o q
   adds_more o p q first second =
       same_adds _ _ _ _ _ _ _ _ o q expressions properties individuals (sym (filter_map-append logical_axiom ss us)) (adds_join _ _ _ _ _ _ _ _ o p q first second)
 
-  overflows_with_more : (o : Ontology) → StatementsOverflow ss o → StatementsOverflow (ss ++ us) o
+  pub overflows_with_more : (o : Ontology) → StatementsOverflow ss o → StatementsOverflow (ss ++ us) o
   overflows_with_more o h =
       same_overflow _ _ _ _ _ _ o expressions properties individuals
       (overflow_more (expressions_of ss) (expressions_of us) (properties_of ss) (properties_of us) (individuals_of ss) (individuals_of us) o h)
 
-  overflows_later : (o p : Ontology) → AddsStatements ss o p → StatementsOverflow us p → StatementsOverflow (ss ++ us) o
+  pub overflows_later : (o p : Ontology) → AddsStatements ss o p → StatementsOverflow us p → StatementsOverflow (ss ++ us) o
   overflows_later o p first h =
       same_overflow _ _ _ _ _ _ o expressions properties individuals
       (overflow_later (expressions_of ss) (expressions_of us) (properties_of ss) (properties_of us) (individuals_of ss) (individuals_of us) (filter_map logical_axiom ss) o p first h)

@@ -10,8 +10,7 @@ use Rattle.shapes.specs.Faults.{count_of, faults, faults_in}
 use Rattle.shapes.specs.Shapes.{Operands, Each, Many, fits_count, operands_of}
 use Rattle.shapes.specs.declared.expected.Expected.TheVariants.{ClassExpression, Property}
 use Rattle.statements.specs.Statements.{class_of, classes_of, iri_of, operand, some_values}
-use Rattle.profile.specs.Operands.{AreOperandsOf}
-use Rattle.profile.proofs.Faultless.{form_operands, operand_parts}
+use Rattle.profile.proofs.Faultless.{AreOperandsOf, form_operands, operand_parts}
 use Rattle.profile.proofs.NameTrees.{many_trees}
 
 -- ---- an intersection is of its operands

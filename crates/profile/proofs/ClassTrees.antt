@@ -9,7 +9,6 @@ use Rattle.statements.specs.Statements.{classes_of}
 use Rattle.profile.proofs.ClassForms.{ArePlainSome, IsPlainForm, plain}
 use Rattle.profile.proofs.DistinctOperands.{distinct_classes}
 use Rattle.profile.proofs.Faultless.{operand_parts}
-use Rattle.profile.proofs.NameTrees.{property_name}
 
 pub are_many_distinct : (ts : Trees) → 2 ≤ length (classes_of ts) → faults_in false [] (Many true ClassExpression) ts ≡ [] → AreManyDistinct ts
 are_many_distinct ts many h = record { many = many; distinct = distinct_classes ts h }
@@ -37,5 +36,5 @@ mutual
       (class_tree t parts.faultless, class_trees (earlier ++ t ∷ []) ts parts.later)
 
   some_trees : (ts : Trees) → ArePlainSome ts → AreSomeTrees ts
-  some_trees (Then r (Then c Empty)) h = (property_name r h.0, class_tree c h.1)
+  some_trees (Then r (Then c Empty)) h = class_tree c h.1
   some_trees _ h = absurd h

@@ -8,7 +8,6 @@ use Rattle.shapes.specs.Shapes.{Operands, fits_count, later_expected, may_be_ann
 use Rattle.shapes.specs.declared.expected.Expected.{Expected}
 use Rattle.shapes.proofs.Lists.{fitting_form, unfitting_form}
 use Rattle.shapes.proofs.Placed.{placed_is_known, placed_is_not_refused}
-use Rattle.profile.specs.Operands.{AreOperandsOf}
 
 -- ---- of two lists that are empty together, each is empty
 
@@ -24,6 +23,14 @@ one_is_not_none : (fs : List Fault) (f : Fault) → fs ≡ f ∷ [] → fs ≡ [
 one_is_not_none fs f e h = cc
 
 -- ---- forms
+
+-- these may be the operands of a form with this keyword, where such a tree is expected: it has a shape there, they are as
+-- many as it says, and none has a fault
+pub record AreOperandsOf (expected : Expected) (keyword : List ℕ) (trees : Trees) : Type 0 where
+  pub operands : Operands
+  pub shape : operands_of expected keyword ≡ Some operands
+  pub count : fits_count operands (count_of trees) ≡ true
+  pub faultless : faults_in false [] operands trees ≡ []
 
 module _ (expected : Expected) (at : ℕ) (keyword : List ℕ) (trees : Trees) where
   abbrev all : List Fault

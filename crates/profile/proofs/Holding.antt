@@ -3,7 +3,7 @@ use Rattle.std.proofs.Common.{◌≡◌, ℕ, zero, suc, ◌<◌, ◌-◌, inl, 
 use Rattle.fs_parser.specs.Tree.{Tree, Trees, Empty, Then, place_of}
 use Rattle.fs_parser.specs.View.{tree_of, trees_of}
 use Rattle.fs_parser.specs.declared.tree.Tree as code
-use Rattle.shapes.specs.Faults.{WrongShape, axiom_faults, document_faults, each_faults, faults, is_annotation, is_name, ontology_faults}
+use Rattle.shapes.specs.Faults.{WrongShape, axiom_faults, each_faults, faults, is_annotation, is_name, ontology_faults}
 use Rattle.shapes.specs.declared.expected.Expected.TheVariants.{Annotation, Axiom}
 use Rattle.profile.specs.Parts.{ArePartsOfOntology, IsPartOfOntology}
 use Rattle.profile.proofs.Faultless.{none_first, none_second}

@@ -1,5 +1,5 @@
 -- Class expressions over the names of an ontology bring it no name.
-use Rattle.std.proofs.Common.{◌≡◌, ℕ, ◌≤◌, ◌<◌, inl, inr, Bool, true, false, ◌&&◌, not, List, [], ◌∷◌, ◌++◌, Option, Some, None, Err, length, codes, refl, sym, ap, ap₂, ◌∙◌, subst, arith, if◌then◌else◌, Contains}
+use Rattle.std.proofs.Common.{◌≡◌, ℕ, ◌≤◌, inl, inr, Bool, true, false, ◌&&◌, not, List, [], ◌∷◌, ◌++◌, Option, Some, None, Err, length, refl, sym, ap, ap₂, ◌∙◌, subst, arith, if◌then◌else◌}
 use Rattle.std.specs.List.{cons_option, filter_map, flat_map, list_any}
 use Rattle.std.specs.Str.{bytes_eq}
 use Rattle.std.proofs.lemmas.List.{append-nil}
@@ -19,8 +19,8 @@ use Rattle.shapes.specs.Names.{is_allowed, is_there, may_be_name}
 use Rattle.shapes.specs.Shapes.{Operands, Each, Many, fits_count, later_expected, may_be_annotated, next_expected, operands_of}
 use Rattle.shapes.specs.declared.expected.Expected.{Expected}
 use Rattle.shapes.specs.declared.expected.Expected.TheVariants.{Annotation, ClassExpression, Property}
-use Rattle.statements.specs.Additions.{Adds, Appends, AreTooMany, ClassRead, HasFewNames, Overflows, ReadsClass}
-use Rattle.statements.specs.ClassTrees.{IsClassTree, IsName}
+use Rattle.statements.specs.Additions.{Appends, AreTooMany, ClassRead, Overflows, ReadsClass}
+use Rattle.statements.specs.ClassTrees.{IsClassTree}
 use Rattle.statements.specs.Statements.{class_of, classes_of, iri_of, some_values}
 use Rattle.statements.proofs.Appending.{appends_join, appends_nothing, appends_old, once}
 use Rattle.statements.proofs.ClassReading.{whole_of}
@@ -29,7 +29,7 @@ use Rattle.profile.specs.Grown.{ExpressionGrown, IsAddedAs}
 use Rattle.profile.proofs.ClassForms.{ArePlainSome, IsPlainForm, intersection_is, plain, some_is}
 use Rattle.profile.proofs.ClassTrees.{class_tree}
 use Rattle.profile.proofs.Faultless.{inside_of, none_first, none_second, operand_parts_among}
-use Rattle.profile.proofs.NameTrees.{property_name}
+use Rattle.profile.proofs.NameTrees.{IsName, property_name}
 
 -- ---- without faults over these names there are none over any
 

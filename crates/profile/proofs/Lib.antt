@@ -5,10 +5,9 @@ pub mod SameClass
 pub mod DistinctOperands
 pub mod ClassTrees
 pub mod GivenOperands
-pub mod Fits
-pub mod Items
 pub mod Rows
 pub mod Stated
 pub mod Holding
 pub mod Adding
 pub mod KnownNames
+pub mod Takings

@@ -1,16 +1,19 @@
 -- Trees without faults that are names, and lists and chains of them.
-use Rattle.std.proofs.Common.{◌≡◌, ℕ, ◌≤◌, Bool, true, false, List, [], ◌∷◌, ◌++◌, Some, None, length, codes, refl, sym, ap, ◌∙◌, arith, bytes_eq}
+use Rattle.std.proofs.Common.{◌≡◌, ℕ, ◌≤◌, Bool, true, false, List, [], Some, None, length, codes, refl, sym, ap, ◌∙◌, arith, bytes_eq}
 use Rattle.std.proofs.lemmas.Bool.{ltb-true}
 use Rattle.std.proofs.lemmas.Option.{none-some, same_Some}
 use Rattle.fs_parser.specs.Tree.{Tree, Trees, Name, PlainLiteral, TaggedLiteral, TypedLiteral, Anonymous, Number, Group, Form, Empty, Then}
-use Rattle.shapes.specs.Faults.{count_of, faults, faults_in, literal_faults}
+use Rattle.shapes.specs.Faults.{count_of, faults, literal_faults}
 use Rattle.shapes.specs.Shapes.{Operands, Many, fits_count, operands_of}
 use Rattle.shapes.specs.declared.expected.Expected.{Expected}
-use Rattle.shapes.specs.declared.expected.Expected.TheVariants.{Class, Property, PropertyOrChain, Individual}
-use Rattle.statements.specs.ClassTrees.{AreNames, IsChain, IsName}
+use Rattle.shapes.specs.declared.expected.Expected.TheVariants.{Property, PropertyOrChain}
+use Rattle.statements.specs.ClassTrees.{IsChain}
 use Rattle.statements.specs.Statements.{iris_of}
-use Rattle.profile.specs.Operands.{AreOperandsOf}
-use Rattle.profile.proofs.Faultless.{form_operands, operand_parts}
+use Rattle.profile.proofs.Faultless.{AreOperandsOf, form_operands}
+
+abbrev pub IsName : Tree → Type 0
+IsName (Name at iri) = Unit {0}
+IsName _ = ⊥
 
 -- where no form and no literal may stand
 name_only : (expected : Expected) → ((keyword : List ℕ) → operands_of expected keyword ≡ None) → ((at : ℕ) → literal_faults expected at ≡ [] → ⊥) → (t : Tree) → faults expected t ≡ [] → IsName t
@@ -27,18 +30,6 @@ name_only expected shapeless literal (Form at keyword trees) h =
 
 pub property_name : (t : Tree) → faults Property t ≡ [] → IsName t
 property_name = name_only Property (λ k. refl) (λ at h. cc)
-
-pub individual_name : (t : Tree) → faults Individual t ≡ [] → IsName t
-individual_name = name_only Individual (λ k. refl) (λ at h. cc)
-
-pub class_name : (t : Tree) → faults Class t ≡ [] → IsName t
-class_name = name_only Class (λ k. refl) (λ at h. cc)
-
-pub property_names : (distinct : Bool) (earlier : List Tree) (ts : Trees) → faults_in false earlier (Many distinct Property) ts ≡ [] → AreNames ts
-property_names distinct earlier Empty h = tt
-property_names distinct earlier (Then t ts) h =
-    let parts = operand_parts earlier (Many distinct Property) t ts h in
-    (property_name t parts.faultless, property_names distinct (earlier ++ t ∷ []) ts parts.later)
 
 -- as many names as trees
 pub count_of_names : (ts : Trees) → length (iris_of ts) ≡ count_of ts
@@ -58,15 +49,14 @@ chain_operands keyword operands h = go (bytes_eq (codes "ObjectPropertyChain") k
     go false e = let is : operands_of PropertyOrChain keyword ≡ None = rw e refl in absurd (none-some operands (sym is ∙ h))
 
 -- properties of a chain, of which there are two or more
-chain_names : (keyword : List ℕ) (ts : Trees) → AreOperandsOf PropertyOrChain keyword ts → AreNames ts × (1 ≤ length (iris_of ts))
+chain_names : (keyword : List ℕ) (ts : Trees) → AreOperandsOf PropertyOrChain keyword ts → 1 ≤ length (iris_of ts)
 chain_names keyword ts are =
     let many = chain_operands keyword are.operands are.shape in
     let count : fits_count (Many false Property) (count_of ts) ≡ true = ap (λ (o : Operands). fits_count o (count_of ts)) many ∙ are.count in
-    let faultless : faults_in false [] (Many false Property) ts ≡ [] = ap (λ (o : Operands). faults_in false [] o ts) many ∙ are.faultless in
-    (property_names false [] ts faultless, omega (arith, count_of_names ts, many_trees false Property ts count))
+    omega (arith, count_of_names ts, many_trees false Property ts count)
 
 pub property_chain : (t : Tree) → faults PropertyOrChain t ≡ [] → IsChain t
-property_chain (Name at iri) h = tt
+property_chain (Name at iri) h = omega arith
 property_chain (PlainLiteral at text) h = cc
 property_chain (TaggedLiteral at text tag) h = cc
 property_chain (TypedLiteral at text type) h = cc

@@ -9,11 +9,10 @@ use Rattle.shapes.specs.Faults.{faults, faults_in}
 use Rattle.shapes.specs.SameTree.{same_tree, same_trees}
 use Rattle.shapes.specs.Shapes.{Many}
 use Rattle.shapes.specs.declared.expected.Expected.TheVariants.{ClassExpression}
-use Rattle.statements.specs.ClassTrees.{IsName}
 use Rattle.statements.specs.Statements.{class_of, classes_of, iri_of, operand, some_values}
 use Rattle.profile.proofs.ClassForms.{ArePlainSome, IsPlainForm, intersection_is, intersection_is_not, plain, same_parts, some_is, some_values_are}
 use Rattle.profile.proofs.Faultless.{operand_parts}
-use Rattle.profile.proofs.NameTrees.{property_name}
+use Rattle.profile.proofs.NameTrees.{IsName, property_name}
 
 same_text : (a b : Iri) → a ≡ b → bytes_eq a b ≡ true
 same_text a b e = (bytes_eq-Decides a b).1 e

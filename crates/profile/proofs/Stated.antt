@@ -1,155 +1,77 @@
--- What forms state, by their keywords.
-use Rattle.std.proofs.Common.{◌≡◌, ℕ, ◌-◌, ◌≤◌, inl, inr, Bool, true, false, Bor, Vec, Global, List, [], ◌∷◌, length, take, drop, get_or, codes, refl, sym, ap, ◌∙◌, subst, arith, true≢false, if◌then◌else◌, Result, Some, None}
-use Rattle.std.specs.Str.{bytes_eq}
-use Rattle.std.proofs.lemmas.List.{length-drop, take_all}
-use Rattle.std.proofs.lemmas.Slice.Eq.{bytes_eq-Decides}
+-- What parts of an ontology state, and of which operands.
+use Rattle.std.proofs.Common.{◌≡◌, ◌&&◌, ℕ, inl, inr, Bool, true, false, List, [], ◌∷◌, Option, Some, None, refl, sym, ◌∙◌, subst, true≢false, if◌then◌else◌}
+use Rattle.std.specs.Option.{is_some}
+use Rattle.std.proofs.lemmas.Option.{none-some, same_Some}
 use Rattle.axioms.specs.Numbered.{Ontology}
-use Rattle.axioms.specs.Numbering.{Statement}
 use Rattle.axioms.specs.WellFormed.{IsOntology}
-use Rattle.axioms.specs.declared.fault.BuildFault.{BuildFault}
-use Rattle.fs_parser.specs.Tree.{Tree, Trees, Name, PlainLiteral, TaggedLiteral, TypedLiteral, Anonymous, Number, Group, Form}
-use Rattle.fs_parser.specs.View.{layer_of, tree_of, trees_of}
-use Rattle.fs_parser.specs.declared.tree.Tree as code
-use Rattle.fs_parser.specs.declared.tree.Tree.TheFolds.{fold-roll-Tree, fold_out-Tree}
-use Rattle.fs_parser.specs.declared.tree.Tree.TheVariants.{rolls-Form}
-use Rattle.fs_parser.specs.declared.tree.Tree.TheOpen as layer
-use Rattle.shapes.specs.Faults.{behind_annotations, faults}
-use Rattle.shapes.specs.Shapes.{axiom_forms, entity_forms, form_of, row}
+use Rattle.fs_parser.specs.Tree.{Tree, Trees, Form, Empty, Then}
+use Rattle.shapes.specs.Faults.{behind_annotations, count_of, faults}
+use Rattle.shapes.specs.Shapes.{Operands, Each, axiom_forms, entity_forms, fits_count, form_of, row}
+use Rattle.shapes.specs.Stated.{Stated, axiom_by, entity_by, entity_in, meaning, stated_by, statement_in}
 use Rattle.shapes.specs.declared.expected.Expected.TheVariants.{Axiom, Entity}
 use Rattle.shapes.specs.declared.form.Form as shapes
-use Rattle.statements.specs.Statements.{entity_meanings, entity_statement, operand, said_by, statement_of}
+use Rattle.shapes.specs.declared.form.Form.TheVariants as forms
 use Rattle.statements.proofs.Steps.{adds_nothing}
-use Rattle.profile.specs.Additions.{AddsStatements, StatementsRead}
-use Rattle.profile.specs.Operands.{AreOperandsOf}
-use Rattle.profile.specs.Parts.{IsPartOfOntology, said_of}
-use Rattle.profile.proofs.Fits.{axiom_operands, entity_operands}
-use Rattle.profile.proofs.Rows.{no_axiom_says, no_entity_says, not_annotation, row_word}
+use Rattle.statements.specs.ClassTrees.{AreOperands}
+use Rattle.profile.specs.Additions.{AddsStatements}
+use Rattle.profile.specs.Parts.{IsPartOfOntology}
+use Rattle.profile.proofs.Faultless.{AreOperandsOf, form_operands, operand_parts}
+use Rattle.profile.proofs.GivenOperands.{AreGiven, given_operands}
+use Rattle.profile.proofs.Rows.{not_annotation, row_operands}
 
-pub nothing_read : (o : Ontology) → IsOntology o → (ss : List Statement) → ss ≡ [] → AddsStatements ss o o
-nothing_read o whole ss none = subst (λ (xs : List Statement). AddsStatements xs o o) (sym none) (adds_nothing o whole)
+-- what states nothing adds nothing
+pub nothing_read : (o : Ontology) → IsOntology o → (stated : Option Stated) → None ≡ stated → AddsStatements (meaning stated) o o
+nothing_read o whole stated none = subst (λ s. AddsStatements (meaning s) o o) none (adds_nothing o whole)
 
--- ---- forms of the code
+-- the operands are what the form takes
+abbrev AreFitting : Stated → Type 0
+AreFitting stated = AreOperands (row stated.0).1 stated.1
 
-form_tree : (at : ℕ) (k : Bor (List ℕ)) (v : Vec code.Tree Global) → tree_of (code.Form at k v) ≡ Form at k.now (trees_of v.items)
-form_tree at k v = ap tree_of (sym (rolls-Form at k v)) ∙ fold-roll-Tree Tree layer_of (layer.Form at k v)
-
-abbrev IsNoForm : Tree → Type 0
-IsNoForm (Form at keyword trees) = ⊥
-IsNoForm _ = Unit {0}
-
-no_form : (t : code.Tree) → ((at : ℕ) (k : Bor (List ℕ)) (v : Vec code.Tree Global) → t ≡ code.Form at k v → ⊥) → IsNoForm (tree_of t)
-no_form t other = subst IsNoForm (sym (fold_out-Tree Tree layer_of t)) (go (code.out-Tree t) refl)
+by_row : (f : shapes.Form) (ts : Trees) (stated : Stated) → AreGiven (row f).1 ts → stated_by f ts ≡ Some stated → AreFitting stated
+by_row f ts stated g h = go (is_some (row f).2 && fits_count (row f).1 (count_of ts)) h
   where
-    go : (l : layer.Tree-F code.Tree) → code.out-Tree t ≡ l → IsNoForm (layer_of (code.map-Tree code.Tree Tree tree_of l))
-    go (layer.Name at i) e = tt
-    go (layer.PlainLiteral at text) e = tt
-    go (layer.TaggedLiteral at text tag) e = tt
-    go (layer.TypedLiteral at text i) e = tt
-    go (layer.Anonymous at label) e = tt
-    go (layer.Number at digits) e = tt
-    go (layer.Group at trees) e = tt
-    go (layer.Form at k v) e = absurd (other at k v (sym (code.roll-out-Tree t) ∙ ap code.roll-Tree e ∙ rolls-Form at k v))
+    go : (b : Bool) → (if b then Some (f, ts) else None) ≡ Some stated → AreFitting stated
+    go true e = subst AreFitting (same_Some (f, ts) stated e) (given_operands (row f).1 ts g)
+    go false e = absurd (none-some stated e)
 
-no_statement : (t : Tree) → IsNoForm t → statement_of t ≡ []
-no_statement (Name at iri) h = refl
-no_statement (PlainLiteral at text) h = refl
-no_statement (TaggedLiteral at text tag) h = refl
-no_statement (TypedLiteral at text type) h = refl
-no_statement (Anonymous at label) h = refl
-no_statement (Number at digits) h = refl
-no_statement (Group at trees) h = refl
-no_statement (Form at keyword trees) h = absurd h
+-- the operands that a keyword takes are those of its form
+given : (operands : Operands) (ts : Trees) (more : Operands) → Some more ≡ Some operands → AreGiven more ts → AreGiven operands ts
+given operands ts more same g = subst (λ (o : Operands). AreGiven o ts) (same_Some more operands same) g
 
--- what is not a form states nothing
-pub other_states_nothing : (t : code.Tree) → ((at : ℕ) (k : Bor (List ℕ)) (v : Vec code.Tree Global) → t ≡ code.Form at k v → ⊥) → (o : Ontology) → IsOntology o → AddsStatements (statement_of (tree_of t)) o o
-other_states_nothing t other o whole = nothing_read o whole (statement_of (tree_of t)) (no_statement (tree_of t) (no_form t other))
+entity_fits : (t : Tree) (stated : Stated) → faults Entity t ≡ [] → entity_in t ≡ Some stated → AreFitting stated
+entity_fits (Form at k ts) stated h e = go (form_of Entity k) refl e
+  where
+    are : AreOperandsOf Entity k ts
+    are = form_operands Entity at k ts h
 
-no_entity : (t : Tree) → IsNoForm t → entity_statement t ≡ []
-no_entity (Name at iri) h = refl
-no_entity (PlainLiteral at text) h = refl
-no_entity (TaggedLiteral at text tag) h = refl
-no_entity (TypedLiteral at text type) h = refl
-no_entity (Anonymous at label) h = refl
-no_entity (Number at digits) h = refl
-no_entity (Group at trees) h = refl
-no_entity (Form at keyword trees) h = absurd h
+    go : (o : Option shapes.Form) → form_of Entity k ≡ o → entity_by o ts ≡ Some stated → AreFitting stated
+    go None found i = absurd (none-some stated i)
+    go (Some f) found i = by_row f ts stated (given (row f).1 ts are.operands (sym are.shape ∙ row_operands entity_forms k f found) (record { count = are.count; faultless = are.faultless })) i
+entity_fits _ stated h e = absurd (none-some stated e)
 
--- a declaration says what its one operand says
-declared_is : (us : List code.Tree) (t : code.Tree) → t ≡ get_or us 0 t → length us ≡ 1 → entity_statement (operand (trees_of us) 0) ≡ entity_statement (tree_of t)
-declared_is [] t first one = absurd (omega arith)
-declared_is (u ∷ us) t first one = ap (λ (x : code.Tree). entity_statement (tree_of x)) (sym first)
+-- a declaration's operand is an entity
+axiom_fits : (f : shapes.Form) (ts : Trees) (stated : Stated) → AreGiven (row f).1 ts → axiom_by (Some f) ts ≡ Some stated → AreFitting stated
+axiom_fits forms.Declaration Empty stated g e = absurd (none-some stated e)
+axiom_fits forms.Declaration (Then t Empty) stated g e = entity_fits t stated (operand_parts [] (Each (Entity ∷ [])) t Empty g.faultless).faultless e
+axiom_fits forms.Declaration (Then t (Then u ts)) stated g e = absurd (none-some stated e)
+axiom_fits f ts stated g e = by_row f ts stated g e
 
--- .. which is nothing where that is no form
-pub other_declares_nothing : (t : code.Tree) → ((at : ℕ) (k : Bor (List ℕ)) (v : Vec code.Tree Global) → t ≡ code.Form at k v → ⊥) → (us : List code.Tree) → t ≡ get_or us 0 t → length us ≡ 1 →
-    (o : Ontology) → IsOntology o → AddsStatements (said_of (codes "Declaration") (trees_of us)) o o
-other_declares_nothing t other us first one o whole =
-    nothing_read o whole (entity_statement (operand (trees_of us) 0)) (declared_is us t first one ∙ no_entity (tree_of t) (no_form t other))
+module _ (at : ℕ) (k : List ℕ) (trees : Trees) (f : shapes.Form) (found : form_of Axiom k ≡ Some f) where
+  faultless : IsPartOfOntology (Form at k trees) → faults Axiom (Form at k trees) ≡ []
+  faultless (inl h) = absurd (true≢false (sym h))
+  faultless (inr (inl h)) = absurd (true≢false (sym h ∙ not_annotation k f found))
+  faultless (inr (inr h)) = h
 
-module _ (t : code.Tree) (at : ℕ) (k : Bor (List ℕ)) (v : Vec code.Tree Global) (is : t ≡ code.Form at k v) where
-  pub form_is : tree_of t ≡ Form at k.now (trees_of v.items)
-  form_is = ap tree_of is ∙ form_tree at k v
+  own_given : IsPartOfOntology (Form at k trees) → AreGiven (row f).1 (behind_annotations trees)
+  own_given part =
+      let are : AreOperandsOf Axiom k (behind_annotations trees) = form_operands Axiom at k trees (faultless part) in
+      given (row f).1 (behind_annotations trees) are.operands (sym are.shape ∙ row_operands axiom_forms k f found) (record { count = are.count; faultless = are.faultless })
 
-  pub declared_operands : faults Entity (tree_of t) ≡ [] → (f : shapes.Form) → form_of Entity k.now ≡ Some f → (ts : List code.Tree) → ts ≡ v.items → AreOperandsOf Entity (row f).0 (trees_of ts)
-  declared_operands h f found ts same =
-      let are : AreOperandsOf Entity k.now (trees_of ts) =
-      subst (λ (us : List code.Tree). AreOperandsOf Entity k.now (trees_of us)) (sym same)
-      (entity_operands at k.now (trees_of v.items) (ap (faults Entity) (sym form_is) ∙ h)) in
-      subst (λ (word : List ℕ). AreOperandsOf Entity word (trees_of ts)) (sym (row_word entity_forms k.now f found)) are
-
-  -- what the declared form says the declaration says
-  module _ (us : List code.Tree) (first : t ≡ get_or us 0 t) (one : length us ≡ 1) where
-    pub declared_statement : (r : Result (Unit {0}) BuildFault) (o p : Ontology) (f : shapes.Form) → form_of Entity k.now ≡ Some f → (ts : List code.Tree) → ts ≡ v.items →
-        StatementsRead r (said_by entity_meanings (row f).0 (trees_of ts)) o p → StatementsRead r (said_of (codes "Declaration") (trees_of us)) o p
-    declared_statement r o p f found ts same h =
-        let said : said_by entity_meanings (row f).0 (trees_of ts) ≡ entity_statement (operand (trees_of us) 0) =
-        ap (λ (word : List ℕ). said_by entity_meanings word (trees_of ts)) (row_word entity_forms k.now f found)
-        ∙ ap (λ (xs : List code.Tree). said_by entity_meanings k.now (trees_of xs)) same
-        ∙ ap entity_statement (sym form_is)
-        ∙ sym (declared_is us t first one) in
-        subst (λ (ss : List Statement). StatementsRead r ss o p) said h
-
-    pub unknown_declares_nothing : form_of Entity k.now ≡ None → (o : Ontology) → IsOntology o → AddsStatements (said_of (codes "Declaration") (trees_of us)) o o
-    unknown_declares_nothing none o whole =
-        nothing_read o whole (entity_statement (operand (trees_of us) 0))
-        (declared_is us t first one ∙ ap entity_statement form_is ∙ no_entity_says k.now (trees_of v.items) none)
-
-  -- a form that is no axiom's states nothing
-  pub unknown_states_nothing : form_of Axiom k.now ≡ None → (o : Ontology) → IsOntology o → AddsStatements (statement_of (tree_of t)) o o
-  unknown_states_nothing none o whole =
-      nothing_read o whole (statement_of (tree_of t)) (ap statement_of form_is ∙ no_axiom_says k.now (behind_annotations (trees_of v.items)) none)
-
-  faultless : IsPartOfOntology (tree_of t) → false ≡ bytes_eq k.now (codes "Annotation") → faults Axiom (Form at k.now (trees_of v.items)) ≡ []
-  faultless part other = go (subst IsPartOfOntology form_is part)
-    where
-      go : IsPartOfOntology (Form at k.now (trees_of v.items)) → faults Axiom (Form at k.now (trees_of v.items)) ≡ []
-      go (inl h) = absurd (true≢false (sym h))
-      go (inr (inl h)) = absurd (true≢false (sym h ∙ sym other))
-      go (inr (inr h)) = h
-
-  -- the operands behind the annotations
-  module _ (ts us : List code.Tree) (same : ts ≡ v.items) (same' : us ≡ v.items) (n : ℕ) (within : n ≤ length us) (behind : trees_of (drop n us) ≡ behind_annotations (trees_of us)) where
-    abbrev behind_operands : List code.Tree
-    behind_operands = take (length ts - n) (drop n ts)
-
-    to_end : trees_of behind_operands ≡ behind_annotations (trees_of v.items)
-    to_end =
-        ap trees_of (take_all (length ts - n) (drop n ts) (omega (arith, length-drop n ts)))
-        ∙ ap (λ (xs : List code.Tree). trees_of (drop n xs)) (same ∙ sym same')
-        ∙ behind
-        ∙ ap (λ (xs : List code.Tree). behind_annotations (trees_of xs)) same'
-
-    module _ (f : shapes.Form) (found : form_of Axiom k.now ≡ Some f) where
-      word : (row f).0 ≡ k.now
-      word = row_word axiom_forms k.now f found
-
-      pub operands_behind : IsPartOfOntology (tree_of t) → AreOperandsOf Axiom (row f).0 (trees_of behind_operands)
-      operands_behind part =
-          let are : AreOperandsOf Axiom k.now (trees_of behind_operands) =
-          subst (λ (xs : Trees). AreOperandsOf Axiom k.now xs) (sym to_end) (axiom_operands at k.now (trees_of v.items) (faultless part (not_annotation k.now f found))) in
-          subst (λ (w : List ℕ). AreOperandsOf Axiom w (trees_of behind_operands)) (sym word) are
-
-      pub form_states : (r : Result (Unit {0}) BuildFault) (o p : Ontology) → StatementsRead r (said_of (row f).0 (trees_of behind_operands)) o p → StatementsRead r (statement_of (tree_of t)) o p
-      form_states r o p h =
-          let said : said_of (row f).0 (trees_of behind_operands) ≡ statement_of (tree_of t) =
-          ap (λ (w : List ℕ). said_of w (trees_of behind_operands)) word ∙ ap (said_of k.now) to_end ∙ ap statement_of (sym form_is) in
-          subst (λ (ss : List Statement). StatementsRead r ss o p) said h
+-- the operands of what a part states are without faults
+pub part_fits : (t : Tree) (stated : Stated) → IsPartOfOntology t → statement_in t ≡ Some stated → AreFitting stated
+part_fits (Form at k trees) stated part e = go (form_of Axiom k) refl e
+  where
+    go : (o : Option shapes.Form) → form_of Axiom k ≡ o → axiom_by o (behind_annotations trees) ≡ Some stated → AreFitting stated
+    go None found i = absurd (none-some stated i)
+    go (Some f) found i = axiom_fits f (behind_annotations trees) stated (own_given at k trees f found part) i
+part_fits _ stated part e = absurd (none-some stated e)

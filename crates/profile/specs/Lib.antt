@@ -1,5 +1,5 @@
 pub mod Reading
-pub mod Operands
 pub mod Parts
 pub mod Additions
 pub mod Grown
+pub mod Taking

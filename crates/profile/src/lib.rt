@@ -3,12 +3,12 @@
 #![tactic(auto)]
 
 mod acceptance;
-mod axiom_operands;
 mod building;
-mod entities;
 mod growth;
+mod ontology_reader;
 mod parts;
 
 pub use acceptance::{Refusal, accept};
 pub use growth::{accept_expression, accept_statements};
+pub use ontology_reader::OntologyReader;
 pub use shapes::{Fault, Version};

@@ -1,18 +1,18 @@
 //! A small ontology that is built statement by statement, with its counts worked out by hand.
 
 ghost use Rattle.fs_parser.specs.View.{tree_of};
-ghost use Rattle.statements.specs.ClassTrees.{IsClassTree, IsName};
+ghost use Rattle.statements.specs.ClassTrees.{IsClassTree};
 
 use crate::tables::{counts, random};
 use axioms::{BuildFault, Builder};
 use fs_parser::{Iri, Tree};
-use statements::{class_assertion, sub_class};
+use shapes::Statement;
+use statements::add_statement;
 use std::alloc::Global;
 use std::test::Fail;
 
 fn name<'a>(text: &'a str) -> Tree<'a>
-    ensures name { IsName (tree_of result) }
-    ensures class { IsClassTree (tree_of result) }
+    ensures { IsClassTree (tree_of result) }
 {
     Tree::Name {
         at: 0,
@@ -25,8 +25,11 @@ fn name<'a>(text: &'a str) -> Tree<'a>
 
 /// One IRI as a class and an individual of it, and another as a class above.
 fn state(alloc: Global, builder: &mut Builder) -> Result<(), BuildFault> {
-    class_assertion(alloc, builder, &name("x:A"), &name("x:A"))?;
-    sub_class(alloc, builder, &name("x:A"), &name("x:B"))
+    let (class, individual) = (name("x:A"), name("x:A"));
+    let assertion = Statement::ClassAssertion(&class, &individual);
+    add_statement(alloc, builder, assertion)?;
+    let (sub, superclass) = (name("x:A"), name("x:B"));
+    add_statement(alloc, builder, Statement::SubClassOf(&sub, &superclass))
 }
 
 #[test]

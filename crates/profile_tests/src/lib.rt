@@ -8,4 +8,6 @@ mod documents;
 #[cfg(test)]
 mod growth;
 #[cfg(test)]
+mod one_by_one;
+#[cfg(test)]
 mod tables;

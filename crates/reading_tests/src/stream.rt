@@ -1,7 +1,8 @@
 use crate::parser::push_tree;
 use fs_lexer::{next_token, only_separators};
-use fs_parser::streamed_forms;
+use fs_parser::{Stopped, TreeReader, streamed_forms};
 use std::alloc::{AllocError, Global};
+use std::test::Fail;
 
 /// The trees of a document that is read token by token, each with a space behind it; nothing where it is none.
 fn shown(alloc: Global, text: &str) -> Result<String, AllocError> {
@@ -39,6 +40,58 @@ fn documents_token_by_token(rt: HostRuntime) {
     for (text, expected) in &TEXTS {
         assert!(rt; is_shown(rt.alloc(), text, expected) == Ok(true), "{text}");
     }
+}
+
+/// The trees that the reader gives, each with a space behind it, and how they end.
+fn shown_one_by_one(alloc: Global, text: &str) -> Result<String, AllocError> {
+    let Some(mut reader) = TreeReader::start(alloc, text) else {
+        return String::from_str(alloc, "no header");
+    };
+    let mut out = String::new(alloc);
+    for _ in 0..text.len() {
+        match reader.next() {
+            Ok(Some(tree)) => push_tree(alloc, &mut out, &tree)?,
+            Ok(None) => {
+                out.push_str("end")?;
+                return Ok(out);
+            }
+            Err(Stopped) => {
+                out.push_str("stopped")?;
+                return Ok(out);
+            }
+        }
+    }
+    Ok(out)
+}
+
+/// Texts, each with the trees that are read of it, and how they end.
+const TREES: [(&str, &str); 7] = [
+    ("Ontology()", "end"),
+    (
+        "Prefix(:=<x:>) Ontology(:o SubClassOf(:A (:B 1))) # end",
+        "<x:o> SubClassOf(<x:A> (<x:B> 1 ) ) end",
+    ),
+    // What follows a string outside of all forms shows whether it is whole.
+    (
+        "Ontology(\"a\" \"b\"@en \"c\"^^<x:t> \"d\" 1 _:e)",
+        "\"a\" \"b\"@en \"c\"^^<x:t> \"d\" 1 _:e end",
+    ),
+    (
+        "Ontology(SubClassOf(<x:A> <x:B>) SubClassOf(<x:A>",
+        "SubClassOf(<x:A> <x:B> ) stopped",
+    ),
+    ("Ontology(<x:o>) <x:o>", "<x:o> stopped"),
+    ("Ontology(<x:o> q:A)", "<x:o> stopped"),
+    ("SubClassOf(<x:A> <x:B>)", "no header"),
+];
+
+#[test]
+fn trees_one_by_one(rt: HostRuntime) -> Result<(), Fail> {
+    for (text, expected) in &TREES {
+        let found = shown_one_by_one(rt.alloc(), text)?;
+        assert!(rt; found.as_str() == *expected, "{text}: {found}");
+    }
+    Ok(())
 }
 
 #[test]

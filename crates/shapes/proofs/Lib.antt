@@ -4,3 +4,5 @@ pub mod Worked
 pub mod Apart
 pub mod Placed
 pub mod Table
+pub mod Places
+pub mod Stating

@@ -7,6 +7,8 @@ pub mod Writes
 pub mod TreeLaws
 pub mod Faults
 pub mod View
+pub mod Stated
 pub mod Examples
 pub mod Laws
 pub mod Printed
+pub mod Places

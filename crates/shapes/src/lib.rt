@@ -3,6 +3,7 @@
 
 ghost use Rattle.shapes.specs.Examples.{EveryFaultIsTold, OrderIsTold, RepeatedOperandIsTold};
 ghost use Rattle.shapes.specs.Laws.{EachTreeIsItself, KeywordsAreApart};
+ghost use Rattle.shapes.specs.Places.{FaultsComeOneByOne};
 
 mod context;
 mod equality;
@@ -12,6 +13,8 @@ mod form;
 mod keywords;
 mod names;
 mod operand;
+mod place;
+mod statement;
 mod version;
 mod walk;
 
@@ -19,8 +22,10 @@ pub use expected::{Expected, Operands};
 pub use fault::Fault;
 pub use form::Form;
 pub use keywords::{Shape, shape_of};
+pub use place::Place;
+pub use statement::{Statement, statement_in};
 pub use version::Version;
-pub use walk::{annotation_count, axiom_faults, document_faults, expression_faults};
+pub use walk::{annotation_count, axiom_faults, document_faults, expression_faults, part_faults};
 
 /// The faults of small documents.
 pub fn worked_documents()
@@ -33,4 +38,9 @@ pub fn worked_documents()
 pub fn keywords_and_trees()
     ensures keywords { KeywordsAreApart }
     ensures trees { EachTreeIsItself }
+{}
+
+/// A law: the faults of an ontology's trees are those of each tree at its place, one after another.
+pub fn faults_come_one_by_one()
+    ensures { FaultsComeOneByOne }
 {}

@@ -1,10 +1,11 @@
 //! Every fault of a document's trees, in the order of the text.
 
-ghost use Rattle.std.specs.Prelude.{◌≡◌, ◌≤◌, ◌++◌, ◌∷◌, [], drop, false, length, map, true, OnOk, IfOk};
-ghost use Rattle.fs_parser.specs.Tree.{Form};
+ghost use Rattle.std.specs.Prelude.{◌≡◌, ◌≤◌, ◌++◌, ◌∷◌, [], drop, false, if◌then◌else◌, length, map, nat_lt, true, None, OnOk, IfOk};
+ghost use Rattle.fs_parser.specs.Tree.{Form, place_of};
 ghost use Rattle.fs_parser.specs.View.{iri_of, tree_of, trees_of};
 ghost use Rattle.shapes.specs.Faults as spec;
-ghost use Rattle.shapes.specs.Faults.{behind_annotations, each_faults, faults_among, faults_inside, front_faults, is_annotation, is_name, is_repeated, literal_faults, misplaced, name_faults, ontology_faults, own_trees};
+ghost use Rattle.shapes.specs.Faults.{WrongShape, behind_annotations, each_faults, faults_among, faults_inside, front_faults, is_annotation, is_name, is_repeated, literal_faults, misplaced, name_faults, ontology_faults, own_trees};
+ghost use Rattle.shapes.specs.Places.{faults_at, place_behind};
 ghost use Rattle.shapes.specs.Shapes.{Many};
 ghost use Rattle.shapes.specs.View.{fault_of, faults_of, names_of, operands_view};
 
@@ -15,6 +16,7 @@ use crate::fault::Fault;
 use crate::keywords::{is_known, is_refused, shape_of};
 use crate::names::{is_allowed, may_be_name};
 use crate::operand::is_new;
+use crate::place::Place;
 use crate::version::Version;
 use axioms::{Memory, Ontology};
 use fs_parser::{Document, Iri, Tree};
@@ -284,6 +286,48 @@ fn each_faults(
     Ok(())
 }
 
+/// The fault of a name in front of an ontology, where so many more may stand there, if it has one.
+fn front_name_faults(
+    found: &mut Vec<Fault>,
+    names_left: usize,
+    tree: &Tree<'_>,
+) -> Result<(), Memory>
+    ensures { OnOk result (faults_of found.new.items ≡ faults_of found.old.items ++ (if nat_lt 0 names_left then [] else WrongShape (place_of (tree_of tree.now)) ∷ [])) }
+{
+    if names_left == 0 {
+        return tell(found, Fault::WrongShape { at: tree.at() });
+    }
+    Ok(())
+}
+
+/// The faults of a tree at this place of an ontology, and the place behind it.
+fn faults_at(
+    context: &Context<'_>,
+    found: &mut Vec<Fault>,
+    place: Place,
+    tree: &Tree<'_>,
+) -> Result<Place, Memory>
+    ensures found { OnOk result (faults_of found.new.items ≡ faults_of found.old.items ++ faults_at (names_of context.now) place (tree_of tree.now)) }
+    ensures behind { IfOk result (λ behind. behind ≡ place_behind place (tree_of tree.now)) }
+{
+    let Place::Front { names_left } = place else {
+        tree_faults(context, found, Expected::Axiom, tree)?;
+        return Ok(Place::Axioms);
+    };
+    if is_name(tree) {
+        front_name_faults(found, names_left, tree)?;
+        return Ok(Place::Front {
+            names_left: names_left.saturating_sub(1),
+        });
+    }
+    if is_annotation(tree) {
+        tree_faults(context, found, Expected::Annotation, tree)?;
+        return Ok(Place::Front { names_left: 0 });
+    }
+    tree_faults(context, found, Expected::Axiom, tree)?;
+    Ok(Place::Axioms)
+}
+
 /// The faults of what an ontology holds: at most two names, then annotations, then axioms.
 fn ontology_faults(
     context: &Context<'_>,
@@ -292,20 +336,9 @@ fn ontology_faults(
 ) -> Result<(), Memory>
     ensures { OnOk result (faults_of found.new.items ≡ faults_of found.old.items ++ ontology_faults (names_of context.now) 2 (trees_of trees.now)) }
 {
-    let mut names_left: usize = 2;
-    for (index, tree) in trees.iter().enumerate() {
-        if is_name(tree) {
-            if names_left == 0 {
-                tell(found, Fault::WrongShape { at: tree.at() })?;
-            } else {
-                names_left -= 1;
-            }
-        } else if is_annotation(tree) {
-            tree_faults(context, found, Expected::Annotation, tree)?;
-            names_left = 0;
-        } else {
-            return each_faults(context, found, Expected::Axiom, &trees[index..]);
-        }
+    let mut place = Place::first();
+    for tree in trees {
+        place = faults_at(context, found, place, tree)?;
     }
     Ok(())
 }
@@ -332,6 +365,31 @@ pub fn document_faults(
     let mut found = Vec::new(alloc);
     ontology_faults(&context, &mut found, &document.trees)?;
     Ok(found)
+}
+
+/// Adds the faults of a tree that stands at this place of an ontology, in the order of the text, and gives the place behind it.
+///
+/// # Errors
+///
+/// `Memory` where memory was refused.
+pub fn part_faults(
+    alloc: Global,
+    found: &mut Vec<Fault>,
+    place: Place,
+    tree: &Tree<'_>,
+    version: Version,
+    state: RandomState,
+) -> Result<Place, Memory>
+    ensures found { OnOk result (faults_of found.new.items ≡ faults_of found.old.items ++ faults_at None place (tree_of tree.now)) }
+    ensures behind { IfOk result (λ behind. behind ≡ place_behind place (tree_of tree.now)) }
+{
+    let context = Context {
+        alloc,
+        state,
+        version,
+        ontology: None,
+    };
+    faults_at(&context, found, place, tree)
 }
 
 /// Every fault of trees that are each expected to be an axiom or a declaration, in the order of the text.

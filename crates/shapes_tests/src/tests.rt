@@ -5,8 +5,8 @@ use axioms::{Builder, Ontology};
 use fs_lexer::tokens;
 use fs_parser::{Document, Tree, forms};
 use shapes::{
-    Expected, Form, Version, annotation_count, axiom_faults, expression_faults, keywords_and_trees,
-    shape_of, worked_documents,
+    Expected, Form, Statement, Version, annotation_count, axiom_faults, expression_faults,
+    keywords_and_trees, shape_of, statement_in, worked_documents,
 };
 use std::alloc::{AllocError, Global};
 use std::hash::RandomState;
@@ -259,5 +259,76 @@ fn forms_of_keywords(rt: HostRuntime) {
         let (expected, keyword, form) = *row;
         let found = shape_of(expected, keyword, Version::One).map(|shape| shape.form);
         assert!(rt; found == form, "{keyword}");
+    }
+}
+
+/// What a statement is, and where the first and the last of its trees stand.
+fn stated(statement: Option<Statement<'_, '_>>) -> (&'static str, usize, usize) {
+    match statement {
+        Some(Statement::SubClassOf(sub, superclass)) => ("sub", sub.at(), superclass.at()),
+        Some(Statement::PropertyAssertion(property, _, target)) => {
+            ("property", property.at(), target.at())
+        }
+        Some(Statement::DeclareIndividual(name)) => ("individual", name.at(), name.at()),
+        Some(Statement::DisjointClasses(classes)) => ("disjoint", classes.len(), 0),
+        Some(_) => ("other", 0, 0),
+        None => ("none", 0, 0),
+    }
+}
+
+/// What the first tree of the document states, if the text is one.
+fn stated_first(alloc: Global, text: &str) -> Option<(&'static str, usize, usize)> {
+    let tokens = tokens(alloc, text).ok()?;
+    let document = forms(alloc, &tokens).ok()?;
+    let first = document.trees.first()?;
+    Some(stated(statement_in(first, Version::One)))
+}
+
+/// Texts, and what their first trees state.
+const STATED: &[(&str, &str, usize, usize)] = &[
+    ("Ontology(SubClassOf(<x:A> <x:B>))", "sub", 20, 26),
+    (
+        "Ontology(SubClassOf(Annotation(<x:p> <x:q>) <x:A> <x:B>))",
+        "sub",
+        44,
+        50,
+    ),
+    ("Ontology(SubClassOf(<x:A>))", "none", 0, 0),
+    (
+        "Ontology(ObjectPropertyAssertion(<x:r> <x:a> <x:b>))",
+        "property",
+        33,
+        45,
+    ),
+    (
+        "Ontology(Declaration(NamedIndividual(<x:a>)))",
+        "individual",
+        37,
+        37,
+    ),
+    (
+        "Ontology(Declaration(AnnotationProperty(<x:p>)))",
+        "none",
+        0,
+        0,
+    ),
+    (
+        "Ontology(DisjointClasses(<x:A> <x:B> <x:C>))",
+        "disjoint",
+        3,
+        0,
+    ),
+    ("Ontology(Annotation(<x:p> <x:q>))", "none", 0, 0),
+    ("Ontology(<x:o>)", "none", 0, 0),
+];
+
+#[test]
+fn statements_of_trees(rt: HostRuntime) {
+    for row in STATED {
+        let (text, what, first, last) = *row;
+        assert!(rt;
+            stated_first(rt.alloc(), text) == Some((what, first, last)),
+            "{text}"
+        );
     }
 }

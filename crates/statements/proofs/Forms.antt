@@ -4,7 +4,7 @@ use Rattle.std.specs.List.{flat_map}
 use Rattle.std.proofs.lemmas.List.{map-append, take_all}
 use Rattle.std.proofs.lemmas.Option.{slice_get-get_or}
 use Rattle.lemmas.proofs.Places.{take_push}
-use Rattle.axioms.specs.Expression.{ClassExpression, SomeValues}
+use Rattle.axioms.specs.Expression.{ClassExpression, Named, SomeValues}
 use Rattle.axioms.specs.Numbered.{Ontology, Exists, intersection, trees, tree_of as node_tree}
 use Rattle.axioms.specs.View.{expr_numbers}
 use Rattle.axioms.specs.WellFormed.{IsNodeOf, IsOntology}
@@ -12,11 +12,12 @@ use Rattle.axioms.specs.declared.fault.BuildFault.{BuildFault}
 use Rattle.axioms.specs.declared.fault.BuildFault.TheVariants.{TooManyNames, Memory}
 use Rattle.axioms.specs.declared.ids.ExprId.{ExprId}
 use Rattle.axioms.specs.Numbering.{parts, properties_in}
-use Rattle.fs_parser.specs.Tree.{Trees}
+use Rattle.fs_parser.specs.Tree.{Tree, Trees, Form}
 use Rattle.fs_parser.specs.View.{tree_of, trees_of}
 use Rattle.fs_parser.specs.declared.tree.Tree as code
+use Rattle.shapes.proofs.Stating.{IsNoForm}
 use Rattle.statements.specs.Additions.{ClassRead, ClassesRead, HasAdded, Overflows, PropertyRead, ReadsClass, ReadsClasses, ReadsProperty}
-use Rattle.statements.specs.ClassTrees.{IsName, IsClassTree, AreClassTrees, AreSomeTrees}
+use Rattle.statements.specs.ClassTrees.{IsClassTree, AreClassTrees, AreSomeTrees}
 use Rattle.statements.specs.Statements.{class_of, classes_of, iri_of, some_values}
 use Rattle.statements.proofs.ClassReading.{no_classes, one_more, one_overflows, and_overflow, property_overflow, filler_overflow, some_parts, some_read, some_fits}
 
@@ -49,7 +50,6 @@ two_trees (t ∷ u ∷ []) h = refl
 two_trees (t ∷ u ∷ v ∷ ts) h = absurd h
 
 pub record IsSomeOf (ts : List code.Tree) (t u : code.Tree) : Type 0 where
-  pub property : IsName (tree_of t)
   pub filler : IsClassTree (tree_of u)
   pub class : some_values (trees_of ts) (classes_of (trees_of ts)) ≡ SomeValues (iri_of (tree_of t)) (tree_class u)
 
@@ -58,14 +58,8 @@ some_of [] t u h first second = absurd h
 some_of (a ∷ []) t u h first second = absurd h
 some_of (a ∷ b ∷ []) t u h first second =
     let P : code.Tree → code.Tree → Type 0 = IsSomeOf (a ∷ b ∷ []) in
-    subst₂ P (sym first) (sym second) (record { property = h.0; filler = h.1; class = refl })
+    subst₂ P (sym first) (sym second) (record { filler = h; class = refl })
 some_of (a ∷ b ∷ c ∷ ts) t u h first second = absurd h
-
-pub filler_is : (ts : List code.Tree) (u : code.Tree) → AreSomeTrees (trees_of ts) → u ≡ get_or ts 1 u → IsClassTree (tree_of u)
-filler_is [] u h second = absurd h
-filler_is (a ∷ []) u h second = absurd h
-filler_is (a ∷ b ∷ []) u h second = let P : code.Tree → Type 0 = λ x. IsClassTree (tree_of x) in subst P (sym second) h.1
-filler_is (a ∷ b ∷ c ∷ ts) u h second = absurd h
 
 module _ (ts : List code.Tree) (t u : code.Tree) (is : IsSomeOf ts t u) (o p q : Ontology) where
   abbrev some_class : ClassExpression
@@ -89,6 +83,13 @@ module _ (ts : List code.Tree) (t u : code.Tree) (is : IsSomeOf ts t u) (o p q :
   some_values_fits n e property class =
       let r = iri_of (tree_of t) in
       some_fits r (tree_class u) o p q n e (some_parts r (tree_class u) o p q n e property class)
+
+-- ---- names
+
+-- what is no form is the class of its name
+pub class_named : (t : Tree) → IsNoForm t → Named (iri_of t) ≡ class_of t
+class_named (Form at keyword trees) other = absurd other
+class_named _ other = refl
 
 -- ---- intersections
 

@@ -14,7 +14,8 @@ use Rattle.fs_parser.specs.Tree.{Tree, Name, PlainLiteral, TaggedLiteral, TypedL
 use Rattle.fs_parser.specs.View.{tree_of, trees_of}
 use Rattle.fs_parser.specs.declared.tree.Tree as code
 use Rattle.statements.specs.Additions.{PropertiesRead, PropertyRead, ReadsProperties, ReadsProperty}
-use Rattle.statements.specs.ClassTrees.{AreNames, IsChain, IsName}
+use Rattle.shapes.proofs.Stating.{IsNoForm}
+use Rattle.statements.specs.ClassTrees.{IsChain}
 use Rattle.statements.specs.Statements.{chain_of, iri_of, iris_of}
 use Rattle.statements.proofs.ClassReading.{numbers_kept, numbers_push}
 use Rattle.statements.proofs.Overflowing.{overflow_more, overflow_later}
@@ -26,11 +27,6 @@ tree_name t = iri_of (tree_of t)
 iris_are : (ts : List code.Tree) → iris_of (trees_of ts) ≡ map tree_name ts
 iris_are [] = refl
 iris_are (t ∷ ts) = ap (λ rs. tree_name t ∷ rs) (iris_are ts)
-
-pub name_there : (ts : List code.Tree) (n : ℕ) (t : code.Tree) → AreNames (trees_of ts) → n < length ts → t ≡ get_or ts n t → IsName (tree_of t)
-name_there [] n t all within is = absurd (omega arith)
-name_there (u ∷ ts) zero t all within is = let P : code.Tree → Type 0 = λ x. IsName (tree_of x) in subst P (sym is) all.0
-name_there (u ∷ ts) (suc n) t all within is = name_there ts n t all.1 (omega arith) is
 
 pub no_property : (o : Ontology) → IsOntology o → (ps : List PropId) → ps ≡ [] → ReadsProperties [] o o (prop_numbers ps)
 no_property o whole ps is = let P : List PropId → Type 0 = λ xs. ReadsProperties [] o o (prop_numbers xs) in subst P (sym is) (record { adds = adds_nothing o whole; at = refl })
@@ -81,12 +77,13 @@ pub one_property_refused : (r : Iri) (o p : Ontology) (fault : BuildFault) → P
 one_property_refused r o p TooManyNames h = h
 one_property_refused r o p Memory h = tt
 
-pub chain_has_one : (t : Tree) → IsChain t → 1 ≤ length (chain_of t)
-chain_has_one (Name at iri) h = omega arith
-chain_has_one (Form at keyword trees) h = h.1
-chain_has_one (PlainLiteral at text) h = absurd h
-chain_has_one (TaggedLiteral at text tag) h = absurd h
-chain_has_one (TypedLiteral at text type) h = absurd h
-chain_has_one (Anonymous at label) h = absurd h
-chain_has_one (Number at digits) h = absurd h
-chain_has_one (Group at trees) h = absurd h
+-- what is no form is a chain of itself, where it is one
+pub one_chain : (t : Tree) → IsNoForm t → IsChain t → chain_of t ≡ iri_of t ∷ []
+one_chain (Name at iri) other h = refl
+one_chain (Form at keyword trees) other h = absurd other
+one_chain (PlainLiteral at text) other h = absurd (omega arith)
+one_chain (TaggedLiteral at text tag) other h = absurd (omega arith)
+one_chain (TypedLiteral at text type) other h = absurd (omega arith)
+one_chain (Anonymous at label) other h = absurd (omega arith)
+one_chain (Number at digits) other h = absurd (omega arith)
+one_chain (Group at trees) other h = absurd (omega arith)

@@ -124,3 +124,19 @@ abbrev pub StatementRead : Result (Unit {0}) BuildFault → Statement → Ontolo
 StatementRead (Ok _) s old new = Adds (statement_expressions s) (statement_properties s) (statement_individuals s) (filter_map logical_axiom (s ∷ [])) old new
 StatementRead (Err TooManyNames) s old new = Overflows (statement_expressions s) (statement_properties s) (statement_individuals s) old
 StatementRead (Err Memory) s old new = Unit {0}
+
+-- ---- statements, in their order
+
+-- new is old with all that the statements bring
+abbrev pub AddsStatements : List Statement → Ontology → Ontology → Type 0
+AddsStatements ss old new = Adds (flat_map statement_expressions ss) (flat_map statement_properties ss) (flat_map statement_individuals ss) (filter_map logical_axiom ss) old new
+
+-- with all that they bring a kind has too many names
+abbrev pub StatementsOverflow : List Statement → Ontology → Type 0
+StatementsOverflow ss old = Overflows (flat_map statement_expressions ss) (flat_map statement_properties ss) (flat_map statement_individuals ss) old
+
+-- all that the statements bring is added; or with it a kind has too many names
+abbrev pub StatementsRead : Result (Unit {0}) BuildFault → List Statement → Ontology → Ontology → Type 0
+StatementsRead (Ok _) ss old new = AddsStatements ss old new
+StatementsRead (Err TooManyNames) ss old new = StatementsOverflow ss old
+StatementsRead (Err Memory) ss old new = Unit {0}

@@ -5,7 +5,7 @@ ghost use Rattle.axioms.specs.View.{axiom_of};
 ghost use Rattle.axioms.specs.WellFormed.{IsAxiomOf};
 ghost use Rattle.fs_parser.specs.View.{tree_of, trees_of};
 ghost use Rattle.statements.specs.Additions.{AxiomRead, StatementRead};
-ghost use Rattle.statements.specs.ClassTrees.{AreClassTrees, AreManyDistinct, AreManyDistinctNames, AreNames, IsChain, IsClassTree, IsName};
+ghost use Rattle.statements.specs.ClassTrees.{AreClassTrees, AreManyDistinct, AreManyDistinctNames, IsChain, IsClassTree};
 ghost use Rattle.statements.specs.Statements.{chain_of, class_of, classes_of, iri_of, iris_of};
 
 use crate::expressions::{class_expression, class_expressions};
@@ -28,7 +28,7 @@ fn state(builder: &mut Builder, axiom: Axiom) -> Result<(), BuildFault>
 }
 
 /// A subclass axiom.
-pub fn sub_class(
+pub(crate) fn sub_class(
     alloc: Global,
     builder: &mut Builder,
     sub: &Tree<'_>,
@@ -50,7 +50,7 @@ pub fn sub_class(
 }
 
 /// An axiom that classes have the same members.
-pub fn equivalent_classes(
+pub(crate) fn equivalent_classes(
     alloc: Global,
     builder: &mut Builder,
     trees: &[Tree<'_>],
@@ -67,7 +67,7 @@ pub fn equivalent_classes(
 }
 
 /// An axiom that no two of the classes have a common member.
-pub fn disjoint_classes(
+pub(crate) fn disjoint_classes(
     alloc: Global,
     builder: &mut Builder,
     trees: &[Tree<'_>],
@@ -84,14 +84,13 @@ pub fn disjoint_classes(
 }
 
 /// An axiom that what has a successor by the property is in the class.
-pub fn property_domain(
+pub(crate) fn property_domain(
     alloc: Global,
     builder: &mut Builder,
     first: &Tree<'_>,
     second: &Tree<'_>,
 ) -> Result<(), BuildFault>
-    requires property { IsName (tree_of first.now) }
-    requires class { IsClassTree (tree_of second.now) }
+    requires { IsClassTree (tree_of second.now) }
     ensures { StatementRead result (States (PropertyDomain (iri_of (tree_of first.now)) (class_of (tree_of second.now)))) builder.old builder.new }
 {
     let property = match property(alloc, builder, first) {
@@ -106,12 +105,11 @@ pub fn property_domain(
 }
 
 /// An axiom that the property is transitive.
-pub fn transitive_property(
+pub(crate) fn transitive_property(
     alloc: Global,
     builder: &mut Builder,
     tree: &Tree<'_>,
 ) -> Result<(), BuildFault>
-    requires { IsName (tree_of tree.now) }
     ensures { StatementRead result (States (TransitiveProperty (iri_of (tree_of tree.now)))) builder.old builder.new }
 {
     let property = match property(alloc, builder, tree) {
@@ -122,12 +120,11 @@ pub fn transitive_property(
 }
 
 /// An axiom that the property is reflexive.
-pub fn reflexive_property(
+pub(crate) fn reflexive_property(
     alloc: Global,
     builder: &mut Builder,
     tree: &Tree<'_>,
 ) -> Result<(), BuildFault>
-    requires { IsName (tree_of tree.now) }
     ensures { StatementRead result (States (ReflexiveProperty (iri_of (tree_of tree.now)))) builder.old builder.new }
 {
     let property = match property(alloc, builder, tree) {
@@ -138,14 +135,13 @@ pub fn reflexive_property(
 }
 
 /// An axiom that the individual is in the class.
-pub fn class_assertion(
+pub(crate) fn class_assertion(
     alloc: Global,
     builder: &mut Builder,
     first: &Tree<'_>,
     second: &Tree<'_>,
 ) -> Result<(), BuildFault>
-    requires class { IsClassTree (tree_of first.now) }
-    requires individual { IsName (tree_of second.now) }
+    requires { IsClassTree (tree_of first.now) }
     ensures { StatementRead result (States (ClassAssertion (class_of (tree_of first.now)) (iri_of (tree_of second.now)))) builder.old builder.new }
 {
     let class = match class_expression(alloc, builder, first) {
@@ -160,16 +156,13 @@ pub fn class_assertion(
 }
 
 /// An axiom that the property holds from the source to the target.
-pub fn property_assertion(
+pub(crate) fn property_assertion(
     alloc: Global,
     builder: &mut Builder,
     first: &Tree<'_>,
     second: &Tree<'_>,
     third: &Tree<'_>,
 ) -> Result<(), BuildFault>
-    requires property { IsName (tree_of first.now) }
-    requires source { IsName (tree_of second.now) }
-    requires target { IsName (tree_of third.now) }
     ensures { StatementRead result (States (PropertyAssertion (iri_of (tree_of first.now)) (iri_of (tree_of second.now)) (iri_of (tree_of third.now)))) builder.old builder.new }
 {
     let property = match property(alloc, builder, first) {
@@ -188,13 +181,12 @@ pub fn property_assertion(
 }
 
 /// An axiom that the properties hold between the same individuals.
-pub fn equivalent_properties(
+pub(crate) fn equivalent_properties(
     alloc: Global,
     builder: &mut Builder,
     trees: &[Tree<'_>],
 ) -> Result<(), BuildFault>
-    requires names { AreNames (trees_of trees.now) }
-    requires many { AreManyDistinctNames (trees_of trees.now) }
+    requires { AreManyDistinctNames (trees_of trees.now) }
     ensures { StatementRead result (States (EquivalentProperties (iris_of (trees_of trees.now)))) builder.old builder.new }
 {
     let operands = match properties(alloc, builder, trees) {
@@ -205,14 +197,13 @@ pub fn equivalent_properties(
 }
 
 /// An axiom that what the chain of properties leads to, or the one property, the other property leads to too.
-pub fn sub_property(
+pub(crate) fn sub_property(
     alloc: Global,
     builder: &mut Builder,
     first: &Tree<'_>,
     second: &Tree<'_>,
 ) -> Result<(), BuildFault>
-    requires chain { IsChain (tree_of first.now) }
-    requires property { IsName (tree_of second.now) }
+    requires { IsChain (tree_of first.now) }
     ensures { StatementRead result (States (SubPropertyOf (chain_of (tree_of first.now)) (iri_of (tree_of second.now)))) builder.old builder.new }
 {
     let steps = match chain(alloc, builder, first) {

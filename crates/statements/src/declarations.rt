@@ -2,7 +2,6 @@
 ghost use Rattle.axioms.specs.Numbering.{DeclaresClass, DeclaresIndividual, DeclaresProperty};
 ghost use Rattle.fs_parser.specs.View.{tree_of};
 ghost use Rattle.statements.specs.Additions.{StatementRead};
-ghost use Rattle.statements.specs.ClassTrees.{IsName};
 ghost use Rattle.statements.specs.Statements.{iri_of};
 
 use crate::parts::{class, individual, property};
@@ -11,12 +10,11 @@ use fs_parser::Tree;
 use std::alloc::Global;
 
 /// Declares the class that the tree names.
-pub fn declare_class(
+pub(crate) fn declare_class(
     alloc: Global,
     builder: &mut Builder,
     tree: &Tree<'_>,
 ) -> Result<(), BuildFault>
-    requires { IsName (tree_of tree.now) }
     ensures { StatementRead result (DeclaresClass (iri_of (tree_of tree.now))) builder.old builder.new }
 {
     match class(alloc, builder, tree) {
@@ -26,12 +24,11 @@ pub fn declare_class(
 }
 
 /// Declares the property that the tree names.
-pub fn declare_property(
+pub(crate) fn declare_property(
     alloc: Global,
     builder: &mut Builder,
     tree: &Tree<'_>,
 ) -> Result<(), BuildFault>
-    requires { IsName (tree_of tree.now) }
     ensures { StatementRead result (DeclaresProperty (iri_of (tree_of tree.now))) builder.old builder.new }
 {
     match property(alloc, builder, tree) {
@@ -41,12 +38,11 @@ pub fn declare_property(
 }
 
 /// Declares the individual that the tree names.
-pub fn declare_individual(
+pub(crate) fn declare_individual(
     alloc: Global,
     builder: &mut Builder,
     tree: &Tree<'_>,
 ) -> Result<(), BuildFault>
-    requires { IsName (tree_of tree.now) }
     ensures { StatementRead result (DeclaresIndividual (iri_of (tree_of tree.now))) builder.old builder.new }
 {
     match individual(alloc, builder, tree) {

@@ -5,7 +5,8 @@ ghost use Rattle.statements.specs.Additions.{ClassRead, ClassesRead};
 ghost use Rattle.statements.specs.ClassTrees.{AreClassTrees, AreManyDistinct, AreSomeTrees, IsClassTree};
 ghost use Rattle.statements.specs.Statements.{class_of, classes_of, some_values};
 
-use crate::parts::{add, named, property};
+use crate::names;
+use crate::parts::{add, class, property};
 use axioms::{BuildFault, Builder, Expr, ExprId};
 use fs_parser::Tree;
 use std::alloc::Global;
@@ -21,7 +22,6 @@ pub fn class_expression(
     ensures { ClassRead result (class_of (tree_of tree.now)) builder.old builder.new }
 {
     match tree {
-        Tree::Name { iri, .. } => named(alloc, builder, iri),
         Tree::Form { keyword, trees, .. } => {
             if *keyword == "ObjectIntersectionOf" {
                 intersection(alloc, builder, trees)
@@ -29,7 +29,7 @@ pub fn class_expression(
                 some_values(alloc, builder, trees)
             }
         }
-        _ => unreachable!(),
+        _ => class(alloc, builder, tree),
     }
 }
 
@@ -90,7 +90,7 @@ fn some_values(
     ensures { ClassRead result (some_values (trees_of trees.now) (classes_of (trees_of trees.now))) builder.old builder.new }
 {
     let [first, second] = trees else {
-        unreachable!()
+        return names::class(builder, "");
     };
     let property = match property(alloc, builder, first) {
         Ok(property) => property,

@@ -9,14 +9,10 @@ mod expressions;
 mod names;
 mod parts;
 mod properties;
+mod statement;
 
-pub use axiom_forms::{
-    class_assertion, disjoint_classes, equivalent_classes, equivalent_properties,
-    property_assertion, property_domain, reflexive_property, sub_class, sub_property,
-    transitive_property,
-};
-pub use declarations::{declare_class, declare_individual, declare_property};
 pub use expressions::class_expression;
+pub use statement::add_statement;
 
 /// How an ontology grows: to add what a statement brings, each at its first place, is to read one statement more, and what
 /// is added at the end changes no number.

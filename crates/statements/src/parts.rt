@@ -7,7 +7,6 @@ ghost use Rattle.axioms.specs.View.{node_of};
 ghost use Rattle.axioms.specs.WellFormed.{IsNodeOf};
 ghost use Rattle.fs_parser.specs.View.{tree_of, iri_of};
 ghost use Rattle.statements.specs.Additions.{ClassRead, HasAdded, IndividualRead, PropertyRead};
-ghost use Rattle.statements.specs.ClassTrees.{IsName};
 ghost use Rattle.statements.specs.Statements.{iri_of as tree_iri};
 
 use crate::names;
@@ -27,19 +26,17 @@ pub(crate) fn add(builder: &mut Builder, expr: Expr) -> Result<ExprId, Memory>
     number
 }
 
-/// The class of this name.
-pub(crate) fn named(
-    alloc: Global,
-    builder: &mut Builder,
-    iri: &Iri<'_>,
-) -> Result<ExprId, BuildFault>
-    ensures { ClassRead result (Named (iri_of iri.now)) builder.old builder.new }
+/// The IRI of the name that the tree is; what is no name has the empty one.
+fn iri_of<'a>(tree: &Tree<'a>) -> Iri<'a>
+    ensures { iri_of result ≡ tree_iri (tree_of tree.now) }
 {
-    let text = match iri.text(alloc) {
-        Ok(text) => text,
-        Err(_) => return Err(BuildFault::Memory),
-    };
-    names::class(builder, text.as_str())
+    match tree {
+        Tree::Name { iri, .. } => *iri,
+        _ => Iri {
+            base: "",
+            local: "",
+        },
+    }
 }
 
 /// The property that the tree is.
@@ -48,13 +45,9 @@ pub(crate) fn property(
     builder: &mut Builder,
     tree: &Tree<'_>,
 ) -> Result<PropId, BuildFault>
-    requires { IsName (tree_of tree.now) }
     ensures { PropertyRead result (tree_iri (tree_of tree.now)) builder.old builder.new }
 {
-    let Tree::Name { iri, .. } = tree else {
-        unreachable!()
-    };
-    let text = match iri.text(alloc) {
+    let text = match iri_of(tree).text(alloc) {
         Ok(text) => text,
         Err(_) => return Err(BuildFault::Memory),
     };
@@ -67,13 +60,9 @@ pub(crate) fn individual(
     builder: &mut Builder,
     tree: &Tree<'_>,
 ) -> Result<IndId, BuildFault>
-    requires { IsName (tree_of tree.now) }
     ensures { IndividualRead result (tree_iri (tree_of tree.now)) builder.old builder.new }
 {
-    let Tree::Name { iri, .. } = tree else {
-        unreachable!()
-    };
-    let text = match iri.text(alloc) {
+    let text = match iri_of(tree).text(alloc) {
         Ok(text) => text,
         Err(_) => return Err(BuildFault::Memory),
     };
@@ -86,13 +75,9 @@ pub(crate) fn class(
     builder: &mut Builder,
     tree: &Tree<'_>,
 ) -> Result<ExprId, BuildFault>
-    requires { IsName (tree_of tree.now) }
     ensures { ClassRead result (Named (tree_iri (tree_of tree.now))) builder.old builder.new }
 {
-    let Tree::Name { iri, .. } = tree else {
-        unreachable!()
-    };
-    let text = match iri.text(alloc) {
+    let text = match iri_of(tree).text(alloc) {
         Ok(text) => text,
         Err(_) => return Err(BuildFault::Memory),
     };

@@ -1,7 +1,7 @@
 //! Lists of properties.
 ghost use Rattle.fs_parser.specs.View.{tree_of, trees_of};
 ghost use Rattle.statements.specs.Additions.{PropertiesRead};
-ghost use Rattle.statements.specs.ClassTrees.{AreNames, IsChain, IsName};
+ghost use Rattle.statements.specs.ClassTrees.{IsChain};
 ghost use Rattle.statements.specs.Statements.{chain_of, iri_of, iris_of};
 ghost use Rattle.std.specs.Prelude.{[], ◌∷◌};
 
@@ -16,7 +16,6 @@ pub(crate) fn properties(
     builder: &mut Builder,
     trees: &[Tree<'_>],
 ) -> Result<Vec<PropId>, BuildFault>
-    requires { AreNames (trees_of trees.now) }
     ensures { PropertiesRead result (iris_of (trees_of trees.now)) builder.old builder.new }
 {
     builder.well_formed();
@@ -40,7 +39,6 @@ fn one_property(
     builder: &mut Builder,
     tree: &Tree<'_>,
 ) -> Result<Vec<PropId>, BuildFault>
-    requires { IsName (tree_of tree.now) }
     ensures { PropertiesRead result (iri_of (tree_of tree.now) ∷ []) builder.old builder.new }
 {
     let property = match property(alloc, builder, tree) {
@@ -64,8 +62,7 @@ pub(crate) fn chain(
     ensures { PropertiesRead result (chain_of (tree_of tree.now)) builder.old builder.new }
 {
     match tree {
-        Tree::Name { .. } => one_property(alloc, builder, tree),
         Tree::Form { trees, .. } => properties(alloc, builder, trees),
-        _ => unreachable!(),
+        _ => one_property(alloc, builder, tree),
     }
 }

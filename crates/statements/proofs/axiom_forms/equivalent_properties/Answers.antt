@@ -10,7 +10,7 @@ returns-in-Err c =
 
 pub state-requires : goal.state-requires
 state-requires c =
-    equivalent_properties_fit (iris_of (trees_of c.args.trees.now)) c.args.builder.now c.properties.new.builder (prop_numbers c.in-Ok.operands.items) c.in-Ok.ensures c.requires.many.many c.requires.many.distinct
+    equivalent_properties_fit (iris_of (trees_of c.args.trees.now)) c.args.builder.now c.properties.new.builder (prop_numbers c.in-Ok.operands.items) c.in-Ok.ensures c.requires.many c.requires.distinct
 
 pub returns : goal.returns
 returns c =

@@ -2,7 +2,6 @@ use Rattle.axioms.specs.View.{prop_numbers}
 use Rattle.fs_parser.specs.View.{tree_of}
 use Rattle.statements.specs.Statements.{chain_of, iri_of}
 use Rattle.statements.proofs.AxiomReading.{chain_refused, sub_property_fits, sub_property_read, super_refused}
-use Rattle.statements.proofs.PropertyForms.{chain_has_one}
 use Rattle.statements.proofs.axiom_forms.sub_property.Goals as goal
 
 pub returns-in-Err : goal.returns-in-Err
@@ -14,7 +13,7 @@ returns-in-Err-property c =
 
 pub state-requires : goal.state-requires
 state-requires c =
-    sub_property_fits (chain_of (tree_of c.args.first.now)) (iri_of (tree_of c.args.second.now)) c.args.builder.now c.chain.new.builder c.property.new.builder (prop_numbers c.in-Ok.steps.items) c.in-Ok-property.whole.0 c.in-Ok.ensures c.in-Ok-property.ensures (chain_has_one (tree_of c.args.first.now) c.requires.chain)
+    sub_property_fits (chain_of (tree_of c.args.first.now)) (iri_of (tree_of c.args.second.now)) c.args.builder.now c.chain.new.builder c.property.new.builder (prop_numbers c.in-Ok.steps.items) c.in-Ok-property.whole.0 c.in-Ok.ensures c.in-Ok-property.ensures c.requires
 
 pub returns : goal.returns
 returns c =

@@ -2,12 +2,15 @@ use Rattle.std.proofs.Common.{◌≡◌, ◌≤◌, length, arith, rules, sym, s
 use denote.Param.Weighed.{most, at_most}
 use Rattle.fs_parser.specs.declared.tree.Tree.{Tree, size-Tree}
 use Rattle.std.proofs.lemmas.Grind.{common_steps}
+use Rattle.axioms.specs.Expression.{ClassExpression}
 use Rattle.axioms.specs.View.{expr_numbers}
 use Rattle.fs_parser.specs.View.{tree_of, trees_of}
+use Rattle.shapes.proofs.Stating.{no_form}
+use Rattle.statements.specs.Additions.{ClassRead}
 use Rattle.statements.specs.ClassTrees.{IsClassTree}
 use Rattle.statements.specs.Statements.{classes_of}
 use Rattle.statements.proofs.ClassReading.{and_fits, and_read}
-use Rattle.statements.proofs.Forms.{and_refused, class_at, two_trees, read_all, read_none, read_pushed, read_refused, some_of, some_property_refused, some_filler_refused, some_values_fits, some_values_read}
+use Rattle.statements.proofs.Forms.{and_refused, class_at, class_named, two_trees, read_all, read_none, read_pushed, read_refused, some_of, some_property_refused, some_filler_refused, some_values_fits, some_values_read}
 use Rattle.statements.proofs.expressions.+reading.Goals as goal
 use Rattle.statements.proofs.expressions.+reading.Goals.{some_values-in_default-via-then-trees-lt2, some_values-in_default-via-else-trees-lt2+else-trees-lt3}
 
@@ -43,13 +46,13 @@ some_values-returns-in-Ok-add t c =
     let is = some_of c.args.trees.now c.first-item.result c.second-item.result c.requires c.first-item.is c.second-item.is in
     some_values_read c.args.trees.now c.first-item.result c.second-item.result is c.args.builder.now c.property.new.builder c.class_expression.new.builder c.add.new.builder c.in-Ok.property.0 c.in-Ok-class_expression.filler.0 c.in-Ok-add.number.0 c.in-Ok.ensures c.in-Ok-class_expression.ensures c.in-Ok-add.ensures
 
-pub some_values-unreachable-requires : goal.some_values-unreachable-requires
-some_values-unreachable-requires t c =
+pub some_values-returns-in_default : goal.some_values-returns-in_default
+some_values-returns-in_default t c =
     let two : length c.args.trees.now ≡ 2 = two_trees c.args.trees.now c.requires in
-    elim c.in_default.branch [
+    absurd (elim c.in_default.branch [
       | some_values-in_default-via-then-trees-lt2 w ↦ grind (arith, two)
       | some_values-in_default-via-else-trees-lt2+else-trees-lt3 w ↦ grind (arith, two)
-    ]
+    ])
 
 pub some_values-class_expression-requires : goal.some_values-class_expression-requires
 some_values-class_expression-requires t c =
@@ -76,3 +79,8 @@ class_expressions-loop-tree-preserved t c =
 
 pub class_expressions-returns : goal.class_expressions-returns
 class_expressions-returns t c = read_all c.args.trees.now c.loop-tree.tree-index c.args.builder.now c.loop-tree.builder _ c.loop-tree.invariant (omega (arith, c.loop-tree-test.false))
+
+pub class_expression-returns-in_default : goal.class_expression-returns-in_default
+class_expression-returns-in_default t c =
+    subst (λ (d : ClassExpression). ClassRead c.class.result d c.args.builder.now c.class.new.builder)
+    (class_named (tree_of c.args.tree.now) (no_form c.args.tree.now c.in_default.not-Form)) c.class.ensures

@@ -1,9 +1,6 @@
 use Rattle.std.proofs.Common.{arith}
-use Rattle.statements.proofs.PropertyForms.{all_properties, name_there, no_property, property_pushed, property_refused}
+use Rattle.statements.proofs.PropertyForms.{all_properties, no_property, property_pushed, property_refused}
 use Rattle.statements.proofs.properties.properties.Goals as goal
-
-pub property-requires : goal.property-requires
-property-requires c = name_there c.args.trees.now c.loop-tree.tree-index c.tree-item.result c.requires c.loop-tree-test.true c.tree-item.is
 
 pub loop-tree-init : goal.loop-tree-init
 loop-tree-init c = no_property c.args.builder.now c.well_formed-2.ensures _ c.new-properties.ensures.items

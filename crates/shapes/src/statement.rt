@@ -1,0 +1,146 @@
+//! Statements of a document, over the trees that they are made of.
+
+ghost use Rattle.std.specs.Option.{IfNone, IfSome};
+ghost use Rattle.std.specs.Prelude.{◌≡◌, ◌==◌, [], ◌∷◌, false, nat_lt, option_map, true};
+ghost use Rattle.fs_parser.specs.View.{tree_of, trees_of};
+ghost use Rattle.shapes.specs.Faults.{count_of};
+ghost use Rattle.shapes.specs.Stated.{entity_in, stated, stated_by, statement_in};
+
+use crate::expected::Expected;
+use crate::form::Form;
+use crate::keywords::shape_of;
+use crate::version::Version;
+use crate::walk::annotation_count;
+use fs_parser::Tree;
+
+/// An axiom or a declaration, over the trees of its operands.
+#[derive(Clone, Copy, Debug)]
+pub enum Statement<'t, 'a> {
+    /// A class expression, and one above it.
+    SubClassOf(&'t Tree<'a>, &'t Tree<'a>),
+    EquivalentClasses(&'t [Tree<'a>]),
+    DisjointClasses(&'t [Tree<'a>]),
+    /// A property or a chain of properties, and a property above it.
+    SubPropertyOf(&'t Tree<'a>, &'t Tree<'a>),
+    EquivalentProperties(&'t [Tree<'a>]),
+    /// A property, and a class expression.
+    Domain(&'t Tree<'a>, &'t Tree<'a>),
+    Transitive(&'t Tree<'a>),
+    Reflexive(&'t Tree<'a>),
+    /// A class expression, and an individual.
+    ClassAssertion(&'t Tree<'a>, &'t Tree<'a>),
+    /// A property, its source and its target.
+    PropertyAssertion(&'t Tree<'a>, &'t Tree<'a>, &'t Tree<'a>),
+    DeclareClass(&'t Tree<'a>),
+    DeclareProperty(&'t Tree<'a>),
+    DeclareIndividual(&'t Tree<'a>),
+}
+
+/// The one operand.
+fn one<'t, 'a>(operands: &'t [Tree<'a>]) -> Option<&'t Tree<'a>>
+    ensures some { IfSome result (λ t. trees_of operands.now ≡ trees_of (t.now ∷ [])) }
+    ensures none { IfNone result ((count_of (trees_of operands.now) == 1) ≡ false) }
+{
+    match operands {
+        [operand] => Some(operand),
+        _ => None,
+    }
+}
+
+/// The two operands.
+fn two<'t, 'a>(operands: &'t [Tree<'a>]) -> Option<(&'t Tree<'a>, &'t Tree<'a>)>
+    ensures some { IfSome result (λ ts. trees_of operands.now ≡ trees_of (ts.0.now ∷ ts.1.now ∷ [])) }
+    ensures none { IfNone result ((count_of (trees_of operands.now) == 2) ≡ false) }
+{
+    match operands {
+        [first, second] => Some((first, second)),
+        _ => None,
+    }
+}
+
+/// The three operands.
+fn three<'t, 'a>(operands: &'t [Tree<'a>]) -> Option<(&'t Tree<'a>, &'t Tree<'a>, &'t Tree<'a>)>
+    ensures some { IfSome result (λ ts. trees_of operands.now ≡ trees_of (ts.0.now ∷ ts.1.now ∷ ts.2.now ∷ [])) }
+    ensures none { IfNone result ((count_of (trees_of operands.now) == 3) ≡ false) }
+{
+    match operands {
+        [first, second, third] => Some((first, second, third)),
+        _ => None,
+    }
+}
+
+/// The operands, where they are two or more.
+fn many<'t, 'a>(operands: &'t [Tree<'a>]) -> Option<&'t [Tree<'a>]>
+    ensures some { IfSome result (λ ts. (ts.now ≡ operands.now) × (nat_lt 1 (count_of (trees_of operands.now)) ≡ true)) }
+    ensures none { IfNone result (nat_lt 1 (count_of (trees_of operands.now)) ≡ false) }
+{
+    if operands.len() > 1 {
+        Some(operands)
+    } else {
+        None
+    }
+}
+
+/// What the form states of these operands, where it states something by itself and takes so many.
+fn stated_by<'t, 'a>(form: Form, operands: &'t [Tree<'a>]) -> Option<Statement<'t, 'a>>
+    ensures { option_map stated result ≡ stated_by form (trees_of operands.now) }
+{
+    match form {
+        Form::SubClassOf => {
+            let (sub, superclass) = two(operands)?;
+            Some(Statement::SubClassOf(sub, superclass))
+        }
+        Form::EquivalentClasses => Some(Statement::EquivalentClasses(many(operands)?)),
+        Form::DisjointClasses => Some(Statement::DisjointClasses(many(operands)?)),
+        Form::SubObjectPropertyOf => {
+            let (chain, property) = two(operands)?;
+            Some(Statement::SubPropertyOf(chain, property))
+        }
+        Form::EquivalentObjectProperties => Some(Statement::EquivalentProperties(many(operands)?)),
+        Form::ObjectPropertyDomain => {
+            let (property, class) = two(operands)?;
+            Some(Statement::Domain(property, class))
+        }
+        Form::TransitiveObjectProperty => Some(Statement::Transitive(one(operands)?)),
+        Form::ReflexiveObjectProperty => Some(Statement::Reflexive(one(operands)?)),
+        Form::ClassAssertion => {
+            let (class, individual) = two(operands)?;
+            Some(Statement::ClassAssertion(class, individual))
+        }
+        Form::ObjectPropertyAssertion => {
+            let (property, source, target) = three(operands)?;
+            Some(Statement::PropertyAssertion(property, source, target))
+        }
+        Form::Class => Some(Statement::DeclareClass(one(operands)?)),
+        Form::ObjectProperty => Some(Statement::DeclareProperty(one(operands)?)),
+        Form::NamedIndividual => Some(Statement::DeclareIndividual(one(operands)?)),
+        _ => None,
+    }
+}
+
+/// What a declaration of this tree states.
+fn entity_in<'t, 'a>(tree: &'t Tree<'a>, version: Version) -> Option<Statement<'t, 'a>>
+    ensures { option_map stated result ≡ entity_in (tree_of tree.now) }
+{
+    let Tree::Form { keyword, trees, .. } = tree else {
+        return None;
+    };
+    let shape = shape_of(Expected::Entity, keyword, version)?;
+    stated_by(shape.form, trees)
+}
+
+/// What the tree states, if it is a form of the profile that states something and has as many operands as it takes. What the
+/// operands are is not looked at.
+pub fn statement_in<'t, 'a>(tree: &'t Tree<'a>, version: Version) -> Option<Statement<'t, 'a>>
+    ensures { option_map stated result ≡ statement_in (tree_of tree.now) }
+{
+    let Tree::Form { keyword, trees, .. } = tree else {
+        return None;
+    };
+    let shape = shape_of(Expected::Axiom, keyword, version)?;
+    let operands = &trees[annotation_count(trees)..];
+    match shape.form {
+        Form::Declaration => entity_in(one(operands)?, version),
+        form => stated_by(form, operands),
+    }
+}
