@@ -25,7 +25,7 @@ const CHECK_ABOUT: &str = "Checks the three texts of a classification against th
 const INSTANCES_ABOUT: &str = "Prints the individuals that belong to a class";
 
 const EXPLAIN_ABOUT: &str =
-    "Prints whether a class or an individual lies under a class, and the proof or a counterexample";
+    "Prints whether a class is below another, or an individual is in it, with the proof or a counterexample";
 
 const DOCUMENT_HELP: &str = "The file of the ontology, in functional-style syntax";
 

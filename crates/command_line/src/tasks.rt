@@ -9,7 +9,7 @@ pub struct Paths<'a> {
     pub certificate: &'a str,
 }
 
-/// Whether a document says that a class or an individual lies under a class.
+/// Whether a document says that a class is below another, or that an individual is in it.
 #[derive(Clone, Copy, Debug, PartialEq, Eq)]
 pub struct Question<'a> {
     pub document: &'a str,
