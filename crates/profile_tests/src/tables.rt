@@ -17,7 +17,7 @@ pub type Shown = Result<String, AllocError>;
 pub type Row = (&'static str, &'static str);
 
 /// How many classes, properties, individuals, expressions and axioms the ontology has.
-pub fn counts(ontology: &Ontology) -> [usize; 5] {
+pub(crate) fn counts(ontology: &Ontology) -> [usize; 5] {
     [
         ontology.classes().len(),
         ontology.properties().len(),
@@ -33,7 +33,7 @@ fn shown_counts(alloc: Global, ontology: &Ontology) -> Shown {
 }
 
 /// Each fault as a line.
-pub fn lines(alloc: Global, faults: &[Fault]) -> Shown {
+pub(crate) fn lines(alloc: Global, faults: &[Fault]) -> Shown {
     let mut out = String::new(alloc);
     for fault in faults {
         let line = format!(in alloc; "{fault}\n")?;
@@ -43,7 +43,7 @@ pub fn lines(alloc: Global, faults: &[Fault]) -> Shown {
 }
 
 /// The faults, each as a line, or that there are too many names.
-pub fn told(alloc: Global, refusal: &Refusal) -> Shown {
+pub(crate) fn told(alloc: Global, refusal: &Refusal) -> Shown {
     match refusal {
         Refusal::Faults(faults) => lines(alloc, faults),
         Refusal::TooManyNames => String::from_str(alloc, "too many names"),
@@ -144,12 +144,12 @@ fn shown(alloc: Global, text: &str, part: Part, state: RandomState) -> Shown {
     }
 }
 
-pub fn random<R: RandomSource>(rt: &R) -> Result<RandomState, AllocError> {
+pub(crate) fn random<R: RandomSource>(rt: &R) -> Result<RandomState, AllocError> {
     RandomState::new(rt).map_err(|_| AllocError)
 }
 
 /// Of each text this is shown: the counts of its ontology, its faults, or why it is no document.
-pub fn assert_texts<R: AllocGlobal + RandomSource + Abort>(
+pub(crate) fn assert_texts<R: AllocGlobal + RandomSource + Abort>(
     rt: &R,
     rows: &[Row],
 ) -> Result<(), Fail> {
@@ -163,7 +163,7 @@ pub fn assert_texts<R: AllocGlobal + RandomSource + Abort>(
 }
 
 /// Of each document with the prefix `:` for `x:`, and with this in it, this is shown.
-pub fn assert_documents<R: AllocGlobal + RandomSource + Abort>(
+pub(crate) fn assert_documents<R: AllocGlobal + RandomSource + Abort>(
     rt: &R,
     part: Part,
     rows: &[Row],

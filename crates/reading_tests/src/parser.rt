@@ -31,7 +31,11 @@ fn push_name(alloc: Global, out: &mut String, iri: &Iri<'_>) -> Result<(), Alloc
     out.push_str(">")
 }
 
-pub fn push_tree(alloc: Global, out: &mut String, tree: &Tree<'_>) -> Result<(), AllocError> {
+pub(crate) fn push_tree(
+    alloc: Global,
+    out: &mut String,
+    tree: &Tree<'_>,
+) -> Result<(), AllocError> {
     match tree {
         Tree::Name { iri, .. } => push_name(alloc, out, iri)?,
         Tree::PlainLiteral { text, .. } => out.push_str(text)?,

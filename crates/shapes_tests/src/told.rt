@@ -14,7 +14,7 @@ use std::test::Fail;
 pub type Row = (&'static str, &'static str);
 
 /// Each fault as a line.
-pub fn lines(alloc: Global, faults: &[Fault]) -> Result<String, AllocError> {
+pub(crate) fn lines(alloc: Global, faults: &[Fault]) -> Result<String, AllocError> {
     let mut out = String::new(alloc);
     for fault in faults {
         let line = format!(in alloc; "{fault}\n")?;
