@@ -37,3 +37,4 @@ pub record IsEmptyIndex (index : Index) : Type 0 where
   pub classes : IsEmptyTable index.classes
   pub from : IsEmptyTable index.from
   pub into : IsEmptyTable index.into
+  pub seconds : IsEmptyTable index.seconds

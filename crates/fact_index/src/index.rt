@@ -7,12 +7,13 @@ use crate::by_context::ByContext;
 use facts::{Context, Fact};
 use std::alloc::{AllocError, Global};
 
-/// The numbers of facts, by context: classes in it, edges from it, edges into it.
+/// The numbers of facts, by context: classes in it, edges from it, edges into it, and those of the edges from it that are seconds.
 #[derive(Drop)]
 pub struct Index {
     classes: ByContext,
     from: ByContext,
     into: ByContext,
+    seconds: ByContext,
 }
 
 impl Index {
@@ -24,6 +25,7 @@ impl Index {
             classes: ByContext::new(alloc),
             from: ByContext::new(alloc),
             into: ByContext::new(alloc),
+            seconds: ByContext::new(alloc),
         }
     }
 
@@ -48,16 +50,27 @@ impl Index {
         self.into.of(context)
     }
 
-    /// Lists a fact, once where it was the last to be listed. Where memory is refused it may be listed in part.
-    pub fn add(&mut self, number: u32, fact: Fact) -> Result<(), AllocError>
-        ensures may { MayList self.old self.new number fact }
-        ensures ok { OnOk result (Lists self.new number fact) }
+    /// Those edges from the context that were added as seconds.
+    pub fn seconds_from(&self, context: Context) -> &[u32]
+        ensures { result.now ≡ at_context self.now.seconds context }
+    {
+        self.seconds.of(context)
+    }
+
+    /// Lists a fact, once where it was the last to be listed; an edge among the seconds too, where it is one. Where memory is refused
+    /// it may be listed in part.
+    pub fn add(&mut self, number: u32, fact: Fact, is_second: bool) -> Result<(), AllocError>
+        ensures may { MayList self.old self.new number fact is_second }
+        ensures ok { OnOk result (Lists self.new number fact is_second) }
     {
         match fact {
             Fact::In(_, x) => self.classes.add(x, number)?,
             Fact::Edge(x, _, y) => {
                 self.from.add(x, number)?;
                 self.into.add(y, number)?;
+                if is_second {
+                    self.seconds.add(x, number)?;
+                }
             }
         }
         Ok(())

@@ -50,6 +50,11 @@ abbrev pub by_chain : Form → Option Key
 by_chain (N6 r _ _) = Some (property_key r)
 by_chain _ = None
 
+-- the second property of a chain
+abbrev pub by_end : Form → Option Key
+by_end (N6 _ s _) = Some (property_key s)
+by_end _ = None
+
 -- the property that it puts below another, and no chain
 abbrev pub by_plain : Form → Option Key
 by_plain (N5 r _) = Some (key.Whole r.0)

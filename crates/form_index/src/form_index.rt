@@ -2,7 +2,9 @@
 ghost use Rattle.std.specs.Prelude.{◌≡◌, ◌≤◌, OnOk, IfOk, [], length};
 ghost use Rattle.form_index.specs.Listed.{AddsForm, IsFormIndex};
 
-use crate::named::{alone_key, chain_key, filler_key, first_key, kind_key, plain_key, second_key};
+use crate::named::{
+    alone_key, chain_key, end_key, filler_key, first_key, kind_key, plain_key, second_key,
+};
 use normal_forms::Form;
 use number_table::KeyTable;
 use std::alloc::{AllocError, Global};
@@ -16,6 +18,7 @@ pub(crate) struct FormIndex {
     pub second: KeyTable,
     pub fillers: KeyTable,
     pub chains: KeyTable,
+    pub ends: KeyTable,
     pub plain: KeyTable,
 }
 
@@ -31,6 +34,7 @@ impl FormIndex {
             second: KeyTable::new(alloc),
             fillers: KeyTable::new(alloc),
             chains: KeyTable::new(alloc),
+            ends: KeyTable::new(alloc),
             plain: KeyTable::new(alloc),
         }
     }
@@ -45,6 +49,7 @@ impl FormIndex {
         self.second.add_at(second_key(form), number)?;
         self.fillers.add_at(filler_key(form), number)?;
         self.chains.add_at(chain_key(form), number)?;
+        self.ends.add_at(end_key(form), number)?;
         self.plain.add_at(plain_key(form), number)?;
         Ok(())
     }

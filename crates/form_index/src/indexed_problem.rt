@@ -1,7 +1,7 @@
 //! A problem whose forms are found by key.
 ghost use Rattle.std.specs.Prelude.{◌≡◌, ◌↔◌, ◌++◌, [], ℕ, Contains, IfOk};
 ghost use Rattle.number_table.specs.declared.keys.Key.TheVariants as keys;
-ghost use Rattle.form_index.specs.Named.{class_key, property_key, by_kind, by_alone, by_first, by_second, by_filler, by_chain, by_plain};
+ghost use Rattle.form_index.specs.Named.{class_key, property_key, by_kind, by_alone, by_first, by_second, by_filler, by_chain, by_end, by_plain};
 ghost use Rattle.form_index.specs.Under.{IsUnder};
 
 use crate::form_index::FormIndex;
@@ -146,6 +146,14 @@ impl IndexedProblem {
     {
         self.index.chains.of(key_of_property(property))
     }
+
+    /// The chains that end with that property.
+    pub fn chains_to(&self, property: PropId2) -> &[u32]
+        ensures { (n : ℕ) → Contains result.now n ↔ IsUnder by_end self.now.forms (property_key property) n }
+    {
+        self.index.ends.of(key_of_property(property))
+    }
+
     /// The forms that put that property below another, and no chain.
     pub fn plain_from(&self, property: PropId2) -> &[u32]
         ensures { (n : ℕ) → Contains result.now n ↔ IsUnder by_plain self.now.forms (property_key property) n }

@@ -1,6 +1,6 @@
 //! The keys of a form: one for each table.
 ghost use Rattle.std.specs.Prelude.{◌≡◌};
-ghost use Rattle.form_index.specs.Named.{class_key, property_key, by_kind, by_alone, by_first, by_second, by_filler, by_chain, by_plain};
+ghost use Rattle.form_index.specs.Named.{class_key, property_key, by_kind, by_alone, by_first, by_second, by_filler, by_chain, by_end, by_plain};
 
 use normal_forms::{Class2, Form, PropId2};
 use number_table::Key;
@@ -82,6 +82,16 @@ pub(crate) fn chain_key(form: &Form) -> Option<Key>
 {
     match *form {
         Form::N6(r, _, _) => Some(key_of_property(r)),
+        _ => None,
+    }
+}
+
+/// The second property of a chain.
+pub(crate) fn end_key(form: &Form) -> Option<Key>
+    ensures { result ≡ by_end form.now }
+{
+    match *form {
+        Form::N6(_, s, _) => Some(key_of_property(s)),
         _ => None,
     }
 }

@@ -2,7 +2,7 @@
 use Rattle.std.proofs.Common.{◌≡◌, ℕ, ◌+◌, ◌<◌, ◌≤◌, ⊎_elim, List, [], ◌∷◌, length, get_or, map, take, slice_get, Some, Contains, refl, ap, ap₂, subst, arith}
 use Rattle.std.proofs.lemmas.Bool.Decides.{eqb_tells}
 use Rattle.std.proofs.lemmas.List.{take_all}
-use Rattle.std.proofs.lemmas.List.Elements.{Contains-push_cases}
+use Rattle.std.proofs.lemmas.List.Elements.{Contains-get_or, Contains-push_cases}
 use Rattle.std.proofs.lemmas.Option.{slice_get-get_or}
 use Rattle.normal_forms.specs.declared.forms.Form.{Form}
 use Rattle.facts.specs.declared.contexts.Context.{Context}
@@ -11,7 +11,7 @@ use Rattle.facts.specs.declared.contexts.Fact.{Fact}
 use Rattle.facts.specs.Closure.{Problem, CarriesBack, IsContextBy, IsLoop, in_thing, in_itself, by_form, unsatisfiable, loop}
 use Rattle.saturate.specs.Derived.{Keeps, Derived, Grows}
 use Rattle.saturate.specs.Growing.{LoopIsDrawn}
-use Rattle.saturate.specs.Working.{AreAt, AllDrawn, DrawnAt, AreDrawn, IsEntered, Drawn, MeetEachOther, AreMet, AreMetBefore, AreMetBehind}
+use Rattle.saturate.specs.Working.{AreAt, IsContextAt, AllDrawn, DrawnAt, AreDrawn, IsEntered, Drawn, MeetEachOther, AreMet, AreMetBefore, AreMetBehind}
 use Rattle.saturate.proofs.Growth.{there_still}
 use Rattle.saturate.proofs.Sparing.{but_spared_still}
 use Rattle.saturate.proofs.Lists.{Contains-from_slice_get, one_value, take_push}
@@ -26,6 +26,10 @@ at_still a b keeps (n ∷ ns) (f ∷ fs) e =
     let rest : map (slice_get a) ns ≡ map Some fs = cc in
     ap₂ (λ x xs. x ∷ xs) (keeps n f here) (at_still a b keeps ns fs rest)
 
+-- a context is one still
+pub context_still : {k : Problem} {most : ℕ} {a b : Derived} → Grows k most a b → (numbers : List ℕ) (x : Context) → IsContextAt k a.facts numbers x → IsContextAt k b.facts numbers x
+context_still s numbers x w = (w.0, at_still _ _ s.facts numbers w.0 w.1, w.2)
+
 -- what holds of each member of a list so far, and of the next
 pub each_more : {X : Type 0} (P Q : X → Type 0) (xs items : List X) (i : ℕ) (d : X) → items ≡ xs → i < length items → ((x : X) → Contains (take i xs) x → P x) → ((x : X) → P x → Q x) → Q (get_or items i d) → (x : X) → Contains (take (i + 1) xs) x → Q x
 each_more {X} P Q xs items i d same low before still here x there =
@@ -36,6 +40,10 @@ pub each : {X : Type 0} (P : X → Type 0) (xs items : List X) (i : ℕ) → ite
 each P xs items i same long before x there =
     let long' : length xs ≤ i = omega (arith, ap length same) in
     before x (rw (take_all i xs long') there)
+
+-- the member that is read at a place
+pub member_at : {X : Type 0} (xs items : List X) (i : ℕ) (d : X) → items ≡ xs → i < length items → Contains xs (get_or items i d)
+member_at {X} xs items i d same low = subst (λ (ys : List X). Contains ys (get_or items i d)) same (Contains-get_or items i d low)
 
 -- the form that is read at a place
 pub read_at : (forms items : List Form) (n : ℕ) (d : Form) → items ≡ forms → n < length items → slice_get forms n ≡ Some (get_or items n d)

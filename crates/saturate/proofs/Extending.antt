@@ -16,14 +16,14 @@ use Rattle.facts.proofs.Premises.{no_three}
 use Rattle.saturate.specs.Asked.{Asks, IsAsked}
 use Rattle.saturate.specs.Derived.{Derived, IsDerived, Grows, Keeps}
 use Rattle.saturate.specs.Growing.{with_more, KeepsServed, HasBegun}
-use Rattle.saturate.specs.Working.{IsCompleteButSpared, IsServed, AreSpared}
+use Rattle.saturate.specs.Working.{IsCompleteButSpared, IsServed, AreSpared, EndsAbove, GoesOn}
 use Rattle.saturate.proofs.Lists.{Contains-from_slice_get}
 use Rattle.saturate.proofs.Growth.{there_still}
 use Rattle.saturate.proofs.Sparing.{spared_still}
 use Rattle.saturate.specs.State.{IsState}
+use Rattle.saturate.specs.Listed.{ListsFacts, ListsServed}
 use Rattle.saturate.specs.Queued.{Queued, option_list}
 use Rattle.fact_index.specs.declared.index.Index.{Index}
-use Rattle.fact_index.specs.Indexed.{IsIndex}
 use Rattle.fact_index.proofs.Parts.{part_same, part_more}
 use Rattle.saturate.proofs.Listing.{fewer}
 use Rattle.saturate.proofs.States.{was_there}
@@ -166,19 +166,50 @@ module _ (k : Problem) (forms : List Form) (roots : List Context) where
 
   -- ---- what was spared is spared still
 
+  goes_on_more : (form : Form) → GoesOn k.forms form → GoesOn (k.forms ++ forms) form
+  goes_on_more (N6 r s t) on = below_more k.forms forms t r on
+  goes_on_more (N1 _ _) on = on
+  goes_on_more (N2 _ _ _) on = on
+  goes_on_more (N3 _ _ _) on = on
+  goes_on_more (N4 _ _ _) on = on
+  goes_on_more (N5 _ _) on = on
+  goes_on_more (N7 _) on = on
+  goes_on_more (N8 _ _) on = on
+  goes_on_more (N9 _ _ _) on = on
+
+  ends_more : (p : PropId2) (form : Form) → EndsAbove k.forms p form → EndsAbove (k.forms ++ forms) p form
+  ends_more p (N6 r s t) low = below_more k.forms forms p s low
+  ends_more p (N1 _ _) low = low
+  ends_more p (N2 _ _ _) low = low
+  ends_more p (N3 _ _ _) low = low
+  ends_more p (N4 _ _ _) low = low
+  ends_more p (N5 _ _) low = low
+  ends_more p (N7 _) low = low
+  ends_more p (N8 _ _) low = low
+  ends_more p (N9 _ _ _) low = low
+
   spared_more : (d : Derived) (older : List Fact) (o : Option ℕ) → AreSpared k d older o → AreSpared (with_more k forms roots) d older o
   spared_more d [] o w = w
   spared_more d (g ∷ []) o w = w
   spared_more d (g ∷ h ∷ []) None w = w
-  spared_more d (g ∷ h ∷ []) (Some n) w = record {
-    property = w.property;
-    transitive = slice_get_more k.forms forms n (N6 w.property w.property w.property) w.transitive;
-    place = w.place;
-    there = w.there;
-    birth = w.birth;
-    born = w.born;
-    by = w.by;
-  }
+  spared_more d (g ∷ h ∷ []) (Some n) w = (
+    w.0,
+    slice_get_more k.forms forms n w.0 w.1,
+    record {
+      goes_on = goes_on_more w.0 w.2.goes_on;
+      property = w.2.property;
+      below = ends_more w.2.property w.0 w.2.below;
+      given = record {
+        form = w.2.given.form;
+        transitive = slice_get_more k.forms forms w.2.given.form (N6 w.2.property w.2.property w.2.property) w.2.given.transitive;
+        place = w.2.given.place;
+        there = w.2.given.there;
+        birth = w.2.given.birth;
+        born = w.2.given.born;
+        by = w.2.given.by;
+      };
+    },
+  )
   spared_more d (g ∷ h ∷ i ∷ more) o w = w
 
   -- ---- so what served facts give is there still
@@ -251,7 +282,7 @@ module _ (k : Problem) (forms : List Form) (roots : List Context) {j : Problem} 
         (subst (λ (i : Problem). KeepsServed i.forms forms old.facts q.served r.served) same keeps));
   }
 
-pub listed_again : {facts : List Fact} {index : Index} (r : Queued) → IsIndex facts r.served r.served index → IsIndex facts r.served (r.served ++ option_list r.hand) index
+pub listed_again : {k : Problem} {d : Derived} {index : Index} (r : Queued) → ListsFacts k d r.served r.served index → ListsServed k d r index
 listed_again r s = fewer r.served (r.served ++ option_list r.hand) s (λ n c. c) (part_more (option_list r.hand) (part_same r.served))
 
 -- ---- what was added is taken away again

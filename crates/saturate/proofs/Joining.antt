@@ -2,15 +2,16 @@
 use Rattle.std.proofs.Common.{◌≡◌, ℕ, zero, suc, ◌<◌, ⊎_elim, List, [], ◌∷◌, map, take, slice_get, Some, None, Option, Contains, refl, sym, subst, arith}
 use Rattle.std.proofs.lemmas.Option.{none-some, same_Some}
 use Rattle.normal_forms.specs.declared.forms.Form.{Form}
-use Rattle.normal_forms.specs.declared.forms.Form.TheVariants.{N6}
+use Rattle.normal_forms.specs.declared.forms.Form.TheVariants.{N1, N2, N3, N4, N5, N6, N7, N8, N9}
 use Rattle.normal_forms.specs.declared.forms.PropId2.{PropId2}
-use Rattle.normal_forms.specs.Properties.{IsAtOrBelow, same}
+use Rattle.normal_forms.specs.declared.forms.PropId2.TheVariants.{Property}
+use Rattle.normal_forms.specs.Properties.{IsAtOrBelow, same, step}
 use Rattle.facts.specs.declared.contexts.Context.{Context}
 use Rattle.facts.specs.declared.contexts.Fact.{Fact}
 use Rattle.facts.specs.declared.contexts.Fact.TheVariants.{In, Edge}
 use Rattle.facts.specs.Closure.{Problem, FromTwo, Concludes, IsLoop, Gives, in_thing, in_itself, by_form, unsatisfiable, loop}
 use Rattle.saturate.specs.Derived.{Derived, IsDerived}
-use Rattle.saturate.specs.Working.{AreSpared, Drawn, DrawnButSpared}
+use Rattle.saturate.specs.Working.{AreSpared, Drawn, DrawnButSpared, EndsAbove, GoesOn}
 use Rattle.saturate.proofs.Lists.{Contains-from_slice_get, one_value, slice_get_take, slice_get-from_Contains}
 
 -- the form of that number is a chain: what is given by it is given as by a chain
@@ -25,54 +26,74 @@ by_chain_form {k} {i = i} {f = f} r s t (loop x n form there l c) e at =
     let n_is : n ≡ i = same_Some n i e in
     absurd (subst (λ (y : Form). IsLoop x y f) (one_value _ form (N6 r s t) there (subst (λ (j : ℕ). slice_get k.forms j ≡ Some (N6 r s t)) (sym n_is) at)) l)
 
+-- what is below what is below
+below_both : (forms : List Form) (p q r : PropId2) → IsAtOrBelow forms p q → IsAtOrBelow forms q r → IsAtOrBelow forms p r
+below_both forms p q _ low same = low
+below_both forms p q _ low (step s t h there) = step s t (below_both forms p q (Property s) low h) there
+
 module _ {k : Problem} {d : Derived} (s : IsDerived k d) (complete : (f g : Fact) → Contains d.facts f → Contains d.facts g → DrawnButSpared k (f ∷ g ∷ []) d) where
   -- what a fact gives as the first of two is there, where the second stands at the place
   abbrev Joins : ℕ → Type 0
   Joins n = (f g : Fact) (c : ℕ) (o : Option ℕ) (h : Fact) → Contains d.facts f → slice_get d.facts n ≡ Some g → Gives k c o (f ∷ g ∷ []) h → Contains d.facts h
 
-  -- from y to w and from w to z lead the two that gave the second: x to w is there, and so is x to z
-  by_two : (n i : ℕ) (r : PropId2) → slice_get k.forms i ≡ Some (N6 r r r) → ((m : ℕ) → m < n → Joins m) → (x y w v z u : Context) (o p q : PropId2) (a b : ℕ)
+  -- from y to w and from w to z lead the two that gave the second: x to w is there by the chain, and so is x to z
+  by_two : (n i : ℕ) (r s t e : PropId2) → slice_get k.forms i ≡ Some (N6 r s t) → IsAtOrBelow k.forms t r → IsAtOrBelow k.forms e s → ((m : ℕ) → m < n → Joins m)
+      → (x y w v z u : Context) (o p q : PropId2) (a b : ℕ)
       → Contains d.facts (Edge x o y) → IsAtOrBelow k.forms o r
-      → slice_get (take n d.facts) a ≡ Some (Edge u p w) → IsAtOrBelow k.forms p r → y ≡ u
-      → slice_get (take n d.facts) b ≡ Some (Edge v q z) → IsAtOrBelow k.forms q r → w ≡ v
-      → Contains d.facts (Edge x r z)
-  by_two n i r at joins x y w v z u o p q a b there o_below first p_below y_is second q_below w_is =
+      → slice_get (take n d.facts) a ≡ Some (Edge u p w) → IsAtOrBelow k.forms p e → y ≡ u
+      → slice_get (take n d.facts) b ≡ Some (Edge v q z) → IsAtOrBelow k.forms q e → w ≡ v
+      → Contains d.facts (Edge x t z)
+  by_two n i r s t e at goes_on low joins x y w v z u o p q a b there o_below first p_below y_is second q_below w_is =
       let one = slice_get_take n d.facts a (Edge u p w) first in
       let two = slice_get_take n d.facts b (Edge v q z) second in
-      let half : Contains d.facts (Edge x r w) = joins a one.0 (Edge x o y) (Edge u p w) 9 (Some i) (Edge x r w) there one.1 (by_form i (N6 r r r) at (o_below, p_below, y_is, refl)) in
-      joins b two.0 (Edge x r w) (Edge v q z) 9 (Some i) (Edge x r z) half two.1 (by_form i (N6 r r r) at (same, q_below, w_is, refl))
+      let half : Contains d.facts (Edge x t w) = joins a one.0 (Edge x o y) (Edge u p w) 9 (Some i) (Edge x t w) there one.1 (by_form i (N6 r s t) at (o_below, below_both k.forms p e s p_below low, y_is, refl)) in
+      joins b two.0 (Edge x t w) (Edge v q z) 9 (Some i) (Edge x t z) half two.1 (by_form i (N6 r s t) at (goes_on, below_both k.forms q e s q_below low, w_is, refl))
 
-  by_older : (n i : ℕ) (r : PropId2) → slice_get k.forms i ≡ Some (N6 r r r) → ((m : ℕ) → m < n → Joins m) → (f g h : Fact) → Contains d.facts f
-      → (places : List ℕ) (older : List Fact) → map (slice_get (take n d.facts)) places ≡ map Some older → Concludes k (N6 r r r) older g
-      → FromTwo k (N6 r r r) f g h → Contains d.facts h
-  by_older n i r at joins f g h there places [] are from gives = absurd from
-  by_older n i r at joins f g h there places (a ∷ []) are from gives = absurd from
-  by_older n i r at joins f g h there places (a ∷ b ∷ c ∷ more) are from gives = absurd from
-  by_older n i r at joins f g h there places (In _ _ ∷ b ∷ []) are from gives = absurd from
-  by_older n i r at joins f g h there places (Edge _ _ _ ∷ In _ _ ∷ []) are from gives = absurd from
-  by_older n i r at joins (In _ _) g h there places (Edge _ _ _ ∷ Edge _ _ _ ∷ []) are from gives = absurd gives
-  by_older n i r at joins (Edge _ _ _) (In _ _) h there places (Edge _ _ _ ∷ Edge _ _ _ ∷ []) are from gives = absurd gives
-  by_older n i r at joins (Edge _ _ _) (Edge _ _ _) h there [] (Edge _ _ _ ∷ Edge _ _ _ ∷ []) are from gives = absurd (cc)
-  by_older n i r at joins (Edge _ _ _) (Edge _ _ _) h there (a ∷ []) (Edge _ _ _ ∷ Edge _ _ _ ∷ []) are from gives = absurd (cc)
-  by_older n i r at joins (Edge x o y) (Edge u e v) h there (a ∷ b ∷ rest) (Edge y' p w ∷ Edge w' q z ∷ []) are from gives =
+  by_older : (n i : ℕ) (r s t e : PropId2) → slice_get k.forms i ≡ Some (N6 r s t) → IsAtOrBelow k.forms t r → IsAtOrBelow k.forms e s → ((m : ℕ) → m < n → Joins m) → (f g h : Fact) → Contains d.facts f
+      → (places : List ℕ) (older : List Fact) → map (slice_get (take n d.facts)) places ≡ map Some older → Concludes k (N6 e e e) older g
+      → FromTwo k (N6 r s t) f g h → Contains d.facts h
+  by_older n i r s t e at on low joins f g h there places [] are from gives = absurd from
+  by_older n i r s t e at on low joins f g h there places (a ∷ []) are from gives = absurd from
+  by_older n i r s t e at on low joins f g h there places (a ∷ b ∷ c ∷ more) are from gives = absurd from
+  by_older n i r s t e at on low joins f g h there places (In _ _ ∷ b ∷ []) are from gives = absurd from
+  by_older n i r s t e at on low joins f g h there places (Edge _ _ _ ∷ In _ _ ∷ []) are from gives = absurd from
+  by_older n i r s t e at on low joins (In _ _) g h there places (Edge _ _ _ ∷ Edge _ _ _ ∷ []) are from gives = absurd gives
+  by_older n i r s t e at on low joins (Edge _ _ _) (In _ _) h there places (Edge _ _ _ ∷ Edge _ _ _ ∷ []) are from gives = absurd gives
+  by_older n i r s t e at on low joins (Edge _ _ _) (Edge _ _ _) h there [] (Edge _ _ _ ∷ Edge _ _ _ ∷ []) are from gives = absurd (cc)
+  by_older n i r s t e at on low joins (Edge _ _ _) (Edge _ _ _) h there (a ∷ []) (Edge _ _ _ ∷ Edge _ _ _ ∷ []) are from gives = absurd (cc)
+  by_older n i r s t e at on low joins (Edge x o y) (Edge u g v) h there (a ∷ b ∷ rest) (Edge y' p w ∷ Edge w' q z ∷ []) are from gives =
       let first : slice_get (take n d.facts) a ≡ Some (Edge y' p w) = cc in
       let second : slice_get (take n d.facts) b ≡ Some (Edge w' q z) = cc in
-      let g_is : Edge u e v ≡ Edge y' r z = from.3 in
+      let g_is : Edge u g v ≡ Edge y' e z = from.3 in
       let y_is : y ≡ u = gives.2 in
       let starts : y ≡ y' = cc in
       let ends : v ≡ z = cc in
-      let h_is : h ≡ Edge x r v = gives.3 in
-      let given : Edge x r z ≡ h = cc in
-      subst (Contains d.facts) given (by_two n i r at joins x y w w' z y' o p q a b there gives.0 first from.0 starts second from.1 from.2)
+      let h_is : h ≡ Edge x t v = gives.3 in
+      let given : Edge x t z ≡ h = cc in
+      subst (Contains d.facts) given (by_two n i r s t e at on low joins x y w w' z y' o p q a b there gives.0 first from.0 starts second from.1 from.2)
+
+  by_chain : (n i : ℕ) (form : Form) (e : PropId2) → slice_get k.forms i ≡ Some form → GoesOn k.forms form → EndsAbove k.forms e form → ((m : ℕ) → m < n → Joins m) → (f g h : Fact) {c : ℕ} → Contains d.facts f
+      → (places : List ℕ) (older : List Fact) → map (slice_get (take n d.facts)) places ≡ map Some older → Concludes k (N6 e e e) older g
+      → Gives k c (Some i) (f ∷ g ∷ []) h → Contains d.facts h
+  by_chain n i (N6 r s t) e at on low joins f g h there places older are from gives = by_older n i r s t e at on low joins f g h there places older are from (by_chain_form r s t gives refl at)
+  by_chain n i (N1 _ _) e at on low joins f g h there places older are from gives = absurd on
+  by_chain n i (N2 _ _ _) e at on low joins f g h there places older are from gives = absurd on
+  by_chain n i (N3 _ _ _) e at on low joins f g h there places older are from gives = absurd on
+  by_chain n i (N4 _ _ _) e at on low joins f g h there places older are from gives = absurd on
+  by_chain n i (N5 _ _) e at on low joins f g h there places older are from gives = absurd on
+  by_chain n i (N7 _) e at on low joins f g h there places older are from gives = absurd on
+  by_chain n i (N8 _ _) e at on low joins f g h there places older are from gives = absurd on
+  by_chain n i (N9 _ _ _) e at on low joins f g h there places older are from gives = absurd on
 
   spared_is_there : (n : ℕ) → ((m : ℕ) → m < n → Joins m) → (f g : Fact) (c : ℕ) (o : Option ℕ) (h : Fact) → Contains d.facts f → slice_get d.facts n ≡ Some g → Gives k c o (f ∷ g ∷ []) h → AreSpared k d (f ∷ g ∷ []) o → Contains d.facts h
   spared_is_there n joins f g c None h there at gives w = absurd w
   spared_is_there n joins f g c (Some i) h there at gives w =
-      let place_is : w.place ≡ n = s.distinct w.place n g w.there at in
-      let b = s.born w.place g w.birth w.there w.born in
-      let r : PropId2 = w.property in
-      by_older w.place i r w.transitive (λ m l. joins m (omega (arith, place_is, l))) f g h there w.birth.older b.0 b.1
-      (by_chain_form r r r b.2 w.by w.transitive) (by_chain_form r r r gives refl w.transitive)
+      let given = w.2.given in
+      let place_is : given.place ≡ n = s.distinct given.place n g given.there at in
+      let b = s.born given.place g given.birth given.there given.born in
+      let e : PropId2 = w.2.property in
+      by_chain given.place i w.0 e w.1 w.2.goes_on w.2.below (λ m l. joins m (omega (arith, place_is, l))) f g h there given.birth.older b.0 b.1
+      (by_chain_form e e e b.2 given.by given.transitive) gives
 
   joined : (bound n : ℕ) → n < bound → Joins n
   joined zero n l = absurd (omega arith)

@@ -1,5 +1,5 @@
 -- What the index lists from step to step, and that it misses no partner.
-use Rattle.std.proofs.Common.{◌≡◌, ℕ, ◌<◌, ⊎_elim, List, [], ◌∷◌, ◌++◌, length, slice_get, Some, None, Option, Contains, refl, sym, ap, subst, arith}
+use Rattle.std.proofs.Common.{◌≡◌, ℕ, ◌<◌, ◌⊎◌, inl, inr, ⊎_elim, Bool, true, false, List, [], ◌∷◌, ◌++◌, length, slice_get, Some, None, Option, Contains, refl, sym, ap, subst, arith}
 use Rattle.std.proofs.lemmas.List.Elements.{Contains-push, Contains-push_cases}
 use Rattle.std.proofs.lemmas.Option.{slice_get_within}
 use Rattle.normal_forms.specs.declared.forms.Form.{Form}
@@ -15,13 +15,14 @@ use Rattle.fact_index.specs.declared.index.Index.{Index}
 use Rattle.fact_index.specs.Contexts.{at_context, IsLast, IsEmptyTable, IsEmptyIndex}
 use Rattle.fact_index.specs.Parts.{ArePartOf}
 use Rattle.fact_index.proofs.Parts.{part_empty, part_same, part_push, part_more, part_behind, part_within, part_cases, part_contains}
-use Rattle.fact_index.specs.Indexed.{IsIn, IsFrom, IsInto, MayListIn, MayList, Lists, ListsIn, IsIndex}
+use Rattle.fact_index.specs.Indexed.{IsIn, IsFrom, IsInto, IsSecondFrom, MayListIn, MayList, Lists, ListsIn}
 use Rattle.saturate.specs.Derived.{Derived, Grows}
 use Rattle.saturate.specs.Queued.{Queued, option_list}
-use Rattle.saturate.specs.Working.{MeetEachOther, AreMet, AreMetBefore, AreMetBehind}
+use Rattle.saturate.specs.Working.{MeetEachOther, AreMet, AreMetBefore, AreMetBehind, IsSparedAsSecond}
 use Rattle.saturate.specs.Visited.{AreAll, IsClassFact, IsEdge}
-use Rattle.saturate.specs.Listed.{IsWithin, AllListedAreMet}
+use Rattle.saturate.specs.Listed.{IsWithin, AllListedAreMet, ListsFacts, ListsSeconds, ListsServed}
 use Rattle.saturate.proofs.Lists.{one_value}
+use Rattle.saturate.proofs.Sparing.{second_still}
 use Rattle.saturate.proofs.States.{was_there}
 
 -- ---- tables
@@ -77,32 +78,103 @@ module _ (has : Context → Fact → Type 0) where
     order = λ x. rw (e x) (part_empty m);
   }
 
+-- ---- seconds
+
+few_seconds : {k : Problem} {d : Derived} {w : List ℕ} {table : ByContext} (v : List ℕ) → ListsSeconds k d w table → ((n : ℕ) → Contains v n → Contains w n) → ListsSeconds k d v table
+few_seconds v s low = record { all = λ x n f c. s.all x n f (low n c); only = s.only }
+
+may_second : {k : Problem} {d : Derived} {w : List ℕ} {old new : ByContext} {n : ℕ} {f : Fact} {is_second : Bool} → ListsSeconds k d w old → MayListIn (IsSecondFrom is_second) old new n f → slice_get d.facts n ≡ Some f → ListsSeconds k d w new
+may_second {d = d} {f = f} s t at = record {
+  all = λ x i g c at_i h. ⊎_elim (λ here. inl (t.kept x i here)) (λ spared. inr spared) (s.all x i g c at_i h);
+  only = λ x i c. ⊎_elim (s.only x i) (λ v. (f, subst (λ (j : ℕ). slice_get d.facts j ≡ Some f) (sym v.1) at, v.0.1)) (t.only x i c);
+}
+
+all_seconds : {k : Problem} {d : Derived} {w : List ℕ} {table : ByContext} {n : ℕ} {f : Fact} (is_second : Bool) → ListsSeconds k d w table → slice_get d.facts n ≡ Some f → ((x : Context) → IsSecondFrom is_second x f → Contains (at_context table x) n) → (is_second ≡ false → IsSparedAsSecond k d f)
+    → ListsSeconds k d (w ++ n ∷ []) table
+all_seconds {k} {d} {w} {table} {n} {f} is_second s at t spared = record {
+  all = λ x i g c at_i h. ⊎_elim
+      (λ before. s.all x i g before at_i h)
+      (λ e.
+      let at_n : slice_get d.facts n ≡ Some g = subst (λ (j : ℕ). slice_get d.facts j ≡ Some g) (sym e) at_i in
+      subst (λ (j : ℕ). Contains (at_context table x) j ⊎ IsSparedAsSecond k d g) e
+      (subst (λ (y : Fact). Contains (at_context table x) n ⊎ IsSparedAsSecond k d y) (one_value _ f g at at_n) (here is_second t spared x (subst (IsFrom x) (one_value _ g f at_n at) h))))
+      (Contains-push_cases w n i c);
+  only = s.only;
+}
+  where
+    here : (b : Bool) → ((x : Context) → IsSecondFrom b x f → Contains (at_context table x) n) → (b ≡ false → IsSparedAsSecond k d f) → (x : Context) → IsFrom x f → Contains (at_context table x) n ⊎ IsSparedAsSecond k d f
+    here true u v x h = inl (u x (refl, h))
+    here false u v x h = inr (v refl)
+
+second_grown : {k : Problem} {most : ℕ} {a b : Derived} {w : List ℕ} {table : ByContext} → Grows k most a b → ((n : ℕ) → Contains w n → n < length a.facts) → ListsSeconds k a w table → ListsSeconds k b w table
+second_grown t low s = record {
+  all = λ x n f c at h. ⊎_elim (λ here. inl here) (λ spared. inr (second_still t f spared)) (s.all x n f c (was_there t n f (low n c) at) h);
+  only = λ x n c. let o = s.only x n c in (o.0, t.facts n o.0 o.1, o.2);
+}
+
+no_seconds : (k : Problem) (d : Derived) (table : ByContext) → IsEmptyTable table → ListsSeconds k d [] table
+no_seconds k d table e = record {
+  all = λ x n f c at h. absurd (omega (arith, c.1));
+  only = λ x n c. let d = rw (e x) at c in absurd (omega (arith, d.1));
+}
+
 -- ---- the index
 
-pub fewer : {facts : List Fact} {w m : List ℕ} {index : Index} (v l : List ℕ) → IsIndex facts w m index → ((n : ℕ) → Contains v n → Contains w n) → ArePartOf m l → IsIndex facts v l index
-fewer v l s low high = record { classes = fewer_in IsIn _ _ _ v l _ s.classes low high; from = fewer_in IsFrom _ _ _ v l _ s.from low high; into = fewer_in IsInto _ _ _ v l _ s.into low high }
+pub fewer : {k : Problem} {d : Derived} {w m : List ℕ} {index : Index} (v l : List ℕ) → ListsFacts k d w m index → ((n : ℕ) → Contains v n → Contains w n) → ArePartOf m l → ListsFacts k d v l index
+fewer v l s low high = record {
+  by_context = record {
+    classes = fewer_in IsIn _ _ _ v l _ s.by_context.classes low high;
+    from = fewer_in IsFrom _ _ _ v l _ s.by_context.from low high;
+    into = fewer_in IsInto _ _ _ v l _ s.by_context.into low high;
+  };
+  seconds = few_seconds v s.seconds low;
+}
 
-pub may : {facts : List Fact} {w m : List ℕ} {old new : Index} {n : ℕ} {f : Fact} → IsIndex facts w m old → MayList old new n f → slice_get facts n ≡ Some f → m ≡ w ++ n ∷ [] → IsIndex facts w m new
-may s t at e = record { classes = may_in IsIn _ _ _ _ _ _ _ s.classes t.classes at e; from = may_in IsFrom _ _ _ _ _ _ _ s.from t.from at e; into = may_in IsInto _ _ _ _ _ _ _ s.into t.into at e }
+pub may : {k : Problem} {d : Derived} {w m : List ℕ} {old new : Index} {n : ℕ} {f : Fact} {is_second : Bool} → ListsFacts k d w m old → MayList old new n f is_second → slice_get d.facts n ≡ Some f → m ≡ w ++ n ∷ [] → ListsFacts k d w m new
+may s t at e = record {
+  by_context = record {
+    classes = may_in IsIn _ _ _ _ _ _ _ s.by_context.classes t.classes at e;
+    from = may_in IsFrom _ _ _ _ _ _ _ s.by_context.from t.from at e;
+    into = may_in IsInto _ _ _ _ _ _ _ s.by_context.into t.into at e;
+  };
+  seconds = may_second s.seconds t.seconds at;
+}
 
-pub listed : {facts : List Fact} {w m : List ℕ} {new : Index} {n : ℕ} {f : Fact} → IsIndex facts w m new → slice_get facts n ≡ Some f → Lists new n f → IsIndex facts (w ++ n ∷ []) m new
-listed s at t = record { classes = all_in IsIn _ _ _ _ _ _ s.classes at t.classes; from = all_in IsFrom _ _ _ _ _ _ s.from at t.from; into = all_in IsInto _ _ _ _ _ _ s.into at t.into }
+pub listed : {k : Problem} {d : Derived} {w m : List ℕ} {new : Index} {n : ℕ} {f : Fact} {is_second : Bool} → ListsFacts k d w m new → slice_get d.facts n ≡ Some f → Lists new n f is_second → (is_second ≡ false → IsSparedAsSecond k d f) → ListsFacts k d (w ++ n ∷ []) m new
+listed {is_second = is_second} s at t spared = record {
+  by_context = record {
+    classes = all_in IsIn _ _ _ _ _ _ s.by_context.classes at t.classes;
+    from = all_in IsFrom _ _ _ _ _ _ s.by_context.from at t.from;
+    into = all_in IsInto _ _ _ _ _ _ s.by_context.into at t.into;
+  };
+  seconds = all_seconds is_second s.seconds at t.seconds spared;
+}
 
-pub still_listed : {k : Problem} {most : ℕ} {a b : Derived} {w m : List ℕ} {index : Index} → Grows k most a b → ((n : ℕ) → Contains w n → n < length a.facts) → IsIndex a.facts w m index → IsIndex b.facts w m index
-still_listed t low s = record { classes = grown_in IsIn t _ _ _ low s.classes; from = grown_in IsFrom t _ _ _ low s.from; into = grown_in IsInto t _ _ _ low s.into }
+pub still_listed : {k : Problem} {most : ℕ} {a b : Derived} {w m : List ℕ} {index : Index} → Grows k most a b → ((n : ℕ) → Contains w n → n < length a.facts) → ListsFacts k a w m index → ListsFacts k b w m index
+still_listed t low s = record {
+  by_context = record {
+    classes = grown_in IsIn t _ _ _ low s.by_context.classes;
+    from = grown_in IsFrom t _ _ _ low s.by_context.from;
+    into = grown_in IsInto t _ _ _ low s.by_context.into;
+  };
+  seconds = second_grown t low s.seconds;
+}
 
-pub all_within : {facts : List Fact} {w m : List ℕ} {index : Index} → IsIndex facts w m index → IsWithin facts index
-all_within s = record { classes = within_in IsIn _ _ _ _ s.classes; from = within_in IsFrom _ _ _ _ s.from; into = within_in IsInto _ _ _ _ s.into }
+pub all_within : {k : Problem} {d : Derived} {w m : List ℕ} {index : Index} → ListsFacts k d w m index → IsWithin d.facts index
+all_within s = record { classes = within_in IsIn _ _ _ _ s.by_context.classes; seconds = s.seconds.only; into = within_in IsInto _ _ _ _ s.by_context.into }
 
-pub nothing_listed : (facts : List Fact) (m : List ℕ) (index : Index) → IsEmptyIndex index → IsIndex facts [] m index
-nothing_listed facts m index e = record { classes = empty_in IsIn facts m _ e.classes; from = empty_in IsFrom facts m _ e.from; into = empty_in IsInto facts m _ e.into }
+pub nothing_listed : (k : Problem) (d : Derived) (m : List ℕ) (index : Index) → IsEmptyIndex index → ListsFacts k d [] m index
+nothing_listed k d m index e = record {
+  by_context = record { classes = empty_in IsIn d.facts m _ e.classes; from = empty_in IsFrom d.facts m _ e.from; into = empty_in IsInto d.facts m _ e.into };
+  seconds = no_seconds k d _ e.seconds;
+}
 
 -- a number in hand stays there
 same_hand : (o p : Option ℕ) → ((n : ℕ) → o ≡ Some n → p ≡ Some n) → ArePartOf (option_list o) (option_list p)
 same_hand None p kept = part_empty (option_list p)
 same_hand (Some n) p kept = rw (kept n refl) (part_same (n ∷ []))
 
-pub turned : {facts : List Fact} {index : Index} (q r : Queued) → IsIndex facts q.served (q.served ++ option_list q.hand) index → r.served ≡ q.served → ((n : ℕ) → q.hand ≡ Some n → r.hand ≡ Some n) → IsIndex facts r.served (r.served ++ option_list r.hand) index
+pub turned : {k : Problem} {d : Derived} {index : Index} (q r : Queued) → ListsServed k d q index → r.served ≡ q.served → ((n : ℕ) → q.hand ≡ Some n → r.hand ≡ Some n) → ListsServed k d r index
 turned q r s same kept = fewer r.served (r.served ++ option_list r.hand) s (λ n c. rw same at c) (rw same (part_behind q.served (same_hand q.hand r.hand kept)))
 
 -- ---- partners
@@ -143,24 +215,27 @@ touch {k} {f = f} {g = g} {h = h} (by_form n form at gives) = from_two k form f 
 touch {f = f} {g = g} {h = h} (unsatisfiable b) = carried f g h b
 touch (loop x n form at l c) = absurd c
 
--- so what is listed for a fact is all that it gives something with
-module _ {k : Problem} {old : List Fact} {w m : List ℕ} {index : Index} (s : IsIndex old w m index) (new : Derived) (n : ℕ) (there : Contains w n) where
-  pub all_met : (f g : Fact) → AllListedAreMet k f old index new → slice_get old n ≡ Some g → MeetEachOther k f g new
+-- so what is listed for a fact is all that it gives something with, but for what need not stand second
+module _ {k : Problem} {d : Derived} {w m : List ℕ} {index : Index} (s : ListsFacts k d w m index) {most : ℕ} {new : Derived} (grows : Grows k most d new) (n : ℕ) (there : Contains w n) where
+  pub all_met : (f g : Fact) → AllListedAreMet k f d.facts index new → slice_get d.facts n ≡ Some g → MeetEachOther k f g new
   all_met (In a x) (In b y) met at = record {
-    first = λ c form h gives. (met.0 n (s.classes.all x n (In b y) there at (touch gives)) (In b y) at).first c form h gives;
-    second = λ c form h gives. (met.0 n (s.classes.all x n (In b y) there at (sym (touch gives))) (In b y) at).second c form h gives;
+    first = λ c form h gives. (met.0 n (s.by_context.classes.all x n (In b y) there at (touch gives)) (In b y) at).first c form h gives;
+    second = λ c form h gives. (met.0 n (s.by_context.classes.all x n (In b y) there at (sym (touch gives))) (In b y) at).second c form h gives;
   }
   all_met (In a x) (Edge u r v) met at = record {
     first = λ c form h gives. absurd (touch gives);
-    second = λ c form h gives. met.1 n (s.into.all x n (Edge u r v) there at (sym (touch gives))) (Edge u r v) at c form h gives;
+    second = λ c form h gives. met.1 n (s.by_context.into.all x n (Edge u r v) there at (sym (touch gives))) (Edge u r v) at c form h gives;
   }
   all_met (Edge x p y) (In b z) met at = record {
-    first = λ c form h gives. met.0 n (s.classes.all y n (In b z) there at (touch gives)) (In b z) at c form h gives;
+    first = λ c form h gives. met.0 n (s.by_context.classes.all y n (In b z) there at (touch gives)) (In b z) at c form h gives;
     second = λ c form h gives. absurd (touch gives);
   }
   all_met (Edge x p y) (Edge u r v) met at = record {
-    first = λ c form h gives. met.1 n (s.from.all y n (Edge u r v) there at (touch gives)) (Edge u r v) at c form h gives;
-    second = λ c form h gives. met.2 n (s.into.all x n (Edge u r v) there at (sym (touch gives))) (Edge u r v) at c form h gives;
+    first = λ c form h gives. ⊎_elim
+        (λ second. met.1 n second (Edge u r v) at c form h gives)
+        (λ spared. inr (second_still grows (Edge u r v) spared (Edge x p y) h c form gives))
+        (s.seconds.all y n (Edge u r v) there at (touch gives));
+    second = λ c form h gives. met.2 n (s.by_context.into.all x n (Edge u r v) there at (sym (touch gives))) (Edge u r v) at c form h gives;
   }
 
 -- what holds of the numbers of one list holds of those of another that is the same
@@ -174,7 +249,7 @@ module _ (k : Problem) (old : List Fact) (index : Index) (new : Derived) where
     same_list (λ ns. AreMetBehind k (In a x) old ns new) m _ d q,
   )
 
-  pub met_edge : (x : Context) (r : PropId2) (y : Context) (l m o : List ℕ) → l ≡ at_context index.classes y → m ≡ at_context index.from y → o ≡ at_context index.into x → AreMetBefore k (Edge x r y) old l new → AreMetBefore k (Edge x r y) old m new → AreMetBehind k (Edge x r y) old o new → AllListedAreMet k (Edge x r y) old index new
+  pub met_edge : (x : Context) (r : PropId2) (y : Context) (l m o : List ℕ) → l ≡ at_context index.classes y → m ≡ at_context index.seconds y → o ≡ at_context index.into x → AreMetBefore k (Edge x r y) old l new → AreMetBefore k (Edge x r y) old m new → AreMetBehind k (Edge x r y) old o new → AllListedAreMet k (Edge x r y) old index new
   met_edge x r y l m o e d b p q t = (
     same_list (λ ns. AreMetBefore k (Edge x r y) old ns new) l _ e p,
     same_list (λ ns. AreMetBefore k (Edge x r y) old ns new) m _ d q,
@@ -189,8 +264,8 @@ classes_listed w x numbers e n c = let o = w.classes x n (subst (λ ns. Contains
     kind (In a y) h = tt
     kind (Edge y r z) h = absurd h
 
-pub from_listed : {facts : List Fact} {index : Index} → IsWithin facts index → (x : Context) (numbers : List ℕ) → numbers ≡ at_context index.from x → AreAll IsEdge facts numbers
-from_listed w x numbers e n c = let o = w.from x n (subst (λ ns. Contains ns n) e c) in (o.0, o.1, kind o.0 o.2)
+pub seconds_listed : {facts : List Fact} {index : Index} → IsWithin facts index → (x : Context) (numbers : List ℕ) → numbers ≡ at_context index.seconds x → AreAll IsEdge facts numbers
+seconds_listed w x numbers e n c = let o = w.seconds x n (subst (λ ns. Contains ns n) e c) in (o.0, o.1, kind o.0 o.2)
   where
     kind : (f : Fact) → IsFrom x f → IsEdge f
     kind (In a y) h = absurd h
@@ -206,7 +281,7 @@ into_listed w x numbers e n c = let o = w.into x n (subst (λ ns. Contains ns n)
 pub within_still : {k : Problem} {most : ℕ} {a b : Derived} {index : Index} → Grows k most a b → IsWithin a.facts index → IsWithin b.facts index
 within_still s w = record {
   classes = λ x n c. let o = w.classes x n c in (o.0, s.facts n o.0 o.1, o.2);
-  from = λ x n c. let o = w.from x n c in (o.0, s.facts n o.0 o.1, o.2);
+  seconds = λ x n c. let o = w.seconds x n c in (o.0, s.facts n o.0 o.1, o.2);
   into = λ x n c. let o = w.into x n c in (o.0, s.facts n o.0 o.1, o.2);
 }
 
@@ -228,12 +303,12 @@ pub in_most : (served : List ℕ) (hand : Option ℕ) (n : ℕ) → hand ≡ Som
 in_most served hand n e = ap (λ (o : Option ℕ). served ++ option_list o) e
 
 -- the fact in hand was listed, and is served
-pub finish_listed : {k : Problem} {most : ℕ} {old new : Derived} {index : Index} {n : ℕ} {f : Fact} (q r : Queued) → IsIndex old.facts q.served (q.served ++ option_list q.hand) index → q.hand ≡ Some n → slice_get old.facts n ≡ Some f → Lists index n f → Grows k most old new
-    → ((i : ℕ) → Contains q.served i → i < length old.facts) → r.served ≡ q.served ++ n ∷ [] → IsIndex new.facts r.served (r.served ++ option_list r.hand) index
-finish_listed {old = old} {n = n} {f = f} q r s hand at t grows within same =
+pub finish_listed : {k : Problem} {most : ℕ} {old new : Derived} {index : Index} {n : ℕ} {f : Fact} {is_second : Bool} (q r : Queued) → ListsServed k old q index → q.hand ≡ Some n → slice_get old.facts n ≡ Some f → Lists index n f is_second → (is_second ≡ false → IsSparedAsSecond k old f) → Grows k most old new
+    → ((i : ℕ) → Contains q.served i → i < length old.facts) → r.served ≡ q.served ++ n ∷ [] → ListsServed k new r index
+finish_listed {old = old} {n = n} {f = f} q r s hand at t spared grows within same =
     let low : (i : ℕ) → Contains (q.served ++ n ∷ []) i → i < length old.facts = λ i c. ⊎_elim (within i) (λ e. subst (λ (j : ℕ). j < length old.facts) e (slice_get_within old.facts n f at)) (Contains-push_cases q.served n i c) in
-    fewer r.served (r.served ++ option_list r.hand) (still_listed grows low (listed s at t)) (λ i c. rw same at c) (rw (hand, same) (part_more (option_list r.hand) (part_same (q.served ++ n ∷ []))))
+    fewer r.served (r.served ++ option_list r.hand) (still_listed grows low (listed s at t spared)) (λ i c. rw same at c) (rw (hand, same) (part_more (option_list r.hand) (part_same (q.served ++ n ∷ []))))
 
 -- one fact more is listed
-pub one_more : {facts : List Fact} {w : List ℕ} {old new : Index} {n : ℕ} {f : Fact} → IsIndex facts w w old → MayList old new n f → slice_get facts n ≡ Some f → Lists new n f → IsIndex facts (w ++ n ∷ []) (w ++ n ∷ []) new
-one_more {w = w} {n = n} s m at t = listed (may (fewer w (w ++ n ∷ []) s (λ i c. c) (part_more (n ∷ []) (part_same w))) m at refl) at t
+pub one_more : {k : Problem} {d : Derived} {w : List ℕ} {old new : Index} {n : ℕ} {f : Fact} {is_second : Bool} → ListsFacts k d w w old → MayList old new n f is_second → slice_get d.facts n ≡ Some f → Lists new n f is_second → (is_second ≡ false → IsSparedAsSecond k d f) → ListsFacts k d (w ++ n ∷ []) (w ++ n ∷ []) new
+one_more {w = w} {n = n} s m at t spared = listed (may (fewer w (w ++ n ∷ []) s (λ i c. c) (part_more (n ∷ []) (part_same w))) m at refl) at t spared

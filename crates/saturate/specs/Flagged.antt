@@ -1,6 +1,6 @@
 -- Numbers that are flagged.
 use Rattle.std.specs.Prelude.{◌≡◌, ℕ, Bool, true, false, not, List, slice_index_or}
-use Rattle.std.specs.List.{Contains, filter}
+use Rattle.std.specs.List.{filter}
 use Rattle.normal_forms.specs.declared.forms.Form.{Form}
 use Rattle.facts.specs.declared.contexts.Fact.{Fact}
 use Rattle.saturate.specs.Asked.{IsAskedAt}

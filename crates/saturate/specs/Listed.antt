@@ -1,34 +1,46 @@
 -- What the index lists for a fact.
-use Rattle.std.specs.Prelude.{◌≡◌, ℕ, List, ◌++◌, slice_get, Some}
+use Rattle.std.specs.Prelude.{◌≡◌, ℕ, ◌⊎◌, List, ◌++◌, slice_get, Some}
 use Rattle.std.specs.List.{Contains}
 use Rattle.facts.specs.declared.contexts.Context.{Context}
 use Rattle.facts.specs.declared.contexts.Fact.{Fact}
 use Rattle.facts.specs.declared.contexts.Fact.TheVariants.{In, Edge}
 use Rattle.facts.specs.Closure.{Problem}
+use Rattle.fact_index.specs.declared.by_context.ByContext.{ByContext}
 use Rattle.fact_index.specs.declared.index.Index.{Index}
 use Rattle.fact_index.specs.Contexts.{at_context}
 use Rattle.fact_index.specs.Indexed.{IsIn, IsFrom, IsInto, IsIndex}
 use Rattle.saturate.specs.Derived.{Derived}
 use Rattle.saturate.specs.Queued.{Queued, option_list}
-use Rattle.saturate.specs.Working.{AreMet, AreMetBefore, AreMetBehind}
+use Rattle.saturate.specs.Working.{AreMet, AreMetBefore, AreMetBehind, IsSparedAsSecond}
 
 -- what is listed is a fact: a class in the context, an edge from it, or one into it
 pub record IsWithin (facts : List Fact) (index : Index) : Type 0 where
   pub classes : (x : Context) (n : ℕ) → Contains (at_context index.classes x) n → (f : Fact) × (slice_get facts n ≡ Some f) × IsIn x f
-  pub from : (x : Context) (n : ℕ) → Contains (at_context index.from x) n → (f : Fact) × (slice_get facts n ≡ Some f) × IsFrom x f
+  pub seconds : (x : Context) (n : ℕ) → Contains (at_context index.seconds x) n → (f : Fact) × (slice_get facts n ≡ Some f) × IsFrom x f
   pub into : (x : Context) (n : ℕ) → Contains (at_context index.into x) n → (f : Fact) × (slice_get facts n ≡ Some f) × IsInto x f
 
 -- what the fact gives with those that the index lists is there or spared: a class in a context with the classes in it, and behind the
--- edges into it; an edge before the classes in its target and the edges on from it, and behind the edges into its source
+-- edges into it; an edge before the classes in its target and the seconds among the edges on from it, and behind the edges into its
+-- source
 abbrev pub AllListedAreMet : Problem → Fact → List Fact → Index → Derived → Type 0
 AllListedAreMet k (In a x) old index new =
     AreMet k (In a x) old (at_context index.classes x) new
     × AreMetBehind k (In a x) old (at_context index.into x) new
 AllListedAreMet k (Edge x r y) old index new =
     AreMetBefore k (Edge x r y) old (at_context index.classes y) new
-    × AreMetBefore k (Edge x r y) old (at_context index.from y) new
+    × AreMetBefore k (Edge x r y) old (at_context index.seconds y) new
     × AreMetBehind k (Edge x r y) old (at_context index.into x) new
 
--- the index lists the served facts, and no others but the one in hand
-abbrev pub ListsServed : Derived → Queued → Index → Type 0
-ListsServed d q index = IsIndex d.facts q.served (q.served ++ option_list q.hand) index
+-- edges are listed as seconds from their sources; of the facts of these numbers all edges but those that need not stand second
+pub record ListsSeconds (k : Problem) (d : Derived) (whole : List ℕ) (table : ByContext) : Type 0 where
+  pub all : (x : Context) (n : ℕ) (f : Fact) → Contains whole n → slice_get d.facts n ≡ Some f → IsFrom x f → Contains (at_context table x) n ⊎ IsSparedAsSecond k d f
+  pub only : (x : Context) (n : ℕ) → Contains (at_context table x) n → (f : Fact) × (slice_get d.facts n ≡ Some f) × IsFrom x f
+
+-- the index lists the facts of the first numbers, and none but those of the second
+pub record ListsFacts (k : Problem) (d : Derived) (whole most : List ℕ) (index : Index) : Type 0 where
+  pub by_context : IsIndex d.facts whole most index
+  pub seconds : ListsSeconds k d whole index.seconds
+
+-- .. the served facts, and no others but the one in hand
+abbrev pub ListsServed : Problem → Derived → Queued → Index → Type 0
+ListsServed k d q index = ListsFacts k d q.served (q.served ++ option_list q.hand) index

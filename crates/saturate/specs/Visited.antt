@@ -1,18 +1,16 @@
 -- Which forms are visited for facts.
-use Rattle.std.specs.Prelude.{◌≡◌, ℕ, List, [], ◌∷◌, slice_get, Option, Some, None}
+use Rattle.std.specs.Prelude.{◌≡◌, ℕ, Bool, true, List, [], ◌∷◌, slice_get, Option, Some, None}
 use Rattle.std.specs.List.{Contains}
 use Rattle.number_table.specs.declared.keys.Key.{Key}
 use Rattle.normal_forms.specs.declared.forms.Form.{Form}
-use Rattle.normal_forms.specs.declared.forms.Form.TheVariants.{N6}
 use Rattle.normal_forms.specs.declared.forms.PropId2.{PropId2}
-use Rattle.normal_forms.specs.Properties.{IsAtOrBelow}
 use Rattle.facts.specs.declared.contexts.Fact.{Fact}
 use Rattle.facts.specs.declared.contexts.Fact.TheVariants.{In, Edge}
 use Rattle.facts.specs.Closure.{Problem, Concludes, Gives}
-use Rattle.form_index.specs.Named.{by_chain, property_key}
+use Rattle.form_index.specs.Named.{by_chain, by_end, property_key}
 use Rattle.form_index.specs.Under.{IsUnder}
 use Rattle.property_closure.specs.Closed.{Known, Has}
-use Rattle.saturate.specs.Working.{DrawnAt}
+use Rattle.saturate.specs.Working.{DrawnAt, GoesOn}
 
 -- the two facts, in this order, give nothing
 abbrev pub GiveNothing : Problem → Fact → Fact → Type 0
@@ -61,7 +59,10 @@ chained_property (f ∷ g ∷ h ∷ more) = None
 abbrev pub ChainsDrawn : Problem → List Fact → List Fact → PropId2 → Type 0
 ChainsDrawn k older facts r = (n : ℕ) → IsUnder by_chain k.forms (property_key r) n → DrawnAt (λ form. Concludes k form older) k.forms facts n
 
--- the form of that number makes the property transitive, and no other chain begins with the property or one above it
-pub record IsOnlyChain (forms : List Form) (p : PropId2) (n : ℕ) : Type 0 where
-  pub transitive : slice_get forms n ≡ Some (N6 p p p)
-  pub only : (r : PropId2) → IsAtOrBelow forms p r → (m : ℕ) → IsUnder by_chain forms (property_key r) m → m ≡ n
+-- the form at the place goes on
+abbrev pub GoesOnAt : List Form → ℕ → Type 0
+GoesOnAt forms n = (form : Form) → slice_get forms n ≡ Some form → GoesOn forms form
+
+-- no chain that ends with s needs an edge as its second: there is none, or the edge is one that a transitive property gave and all of them go on
+abbrev pub NoneNeeds : List Form → Bool → PropId2 → Type 0
+NoneNeeds forms is_given s = (n : ℕ) → IsUnder by_end forms (property_key s) n → (is_given ≡ true) × GoesOnAt forms n

@@ -6,17 +6,22 @@ use Rattle.normal_forms.specs.declared.forms.Form.{Form}
 use Rattle.normal_forms.specs.declared.forms.Form.TheVariants.{N6}
 use Rattle.normal_forms.specs.declared.forms.PropId2.{PropId2}
 use Rattle.normal_forms.specs.declared.forms.Class2.TheVariants as class
+use Rattle.normal_forms.specs.Properties.{IsAtOrBelow}
 use Rattle.facts.specs.declared.contexts.Context.{Context}
 use Rattle.facts.specs.declared.contexts.Context.TheVariants.{Expr}
 use Rattle.facts.specs.declared.contexts.Fact.{Fact}
 use Rattle.facts.specs.declared.contexts.Fact.TheVariants.{In}
-use Rattle.facts.specs.Closure.{Problem, Concludes, IsLoop, Gives, IsFact, thing}
+use Rattle.facts.specs.Closure.{Problem, Concludes, IsContextBy, IsLoop, Gives, IsFact, thing}
 use Rattle.facts.specs.Births.{Reason}
 use Rattle.saturate.specs.Derived.{Derived}
 
 -- the facts of these numbers
 abbrev pub AreAt : List Fact → List ℕ → List Fact → Type 0
 AreAt facts numbers older = map (slice_get facts) numbers ≡ map Some older
+
+-- x is a context because of the facts of these numbers
+abbrev pub IsContextAt : Problem → List Fact → List ℕ → Context → Type 0
+IsContextAt k facts numbers x = (older : List Fact) × AreAt facts numbers older × IsContextBy k older x
 
 -- what is drawn from each of the forms is there
 abbrev pub AllDrawn : (Form → Fact → Type 0) → List Form → List Fact → Type 0
@@ -44,24 +49,45 @@ pub record IsEntered (k : Problem) (x : Context) (facts : List Fact) : Type 0 wh
 abbrev pub Drawn : Problem → List Fact → List Fact → Type 0
 Drawn k older facts = (condition : ℕ) (form : Option ℕ) (f : Fact) → Gives k condition form older f → Contains facts f
 
--- the form of that number, which makes a property transitive, gave the fact
-pub record IsGivenBy (k : Problem) (d : Derived) (n : ℕ) (f : Fact) : Type 0 where
-  pub property : PropId2
-  pub transitive : slice_get k.forms n ≡ Some (N6 property property property)
+-- the form of a transitive property gave the fact, an edge of that property
+pub record IsGivenBy (k : Problem) (d : Derived) (property : PropId2) (f : Fact) : Type 0 where
+  pub form : ℕ
+  pub transitive : slice_get k.forms form ≡ Some (N6 property property property)
   pub place : ℕ
   pub there : slice_get d.facts place ≡ Some f
   pub birth : Reason
   pub born : slice_get d.births place ≡ Some birth
-  pub by : birth.form ≡ Some n
+  pub by : birth.form ≡ Some form
 
--- two facts are spared the form that makes a property transitive, where it gave the second: from the first and the older two that
--- it gave the second from come the same conclusions
+-- a chain goes on: what it gives can stand first in it again
+abbrev pub GoesOn : List Form → Form → Type 0
+GoesOn forms (N6 r s t) = IsAtOrBelow forms t r
+GoesOn forms _ = ⊥
+
+-- the chain ends with a property at or above that one
+abbrev pub EndsAbove : List Form → PropId2 → Form → Type 0
+EndsAbove forms p (N6 r s t) = IsAtOrBelow forms p s
+EndsAbove forms p _ = ⊥
+
+-- a chain that goes on is spared the edge as its second, where the form of a transitive property at or below that with which the chain
+-- ends gave it: from the first and the older two that gave the edge come the same conclusions, one after the other
+pub record IsSparedBy (k : Problem) (d : Derived) (form : Form) (f : Fact) : Type 0 where
+  pub goes_on : GoesOn k.forms form
+  pub property : PropId2
+  pub below : EndsAbove k.forms property form
+  pub given : IsGivenBy k d property f
+
+-- two facts are spared a form that is spared the second
 abbrev pub AreSpared : Problem → Derived → List Fact → Option ℕ → Type 0
-AreSpared k d [] form = ⊥
-AreSpared k d (f ∷ []) form = ⊥
+AreSpared k d [] n = ⊥
+AreSpared k d (f ∷ []) n = ⊥
 AreSpared k d (f ∷ g ∷ []) None = ⊥
-AreSpared k d (f ∷ g ∷ []) (Some n) = IsGivenBy k d n g
-AreSpared k d (f ∷ g ∷ h ∷ more) form = ⊥
+AreSpared k d (f ∷ g ∷ []) (Some n) = (form : Form) × (slice_get k.forms n ≡ Some form) × IsSparedBy k d form g
+AreSpared k d (f ∷ g ∷ h ∷ more) n = ⊥
+
+-- the fact need not stand second: all that it gives as the second of two is spared
+abbrev pub IsSparedAsSecond : Problem → Derived → Fact → Type 0
+IsSparedAsSecond k d g = (f h : Fact) (condition : ℕ) (form : Option ℕ) → Gives k condition form (f ∷ g ∷ []) h → AreSpared k d (f ∷ g ∷ []) form
 
 -- what these facts give is there, but for what they are spared
 abbrev pub DrawnButSpared : Problem → List Fact → Derived → Type 0

@@ -1,5 +1,5 @@
 //! Facts and their turns after forms and roots were added.
-ghost use Rattle.fact_index.specs.Indexed.{IsIndex};
+ghost use Rattle.saturate.specs.Listed.{ListsFacts};
 ghost use Rattle.saturate.specs.Derived.{IsDerived};
 ghost use Rattle.saturate.specs.Flagged.{IsFlagged, kept};
 ghost use Rattle.saturate.specs.Growing.{HasBegun, KeepsServed};
@@ -10,6 +10,7 @@ use crate::ground::Ground;
 use crate::known_facts::KnownFacts;
 use crate::queue::{Queue, has_flag};
 use crate::rules::Rules;
+use crate::seconds::stands_second;
 use axioms::Memory;
 use fact_index::Index;
 use form_index::IndexedProblem;
@@ -59,33 +60,38 @@ fn flags_of(
 /// Lists the fact of that number, unless it is flagged.
 fn index_kept(
     index: &mut Index,
+    ground: &Ground,
     facts: &KnownFacts,
     number: u32,
     flags: &[bool],
 ) -> Result<(), Memory>
-    requires { number < length facts.now.facts }
-    ensures { OnOk result ((w : List ℕ) → IsIndex facts.now.facts w w index.old → IsIndex facts.now.facts (w ++ kept flags.now (number ∷ [])) (w ++ kept flags.now (number ∷ [])) index.new) }
+    requires derived { IsDerived ground.now facts.now }
+    requires number { number < length facts.now.facts }
+    ensures { OnOk result ((w : List ℕ) → ListsFacts ground.now facts.now w w index.old → ListsFacts ground.now facts.now (w ++ kept flags.now (number ∷ [])) (w ++ kept flags.now (number ∷ [])) index.new) }
 {
     if has_flag(flags, number) {
         return Ok(());
     }
-    index.add(number, facts.get(number))?;
+    let is_second = stands_second(ground.problem(), ground.closure(), facts, number);
+    index.add(number, facts.get(number), is_second)?;
     Ok(())
 }
 
 /// An index of those of the facts that are not flagged.
 fn indexed(
     alloc: Global,
+    ground: &Ground,
     facts: &KnownFacts,
     numbers: &[u32],
     flags: &[bool],
 ) -> Result<Index, Memory>
-    requires { (n : ℕ) → Contains numbers.now n → n < length facts.now.facts }
-    ensures { IfOk result (λ index. IsIndex facts.now.facts (kept flags.now numbers.now) (kept flags.now numbers.now) index) }
+    requires derived { IsDerived ground.now facts.now }
+    requires numbers { (n : ℕ) → Contains numbers.now n → n < length facts.now.facts }
+    ensures { IfOk result (λ index. ListsFacts ground.now facts.now (kept flags.now numbers.now) (kept flags.now numbers.now) index) }
 {
     let mut index = Index::new(alloc);
     for number in numbers {
-        index_kept(&mut index, facts, *number, flags)?;
+        index_kept(&mut index, ground, facts, *number, flags)?;
     }
     Ok(index)
 }
@@ -136,13 +142,13 @@ pub(crate) fn restart<W: WorkList>(
     ensures begun { OnOk result (HasBegun ground.now u32.MAX facts.old facts.new) }
     ensures queued { queue.new.queued ≡ queue.old.queued }
     ensures served { OnOk result (KeepsServed ground.now.forms forms.now facts.old.facts queue.old.served queue.new.served) }
-    ensures index { OnOk result (IsIndex facts.new.facts queue.new.served queue.new.served index.new) }
+    ensures index { OnOk result (ListsFacts ground.now facts.new queue.new.served queue.new.served index.new) }
     ensures facts { OnErr result (facts.new ≡ facts.old) }
     ensures queue { OnErr result (queue.new ≡ queue.old) }
     ensures same { OnErr result (index.new ≡ index.old) }
 {
     let flags = flags_of(alloc, ground, forms, facts, queue.numbers())?;
-    let again = indexed(alloc, facts, queue.numbers(), &flags)?;
+    let again = indexed(alloc, ground, facts, queue.numbers(), &flags)?;
     match begun_again(alloc, ground, facts, queue, &flags) {
         Ok(()) => {
             *index = again;

@@ -1,5 +1,5 @@
 //! The facts so far, and what gave them.
-ghost use Rattle.facts.specs.Births.{IsBirth, Reason, reason};
+ghost use Rattle.facts.specs.Births.{IsBirth, reason};
 ghost use Rattle.saturate.specs.Derived.{with_fact, IsDerived, Grows, HasMoreFactsThan};
 ghost use Rattle.saturate.specs.declared.known_facts.Stop.TheVariants as stops;
 ghost use Rattle.std.specs.Prelude.{◌≡◌, ◌↔◌, ◌<◌, ◌^◌, ◌++◌, ◌∷◌, Some, [], length, map, take, slice_get, Contains, Err, IfOk, IsTrue, OnOk, OnErr};
@@ -100,14 +100,6 @@ impl KnownFacts {
         ensures { slice_get self.now.births number ≡ Some (reason result.now) }
     {
         &self.births[number as usize]
-    }
-
-    /// Whether the form of that number gave the fact of the other number.
-    pub fn is_given_by(&self, number: u32, form: u32) -> bool
-        requires { number < length self.now.births }
-        ensures { (r : Reason) → slice_get self.now.births number ≡ Some r → (IsTrue result ↔ (r.form ≡ Some form)) }
-    {
-        self.birth(number).form == Some(form)
     }
 
     /// The facts, and what gave them, without the table that finds a fact.

@@ -13,6 +13,7 @@ mod progress;
 mod properties;
 mod queue;
 mod rules;
+mod seconds;
 mod state;
 mod visits;
 

@@ -1,7 +1,7 @@
 //! Whose turn it is.
 ghost use Rattle.std.specs.Prelude.{◌≡◌, ◌<◌, ◌≤◌, ◌^◌, ◌+◌, ◌++◌, ◌∷◌, [], ℕ, None, Some, length, take, drop, Contains, OnOk, OnErr, IfOk, IfSome};
 ghost use Rattle.saturate.specs.Flagged.{asked, is_flagged, kept};
-ghost use Rattle.saturate.specs.Queued.{with_one_more, HasTurn, IsServedOnce, IsWithoutHand, IsWithoutLast};
+ghost use Rattle.saturate.specs.Queued.{with_one_more, option_list, HasTurn, IsServedOnce, IsWithoutHand, IsWithoutLast};
 ghost use Rattle.work_list.specs.Bag.{IsEmpty};
 
 use axioms::Memory;
@@ -251,12 +251,11 @@ impl<W: WorkList> Queue<W> {
     }
 
     /// The number in hand is served.
-    pub fn finish(&mut self, hand: u32)
-        requires { self.old.hand ≡ Some hand }
+    pub fn finish(&mut self)
+        requires { self.old.hand ≡ None → ⊥ }
         ensures queued { self.new.queued ≡ self.old.queued }
-        ensures served { self.new.served ≡ self.old.served ++ hand ∷ [] }
+        ensures served { self.new.served ≡ self.old.served ++ option_list self.old.hand }
     {
-        let _ = hand;
         self.served += 1;
     }
 

@@ -1,6 +1,6 @@
 //! What facts give, added to the facts.
 ghost use Rattle.std.specs.Prelude.{◌≡◌, ◌<◌, ℕ, [], ◌∷◌, true, false, Some, Err, length, slice_get, Contains, OnOk};
-ghost use Rattle.facts.specs.Closure.{Concludes, CarriesBack, IsContextBy, IsLoop};
+ghost use Rattle.facts.specs.Closure.{Concludes, CarriesBack, IsLoop};
 ghost use Rattle.axioms.specs.declared.ids.ExprId.{ExprId as ExprId2};
 ghost use Rattle.facts.specs.declared.contexts.Fact.{Fact as Fact2};
 ghost use Rattle.facts.specs.declared.contexts.Fact.TheVariants as the_facts;
@@ -11,16 +11,14 @@ ghost use Rattle.saturate.specs.Derived.{IsDerived, Grows, HasMoreFactsThan};
 ghost use Rattle.normal_forms.specs.Properties.{IsAtOrBelow};
 ghost use Rattle.property_closure.specs.Closed.{Has};
 ghost use Rattle.saturate.specs.Closed.{IsClosureOf};
-ghost use Rattle.saturate.specs.Working.{AreAt, AllDrawn, DrawnAt, AreDrawnAt, AreDrawn, IsEntered, IsGivenBy, Drawn, DrawnButSpared, MeetEachOther, AreMet, AreMetBefore, AreMetBehind};
-ghost use Rattle.saturate.specs.Visited.{AreAll, ChainsDrawn, GiveNothing, HasProperty, IsBy, IsClassFact, IsEdge, IsOnlyChain};
+ghost use Rattle.saturate.specs.Working.{AreAt, IsContextAt, AllDrawn, DrawnAt, AreDrawnAt, AreDrawn, IsEntered, IsSparedAsSecond, Drawn, MeetEachOther, AreMet, AreMetBefore, AreMetBehind};
+ghost use Rattle.saturate.specs.Visited.{AreAll, ChainsDrawn, GiveNothing, HasProperty, IsBy, IsClassFact, IsEdge};
 ghost use Rattle.saturate.specs.Listed.{IsWithin, AllListedAreMet};
 ghost use Rattle.saturate.specs.Growing.{HasBegun, LoopIsDrawn, LoopsAreDrawn};
 
 use crate::conclusions::{THING, carried_back, conclusion, condition_of, loop_at};
 use crate::known_facts::{KnownFacts, Stop};
-use crate::visits::{
-    begins_chain, chained, has_any, is_by, is_carried, is_operand, only_chain, visited,
-};
+use crate::visits::{begins_chain, chained, has_any, is_carried, is_operand, visited};
 use fact_index::Index;
 use facts::{Context, Fact};
 use form_index::IndexedProblem;
@@ -157,16 +155,13 @@ impl Rules<'_> {
         number: u32,
         context: Context,
         numbers: &[u32],
-        older: &[Fact],
     ) -> Result<(), Stop>
         requires derived { IsDerived self.now.problem.now facts.old }
-        requires older { AreAt facts.old.facts numbers.now older.now }
-        requires context { IsContextBy self.now.problem.now older.now context }
+        requires context { IsContextAt self.now.problem.now facts.old.facts numbers.now context }
         ensures grows { Grows self.now.problem.now self.now.max_facts facts.old facts.new }
         ensures limit { result ≡ Err Stop.Limit → HasMoreFactsThan self.now.problem.now self.now.max_facts }
         ensures drawn { OnOk result (DrawnAt (IsLoop context) self.now.problem.now.forms facts.new.facts number) }
     {
-        let _ = older;
         let forms = self.problem.forms();
         if number as usize >= forms.len() {
             return Ok(());
@@ -190,17 +185,15 @@ impl Rules<'_> {
         facts: &mut KnownFacts,
         context: Context,
         numbers: &[u32],
-        older: &[Fact],
     ) -> Result<(), Stop>
         requires derived { IsDerived self.now.problem.now facts.old }
-        requires older { AreAt facts.old.facts numbers.now older.now }
-        requires context { IsContextBy self.now.problem.now older.now context }
+        requires context { IsContextAt self.now.problem.now facts.old.facts numbers.now context }
         ensures grows { Grows self.now.problem.now self.now.max_facts facts.old facts.new }
         ensures limit { result ≡ Err Stop.Limit → HasMoreFactsThan self.now.problem.now self.now.max_facts }
         ensures drawn { OnOk result (AllDrawn (IsLoop context) self.now.problem.now.forms facts.new.facts) }
     {
         for number in self.problem.reflexive() {
-            self.draw_loop(facts, *number, context, numbers, older)?;
+            self.draw_loop(facts, *number, context, numbers)?;
         }
         Ok(())
     }
@@ -211,16 +204,13 @@ impl Rules<'_> {
         facts: &mut KnownFacts,
         context: Context,
         numbers: &[u32],
-        older: &[Fact],
     ) -> Result<(), Stop>
         requires derived { IsDerived self.now.problem.now facts.old }
-        requires older { AreAt facts.old.facts numbers.now older.now }
-        requires context { IsContextBy self.now.problem.now older.now context }
+        requires context { IsContextAt self.now.problem.now facts.old.facts numbers.now context }
         ensures grows { Grows self.now.problem.now self.now.max_facts facts.old facts.new }
         ensures limit { result ≡ Err Stop.Limit → HasMoreFactsThan self.now.problem.now self.now.max_facts }
         ensures itself { OnOk result ((e : ExprId2) → context ≡ contexts.Expr e → Contains facts.new.facts (the_facts.In (classes.Expr e) context)) }
     {
-        let _ = older;
         if let Context::Expr(e) = context {
             let itself = Fact::In(Class2::Expr(e), context);
             facts.add(self.problem, self.max_facts, itself, 1, numbers, None)?;
@@ -229,24 +219,17 @@ impl Rules<'_> {
     }
 
     /// Adds what is in each context to one that the facts make a context.
-    fn enter(
-        &self,
-        facts: &mut KnownFacts,
-        context: Context,
-        numbers: &[u32],
-        older: &[Fact],
-    ) -> Result<(), Stop>
+    fn enter(&self, facts: &mut KnownFacts, context: Context, numbers: &[u32]) -> Result<(), Stop>
         requires derived { IsDerived self.now.problem.now facts.old }
-        requires older { AreAt facts.old.facts numbers.now older.now }
-        requires context { IsContextBy self.now.problem.now older.now context }
+        requires context { IsContextAt self.now.problem.now facts.old.facts numbers.now context }
         ensures grows { Grows self.now.problem.now self.now.max_facts facts.old facts.new }
         ensures limit { result ≡ Err Stop.Limit → HasMoreFactsThan self.now.problem.now self.now.max_facts }
         ensures entered { OnOk result (IsEntered self.now.problem.now context facts.new.facts) }
     {
         let top = Fact::In(THING, context);
         facts.add(self.problem, self.max_facts, top, 1, numbers, None)?;
-        self.enter_itself(facts, context, numbers, older)?;
-        self.draw_loops(facts, context, numbers, older)?;
+        self.enter_itself(facts, context, numbers)?;
+        self.draw_loops(facts, context, numbers)?;
         Ok(())
     }
 
@@ -260,7 +243,7 @@ impl Rules<'_> {
     {
         self.draw(facts, &[], &[])?;
         for root in self.problem.roots() {
-            self.enter(facts, *root, &[], &[])?;
+            self.enter(facts, *root, &[])?;
         }
         Ok(())
     }
@@ -275,7 +258,7 @@ impl Rules<'_> {
     {
         let fact = facts.get(number);
         if let Fact::Edge(_, _, target) = fact {
-            self.draw_loops(facts, target, &[number], &[fact])?;
+            self.draw_loops(facts, target, &[number])?;
         }
         Ok(())
     }
@@ -317,7 +300,7 @@ impl Rules<'_> {
     {
         self.draw(facts, &[hand], &[fact])?;
         if let Fact::Edge(_, _, target) = fact {
-            self.enter(facts, target, &[hand], &[fact])?;
+            self.enter(facts, target, &[hand])?;
         }
         Ok(())
     }
@@ -493,62 +476,7 @@ impl Rules<'_> {
         Ok(())
     }
 
-    /// Adds what two edges give in this order, unless the only chain that begins with the first one gave the second.
-    fn join(
-        &self,
-        facts: &mut KnownFacts,
-        hand: u32,
-        edge: Fact,
-        property: PropId2,
-        chain: u32,
-        number: u32,
-    ) -> Result<(), Stop>
-        requires closed { IsClosureOf self.now.problem.now.forms self.now.closure.now }
-        requires derived { IsDerived self.now.problem.now facts.old }
-        requires hand { slice_get facts.old.facts hand ≡ Some edge }
-        requires property { IsBy property edge }
-        requires chain { IsOnlyChain self.now.problem.now.forms property chain }
-        requires number { (g : Fact2) × (slice_get facts.old.facts number ≡ Some g) × IsEdge g }
-        ensures grows { Grows self.now.problem.now self.now.max_facts facts.old facts.new }
-        ensures limit { result ≡ Err Stop.Limit → HasMoreFactsThan self.now.problem.now self.now.max_facts }
-        ensures drawn { OnOk result ((g : Fact2) → slice_get facts.old.facts number ≡ Some g → DrawnButSpared self.now.problem.now (edge ∷ g ∷ []) facts.new) }
-    {
-        if facts.is_given_by(number, chain) {
-            return Ok(());
-        }
-        let partner = facts.get(number);
-        self.draw_pair(facts, hand, edge, number, partner)?;
-        Ok(())
-    }
-
-    /// Adds what the edge gives as the first of two, with each of the edges of those numbers but those that the only chain that begins
-    /// with the edge gave.
-    fn join_all(
-        &self,
-        facts: &mut KnownFacts,
-        hand: u32,
-        edge: Fact,
-        property: PropId2,
-        chain: u32,
-        numbers: &[u32],
-    ) -> Result<(), Stop>
-        requires closed { IsClosureOf self.now.problem.now.forms self.now.closure.now }
-        requires derived { IsDerived self.now.problem.now facts.old }
-        requires hand { slice_get facts.old.facts hand ≡ Some edge }
-        requires property { IsBy property edge }
-        requires chain { IsOnlyChain self.now.problem.now.forms property chain }
-        requires numbers { AreAll IsEdge facts.old.facts numbers.now }
-        ensures grows { Grows self.now.problem.now self.now.max_facts facts.old facts.new }
-        ensures limit { result ≡ Err Stop.Limit → HasMoreFactsThan self.now.problem.now self.now.max_facts }
-        ensures met { OnOk result (AreMetBefore self.now.problem.now edge facts.old.facts numbers.now facts.new) }
-    {
-        for number in numbers {
-            self.join(facts, hand, edge, property, chain, *number)?;
-        }
-        Ok(())
-    }
-
-    /// Adds what the edge gives with the edges on from its target, which have those numbers.
+    /// Adds what the edge gives as the first of two, with edges that have those numbers.
     fn lead_on(
         &self,
         facts: &mut KnownFacts,
@@ -566,97 +494,34 @@ impl Rules<'_> {
         ensures limit { result ≡ Err Stop.Limit → HasMoreFactsThan self.now.problem.now self.now.max_facts }
         ensures met { OnOk result (AreMetBefore self.now.problem.now edge facts.old.facts numbers.now facts.new) }
     {
-        if let Some(chain) = only_chain(self.problem, self.closure, property) {
-            return self.join_all(facts, hand, edge, property, chain, numbers);
-        }
         if begins_chain(self.problem, self.closure, property) {
             self.meet_before(facts, hand, edge, numbers)?;
         }
         Ok(())
     }
 
-    /// Adds what two edges give in this order, unless the first is by the property with which one chain alone begins, that gave the
-    /// second.
-    fn follow(
-        &self,
-        facts: &mut KnownFacts,
-        hand: u32,
-        edge: Fact,
-        property: PropId2,
-        chain: u32,
-        number: u32,
-    ) -> Result<(), Stop>
-        requires closed { IsClosureOf self.now.problem.now.forms self.now.closure.now }
-        requires derived { IsDerived self.now.problem.now facts.old }
-        requires hand { slice_get facts.old.facts hand ≡ Some edge }
-        requires edge { IsEdge edge }
-        requires chain { IsOnlyChain self.now.problem.now.forms property chain }
-        requires given { IsGivenBy self.now.problem.now facts.old chain edge }
-        requires number { number < length facts.old.facts }
-        ensures grows { Grows self.now.problem.now self.now.max_facts facts.old facts.new }
-        ensures limit { result ≡ Err Stop.Limit → HasMoreFactsThan self.now.problem.now self.now.max_facts }
-        ensures drawn { OnOk result ((g : Fact2) → slice_get facts.old.facts number ≡ Some g → DrawnButSpared self.now.problem.now (g ∷ edge ∷ []) facts.new) }
-    {
-        let partner = facts.get(number);
-        if is_by(partner, property) {
-            return Ok(());
-        }
-        self.draw_pair(facts, number, partner, hand, edge)?;
-        Ok(())
-    }
-
-    /// Adds what the edge, which the chain gave, gives as the second of two with each of the edges of those numbers but those by the
-    /// property.
-    fn follow_all(
-        &self,
-        facts: &mut KnownFacts,
-        hand: u32,
-        edge: Fact,
-        property: PropId2,
-        chain: u32,
-        numbers: &[u32],
-    ) -> Result<(), Stop>
-        requires closed { IsClosureOf self.now.problem.now.forms self.now.closure.now }
-        requires derived { IsDerived self.now.problem.now facts.old }
-        requires hand { slice_get facts.old.facts hand ≡ Some edge }
-        requires edge { IsEdge edge }
-        requires chain { IsOnlyChain self.now.problem.now.forms property chain }
-        requires given { IsGivenBy self.now.problem.now facts.old chain edge }
-        requires numbers { (n : ℕ) → Contains numbers.now n → n < length facts.old.facts }
-        ensures grows { Grows self.now.problem.now self.now.max_facts facts.old facts.new }
-        ensures limit { result ≡ Err Stop.Limit → HasMoreFactsThan self.now.problem.now self.now.max_facts }
-        ensures met { OnOk result (AreMetBehind self.now.problem.now edge facts.old.facts numbers.now facts.new) }
-    {
-        for number in numbers {
-            self.follow(facts, hand, edge, property, chain, *number)?;
-        }
-        Ok(())
-    }
-
-    /// Adds what the edge gives as the second of two, with the edges into its source, which have those numbers.
+    /// Adds what the edge gives as the second of two, with the edges into its source, which have those numbers: nothing where it need
+    /// not stand second.
     fn lead_up(
         &self,
         facts: &mut KnownFacts,
         hand: u32,
         edge: Fact,
-        property: PropId2,
+        is_second: bool,
         numbers: &[u32],
     ) -> Result<(), Stop>
         requires closed { IsClosureOf self.now.problem.now.forms self.now.closure.now }
         requires derived { IsDerived self.now.problem.now facts.old }
         requires hand { slice_get facts.old.facts hand ≡ Some edge }
-        requires property { IsBy property edge }
+        requires second { is_second ≡ false → IsSparedAsSecond self.now.problem.now facts.old edge }
         requires numbers { (n : ℕ) → Contains numbers.now n → n < length facts.old.facts }
         ensures grows { Grows self.now.problem.now self.now.max_facts facts.old facts.new }
         ensures limit { result ≡ Err Stop.Limit → HasMoreFactsThan self.now.problem.now self.now.max_facts }
         ensures met { OnOk result (AreMetBehind self.now.problem.now edge facts.old.facts numbers.now facts.new) }
     {
-        if let Some(chain) = only_chain(self.problem, self.closure, property) {
-            if facts.is_given_by(hand, chain) {
-                return self.follow_all(facts, hand, edge, property, chain, numbers);
-            }
+        if is_second {
+            self.meet_behind(facts, hand, edge, numbers)?;
         }
-        self.meet_behind(facts, hand, edge, numbers)?;
         Ok(())
     }
 
@@ -667,11 +532,13 @@ impl Rules<'_> {
         index: &Index,
         hand: u32,
         fact: Fact,
+        is_second: bool,
     ) -> Result<(), Stop>
         requires closed { IsClosureOf self.now.problem.now.forms self.now.closure.now }
         requires derived { IsDerived self.now.problem.now facts.old }
         requires hand { slice_get facts.old.facts hand ≡ Some fact }
         requires index { IsWithin facts.old.facts index.now }
+        requires second { is_second ≡ false → IsSparedAsSecond self.now.problem.now facts.old fact }
         ensures grows { Grows self.now.problem.now self.now.max_facts facts.old facts.new }
         ensures limit { result ≡ Err Stop.Limit → HasMoreFactsThan self.now.problem.now self.now.max_facts }
         ensures met { OnOk result (AllListedAreMet self.now.problem.now fact facts.old.facts index.now facts.new) }
@@ -683,32 +550,35 @@ impl Rules<'_> {
             }
             Fact::Edge(x, property, y) => {
                 self.meet_before(facts, hand, fact, index.classes_in(y))?;
-                self.lead_on(facts, hand, fact, property, index.edges_from(y))?;
-                self.lead_up(facts, hand, fact, property, index.edges_into(x))?;
+                self.lead_on(facts, hand, fact, property, index.seconds_from(y))?;
+                self.lead_up(facts, hand, fact, is_second, index.edges_into(x))?;
             }
         }
         Ok(())
     }
 
-    /// Adds what the fact of that number gives, alone and with those that the index lists for it.
+    /// Adds what the fact of that number gives, alone and with those that the index lists for it; as the second of two only where it has
+    /// to stand second.
     pub fn serve(
         &self,
         facts: &mut KnownFacts,
         index: &Index,
         hand: u32,
         fact: Fact,
+        is_second: bool,
     ) -> Result<(), Stop>
         requires closed { IsClosureOf self.now.problem.now.forms self.now.closure.now }
         requires derived { IsDerived self.now.problem.now facts.old }
         requires hand { slice_get facts.old.facts hand ≡ Some fact }
         requires index { IsWithin facts.old.facts index.now }
+        requires second { is_second ≡ false → IsSparedAsSecond self.now.problem.now facts.old fact }
         ensures grows { Grows self.now.problem.now self.now.max_facts facts.old facts.new }
         ensures limit { result ≡ Err Stop.Limit → HasMoreFactsThan self.now.problem.now self.now.max_facts }
         ensures alone { OnOk result (Drawn self.now.problem.now (fact ∷ []) facts.new.facts) }
         ensures met { OnOk result (AllListedAreMet self.now.problem.now fact facts.old.facts index.now facts.new) }
     {
         self.draw_alone(facts, hand, fact)?;
-        self.meet_listed(facts, index, hand, fact)?;
+        self.meet_listed(facts, index, hand, fact, is_second)?;
         Ok(())
     }
 }

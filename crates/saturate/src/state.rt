@@ -15,6 +15,7 @@ use crate::kept::Kept;
 use crate::known_facts::{KnownFacts, Stop};
 use crate::queue::Queue;
 use crate::rules::Rules;
+use crate::seconds::stands_second;
 use axioms::Memory;
 use fact_index::Index;
 use facts::{Birth, Context, Fact, FactId};
@@ -43,7 +44,7 @@ impl<W: WorkList> Model for State<W> {
 
     ghost view = { λ s. record { problem = s.ground; facts = s.facts.facts; births = s.facts.births; served = s.queue.served } };
 
-    ghost invariant = { λ s. IsState s.ground s.facts s.queue × ListsServed s.facts s.queue s.index };
+    ghost invariant = { λ s. IsState s.ground s.facts s.queue × ListsServed s.ground s.facts s.queue s.index };
 }
 
 impl<W: WorkList> State<W> {
@@ -190,16 +191,19 @@ impl<W: WorkList> State<W> {
             return Ok(false);
         };
         let fact = self.facts.get(hand);
-        let Ok(()) = self.index.add(hand, fact) else {
+        let problem = self.ground.problem();
+        let closure = self.ground.closure();
+        let is_second = stands_second(problem, closure, &self.facts, hand);
+        let Ok(()) = self.index.add(hand, fact, is_second) else {
             return Err(Stop::Memory);
         };
         let rules = Rules {
-            problem: self.ground.problem(),
-            closure: self.ground.closure(),
+            problem,
+            closure,
             max_facts,
         };
-        rules.serve(&mut self.facts, &self.index, hand, fact)?;
-        self.queue.finish(hand);
+        rules.serve(&mut self.facts, &self.index, hand, fact, is_second)?;
+        self.queue.finish();
         Ok(true)
     }
 

@@ -1,21 +1,20 @@
 //! Which forms are visited for facts: those that give something from them are listed.
-ghost use Rattle.std.specs.Prelude.{◌≡◌, ◌↔◌, ℕ, Some, None, Contains, IfSome, IsTrue, false, slice_get};
+ghost use Rattle.std.specs.Prelude.{◌≡◌, ◌↔◌, ℕ, Some, None, Contains, false, slice_get};
 ghost use Rattle.facts.specs.Closure.{Concludes, FromOne, FromTwo, nothing};
 ghost use Rattle.facts.specs.declared.contexts.Fact.{Fact as Fact2};
 ghost use Rattle.normal_forms.specs.declared.forms.Form.{Form as Form2};
-ghost use Rattle.normal_forms.specs.declared.forms.Form.TheVariants as the_forms;
 ghost use Rattle.normal_forms.specs.Properties.{IsAtOrBelow};
 ghost use Rattle.normal_forms.specs.declared.forms.PropId2.{PropId2 as PropId3};
 ghost use Rattle.form_index.specs.Named.{by_chain, by_filler, by_first, by_second, class_key, property_key};
 ghost use Rattle.form_index.specs.Under.{IsUnder};
 ghost use Rattle.property_closure.specs.Closed.{Has};
 ghost use Rattle.saturate.specs.Closed.{IsClosureOf};
-ghost use Rattle.saturate.specs.Visited.{IsBy, IsOnlyChain, NoneUnder, chained_pair, chained_property};
+ghost use Rattle.saturate.specs.Visited.{NoneUnder, chained_pair, chained_property};
 
 use crate::conclusions::NOTHING;
 use facts::Fact;
 use form_index::IndexedProblem;
-use normal_forms::{Class2, Form, PropId2};
+use normal_forms::{Class2, PropId2};
 use property_closure::PropertyClosure;
 
 /// The property of the first of two edges.
@@ -25,16 +24,6 @@ fn chained_by(first: Fact, second: Fact) -> Option<PropId2>
     match (first, second) {
         (Fact::Edge(_, property, _), Fact::Edge(..)) => Some(property),
         _ => None,
-    }
-}
-
-/// Whether the fact is an edge by the property.
-pub(crate) fn is_by(fact: Fact, property: PropId2) -> bool
-    ensures { IsTrue result ↔ IsBy property fact }
-{
-    match fact {
-        Fact::Edge(_, by, _) => by == property,
-        Fact::In(..) => false,
     }
 }
 
@@ -134,56 +123,4 @@ pub(crate) fn begins_chain(
         }
     }
     false
-}
-
-/// Whether the list has a number but that one.
-fn has_other(list: &[u32], number: u32) -> bool
-    ensures { result ≡ false → (n : ℕ) → Contains list.now n → n ≡ number }
-{
-    list.iter().any(|n| *n != number)
-}
-
-/// Whether some chain but that of the number begins with the property, or one above it.
-fn begins_other(
-    problem: &IndexedProblem,
-    closure: &PropertyClosure,
-    property: PropId2,
-    number: u32,
-) -> bool
-    requires closed { IsClosureOf problem.now.forms closure.now }
-    requires has { Has closure.now property }
-    ensures { result ≡ false → (r : PropId3) → IsAtOrBelow problem.now.forms property r → (n : ℕ) → IsUnder by_chain problem.now.forms (property_key r) n → n ≡ number }
-{
-    for above in closure.supers(property) {
-        if has_other(problem.chains_from(*above), number) {
-            return true;
-        }
-    }
-    false
-}
-
-/// Whether the form makes the property transitive.
-fn makes_transitive(form: &Form, property: PropId2) -> bool
-    ensures { IsTrue result ↔ (form.now ≡ the_forms.N6 property property property) }
-{
-    *form == Form::N6(property, property, property)
-}
-
-/// The number of the form that makes the property transitive, where it is the only chain that begins with the property or one above
-/// it.
-pub(crate) fn only_chain(
-    problem: &IndexedProblem,
-    closure: &PropertyClosure,
-    property: PropId2,
-) -> Option<u32>
-    requires closed { IsClosureOf problem.now.forms closure.now }
-    requires has { Has closure.now property }
-    ensures { IfSome result (λ n. IsOnlyChain problem.now.forms property n) }
-{
-    let number = *problem.chains_from(property).first()?;
-    let form = problem.forms().get(number as usize)?;
-    if !makes_transitive(form, property) || begins_other(problem, closure, property, number) {
-        return None;
-    }
-    Some(number)
 }

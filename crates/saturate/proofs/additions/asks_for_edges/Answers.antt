@@ -1,4 +1,4 @@
-use Rattle.std.proofs.Common.{Contains, get_or, refl}
+use Rattle.std.proofs.Common.{Contains, refl}
 use Rattle.std.proofs.lemmas.List.Elements.{Contains-get_or}
 use Rattle.normal_forms.specs.declared.forms.Form.{Form}
 use Rattle.normal_forms.specs.declared.forms.PropId2.{PropId2}

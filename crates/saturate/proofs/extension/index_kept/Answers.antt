@@ -1,4 +1,6 @@
-use Rattle.std.proofs.Common.{sym, ◌∙◌}
+use Rattle.std.proofs.Common.{sym, subst, ◌∙◌}
+use Rattle.facts.specs.Closure.{Problem}
+use Rattle.saturate.specs.Working.{IsSparedAsSecond}
 use Rattle.saturate.proofs.Flagging.{kept_none, kept_one}
 use Rattle.saturate.proofs.Listing.{one_more}
 use Rattle.saturate.proofs.extension.index_kept.Goals as goal
@@ -7,4 +9,4 @@ pub returns-then-has_flag : goal.returns-then-has_flag
 returns-then-has_flag c = λ w s. rw (kept_none c.args.flags.now w c.args.number (sym c.has_flag.ensures ∙ c.if-has_flag.true)) s
 
 pub returns : goal.returns
-returns c = λ w s. rw (kept_one c.args.flags.now w c.args.number (sym c.has_flag.ensures ∙ c.if-has_flag.false)) (one_more s c.add.ensures.may c.get.ensures c.in_ok-add.ensures.ok)
+returns c = λ w s. rw (kept_one c.args.flags.now w c.args.number (sym c.has_flag.ensures ∙ c.if-has_flag.false)) (one_more s c.add.ensures.may c.get.ensures c.in_ok-add.ensures.ok (λ no. subst (λ (k : Problem). IsSparedAsSecond k c.args.facts.now c.get.result) c.problem.ensures (c.stands_second-is_second.ensures no c.get.result c.get.ensures)))

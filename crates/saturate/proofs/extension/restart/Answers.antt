@@ -1,7 +1,7 @@
 use Rattle.std.proofs.Common.{◌≡◌, ℕ, Bool, List, Contains, sym, ap, ap₂, subst, ◌∙◌}
-use Rattle.fact_index.specs.Indexed.{IsIndex}
 use Rattle.saturate.specs.Flagged.{kept}
 use Rattle.saturate.specs.Growing.{KeepsServed}
+use Rattle.saturate.specs.Listed.{ListsFacts}
 use Rattle.saturate.proofs.Flagging.{keeps_served}
 use Rattle.saturate.proofs.Listing.{still_listed}
 use Rattle.saturate.proofs.extension.restart.Goals as goal
@@ -9,8 +9,8 @@ use Rattle.saturate.proofs.extension.restart.Goals as goal
 pub flags_of-requires-clause-served : goal.flags_of-requires-clause-served
 flags_of-requires-clause-served g c = λ n there. c.requires.served n (rw c.numbers.ensures at there)
 
-pub indexed-requires : goal.indexed-requires
-indexed-requires g c = λ n there. c.requires.served n (rw c.numbers-2.ensures at there)
+pub indexed-requires-clause-numbers : goal.indexed-requires-clause-numbers
+indexed-requires-clause-numbers g c = λ n there. c.requires.served n (rw c.numbers-2.ensures at there)
 
 pub returns-in-Ok-clause-served : goal.returns-in-Ok-clause-served
 returns-in-Ok-clause-served g c =
@@ -31,4 +31,4 @@ returns-in-Ok-clause-index g c =
     let here : kept c.deref.result.now c.numbers-2.result.now ≡ now = ap₂ (λ (fs : List Bool) (ns : List ℕ). kept fs ns) c.deref.ensures.value c.numbers-2.ensures ∙ sym same in
     let keeps = keeps_served c.args.ground.now.forms c.args.forms.now facts c.in_ok-flags.flags.items served (λ n there. c.in_ok-flags.ensures n (rw c.numbers.ensures there)) in
     still_listed c.in-Ok.ensures.begun.grows (λ n there. c.requires.served n ((keeps n).0 (subst (λ (ns : List ℕ). Contains ns n) same there)).0)
-    (subst (λ (ns : List ℕ). IsIndex facts ns ns c.in_ok-again.again) here c.in_ok-again.ensures)
+    (subst (λ (ns : List ℕ). ListsFacts c.args.ground.now c.args.facts.now ns ns c.in_ok-again.again) here c.in_ok-again.ensures)

@@ -1,9 +1,13 @@
-use Rattle.std.proofs.Common.{[]}
+use Rattle.std.proofs.Common.{[], refl}
 use Rattle.facts.specs.Closure.{Concludes}
 use Rattle.saturate.specs.Working.{IsEntered}
 use Rattle.saturate.proofs.Growth.{grows_trans, there_still}
-use Rattle.saturate.proofs.Drawing.{each_more, each, drawn, all_still, entered_still}
+use Rattle.saturate.proofs.Drawing.{each_more, each, member_at, drawn, all_still, entered_still}
 use Rattle.saturate.proofs.rules.Rules.begin.Goals as goal
+
+pub enter-requires-clause-context : goal.enter-requires-clause-context
+enter-requires-clause-context c =
+    ([], refl, member_at c.args.self.now.problem.now.roots c.roots-root-items.result.now c.loop-root.root-index _ c.roots-root-items.ensures c.loop-root-test.true)
 
 pub loop-root-preserved : goal.loop-root-preserved
 loop-root-preserved c =

@@ -1,10 +1,18 @@
-use Rattle.std.proofs.Common.{[], ◌∷◌, subst}
+use Rattle.std.proofs.Common.{[], ◌∷◌, Option, refl, ap, subst}
 use Rattle.facts.specs.declared.contexts.Context.{Context}
+use Rattle.facts.specs.declared.contexts.Fact.{Fact}
 use Rattle.facts.specs.Closure.{Concludes}
 use Rattle.saturate.specs.Working.{IsEntered}
 use Rattle.saturate.proofs.Growth.{there_still}
 use Rattle.saturate.proofs.Drawing.{drawn, all_still}
 use Rattle.saturate.proofs.rules.Rules.draw_alone.Goals as goal
+
+pub enter-requires-clause-context : goal.enter-requires-clause-context
+enter-requires-clause-context c = (
+  c.args.fact ∷ [],
+  ap (λ (o : Option Fact). o ∷ []) (c.draw.ensures.grows.facts c.args.hand c.args.fact c.requires.hand),
+  rw c.in-Edge.is refl,
+)
 
 pub returns-in_ok-enter-clause-drawn : goal.returns-in_ok-enter-clause-drawn
 returns-in_ok-enter-clause-drawn c =

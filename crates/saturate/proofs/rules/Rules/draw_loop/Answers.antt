@@ -7,7 +7,8 @@ use Rattle.saturate.proofs.rules.Rules.draw_loop.Goals as goal
 pub add-requires-clause-birth : goal.add-requires-clause-birth
 add-requires-clause-birth c =
     let k = c.args.self.now.problem.now in
-    (c.args.older.now, c.requires.older, loop c.args.context c.args.number _ (read_at k.forms c.forms-forms.result.now c.args.number _ c.forms-forms.ensures c.if-number-forms.false) ((c.loop_at.ensures c.in-Some.fact).0 c.in-Some.is) c.requires.context)
+    let context = c.requires.context in
+    (context.0, context.1, loop c.args.context c.args.number _ (read_at k.forms c.forms-forms.result.now c.args.number _ c.forms-forms.ensures c.if-number-forms.false) ((c.loop_at.ensures c.in-Some.fact).0 c.in-Some.is) context.2)
 
 pub returns-in_ok-add-clause-drawn : goal.returns-in_ok-add-clause-drawn
 returns-in_ok-add-clause-drawn c =

@@ -2,12 +2,12 @@ use Rattle.std.proofs.Common.{refl}
 use Rattle.facts.specs.Closure.{IsLoop}
 use Rattle.saturate.specs.Working.{DrawnAt}
 use Rattle.saturate.proofs.Growth.{grows_trans}
-use Rattle.saturate.proofs.Drawing.{at_still, each_more, each, drawn_at_still}
+use Rattle.saturate.proofs.Drawing.{context_still, each_more, each, drawn_at_still}
 use Rattle.saturate.proofs.Visiting.{all_loops}
 use Rattle.saturate.proofs.rules.Rules.draw_loops.Goals as goal
 
-pub draw_loop-requires-clause-older : goal.draw_loop-requires-clause-older
-draw_loop-requires-clause-older c = at_still _ _ c.loop-number.invariant.grows.facts c.args.numbers.now c.args.older.now c.requires.older
+pub draw_loop-requires-clause-context : goal.draw_loop-requires-clause-context
+draw_loop-requires-clause-context c = context_still c.loop-number.invariant.grows c.args.numbers.now c.args.context c.requires.context
 
 pub loop-number-preserved : goal.loop-number-preserved
 loop-number-preserved c =

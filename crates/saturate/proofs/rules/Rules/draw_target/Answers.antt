@@ -1,9 +1,13 @@
-use Rattle.std.proofs.Common.{subst}
+use Rattle.std.proofs.Common.{[], ◌∷◌, Option, refl, ap, subst}
 use Rattle.facts.specs.declared.contexts.Context.{Context}
+use Rattle.facts.specs.declared.contexts.Fact.{Fact}
 use Rattle.facts.specs.Closure.{IsLoop}
 use Rattle.saturate.specs.Working.{AllDrawn}
 use Rattle.saturate.proofs.Lists.{one_value}
 use Rattle.saturate.proofs.rules.Rules.draw_target.Goals as goal
+
+pub draw_loops-requires-clause-context : goal.draw_loops-requires-clause-context
+draw_loops-requires-clause-context c = (c.get-fact.result ∷ [], ap (λ (o : Option Fact). o ∷ []) c.get-fact.ensures, rw c.in-Edge.is refl)
 
 pub returns-in_ok-draw_loops-clause-drawn : goal.returns-in_ok-draw_loops-clause-drawn
 returns-in_ok-draw_loops-clause-drawn c = λ f x at target.

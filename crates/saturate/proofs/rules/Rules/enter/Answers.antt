@@ -1,16 +1,16 @@
 use Rattle.facts.specs.Closure.{in_thing}
 use Rattle.saturate.proofs.Growth.{grows_trans, there_still}
-use Rattle.saturate.proofs.Drawing.{at_still}
+use Rattle.saturate.proofs.Drawing.{context_still}
 use Rattle.saturate.proofs.rules.Rules.enter.Goals as goal
 
 pub add-requires-clause-birth : goal.add-requires-clause-birth
-add-requires-clause-birth c = (c.args.older.now, c.requires.older, in_thing c.requires.context)
+add-requires-clause-birth c = (c.requires.context.0, c.requires.context.1, in_thing c.requires.context.2)
 
-pub enter_itself-requires-clause-older : goal.enter_itself-requires-clause-older
-enter_itself-requires-clause-older c = at_still _ _ c.add.ensures.grows.facts c.args.numbers.now c.args.older.now c.requires.older
+pub enter_itself-requires-clause-context : goal.enter_itself-requires-clause-context
+enter_itself-requires-clause-context c = context_still c.add.ensures.grows c.args.numbers.now c.args.context c.requires.context
 
-pub draw_loops-requires-clause-older : goal.draw_loops-requires-clause-older
-draw_loops-requires-clause-older c = at_still _ _ (grows_trans c.add.ensures.grows c.enter_itself.ensures.grows).facts c.args.numbers.now c.args.older.now c.requires.older
+pub draw_loops-requires-clause-context : goal.draw_loops-requires-clause-context
+draw_loops-requires-clause-context c = context_still (grows_trans c.add.ensures.grows c.enter_itself.ensures.grows) c.args.numbers.now c.args.context c.requires.context
 
 pub returns-clause-entered : goal.returns-clause-entered
 returns-clause-entered c = record {

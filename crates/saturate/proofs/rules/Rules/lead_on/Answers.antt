@@ -4,9 +4,6 @@ use Rattle.saturate.proofs.Listing.{numbers_within, kind_of}
 use Rattle.saturate.specs.Visited.{IsEdge}
 use Rattle.saturate.proofs.rules.Rules.lead_on.Goals as goal
 
-pub only_chain-requires-clause-has : goal.only_chain-requires-clause-has
-only_chain-requires-clause-has c = property_there c.args.self.now.problem.now c.requires.closed c.requires.derived c.args.hand c.args.edge c.args.property c.requires.hand c.requires.property
-
 pub begins_chain-requires-clause-has : goal.begins_chain-requires-clause-has
 begins_chain-requires-clause-has c = property_there c.args.self.now.problem.now c.requires.closed c.requires.derived c.args.hand c.args.edge c.args.property c.requires.hand c.requires.property
 

@@ -1,7 +1,10 @@
+use Rattle.std.proofs.Common.{subst}
 use Rattle.saturate.specs.Visited.{IsClassFact, IsEdge}
+use Rattle.saturate.specs.Working.{IsSparedAsSecond}
 use Rattle.saturate.proofs.Growth.{grows_trans}
 use Rattle.saturate.proofs.Drawing.{all_met_still, before_still, before_earlier, behind_earlier}
-use Rattle.saturate.proofs.Listing.{met_in, met_edge, classes_listed, from_listed, into_listed, all_still_there, numbers_within}
+use Rattle.saturate.proofs.Listing.{met_in, met_edge, classes_listed, seconds_listed, into_listed, all_still_there, numbers_within}
+use Rattle.saturate.proofs.Sparing.{second_still}
 use Rattle.saturate.proofs.rules.Rules.meet_listed.Goals as goal
 
 pub meet_classes-requires-clause-numbers : goal.meet_classes-requires-clause-numbers
@@ -16,7 +19,12 @@ meet_before-requires-clause-numbers c =
     (classes_listed c.requires.index c.in-Edge.y c.classes_in-in-Edge.result.now c.classes_in-in-Edge.ensures)
 
 pub lead_on-requires-clause-numbers : goal.lead_on-requires-clause-numbers
-lead_on-requires-clause-numbers c = all_still_there c.meet_before.ensures.grows IsEdge c.edges_from.result.now (from_listed c.requires.index c.in-Edge.y c.edges_from.result.now c.edges_from.ensures)
+lead_on-requires-clause-numbers c = all_still_there c.meet_before.ensures.grows IsEdge c.seconds_from.result.now (seconds_listed c.requires.index c.in-Edge.y c.seconds_from.result.now c.seconds_from.ensures)
+
+pub lead_up-requires-clause-second : goal.lead_up-requires-clause-second
+lead_up-requires-clause-second c = λ no.
+    subst (IsSparedAsSecond c.args.self.now.problem.now c.lead_on.new.facts) c.in-Edge.is
+    (second_still (grows_trans c.meet_before.ensures.grows c.lead_on.ensures.grows) c.args.fact (c.requires.second no))
 
 pub lead_up-requires-clause-numbers : goal.lead_up-requires-clause-numbers
 lead_up-requires-clause-numbers c =
@@ -39,8 +47,8 @@ returns-in_ok-lead_up-in-Edge-clause-met c =
     let s = c.meet_before.ensures.grows in
     let t = c.lead_on.ensures.grows in
     let u = c.lead_up.ensures.grows in
-    rw c.in-Edge.is (met_edge c.args.self.now.problem.now old c.args.index.now new c.in-Edge.x _ c.in-Edge.y c.classes_in-in-Edge.result.now c.edges_from.result.now c.edges_into-in-Edge.result.now
-    c.classes_in-in-Edge.ensures c.edges_from.ensures c.edges_into-in-Edge.ensures
+    rw c.in-Edge.is (met_edge c.args.self.now.problem.now old c.args.index.now new c.in-Edge.x _ c.in-Edge.y c.classes_in-in-Edge.result.now c.seconds_from.result.now c.edges_into-in-Edge.result.now
+    c.classes_in-in-Edge.ensures c.seconds_from.ensures c.edges_into-in-Edge.ensures
     (before_still (grows_trans t u) _ old _ c.in_ok-meet_before-in-Edge.ensures.met)
     (before_still u _ old _ (before_earlier s _ _ _ c.in_ok-lead_on-in-Edge.ensures.met))
     (behind_earlier (grows_trans s t) _ _ new c.in_ok-lead_up-in-Edge.ensures.met))

@@ -1,9 +1,13 @@
 use Rattle.saturate.proofs.Drawing.{drawn_still}
 use Rattle.saturate.proofs.Listing.{listed_earlier, within_still}
+use Rattle.saturate.proofs.Sparing.{second_still}
 use Rattle.saturate.proofs.rules.Rules.serve.Goals as goal
 
 pub meet_listed-requires-clause-index : goal.meet_listed-requires-clause-index
 meet_listed-requires-clause-index c = within_still c.draw_alone.ensures.grows c.requires.index
+
+pub meet_listed-requires-clause-second : goal.meet_listed-requires-clause-second
+meet_listed-requires-clause-second c = λ no. second_still c.draw_alone.ensures.grows c.args.fact (c.requires.second no)
 
 pub returns-clause-alone : goal.returns-clause-alone
 returns-clause-alone c = drawn_still c.meet_listed.ensures.grows _ c.in_ok-draw_alone.ensures.drawn

@@ -1,5 +1,5 @@
 use Rattle.std.proofs.Common.{ℕ, List, ◌++◌, subst, sym}
-use Rattle.fact_index.specs.Indexed.{IsIndex}
+use Rattle.saturate.specs.Listed.{ListsFacts}
 use Rattle.saturate.specs.Queued.{option_list}
 use Rattle.saturate.proofs.States.{begun}
 use Rattle.saturate.proofs.Listing.{nothing_listed}
@@ -8,5 +8,5 @@ use Rattle.saturate.proofs.state.State.new.Goals as goal
 pub invariant_of-result : goal.invariant_of-result
 invariant_of-result g c = (
   begun c.in_ok-ground.ensures.forms c.in_ok-ground.ensures.roots c.new.ensures.facts c.new.ensures.births c.new-2.ensures.queued c.new-2.ensures.served,
-  subst (λ (ns : List ℕ). IsIndex c.new.result.facts ns (c.new-2.result.served ++ option_list c.new-2.result.hand) c.new-3.result) (sym c.new-2.ensures.served) (nothing_listed c.new.result.facts _ c.new-3.result c.new-3.ensures),
+  subst (λ (ns : List ℕ). ListsFacts c.in_ok-ground.ground c.new.result ns (c.new-2.result.served ++ option_list c.new-2.result.hand) c.new-3.result) (sym c.new-2.ensures.served) (nothing_listed c.in_ok-ground.ground c.new.result _ c.new-3.result c.new-3.ensures),
 )

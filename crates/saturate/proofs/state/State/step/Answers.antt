@@ -1,7 +1,8 @@
-use Rattle.std.proofs.Common.{◌≡◌, length, Some, [], ◌∷◌, refl, sym, ap, subst, ◌∙◌, arith}
+use Rattle.std.proofs.Common.{◌≡◌, ◌++◌, length, Some, [], ◌∷◌, false, refl, sym, ap, subst, ◌∙◌, arith}
+use Rattle.std.proofs.lemmas.Option.{none-some}
 use Rattle.facts.specs.Closure.{Problem}
 use Rattle.saturate.specs.Derived.{Grows}
-use Rattle.saturate.specs.Working.{Drawn}
+use Rattle.saturate.specs.Working.{Drawn, IsSparedAsSecond}
 use Rattle.saturate.specs.State.{IsState}
 use Rattle.saturate.specs.Listed.{ListsServed, AllListedAreMet}
 use Rattle.saturate.proofs.Growth.{grows_same}
@@ -10,7 +11,7 @@ use Rattle.saturate.proofs.Listing.{turned, may, listed, still_listed, all_withi
 use Rattle.saturate.proofs.state.State.step.Goals as goal
 use Rattle.saturate.proofs.state.State.step.Goals.{After-turn, After-add}
 
-kept : (g : _) (c : After-turn g) → IsState c.self.inside.ground c.self.inside.facts c.turn.new.self × ListsServed c.self.inside.facts c.turn.new.self c.self.inside.index
+kept : (g : _) (c : After-turn g) → IsState c.self.inside.ground c.self.inside.facts c.turn.new.self × ListsServed c.self.inside.ground c.self.inside.facts c.turn.new.self c.self.inside.index
 kept g c = (
   grown {most = 0} c.self.invariant.0 (grows_same c.self.invariant.0.derived) (omega (arith, c.turn.ensures.queued, ap length c.as_slice.ensures.value)) c.turn.ensures.served,
   turned c.self.inside.queue c.turn.new.self c.self.invariant.1 c.turn.ensures.served c.turn.ensures.kept,
@@ -30,7 +31,11 @@ returns-in_default-clause-done g c = λ _.
 handed : (g : _) (c : After-add g) → c.turn.new.self.hand ≡ Some c.in-Some.hand
 handed g c = sym c.in_ok-hand.ensures.hand ∙ c.in-Some.is
 
-indexed : (g : _) (c : After-add g) → ListsServed c.self.inside.facts c.turn.new.self c.add.new.self
+-- the fact in hand, where it need not stand second
+spared : (g : _) (c : After-add g) → c.stands_second-is_second.result ≡ false → IsSparedAsSecond c.self.inside.ground c.self.inside.facts c.get-fact.result
+spared g c not_second = subst (λ (k : Problem). IsSparedAsSecond k c.self.inside.facts c.get-fact.result) c.problem-problem.ensures (c.stands_second-is_second.ensures not_second c.get-fact.result c.get-fact.ensures)
+
+indexed : (g : _) (c : After-add g) → ListsServed c.self.inside.ground c.self.inside.facts c.turn.new.self c.add.new.self
 indexed g c = may (turned c.self.inside.queue c.turn.new.self c.self.invariant.1 c.turn.ensures.served c.turn.ensures.kept) c.add.ensures.may c.get-fact.ensures (in_most c.turn.new.self.served c.turn.new.self.hand c.in-Some.hand (handed g c))
 
 pub invariant_of-self-in_default-add : goal.invariant_of-self-in_default-add
@@ -45,8 +50,11 @@ pub invariant_of-self-in_err-serve : goal.invariant_of-self-in_err-serve
 invariant_of-self-in_err-serve g c =
     let d = goal.at.invariant_of-self-in_err-serve g c in
     let s = (kept g d.After-turn).0 in
-    let grows = subst (λ (k : Problem). Grows k c.args.max_facts c.self.inside.facts c.serve.new.facts) c.problem.ensures c.serve.ensures.grows in
+    let grows = subst (λ (k : Problem). Grows k c.args.max_facts c.self.inside.facts c.serve.new.facts) c.problem-problem.ensures c.serve.ensures.grows in
     (grown s grows (omega (arith, c.turn.ensures.queued, ap length c.as_slice.ensures.value)) refl, still_listed grows s.within (indexed g d.After-add))
+
+pub finish-requires : goal.finish-requires
+finish-requires g c = λ none. none-some c.in-Some.hand (sym none ∙ handed g (goal.at.finish-requires g c).After-add)
 
 pub invariant_of-self-2 : goal.invariant_of-self-2
 invariant_of-self-2 g c =
@@ -55,13 +63,14 @@ invariant_of-self-2 g c =
     let n = c.in-Some.hand in
     let f = c.get-fact.result in
     let new = c.serve.new.facts in
-    let grows = subst (λ (k : Problem). Grows k c.args.max_facts c.self.inside.facts new) c.problem.ensures c.serve.ensures.grows in
-    let alone = subst (λ (k : Problem). Drawn k (f ∷ []) new.facts) c.problem.ensures c.in_ok-serve.ensures.alone in
-    let met = subst (λ (k : Problem). AllListedAreMet k f c.self.inside.facts.facts c.add.new.self new) c.problem.ensures c.in_ok-serve.ensures.met in
-    let whole = listed (indexed g d.After-add) c.get-fact.ensures c.in-Ok.ensures.ok in (
+    let grows = subst (λ (k : Problem). Grows k c.args.max_facts c.self.inside.facts new) c.problem-problem.ensures c.serve.ensures.grows in
+    let alone = subst (λ (k : Problem). Drawn k (f ∷ []) new.facts) c.problem-problem.ensures c.in_ok-serve.ensures.alone in
+    let met = subst (λ (k : Problem). AllListedAreMet k f c.self.inside.facts.facts c.add.new.self new) c.problem-problem.ensures c.in_ok-serve.ensures.met in
+    let served : c.finish.new.self.served ≡ c.turn.new.self.served ++ n ∷ [] = c.finish.ensures.served ∙ in_most c.turn.new.self.served c.turn.new.self.hand n (handed g d.After-add) in
+    let whole = listed (indexed g d.After-add) c.get-fact.ensures c.in-Ok.ensures.ok (spared g d.After-add) in (
       one_served s grows n f c.get-fact.ensures alone
-          (λ m t h at. all_met whole new m t f h met at)
+          (λ m t h at. all_met whole grows m t f h met at)
           (omega (arith, c.finish.ensures.queued, c.turn.ensures.queued, ap length c.as_slice.ensures.value))
-          c.finish.ensures.served,
-      finish_listed c.turn.new.self c.finish.new.self (indexed g d.After-add) (handed g d.After-add) c.get-fact.ensures c.in-Ok.ensures.ok grows s.within c.finish.ensures.served,
+          served,
+      finish_listed c.turn.new.self c.finish.new.self (indexed g d.After-add) (handed g d.After-add) c.get-fact.ensures c.in-Ok.ensures.ok (spared g d.After-add) grows s.within served,
     )
