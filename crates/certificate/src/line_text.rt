@@ -107,7 +107,7 @@ impl LineText {
     pub fn bounded(&self)
         ensures { length self.now < 2 ^ 64 }
     {
-        let _count = self.len();
+        self.len();
     }
 
     /// Adds a line.

@@ -5,7 +5,7 @@ ghost use Rattle.saturate.specs.declared.known_facts.Stop.TheVariants as stops;
 ghost use Rattle.std.specs.Prelude.{◌≡◌, ◌↔◌, ◌<◌, ◌^◌, ◌++◌, ◌∷◌, Some, [], length, map, take, slice_get, Contains, Err, IfOk, IsTrue, OnOk, OnErr};
 
 use axioms::Memory;
-use facts::{Birth, Fact, Older};
+use facts::{Birth, Fact};
 use form_index::IndexedProblem;
 use indexmap::IndexSet;
 use std::alloc::Global;
@@ -107,7 +107,7 @@ impl KnownFacts {
         requires { number < length self.now.births }
         ensures { (r : Reason) → slice_get self.now.births number ≡ Some r → (IsTrue result ↔ (r.form ≡ Some form)) }
     {
-        self.birth(number).form == Some(form)
+        self.birth(number).form() == Some(form)
     }
 
     /// The facts, and what gave them, without the table that finds a fact.
@@ -172,11 +172,7 @@ impl KnownFacts {
         if self.len() >= max_facts as usize {
             return Err(Stop::Limit);
         }
-        let birth = Birth {
-            condition,
-            older: Older::new(older),
-            form,
-        };
+        let birth = Birth::new(condition, older, form);
         self.push(fact, birth)?;
         Ok(())
     }
