@@ -64,14 +64,14 @@ pub(crate) fn shown_by_axiom<L: LineSink>(
     requires derivation { IsDerivation ontology.now derivation.old }
     requires older { AreOlderShown saturation.now derivation.old shown.now fact.0 }
     requires birth { slice_get saturation.now.state.births fact.0 ≡ Some (reason birth.now) }
-    requires origin { (n : ℕ) × (birth.now.form ≡ Some n) × (option_map origin_in (slice_get saturation.now.normal.entries n) ≡ Some (origins.Axiom number)) }
+    requires origin { (n : ℕ) × ((reason birth.now).form ≡ Some n) × (option_map origin_in (slice_get saturation.now.normal.entries n) ≡ Some (origins.Axiom number)) }
     ensures derivation { OnOk result (IsDerivation ontology.now derivation.new) }
     ensures longer { OnOk result (Lengthens derivation.old derivation.new) }
     ensures shown { IfOk result (λ numbers. (f : Fact2) → slice_get saturation.now.state.facts fact.0 ≡ Some f → AreShowing (beginnings_of saturation.now.normal) derivation.new numbers.items f) }
     ensures used { IfOk result (λ numbers. EachIsUsed saturation.now shown.now fact.0 derivation.old derivation.new numbers.items) }
 {
     ontology.well_formed();
-    let Some(form) = birth.form else {
+    let Some(form) = birth.form() else {
         unreachable!()
     };
     let Some(stated) = ontology.axiom(number) else {

@@ -59,14 +59,14 @@ pub(crate) fn shown_by_expression<L: LineSink>(
     requires derivation { IsDerivation ontology.now derivation.old }
     requires older { AreOlderShown saturation.now derivation.old shown.now fact.0 }
     requires birth { slice_get saturation.now.state.births fact.0 ≡ Some (reason birth.now) }
-    requires origin { (n : ℕ) × (birth.now.form ≡ Some n) × (option_map origin_in (slice_get saturation.now.normal.entries n) ≡ Some (origins.Expr whole)) }
+    requires origin { (n : ℕ) × ((reason birth.now).form ≡ Some n) × (option_map origin_in (slice_get saturation.now.normal.entries n) ≡ Some (origins.Expr whole)) }
     ensures derivation { OnOk result (IsDerivation ontology.now derivation.new) }
     ensures longer { OnOk result (Lengthens derivation.old derivation.new) }
     ensures shown { IfOk result (λ numbers. (f : Fact2) → slice_get saturation.now.state.facts fact.0 ≡ Some f → AreShowing (beginnings_of saturation.now.normal) derivation.new numbers.items f) }
     ensures used { IfOk result (λ numbers. EachIsUsed saturation.now shown.now fact.0 derivation.old derivation.new numbers.items) }
 {
     ontology.well_formed();
-    let Some(number) = birth.form else {
+    let Some(number) = birth.form() else {
         unreachable!()
     };
     let form = saturation.normal().forms()[number as usize];
@@ -77,7 +77,7 @@ pub(crate) fn shown_by_expression<L: LineSink>(
         paths,
         derivation,
         shown,
-        birth.older,
+        birth.older(),
         &form,
     )?;
     let fact = saturation.facts()[fact.0 as usize];

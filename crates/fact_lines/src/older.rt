@@ -32,9 +32,9 @@ fn first_alone(older: Older) -> Older
 pub fn rests_on(normal: &Normal, birth: &Birth) -> Older
     ensures { numbers_of result ≡ rests_on normal.now.entries (reason birth.now) }
 {
-    match birth.condition {
+    match birth.condition() {
         1 | 10 => Older::None,
-        7 if is_by_axiom(normal, birth.form) => first_alone(birth.older),
-        _ => birth.older,
+        7 if is_by_axiom(normal, birth.form()) => first_alone(birth.older()),
+        _ => birth.older(),
     }
 }

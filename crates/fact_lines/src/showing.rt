@@ -48,8 +48,8 @@ fn shown_of_context<L: LineSink>(
     requires there { fact.0 < length saturation.now.state.facts }
     requires derivation { IsDerivation ontology.now derivation.old }
     requires birth { slice_get saturation.now.state.births fact.0 ≡ Some (reason birth.now) }
-    requires form { birth.now.form ≡ None }
-    requires condition { birth.now.condition ≡ 8 → ⊥ }
+    requires form { (reason birth.now).form ≡ None }
+    requires condition { (reason birth.now).condition ≡ 8 → ⊥ }
     ensures derivation { OnOk result (IsDerivation ontology.now derivation.new) }
     ensures longer { OnOk result (Lengthens derivation.old derivation.new) }
     ensures shown { IfOk result (λ numbers. (f : Fact2) → slice_get saturation.now.state.facts fact.0 ≡ Some f → AreShowing (beginnings_of saturation.now.normal) derivation.new numbers.items f) }
@@ -76,13 +76,13 @@ fn shown_by_target<L: LineSink>(
     requires derivation { IsDerivation ontology.now derivation.old }
     requires older { AreOlderShown saturation.now derivation.old shown.now fact.0 }
     requires birth { slice_get saturation.now.state.births fact.0 ≡ Some (reason birth.now) }
-    requires condition { birth.now.condition ≡ 8 }
+    requires condition { (reason birth.now).condition ≡ 8 }
     ensures derivation { OnOk result (IsDerivation ontology.now derivation.new) }
     ensures longer { OnOk result (Lengthens derivation.old derivation.new) }
     ensures shown { IfOk result (λ numbers. (f : Fact2) → slice_get saturation.now.state.facts fact.0 ≡ Some f → AreShowing (beginnings_of saturation.now.normal) derivation.new numbers.items f) }
     ensures used { IfOk result (λ numbers. EachIsUsed saturation.now shown.now fact.0 derivation.old derivation.new numbers.items) }
 {
-    let Older::Two(edge, class) = birth.older else {
+    let Older::Two(edge, class) = birth.older() else {
         unreachable!()
     };
     let walk = shown.at(edge.0 as usize);
@@ -109,13 +109,13 @@ fn shown_without_form<L: LineSink>(
     requires derivation { IsDerivation ontology.now derivation.old }
     requires older { AreOlderShown saturation.now derivation.old shown.now fact.0 }
     requires birth { slice_get saturation.now.state.births fact.0 ≡ Some (reason birth.now) }
-    requires form { birth.now.form ≡ None }
+    requires form { (reason birth.now).form ≡ None }
     ensures derivation { OnOk result (IsDerivation ontology.now derivation.new) }
     ensures longer { OnOk result (Lengthens derivation.old derivation.new) }
     ensures shown { IfOk result (λ numbers. (f : Fact2) → slice_get saturation.now.state.facts fact.0 ≡ Some f → AreShowing (beginnings_of saturation.now.normal) derivation.new numbers.items f) }
     ensures used { IfOk result (λ numbers. EachIsUsed saturation.now shown.now fact.0 derivation.old derivation.new numbers.items) }
 {
-    if birth.condition == 8 {
+    if birth.condition() == 8 {
         let numbers = shown_by_target(alloc, ontology, saturation, derivation, shown, fact, birth)?;
         return Ok(numbers);
     }
@@ -151,7 +151,7 @@ pub fn show<L: LineSink>(
     let Some(birth) = saturation.born(fact) else {
         unreachable!()
     };
-    let Some(form) = birth.form else {
+    let Some(form) = birth.form() else {
         let numbers = shown_without_form(
             alloc, ontology, saturation, derivation, shown, fact, birth,
         )?;

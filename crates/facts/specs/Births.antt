@@ -1,5 +1,5 @@
 -- What gave a fact, by the numbers of older facts.
-use Rattle.std.specs.Prelude.{◌≡◌, ℕ, List, [], ◌∷◌, slice_get, map, Option, Some}
+use Rattle.std.specs.Prelude.{◌≡◌, ℕ, List, [], ◌∷◌, slice_get, take, map, if◌then◌else◌, Option, Some, None}
 use Rattle.facts.specs.declared.births.Birth.{Birth}
 use Rattle.facts.specs.declared.births.Older as code
 use Rattle.facts.specs.declared.births.Older.TheVariants as older
@@ -17,8 +17,12 @@ pub record Reason : Type 0 where
   pub older : List ℕ
   pub form : Option ℕ
 
-abbrev pub reason : Birth → Reason
-reason b = record { condition = b.condition; older = numbers_of b.older; form = b.form }
+unfoldable pub reason : Birth → Reason
+reason b = record {
+  condition = b.condition;
+  older = take b.older_count (b.first ∷ b.second ∷ []);
+  form = if b.has_form then Some b.form else None;
+}
 
 -- the reason gives the fact, from facts that are there
 abbrev pub IsBirth : Problem → List Fact → Fact → Reason → Type 0

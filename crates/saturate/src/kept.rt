@@ -80,12 +80,13 @@ impl Kept {
         self.facts.len()
     }
 
-    /// Each fact is there once, born of older ones, and they are the closure.
+    /// Each fact is there once, born of older ones, and they are the closure. All are served.
     pub fn well_formed(&self)
         ensures born { AreBorn self.now }
         ensures closure { IsClosure self.now.problem self.now.facts }
+        ensures served { length self.now.served ≡ length self.now.facts }
     {
-        let _count = self.facts.len();
+        let _ = &self.facts;
     }
 
     /// Serves nothing more: all facts are served.

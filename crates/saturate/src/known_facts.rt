@@ -5,7 +5,7 @@ ghost use Rattle.saturate.specs.declared.known_facts.Stop.TheVariants as stops;
 ghost use Rattle.std.specs.Prelude.{◌≡◌, ◌↔◌, ◌<◌, ◌^◌, ◌++◌, ◌∷◌, Some, [], length, map, take, slice_get, Contains, Err, IfOk, IsTrue, OnOk, OnErr};
 
 use axioms::Memory;
-use facts::{Birth, Fact, Older};
+use facts::{Birth, Fact};
 use form_index::IndexedProblem;
 use indexmap::IndexSet;
 use std::alloc::Global;
@@ -164,11 +164,7 @@ impl KnownFacts {
         if self.len() >= max_facts as usize {
             return Err(Stop::Limit);
         }
-        let birth = Birth {
-            condition,
-            older: Older::new(older),
-            form,
-        };
+        let birth = Birth::new(condition, older, form);
         self.push(fact, birth)?;
         Ok(())
     }

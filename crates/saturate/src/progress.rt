@@ -139,7 +139,7 @@ impl<W: WorkList> Progress<W> {
         match stage {
             Stage::Growing(state) => {
                 let kept = state.kept()?;
-                let _count = kept.served();
+                kept.well_formed();
                 Ok(Progress {
                     stage: Stage::Kept(kept),
                 })

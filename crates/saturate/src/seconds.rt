@@ -95,7 +95,7 @@ fn is_given(problem: &IndexedProblem, facts: &KnownFacts, number: u32, property:
     requires number { number < length facts.now.facts }
     ensures { result ≡ true → (f : Fact2) → slice_get facts.now.facts number ≡ Some f → IsGivenBy problem.now facts.now property f }
 {
-    match facts.birth(number).form {
+    match facts.birth(number).form() {
         Some(form) => makes_transitive(problem, form, property),
         None => false,
     }

@@ -165,9 +165,9 @@ fn is_born<W: WorkList>(state: &State<W>, born: &Born) -> bool {
     };
     match state.born(FactId(number)) {
         Some(birth) => {
-            birth.condition == born.condition
-                && birth.form == Some(born.form)
-                && matches!(birth.older, Older::Two(_, _))
+            birth.condition() == born.condition
+                && birth.form() == Some(born.form)
+                && matches!(birth.older(), Older::Two(_, _))
         }
         None => false,
     }
