@@ -12,9 +12,10 @@ use Rattle.fs_parser.specs.Document.{AreDeclarations}
 use Rattle.fs_parser.specs.Name.{Prefixes}
 use Rattle.fs_parser.specs.Tree.{AreTrees, IsTree, Tree, Trees, Empty, Then, Name, PlainLiteral, TaggedLiteral, TypedLiteral, Anonymous, Number, Group, Form}
 use Rattle.shapes.specs.Faults.{count_of}
+use Rattle.shapes.specs.declared.version.Version.TheVariants.{One}
 use Rattle.shapes.specs.Shapes.{Says, row}
 use Rattle.shapes.specs.Stated.{Stated, meaning, said, statement_in}
-use Rattle.statements.specs.Statements.{statement_of, statements}
+use Rattle.profile.specs.Statements.{statement_of, statements}
 
 -- ---- tokens take bytes
 
@@ -71,17 +72,17 @@ said_once : (says : Says) (trees : Trees) → length (said says trees) ≤ 1
 said_once None trees = omega arith
 said_once (Some says) trees = omega arith
 
-one_stated : (tree : Tree) → length (statement_of tree) ≤ 1
-one_stated tree = go (statement_in tree)
+one_stated : (tree : Tree) → length (statement_of One tree) ≤ 1
+one_stated tree = go (statement_in One tree)
   where
     go : (stated : Option Stated) → length (meaning stated) ≤ 1
     go None = omega arith
     go (Some stated) = said_once (row stated.0).2 stated.1
 
-all_stated : (trees : Trees) → length (statements trees) ≤ count_of trees
+all_stated : (trees : Trees) → length (statements One trees) ≤ count_of trees
 all_stated Empty = omega arith
 all_stated (Then first rest) =
-    omega (arith, one_stated first, all_stated rest, length-append (statement_of first) (statements rest))
+    omega (arith, one_stated first, all_stated rest, length-append (statement_of One first) (statements One rest))
 
 one_more : {B : Type 0} (y : Option B) (ys : List B) → length (cons_option y ys) ≤ length ys + 1
 one_more (Some y) ys = omega arith
@@ -105,7 +106,7 @@ axioms_take_bytes bytes o r =
       length-append closed.inner (closed.closing ∷ []),
       trees_take _ trees closed.inner closed.are_trees,
       all_stated trees,
-      filtered logical_axiom (statements trees),
+      filtered logical_axiom (statements One trees),
       ap length r.read.ontology.axioms,
       length-map o.axioms (axiom_tree o),
     )

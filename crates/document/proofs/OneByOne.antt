@@ -12,7 +12,9 @@ use Rattle.fs_parser.specs.TreesLeft.{AreLeft, IsFirst, IsStartOf, TextLeft}
 use Rattle.fs_parser.specs.View.{trees_from}
 use Rattle.profile.specs.Reading.{AreReadAs}
 use Rattle.profile.specs.Reading as profile
-use Rattle.profile.specs.Taking.{AreTaken, Taken}
+use Rattle.profile.specs.Taking.{AreTaken, AreTakenBehind, Taken, of_document}
+use Rattle.shapes.specs.declared.version.Version.{Version}
+use Rattle.shapes.specs.declared.version.Version.TheVariants.{One}
 use Rattle.profile.specs.declared.acceptance.Refusal.{Refusal}
 use Rattle.profile.specs.declared.acceptance.Refusal.TheVariants as refusing
 use Rattle.document.specs.Documents.{AreTextOf, IsTaken, ReadsAs}
@@ -25,18 +27,18 @@ use Rattle.document.specs.Streaming.{AllTaken, IsAnswerTo}
 pub record AreTakenSoFar (start left : TextLeft) (old now : Taken) : Type 0 where
   pub trees : List Tree
   pub left_are : (more : List Tree) → AreLeft left more → AreLeft start (trees ++ more)
-  pub taken : (before : List Tree) → AreTaken before old → AreTaken (before ++ trees) now
+  pub taken : (before : List Tree) → AreTaken (of_document One) before old → AreTaken (of_document One) (before ++ trees) now
 
 pub none_so_far : (left : TextLeft) (old : Taken) → AreTakenSoFar left left old old
-none_so_far left old = record { trees = []; left_are = λ more h. h; taken = λ before h. subst (λ (ts : List Tree). AreTaken ts old) (sym (append-nil before)) h }
+none_so_far left old = record { trees = []; left_are = λ more h. h; taken = λ before h. subst (λ (ts : List Tree). AreTaken (of_document One) ts old) (sym (append-nil before)) h }
 
 pub one_more_taken : (start left next : TextLeft) (old now new : Taken) (tree : Tree) → AreTakenSoFar start left old now → IsFirst left tree next
-    → ((trees : List Tree) → AreTaken trees now → AreTaken (trees ++ tree ∷ []) new) → AreTakenSoFar start next old new
+    → AreTakenBehind (tree ∷ []) now new → AreTakenSoFar start next old new
 one_more_taken start left next old now new tree h first more =
     record {
       trees = h.trees ++ tree ∷ [];
       left_are = λ others k. subst (AreLeft start) (sym (append_assoc h.trees (tree ∷ []) others)) (h.left_are (tree ∷ others) (first.others others k));
-      taken = λ before k. subst (λ (ts : List Tree). AreTaken ts new) (append_assoc before h.trees (tree ∷ [])) (more (before ++ h.trees) (h.taken before k));
+      taken = λ before k. subst (λ (ts : List Tree). AreTaken (of_document One) ts new) (append_assoc before h.trees (tree ∷ [])) (more (of_document One) (before ++ h.trees) (h.taken before k));
     }
 
 pub all_so_far : (start left : TextLeft) (old now : Taken) → AreTakenSoFar start left old now → AreLeft left [] → AllTaken start old now
@@ -45,11 +47,11 @@ all_so_far start left old now h none =
 
 -- ---- the answer
 
-pub answered : (left : TextLeft) (old now : Taken) (answer : Result Ontology Refusal) → AreTaken [] old → AllTaken left old now
-    → IfOk answer (λ o. (trees : List Tree) → AreTaken trees now → AreReadAs (trees_from trees) o)
-    → IfErr answer (λ r. (trees : List Tree) → AreTaken trees now → profile.Refuses r (trees_from trees)) → IsAnswerTo left answer
-answered left old now (Ok o) none h read refused = record { trees = h.trees; left_are = h.left_are; read = read h.trees (h.taken [] none); refused = tt }
-answered left old now (Err r) none h read refused = record { trees = h.trees; left_are = h.left_are; read = tt; refused = refused h.trees (h.taken [] none) }
+pub answered : (left : TextLeft) (old now : Taken) (answer : Result Ontology Refusal) → AreTaken (of_document One) [] old → AllTaken left old now
+    → IfOk answer (λ o. (version : Version) (trees : List Tree) → AreTaken (of_document version) trees now → AreReadAs version (trees_from trees) o)
+    → IfErr answer (λ r. (version : Version) (trees : List Tree) → AreTaken (of_document version) trees now → profile.Refuses r version (trees_from trees)) → IsAnswerTo left answer
+answered left old now (Ok o) none h read refused = record { trees = h.trees; left_are = h.left_are; read = read One h.trees (h.taken [] none); refused = tt }
+answered left old now (Err r) none h read refused = record { trees = h.trees; left_are = h.left_are; read = tt; refused = refused One h.trees (h.taken [] none) }
 
 module _ (text : List ℕ) (utf8 : IsUtf8 text) (left : TextLeft) (start : IsStartOf text left) where
   abbrev the_document : List Tree → Document

@@ -10,8 +10,9 @@ use Rattle.fs_parser.specs.declared.fault.ParseFault.{ParseFault}
 use Rattle.profile.specs.Reading.{HasFewNames, HaveTooManyNames, class_names}
 use Rattle.shapes.specs.Faults as shapes
 use Rattle.shapes.specs.View.{faults_of}
+use Rattle.shapes.specs.declared.version.Version.TheVariants.{One}
 use Rattle.shapes.specs.declared.fault.Fault.{Fault}
-use Rattle.statements.specs.Statements.{statements}
+use Rattle.profile.specs.Statements.{statements}
 use Rattle.document.specs.declared.fault.DocumentFault.TheVariants as faults
 use Rattle.document.specs.Faults.{AreNoDocument, HaveFaults, ReadAsNone, StateTooManyNames}
 use Rattle.document.specs.Theorems.{RefusedBytesReadAsNone, RefusedSourcesReadAsNone}
@@ -29,7 +30,7 @@ no_faults (f ∷ fs) e = cc
 faulty : (bytes : List ℕ) (found : List Fault) → HaveFaults bytes found → ReadAsNone bytes
 faulty bytes found h o r =
     let same : r.document ≡ h.document = one_document bytes r.document h.document r.text h.text in
-    h.some (no_faults found (sym r.read.faultless ∙ ap (λ (d : Document). shapes.document_faults d.trees) same ∙ h.all))
+    h.some (no_faults found (sym r.read.faultless ∙ ap (λ (d : Document). shapes.document_faults One d.trees) same ∙ h.all))
 
 -- an ontology has the names of its statements
 class_names_are : (ss : List Statement) (o : Ontology) → IsOntologyOf ss o → o.names.classes ≡ class_names ss
@@ -42,9 +43,9 @@ few_names ss o h few (inr (inr many)) = omega (arith, many, few.individuals, ap 
 
 too_many : (bytes : List ℕ) → StateTooManyNames bytes → ReadAsNone bytes
 too_many bytes h o r =
-    let P : Document → Type 0 = λ d. IsOntologyOf (statements d.trees) o in
+    let P : Document → Type 0 = λ d. IsOntologyOf (statements One d.trees) o in
     let same : r.document ≡ h.document = one_document bytes r.document h.document r.text h.text in
-    few_names (statements h.document.trees) o (subst P same r.read.ontology) r.read.few_names h.many
+    few_names (statements One h.document.trees) o (subst P same r.read.ontology) r.read.few_names h.many
 
 pub bytes_read_as_none : RefusedBytesReadAsNone
 bytes_read_as_none bytes (faults.NotUtf8 at) h not = λ o r. h.0 r.text.utf8

@@ -7,6 +7,7 @@ use Rattle.axioms.specs.WellFormed.{IsOntology}
 use Rattle.fs_lexer.specs.Spelling.{Token, Spells}
 use Rattle.fs_parser.specs.Document.{Document, IsDocument}
 use Rattle.profile.specs.Reading.{AreReadAs, HasFewNames}
+use Rattle.shapes.specs.declared.version.Version.TheVariants.{One}
 
 -- the bytes are the text of the document
 pub record AreTextOf (bytes : List ℕ) (document : Document) : Type 0 where
@@ -19,7 +20,7 @@ pub record AreTextOf (bytes : List ℕ) (document : Document) : Type 0 where
 pub record ReadsAs (bytes : List ℕ) (o : Ontology) : Type 0 where
   pub document : Document
   pub text : AreTextOf bytes document
-  pub read : AreReadAs document.trees o
+  pub read : AreReadAs One document.trees o
   pub well_formed : IsOntology o
 
 -- what holds of every ontology that is read, also of a source that does not tell its bytes: it is well formed, and that of

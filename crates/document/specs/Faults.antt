@@ -17,7 +17,8 @@ use Rattle.profile.specs.declared.acceptance.Refusal.TheVariants as refusing
 use Rattle.shapes.specs.Faults.{document_faults}
 use Rattle.shapes.specs.View.{faults_of}
 use Rattle.shapes.specs.declared.fault.Fault.{Fault}
-use Rattle.statements.specs.Statements.{statements}
+use Rattle.shapes.specs.declared.version.Version.TheVariants.{One}
+use Rattle.profile.specs.Statements.{statements}
 use Rattle.document.specs.declared.fault.DocumentFault.{DocumentFault}
 use Rattle.document.specs.declared.fault.DocumentFault.TheVariants.{NotUtf8, TooLarge, Io, Lex, Parse, Faults, TooManyNames, Memory}
 use Rattle.document.specs.Documents.{AreTextOf, ReadsAs}
@@ -60,15 +61,15 @@ pub record AreNoDocument (bytes : List ℕ) (fault : ParseFault) : Type 0 where
 pub record HaveFaults (bytes : List ℕ) (found : List Fault) : Type 0 where
   pub document : Document
   pub text : AreTextOf bytes document
-  pub all : document_faults document.trees ≡ faults_of found
+  pub all : document_faults One document.trees ≡ faults_of found
   pub some : ¬ (found ≡ [])
 
 -- the bytes are the text of a document without faults, whose statements have of a kind more names than there may be
 pub record StateTooManyNames (bytes : List ℕ) : Type 0 where
   pub document : Document
   pub text : AreTextOf bytes document
-  pub faultless : document_faults document.trees ≡ []
-  pub many : HaveTooManyNames (statements document.trees)
+  pub faultless : document_faults One document.trees ≡ []
+  pub many : HaveTooManyNames (statements One document.trees)
 
 -- what the fault says of the bytes
 abbrev pub Refuses : DocumentFault → List ℕ → Type 0

@@ -8,12 +8,13 @@ use Rattle.lemmas.proofs.Members.{slice_get-from_Contains}
 use Rattle.axioms.specs.WellFormed.{AreDistinct}
 use Rattle.axioms.proofs.Growing.{AreDistinct-push}
 use Rattle.fs_parser.specs.Tree.{Tree, Trees, Empty, Then}
+use Rattle.shapes.specs.declared.version.Version.{Version}
 use Rattle.shapes.specs.Faults.{faults, faults_in}
 use Rattle.shapes.specs.SameTree.{same_tree}
 use Rattle.shapes.specs.Shapes.{Many}
 use Rattle.shapes.specs.declared.expected.Expected.{Expected}
 use Rattle.shapes.specs.declared.expected.Expected.TheVariants.{ClassExpression, Property}
-use Rattle.statements.specs.Statements.{class_of, classes_of, iri_of, iris_of}
+use Rattle.profile.specs.Statements.{class_of, classes_of, iri_of, iris_of}
 use Rattle.profile.proofs.Faultless.{operand_parts}
 use Rattle.profile.proofs.NameTrees.{property_name}
 use Rattle.profile.proofs.SameClass.{same_class, same_name}
@@ -21,42 +22,6 @@ use Rattle.profile.proofs.SameClass.{same_class, same_name}
 abbrev listed : Trees → List Tree
 listed Empty = []
 listed (Then t ts) = t ∷ listed ts
-
-abbrev HaveNoFaults : Expected → List Tree → Type 0
-HaveNoFaults expected [] = Unit {0}
-HaveNoFaults expected (t ∷ ts) = (faults expected t ≡ []) × HaveNoFaults expected ts
-
-one_more : (expected : Expected) (ts : List Tree) (t : Tree) → HaveNoFaults expected ts → faults expected t ≡ [] → HaveNoFaults expected (ts ++ t ∷ [])
-one_more expected [] t h k = (k, tt)
-one_more expected (u ∷ us) t h k = (h.0, one_more expected us t h.1 k)
-
--- trees without faults that mean the same are the same
-abbrev IsTold : {A : Type 0} → Expected → (Tree → A) → Type 0
-IsTold expected view = (t u : Tree) → faults expected t ≡ [] → faults expected u ≡ [] → view t ≡ view u → same_tree t u ≡ true
-
-module _ {A : Type 0} (expected : Expected) (view : Tree → A) (told : IsTold expected view) where
-  -- a tree that equals none of those before it means what none of them does
-  is_new : (t : Tree) → faults expected t ≡ [] → (earlier : List Tree) → HaveNoFaults expected earlier → list_any (same_tree t) earlier ≡ false → (n : ℕ) → slice_get (map view earlier) n ≡ Some (view t) → ⊥
-  is_new t h [] k fresh n e = none-some (view t) e
-  is_new t h (u ∷ us) k fresh zero e =
-      both_ways (same_tree t u) (or_parts (same_tree t u) (list_any (same_tree t) us) fresh).0 (told t u h k.0 (sym (same_Some (view u) (view t) e)))
-  is_new t h (u ∷ us) k fresh (suc n) e = is_new t h us k.1 (or_parts (same_tree t u) (list_any (same_tree t) us) fresh).1 n e
-
-  distinct_behind : (earlier : List Tree) (ts : Trees) → HaveNoFaults expected earlier → AreDistinct (map view earlier) → faults_in false earlier (Many true expected) ts ≡ [] →
-      AreDistinct (map view earlier ++ map view (listed ts))
-  distinct_behind earlier Empty k distinct h = subst AreDistinct (sym (append-nil (map view earlier))) distinct
-  distinct_behind earlier (Then t ts) k distinct h =
-      let parts = operand_parts earlier (Many true expected) t ts h in
-      let new : Contains (map view earlier) (view t) → ⊥ = λ c. let at = slice_get-from_Contains (map view earlier) (view t) c in is_new t parts.faultless earlier k parts.fresh at.0 at.1 in
-      let pushed : AreDistinct (map view (earlier ++ t ∷ [])) = subst AreDistinct (sym (map-append view earlier (t ∷ []))) (AreDistinct-push (map view earlier) (view t) distinct new) in
-      let whole = distinct_behind (earlier ++ t ∷ []) ts (one_more expected earlier t k parts.faultless) pushed parts.later in
-      subst AreDistinct (ap (λ (xs : List A). xs ++ map view (listed ts)) (map-append view earlier (t ∷ [])) ∙ append_assoc (map view earlier) (view t ∷ []) (map view (listed ts))) whole
-
-  none_distinct : AreDistinct {A = A} []
-  none_distinct m n x g h = absurd (none-some x g)
-
-  distinct_views : (ts : Trees) → faults_in false [] (Many true expected) ts ≡ [] → AreDistinct (map view (listed ts))
-  distinct_views ts h = distinct_behind [] ts tt none_distinct h
 
 classes_are : (ts : Trees) → map class_of (listed ts) ≡ classes_of ts
 classes_are Empty = refl
@@ -66,10 +31,47 @@ iris_are : (ts : Trees) → map iri_of (listed ts) ≡ iris_of ts
 iris_are Empty = refl
 iris_are (Then t ts) = ap (λ iris. iri_of t ∷ iris) (iris_are ts)
 
-pub distinct_classes : (ts : Trees) → faults_in false [] (Many true ClassExpression) ts ≡ [] → AreDistinct (classes_of ts)
-distinct_classes ts h = subst AreDistinct (classes_are ts) (distinct_views ClassExpression class_of same_class ts h)
+module _ (version : Version) where
+  abbrev HaveNoFaults : Expected → List Tree → Type 0
+  HaveNoFaults expected [] = Unit {0}
+  HaveNoFaults expected (t ∷ ts) = (faults version expected t ≡ []) × HaveNoFaults expected ts
 
-pub distinct_properties : (ts : Trees) → faults_in false [] (Many true Property) ts ≡ [] → AreDistinct (iris_of ts)
-distinct_properties ts h =
-    let told : IsTold Property iri_of = λ t u f g e. same_name t u (property_name t f) (property_name u g) e in
-    subst AreDistinct (iris_are ts) (distinct_views Property iri_of told ts h)
+  one_more : (expected : Expected) (ts : List Tree) (t : Tree) → HaveNoFaults expected ts → faults version expected t ≡ [] → HaveNoFaults expected (ts ++ t ∷ [])
+  one_more expected [] t h k = (k, tt)
+  one_more expected (u ∷ us) t h k = (h.0, one_more expected us t h.1 k)
+
+  -- trees without faults version that mean the same are the same
+  abbrev IsTold : {A : Type 0} → Expected → (Tree → A) → Type 0
+  IsTold expected view = (t u : Tree) → faults version expected t ≡ [] → faults version expected u ≡ [] → view t ≡ view u → same_tree t u ≡ true
+
+  module _ {A : Type 0} (expected : Expected) (view : Tree → A) (told : IsTold expected view) where
+    -- a tree that equals none of those before it means what none of them does
+    is_new : (t : Tree) → faults version expected t ≡ [] → (earlier : List Tree) → HaveNoFaults expected earlier → list_any (same_tree t) earlier ≡ false → (n : ℕ) → slice_get (map view earlier) n ≡ Some (view t) → ⊥
+    is_new t h [] k fresh n e = none-some (view t) e
+    is_new t h (u ∷ us) k fresh zero e =
+        both_ways (same_tree t u) (or_parts (same_tree t u) (list_any (same_tree t) us) fresh).0 (told t u h k.0 (sym (same_Some (view u) (view t) e)))
+    is_new t h (u ∷ us) k fresh (suc n) e = is_new t h us k.1 (or_parts (same_tree t u) (list_any (same_tree t) us) fresh).1 n e
+
+    distinct_behind : (earlier : List Tree) (ts : Trees) → HaveNoFaults expected earlier → AreDistinct (map view earlier) → faults_in version false earlier (Many true expected) ts ≡ [] →
+        AreDistinct (map view earlier ++ map view (listed ts))
+    distinct_behind earlier Empty k distinct h = subst AreDistinct (sym (append-nil (map view earlier))) distinct
+    distinct_behind earlier (Then t ts) k distinct h =
+        let parts = operand_parts version earlier (Many true expected) t ts h in
+        let new : Contains (map view earlier) (view t) → ⊥ = λ c. let at = slice_get-from_Contains (map view earlier) (view t) c in is_new t parts.faultless earlier k parts.fresh at.0 at.1 in
+        let pushed : AreDistinct (map view (earlier ++ t ∷ [])) = subst AreDistinct (sym (map-append view earlier (t ∷ []))) (AreDistinct-push (map view earlier) (view t) distinct new) in
+        let whole = distinct_behind (earlier ++ t ∷ []) ts (one_more expected earlier t k parts.faultless) pushed parts.later in
+        subst AreDistinct (ap (λ (xs : List A). xs ++ map view (listed ts)) (map-append view earlier (t ∷ [])) ∙ append_assoc (map view earlier) (view t ∷ []) (map view (listed ts))) whole
+
+    none_distinct : AreDistinct {A = A} []
+    none_distinct m n x g h = absurd (none-some x g)
+
+    distinct_views : (ts : Trees) → faults_in version false [] (Many true expected) ts ≡ [] → AreDistinct (map view (listed ts))
+    distinct_views ts h = distinct_behind [] ts tt none_distinct h
+
+  pub distinct_classes : (ts : Trees) → faults_in version false [] (Many true ClassExpression) ts ≡ [] → AreDistinct (classes_of ts)
+  distinct_classes ts h = subst AreDistinct (classes_are ts) (distinct_views ClassExpression class_of (same_class version) ts h)
+
+  pub distinct_properties : (ts : Trees) → faults_in version false [] (Many true Property) ts ≡ [] → AreDistinct (iris_of ts)
+  distinct_properties ts h =
+      let told : IsTold Property iri_of = λ t u f g e. same_name t u (property_name version t f) (property_name version u g) e in
+      subst AreDistinct (iris_are ts) (distinct_views Property iri_of told ts h)

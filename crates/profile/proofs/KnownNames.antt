@@ -6,26 +6,24 @@ use Rattle.std.proofs.lemmas.List.{append-nil}
 use Rattle.std.proofs.lemmas.List.Elements.{filter_map-append}
 use Rattle.std.proofs.lemmas.Slice.Eq.{bytes_eq-Decides}
 use Rattle.axioms.specs.Expression.{Iri, ClassExpression as Class, SomeValues}
-use Rattle.axioms.specs.Growth.{most_names}
+use Rattle.axioms.specs.Growth.{IsBounded, most_names}
 use Rattle.axioms.specs.Numbered.{Names, Ontology, axiom_trees, intersection}
 use Rattle.axioms.specs.Numbering.{class_name, first_places, parts, properties_in}
 use Rattle.axioms.specs.WellFormed.{AreDistinct, IsOntology}
-use Rattle.axioms.specs.declared.fault.BuildFault.{BuildFault}
-use Rattle.axioms.specs.declared.fault.BuildFault.TheVariants.{TooManyNames, Memory}
 use Rattle.fs_parser.specs.Tree.{Tree, Trees, Name, Form, Empty, Then, place_of}
-use Rattle.shapes.specs.Faults.{Fault, RefusedConstruct, UnknownKeyword, WrongShape, RepeatedOperand, ReservedName, UnknownName, count_of, expression_faults, faults, faults_among, faults_in, faults_inside, form_faults, is_annotation, is_repeated, operands_or_none, own_trees}
-use Rattle.shapes.specs.Keywords.{is_known, is_refused}
+use Rattle.shapes.specs.Faults.{Fault, WrongShape, RepeatedOperand, ReservedName, UnknownName, count_of, expression_faults, faults, faults_among, faults_in, faults_inside, form_faults, is_annotation, is_repeated, operands_or_none, own_trees}
+use Rattle.shapes.specs.declared.version.Version.{Version}
 use Rattle.shapes.specs.Names.{is_allowed, is_there, may_be_name}
 use Rattle.shapes.specs.Shapes.{Operands, Each, Many, fits_count, later_expected, may_be_annotated, next_expected, operands_of}
 use Rattle.shapes.specs.declared.expected.Expected.{Expected}
 use Rattle.shapes.specs.declared.expected.Expected.TheVariants.{Annotation, ClassExpression, Property}
-use Rattle.statements.specs.Additions.{Appends, AreTooMany, ClassRead, Overflows, ReadsClass}
-use Rattle.statements.specs.ClassTrees.{IsClassTree}
-use Rattle.statements.specs.Statements.{class_of, classes_of, iri_of, some_values}
-use Rattle.statements.proofs.Appending.{appends_join, appends_nothing, appends_old, once}
-use Rattle.statements.proofs.ClassReading.{whole_of}
-use Rattle.statements.proofs.FirstPlaces.{found}
-use Rattle.profile.specs.Grown.{ExpressionGrown, IsAddedAs}
+use Rattle.profile.specs.Additions.{Appends, AreTooMany, Overflows, ReadsClass}
+use Rattle.profile.specs.ClassTrees.{IsClassTree}
+use Rattle.profile.specs.Statements.{class_of, classes_of, iri_of, some_values}
+use Rattle.profile.proofs.Appending.{appends_join, appends_nothing, appends_old, once}
+use Rattle.profile.proofs.ClassReading.{whole_of}
+use Rattle.profile.proofs.FirstPlaces.{found}
+use Rattle.profile.specs.Grown.{IsAddedAs}
 use Rattle.profile.proofs.ClassForms.{ArePlainSome, IsPlainForm, intersection_is, plain, some_is}
 use Rattle.profile.proofs.ClassTrees.{class_tree}
 use Rattle.profile.proofs.Faultless.{inside_of, none_first, none_second, operand_parts_among}
@@ -45,13 +43,9 @@ name_any false a t at h = h
 name_any true false t at h = h
 name_any true true t at h = refl
 
-form_any : (r known : Bool) (at : ℕ) (keyword : List ℕ) (o : Option Operands) (own : Trees) (here any : List Fault) → (here ≡ [] → any ≡ []) →
-    (if r then RefusedConstruct at keyword ∷ [] else (if not known then UnknownKeyword at keyword ∷ [] else form_faults at o own here)) ≡ [] →
-    (if r then RefusedConstruct at keyword ∷ [] else (if not known then UnknownKeyword at keyword ∷ [] else form_faults at o own any)) ≡ []
-form_any true known at keyword o own here any f h = h
-form_any false false at keyword o own here any f h = h
-form_any false true at keyword None own here any f h = h
-form_any false true at keyword (Some operands) own here any f h = fits (fits_count operands (count_of own)) h
+form_any : (version : Version) (at : ℕ) (keyword : List ℕ) (o : Option Operands) (own : Trees) (here any : List Fault) → (here ≡ [] → any ≡ []) → form_faults version at keyword o own here ≡ [] → form_faults version at keyword o own any ≡ []
+form_any version at keyword None own here any f h = h
+form_any version at keyword (Some operands) own here any f h = fits (fits_count operands (count_of own)) h
   where
     fits : (b : Bool) → (if b then here else WrongShape at ∷ []) ≡ [] → (if b then any else WrongShape at ∷ []) ≡ []
     fits true k = f k
@@ -67,24 +61,24 @@ inside_any false true f f' g g' k k' l l' at p q s t h = cc
 inside_any false false f f' g g' k k' l l' at p q s t h = both_none k' l' (s (none_first k l h)) (t (none_second k l h))
 
 mutual
-  pub any_names : (names : Names) (expected : Expected) (t : Tree) → faults_among (Some names) expected t ≡ [] → faults expected t ≡ []
-  any_names names expected (Name at iri) h = name_any (may_be_name expected) (is_allowed expected iri) (is_there (Some names) expected iri) at h
-  any_names names expected (Form at keyword ts) h =
-      let operands = operands_or_none (operands_of expected keyword) in
-      form_any (is_refused keyword) (is_known keyword) at keyword (operands_of expected keyword) (own_trees expected ts)
-      (faults_inside (Some names) (may_be_annotated expected) [] operands ts) (faults_in (may_be_annotated expected) [] operands ts)
-      (λ i. any_inside names (may_be_annotated expected) [] operands ts i) h
-  any_names names expected _ h = h
+  pub any_names : (version : Version) (names : Names) (expected : Expected) (t : Tree) → faults_among version (Some names) expected t ≡ [] → faults version expected t ≡ []
+  any_names version names expected (Name at iri) h = name_any (may_be_name expected) (is_allowed expected iri) (is_there (Some names) expected iri) at h
+  any_names version names expected (Form at keyword ts) h =
+      let operands = operands_or_none (operands_of version expected keyword) in
+      form_any version at keyword (operands_of version expected keyword) (own_trees expected ts)
+      (faults_inside version (Some names) (may_be_annotated expected) [] operands ts) (faults_in version (may_be_annotated expected) [] operands ts)
+      (λ i. any_inside version names (may_be_annotated expected) [] operands ts i) h
+  any_names version names expected _ h = h
 
-  any_inside : (names : Names) (annotated : Bool) (earlier : List Tree) (operands : Operands) (ts : Trees) → faults_inside (Some names) annotated earlier operands ts ≡ [] → faults_in annotated earlier operands ts ≡ []
-  any_inside names annotated earlier operands Empty h = refl
-  any_inside names annotated earlier operands (Then t ts) h =
+  any_inside : (version : Version) (names : Names) (annotated : Bool) (earlier : List Tree) (operands : Operands) (ts : Trees) → faults_inside version (Some names) annotated earlier operands ts ≡ [] → faults_in version annotated earlier operands ts ≡ []
+  any_inside version names annotated earlier operands Empty h = refl
+  any_inside version names annotated earlier operands (Then t ts) h =
       let more = earlier ++ t ∷ [] in
       let later = later_expected operands in
       inside_any (annotated && is_annotation t) (is_repeated operands t earlier)
-      (faults_among (Some names) Annotation t) (faults Annotation t) (faults_inside (Some names) annotated earlier operands ts) (faults_in annotated earlier operands ts)
-      (faults_among (Some names) (next_expected operands) t) (faults (next_expected operands) t) (faults_inside (Some names) false more later ts) (faults_in false more later ts) (place_of t)
-      (λ i. any_names names Annotation t i) (λ i. any_inside names annotated earlier operands ts i) (λ i. any_names names (next_expected operands) t i) (λ i. any_inside names false more later ts i) h
+      (faults_among version (Some names) Annotation t) (faults version Annotation t) (faults_inside version (Some names) annotated earlier operands ts) (faults_in version annotated earlier operands ts)
+      (faults_among version (Some names) (next_expected operands) t) (faults version (next_expected operands) t) (faults_inside version (Some names) false more later ts) (faults_in version false more later ts) (place_of t)
+      (λ i. any_names version names Annotation t i) (λ i. any_inside version names annotated earlier operands ts i) (λ i. any_names version names (next_expected operands) t i) (λ i. any_inside version names false more later ts i) h
 
 -- ---- names that are there
 
@@ -129,10 +123,6 @@ known_intersection names cs many h =
       properties_known = subst (AreAmong names.properties) (sym w.properties_is) all.properties_known;
     }
 
-property_known : (names : Names) (r : Tree) → IsName r → faults_among (Some names) Property r ≡ [] → list_any (bytes_eq (iri_of r)) names.properties ≡ true
-property_known names (Name at iri) n h = name_there true (is_allowed Property iri) (is_there (Some names) Property iri) at h
-property_known names _ n h = absurd n
-
 known_some : (names : Names) (r : Iri) (c : Class) → list_any (bytes_eq r) names.properties ≡ true → IsKnown names c → IsKnown names (SomeValues r c)
 known_some names r c h k =
     let all = known_with names (parts c) (properties_in c) (SomeValues r c) refl k in
@@ -141,36 +131,41 @@ known_some names r c h k =
 abbrev pair : Operands
 pair = Each (Property ∷ ClassExpression ∷ [])
 
-known_form : (names : Names) (at : ℕ) (keyword : List ℕ) (ts : Trees) → faults_among (Some names) ClassExpression (Form at keyword ts) ≡ [] →
-    (faults_inside (Some names) false [] (Many true ClassExpression) ts ≡ [] → EachIsKnown names (classes_of ts)) →
-    (ArePlainSome ts → faults_inside (Some names) false [] pair ts ≡ [] → IsKnown names (some_values ts (classes_of ts))) →
-    IsPlainForm keyword ts → IsKnown names (class_of (Form at keyword ts))
-known_form names at keyword ts h lists pairs (inl p) =
-    let shape : operands_of ClassExpression keyword ≡ Some (Many true ClassExpression) = ap (operands_of ClassExpression) p.word in
-    subst (IsKnown names) (sym (intersection_is at keyword ts p)) (known_intersection names (classes_of ts) p.many (lists (inside_of (Some names) ClassExpression at keyword ts (Many true ClassExpression) shape refl h)))
-known_form names at keyword ts h lists pairs (inr p) =
-    let shape : operands_of ClassExpression keyword ≡ Some pair = ap (operands_of ClassExpression) p.word in
-    subst (IsKnown names) (sym (some_is at keyword ts p)) (pairs p.parts_fit (inside_of (Some names) ClassExpression at keyword ts pair shape refl h))
+module _ (version : Version) where
+  property_known : (names : Names) (r : Tree) → IsName r → faults_among version (Some names) Property r ≡ [] → list_any (bytes_eq (iri_of r)) names.properties ≡ true
+  property_known names (Name at iri) n h = name_there true (is_allowed Property iri) (is_there (Some names) Property iri) at h
+  property_known names _ n h = absurd n
 
-mutual
-  known : (names : Names) (t : Tree) → faults_among (Some names) ClassExpression t ≡ [] → IsKnown names (class_of t)
-  known names (Name at iri) h = record { classes = (name_there true (is_allowed ClassExpression iri) (is_there (Some names) ClassExpression iri) at h, tt); properties_known = tt }
-  known names (Form at keyword ts) h =
-      known_form names at keyword ts h (λ i. all_known names [] ts i) (λ f i. some_known names ts f i) (plain at keyword ts (any_names names ClassExpression (Form at keyword ts) h))
-  known names _ h = cc
+  known_form : (names : Names) (at : ℕ) (keyword : List ℕ) (ts : Trees) → faults_among version (Some names) ClassExpression (Form at keyword ts) ≡ [] →
+      (faults_inside version (Some names) false [] (Many true ClassExpression) ts ≡ [] → EachIsKnown names (classes_of ts)) →
+      (ArePlainSome version ts → faults_inside version (Some names) false [] pair ts ≡ [] → IsKnown names (some_values ts (classes_of ts))) →
+      IsPlainForm version keyword ts → IsKnown names (class_of (Form at keyword ts))
+  known_form names at keyword ts h lists pairs (inl p) =
+      let shape : operands_of version ClassExpression keyword ≡ Some (Many true ClassExpression) = ap (operands_of version ClassExpression) p.word in
+      subst (IsKnown names) (sym (intersection_is version at keyword ts p)) (known_intersection names (classes_of ts) p.many (lists (inside_of version (Some names) ClassExpression at keyword ts (Many true ClassExpression) shape refl h)))
+  known_form names at keyword ts h lists pairs (inr p) =
+      let shape : operands_of version ClassExpression keyword ≡ Some pair = ap (operands_of version ClassExpression) p.word in
+      subst (IsKnown names) (sym (some_is version at keyword ts p)) (pairs p.parts_fit (inside_of version (Some names) ClassExpression at keyword ts pair shape refl h))
 
-  all_known : (names : Names) (earlier : List Tree) (ts : Trees) → faults_inside (Some names) false earlier (Many true ClassExpression) ts ≡ [] → EachIsKnown names (classes_of ts)
-  all_known names earlier Empty h = record { classes = tt; properties_known = tt }
-  all_known names earlier (Then t ts) h =
-      let p = operand_parts_among (Some names) earlier (Many true ClassExpression) t ts h in
-      known_both names (parts (class_of t)) (flat_map parts (classes_of ts)) (properties_in (class_of t)) (flat_map properties_in (classes_of ts)) (known names t p.faultless) (all_known names (earlier ++ t ∷ []) ts p.later)
+  mutual
+    known : (names : Names) (t : Tree) → faults_among version (Some names) ClassExpression t ≡ [] → IsKnown names (class_of t)
+    known names (Name at iri) h = record { classes = (name_there true (is_allowed ClassExpression iri) (is_there (Some names) ClassExpression iri) at h, tt); properties_known = tt }
+    known names (Form at keyword ts) h =
+        known_form names at keyword ts h (λ i. all_known names [] ts i) (λ f i. some_known names ts f i) (plain version at keyword ts (any_names version names ClassExpression (Form at keyword ts) h))
+    known names _ h = cc
 
-  some_known : (names : Names) (ts : Trees) → ArePlainSome ts → faults_inside (Some names) false [] pair ts ≡ [] → IsKnown names (some_values ts (classes_of ts))
-  some_known names (Then r (Then c Empty)) fit h =
-      let first = operand_parts_among (Some names) [] pair r (Then c Empty) h in
-      let second = operand_parts_among (Some names) (r ∷ []) (Each (ClassExpression ∷ [])) c Empty first.later in
-      known_some names (iri_of r) (class_of c) (property_known names r (property_name r fit.0) first.faultless) (known names c second.faultless)
-  some_known names _ fit h = absurd fit
+    all_known : (names : Names) (earlier : List Tree) (ts : Trees) → faults_inside version (Some names) false earlier (Many true ClassExpression) ts ≡ [] → EachIsKnown names (classes_of ts)
+    all_known names earlier Empty h = record { classes = tt; properties_known = tt }
+    all_known names earlier (Then t ts) h =
+        let p = operand_parts_among version (Some names) earlier (Many true ClassExpression) t ts h in
+        known_both names (parts (class_of t)) (flat_map parts (classes_of ts)) (properties_in (class_of t)) (flat_map properties_in (classes_of ts)) (known names t p.faultless) (all_known names (earlier ++ t ∷ []) ts p.later)
+
+    some_known : (names : Names) (ts : Trees) → ArePlainSome version ts → faults_inside version (Some names) false [] pair ts ≡ [] → IsKnown names (some_values ts (classes_of ts))
+    some_known names (Then r (Then c Empty)) fit h =
+        let first = operand_parts_among version (Some names) [] pair r (Then c Empty) h in
+        let second = operand_parts_among version (Some names) (r ∷ []) (Each (ClassExpression ∷ [])) c Empty first.later in
+        known_some names (iri_of r) (class_of c) (property_known names r (property_name version r fit.0) first.faultless) (known names c second.faultless)
+    some_known names _ fit h = absurd fit
 
 -- ---- an ontology that has the names
 
@@ -191,14 +186,14 @@ not_too_many old xs distinct h few many =
     let k : AreTooMany old = subst AreTooMany (sym (all_old old xs distinct h).places) many in
     omega (arith, k, few)
 
-module _ (o : Ontology) (t : Tree) (whole : IsOntology o) (faultless : expression_faults o.names t ≡ []) where
+module _ (version : Version) (o : Ontology) (t : Tree) (whole : IsOntology o) (faultless : expression_faults version o.names t ≡ []) where
   pub is_class : IsClassTree t
-  is_class = class_tree t (any_names o.names ClassExpression t faultless)
+  is_class = class_tree version t (any_names version o.names ClassExpression t faultless)
 
   has_names : IsKnown o.names (class_of t)
-  has_names = known o.names t faultless
+  has_names = known version o.names t faultless
 
-  pub expression_added : (b p q : Ontology) (e : ℕ) → b ≡ o → q ≡ p → ReadsClass (class_of t) b p e → IsAddedAs o t q e
+  pub expression_added : (b p q : Ontology) (e : ℕ) → b ≡ o → q ≡ p → ReadsClass (class_of t) b p e → IsAddedAs version o t q e
   expression_added b p q e from to read =
       let r : ReadsClass (class_of t) o q e = subst (λ (x : Ontology). ReadsClass (class_of t) x q e) from (subst (λ (x : Ontology). ReadsClass (class_of t) b x e) (sym to) read) in
       let grows = r.adds.grows in
@@ -212,13 +207,11 @@ module _ (o : Ontology) (t : Tree) (whole : IsOntology o) (faultless : expressio
         axioms = grows.axioms_grow ∙ append-nil (axiom_trees o);
       }
 
-  pub expression_refused : (b p : Ontology) (fault : BuildFault) → length o.names.classes ≤ most_names → length o.names.properties ≤ most_names → length o.names.individuals ≤ most_names →
-      b ≡ o → ClassRead (Err fault) (class_of t) b p → ExpressionGrown (Err fault) o t
-  expression_refused b p TooManyNames classes properties individuals from read =
-      go (subst (Overflows (parts (class_of t)) (properties_in (class_of t)) []) from read)
+  -- it brings no name, so that there are not too many with it
+  pub no_overflow : (b : Ontology) → IsBounded o → b ≡ o → Overflows (parts (class_of t)) (properties_in (class_of t)) [] b → ⊥
+  no_overflow b few from h = go (subst (Overflows (parts (class_of t)) (properties_in (class_of t)) []) from h)
     where
       go : Overflows (parts (class_of t)) (properties_in (class_of t)) [] o → ⊥
-      go (inl h) = not_too_many o.names.classes (filter_map class_name (parts (class_of t))) whole.distinct_classes has_names.classes classes h
-      go (inr (inl h)) = not_too_many o.names.properties (properties_in (class_of t)) whole.distinct_properties has_names.properties_known properties h
-      go (inr (inr h)) = not_too_many o.names.individuals [] whole.distinct_individuals tt individuals h
-  expression_refused b p Memory classes properties individuals from read = tt
+      go (inl h) = not_too_many o.names.classes (filter_map class_name (parts (class_of t))) whole.distinct_classes has_names.classes few.classes h
+      go (inr (inl h)) = not_too_many o.names.properties (properties_in (class_of t)) whole.distinct_properties has_names.properties_known few.properties h
+      go (inr (inr h)) = not_too_many o.names.individuals [] whole.distinct_individuals tt few.individuals h

@@ -1,3 +1,14 @@
+pub mod FirstPlaces
+pub mod Appending
+pub mod Trees
+pub mod Steps
+pub mod Overflowing
+pub mod Named
+pub mod ClassReading
+pub mod Forms
+pub mod Stating
+pub mod AxiomReading
+pub mod PropertyForms
 pub mod Faultless
 pub mod NameTrees
 pub mod ClassForms
@@ -5,9 +16,7 @@ pub mod SameClass
 pub mod DistinctOperands
 pub mod ClassTrees
 pub mod GivenOperands
-pub mod Rows
 pub mod Stated
-pub mod Holding
 pub mod Adding
 pub mod KnownNames
 pub mod Takings

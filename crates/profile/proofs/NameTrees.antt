@@ -3,33 +3,18 @@ use Rattle.std.proofs.Common.{◌≡◌, ℕ, ◌≤◌, Bool, true, false, List
 use Rattle.std.proofs.lemmas.Bool.{ltb-true}
 use Rattle.std.proofs.lemmas.Option.{none-some, same_Some}
 use Rattle.fs_parser.specs.Tree.{Tree, Trees, Name, PlainLiteral, TaggedLiteral, TypedLiteral, Anonymous, Number, Group, Form, Empty, Then}
+use Rattle.shapes.specs.declared.version.Version.{Version}
 use Rattle.shapes.specs.Faults.{count_of, faults, literal_faults}
 use Rattle.shapes.specs.Shapes.{Operands, Many, fits_count, operands_of}
 use Rattle.shapes.specs.declared.expected.Expected.{Expected}
 use Rattle.shapes.specs.declared.expected.Expected.TheVariants.{Property, PropertyOrChain}
-use Rattle.statements.specs.ClassTrees.{IsChain}
-use Rattle.statements.specs.Statements.{iris_of}
+use Rattle.profile.specs.ClassTrees.{IsChain}
+use Rattle.profile.specs.Statements.{iris_of}
 use Rattle.profile.proofs.Faultless.{AreOperandsOf, form_operands}
 
 abbrev pub IsName : Tree → Type 0
 IsName (Name at iri) = Unit {0}
 IsName _ = ⊥
-
--- where no form and no literal may stand
-name_only : (expected : Expected) → ((keyword : List ℕ) → operands_of expected keyword ≡ None) → ((at : ℕ) → literal_faults expected at ≡ [] → ⊥) → (t : Tree) → faults expected t ≡ [] → IsName t
-name_only expected shapeless literal (Name at iri) h = tt
-name_only expected shapeless literal (PlainLiteral at text) h = absurd (literal at h)
-name_only expected shapeless literal (TaggedLiteral at text tag) h = absurd (literal at h)
-name_only expected shapeless literal (TypedLiteral at text type) h = absurd (literal at h)
-name_only expected shapeless literal (Anonymous at label) h = cc
-name_only expected shapeless literal (Number at digits) h = cc
-name_only expected shapeless literal (Group at trees) h = cc
-name_only expected shapeless literal (Form at keyword trees) h =
-    let are = form_operands expected at keyword trees h in
-    absurd (none-some are.operands (sym (shapeless keyword) ∙ are.shape))
-
-pub property_name : (t : Tree) → faults Property t ≡ [] → IsName t
-property_name = name_only Property (λ k. refl) (λ at h. cc)
 
 -- as many names as trees
 pub count_of_names : (ts : Trees) → length (iris_of ts) ≡ count_of ts
@@ -39,28 +24,45 @@ count_of_names (Then t ts) = omega (arith, count_of_names ts)
 pub many_trees : (distinct : Bool) (expected : Expected) (ts : Trees) → fits_count (Many distinct expected) (count_of ts) ≡ true → 2 ≤ count_of ts
 many_trees distinct expected ts h = ltb-true 1 (count_of ts) h
 
--- ---- chains
+module _ (version : Version) where
+  -- where no form and no literal may stand
+  name_only : (expected : Expected) → ((keyword : List ℕ) → operands_of version expected keyword ≡ None) → ((at : ℕ) → literal_faults expected at ≡ [] → ⊥) → (t : Tree) → faults version expected t ≡ [] → IsName t
+  name_only expected shapeless literal (Name at iri) h = tt
+  name_only expected shapeless literal (PlainLiteral at text) h = absurd (literal at h)
+  name_only expected shapeless literal (TaggedLiteral at text tag) h = absurd (literal at h)
+  name_only expected shapeless literal (TypedLiteral at text type) h = absurd (literal at h)
+  name_only expected shapeless literal (Anonymous at label) h = cc
+  name_only expected shapeless literal (Number at digits) h = cc
+  name_only expected shapeless literal (Group at trees) h = cc
+  name_only expected shapeless literal (Form at keyword trees) h =
+      let are = form_operands version expected at keyword trees h in
+      absurd (none-some are.operands (sym (shapeless keyword) ∙ are.shape))
 
-chain_operands : (keyword : List ℕ) (operands : Operands) → operands_of PropertyOrChain keyword ≡ Some operands → Many false Property ≡ operands
-chain_operands keyword operands h = go (bytes_eq (codes "ObjectPropertyChain") keyword) refl
-  where
-    go : (b : Bool) → bytes_eq (codes "ObjectPropertyChain") keyword ≡ b → Many false Property ≡ operands
-    go true e = let is : operands_of PropertyOrChain keyword ≡ Some (Many false Property) = rw e refl in same_Some (Many false Property) operands (sym is ∙ h)
-    go false e = let is : operands_of PropertyOrChain keyword ≡ None = rw e refl in absurd (none-some operands (sym is ∙ h))
+  pub property_name : (t : Tree) → faults version Property t ≡ [] → IsName t
+  property_name = name_only Property (λ k. refl) (λ at h. cc)
 
--- properties of a chain, of which there are two or more
-chain_names : (keyword : List ℕ) (ts : Trees) → AreOperandsOf PropertyOrChain keyword ts → 1 ≤ length (iris_of ts)
-chain_names keyword ts are =
-    let many = chain_operands keyword are.operands are.shape in
-    let count : fits_count (Many false Property) (count_of ts) ≡ true = ap (λ (o : Operands). fits_count o (count_of ts)) many ∙ are.count in
-    omega (arith, count_of_names ts, many_trees false Property ts count)
+  -- ---- chains
 
-pub property_chain : (t : Tree) → faults PropertyOrChain t ≡ [] → IsChain t
-property_chain (Name at iri) h = omega arith
-property_chain (PlainLiteral at text) h = cc
-property_chain (TaggedLiteral at text tag) h = cc
-property_chain (TypedLiteral at text type) h = cc
-property_chain (Anonymous at label) h = cc
-property_chain (Number at digits) h = cc
-property_chain (Group at trees) h = cc
-property_chain (Form at keyword trees) h = chain_names keyword trees (form_operands PropertyOrChain at keyword trees h)
+  chain_operands : (keyword : List ℕ) (operands : Operands) → operands_of version PropertyOrChain keyword ≡ Some operands → Many false Property ≡ operands
+  chain_operands keyword operands h = go (bytes_eq (codes "ObjectPropertyChain") keyword) refl
+    where
+      go : (b : Bool) → bytes_eq (codes "ObjectPropertyChain") keyword ≡ b → Many false Property ≡ operands
+      go true e = let is : operands_of version PropertyOrChain keyword ≡ Some (Many false Property) = rw e refl in same_Some (Many false Property) operands (sym is ∙ h)
+      go false e = let is : operands_of version PropertyOrChain keyword ≡ None = rw e refl in absurd (none-some operands (sym is ∙ h))
+
+  -- properties of a chain, of which there are two or more
+  chain_names : (keyword : List ℕ) (ts : Trees) → AreOperandsOf version PropertyOrChain keyword ts → 1 ≤ length (iris_of ts)
+  chain_names keyword ts are =
+      let many = chain_operands keyword are.operands are.shape in
+      let count : fits_count (Many false Property) (count_of ts) ≡ true = ap (λ (o : Operands). fits_count o (count_of ts)) many ∙ are.count in
+      omega (arith, count_of_names ts, many_trees false Property ts count)
+
+  pub property_chain : (t : Tree) → faults version PropertyOrChain t ≡ [] → IsChain t
+  property_chain (Name at iri) h = omega arith
+  property_chain (PlainLiteral at text) h = cc
+  property_chain (TaggedLiteral at text tag) h = cc
+  property_chain (TypedLiteral at text type) h = cc
+  property_chain (Anonymous at label) h = cc
+  property_chain (Number at digits) h = cc
+  property_chain (Group at trees) h = cc
+  property_chain (Form at keyword trees) h = chain_names keyword trees (form_operands version PropertyOrChain at keyword trees h)

@@ -9,9 +9,10 @@ use Rattle.axioms.specs.Numbering.{Statement, IsOntologyOf, first_places, same_e
 use Rattle.fs_parser.specs.Tree.{Trees}
 use Rattle.shapes.specs.Faults.{document_faults}
 use Rattle.shapes.specs.View.{faults_of}
-pub use Rattle.statements.specs.Additions.{HasFewNames}
-use Rattle.statements.specs.Additions.{AreTooMany}
-use Rattle.statements.specs.Statements.{statements}
+use Rattle.shapes.specs.declared.version.Version.{Version}
+pub use Rattle.profile.specs.Additions.{HasFewNames}
+use Rattle.profile.specs.Additions.{AreTooMany}
+use Rattle.profile.specs.Statements.{statements}
 use Rattle.profile.specs.declared.acceptance.Refusal.{Refusal}
 use Rattle.profile.specs.declared.acceptance.Refusal.TheVariants.{Faults, TooManyNames, Memory}
 
@@ -29,14 +30,14 @@ individual_names ss = first_places bytes_eq (flat_map statement_individuals ss)
 abbrev pub HaveTooManyNames : List Statement → Type 0
 HaveTooManyNames ss = AreTooMany (class_names ss) ⊎ (AreTooMany (property_names ss) ⊎ AreTooMany (individual_names ss))
 
--- the trees have no faults, and the ontology is that of their statements
-pub record AreReadAs (trees : Trees) (o : Ontology) : Type 0 where
-  pub faultless : document_faults trees ≡ []
-  pub ontology : IsOntologyOf (statements trees) o
+-- the trees have no faults in this version, and the ontology is that of their statements
+pub record AreReadAs (version : Version) (trees : Trees) (o : Ontology) : Type 0 where
+  pub faultless : document_faults version trees ≡ []
+  pub ontology : IsOntologyOf (statements version trees) o
   pub few_names : HasFewNames o
 
 -- what a refusal says of the trees: these are all their faults, in the order of the text; or they have none, and too many names
-abbrev pub Refuses : Refusal → Trees → Type 0
-Refuses (Faults found) trees = (document_faults trees ≡ faults_of found.items) × ¬ (found.items ≡ [])
-Refuses TooManyNames trees = (document_faults trees ≡ []) × HaveTooManyNames (statements trees)
-Refuses Memory trees = Unit {0}
+abbrev pub Refuses : Refusal → Version → Trees → Type 0
+Refuses (Faults found) version trees = (document_faults version trees ≡ faults_of found.items) × ¬ (found.items ≡ [])
+Refuses TooManyNames version trees = (document_faults version trees ≡ []) × HaveTooManyNames (statements version trees)
+Refuses Memory version trees = Unit {0}

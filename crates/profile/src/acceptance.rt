@@ -1,12 +1,13 @@
 //! From a document's trees to an ontology.
-ghost use Rattle.fs_parser.specs.View.{trees_of};
+ghost use Rattle.fs_parser.specs.View.{tree_of, trees_of};
 ghost use Rattle.profile.specs.Reading.{AreReadAs, Refuses};
-ghost use Rattle.std.specs.Prelude.{IfErr, IfOk};
+ghost use Rattle.profile.specs.Taking.{AreTakenBehind};
+ghost use Rattle.std.specs.Prelude.{IfErr, IfOk, OnOk, map};
 
-use crate::building::ontology_of;
-use axioms::{BuildFault, Ontology};
-use fs_parser::Document;
-use shapes::{Fault, Version, document_faults};
+use crate::ontology_reader::OntologyReader;
+use axioms::{Memory, Ontology};
+use fs_parser::{Document, Tree};
+use shapes::{Fault, Version};
 use std::alloc::Global;
 use std::hash::RandomState;
 
@@ -21,6 +22,16 @@ pub enum Refusal {
     Memory,
 }
 
+/// Takes the trees.
+pub(crate) fn take_all(reader: &mut OntologyReader, trees: &[Tree<'_>]) -> Result<(), Memory>
+    ensures { OnOk result (AreTakenBehind (map tree_of trees.now) reader.old reader.new) }
+{
+    for tree in trees {
+        reader.take(tree)?;
+    }
+    Ok(())
+}
+
 /// The ontology that the trees of a document state.
 ///
 /// # Errors
@@ -33,19 +44,18 @@ pub fn accept(
     version: Version,
     state: RandomState,
 ) -> Result<Ontology, Refusal>
-    ensures read { IfOk result (AreReadAs (trees_of document.now.trees.items)) }
-    ensures refused { IfErr result (λ r. Refuses r (trees_of document.now.trees.items)) }
+    ensures read { IfOk result (AreReadAs version (trees_of document.now.trees.items)) }
+    ensures refused { IfErr result (λ r. Refuses r version (trees_of document.now.trees.items)) }
 {
-    let found = match document_faults(alloc, document, version, state) {
-        Ok(found) => found,
+    let mut reader = match OntologyReader::start(alloc, version, state) {
+        Ok(reader) => reader,
         Err(_) => return Err(Refusal::Memory),
     };
-    if !found.is_empty() {
-        return Err(Refusal::Faults(found));
-    }
-    match ontology_of(alloc, &document.trees, version, state) {
-        Ok(ontology) => Ok(ontology),
-        Err(BuildFault::TooManyNames) => Err(Refusal::TooManyNames),
-        Err(BuildFault::Memory) => Err(Refusal::Memory),
+    match take_all(&mut reader, &document.trees) {
+        Ok(()) => reader.finish(),
+        Err(_) => {
+            drop(reader);
+            Err(Refusal::Memory)
+        }
     }
 }

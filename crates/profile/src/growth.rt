@@ -3,11 +3,12 @@ ghost use Rattle.fs_parser.specs.View.{tree_of, trees_of};
 ghost use Rattle.profile.specs.Grown.{AreAddedAs, IsAddedAs, RefusesExpression, RefusesStatements};
 ghost use Rattle.std.specs.Prelude.{IfErr, IfOk};
 
-use crate::acceptance::Refusal;
-use crate::building::{grown, with_expression};
-use axioms::{BuildFault, ExprId, Ontology};
+use crate::acceptance::{Refusal, take_all};
+use crate::expressions::class_expression;
+use crate::ontology_reader::OntologyReader;
+use axioms::{BuildFault, Builder, ExprId, Ontology};
 use fs_parser::Tree;
-use shapes::{Version, axiom_faults, expression_faults};
+use shapes::{Version, expression_faults};
 use std::alloc::Global;
 use std::hash::RandomState;
 
@@ -24,20 +25,20 @@ pub fn accept_statements(
     version: Version,
     state: RandomState,
 ) -> Result<Ontology, Refusal>
-    ensures added { IfOk result (AreAddedAs ontology.now (trees_of trees.now)) }
-    ensures refused { IfErr result (λ r. RefusesStatements r ontology.now (trees_of trees.now)) }
+    ensures added { IfOk result (AreAddedAs version ontology.now (trees_of trees.now)) }
+    ensures refused { IfErr result (λ r. RefusesStatements r version ontology.now (trees_of trees.now)) }
 {
-    let faults = match axiom_faults(alloc, trees, version, state) {
-        Ok(faults) => faults,
+    let copy = match ontology.copy() {
+        Ok(copy) => copy,
         Err(_) => return Err(Refusal::Memory),
     };
-    if !faults.is_empty() {
-        return Err(Refusal::Faults(faults));
-    }
-    match grown(alloc, ontology, trees, version) {
-        Ok(grown) => Ok(grown),
-        Err(BuildFault::TooManyNames) => Err(Refusal::TooManyNames),
-        Err(BuildFault::Memory) => Err(Refusal::Memory),
+    let mut reader = OntologyReader::of_growth(alloc, copy, version, state);
+    match take_all(&mut reader, trees) {
+        Ok(()) => reader.finish(),
+        Err(_) => {
+            drop(reader);
+            Err(Refusal::Memory)
+        }
     }
 }
 
@@ -55,8 +56,8 @@ pub fn accept_expression(
     version: Version,
     state: RandomState,
 ) -> Result<(Ontology, ExprId), Refusal>
-    ensures added { IfOk result (λ r. IsAddedAs ontology.now (tree_of tree.now) r.0 r.1.0) }
-    ensures refused { IfErr result (λ r. RefusesExpression r ontology.now (tree_of tree.now)) }
+    ensures added { IfOk result (λ r. IsAddedAs version ontology.now (tree_of tree.now) r.0 r.1.0) }
+    ensures refused { IfErr result (λ r. RefusesExpression r version ontology.now (tree_of tree.now)) }
 {
     let found = match expression_faults(alloc, ontology, tree, version, state) {
         Ok(found) => found,
@@ -65,8 +66,15 @@ pub fn accept_expression(
     if !found.is_empty() {
         return Err(Refusal::Faults(found));
     }
-    match with_expression(alloc, ontology, tree) {
-        Ok(grown) => Ok(grown),
+    drop(found);
+    ontology.well_formed();
+    ontology.bounded();
+    let mut builder = match ontology.copy() {
+        Ok(copy) => Builder::from(copy),
+        Err(_) => return Err(Refusal::Memory),
+    };
+    match class_expression(alloc, &mut builder, tree) {
+        Ok(number) => Ok((builder.finish(), number)),
         Err(BuildFault::TooManyNames) => Err(Refusal::TooManyNames),
         Err(BuildFault::Memory) => Err(Refusal::Memory),
     }

@@ -1,24 +1,25 @@
-//! From a document's trees, taken one by one, to an ontology.
+//! From trees, taken one by one, to an ontology.
 ghost use Rattle.fs_parser.specs.Tree.{Tree as SpecTree};
 ghost use Rattle.fs_parser.specs.View.{tree_of, trees_from};
-ghost use Rattle.profile.specs.Parts.{IsPartOfOntology};
+ghost use Rattle.axioms.specs.Numbered.{Ontology as SpecOntology};
+ghost use Rattle.profile.specs.Fitting.{IsFitting};
+ghost use Rattle.profile.specs.Grown.{AreAddedAs, RefusesStatements};
 ghost use Rattle.profile.specs.Reading.{AreReadAs, Refuses};
-ghost use Rattle.profile.specs.Taking.{AreStated, AreTaken};
-ghost use Rattle.statements.specs.Statements.{statement_of};
-ghost use Rattle.axioms.specs.Numbering.{Statement};
-ghost use Rattle.std.specs.Prelude.{◌++◌, ◌∷◌, [], List, false, IfErr, IfOk, OnOk};
+ghost use Rattle.profile.specs.Taking.{AreStated, AreTaken, AreTakenBehind, of_document, of_growth};
+ghost use Rattle.shapes.specs.Stated.{meaning, stated};
+ghost use Rattle.std.specs.Prelude.{◌∷◌, [], List, IfErr, IfOk, OnOk, option_map};
 
 use crate::acceptance::Refusal;
-use crate::parts::part;
+use crate::statement::add_statement;
 use axioms::{BuildFault, Builder, Memory, Ontology};
 use fs_parser::Tree;
-use shapes::{Fault, Place, Version, part_faults};
+use shapes::{Fault, Place, Statement, Version, part_faults};
 use std::alloc::Global;
 use std::hash::RandomState;
 use std::marker::Model;
 
 /// A reader of a document's trees that keeps none of them: it has their faults, and where they have none the ontology that they
-/// state.
+/// state. Or a reader of axioms and declarations, and it has the ontology that has grown by them.
 #[derive(Drop)]
 pub struct OntologyReader {
     alloc: Global,
@@ -37,20 +38,23 @@ impl Model for OntologyReader {
 
     ghost use Rattle.shapes.specs.View.{faults_of};
 
-    ghost view = { λ r. taken (faults_of r.found.items) r.place r.is_full r.builder };
+    ghost view = { λ r. taken r.version (faults_of r.found.items) r.place r.is_full r.builder };
 }
 
-/// Adds what the tree states. Whether of a kind there would be too many names.
+/// Adds what is stated, if anything is. Whether of a kind there would be too many names.
 fn overflows(
     alloc: Global,
     builder: &mut Builder,
-    version: Version,
-    tree: &Tree<'_>,
+    statement: Option<Statement<'_, '_>>,
 ) -> Result<bool, Memory>
-    requires { IsPartOfOntology (tree_of tree.now) }
-    ensures { IfOk result (λ is_full. (ss : List Statement) → AreStated ss false builder.old → AreStated (ss ++ statement_of (tree_of tree.now)) is_full builder.new) }
+    requires { IsFitting (option_map stated statement) }
+    ensures { IfOk result (λ is_full. AreStated builder.old (meaning (option_map stated statement.entry)) is_full builder.new) }
 {
-    match part(alloc, builder, version, tree) {
+    builder.well_formed();
+    let Some(statement) = statement else {
+        return Ok(false);
+    };
+    match add_statement(alloc, builder, statement) {
         Ok(()) => Ok(false),
         Err(fault) => match fault {
             BuildFault::TooManyNames => Ok(true),
@@ -60,7 +64,7 @@ fn overflows(
 }
 
 impl OntologyReader {
-    /// A reader that has taken no tree. Its tables hash by `state`.
+    /// A reader of a document that has taken no tree. Its tables hash by `state`.
     ///
     /// # Errors
     ///
@@ -70,7 +74,7 @@ impl OntologyReader {
         version: Version,
         state: RandomState,
     ) -> Result<OntologyReader, Memory>
-        ensures { IfOk result (AreTaken []) }
+        ensures { IfOk result (AreTaken (of_document version) []) }
     {
         let builder = Builder::new(alloc, state)?;
         builder.well_formed();
@@ -85,15 +89,36 @@ impl OntologyReader {
         })
     }
 
+    /// A reader of axioms and declarations by which the ontology is to grow, and which has taken none.
+    pub(crate) fn of_growth(
+        alloc: Global,
+        ontology: Ontology,
+        version: Version,
+        state: RandomState,
+    ) -> OntologyReader
+        ensures { AreTaken (of_growth version ontology) [] result }
+    {
+        ontology.well_formed();
+        OntologyReader {
+            alloc,
+            version,
+            state,
+            found: Vec::new(alloc),
+            place: Place::Axioms,
+            is_full: false,
+            builder: Builder::from(ontology),
+        }
+    }
+
     /// Takes the next tree: its faults are found, and what it states is added where none were found so far.
     ///
     /// # Errors
     ///
     /// `Memory` where memory was refused. The reader is of no more use then.
     pub fn take(&mut self, tree: &Tree<'_>) -> Result<(), Memory>
-        ensures { OnOk result ((trees : List SpecTree) → AreTaken trees self.old → AreTaken (trees ++ tree_of tree.now ∷ []) self.new) }
+        ensures { OnOk result (AreTakenBehind (tree_of tree.now ∷ []) self.old self.new) }
     {
-        self.place = part_faults(
+        let (place, statement) = part_faults(
             self.alloc,
             &mut self.found,
             self.place,
@@ -101,22 +126,25 @@ impl OntologyReader {
             self.version,
             self.state,
         )?;
+        self.place = place;
         if !self.found.is_empty() || self.is_full {
             return Ok(());
         }
-        self.is_full = overflows(self.alloc, &mut self.builder, self.version, tree)?;
+        self.is_full = overflows(self.alloc, &mut self.builder, statement)?;
         Ok(())
     }
 
-    /// The ontology that the trees state.
+    /// The ontology that the trees state, or the one that has grown by them.
     ///
     /// # Errors
     ///
     /// Every fault of the trees, in the order of the text; `TooManyNames` where they have none, and of a kind more than
     /// 1,000,000 names.
     pub fn finish(self) -> Result<Ontology, Refusal>
-        ensures read { IfOk result (λ o. (trees : List SpecTree) → AreTaken trees self → AreReadAs (trees_from trees) o) }
-        ensures refused { IfErr result (λ r. (trees : List SpecTree) → AreTaken trees self → Refuses r (trees_from trees)) }
+        ensures read { IfOk result (λ o. (version : Version) (trees : List SpecTree) → AreTaken (of_document version) trees self → AreReadAs version (trees_from trees) o) }
+        ensures refused { IfErr result (λ r. (version : Version) (trees : List SpecTree) → AreTaken (of_document version) trees self → Refuses r version (trees_from trees)) }
+        ensures added { IfOk result (λ o. (version : Version) (old : SpecOntology) (trees : List SpecTree) → AreTaken (of_growth version old) trees self → AreAddedAs version old (trees_from trees) o) }
+        ensures not_added { IfErr result (λ r. (version : Version) (old : SpecOntology) (trees : List SpecTree) → AreTaken (of_growth version old) trees self → RefusesStatements r version old (trees_from trees)) }
     {
         if !self.found.is_empty() {
             drop(self.builder);
@@ -126,6 +154,8 @@ impl OntologyReader {
             drop(self.builder);
             return Err(Refusal::TooManyNames);
         }
-        Ok(self.builder.finish())
+        let ontology = self.builder.finish();
+        ontology.bounded();
+        Ok(ontology)
     }
 }

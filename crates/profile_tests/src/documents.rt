@@ -508,6 +508,10 @@ const WHOLE_TEXTS: &[Row] = &[
         "Ontology(HasKey(<x:A> (<x:p>) ()) SubClassOf(_:b <x:B>) Frobnicate() )",
         "F1 at byte 9: HasKey\nF6 at byte 45\nF2 at byte 56: Frobnicate\n",
     ),
+    (
+        "Ontology(SubClassOf(ObjectUnionOf(<x:A> <x:B>) <x:C>))",
+        "F1 at byte 20: ObjectUnionOf\n",
+    ),
     ("Ontology(", "P2 at byte 9"),
     ("Ontology(SubClassOf(owl:Thing:A <x:B>))", "X4 at byte 20"),
 ];

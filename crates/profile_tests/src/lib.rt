@@ -2,9 +2,9 @@
 #![tactic(auto)]
 
 #[cfg(test)]
-mod by_hand;
-#[cfg(test)]
 mod documents;
+#[cfg(test)]
+mod faults;
 #[cfg(test)]
 mod growth;
 #[cfg(test)]

@@ -108,12 +108,15 @@ fn numbers(alloc: Global, ontology: &Ontology) -> Shown {
 pub enum Part {
     Counts,
     Numbers,
+    /// Nothing, where only its document's faults are of interest.
+    Faults,
 }
 
 fn shown_part(alloc: Global, ontology: &Ontology, part: Part) -> Shown {
     match part {
         Part::Counts => shown_counts(alloc, ontology),
         Part::Numbers => numbers(alloc, ontology),
+        Part::Faults => Ok(String::new(alloc)),
     }
 }
 
@@ -137,7 +140,7 @@ fn shown_of_tokens(alloc: Global, tokens: &[Token<'_>], part: Part, state: Rando
 }
 
 /// That part of the ontology that the text states, or its faults, each as a line, or why it is no document.
-fn shown(alloc: Global, text: &str, part: Part, state: RandomState) -> Shown {
+pub(crate) fn shown(alloc: Global, text: &str, part: Part, state: RandomState) -> Shown {
     match tokens(alloc, text) {
         Ok(tokens) => shown_of_tokens(alloc, tokens.as_slice(), part, state),
         Err(fault) => format!(in alloc; "{fault}"),

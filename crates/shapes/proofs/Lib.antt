@@ -2,7 +2,6 @@ pub mod Pieces
 pub mod Lists
 pub mod Worked
 pub mod Apart
-pub mod Placed
 pub mod Table
 pub mod Places
 pub mod Stating

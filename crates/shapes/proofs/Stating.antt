@@ -2,7 +2,7 @@
 use Rattle.std.proofs.Common.{◌≡◌, ℕ, Bool, true, false, Bor, Vec, Global, List, [], ◌∷◌, Some, None, length, ◌<◌, ◌≤◌, take, drop, ◌-◌, refl, sym, ap, ◌∙◌, subst, arith, nat_lt, ◌==◌}
 use Rattle.std.proofs.lemmas.List.{length-drop, take_all}
 use Rattle.std.proofs.lemmas.Bool.{eqb-true, le-ltb, lt-ltb}
-use Rattle.fs_parser.specs.Tree.{Tree, Trees, Name, PlainLiteral, TaggedLiteral, TypedLiteral, Anonymous, Number, Group, Form, Empty, Then}
+use Rattle.fs_parser.specs.Tree.{Tree, Trees, Form, Empty, Then}
 use Rattle.fs_parser.specs.View.{layer_of, tree_of, trees_of}
 use Rattle.fs_parser.specs.declared.tree.Tree as code
 use Rattle.fs_parser.specs.declared.tree.Tree.TheFolds.{fold-roll-Tree, fold_out-Tree}
@@ -13,7 +13,8 @@ use Rattle.shapes.specs.declared.form.Form.TheVariants as forms
 use Rattle.shapes.specs.declared.expected.Expected.TheVariants.{Axiom}
 use Rattle.shapes.specs.Faults.{behind_annotations, count_of}
 use Rattle.shapes.specs.Shapes.{form_of}
-use Rattle.shapes.specs.Stated.{axiom_by, entity_in, stated_by, statement_in}
+use Rattle.shapes.specs.declared.version.Version.{Version}
+use Rattle.shapes.specs.Stated.{axiom_by, stated_by, statement_in}
 
 -- ---- how many
 
@@ -65,14 +66,14 @@ silent _ ts h = refl
 
 -- ---- declarations
 
-pub no_declaration : (f : shapes.Form) (ts : Trees) → (f ≡ forms.Declaration → ⊥) → stated_by f ts ≡ axiom_by (Some f) ts
-no_declaration forms.Declaration ts h = absurd (h refl)
-no_declaration _ ts h = refl
+pub no_declaration : (version : Version) (f : shapes.Form) (ts : Trees) → (f ≡ forms.Declaration → ⊥) → stated_by f ts ≡ axiom_by version (Some f) ts
+no_declaration version forms.Declaration ts h = absurd (h refl)
+no_declaration version _ ts h = refl
 
-pub declares_not_one : (ts : Trees) → (count_of ts == 1) ≡ false → None ≡ axiom_by (Some forms.Declaration) ts
-declares_not_one Empty h = refl
-declares_not_one (Then t Empty) h = cc
-declares_not_one (Then t (Then u ts)) h = refl
+pub declares_not_one : (version : Version) (ts : Trees) → (count_of ts == 1) ≡ false → None ≡ axiom_by version (Some forms.Declaration) ts
+declares_not_one version Empty h = refl
+declares_not_one version (Then t Empty) h = cc
+declares_not_one version (Then t (Then u ts)) h = refl
 
 -- ---- trees of the code
 
@@ -90,36 +91,18 @@ no_form t other = subst IsNoForm (sym (fold_out-Tree Tree layer_of t)) (go (code
     go (layer.Form at k v) e = absurd (other at k v (sym (code.roll-out-Tree t) ∙ ap code.roll-Tree e ∙ rolls-Form at k v))
     go _ e = tt
 
-pub nothing_stated : (t : Tree) → IsNoForm t → None ≡ statement_in t
-nothing_stated (Form at keyword trees) h = absurd h
-nothing_stated _ h = refl
+pub nothing_stated : (version : Version) (t : Tree) → IsNoForm t → None ≡ statement_in version t
+nothing_stated version (Form at keyword trees) h = absurd h
+nothing_stated version _ h = refl
 
-module _ (t : code.Tree) (at : ℕ) (k : Bor (List ℕ)) (v : Vec code.Tree Global) (is : t ≡ code.Form at k v)
-    (ts us : List code.Tree) (same : ts ≡ v.items) (same' : us ≡ v.items) (n : ℕ) (within : n ≤ length us) (behind : trees_of (drop n us) ≡ behind_annotations (trees_of us)) where
-  -- the operands behind the annotations
-  abbrev own : Trees
-  own = trees_of (take (length ts - n) (drop n ts))
-
-  to_end : own ≡ behind_annotations (trees_of v.items)
-  to_end =
-      ap trees_of (take_all (length ts - n) (drop n ts) (omega (arith, length-drop n ts)))
-      ∙ ap (λ (xs : List code.Tree). trees_of (drop n xs)) (same ∙ sym same')
-      ∙ behind
-      ∙ ap (λ (xs : List code.Tree). behind_annotations (trees_of xs)) same'
-
-  module _ (f : shapes.Form) (found : Some f ≡ form_of Axiom k.now) where
-    by_form : axiom_by (Some f) own ≡ statement_in (tree_of t)
-    by_form =
-        ap (axiom_by (Some f)) to_end
-        ∙ ap (λ o. axiom_by o (behind_annotations (trees_of v.items))) found
-        ∙ ap statement_in (sym (ap tree_of is ∙ form_tree at k v))
-
-    -- a declaration states what its operand does
-    pub declared : f ≡ forms.Declaration → (o : code.Tree) → own ≡ trees_of (o ∷ []) → entity_in (tree_of o) ≡ statement_in (tree_of t)
-    declared word o one = ap (axiom_by (Some forms.Declaration)) (sym one) ∙ ap (λ (g : shapes.Form). axiom_by (Some g) own) (sym word) ∙ by_form
-
-    pub declares_nothing : f ≡ forms.Declaration → (count_of own == 1) ≡ false → None ≡ statement_in (tree_of t)
-    declares_nothing word other = declares_not_one own other ∙ ap (λ (g : shapes.Form). axiom_by (Some g) own) (sym word) ∙ by_form
-
-    pub others : (f ≡ forms.Declaration → ⊥) → stated_by f own ≡ statement_in (tree_of t)
-    others other = no_declaration f own other ∙ by_form
+-- a form states what its row does of the operands behind the annotations in front
+pub form_states : (version : Version) (t : code.Tree) (at : ℕ) (k : Bor (List ℕ)) (v : Vec code.Tree Global) → t ≡ code.Form at k v →
+    (ts us : List code.Tree) → ts ≡ v.items → us ≡ v.items → (n : ℕ) → n ≤ length us → trees_of (drop n us) ≡ behind_annotations (trees_of us) →
+    (f : shapes.Form) → Some f ≡ form_of version Axiom k.now → axiom_by version (Some f) (trees_of (take (length ts - n) (drop n ts))) ≡ statement_in version (tree_of t)
+form_states version t at k v is ts us same same' n within behind f found =
+    ap (λ (xs : List code.Tree). axiom_by version (Some f) (trees_of xs)) (take_all (length ts - n) (drop n ts) (omega (arith, length-drop n ts)))
+    ∙ ap (λ (xs : List code.Tree). axiom_by version (Some f) (trees_of (drop n xs))) (same ∙ sym same')
+    ∙ ap (axiom_by version (Some f)) behind
+    ∙ ap (λ (xs : List code.Tree). axiom_by version (Some f) (behind_annotations (trees_of xs))) same'
+    ∙ ap (λ o. axiom_by version o (behind_annotations (trees_of v.items))) found
+    ∙ ap (statement_in version) (sym (ap tree_of is ∙ form_tree at k v))

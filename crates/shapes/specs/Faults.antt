@@ -8,6 +8,7 @@ use Rattle.shapes.specs.declared.expected.Expected.{Expected}
 use Rattle.shapes.specs.declared.expected.Expected.TheVariants.{Axiom, Annotation, ClassExpression, NameOrLiteral}
 use Rattle.shapes.specs.Shapes.{Operands, Each, operands_of, may_be_annotated, fits_count, next_expected, later_expected, wants_distinct}
 use Rattle.shapes.specs.Keywords.{is_refused, is_known}
+use Rattle.shapes.specs.declared.version.Version.{Version}
 use Rattle.axioms.specs.Numbered.{Names}
 use Rattle.shapes.specs.Names.{is_allowed, is_there, may_be_name}
 use Rattle.shapes.specs.SameTree.{same_tree}
@@ -56,10 +57,15 @@ behind_annotations (Then first rest) = if is_annotation first then behind_annota
 abbrev pub own_trees : Expected → Trees → Trees
 own_trees expected trees = if may_be_annotated expected then behind_annotations trees else trees
 
+-- what is wrong with a form whose keyword has no row where it stands
+abbrev pub misplaced : Version → ℕ → List ℕ → Fault
+misplaced version at keyword =
+    if is_refused version keyword then RefusedConstruct at keyword else (if is_known version keyword then WrongShape at else UnknownKeyword at keyword)
+
 -- a form that may stand here has the faults of its trees, unless it has too few or too many
-abbrev pub form_faults : ℕ → Option Operands → Trees → List Fault → List Fault
-form_faults at None own inside = WrongShape at ∷ []
-form_faults at (Some operands) own inside = if fits_count operands (count_of own) then inside else WrongShape at ∷ []
+abbrev pub form_faults : Version → ℕ → List ℕ → Option Operands → Trees → List Fault → List Fault
+form_faults version at keyword None own inside = misplaced version at keyword ∷ []
+form_faults version at keyword (Some operands) own inside = if fits_count operands (count_of own) then inside else WrongShape at ∷ []
 
 abbrev pub operands_or_none : Option Operands → Operands
 operands_or_none None = Each []
@@ -71,74 +77,68 @@ is_repeated operands next earlier = wants_distinct operands && list_any (same_tr
 
 abbrev mutual
   -- the faults of a tree where one is expected, in the order of the text; of names, any may stand there or only these
-  pub faults_among : Option Names → Expected → Tree → List Fault
-  faults_among names expected (Anonymous at _) = AnonymousIndividual at ∷ []
-  faults_among names expected (Name at iri) = name_faults names expected at iri
-  faults_among names expected (PlainLiteral at _) = literal_faults expected at
-  faults_among names expected (TaggedLiteral at _ _) = literal_faults expected at
-  faults_among names expected (TypedLiteral at _ _) = literal_faults expected at
-  faults_among names expected (Number at _) = WrongShape at ∷ []
-  faults_among names expected (Group at _) = WrongShape at ∷ []
-  faults_among names expected (Form at keyword trees) =
-      if is_refused keyword then RefusedConstruct at keyword ∷ []
-      else (if not (is_known keyword) then UnknownKeyword at keyword ∷ []
-      else form_faults at (operands_of expected keyword) (own_trees expected trees)
-      (faults_inside names (may_be_annotated expected) [] (operands_or_none (operands_of expected keyword)) trees))
+  pub faults_among : Version → Option Names → Expected → Tree → List Fault
+  faults_among version names expected (Anonymous at _) = AnonymousIndividual at ∷ []
+  faults_among version names expected (Name at iri) = name_faults names expected at iri
+  faults_among version names expected (PlainLiteral at _) = literal_faults expected at
+  faults_among version names expected (TaggedLiteral at _ _) = literal_faults expected at
+  faults_among version names expected (TypedLiteral at _ _) = literal_faults expected at
+  faults_among version names expected (Number at _) = WrongShape at ∷ []
+  faults_among version names expected (Group at _) = WrongShape at ∷ []
+  faults_among version names expected (Form at keyword trees) =
+      form_faults version at keyword (operands_of version expected keyword) (own_trees expected trees)
+      (faults_inside version names (may_be_annotated expected) [] (operands_or_none (operands_of version expected keyword)) trees)
 
   -- of the annotations in front and of the operands, in order. An operand that equals an earlier one gives that alone
-  pub faults_inside : Option Names → Bool → List Tree → Operands → Trees → List Fault
-  faults_inside names annotated earlier operands Empty = []
-  faults_inside names annotated earlier operands (Then first rest) =
-      if annotated && is_annotation first then faults_among names Annotation first ++ faults_inside names annotated earlier operands rest
-      else ((if is_repeated operands first earlier then RepeatedOperand (place_of first) ∷ [] else faults_among names (next_expected operands) first)
-      ++ faults_inside names false (earlier ++ first ∷ []) (later_expected operands) rest)
+  pub faults_inside : Version → Option Names → Bool → List Tree → Operands → Trees → List Fault
+  faults_inside version names annotated earlier operands Empty = []
+  faults_inside version names annotated earlier operands (Then first rest) =
+      if annotated && is_annotation first then faults_among version names Annotation first ++ faults_inside version names annotated earlier operands rest
+      else ((if is_repeated operands first earlier then RepeatedOperand (place_of first) ∷ [] else faults_among version names (next_expected operands) first)
+      ++ faults_inside version names false (earlier ++ first ∷ []) (later_expected operands) rest)
 
 -- where any name may stand, as in documents
-abbrev pub faults : Expected → Tree → List Fault
-faults = faults_among None
+abbrev pub faults : Version → Expected → Tree → List Fault
+faults version = faults_among version None
 
-abbrev pub faults_in : Bool → List Tree → Operands → Trees → List Fault
-faults_in = faults_inside None
+abbrev pub faults_in : Version → Bool → List Tree → Operands → Trees → List Fault
+faults_in version = faults_inside version None
 
 -- of the annotations in front
-abbrev pub annotation_faults : Option Names → Trees → List Fault
-annotation_faults names Empty = []
-annotation_faults names (Then first rest) = if is_annotation first then faults_among names Annotation first ++ annotation_faults names rest else []
+abbrev pub annotation_faults : Version → Option Names → Trees → List Fault
+annotation_faults version names Empty = []
+annotation_faults version names (Then first rest) =
+    if is_annotation first then faults_among version names Annotation first ++ annotation_faults version names rest else []
 
 -- .. if there may be annotations where such a tree is expected
-abbrev pub front_faults : Option Names → Expected → Trees → List Fault
-front_faults names expected trees = if may_be_annotated expected then annotation_faults names trees else []
-
--- what is wrong with a form whose keyword has no shape where it stands
-abbrev pub misplaced : ℕ → List ℕ → Fault
-misplaced at keyword =
-    if is_refused keyword then RefusedConstruct at keyword else (if not (is_known keyword) then UnknownKeyword at keyword else WrongShape at)
+abbrev pub front_faults : Version → Option Names → Expected → Trees → List Fault
+front_faults version names expected trees = if may_be_annotated expected then annotation_faults version names trees else []
 
 -- ---- of documents
 
 -- where each of the trees is expected to be the same
-abbrev pub each_faults : Option Names → Expected → Trees → List Fault
-each_faults names expected Empty = []
-each_faults names expected (Then first rest) = faults_among names expected first ++ each_faults names expected rest
+abbrev pub each_faults : Version → Option Names → Expected → Trees → List Fault
+each_faults version names expected Empty = []
+each_faults version names expected (Then first rest) = faults_among version names expected first ++ each_faults version names expected rest
 
 -- statements: each tree is expected to be an axiom
-abbrev pub axiom_faults : Trees → List Fault
-axiom_faults trees = each_faults None Axiom trees
+abbrev pub axiom_faults : Version → Trees → List Fault
+axiom_faults version trees = each_faults version None Axiom trees
 
 -- what an ontology holds: some names, then annotations, then axioms
-abbrev pub ontology_faults : Option Names → (count : ℕ) → Trees → List Fault
-ontology_faults names count Empty = []
-ontology_faults names count (Then first rest) =
-    if is_name first then (if nat_lt 0 count then [] else WrongShape (place_of first) ∷ []) ++ ontology_faults names (count - 1) rest
-    else (if is_annotation first then faults_among names Annotation first ++ ontology_faults names 0 rest
-    else each_faults names Axiom (Then first rest))
+abbrev pub ontology_faults : Version → Option Names → (count : ℕ) → Trees → List Fault
+ontology_faults version names count Empty = []
+ontology_faults version names count (Then first rest) =
+    if is_name first then (if nat_lt 0 count then [] else WrongShape (place_of first) ∷ []) ++ ontology_faults version names (count - 1) rest
+    else (if is_annotation first then faults_among version names Annotation first ++ ontology_faults version names 0 rest
+    else each_faults version names Axiom (Then first rest))
 
 -- at most two names: of the ontology and of its version (section 3.1)
-abbrev pub document_faults : Trees → List Fault
-document_faults trees = ontology_faults None 2 trees
+abbrev pub document_faults : Version → Trees → List Fault
+document_faults version trees = ontology_faults version None 2 trees
 
 -- ---- of expressions
 
 -- a class expression over the names of an ontology
-abbrev pub expression_faults : Names → Tree → List Fault
-expression_faults names tree = faults_among (Some names) ClassExpression tree
+abbrev pub expression_faults : Version → Names → Tree → List Fault
+expression_faults version names tree = faults_among version (Some names) ClassExpression tree

@@ -1,13 +1,14 @@
 -- The keywords of the standard: those of the profile, and those that it refuses.
-use Rattle.std.specs.Prelude.{ℕ, List, [], ◌∷◌, Bool, ◌||◌, codes}
+use Rattle.std.specs.Prelude.{ℕ, List, [], ◌∷◌, Bool, ◌&&◌, ◌||◌, not, codes}
 use Rattle.std.specs.List.{list_any}
 use Rattle.std.specs.Option.{is_some}
 use Rattle.std.specs.Str.{bytes_eq}
 use Rattle.shapes.specs.declared.expected.Expected.{Expected}
 use Rattle.shapes.specs.declared.expected.Expected.TheVariants.{Axiom, Annotation, Entity, ClassExpression, PropertyOrChain}
 use Rattle.shapes.specs.Shapes.{operands_of}
+use Rattle.shapes.specs.declared.version.Version.{Version}
 
--- of the standard, and not in this profile
+-- of the standard, and not in the first version
 abbrev pub refused_keywords : List (List ℕ)
 refused_keywords =
     codes "Import" ∷ codes "ObjectUnionOf" ∷ codes "ObjectComplementOf" ∷ codes "ObjectOneOf" ∷ codes "ObjectAllValuesFrom"
@@ -27,16 +28,17 @@ refused_keywords =
 abbrev pub is_one_of : List (List ℕ) → List ℕ → Bool
 is_one_of keywords keyword = list_any (λ k. bytes_eq k keyword) keywords
 
-unfoldable pub is_refused : List ℕ → Bool
-is_refused keyword = is_one_of refused_keywords keyword
+-- the version has a row of the keyword where such a tree is expected
+abbrev pub has_shape : Version → Expected → List ℕ → Bool
+has_shape version expected keyword = is_some (operands_of version expected keyword)
 
--- the keyword has a shape where such a tree is expected
-abbrev pub has_shape : Expected → List ℕ → Bool
-has_shape expected keyword = is_some (operands_of expected keyword)
-
--- of documents, or of a shape
-unfoldable pub is_known : List ℕ → Bool
-is_known keyword =
+-- of documents, or of a row
+unfoldable pub is_known : Version → List ℕ → Bool
+is_known version keyword =
     bytes_eq keyword (codes "Prefix") || (bytes_eq keyword (codes "Ontology")
-    || (has_shape Axiom keyword || (has_shape Annotation keyword || (has_shape Entity keyword
-    || (has_shape ClassExpression keyword || has_shape PropertyOrChain keyword)))))
+    || (has_shape version Axiom keyword || (has_shape version Annotation keyword || (has_shape version Entity keyword
+    || (has_shape version ClassExpression keyword || has_shape version PropertyOrChain keyword)))))
+
+-- one of these, and the version has no row of it
+unfoldable pub is_refused : Version → List ℕ → Bool
+is_refused version keyword = is_one_of refused_keywords keyword && not (is_known version keyword)

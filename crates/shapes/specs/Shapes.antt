@@ -1,6 +1,6 @@
 -- The table of shapes of the profile: which operands each keyword takes, and what a form of it says (OWL 2 Profiles, sections
 -- 2.2.1 to 2.2.5; OWL 2 Structural Specification, sections 3.1, 3.5, 5.8, 8.1.1, 8.2.1, 9 and 10).
-use Rattle.std.specs.Prelude.{ℕ, List, [], ◌∷◌, Bool, true, false, Option, Some, None, if◌then◌else◌, codes, length, map, nat_lt, ◌==◌}
+use Rattle.std.specs.Prelude.{ℕ, List, [], ◌∷◌, Bool, true, false, Option, Some, None, ◌&&◌, if◌then◌else◌, codes, length, map, nat_lt, option_map, ◌==◌}
 use Rattle.std.specs.Str.{bytes_eq}
 use Rattle.axioms.specs.Axiom as axioms
 use Rattle.axioms.specs.Numbering.{Statement, DeclaresClass, DeclaresProperty, DeclaresIndividual, States}
@@ -67,6 +67,10 @@ row forms.ObjectPropertyChain = (codes "ObjectPropertyChain", Many false Propert
 abbrev pub since : Form → Version
 since form = One
 
+-- whether the version takes what has been taken since that one; each takes what the first did
+abbrev pub takes : Version → Version → Bool
+takes version One = true
+
 abbrev pub axiom_forms : List Form
 axiom_forms =
     forms.SubClassOf ∷ forms.EquivalentClasses ∷ forms.DisjointClasses ∷ forms.SubObjectPropertyOf ∷ forms.EquivalentObjectProperties
@@ -97,21 +101,20 @@ shape form = (form, (row form).0, (row form).1, since form)
 abbrev pub shapes_of : Expected → List Shape
 shapes_of expected = map shape (forms_of expected)
 
-abbrev pub shape_in : List Shape → List ℕ → Option Operands
-shape_in [] keyword = None
-shape_in (shape ∷ shapes) keyword = if bytes_eq shape.1 keyword then Some shape.2 else shape_in shapes keyword
+-- the row of that keyword, if the version has one
+abbrev pub shape_in : Version → List Shape → List ℕ → Option Shape
+shape_in version [] keyword = None
+shape_in version (shape ∷ shapes) keyword = if takes version shape.3 && bytes_eq shape.1 keyword then Some shape else shape_in version shapes keyword
 
--- the operands of a form where such a tree is expected, if it may stand there
-abbrev pub operands_of : Expected → List ℕ → Option Operands
-operands_of expected keyword = shape_in (shapes_of expected) keyword
+-- .. where such a tree is expected
+abbrev pub shape_of : Version → Expected → List ℕ → Option Shape
+shape_of version expected keyword = shape_in version (shapes_of expected) keyword
 
-abbrev pub form_in : List Shape → List ℕ → Option Form
-form_in [] keyword = None
-form_in (shape ∷ shapes) keyword = if bytes_eq shape.1 keyword then Some shape.0 else form_in shapes keyword
+abbrev pub operands_of : Version → Expected → List ℕ → Option Operands
+operands_of version expected keyword = option_map (λ (s : Shape). s.2) (shape_of version expected keyword)
 
--- the form of that keyword where such a tree is expected, if it may stand there
-abbrev pub form_of : Expected → List ℕ → Option Form
-form_of expected keyword = form_in (shapes_of expected) keyword
+abbrev pub form_of : Version → Expected → List ℕ → Option Form
+form_of version expected keyword = option_map (λ (s : Shape). s.0) (shape_of version expected keyword)
 
 -- axioms and annotations may begin with annotations (section 10.1)
 abbrev pub may_be_annotated : Expected → Bool

@@ -5,12 +5,13 @@ use Rattle.std.specs.Option.{is_some}
 use Rattle.axioms.specs.Numbering as numbering
 use Rattle.fs_parser.specs.Tree.{Tree, Trees, Empty, Then}
 use Rattle.fs_parser.specs.Tree as trees
-use Rattle.fs_parser.specs.View.{tree_of, trees_of}
+use Rattle.fs_parser.specs.View.{trees_of}
 use Rattle.shapes.specs.declared.expected.Expected.TheVariants.{Axiom, Entity}
 use Rattle.shapes.specs.declared.form.Form.{Form}
 use Rattle.shapes.specs.declared.form.Form.TheVariants as forms
 use Rattle.shapes.specs.declared.statement.Statement.{Statement}
 use Rattle.shapes.specs.declared.statement.Statement.TheVariants as statements
+use Rattle.shapes.specs.declared.version.Version.{Version}
 use Rattle.shapes.specs.Faults.{behind_annotations, count_of}
 use Rattle.shapes.specs.Shapes.{Says, fits_count, form_of, row}
 
@@ -27,20 +28,20 @@ entity_by None operands = None
 entity_by (Some form) operands = stated_by form operands
 
 -- what a declaration of this tree states
-abbrev pub entity_in : Tree → Option Stated
-entity_in (trees.Form at keyword operands) = entity_by (form_of Entity keyword) operands
-entity_in _ = None
+abbrev pub entity_in : Version → Tree → Option Stated
+entity_in version (trees.Form at keyword operands) = entity_by (form_of version Entity keyword) operands
+entity_in version _ = None
 
 -- a declaration states what its operand does
-abbrev pub axiom_by : Option Form → Trees → Option Stated
-axiom_by (Some forms.Declaration) (Then declared Empty) = entity_in declared
-axiom_by (Some form) operands = stated_by form operands
-axiom_by None operands = None
+abbrev pub axiom_by : Version → Option Form → Trees → Option Stated
+axiom_by version (Some forms.Declaration) (Then declared Empty) = entity_in version declared
+axiom_by version (Some form) operands = stated_by form operands
+axiom_by version None operands = None
 
 -- what a tree states
-abbrev pub statement_in : Tree → Option Stated
-statement_in (trees.Form at keyword operands) = axiom_by (form_of Axiom keyword) (behind_annotations operands)
-statement_in _ = None
+abbrev pub statement_in : Version → Tree → Option Stated
+statement_in version (trees.Form at keyword operands) = axiom_by version (form_of version Axiom keyword) (behind_annotations operands)
+statement_in version _ = None
 
 -- .. in words of its names and class expressions
 abbrev pub said : Says → Trees → List numbering.Statement

@@ -1,6 +1,6 @@
 -- Equal trees: an equivalence, whose equals are fed alike to a hasher.
-use Rattle.std.specs.Prelude.{◌≡◌, ℕ, Bool, true, false, ◌&&◌, List, ◌++◌}
-use Rattle.std.specs.Cmp.{IsEquivalence, IsPartialEquivalence, equiv, first_so, second_so}
+use Rattle.std.specs.Prelude.{◌≡◌, ℕ, Bool, true, ◌&&◌, List, ◌++◌}
+use Rattle.std.specs.Cmp.{IsEquivalence, equiv, first_so, second_so}
 use Rattle.std.specs.Cmp.Lexicographic.{nat_list_eq_equiv, bytes_decides}
 use Rattle.std.specs.Hash.{Alike, str}
 use Rattle.std.specs.Str.{bytes_eq}

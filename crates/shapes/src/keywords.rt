@@ -252,43 +252,43 @@ fn shapes_of(expected: Expected) -> &'static [Shape]
 
 /// The row of this keyword where such a tree is expected, if the version has a form that may stand there.
 pub fn shape_of(expected: Expected, keyword: &str, version: Version) -> Option<Shape>
-    ensures operands { option_map (λ s. operands_view s.operands) result ≡ operands_of expected keyword.now }
-    ensures form { option_map (λ s. s.form) result ≡ form_of expected keyword.now }
+    ensures operands { option_map (λ s. operands_view s.operands) result ≡ operands_of version expected keyword.now }
+    ensures form { option_map (λ s. s.form) result ≡ form_of version expected keyword.now }
 {
     let shapes = shapes_of(expected);
     for shape in shapes {
-        if shape.keyword == keyword && version.has(shape.since) {
+        if version.has(shape.since) && shape.keyword == keyword {
             return Some(*shape);
         }
     }
     None
 }
 
-/// Whether the keyword is one of OWL 2 that the profile leaves out.
-#[tactic(auto, unfolding(crate::specs::Keywords::is_refused))]
-pub fn is_refused(keyword: &str) -> bool
-    ensures { result ≡ is_refused keyword.now }
+/// Whether the version has a row of this keyword where such a tree is expected.
+fn has_shape(expected: Expected, keyword: &str, version: Version) -> bool
+    ensures { result ≡ has_shape version expected keyword.now }
 {
-    REFUSED.contains(&keyword)
+    shape_of(expected, keyword, version).is_some()
 }
 
-/// Whether a shape of this keyword is in the table for such trees.
-fn has_shape(expected: Expected, keyword: &str) -> bool
-    ensures { result ≡ has_shape expected keyword.now }
-{
-    shape_of(expected, keyword, Version::One).is_some()
-}
-
-/// Whether the keyword is one of documents and of the profile.
+/// Whether the keyword is one of documents and of the version.
 #[tactic(auto, unfolding(crate::specs::Keywords::is_known))]
-pub fn is_known(keyword: &str) -> bool
-    ensures { result ≡ is_known keyword.now }
+pub fn is_known(keyword: &str, version: Version) -> bool
+    ensures { result ≡ is_known version keyword.now }
 {
     keyword == "Prefix"
         || keyword == "Ontology"
-        || has_shape(Expected::Axiom, keyword)
-        || has_shape(Expected::Annotation, keyword)
-        || has_shape(Expected::Entity, keyword)
-        || has_shape(Expected::ClassExpression, keyword)
-        || has_shape(Expected::PropertyOrChain, keyword)
+        || has_shape(Expected::Axiom, keyword, version)
+        || has_shape(Expected::Annotation, keyword, version)
+        || has_shape(Expected::Entity, keyword, version)
+        || has_shape(Expected::ClassExpression, keyword, version)
+        || has_shape(Expected::PropertyOrChain, keyword, version)
+}
+
+/// Whether the keyword is one of OWL 2 that the version leaves out.
+#[tactic(auto, unfolding(crate::specs::Keywords::is_refused))]
+pub fn is_refused(keyword: &str, version: Version) -> bool
+    ensures { result ≡ is_refused version keyword.now }
+{
+    REFUSED.contains(&keyword) && !is_known(keyword, version)
 }

@@ -2,7 +2,7 @@
 #![tactic(auto)]
 
 ghost use Rattle.shapes.specs.Examples.{EveryFaultIsTold, OrderIsTold, RepeatedOperandIsTold};
-ghost use Rattle.shapes.specs.Laws.{EachTreeIsItself, KeywordsAreApart};
+ghost use Rattle.shapes.specs.Laws.{EachTreeIsItself, KeywordsAreApart, TheFirstRefusesAll};
 ghost use Rattle.shapes.specs.Places.{FaultsComeOneByOne};
 
 mod context;
@@ -23,9 +23,9 @@ pub use fault::Fault;
 pub use form::Form;
 pub use keywords::{Shape, shape_of};
 pub use place::Place;
-pub use statement::{Statement, statement_in};
+pub use statement::Statement;
 pub use version::Version;
-pub use walk::{annotation_count, axiom_faults, document_faults, expression_faults, part_faults};
+pub use walk::{expression_faults, part_faults};
 
 /// The faults of small documents.
 pub fn worked_documents()
@@ -34,9 +34,10 @@ pub fn worked_documents()
     ensures order { OrderIsTold }
 {}
 
-/// Laws: no keyword is both refused and known, and each tree equals itself.
+/// Laws: no keyword is both refused and known, the first version refuses each that is listed, and each tree equals itself.
 pub fn keywords_and_trees()
     ensures keywords { KeywordsAreApart }
+    ensures first { TheFirstRefusesAll }
     ensures trees { EachTreeIsItself }
 {}
 

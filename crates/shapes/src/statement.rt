@@ -1,16 +1,15 @@
 //! Statements of a document, over the trees that they are made of.
 
 ghost use Rattle.std.specs.Option.{IfNone, IfSome};
-ghost use Rattle.std.specs.Prelude.{◌≡◌, ◌==◌, [], ◌∷◌, false, nat_lt, option_map, true};
+ghost use Rattle.std.specs.Prelude.{◌≡◌, ◌==◌, [], ◌∷◌, Some, false, nat_lt, option_map, true};
 ghost use Rattle.fs_parser.specs.View.{tree_of, trees_of};
 ghost use Rattle.shapes.specs.Faults.{count_of};
-ghost use Rattle.shapes.specs.Stated.{entity_in, stated, stated_by, statement_in};
+ghost use Rattle.shapes.specs.Stated.{axiom_by, entity_in, stated, stated_by};
 
 use crate::expected::Expected;
 use crate::form::Form;
 use crate::keywords::shape_of;
 use crate::version::Version;
-use crate::walk::annotation_count;
 use fs_parser::Tree;
 
 /// An axiom or a declaration, over the trees of its operands.
@@ -120,7 +119,7 @@ fn stated_by<'t, 'a>(form: Form, operands: &'t [Tree<'a>]) -> Option<Statement<'
 
 /// What a declaration of this tree states.
 fn entity_in<'t, 'a>(tree: &'t Tree<'a>, version: Version) -> Option<Statement<'t, 'a>>
-    ensures { option_map stated result ≡ entity_in (tree_of tree.now) }
+    ensures { option_map stated result ≡ entity_in version (tree_of tree.now) }
 {
     let Tree::Form { keyword, trees, .. } = tree else {
         return None;
@@ -129,17 +128,16 @@ fn entity_in<'t, 'a>(tree: &'t Tree<'a>, version: Version) -> Option<Statement<'
     stated_by(shape.form, trees)
 }
 
-/// What the tree states, if it is a form of the profile that states something and has as many operands as it takes. What the
-/// operands are is not looked at.
-pub fn statement_in<'t, 'a>(tree: &'t Tree<'a>, version: Version) -> Option<Statement<'t, 'a>>
-    ensures { option_map stated result ≡ statement_in (tree_of tree.now) }
+/// What an axiom or a declaration of this form states, if it states something and takes so many operands. What the operands are
+/// is not looked at.
+pub(crate) fn axiom_in<'t, 'a>(
+    form: Form,
+    operands: &'t [Tree<'a>],
+    version: Version,
+) -> Option<Statement<'t, 'a>>
+    ensures { option_map stated result ≡ axiom_by version (Some form) (trees_of operands.now) }
 {
-    let Tree::Form { keyword, trees, .. } = tree else {
-        return None;
-    };
-    let shape = shape_of(Expected::Axiom, keyword, version)?;
-    let operands = &trees[annotation_count(trees)..];
-    match shape.form {
+    match form {
         Form::Declaration => entity_in(one(operands)?, version),
         form => stated_by(form, operands),
     }

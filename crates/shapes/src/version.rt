@@ -1,5 +1,6 @@
 //! Versions of the profile.
-ghost use Rattle.std.specs.Prelude.{◌≡◌, true};
+ghost use Rattle.std.specs.Prelude.{◌≡◌};
+ghost use Rattle.shapes.specs.Shapes.{takes};
 
 /// Which constructs are taken.
 #[derive(Clone, Copy, Debug, PartialEq, Eq)]
@@ -10,7 +11,7 @@ pub enum Version {
 impl Version {
     /// Whether this version takes what has been taken since that one. There is one version, which takes all.
     pub(crate) fn has(self, since: Version) -> bool
-        ensures { result ≡ true }
+        ensures { result ≡ takes self since }
     {
         match (self, since) {
             (Version::One, Version::One) => true,

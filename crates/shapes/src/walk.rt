@@ -1,25 +1,27 @@
 //! Every fault of a document's trees, in the order of the text.
 
-ghost use Rattle.std.specs.Prelude.{◌≡◌, ◌≤◌, ◌++◌, ◌∷◌, [], drop, false, if◌then◌else◌, length, map, nat_lt, true, None, OnOk, IfOk};
-ghost use Rattle.fs_parser.specs.Tree.{Form, place_of};
+ghost use Rattle.std.specs.Prelude.{◌≡◌, ◌≤◌, ◌++◌, ◌∷◌, [], drop, false, if◌then◌else◌, length, map, nat_lt, option_map, true, None, OnOk, IfOk};
+ghost use Rattle.fs_parser.specs.Tree.{Form as FormTree, place_of};
 ghost use Rattle.fs_parser.specs.View.{iri_of, tree_of, trees_of};
-ghost use Rattle.shapes.specs.Faults as spec;
-ghost use Rattle.shapes.specs.Faults.{WrongShape, behind_annotations, each_faults, faults_among, faults_inside, front_faults, is_annotation, is_name, is_repeated, literal_faults, misplaced, name_faults, ontology_faults, own_trees};
+ghost use Rattle.shapes.specs.Faults.{WrongShape, behind_annotations, expression_faults, faults_among, faults_inside, front_faults, is_annotation, is_name, is_repeated, literal_faults, misplaced, name_faults, own_trees};
 ghost use Rattle.shapes.specs.Places.{faults_at, place_behind};
-ghost use Rattle.shapes.specs.Shapes.{Many};
+ghost use Rattle.shapes.specs.Shapes.{Many, form_of};
+ghost use Rattle.shapes.specs.Stated.{stated, statement_in};
 ghost use Rattle.shapes.specs.View.{fault_of, faults_of, names_of, operands_view};
 
 use crate::context::Context;
 use crate::equality::is_among;
 use crate::expected::{Expected, Operands};
 use crate::fault::Fault;
+use crate::form::Form;
 use crate::keywords::{is_known, is_refused, shape_of};
 use crate::names::{is_allowed, may_be_name};
 use crate::operand::is_new;
 use crate::place::Place;
+use crate::statement::{Statement, axiom_in};
 use crate::version::Version;
 use axioms::{Memory, Ontology};
-use fs_parser::{Document, Iri, Tree};
+use fs_parser::{Iri, Tree};
 use indexmap::IndexSet;
 use std::alloc::Global;
 use std::hash::RandomState;
@@ -45,7 +47,7 @@ fn is_annotation(tree: &Tree<'_>) -> bool
 }
 
 /// How many annotations stand in front of the other trees.
-pub fn annotation_count(trees: &[Tree<'_>]) -> usize
+fn annotation_count(trees: &[Tree<'_>]) -> usize
     ensures within { result ≤ length trees.now }
     ensures others { trees_of (drop result trees.now) ≡ behind_annotations (trees_of trees.now) }
 {
@@ -78,16 +80,16 @@ fn tell(found: &mut Vec<Fault>, fault: Fault) -> Result<(), Memory>
 }
 
 /// What is wrong with a form whose keyword has no shape where it stands.
-fn misplaced(alloc: Global, at: usize, keyword: &str) -> Result<Fault, Memory>
-    ensures { IfOk result (λ fault. fault_of fault ≡ misplaced at keyword.now) }
+fn misplaced(context: &Context<'_>, at: usize, keyword: &str) -> Result<Fault, Memory>
+    ensures { IfOk result (λ fault. fault_of fault ≡ misplaced context.now.version at keyword.now) }
 {
-    if is_refused(keyword) {
-        let keyword = String::from_str(alloc, keyword)?;
+    if is_refused(keyword, context.version) {
+        let keyword = String::from_str(context.alloc, keyword)?;
         Ok(Fault::RefusedConstruct { at, keyword })
-    } else if is_known(keyword) {
+    } else if is_known(keyword, context.version) {
         Ok(Fault::WrongShape { at })
     } else {
-        let keyword = String::from_str(alloc, keyword)?;
+        let keyword = String::from_str(context.alloc, keyword)?;
         Ok(Fault::UnknownKeyword { at, keyword })
     }
 }
@@ -139,7 +141,7 @@ fn tree_faults(
     expected: Expected,
     tree: &Tree<'_>,
 ) -> Result<(), Memory>
-    ensures { OnOk result (faults_of found.new.items ≡ faults_of found.old.items ++ faults_among (names_of context.now) expected (tree_of tree.now)) }
+    ensures { OnOk result (faults_of found.new.items ≡ faults_of found.old.items ++ faults_among context.now.version (names_of context.now) expected (tree_of tree.now)) }
 {
     match tree {
         Tree::Name { at, iri } => name_faults(context, found, expected, *at, iri),
@@ -150,13 +152,14 @@ fn tree_faults(
         Tree::Number { at, .. } | Tree::Group { at, .. } => {
             tell(found, Fault::WrongShape { at: *at })
         }
-        Tree::Form { at, keyword, trees } => form_faults(
-            context, found, expected, *at, keyword, trees,
-        ),
+        Tree::Form { at, keyword, trees } => {
+            form_faults(context, found, expected, *at, keyword, trees)?;
+            Ok(())
+        }
     }
 }
 
-/// The faults of a form with these trees in it, where one is expected.
+/// The faults of a form with these trees in it, where one is expected, and which form the keyword is there.
 #[cycle(faults)]
 fn form_faults(
     context: &Context<'_>,
@@ -165,18 +168,22 @@ fn form_faults(
     at: usize,
     keyword: &str,
     trees: &[Tree<'_>],
-) -> Result<(), Memory>
-    ensures { OnOk result (faults_of found.new.items ≡ faults_of found.old.items ++ faults_among (names_of context.now) expected (Form at keyword.now (trees_of trees.now))) }
+) -> Result<Option<Form>, Memory>
+    ensures found { OnOk result (faults_of found.new.items ≡ faults_of found.old.items ++ faults_among context.now.version (names_of context.now) expected (FormTree at keyword.now (trees_of trees.now))) }
+    ensures form { IfOk result (λ form. form ≡ form_of context.now.version expected keyword.now) }
 {
     let Some(shape) = shape_of(expected, keyword, context.version) else {
-        return tell(found, misplaced(context.alloc, at, keyword)?);
+        tell(found, misplaced(context, at, keyword)?)?;
+        return Ok(None);
     };
     let in_front = annotations_in_front(expected, trees);
     if !shape.operands.fits_count(trees.len() - in_front) {
-        return tell(found, Fault::WrongShape { at });
+        tell(found, Fault::WrongShape { at })?;
+        return Ok(Some(shape.form));
     }
     annotation_faults(context, found, expected, trees)?;
-    operand_faults(context, found, shape.operands, trees, in_front)
+    operand_faults(context, found, shape.operands, trees, in_front)?;
+    Ok(Some(shape.form))
 }
 
 /// The faults of the annotations in front, if there may be any where such a tree is expected.
@@ -187,7 +194,7 @@ fn annotation_faults(
     expected: Expected,
     trees: &[Tree<'_>],
 ) -> Result<(), Memory>
-    ensures { OnOk result (faults_of found.new.items ≡ faults_of found.old.items ++ front_faults (names_of context.now) expected (trees_of trees.now)) }
+    ensures { OnOk result (faults_of found.new.items ≡ faults_of found.old.items ++ front_faults context.now.version (names_of context.now) expected (trees_of trees.now)) }
 {
     if !expected.may_be_annotated() {
         return Ok(());
@@ -211,7 +218,7 @@ fn operand_faults(
     in_front: usize,
 ) -> Result<(), Memory>
     requires { in_front ≤ length trees.now }
-    ensures { OnOk result (faults_of found.new.items ≡ faults_of found.old.items ++ faults_inside (names_of context.now) false [] (operands_view operands.entry) (trees_of (drop in_front trees.now))) }
+    ensures { OnOk result (faults_of found.new.items ≡ faults_of found.old.items ++ faults_inside context.now.version (names_of context.now) false [] (operands_view operands.entry) (trees_of (drop in_front trees.now))) }
 {
     match operands {
         Operands::Many {
@@ -233,7 +240,7 @@ fn few_faults(
     trees: &[Tree<'_>],
     in_front: usize,
 ) -> Result<(), Memory>
-    ensures { OnOk result (faults_of found.new.items ≡ faults_of found.old.items ++ faults_inside (names_of context.now) false [] (operands_view operands.entry) (trees_of (drop in_front trees.now))) }
+    ensures { OnOk result (faults_of found.new.items ≡ faults_of found.old.items ++ faults_inside context.now.version (names_of context.now) false [] (operands_view operands.entry) (trees_of (drop in_front trees.now))) }
 {
     let mut left = operands;
     for index in in_front..trees.len() {
@@ -257,7 +264,7 @@ fn distinct_faults(
     trees: &[Tree<'_>],
     in_front: usize,
 ) -> Result<(), Memory>
-    ensures { OnOk result (faults_of found.new.items ≡ faults_of found.old.items ++ faults_inside (names_of context.now) false [] (Many true operand) (trees_of (drop in_front trees.now))) }
+    ensures { OnOk result (faults_of found.new.items ≡ faults_of found.old.items ++ faults_inside context.now.version (names_of context.now) false [] (Many true operand) (trees_of (drop in_front trees.now))) }
 {
     let mut seen = IndexSet::with_hasher(context.alloc, context.state);
     for index in in_front..trees.len() {
@@ -271,19 +278,26 @@ fn distinct_faults(
     Ok(())
 }
 
-/// The faults of trees that are each expected to be the same.
-fn each_faults(
+/// The faults of a tree that is expected to be an axiom or a declaration, and what it states.
+fn axiom_faults<'t, 'a>(
     context: &Context<'_>,
     found: &mut Vec<Fault>,
-    expected: Expected,
-    trees: &[Tree<'_>],
-) -> Result<(), Memory>
-    ensures { OnOk result (faults_of found.new.items ≡ faults_of found.old.items ++ each_faults (names_of context.now) expected (trees_of trees.now)) }
+    tree: &'t Tree<'a>,
+) -> Result<Option<Statement<'t, 'a>>, Memory>
+    ensures found { OnOk result (faults_of found.new.items ≡ faults_of found.old.items ++ faults_among context.now.version (names_of context.now) Expected.Axiom (tree_of tree.now)) }
+    ensures statement { IfOk result (λ s. option_map stated s ≡ statement_in context.now.version (tree_of tree.now)) }
 {
-    for tree in trees {
-        tree_faults(context, found, expected, tree)?;
+    let Tree::Form { at, keyword, trees } = tree else {
+        tree_faults(context, found, Expected::Axiom, tree)?;
+        return Ok(None);
+    };
+    match form_faults(context, found, Expected::Axiom, *at, keyword, trees)? {
+        Some(form) => {
+            let operands = &trees[annotation_count(trees)..];
+            Ok(axiom_in(form, operands, context.version))
+        }
+        None => Ok(None),
     }
-    Ok(())
 }
 
 /// The fault of a name in front of an ontology, where so many more may stand there, if it has one.
@@ -300,88 +314,23 @@ fn front_name_faults(
     Ok(())
 }
 
-/// The faults of a tree at this place of an ontology, and the place behind it.
-fn faults_at(
-    context: &Context<'_>,
-    found: &mut Vec<Fault>,
-    place: Place,
-    tree: &Tree<'_>,
-) -> Result<Place, Memory>
-    ensures found { OnOk result (faults_of found.new.items ≡ faults_of found.old.items ++ faults_at (names_of context.now) place (tree_of tree.now)) }
-    ensures behind { IfOk result (λ behind. behind ≡ place_behind place (tree_of tree.now)) }
-{
-    let Place::Front { names_left } = place else {
-        tree_faults(context, found, Expected::Axiom, tree)?;
-        return Ok(Place::Axioms);
-    };
-    if is_name(tree) {
-        front_name_faults(found, names_left, tree)?;
-        return Ok(Place::Front {
-            names_left: names_left.saturating_sub(1),
-        });
-    }
-    if is_annotation(tree) {
-        tree_faults(context, found, Expected::Annotation, tree)?;
-        return Ok(Place::Front { names_left: 0 });
-    }
-    tree_faults(context, found, Expected::Axiom, tree)?;
-    Ok(Place::Axioms)
-}
-
-/// The faults of what an ontology holds: at most two names, then annotations, then axioms.
-fn ontology_faults(
-    context: &Context<'_>,
-    found: &mut Vec<Fault>,
-    trees: &[Tree<'_>],
-) -> Result<(), Memory>
-    ensures { OnOk result (faults_of found.new.items ≡ faults_of found.old.items ++ ontology_faults (names_of context.now) 2 (trees_of trees.now)) }
-{
-    let mut place = Place::first();
-    for tree in trees {
-        place = faults_at(context, found, place, tree)?;
-    }
-    Ok(())
-}
-
-/// Every fault of a document, in the order of the text. Its tables hash by `state`.
+/// Adds the faults of a tree that stands at this place of an ontology, in the order of the text, and gives the place behind it
+/// and what the tree states. Names and annotations in front state nothing. Its tables hash by `state`.
 ///
 /// # Errors
 ///
 /// `Memory` where memory was refused.
-pub fn document_faults(
-    alloc: Global,
-    document: &Document<'_>,
-    version: Version,
-    state: RandomState,
-) -> Result<Vec<Fault>, Memory>
-    ensures { IfOk result (λ found. faults_of found.items ≡ spec.document_faults (trees_of document.now.trees.items)) }
-{
-    let context = Context {
-        alloc,
-        state,
-        version,
-        ontology: None,
-    };
-    let mut found = Vec::new(alloc);
-    ontology_faults(&context, &mut found, &document.trees)?;
-    Ok(found)
-}
-
-/// Adds the faults of a tree that stands at this place of an ontology, in the order of the text, and gives the place behind it.
-///
-/// # Errors
-///
-/// `Memory` where memory was refused.
-pub fn part_faults(
+pub fn part_faults<'t, 'a>(
     alloc: Global,
     found: &mut Vec<Fault>,
     place: Place,
-    tree: &Tree<'_>,
+    tree: &'t Tree<'a>,
     version: Version,
     state: RandomState,
-) -> Result<Place, Memory>
-    ensures found { OnOk result (faults_of found.new.items ≡ faults_of found.old.items ++ faults_at None place (tree_of tree.now)) }
-    ensures behind { IfOk result (λ behind. behind ≡ place_behind place (tree_of tree.now)) }
+) -> Result<(Place, Option<Statement<'t, 'a>>), Memory>
+    ensures found { OnOk result (faults_of found.new.items ≡ faults_of found.old.items ++ faults_at version None place (tree_of tree.now)) }
+    ensures behind { IfOk result (λ part. part.0 ≡ place_behind place (tree_of tree.now)) }
+    ensures statement { IfOk result (λ part. option_map stated part.1 ≡ statement_in version (tree_of tree.now)) }
 {
     let context = Context {
         alloc,
@@ -389,31 +338,19 @@ pub fn part_faults(
         version,
         ontology: None,
     };
-    faults_at(&context, found, place, tree)
-}
-
-/// Every fault of trees that are each expected to be an axiom or a declaration, in the order of the text.
-///
-/// # Errors
-///
-/// `Memory` where memory was refused.
-pub fn axiom_faults(
-    alloc: Global,
-    trees: &[Tree<'_>],
-    version: Version,
-    state: RandomState,
-) -> Result<Vec<Fault>, Memory>
-    ensures { IfOk result (λ found. faults_of found.items ≡ spec.axiom_faults (trees_of trees.now)) }
-{
-    let context = Context {
-        alloc,
-        state,
-        version,
-        ontology: None,
-    };
-    let mut found = Vec::new(alloc);
-    each_faults(&context, &mut found, Expected::Axiom, trees)?;
-    Ok(found)
+    if let Place::Front { names_left } = place {
+        if is_name(tree) {
+            front_name_faults(found, names_left, tree)?;
+            let names_left = names_left.saturating_sub(1);
+            return Ok((Place::Front { names_left }, None));
+        }
+        if is_annotation(tree) {
+            tree_faults(&context, found, Expected::Annotation, tree)?;
+            return Ok((Place::Front { names_left: 0 }, None));
+        }
+    }
+    let statement = axiom_faults(&context, found, tree)?;
+    Ok((Place::Axioms, statement))
 }
 
 /// Every fault of a tree that is expected to be a class expression over the names of the ontology, in the order of the text.
@@ -428,7 +365,7 @@ pub fn expression_faults(
     version: Version,
     state: RandomState,
 ) -> Result<Vec<Fault>, Memory>
-    ensures { IfOk result (λ found. faults_of found.items ≡ spec.expression_faults ontology.now.names (tree_of tree.now)) }
+    ensures { IfOk result (λ found. faults_of found.items ≡ expression_faults version ontology.now.names (tree_of tree.now)) }
 {
     let context = Context {
         alloc,

@@ -1,9 +1,5 @@
-//! Tests of the faults that documents have.
+//! Tests of the table of shapes and of the walk over trees.
 #![tactic(auto)]
 
 #[cfg(test)]
-mod faults;
-#[cfg(test)]
 mod tests;
-#[cfg(test)]
-mod told;

@@ -1,0 +1,51 @@
+-- What declaring a name answers.
+use Rattle.std.proofs.Common.{◌≡◌, inl, inr, ◌↔◌, List, Ok, Err, Result, refl, subst}
+use Rattle.axioms.specs.Expression.{Iri, Named}
+use Rattle.axioms.specs.Growth.{Declares, IsFull}
+use Rattle.axioms.specs.Numbered.{Ontology}
+use Rattle.axioms.specs.WellFormed.{IsOntology}
+use Rattle.axioms.specs.declared.fault.BuildFault.{BuildFault}
+use Rattle.axioms.specs.declared.fault.BuildFault.TheVariants.{TooManyNames, Memory}
+use Rattle.axioms.specs.declared.ids.ClassId.{ClassId}
+use Rattle.axioms.specs.declared.ids.ExprId.{ExprId}
+use Rattle.axioms.specs.declared.ids.IndId.{IndId}
+use Rattle.axioms.specs.declared.ids.PropId.{PropId}
+use Rattle.axioms.specs.declared.terms.Kind.TheVariants as kinds
+use Rattle.axioms.specs.declared.terms.Name.{Name}
+use Rattle.axioms.specs.declared.terms.Name.TheVariants as declared
+use Rattle.profile.specs.Additions.{ClassRead, IndividualRead, PropertyRead, ReadsClass, ReadsProperty, ReadsIndividual}
+use Rattle.profile.proofs.Overflowing.{full_overflows}
+use Rattle.profile.proofs.Steps.{class_declared, property_declared, individual_declared}
+
+-- a kind that took the name had room for it
+has_room : (name : Name) (names : List Iri) (iri : Iri) → ((◌≡◌ {A = Result Name BuildFault} (Ok name) (Err TooManyNames)) ↔ IsFull names iri) → IsFull names iri → ⊥
+has_room name names iri full is = let e : ◌≡◌ {A = Result Name BuildFault} (Ok name) (Err TooManyNames) = full.1 is in cc
+
+module _ (o p : Ontology) (iri : Iri) (whole : IsOntology o) where
+  pub class_answer : IsOntology p → (name : Name) (c : ClassId) (e : ExprId) → name ≡ declared.Class c e → ((◌≡◌ {A = Result Name BuildFault} (Ok name) (Err TooManyNames)) ↔ IsFull o.names.classes iri) → Declares o kinds.Class iri p name → ReadsClass (Named iri) o p e.0
+  class_answer whole' name c e is full declares =
+      let P : Name → Type 0 = Declares o kinds.Class iri p in
+      let added = class_declared o p iri c.0 e.0 whole whole' (has_room name o.names.classes iri full) (subst P is declares) in
+      record { adds = added.adds; at = added.at }
+
+  pub class_refused : (fault : BuildFault) → ((◌≡◌ {A = Result Name BuildFault} (Err fault) (Err TooManyNames)) ↔ IsFull o.names.classes iri) → ClassRead (Err fault) (Named iri) o p
+  class_refused TooManyNames full = inl (full_overflows o.names.classes iri whole.distinct_classes (full.0 refl))
+  class_refused Memory full = tt
+
+  pub property_answer : (name : Name) (r : PropId) → name ≡ declared.Property r → ((◌≡◌ {A = Result Name BuildFault} (Ok name) (Err TooManyNames)) ↔ IsFull o.names.properties iri) → Declares o kinds.Property iri p name → ReadsProperty iri o p r.0
+  property_answer name r is full declares =
+      let P : Name → Type 0 = Declares o kinds.Property iri p in
+      property_declared o p iri r.0 whole (has_room name o.names.properties iri full) (subst P is declares)
+
+  pub property_refused : (fault : BuildFault) → ((◌≡◌ {A = Result Name BuildFault} (Err fault) (Err TooManyNames)) ↔ IsFull o.names.properties iri) → PropertyRead (Err fault) iri o p
+  property_refused TooManyNames full = inr (inl (full_overflows o.names.properties iri whole.distinct_properties (full.0 refl)))
+  property_refused Memory full = tt
+
+  pub individual_answer : (name : Name) (a : IndId) → name ≡ declared.Individual a → ((◌≡◌ {A = Result Name BuildFault} (Ok name) (Err TooManyNames)) ↔ IsFull o.names.individuals iri) → Declares o kinds.Individual iri p name → ReadsIndividual iri o p a.0
+  individual_answer name a is full declares =
+      let P : Name → Type 0 = Declares o kinds.Individual iri p in
+      individual_declared o p iri a.0 whole (has_room name o.names.individuals iri full) (subst P is declares)
+
+  pub individual_refused : (fault : BuildFault) → ((◌≡◌ {A = Result Name BuildFault} (Err fault) (Err TooManyNames)) ↔ IsFull o.names.individuals iri) → IndividualRead (Err fault) iri o p
+  individual_refused TooManyNames full = inr (inr (full_overflows o.names.individuals iri whole.distinct_individuals (full.0 refl)))
+  individual_refused Memory full = tt

@@ -1,0 +1,10 @@
+use Rattle.fs_parser.specs.View.{tree_of}
+use Rattle.profile.specs.Statements.{iri_of}
+use Rattle.profile.proofs.AxiomReading.{property_refused}
+use Rattle.profile.proofs.declarations.declare_property.Goals as goal
+
+pub returns-in-Ok : goal.returns-in-Ok
+returns-in-Ok c = c.in-Ok.ensures.0
+
+pub returns-in-Err : goal.returns-in-Err
+returns-in-Err c = property_refused (iri_of (tree_of c.args.tree.now)) c.args.builder.now c.property.new.builder c.in-Err.fault c.in-Err.ensures

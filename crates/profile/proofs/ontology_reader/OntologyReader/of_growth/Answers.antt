@@ -1,0 +1,6 @@
+use Rattle.profile.specs.Taking.{of_growth}
+use Rattle.profile.proofs.Takings.{none_taken}
+use Rattle.profile.proofs.ontology_reader.OntologyReader.of_growth.Goals as goal
+
+pub returns : goal.returns
+returns c = none_taken (of_growth c.args.version c.args.ontology) c.new.result.items c.new.ensures.items c.from.result c.from.ensures c.well_formed-2.ensures

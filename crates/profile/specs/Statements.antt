@@ -1,0 +1,17 @@
+-- The statements of a document's trees: what its axioms and declarations say, by the table of shapes (OWL 2 Structural
+-- Specification, sections 5.8, 8.1.1, 8.2.1, 9.1, 9.2 and 9.6). Annotations state nothing, nor do declarations of annotation properties.
+use Rattle.std.specs.Prelude.{List, [], ◌++◌}
+use Rattle.axioms.specs.Numbering.{Statement}
+use Rattle.fs_parser.specs.Tree.{Tree, Trees, Empty, Then}
+use Rattle.shapes.specs.Stated.{meaning, statement_in}
+use Rattle.shapes.specs.declared.version.Version.{Version}
+pub use Rattle.shapes.specs.Meanings.{operand, iri_of, iris_of, some_values, class_of, classes_of, chain_of}
+
+-- the statement of a tree, if it makes one
+abbrev pub statement_of : Version → Tree → List Statement
+statement_of version tree = meaning (statement_in version tree)
+
+-- the statements of trees, in their order
+abbrev pub statements : Version → Trees → List Statement
+statements version Empty = []
+statements version (Then first rest) = statement_of version first ++ statements version rest

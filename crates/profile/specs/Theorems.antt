@@ -1,0 +1,34 @@
+-- What is proved of ontologies that grow by statements.
+use Rattle.std.specs.Prelude.{◌≡◌, List, [], ◌∷◌, ◌++◌}
+use Rattle.std.specs.List.{filter_map}
+use Rattle.axioms.specs.Expression.{ClassExpression}
+use Rattle.axioms.specs.Numbered.{Ontology, trees, axiom_trees}
+use Rattle.axioms.specs.Numbering.{Statement, IsOntologyOf, first_places, same_expression, logical_axiom, statement_expressions, statement_properties, statement_individuals}
+use Rattle.profile.specs.Additions.{Grows}
+
+-- first places of first places and more are those of all
+abbrev pub FirstPlacesJoin : Type 0
+FirstPlacesJoin = (xs ys : List ClassExpression) → first_places same_expression (first_places same_expression xs ++ ys) ≡ first_places same_expression (xs ++ ys)
+
+-- to add what a statement brings is to read one statement more
+abbrev pub OneMoreStatement : Type 0
+OneMoreStatement =
+    (statements : List Statement) (statement : Statement) (o p : Ontology) → IsOntologyOf statements o →
+    Grows (statement_expressions statement) (statement_properties statement) (statement_individuals statement) (filter_map logical_axiom (statement ∷ [])) o p →
+    IsOntologyOf (statements ++ statement ∷ []) p
+
+-- the first list is the beginning of the second
+abbrev pub IsBeginning : {A : Type 0} → List A → List A → Type 0
+IsBeginning {A} xs ys = (rest : List A) × (ys ≡ xs ++ rest)
+
+-- names, expressions and what axioms say have the same numbers in the second ontology
+pub record AreBeginnings (o p : Ontology) : Type 0 where
+  pub expressions : IsBeginning (trees o) (trees p)
+  pub classes : IsBeginning o.names.classes p.names.classes
+  pub properties : IsBeginning o.names.properties p.names.properties
+  pub individuals : IsBeginning o.names.individuals p.names.individuals
+  pub axioms : IsBeginning (axiom_trees o) (axiom_trees p)
+
+-- statements that are added at the end change no number
+abbrev pub AdditionsChangeNoNumber : Type 0
+AdditionsChangeNoNumber = (statements more : List Statement) (o p : Ontology) → IsOntologyOf statements o → IsOntologyOf (statements ++ more) p → AreBeginnings o p

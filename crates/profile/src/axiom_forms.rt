@@ -1,0 +1,218 @@
+//! Axioms, each behind what it is about.
+ghost use Rattle.axioms.specs.Axiom.{SubClassOf, EquivalentClasses, DisjointClasses, PropertyDomain, TransitiveProperty, ReflexiveProperty, ClassAssertion, PropertyAssertion, EquivalentProperties, SubPropertyOf};
+ghost use Rattle.axioms.specs.Numbering.{States};
+ghost use Rattle.axioms.specs.View.{axiom_of};
+ghost use Rattle.axioms.specs.WellFormed.{IsAxiomOf};
+ghost use Rattle.fs_parser.specs.View.{tree_of, trees_of};
+ghost use Rattle.profile.specs.Additions.{AxiomRead, StatementRead};
+ghost use Rattle.profile.specs.ClassTrees.{AreClassTrees, AreManyDistinct, AreManyDistinctNames, IsChain, IsClassTree};
+ghost use Rattle.profile.specs.Statements.{chain_of, class_of, classes_of, iri_of, iris_of};
+
+use crate::expressions::{class_expression, class_expressions};
+use crate::operands::{individual, property};
+use crate::properties::{chain, properties};
+use axioms::{Axiom, BuildFault, Builder};
+use fs_parser::Tree;
+use std::alloc::Global;
+
+/// Adds the axiom over what is there.
+fn state(builder: &mut Builder, axiom: Axiom) -> Result<(), BuildFault>
+    requires { IsAxiomOf builder.old (axiom_of «axiom») }
+    ensures { AxiomRead result (axiom_of «axiom») builder.old builder.new }
+{
+    builder.well_formed();
+    match builder.add_axiom(axiom) {
+        Ok(()) => Ok(()),
+        Err(_) => Err(BuildFault::Memory),
+    }
+}
+
+/// A subclass axiom.
+pub(crate) fn sub_class(
+    alloc: Global,
+    builder: &mut Builder,
+    sub: &Tree<'_>,
+    superclass: &Tree<'_>,
+) -> Result<(), BuildFault>
+    requires sub { IsClassTree (tree_of sub.now) }
+    requires superclass { IsClassTree (tree_of superclass.now) }
+    ensures { StatementRead result (States (SubClassOf (class_of (tree_of sub.now)) (class_of (tree_of superclass.now)))) builder.old builder.new }
+{
+    let sub = match class_expression(alloc, builder, sub) {
+        Ok(sub) => sub,
+        Err(fault) => return Err(fault),
+    };
+    let superclass = match class_expression(alloc, builder, superclass) {
+        Ok(superclass) => superclass,
+        Err(fault) => return Err(fault),
+    };
+    state(builder, Axiom::SubClass(sub, superclass))
+}
+
+/// An axiom that classes have the same members.
+pub(crate) fn equivalent_classes(
+    alloc: Global,
+    builder: &mut Builder,
+    trees: &[Tree<'_>],
+) -> Result<(), BuildFault>
+    requires classes { AreClassTrees (trees_of trees.now) }
+    requires many { AreManyDistinct (trees_of trees.now) }
+    ensures { StatementRead result (States (EquivalentClasses (classes_of (trees_of trees.now)))) builder.old builder.new }
+{
+    let operands = match class_expressions(alloc, builder, trees) {
+        Ok(operands) => operands,
+        Err(fault) => return Err(fault),
+    };
+    state(builder, Axiom::EquivalentClasses(operands))
+}
+
+/// An axiom that no two of the classes have a common member.
+pub(crate) fn disjoint_classes(
+    alloc: Global,
+    builder: &mut Builder,
+    trees: &[Tree<'_>],
+) -> Result<(), BuildFault>
+    requires classes { AreClassTrees (trees_of trees.now) }
+    requires many { AreManyDistinct (trees_of trees.now) }
+    ensures { StatementRead result (States (DisjointClasses (classes_of (trees_of trees.now)))) builder.old builder.new }
+{
+    let operands = match class_expressions(alloc, builder, trees) {
+        Ok(operands) => operands,
+        Err(fault) => return Err(fault),
+    };
+    state(builder, Axiom::DisjointClasses(operands))
+}
+
+/// An axiom that what has a successor by the property is in the class.
+pub(crate) fn property_domain(
+    alloc: Global,
+    builder: &mut Builder,
+    first: &Tree<'_>,
+    second: &Tree<'_>,
+) -> Result<(), BuildFault>
+    requires { IsClassTree (tree_of second.now) }
+    ensures { StatementRead result (States (PropertyDomain (iri_of (tree_of first.now)) (class_of (tree_of second.now)))) builder.old builder.new }
+{
+    let property = match property(alloc, builder, first) {
+        Ok(property) => property,
+        Err(fault) => return Err(fault),
+    };
+    let class = match class_expression(alloc, builder, second) {
+        Ok(class) => class,
+        Err(fault) => return Err(fault),
+    };
+    state(builder, Axiom::Domain(property, class))
+}
+
+/// An axiom that the property is transitive.
+pub(crate) fn transitive_property(
+    alloc: Global,
+    builder: &mut Builder,
+    tree: &Tree<'_>,
+) -> Result<(), BuildFault>
+    ensures { StatementRead result (States (TransitiveProperty (iri_of (tree_of tree.now)))) builder.old builder.new }
+{
+    let property = match property(alloc, builder, tree) {
+        Ok(property) => property,
+        Err(fault) => return Err(fault),
+    };
+    state(builder, Axiom::Transitive(property))
+}
+
+/// An axiom that the property is reflexive.
+pub(crate) fn reflexive_property(
+    alloc: Global,
+    builder: &mut Builder,
+    tree: &Tree<'_>,
+) -> Result<(), BuildFault>
+    ensures { StatementRead result (States (ReflexiveProperty (iri_of (tree_of tree.now)))) builder.old builder.new }
+{
+    let property = match property(alloc, builder, tree) {
+        Ok(property) => property,
+        Err(fault) => return Err(fault),
+    };
+    state(builder, Axiom::Reflexive(property))
+}
+
+/// An axiom that the individual is in the class.
+pub(crate) fn class_assertion(
+    alloc: Global,
+    builder: &mut Builder,
+    first: &Tree<'_>,
+    second: &Tree<'_>,
+) -> Result<(), BuildFault>
+    requires { IsClassTree (tree_of first.now) }
+    ensures { StatementRead result (States (ClassAssertion (class_of (tree_of first.now)) (iri_of (tree_of second.now)))) builder.old builder.new }
+{
+    let class = match class_expression(alloc, builder, first) {
+        Ok(class) => class,
+        Err(fault) => return Err(fault),
+    };
+    let individual = match individual(alloc, builder, second) {
+        Ok(individual) => individual,
+        Err(fault) => return Err(fault),
+    };
+    state(builder, Axiom::ClassAssertion(class, individual))
+}
+
+/// An axiom that the property holds from the source to the target.
+pub(crate) fn property_assertion(
+    alloc: Global,
+    builder: &mut Builder,
+    first: &Tree<'_>,
+    second: &Tree<'_>,
+    third: &Tree<'_>,
+) -> Result<(), BuildFault>
+    ensures { StatementRead result (States (PropertyAssertion (iri_of (tree_of first.now)) (iri_of (tree_of second.now)) (iri_of (tree_of third.now)))) builder.old builder.new }
+{
+    let property = match property(alloc, builder, first) {
+        Ok(property) => property,
+        Err(fault) => return Err(fault),
+    };
+    let source = match individual(alloc, builder, second) {
+        Ok(source) => source,
+        Err(fault) => return Err(fault),
+    };
+    let target = match individual(alloc, builder, third) {
+        Ok(target) => target,
+        Err(fault) => return Err(fault),
+    };
+    state(builder, Axiom::PropertyAssertion(property, source, target))
+}
+
+/// An axiom that the properties hold between the same individuals.
+pub(crate) fn equivalent_properties(
+    alloc: Global,
+    builder: &mut Builder,
+    trees: &[Tree<'_>],
+) -> Result<(), BuildFault>
+    requires { AreManyDistinctNames (trees_of trees.now) }
+    ensures { StatementRead result (States (EquivalentProperties (iris_of (trees_of trees.now)))) builder.old builder.new }
+{
+    let operands = match properties(alloc, builder, trees) {
+        Ok(operands) => operands,
+        Err(fault) => return Err(fault),
+    };
+    state(builder, Axiom::EquivalentProperties(operands))
+}
+
+/// An axiom that what the chain of properties leads to, or the one property, the other property leads to too.
+pub(crate) fn sub_property(
+    alloc: Global,
+    builder: &mut Builder,
+    first: &Tree<'_>,
+    second: &Tree<'_>,
+) -> Result<(), BuildFault>
+    requires { IsChain (tree_of first.now) }
+    ensures { StatementRead result (States (SubPropertyOf (chain_of (tree_of first.now)) (iri_of (tree_of second.now)))) builder.old builder.new }
+{
+    let steps = match chain(alloc, builder, first) {
+        Ok(steps) => steps,
+        Err(fault) => return Err(fault),
+    };
+    let whole = match property(alloc, builder, second) {
+        Ok(whole) => whole,
+        Err(fault) => return Err(fault),
+    };
+    state(builder, Axiom::SubProperty(steps, whole))
+}

@@ -1,0 +1,53 @@
+//! Names as the builder numbers them. It answers a kind with a name of that kind; another would be told as refused memory.
+ghost use Rattle.axioms.specs.Expression.{Named};
+ghost use Rattle.profile.specs.Additions.{ClassRead, IndividualRead, PropertyRead};
+
+use axioms::{BuildFault, Builder, ExprId, IndId, Kind, Name, PropId};
+
+/// The expression of the class of this name, which is declared where it is new.
+pub(crate) fn class(builder: &mut Builder, iri: &str) -> Result<ExprId, BuildFault>
+    ensures { ClassRead result (Named iri.now) builder.old builder.new }
+{
+    builder.well_formed();
+    let name = match builder.declare(Kind::Class, iri) {
+        Ok(name) => name,
+        Err(fault) => return Err(fault),
+    };
+    builder.well_formed();
+    match name {
+        Name::Class(_, expression) => Ok(expression),
+        _ => Err(BuildFault::Memory),
+    }
+}
+
+/// The property of this name, which is declared where it is new.
+pub(crate) fn property(builder: &mut Builder, iri: &str) -> Result<PropId, BuildFault>
+    ensures { PropertyRead result iri.now builder.old builder.new }
+{
+    builder.well_formed();
+    let name = match builder.declare(Kind::Property, iri) {
+        Ok(name) => name,
+        Err(fault) => return Err(fault),
+    };
+    builder.well_formed();
+    match name {
+        Name::Property(property) => Ok(property),
+        _ => Err(BuildFault::Memory),
+    }
+}
+
+/// The individual of this name, which is declared where it is new.
+pub(crate) fn individual(builder: &mut Builder, iri: &str) -> Result<IndId, BuildFault>
+    ensures { IndividualRead result iri.now builder.old builder.new }
+{
+    builder.well_formed();
+    let name = match builder.declare(Kind::Individual, iri) {
+        Ok(name) => name,
+        Err(fault) => return Err(fault),
+    };
+    builder.well_formed();
+    match name {
+        Name::Individual(individual) => Ok(individual),
+        _ => Err(BuildFault::Memory),
+    }
+}

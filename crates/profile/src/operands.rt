@@ -1,0 +1,85 @@
+//! Names of trees, and expressions over parts that are there.
+ghost use Rattle.std.specs.Prelude.{◌≡◌, None, IfOk, length};
+ghost use Rattle.axioms.specs.Expression.{Named};
+ghost use Rattle.axioms.specs.Numbered.{tree_of as node_tree, trees};
+ghost use Rattle.axioms.specs.Numbering.{class_name};
+ghost use Rattle.axioms.specs.View.{node_of};
+ghost use Rattle.axioms.specs.WellFormed.{IsNodeOf};
+ghost use Rattle.fs_parser.specs.View.{tree_of, iri_of};
+ghost use Rattle.profile.specs.Additions.{ClassRead, HasAdded, IndividualRead, PropertyRead};
+ghost use Rattle.profile.specs.Statements.{iri_of as tree_iri};
+
+use crate::names;
+use axioms::{BuildFault, Builder, Expr, ExprId, IndId, Memory, PropId};
+use fs_parser::{Iri, Tree};
+use std::alloc::Global;
+
+/// The expression over what is there, which is added where it is new.
+pub(crate) fn add(builder: &mut Builder, expr: Expr) -> Result<ExprId, Memory>
+    requires fits { IsNodeOf builder.old (length builder.old.nodes) (node_of expr) }
+    requires unnamed { class_name (node_tree builder.old.names (trees builder.old) (node_of expr)) ≡ None }
+    ensures { IfOk result (λ e. HasAdded builder.old builder.new e.0 (node_tree builder.old.names (trees builder.old) (node_of expr))) }
+{
+    builder.well_formed();
+    let number = builder.add_expr(expr);
+    builder.well_formed();
+    number
+}
+
+/// The IRI of the name that the tree is; what is no name has the empty one.
+fn iri_of<'a>(tree: &Tree<'a>) -> Iri<'a>
+    ensures { iri_of result ≡ tree_iri (tree_of tree.now) }
+{
+    match tree {
+        Tree::Name { iri, .. } => *iri,
+        _ => Iri {
+            base: "",
+            local: "",
+        },
+    }
+}
+
+/// The property that the tree is.
+pub(crate) fn property(
+    alloc: Global,
+    builder: &mut Builder,
+    tree: &Tree<'_>,
+) -> Result<PropId, BuildFault>
+    ensures { PropertyRead result (tree_iri (tree_of tree.now)) builder.old builder.new }
+{
+    let text = match iri_of(tree).text(alloc) {
+        Ok(text) => text,
+        Err(_) => return Err(BuildFault::Memory),
+    };
+    names::property(builder, text.as_str())
+}
+
+/// The individual that the tree is.
+pub(crate) fn individual(
+    alloc: Global,
+    builder: &mut Builder,
+    tree: &Tree<'_>,
+) -> Result<IndId, BuildFault>
+    ensures { IndividualRead result (tree_iri (tree_of tree.now)) builder.old builder.new }
+{
+    let text = match iri_of(tree).text(alloc) {
+        Ok(text) => text,
+        Err(_) => return Err(BuildFault::Memory),
+    };
+    names::individual(builder, text.as_str())
+}
+
+/// The class that the tree names.
+pub(crate) fn class(
+    alloc: Global,
+    builder: &mut Builder,
+    tree: &Tree<'_>,
+) -> Result<ExprId, BuildFault>
+    ensures { ClassRead result (Named (tree_iri (tree_of tree.now))) builder.old builder.new }
+{
+    let text = match iri_of(tree).text(alloc) {
+        Ok(text) => text,
+        Err(_) => return Err(BuildFault::Memory),
+    };
+    names::class(builder, text.as_str())
+}

@@ -1,8 +1,0 @@
-use Rattle.std.proofs.Common.{map, take}
-use Rattle.axioms.specs.View.{prop_numbers}
-use Rattle.statements.specs.Additions.{ReadsProperties}
-use Rattle.statements.proofs.PropertyForms.{tree_name}
-use Rattle.statements.proofs.properties.properties.Given as goal
-
-abbrev pub invariant-loop-tree : goal.invariant-loop-tree
-invariant-loop-tree l = ReadsProperties (map tree_name (take l.tree-index l.trees)) l.fn.builder l.builder (prop_numbers l.properties.items)

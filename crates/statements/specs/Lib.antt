@@ -1,4 +1,0 @@
-pub mod Statements
-pub mod ClassTrees
-pub mod Additions
-pub mod Theorems
