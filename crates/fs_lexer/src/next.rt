@@ -9,6 +9,7 @@ use crate::token::Token;
 
 /// The first token behind so many bytes of the text, and how many bytes stand before what follows it. None at the end, and
 /// where no token begins.
+#[inline(always)]
 pub fn next_token<'a>(text: &'a str, from: usize) -> Option<(Token<'a>, usize)>
     requires { from ≤ length text.now }
     // What follows it spells the other tokens.

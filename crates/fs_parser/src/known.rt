@@ -35,6 +35,7 @@ impl<'a> Known<'a> {
     }
 
     /// The IRI of a prefix that the document declares.
+    #[inline(always)]
     fn declared_iri(&self, name: &str) -> Option<&'a str>
         ensures some { IfSome result (λ iri. Contains (prefixes_of_code self.now.declared.items) (name.now, iri.now)) }
         ensures none { IfNone result ((iri : List ℕ) → Contains (prefixes_of_code self.now.declared.items) (name.now, iri) → ⊥) }
@@ -43,6 +44,7 @@ impl<'a> Known<'a> {
     }
 
     /// The IRI of a prefix.
+    #[inline(always)]
     pub fn iri(&self, name: &str) -> Option<&'a str>
         ensures some { IfSome result (λ iri. Contains (known_of self.now) (name.now, iri.now)) }
         ensures none { IfNone result ((iri : List ℕ) → Contains (known_of self.now) (name.now, iri) → ⊥) }

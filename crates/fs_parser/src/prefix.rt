@@ -58,6 +58,7 @@ pub fn before_colon(text: &str) -> Option<&str>
 }
 
 /// The IRI of a short name: its prefix ends at the first colon.
+#[inline(always)]
 fn expand_short<'a>(known: &Known<'a>, text: &'a str) -> Option<Iri<'a>>
     ensures some { IfSome result (λ i. IsShort (known_of known.now) text.now (iri_of i)) }
     ensures none { IfNone result ((iri : List ℕ) → IsShort (known_of known.now) text.now iri → ⊥) }
@@ -68,6 +69,7 @@ fn expand_short<'a>(known: &Known<'a>, text: &'a str) -> Option<Iri<'a>>
 }
 
 /// The IRI that the token names.
+#[inline(always)]
 pub fn expand<'a>(known: &Known<'a>, token: &Token<'a>) -> Option<Iri<'a>>
     ensures some { IfSome result (λ i. IsNameOf (known_of known.now) (token_of token.now) (iri_of i)) }
     ensures none { IfNone result ((iri : List ℕ) → IsNameOf (known_of known.now) (token_of token.now) iri → ⊥) }

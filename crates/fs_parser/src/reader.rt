@@ -49,6 +49,7 @@ pub struct State<'a> {
 }
 
 /// One more tree.
+#[inline(always)]
 fn push<'a>(state: &mut State<'a>, tree: Tree<'a>) -> Result<(), ParseFault>
     ensures given { Gives (λ _. state_of state.new) result (Some (add (frames_of state.old.frames.items) (map tree_of state.old.done.items) (tree_of tree.entry))) }
     ensures kept { OnOk result (state.new.frames ≡ state.old.frames) }
@@ -60,6 +61,7 @@ fn push<'a>(state: &mut State<'a>, tree: Tree<'a>) -> Result<(), ParseFault>
 }
 
 /// One more open parenthesis, at `here`, of a tree that begins at `at`.
+#[inline(always)]
 fn open<'a>(
     alloc: Global,
     limit: usize,
@@ -87,6 +89,7 @@ fn open<'a>(
 }
 
 /// The tree of a frame, with the trees in it.
+#[inline(always)]
 fn whole<'a>(at: usize, keyword: Option<&'a str>, trees: Vec<Tree<'a>>) -> Tree<'a>
     ensures { tree_of result ≡ whole_of at (keyword_of keyword.entry) (map tree_of trees.entry.items) }
 {
@@ -98,6 +101,7 @@ fn whole<'a>(at: usize, keyword: Option<&'a str>, trees: Vec<Tree<'a>>) -> Tree<
 
 /// The trees in a list with room for no more than these. The list in which they came keeps its room, for the next ones: of
 /// the trees of a document, most are alone or two.
+#[inline(always)]
 fn fitted<'a>(alloc: Global, trees: &mut Vec<Tree<'a>>) -> Result<Vec<Tree<'a>>, ParseFault>
     ensures same { IfOk result (λ v. v.items ≡ trees.old.items) }
     ensures said { IfErr result IsMemory }
@@ -108,6 +112,7 @@ fn fitted<'a>(alloc: Global, trees: &mut Vec<Tree<'a>>) -> Result<Vec<Tree<'a>>,
 }
 
 /// One open parenthesis less.
+#[inline(always)]
 fn close(alloc: Global, state: &mut State<'_>, here: usize) -> Result<(), ParseFault>
     ensures given { Gives (λ _. state_of state.new) result (leave (frames_of state.old.frames.items) (map tree_of state.old.done.items)) }
     ensures said { IfErr result (IsPlainAt here) }
@@ -124,6 +129,7 @@ fn close(alloc: Global, state: &mut State<'_>, here: usize) -> Result<(), ParseF
 }
 
 /// Why the token names no IRI: its prefix is not known, or it is no short name.
+#[inline(never)]
 fn unnamed(token: &Token<'_>) -> ParseFault
     ensures given { Fails {Y = machine.State} result None }
     ensures said { (limit open' : ℕ) → IsSaidOfToken limit open' None (token_of token.now) result }
@@ -135,6 +141,7 @@ fn unnamed(token: &Token<'_>) -> ParseFault
 }
 
 /// A token where nothing is pending.
+#[inline(always)]
 fn take_plain<'a>(
     alloc: Global,
     limit: usize,
@@ -181,6 +188,7 @@ fn take_plain<'a>(
 }
 
 /// A token behind a string.
+#[inline(never)]
 fn take_behind_text<'a>(
     alloc: Global,
     limit: usize,
@@ -214,6 +222,7 @@ fn take_behind_text<'a>(
 }
 
 /// One more token, which names the IRI, if any.
+#[inline(always)]
 pub fn take<'a>(
     alloc: Global,
     limit: usize,

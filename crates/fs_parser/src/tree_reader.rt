@@ -50,6 +50,7 @@ impl<'a> Model for TreeReader<'a> {
 }
 
 /// Forgets what was read. The lists keep their room.
+#[inline(always)]
 fn clear(state: &mut State<'_>)
     ensures { state_of state.new ≡ machine.state [] [] machine.Nothing }
 {
@@ -59,6 +60,7 @@ fn clear(state: &mut State<'_>)
 }
 
 /// The string that stands outside of all parentheses, where the token does not go on with it.
+#[inline(always)]
 fn literal_before<'a>(state: &State<'a>, token: &Token<'_>) -> Option<Tree<'a>>
     ensures { IfSome result (λ tree. finish (state_of state.now) ≡ Some (tree_of tree ∷ [])) }
 {
@@ -78,6 +80,7 @@ fn literal_before<'a>(state: &State<'a>, token: &Token<'_>) -> Option<Tree<'a>>
 }
 
 /// The tree that was read, where it is whole.
+#[inline(always)]
 fn whole_tree<'a>(state: &mut State<'a>) -> Option<Tree<'a>>
     ensures whole { IfSome result (λ tree. finish (state_of state.old) ≡ Some (tree_of tree ∷ [])) }
     ensures unfinished { IfNone result (state_of state.new ≡ state_of state.old) }
