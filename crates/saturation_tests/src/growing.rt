@@ -2,7 +2,9 @@
 ghost use Rattle.work_list.specs.Bag.{IsEmpty};
 
 use crate::lists::{Refusing, Scripted};
-use crate::problems::{Born, PROBLEMS, Problem, SUBCLASSES_IN_A_CIRCLE, TWO_SUBCLASSES};
+use crate::problems::{
+    ALL_GO_ON, Born, ONE_ENDS, PROBLEMS, Problem, SUBCLASSES_IN_A_CIRCLE, TWO_SUBCLASSES,
+};
 use axioms::Memory;
 use facts::{Fact, FactId, Older};
 use saturate::{State, Stop};
@@ -295,6 +297,17 @@ fn each_problem_by_each_script(rt: HostRuntime) -> Result<(), Fail> {
     Ok(())
 }
 
+#[test]
+fn each_problem_of_seconds_by_each_script(rt: HostRuntime) -> Result<(), Fail> {
+    let seed = RandomState::new(&rt)?;
+    for problems in [ALL_GO_ON, ONE_ENDS] {
+        for problem in problems {
+            assert!(rt; fits(rt.alloc(), seed, problem), "{}", problem.name);
+        }
+    }
+    Ok(())
+}
+
 /// The classes of the first addition are run to the end; then those of the second are added, and make no other fact wait again.
 const APART: &[Act] = &[
     Act::Extend(1, 4),
@@ -315,6 +328,28 @@ const TOGETHER: &[Act] = &[
     Act::Run,
     Act::Serves(9),
 ];
+
+/// The chain comes last: the edge that it begins with waits again, and those by the transitive property that it ends with do not.
+const BEHIND: &[Act] = &[
+    Act::Extend(5, 1),
+    Act::Run,
+    Act::Serves(12),
+    Act::Extend(1, 0),
+    Act::Serves(11),
+    Act::Run,
+    Act::Serves(15),
+];
+
+#[test]
+fn edges_become_seconds(rt: HostRuntime) -> Result<(), Fail> {
+    let seed = RandomState::new(&rt)?;
+    let Some(problem) = ONE_ENDS.first() else {
+        return Ok(());
+    };
+    assert!(rt; in_any_order(rt.alloc(), seed, problem, &[], BEHIND));
+    assert!(rt; with_each_push_refused(rt.alloc(), seed, problem, &[], BEHIND));
+    Ok(())
+}
 
 #[test]
 fn what_waits_again(rt: HostRuntime) -> Result<(), Fail> {

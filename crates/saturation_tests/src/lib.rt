@@ -6,6 +6,8 @@ mod forms;
 #[cfg(test)]
 mod growing;
 #[cfg(test)]
+mod large;
+#[cfg(test)]
 mod listed_facts;
 #[cfg(test)]
 mod lists;
@@ -15,3 +17,5 @@ mod ontologies;
 mod problems;
 #[cfg(test)]
 mod properties;
+#[cfg(test)]
+mod seconds;

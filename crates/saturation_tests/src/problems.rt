@@ -8,9 +8,17 @@ const R: PropId = PropId(0);
 
 const S: PropId = PropId(1);
 
+const T: PropId = PropId(2);
+
+const U: PropId = PropId(3);
+
 const EDGES_R: PropId2 = PropId2::Property(R);
 
 const EDGES_S: PropId2 = PropId2::Property(S);
+
+const EDGES_T: PropId2 = PropId2::Property(T);
+
+const EDGES_U: PropId2 = PropId2::Property(U);
 
 const C0: Class2 = Class2::Expr(ExprId(0));
 
@@ -248,6 +256,97 @@ pub(crate) const PROBLEMS: &[Problem] = &[
         ],
         roots: &[IN0, IN1, IND0],
         facts: 16,
+        born: None,
+    },
+];
+
+/// Problems in which no edge that a transitive property gave has to stand second.
+pub(crate) const ALL_GO_ON: &[Problem] = &[
+    // Twelve individuals, each by a transitive property before the next: 66 edges.
+    Problem {
+        name: "transitive_among_twelve",
+        forms: &[
+            Form::N6(EDGES_R, EDGES_R, EDGES_R),
+            Form::N9(IndId(0), R, IndId(1)),
+            Form::N9(IndId(1), R, IndId(2)),
+            Form::N9(IndId(2), R, IndId(3)),
+            Form::N9(IndId(3), R, IndId(4)),
+            Form::N9(IndId(4), R, IndId(5)),
+            Form::N9(IndId(5), R, IndId(6)),
+            Form::N9(IndId(6), R, IndId(7)),
+            Form::N9(IndId(7), R, IndId(8)),
+            Form::N9(IndId(8), R, IndId(9)),
+            Form::N9(IndId(9), R, IndId(10)),
+            Form::N9(IndId(10), R, IndId(11)),
+        ],
+        roots: &[IND0],
+        facts: 78,
+        born: None,
+    },
+    // Five individuals by the transitive s, which is below the transitive r: 10 edges by s, and 6 by r.
+    Problem {
+        name: "transitive_below_another",
+        forms: &[
+            Form::N6(EDGES_S, EDGES_S, EDGES_S),
+            Form::N5(S, R),
+            Form::N9(IndId(0), S, IndId(1)),
+            Form::N9(IndId(1), S, IndId(2)),
+            Form::N9(IndId(2), S, IndId(3)),
+            Form::N9(IndId(3), S, IndId(4)),
+            Form::N6(EDGES_R, EDGES_R, EDGES_R),
+        ],
+        roots: &[IND0],
+        facts: 21,
+        born: None,
+    },
+    // An edge by s to the first of four individuals by the transitive r, and s then r below s: 6 edges by r, and 4 by s.
+    Problem {
+        name: "transitive_behind_another",
+        forms: &[
+            Form::N6(EDGES_R, EDGES_R, EDGES_R),
+            Form::N9(IndId(0), R, IndId(1)),
+            Form::N9(IndId(1), R, IndId(2)),
+            Form::N9(IndId(2), R, IndId(3)),
+            Form::N9(IndId(4), S, IndId(0)),
+            Form::N6(EDGES_S, EDGES_R, EDGES_S),
+        ],
+        roots: &[IND4],
+        facts: 15,
+        born: None,
+    },
+];
+
+/// Problems in which such an edge has to.
+pub(crate) const ONE_ENDS: &[Problem] = &[
+    // .. and s then r below t, of which none goes on: 6 edges by r, 1 by s, and 3 by t.
+    Problem {
+        name: "chain_that_ends_with_a_transitive_property",
+        forms: &[
+            Form::N6(EDGES_R, EDGES_R, EDGES_R),
+            Form::N9(IndId(0), R, IndId(1)),
+            Form::N9(IndId(1), R, IndId(2)),
+            Form::N9(IndId(2), R, IndId(3)),
+            Form::N9(IndId(4), S, IndId(0)),
+            Form::N6(EDGES_S, EDGES_R, EDGES_T),
+        ],
+        roots: &[IND4],
+        facts: 15,
+        born: None,
+    },
+    // .. with s then u below t, where u is above r.
+    Problem {
+        name: "chain_that_ends_above_a_transitive_property",
+        forms: &[
+            Form::N6(EDGES_R, EDGES_R, EDGES_R),
+            Form::N9(IndId(0), R, IndId(1)),
+            Form::N9(IndId(1), R, IndId(2)),
+            Form::N9(IndId(2), R, IndId(3)),
+            Form::N9(IndId(4), S, IndId(0)),
+            Form::N6(EDGES_S, EDGES_U, EDGES_T),
+            Form::N5(R, U),
+        ],
+        roots: &[IND4],
+        facts: 15,
         born: None,
     },
 ];
