@@ -16,6 +16,7 @@ use fs_parser::Tree;
 use std::alloc::Global;
 
 /// Adds the axiom over what is there.
+#[inline(always)]
 fn state(builder: &mut Builder, axiom: Axiom) -> Result<(), BuildFault>
     requires { IsAxiomOf builder.old (axiom_of «axiom») }
     ensures { AxiomRead result (axiom_of «axiom») builder.old builder.new }

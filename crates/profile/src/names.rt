@@ -5,6 +5,7 @@ ghost use Rattle.profile.specs.Additions.{ClassRead, IndividualRead, PropertyRea
 use axioms::{BuildFault, Builder, ExprId, IndId, Kind, Name, PropId};
 
 /// The expression of the class of this name, which is declared where it is new.
+#[inline(always)]
 pub(crate) fn class(builder: &mut Builder, iri: &str) -> Result<ExprId, BuildFault>
     ensures { ClassRead result (Named iri.now) builder.old builder.new }
 {
@@ -21,6 +22,7 @@ pub(crate) fn class(builder: &mut Builder, iri: &str) -> Result<ExprId, BuildFau
 }
 
 /// The property of this name, which is declared where it is new.
+#[inline(always)]
 pub(crate) fn property(builder: &mut Builder, iri: &str) -> Result<PropId, BuildFault>
     ensures { PropertyRead result iri.now builder.old builder.new }
 {
@@ -37,6 +39,7 @@ pub(crate) fn property(builder: &mut Builder, iri: &str) -> Result<PropId, Build
 }
 
 /// The individual of this name, which is declared where it is new.
+#[inline(always)]
 pub(crate) fn individual(builder: &mut Builder, iri: &str) -> Result<IndId, BuildFault>
     ensures { IndividualRead result iri.now builder.old builder.new }
 {

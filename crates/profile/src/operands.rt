@@ -15,6 +15,7 @@ use fs_parser::{Iri, Tree};
 use std::alloc::Global;
 
 /// The expression over what is there, which is added where it is new.
+#[inline(always)]
 pub(crate) fn add(builder: &mut Builder, expr: Expr) -> Result<ExprId, Memory>
     requires fits { IsNodeOf builder.old (length builder.old.nodes) (node_of expr) }
     requires unnamed { class_name (node_tree builder.old.names (trees builder.old) (node_of expr)) ≡ None }
@@ -27,6 +28,7 @@ pub(crate) fn add(builder: &mut Builder, expr: Expr) -> Result<ExprId, Memory>
 }
 
 /// The IRI of the name that the tree is; what is no name has the empty one.
+#[inline(always)]
 fn iri_of<'a>(tree: &Tree<'a>) -> Iri<'a>
     ensures { iri_of result ≡ tree_iri (tree_of tree.now) }
 {
@@ -40,6 +42,7 @@ fn iri_of<'a>(tree: &Tree<'a>) -> Iri<'a>
 }
 
 /// The property that the tree is.
+#[inline(always)]
 pub(crate) fn property(
     alloc: Global,
     builder: &mut Builder,
@@ -55,6 +58,7 @@ pub(crate) fn property(
 }
 
 /// The individual that the tree is.
+#[inline(always)]
 pub(crate) fn individual(
     alloc: Global,
     builder: &mut Builder,
@@ -70,6 +74,7 @@ pub(crate) fn individual(
 }
 
 /// The class that the tree names.
+#[inline(always)]
 pub(crate) fn class(
     alloc: Global,
     builder: &mut Builder,

@@ -12,7 +12,7 @@ use work_list::{Fifo, Lifo, WorkList};
 /// Whether the fact of that number was stated: no older facts gave it.
 fn is_stated<W: WorkList>(state: &State<W>, fact: FactId) -> bool {
     match state.born(fact) {
-        Some(birth) => matches!(birth.older, Older::None),
+        Some(birth) => matches!(birth.older(), Older::None),
         None => false,
     }
 }
@@ -20,7 +20,7 @@ fn is_stated<W: WorkList>(state: &State<W>, fact: FactId) -> bool {
 /// Whether the fact of that number is no edge that two edges gave, or one of which the second was stated.
 fn has_a_stated_second<W: WorkList>(state: &State<W>, fact: FactId) -> bool {
     match state.born(fact) {
-        Some(birth) => match birth.older {
+        Some(birth) => match birth.older() {
             Older::Two(_, second) => is_stated(state, second),
             _ => true,
         },

@@ -23,6 +23,7 @@ pub(crate) struct Context<'o> {
 
 impl Context<'_> {
     /// Whether there is such a name.
+    #[inline(always)]
     pub(crate) fn has(&self, expected: Expected, iri: &Iri<'_>) -> Result<bool, Memory>
         ensures { IfOk result (λ there. there ≡ is_there (names_of self.now) expected (iri_of iri.now)) }
     {

@@ -12,6 +12,7 @@ use axioms::{OWL_NOTHING, OWL_THING};
 use fs_parser::Iri;
 
 /// What stands behind a beginning.
+#[inline(always)]
 fn behind<'a>(text: &'a str, front: &str) -> Option<&'a str>
     ensures some { IfSome result (λ rest. text.now ≡ front.now ++ rest.now) }
     ensures none { IfNone result ((rest : List ℕ) → text.now ≡ front.now ++ rest → ⊥) }
@@ -20,6 +21,7 @@ fn behind<'a>(text: &'a str, front: &str) -> Option<&'a str>
 }
 
 /// Whether the text begins so.
+#[inline(always)]
 fn text_begins_with(text: &str, front: &str) -> bool
     ensures { result ≡ starts_with nat_eq text.now front.now }
 {
@@ -27,6 +29,7 @@ fn text_begins_with(text: &str, front: &str) -> bool
 }
 
 /// Whether the IRI begins so.
+#[inline(always)]
 fn begins_with(iri: &Iri<'_>, front: &str) -> bool
     ensures { result ≡ starts_with nat_eq (iri_of iri.now) front.now }
 {
@@ -37,6 +40,7 @@ fn begins_with(iri: &Iri<'_>, front: &str) -> bool
 }
 
 /// Whether the IRI begins with that of a standard prefix.
+#[inline(always)]
 fn is_reserved(iri: &Iri<'_>) -> bool
     ensures { result ≡ is_reserved (iri_of iri.now) }
 {
@@ -47,6 +51,7 @@ fn is_reserved(iri: &Iri<'_>) -> bool
 }
 
 /// Whether a class may have this IRI.
+#[inline(always)]
 fn is_class_name(iri: &Iri<'_>) -> bool
     ensures { result ≡ is_class_name (iri_of iri.now) }
 {
@@ -54,6 +59,7 @@ fn is_class_name(iri: &Iri<'_>) -> bool
 }
 
 /// Whether what is expected may have this IRI.
+#[inline(always)]
 pub fn is_allowed(expected: Expected, iri: &Iri<'_>) -> bool
     ensures { result ≡ is_allowed expected (iri_of iri.now) }
 {
@@ -65,6 +71,7 @@ pub fn is_allowed(expected: Expected, iri: &Iri<'_>) -> bool
 }
 
 /// Whether a name may stand where this is expected.
+#[inline(always)]
 pub fn may_be_name(expected: Expected) -> bool
     ensures { result ≡ may_be_name expected }
 {

@@ -30,6 +30,7 @@ use std::hash::RandomState;
 const FEW_OPERANDS: usize = 8;
 
 /// Whether the tree is a name.
+#[inline(always)]
 fn is_name(tree: &Tree<'_>) -> bool
     ensures { result ≡ is_name (tree_of tree.now) }
 {
@@ -60,6 +61,7 @@ fn annotation_count(trees: &[Tree<'_>]) -> usize
 }
 
 /// How many annotations stand in front of the operands where such a tree is expected.
+#[inline(always)]
 fn annotations_in_front(expected: Expected, trees: &[Tree<'_>]) -> usize
     ensures within { result ≤ length trees.now }
     ensures others { trees_of (drop result trees.now) ≡ own_trees expected (trees_of trees.now) }
@@ -95,6 +97,7 @@ fn misplaced(context: &Context<'_>, at: usize, keyword: &str) -> Result<Fault, M
 }
 
 /// Whether the next operand equals an earlier one, and may not.
+#[inline(always)]
 fn is_repeated(operands: Operands<'_>, next: &Tree<'_>, earlier: &[Tree<'_>]) -> bool
     ensures { result ≡ is_repeated (operands_view operands.entry) (tree_of next.now) (map tree_of earlier.now) }
 {
@@ -102,6 +105,7 @@ fn is_repeated(operands: Operands<'_>, next: &Tree<'_>, earlier: &[Tree<'_>]) ->
 }
 
 /// The fault of a name, if it has one.
+#[inline(always)]
 fn name_faults(
     context: &Context<'_>,
     found: &mut Vec<Fault>,
@@ -124,6 +128,7 @@ fn name_faults(
 }
 
 /// The fault of a literal, if it has one.
+#[inline(always)]
 fn literal_faults(found: &mut Vec<Fault>, expected: Expected, at: usize) -> Result<(), Memory>
     ensures { OnOk result (faults_of found.new.items ≡ faults_of found.old.items ++ literal_faults expected at) }
 {
