@@ -1,8 +1,6 @@
 //! Contexts, and the facts that speak of them.
-ghost use Rattle.facts.specs.Writes.{class_words, context_words, property_words};
-ghost use Rattle.std.specs.Hash as fed;
-ghost use Rattle.std.specs.Hash.{fed_then};
-ghost use Rattle.std.specs.Prelude.{◌≡◌, ◌++◌, fold};
+ghost use Rattle.facts.specs.Writes.{class_word, context_word, property_word};
+ghost use Rattle.std.specs.Prelude.{◌≡◌};
 
 use axioms::{ExprId, IndId, PropId};
 use normal_forms::{Class2, PropId2};
@@ -22,7 +20,8 @@ pub enum Fact {
     Edge(Context, PropId2, Context),
 }
 
-/// Facts feed hashers whole words: a derived `hash` would feed them numbers of 4 bytes, which a keyed hasher joins byte by byte.
+/// Facts feed hashers two or three whole words: a derived `hash` would feed them numbers of 4 bytes, which a keyed hasher joins byte
+/// by byte.
 impl Hash for Fact {
     ghost use Rattle.facts.specs.Writes.{fact_words};
     ghost use Rattle.std.specs.Cmp.Rules.{hashing};
@@ -35,54 +34,50 @@ impl Hash for Fact {
     fn hash<H: Hasher>(&self, state: &mut H) {
         match *self {
             Fact::In(class, context) => {
-                state.write_u64(0);
-                feed_class(class, state);
-                feed_context(context, state);
+                state.write_u64(class_word(class));
+                state.write_u64(context_word(context));
             }
             Fact::Edge(source, property, target) => {
-                state.write_u64(1);
-                feed_context(source, state);
-                feed_property(property, state);
-                feed_context(target, state);
+                state.write_u64(context_word(source));
+                state.write_u64(property_word(property));
+                state.write_u64(context_word(target));
             }
         }
     }
 }
 
-/// Feeds a hasher which kind of two it is, and a number.
-fn feed_number<H: Hasher>(kind: u64, number: u32, state: &mut H)
-    ensures { state.new ≡ fold H.write state.old (fed.u64 kind ++ fed.u64 number) }
-{
-    state.write_u64(kind);
-    state.write_u64(number as u64);
-}
+/// What stands for a number of the second of two kinds begins here, above all numbers of the first.
+const SECOND_KIND: u64 = 4_294_967_296;
 
-/// Feeds a hasher the class.
-fn feed_class<H: Hasher>(class: Class2, state: &mut H)
-    ensures { state.new ≡ fold H.write state.old (class_words class) }
+/// The word that stands for the class.
+#[inline(always)]
+fn class_word(class: Class2) -> u64
+    ensures { result ≡ class_word class }
 {
     match class {
-        Class2::Expr(ExprId(number)) => feed_number(0, number, state),
-        Class2::Partial(number) => feed_number(1, number, state),
+        Class2::Expr(ExprId(number)) => number as u64,
+        Class2::Partial(number) => SECOND_KIND + number as u64,
     }
 }
 
-/// Feeds a hasher the property.
-fn feed_property<H: Hasher>(property: PropId2, state: &mut H)
-    ensures { state.new ≡ fold H.write state.old (property_words property) }
+/// The word that stands for the property.
+#[inline(always)]
+fn property_word(property: PropId2) -> u64
+    ensures { result ≡ property_word property }
 {
     match property {
-        PropId2::Property(PropId(number)) => feed_number(0, number, state),
-        PropId2::Partial(number) => feed_number(1, number, state),
+        PropId2::Property(PropId(number)) => number as u64,
+        PropId2::Partial(number) => SECOND_KIND + number as u64,
     }
 }
 
-/// Feeds a hasher the context.
-fn feed_context<H: Hasher>(context: Context, state: &mut H)
-    ensures { state.new ≡ fold H.write state.old (context_words context) }
+/// The word that stands for the context.
+#[inline(always)]
+fn context_word(context: Context) -> u64
+    ensures { result ≡ context_word context }
 {
     match context {
-        Context::Expr(ExprId(number)) => feed_number(0, number, state),
-        Context::Individual(IndId(number)) => feed_number(1, number, state),
+        Context::Expr(ExprId(number)) => number as u64,
+        Context::Individual(IndId(number)) => SECOND_KIND + number as u64,
     }
 }
