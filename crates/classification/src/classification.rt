@@ -4,7 +4,7 @@ ghost use Rattle.classification.specs.Classified.{AreCountsOf, AreTextsOf};
 ghost use Rattle.classification.specs.Shown.{IsCertificateOf, IsOutcomeOf};
 ghost use Rattle.closure_model.specs.Listed.{IsConsistent};
 ghost use Rattle.engine.specs.Saturated.{HasMoreFactsThan, IsSaturated};
-ghost use Rattle.saturate.specs.declared.known_facts.Stop.TheVariants as stops;
+ghost use Rattle.inference.specs.declared.known_facts.Stop.TheVariants as stops;
 ghost use Rattle.std.specs.Prelude.{◌↔◌, ◌≡◌, ◌≤◌, [], Err, IfOk, IsTrue, false, length, true};
 
 use crate::consistent::is_consistent;

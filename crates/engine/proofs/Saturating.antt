@@ -17,9 +17,9 @@ use Rattle.problem.specs.Roots.{AreRoots}
 use Rattle.problem.proofs.Made.{makes_the_problem}
 use Rattle.saturate.specs.Growing.{HasGrown, KeepsServed, with_more}
 use Rattle.saturate.specs.State.{Seen, AreBorn, nothing_seen}
-use Rattle.saturate.specs.Working.{IsClosure}
-use Rattle.saturate.specs.Derived as derived
-use Rattle.saturate.proofs.Growth.{sound}
+use Rattle.inference.specs.Working.{IsClosure}
+use Rattle.inference.specs.Derived as derived
+use Rattle.inference.proofs.Growth.{sound}
 use Rattle.engine.specs.Saturated.{HasMoreFactsThan, IsSaturated, IsSound, SayFactsOfTheClosure, SayTheClosure}
 use Rattle.engine.proofs.Saying.{more_facts}
 

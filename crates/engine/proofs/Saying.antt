@@ -19,7 +19,7 @@ use Rattle.facts.specs.Closure as numbered
 use Rattle.closure.specs.Closure.{Context, Fact, IsFact}
 use Rattle.closure.specs.Said.{Beginnings, SaysClass, whole, beginning, SaysProperty, property, steps, SaysContext, expression, individual, SaysFact, in_context, edge, IsProblemOf}
 use Rattle.closure.proofs.Said.{said}
-use Rattle.saturate.specs.Derived as derived
+use Rattle.inference.specs.Derived as derived
 use Rattle.engine.specs.Saturated.{HasMoreFactsThan}
 
 abbrev expr_id : ℕ → ExprId

@@ -7,9 +7,9 @@ ghost use Rattle.facts.specs.declared.contexts.Fact.{Fact as Fact2};
 ghost use Rattle.normalise.specs.Entries.{form_in};
 ghost use Rattle.normalise.specs.Growing.{IsNormalFor};
 ghost use Rattle.problem.specs.Made.{beginnings_of};
-ghost use Rattle.saturate.specs.Closed.{IsClosureOf};
+ghost use Rattle.inference.specs.Closed.{IsClosureOf};
 ghost use Rattle.saturate.specs.State.{Extends};
-ghost use Rattle.saturate.specs.declared.known_facts.Stop.TheVariants as stops;
+ghost use Rattle.inference.specs.declared.known_facts.Stop.TheVariants as stops;
 ghost use Rattle.std.specs.Prelude.{◌≡◌, ◌≤◌, ◌↔◌, Err, IfNone, IfOk, IfSome, IsTrue, OnOk, Some, [], length, map, slice_get, take};
 
 use axioms::{Memory, Ontology};

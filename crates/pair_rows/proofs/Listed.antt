@@ -27,8 +27,8 @@ use Rattle.elements.specs.Elements.{context_of}
 use Rattle.engine.specs.Saturated.{IsSaturated, Saturated}
 use Rattle.problem.specs.Made.{beginnings_of}
 use Rattle.property_closure.specs.Closed.{Known, Has}
-use Rattle.saturate.specs.Closed.{IsClosureOf}
-use Rattle.saturate.proofs.Edges.{edge_has}
+use Rattle.inference.specs.Closed.{IsClosureOf}
+use Rattle.inference.proofs.Edges.{edge_has}
 use Rattle.pair_rows.specs.declared.pair.Pair.{Pair}
 use Rattle.pair_rows.specs.Edges.{IsGiven, IsGivenBy}
 use Rattle.pair_rows.specs.Pairs.{AreGrouped, Row, pair}

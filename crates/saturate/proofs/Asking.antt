@@ -15,7 +15,7 @@ use Rattle.facts.specs.declared.contexts.Fact.TheVariants.{In, Edge}
 use Rattle.form_index.specs.Named.{class_key, property_key, by_alone, by_first, by_filler, by_chain, by_plain}
 use Rattle.form_index.specs.Under.{IsUnder}
 use Rattle.saturate.specs.Asked.{Asks, IsAsked, BeginsWith}
-use Rattle.saturate.proofs.Lists.{Contains-from_slice_get, slice_get-from_Contains}
+use Rattle.inference.proofs.Lists.{Contains-from_slice_get, slice_get-from_Contains}
 
 -- a list that is not empty has some number
 pub some_there : (xs : List ℕ) (empty : Bool) → empty ≡ eqb (length xs) 0 → not empty ≡ true → (n : ℕ) × Contains xs n

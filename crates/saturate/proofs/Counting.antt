@@ -8,9 +8,9 @@ use Rattle.std.proofs.lemmas.Option.{none-some, same_Some, slice_get_within, sli
 use Rattle.std.specs.List.{list_any}
 use Rattle.facts.specs.declared.contexts.Fact.{Fact}
 use Rattle.facts.specs.Closure.{Problem}
-use Rattle.saturate.specs.Derived.{AreDistinct, HasMoreFactsThan}
-use Rattle.saturate.specs.Working.{IsClosure}
-use Rattle.saturate.proofs.Lists.{slice_get-from_Contains}
+use Rattle.inference.specs.Derived.{AreDistinct, HasMoreFactsThan}
+use Rattle.inference.specs.Working.{IsClosure}
+use Rattle.inference.proofs.Lists.{slice_get-from_Contains}
 
 Contains-first : {X : Type 0} (x : X) (xs : List X) → Contains (x ∷ xs) x
 Contains-first x xs = (0, omega arith, refl)

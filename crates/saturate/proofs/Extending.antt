@@ -14,12 +14,13 @@ use Rattle.facts.specs.Closure.{Problem, IsContextBy, FromOne, FromTwo, Conclude
 use Rattle.facts.specs.Births.{Reason}
 use Rattle.facts.proofs.Premises.{no_three}
 use Rattle.saturate.specs.Asked.{Asks, IsAsked}
-use Rattle.saturate.specs.Derived.{Derived, IsDerived, Grows, Keeps}
-use Rattle.saturate.specs.Growing.{with_more, KeepsServed, HasBegun}
-use Rattle.saturate.specs.Working.{IsCompleteButSpared, IsServed, AreSpared, EndsAbove, GoesOn}
-use Rattle.saturate.proofs.Lists.{Contains-from_slice_get}
-use Rattle.saturate.proofs.Growth.{there_still}
-use Rattle.saturate.proofs.Sparing.{spared_still}
+use Rattle.inference.specs.Derived.{Derived, IsDerived, Grows, Keeps}
+use Rattle.saturate.specs.Growing.{with_more, KeepsServed}
+use Rattle.inference.specs.Begun.{HasBegun}
+use Rattle.inference.specs.Working.{IsCompleteButSpared, IsServed, AreSpared, EndsAbove, GoesOn}
+use Rattle.inference.proofs.Lists.{Contains-from_slice_get}
+use Rattle.inference.proofs.Growth.{there_still}
+use Rattle.inference.proofs.Sparing.{spared_still}
 use Rattle.saturate.specs.State.{IsState}
 use Rattle.saturate.specs.Listed.{ListsFacts, ListsServed}
 use Rattle.saturate.specs.Queued.{Queued, option_list}

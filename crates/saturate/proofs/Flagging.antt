@@ -11,7 +11,7 @@ use Rattle.normal_forms.proofs.Filters.{kept as is_kept_of, from_kept, passes}
 use Rattle.saturate.specs.Asked.{IsAsked}
 use Rattle.saturate.specs.Flagged.{IsFlagged, is_flagged, is_kept, kept}
 use Rattle.saturate.specs.Growing.{KeepsServed}
-use Rattle.saturate.proofs.Lists.{one_value}
+use Rattle.inference.proofs.Lists.{one_value}
 
 -- one flag more
 pub flag_more : (all added : List Form) (facts : List Fact) (flags : List Bool) (flag : Bool) (i : ℕ) (f : Fact) → length flags ≡ i → slice_get facts i ≡ Some f

@@ -10,9 +10,9 @@ use Rattle.facts.specs.declared.contexts.Context.{Context}
 use Rattle.facts.specs.declared.contexts.Fact.{Fact}
 use Rattle.facts.specs.declared.contexts.Fact.TheVariants.{In, Edge}
 use Rattle.facts.specs.Closure.{Problem, FromTwo, Concludes, IsLoop, Gives, in_thing, in_itself, by_form, unsatisfiable, loop}
-use Rattle.saturate.specs.Derived.{Derived, IsDerived}
-use Rattle.saturate.specs.Working.{AreSpared, Drawn, DrawnButSpared, EndsAbove, GoesOn}
-use Rattle.saturate.proofs.Lists.{Contains-from_slice_get, one_value, slice_get_take, slice_get-from_Contains}
+use Rattle.inference.specs.Derived.{Derived, IsDerived}
+use Rattle.inference.specs.Working.{AreSpared, Drawn, DrawnButSpared, EndsAbove, GoesOn}
+use Rattle.inference.proofs.Lists.{Contains-from_slice_get, one_value, slice_get_take, slice_get-from_Contains}
 
 -- the form of that number is a chain: what is given by it is given as by a chain
 by_chain_form : {k : Problem} {c i : ℕ} {o : Option ℕ} {older : List Fact} {f : Fact} (r s t : PropId2) → Gives k c o older f → o ≡ Some i → slice_get k.forms i ≡ Some (N6 r s t) → Concludes k (N6 r s t) older f

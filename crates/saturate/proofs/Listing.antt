@@ -16,13 +16,14 @@ use Rattle.fact_index.specs.Contexts.{at_context, IsLast, IsEmptyTable, IsEmptyI
 use Rattle.fact_index.specs.Parts.{ArePartOf}
 use Rattle.fact_index.proofs.Parts.{part_empty, part_same, part_push, part_more, part_behind, part_within, part_cases, part_contains}
 use Rattle.fact_index.specs.Indexed.{IsIn, IsFrom, IsInto, IsSecondFrom, MayListIn, MayList, Lists, ListsIn}
-use Rattle.saturate.specs.Derived.{Derived, Grows}
+use Rattle.inference.specs.Derived.{Derived, Grows}
 use Rattle.saturate.specs.Queued.{Queued, option_list}
-use Rattle.saturate.specs.Working.{MeetEachOther, AreMet, AreMetBefore, AreMetBehind, IsSparedAsSecond}
-use Rattle.saturate.specs.Visited.{AreAll, IsClassFact, IsEdge}
-use Rattle.saturate.specs.Listed.{IsWithin, AllListedAreMet, ListsFacts, ListsSeconds, ListsServed}
-use Rattle.saturate.proofs.Lists.{one_value}
-use Rattle.saturate.proofs.Sparing.{second_still}
+use Rattle.inference.specs.Working.{MeetEachOther, AreMet, AreMetBefore, AreMetBehind, IsSparedAsSecond}
+use Rattle.inference.specs.Visited.{AreAll, IsClassFact, IsEdge}
+use Rattle.saturate.specs.Listed.{ListsFacts, ListsSeconds, ListsServed}
+use Rattle.inference.specs.Met.{IsWithin, AllListedAreMet}
+use Rattle.inference.proofs.Lists.{one_value}
+use Rattle.inference.proofs.Sparing.{second_still}
 use Rattle.saturate.proofs.States.{was_there}
 
 -- ---- tables

@@ -2,14 +2,14 @@
 use Rattle.std.proofs.Common.{◌≡◌, ℕ, ◌+◌, ◌<◌, ◌≤◌, List, length, slice_get, get_or, Some, Contains, refl, subst, sym, ◌∙◌, arith, below_more}
 use Rattle.std.specs.List.{All}
 use Rattle.std.proofs.lemmas.Option.{same_Some, slice_get-get_or, slice_get_within}
-use Rattle.saturate.proofs.Lists.{Contains-from_slice_get, slice_get-from_Contains}
+use Rattle.inference.proofs.Lists.{Contains-from_slice_get, slice_get-from_Contains}
 use Rattle.normal_forms.specs.declared.forms.PropId2.{PropId2}
 use Rattle.normal_forms.specs.declared.forms.PropId2.TheVariants.{Property, Partial}
 use Rattle.normal_forms.specs.declared.forms.Form.{Form}
 use Rattle.normal_forms.specs.declared.forms.Form.TheVariants.{N1, N2, N3, N4, N5, N6, N7, N8, N9}
 use Rattle.normal_forms.specs.Properties.{IsPropertyFormOf, property_forms}
 use Rattle.property_closure.specs.Closed.{Known}
-use Rattle.saturate.specs.Closed.{IsClosureOf}
+use Rattle.inference.specs.Closed.{IsClosureOf}
 use Rattle.saturate.specs.declared.counts.Counts.{Counts}
 use Rattle.saturate.specs.Counts.{HasNames, HasNamesBelow, HasProperty, IsMore}
 

@@ -6,13 +6,13 @@ use Rattle.std.proofs.lemmas.Option.{none-some, slice_get_within, slice_get-get_
 use Rattle.facts.specs.declared.contexts.Fact.{Fact}
 use Rattle.facts.specs.Closure.{Problem, IsFact, AreFacts, given, none, more, in_thing, in_itself, by_form, unsatisfiable, loop}
 use Rattle.facts.proofs.Premises.{no_three}
-use Rattle.saturate.specs.Derived.{Derived, IsDerived, Grows, HasMoreFactsThan}
+use Rattle.inference.specs.Derived.{Derived, IsDerived, Grows, HasMoreFactsThan}
 use Rattle.saturate.specs.Queued.{Queued}
-use Rattle.saturate.specs.Working.{IsServed, IsClosure, Drawn, DrawnButSpared, MeetEachOther}
+use Rattle.inference.specs.Working.{IsServed, IsClosure, Drawn, DrawnButSpared, MeetEachOther}
 use Rattle.saturate.specs.State.{IsState}
-use Rattle.saturate.proofs.Lists.{one_value, slice_get_there, Contains-from_slice_get}
-use Rattle.saturate.proofs.Growth.{sound}
-use Rattle.saturate.proofs.Sparing.{all_drawn, but_spared_still}
+use Rattle.inference.proofs.Lists.{one_value, slice_get_there, Contains-from_slice_get}
+use Rattle.inference.proofs.Growth.{sound}
+use Rattle.inference.proofs.Sparing.{all_drawn, but_spared_still}
 use Rattle.saturate.proofs.Joining.{all_joined}
 
 -- a fact that is there still, and was there before

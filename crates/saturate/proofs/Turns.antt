@@ -15,7 +15,7 @@ use Rattle.saturate.specs.Flagged.{asked, is_flagged, is_kept, kept}
 use Rattle.axioms.specs.WellFormed.{AreDistinct}
 use Rattle.axioms.proofs.Growing.{AreDistinct-push}
 use Rattle.saturate.specs.Queued.{item, IsQueue, HasTurn, IsServedOnce}
-use Rattle.saturate.proofs.Lists.{one_value, Contains-from_slice_get, slice_get-from_Contains, slice_get_there, slice_get_push, slice_get_push_cases, slice_get_take, keeps_push}
+use Rattle.inference.proofs.Lists.{one_value, Contains-from_slice_get, slice_get-from_Contains, slice_get_there, slice_get_push, slice_get_push_cases, slice_get_take, keeps_push}
 
 same_item : (n c : ℕ) → is_item (item n c) (item n c) ≡ true
 same_item n c = grind (arith, nat_tests)

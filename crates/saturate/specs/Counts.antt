@@ -3,7 +3,7 @@ use Rattle.std.specs.Prelude.{ℕ, ◌<◌, ◌≤◌, ◌^◌, List, slice_get,
 use Rattle.normal_forms.specs.declared.forms.PropId2.{PropId2}
 use Rattle.normal_forms.specs.declared.forms.Form.{Form}
 use Rattle.normal_forms.specs.Properties.{IsPropertyOf, IsPropertyFormOf}
-use Rattle.saturate.specs.Closed.{PutsOnEdges}
+use Rattle.inference.specs.Closed.{PutsOnEdges}
 use Rattle.saturate.specs.declared.counts.Counts.{Counts}
 
 -- what numbers of 32 bits can count

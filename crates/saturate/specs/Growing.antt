@@ -4,11 +4,10 @@ use Rattle.std.specs.List.{Contains}
 use Rattle.normal_forms.specs.declared.forms.Form.{Form}
 use Rattle.facts.specs.declared.contexts.Context.{Context}
 use Rattle.facts.specs.declared.contexts.Fact.{Fact}
-use Rattle.facts.specs.Closure.{Problem, IsTarget, IsLoop}
+use Rattle.facts.specs.Closure.{Problem}
 use Rattle.saturate.specs.Asked.{IsAskedAt}
-use Rattle.saturate.specs.Derived.{Derived, Grows, Keeps}
+use Rattle.inference.specs.Derived.{Keeps}
 use Rattle.saturate.specs.State.{Seen}
-use Rattle.saturate.specs.Working.{AllDrawn, Drawn}
 
 -- the forms and roots, and then those that are added
 abbrev pub with_more : Problem → List Form → List Context → Problem
@@ -23,17 +22,3 @@ pub record HasGrown (forms : List Form) (roots : List Context) (old new : Seen) 
 -- exactly the served facts that no added form asks for are served still
 abbrev pub KeepsServed : List Form → List Form → List Fact → List ℕ → List ℕ → Type 0
 KeepsServed forms added facts old new = (n : ℕ) → Contains new n ↔ (Contains old n × (IsAskedAt forms added facts n → ⊥))
-
--- the loops at the target of the fact of that number are there, where it is an edge
-abbrev pub LoopIsDrawn : Problem → List Fact → List Fact → ℕ → Type 0
-LoopIsDrawn k old new n = (f : Fact) (x : Context) → slice_get old n ≡ Some f → IsTarget f x → AllDrawn (IsLoop x) k.forms new
-
--- .. at the target of each edge
-abbrev pub LoopsAreDrawn : Problem → List Fact → List Fact → Type 0
-LoopsAreDrawn k old new = (n : ℕ) → LoopIsDrawn k old new n
-
--- facts are kept, what is there at once is added, and so are the loops at the targets of edges
-pub record HasBegun (k : Problem) (most : ℕ) (old new : Derived) : Type 0 where
-  pub grows : Grows k most old new
-  pub given : Drawn k [] new.facts
-  pub loops : LoopsAreDrawn k old.facts new.facts

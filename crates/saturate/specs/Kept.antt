@@ -5,7 +5,7 @@ use Rattle.facts.specs.declared.contexts.Fact.{Fact}
 use Rattle.facts.specs.Closure.{Problem}
 use Rattle.facts.specs.Births.{Reason}
 use Rattle.saturate.specs.State.{Seen, AreBorn}
-use Rattle.saturate.specs.Working.{IsClosure}
+use Rattle.inference.specs.Working.{IsClosure}
 
 -- seen as a state that served each of its facts, in the order of birth
 abbrev pub served_all : Problem → List Fact → List Reason → Seen

@@ -1,11 +1,7 @@
-pub mod Closed
-pub mod Working
-pub mod Derived
 pub mod Queued
 pub mod State
 pub mod Listed
 pub mod Served
-pub mod Visited
 pub mod Asked
 pub mod Flagged
 pub mod Growing

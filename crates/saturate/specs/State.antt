@@ -4,9 +4,9 @@ use Rattle.std.specs.List.{Contains}
 use Rattle.facts.specs.declared.contexts.Fact.{Fact}
 use Rattle.facts.specs.Closure.{Problem}
 use Rattle.facts.specs.Births.{Reason}
-use Rattle.saturate.specs.Derived.{Derived, IsDerived, Keeps}
+use Rattle.inference.specs.Derived.{Derived, IsDerived, Keeps}
 use Rattle.saturate.specs.Queued.{Queued}
-use Rattle.saturate.specs.Working.{IsCompleteButSpared}
+use Rattle.inference.specs.Working.{IsCompleteButSpared}
 
 -- what callers see: the problem, the facts in order of birth with what gave them, and the numbers of those served, in order
 pub record Seen : Type 0 where

@@ -6,8 +6,8 @@ ghost use Rattle.normal_forms.specs.declared.forms.PropId2.{PropId2 as PropId3};
 ghost use Rattle.form_index.specs.Named.{by_filler, by_first, class_key};
 ghost use Rattle.property_closure.specs.Closed.{Has};
 ghost use Rattle.saturate.specs.Asked.{BeginsWith, IsAsked};
-ghost use Rattle.saturate.specs.Closed.{IsClosureOf};
-ghost use Rattle.saturate.specs.Visited.{HasProperty, NoneUnder};
+ghost use Rattle.inference.specs.Closed.{IsClosureOf};
+ghost use Rattle.inference.specs.Visited.{HasProperty, NoneUnder};
 ghost use Rattle.std.specs.Prelude.{◌≡◌, ◌↔◌, ℕ, List, Contains, IsTrue, false, true};
 
 use facts::Fact;

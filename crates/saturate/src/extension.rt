@@ -1,19 +1,18 @@
 //! Facts and their turns after forms and roots were added.
 ghost use Rattle.saturate.specs.Listed.{ListsFacts};
-ghost use Rattle.saturate.specs.Derived.{IsDerived};
+ghost use Rattle.inference.specs.Derived.{IsDerived};
 ghost use Rattle.saturate.specs.Flagged.{IsFlagged, kept};
-ghost use Rattle.saturate.specs.Growing.{HasBegun, KeepsServed};
+ghost use Rattle.saturate.specs.Growing.{KeepsServed};
+ghost use Rattle.inference.specs.Begun.{HasBegun};
 ghost use Rattle.std.specs.Prelude.{◌≡◌, ◌<◌, ◌++◌, ◌∷◌, [], ℕ, List, Contains, IfOk, OnErr, OnOk, length};
 
 use crate::additions::asks_for;
 use crate::ground::Ground;
-use crate::known_facts::KnownFacts;
 use crate::queue::{Queue, has_flag};
-use crate::rules::Rules;
-use crate::seconds::stands_second;
 use axioms::Memory;
 use fact_index::Index;
 use form_index::IndexedProblem;
+use inference::{KnownFacts, Rules, stands_second};
 use normal_forms::Form;
 use std::alloc::Global;
 use work_list::WorkList;

@@ -1,5 +1,5 @@
 //! What facts are drawn from.
-ghost use Rattle.saturate.specs.Closed.{IsClosureOf};
+ghost use Rattle.inference.specs.Closed.{IsClosureOf};
 ghost use Rattle.saturate.specs.Growing.{with_more};
 ghost use Rattle.std.specs.Prelude.{◌≡◌, [], IfOk};
 
@@ -21,7 +21,7 @@ pub(crate) struct Ground {
 
 impl Model for Ground {
     ghost use Rattle.facts.specs.Closure.{Problem};
-    ghost use Rattle.saturate.specs.Closed.{IsClosureOf};
+    ghost use Rattle.inference.specs.Closed.{IsClosureOf};
 
     ghost Value = { Problem };
 

@@ -2,14 +2,14 @@
 ghost use Rattle.std.specs.Prelude.{◌≡◌, ◌<◌, ◌≤◌, Err, IfNone, IfSome, OnOk, Some, length, slice_get, take};
 ghost use Rattle.facts.specs.Births.{IsBirth, reason};
 ghost use Rattle.facts.specs.declared.contexts.Fact.{Fact as Fact2};
-ghost use Rattle.saturate.specs.Closed.{IsClosureOf};
-ghost use Rattle.saturate.specs.Derived.{HasMoreFactsThan};
+ghost use Rattle.inference.specs.Closed.{IsClosureOf};
+ghost use Rattle.inference.specs.Derived.{HasMoreFactsThan};
 ghost use Rattle.saturate.specs.State.{AreBorn};
-ghost use Rattle.saturate.specs.Working.{IsClosure};
+ghost use Rattle.inference.specs.Working.{IsClosure};
 
 use crate::ground::Ground;
-use crate::known_facts::Stop;
 use facts::{Birth, Fact, FactId};
+use inference::Stop;
 use property_closure::PropertyClosure;
 use std::marker::Model;
 

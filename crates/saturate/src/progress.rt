@@ -2,16 +2,16 @@
 ghost use Rattle.std.specs.Prelude.{◌≡◌, ◌≤◌, ◌^◌, Err, IfNone, IfOk, IfSome, OnOk, Some, length, slice_get, take};
 ghost use Rattle.facts.specs.Births.{IsBirth, reason};
 ghost use Rattle.facts.specs.declared.contexts.Fact.{Fact as Fact2};
-ghost use Rattle.saturate.specs.Closed.{IsClosureOf};
-ghost use Rattle.saturate.specs.Derived.{HasMoreFactsThan};
+ghost use Rattle.inference.specs.Closed.{IsClosureOf};
+ghost use Rattle.inference.specs.Derived.{HasMoreFactsThan};
 ghost use Rattle.saturate.specs.State.{AreBorn, Extends};
-ghost use Rattle.saturate.specs.Working.{IsClosure};
+ghost use Rattle.inference.specs.Working.{IsClosure};
 
 use crate::kept::Kept;
-use crate::known_facts::Stop;
 use crate::state::State;
 use axioms::Memory;
 use facts::{Birth, Fact, FactId};
+use inference::Stop;
 use property_closure::PropertyClosure;
 use std::marker::Model;
 use work_list::WorkList;

@@ -1,24 +1,22 @@
 //! The state of a saturation.
 ghost use Rattle.std.specs.Prelude.{OnErr, ◌≡◌, ◌↔◌, ◌<◌, ◌≤◌, ◌+◌, ◌∷◌, ◌++◌, [], ℕ, Ok, Err, Some, true, false, length, take, slice_get, IfOk, OnOk, IfSome, IfNone, Contains};
 ghost use Rattle.facts.specs.Births.{IsBirth, reason};
-ghost use Rattle.saturate.specs.Derived.{HasMoreFactsThan};
+ghost use Rattle.inference.specs.Derived.{HasMoreFactsThan};
 ghost use Rattle.facts.specs.declared.contexts.Fact.{Fact as Fact2};
 ghost use Rattle.saturate.specs.State.{AreBorn, Extends, nothing_seen};
 ghost use Rattle.saturate.specs.Growing.{HasGrown, KeepsServed};
-ghost use Rattle.saturate.specs.Closed.{IsClosureOf};
-ghost use Rattle.saturate.specs.Working.{IsClosure};
+ghost use Rattle.inference.specs.Closed.{IsClosureOf};
+ghost use Rattle.inference.specs.Working.{IsClosure};
 ghost use Rattle.work_list.specs.Bag.{IsEmpty};
 
 use crate::extension::restart;
 use crate::ground::Ground;
 use crate::kept::Kept;
-use crate::known_facts::{KnownFacts, Stop};
 use crate::queue::Queue;
-use crate::rules::Rules;
-use crate::seconds::stands_second;
 use axioms::Memory;
 use fact_index::Index;
 use facts::{Birth, Context, Fact, FactId};
+use inference::{KnownFacts, Rules, Stop, stands_second};
 use normal_forms::Form;
 use property_closure::PropertyClosure;
 use std::alloc::Global;

@@ -4,7 +4,7 @@ ghost use Rattle.document.specs.Documents.{IsTaken};
 ghost use Rattle.document.specs.Faults.{ReadsKnown, RefusesKnown};
 ghost use Rattle.engine.specs.Saturated.{HasMoreFactsThan, IsFinished, IsSaturated};
 ghost use Rattle.saturate.specs.State.{Extends};
-ghost use Rattle.saturate.specs.declared.known_facts.Stop.TheVariants as stops;
+ghost use Rattle.inference.specs.declared.known_facts.Stop.TheVariants as stops;
 ghost use Rattle.std.specs.Io.KnownBytes.{IsAtEnd};
 ghost use Rattle.std.specs.Prelude.{◌≡◌, ◌≤◌, [], Err, IfErr, IfOk, IsErrOf, OnOk, length};
 

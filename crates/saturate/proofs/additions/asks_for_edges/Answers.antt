@@ -5,7 +5,7 @@ use Rattle.normal_forms.specs.declared.forms.PropId2.{PropId2}
 use Rattle.normal_forms.proofs.Suffice.{suffice}
 use Rattle.saturate.specs.Asked.{BeginsWith}
 use Rattle.saturate.proofs.Asking.{asks_above, begins_above}
-use Rattle.saturate.proofs.Drawing.{each_more, each}
+use Rattle.inference.proofs.Drawing.{each_more, each}
 use Rattle.saturate.proofs.additions.asks_for_edges.Goals as goal
 
 pub returns-then-begins_with-clause-yes : goal.returns-then-begins_with-clause-yes

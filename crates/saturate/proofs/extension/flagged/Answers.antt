@@ -1,5 +1,5 @@
 use Rattle.std.proofs.Common.{ap, ◌∷◌, [], length, length-append, arith}
-use Rattle.saturate.proofs.Edges.{has_property}
+use Rattle.inference.proofs.Edges.{has_property}
 use Rattle.saturate.proofs.Flagging.{flag_more, read}
 use Rattle.saturate.proofs.extension.flagged.Goals as goal
 

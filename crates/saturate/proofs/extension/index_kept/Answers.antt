@@ -1,6 +1,6 @@
 use Rattle.std.proofs.Common.{sym, subst, ◌∙◌}
 use Rattle.facts.specs.Closure.{Problem}
-use Rattle.saturate.specs.Working.{IsSparedAsSecond}
+use Rattle.inference.specs.Working.{IsSparedAsSecond}
 use Rattle.saturate.proofs.Flagging.{kept_none, kept_one}
 use Rattle.saturate.proofs.Listing.{one_more}
 use Rattle.saturate.proofs.extension.index_kept.Goals as goal

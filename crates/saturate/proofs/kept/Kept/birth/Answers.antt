@@ -2,7 +2,7 @@ use Rattle.std.proofs.Common.{◌<◌, length, Some, ap, sym, ◌∙◌, arith}
 use Rattle.std.proofs.lemmas.List.{length-map}
 use Rattle.std.proofs.lemmas.Option.{slice_get-get_or}
 use Rattle.facts.specs.Births.{reason}
-use Rattle.saturate.proofs.Lists.{slice_get_map}
+use Rattle.inference.proofs.Lists.{slice_get_map}
 use Rattle.saturate.proofs.kept.Kept.birth.Goals as goal
 
 pub returns : goal.returns

@@ -1,11 +1,12 @@
 use Rattle.std.proofs.Common.{◌≡◌, ◌++◌, length, Some, [], ◌∷◌, false, refl, sym, ap, subst, ◌∙◌, arith}
 use Rattle.std.proofs.lemmas.Option.{none-some}
 use Rattle.facts.specs.Closure.{Problem}
-use Rattle.saturate.specs.Derived.{Grows}
-use Rattle.saturate.specs.Working.{Drawn, IsSparedAsSecond}
+use Rattle.inference.specs.Derived.{Grows}
+use Rattle.inference.specs.Working.{Drawn, IsSparedAsSecond}
 use Rattle.saturate.specs.State.{IsState}
-use Rattle.saturate.specs.Listed.{ListsServed, AllListedAreMet}
-use Rattle.saturate.proofs.Growth.{grows_same}
+use Rattle.saturate.specs.Listed.{ListsServed}
+use Rattle.inference.specs.Met.{AllListedAreMet}
+use Rattle.inference.proofs.Growth.{grows_same}
 use Rattle.saturate.proofs.States.{grown, one_served, finished}
 use Rattle.saturate.proofs.Listing.{turned, may, listed, still_listed, all_within, all_met, in_most, finish_listed}
 use Rattle.saturate.proofs.state.State.step.Goals as goal

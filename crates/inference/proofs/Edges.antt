@@ -1,0 +1,138 @@
+-- The property of an edge is one that a form puts there.
+use Rattle.std.proofs.Common.{◌≡◌, ℕ, List, [], ◌∷◌, slice_get, Some, Option, refl, subst, arith}
+use Rattle.std.proofs.lemmas.Option.{none-some, same_Some, slice_get_within}
+use Rattle.normal_forms.specs.declared.forms.PropId2.{PropId2}
+use Rattle.normal_forms.specs.declared.forms.Form.{Form}
+use Rattle.normal_forms.specs.declared.forms.Form.TheVariants.{N1, N2, N3, N4, N5, N6, N7, N8, N9}
+use Rattle.facts.specs.declared.contexts.Context.{Context}
+use Rattle.facts.specs.declared.contexts.Fact.{Fact}
+use Rattle.facts.specs.declared.contexts.Fact.TheVariants.{In, Edge}
+use Rattle.facts.specs.Closure.{Problem, FromNone, FromOne, FromTwo, Concludes, Carries, CarriesBack, IsLoop, Gives, in_thing, in_itself, by_form, unsatisfiable, loop}
+use Rattle.property_closure.specs.Closed.{Known, Has}
+use Rattle.inference.specs.Closed.{PutsOnEdges, IsClosureOf}
+use Rattle.inference.specs.Derived.{Derived, IsDerived}
+use Rattle.inference.specs.Working.{AreAt}
+use Rattle.inference.specs.Visited.{chained_property, HasProperty, IsBy}
+use Rattle.inference.proofs.Lists.{Contains-from_slice_get, slice_get_there}
+
+-- the property of the fact, where it is an edge, is one that the form puts there
+abbrev pub IsPutBy : Form → Fact → Type 0
+IsPutBy form (In a x) = Unit {0}
+IsPutBy form (Edge x r y) = PutsOnEdges form r
+
+none : (form : Form) (f : Fact) → FromNone form f → IsPutBy form f
+none (N8 i a) (In _ _) w = tt
+none (N8 i a) (Edge x r y) w = absurd (cc)
+none (N9 i r j) (In _ _) w = tt
+none (N9 i r j) (Edge x p y) w = cc
+none (N1 _ _) f w = absurd w
+none (N2 _ _ _) f w = absurd w
+none (N3 _ _ _) f w = absurd w
+none (N4 _ _ _) f w = absurd w
+none (N5 _ _) f w = absurd w
+none (N6 _ _ _) f w = absurd w
+none (N7 _) f w = absurd w
+
+one : (form : Form) (g f : Fact) → FromOne form g f → IsPutBy form f
+one (N1 a b) (In c x) (In _ _) w = tt
+one (N1 a b) (In c x) (Edge y p z) w = let e = w.1 in absurd (cc)
+one (N1 a b) (Edge _ _ _) f w = absurd w
+one (N3 a r b) (In c x) (In _ _) w = tt
+one (N3 a r b) (In c x) (Edge y p z) w = let e = w.1 in cc
+one (N3 a r b) (Edge _ _ _) f w = absurd w
+one (N2 _ _ _) g f w = absurd w
+one (N4 _ _ _) g f w = absurd w
+one (N5 _ _) g f w = absurd w
+one (N6 _ _ _) g f w = absurd w
+one (N7 _) g f w = absurd w
+one (N8 _ _) g f w = absurd w
+one (N9 _ _ _) g f w = absurd w
+
+two : (k : Problem) (form : Form) (g h f : Fact) → FromTwo k form g h f → IsPutBy form f
+two k (N2 a b c) (In d x) (In e y) (In _ _) w = tt
+two k (N2 a b c) (In d x) (In e y) (Edge u p v) w = let e = w.3 in absurd (cc)
+two k (N2 a b c) (In d x) (Edge _ _ _) f w = absurd w
+two k (N2 a b c) (Edge _ _ _) h f w = absurd w
+two k (N4 r a b) (Edge x q y) (In c z) (In _ _) w = tt
+two k (N4 r a b) (Edge x q y) (In c z) (Edge u p v) w = let e = w.3 in absurd (cc)
+two k (N4 r a b) (Edge x q y) (Edge _ _ _) f w = absurd w
+two k (N4 r a b) (In _ _) h f w = absurd w
+two k (N6 r s t) (Edge x p y) (Edge z q v) (In _ _) w = tt
+two k (N6 r s t) (Edge x p y) (Edge z q v) (Edge u o i) w = let e = w.3 in cc
+two k (N6 r s t) (Edge x p y) (In _ _) f w = absurd w
+two k (N6 r s t) (In _ _) h f w = absurd w
+two k (N1 _ _) g h f w = absurd w
+two k (N3 _ _ _) g h f w = absurd w
+two k (N5 _ _) g h f w = absurd w
+two k (N7 _) g h f w = absurd w
+two k (N8 _ _) g h f w = absurd w
+two k (N9 _ _ _) g h f w = absurd w
+
+concludes : (k : Problem) (form : Form) (older : List Fact) (f : Fact) → Concludes k form older f → IsPutBy form f
+concludes k form [] f w = none form f w
+concludes k form (g ∷ []) f w = one form g f w
+concludes k form (g ∷ h ∷ []) f w = two k form g h f w
+concludes k form (g ∷ h ∷ i ∷ more) f w = absurd w
+
+carries : (g h f : Fact) → Carries g h f → (x : Context) (r : PropId2) (y : Context) → f ≡ Edge x r y → ⊥
+carries (Edge u q v) (In c z) f w x r y e = let d = w.2 in cc
+carries (Edge u q v) (Edge _ _ _) f w x r y e = w
+carries (In _ _) h f w x r y e = w
+
+back : (older : List Fact) (f : Fact) → CarriesBack older f → (x : Context) (r : PropId2) (y : Context) → f ≡ Edge x r y → ⊥
+back [] f w x r y e = w
+back (g ∷ []) f w x r y e = w
+back (g ∷ h ∷ []) f w x r y e = carries g h f w x r y e
+back (g ∷ h ∷ i ∷ more) f w x r y e = w
+
+loops : (z : Context) (form : Form) (f : Fact) → IsLoop z form f → IsPutBy form f
+loops z (N7 r) (In _ _) w = tt
+loops z (N7 r) (Edge x p y) w = cc
+loops z (N1 _ _) f w = absurd w
+loops z (N2 _ _ _) f w = absurd w
+loops z (N3 _ _ _) f w = absurd w
+loops z (N4 _ _ _) f w = absurd w
+loops z (N5 _ _) f w = absurd w
+loops z (N6 _ _ _) f w = absurd w
+loops z (N8 _ _) f w = absurd w
+loops z (N9 _ _ _) f w = absurd w
+
+module _ (k : Problem) {closure : Known} (closed : IsClosureOf k.forms closure) where
+  at_edge : (n : ℕ) (form : Form) (f : Fact) → slice_get k.forms n ≡ Some form → IsPutBy form f → (x : Context) (r : PropId2) (y : Context) → f ≡ Edge x r y → Has closure r
+  at_edge n form (In _ _) at put x r y e = absurd (cc)
+  at_edge n form (Edge u p v) at put x r y e =
+      let same : p ≡ r = cc in
+      subst (Has closure) same (closed.has form (Contains-from_slice_get k.forms n form at) p put)
+
+  given : {c : ℕ} {o : Option ℕ} {older : List Fact} {f : Fact} → Gives k c o older f → (x : Context) (r : PropId2) (y : Context) → f ≡ Edge x r y → Has closure r
+  given (in_thing c) x r y e = absurd (cc)
+  given (in_itself c) x r y e = absurd (cc)
+  given {older = older} {f = f} (by_form n form at gives) x r y e = at_edge n form f at (concludes k form older f gives) x r y e
+  given {older = older} {f = f} (unsatisfiable b) x r y e = absurd (back older f b x r y e)
+  given {f = f} (loop z n form at l c) x r y e = at_edge n form f at (loops z form f l) x r y e
+
+  pub first_edge : {d : Derived} → IsDerived k d → (n : ℕ) (f : Fact) → slice_get d.facts n ≡ Some f → (x : Context) (r : PropId2) (y : Context) → f ≡ Edge x r y → Has closure r
+  first_edge {d} s n f at x r y e =
+      let q = slice_get_there d.births n (omega (arith, s.long, slice_get_within d.facts n f at)) in
+      given (s.born n f q.0 at q.1).2 x r y e
+
+  -- so the property of the first of two edges is there
+  pub edge_has : {d : Derived} → IsDerived k d → (numbers : List ℕ) (older : List Fact) (p : PropId2) → AreAt d.facts numbers older → chained_property older ≡ Some p → Has closure p
+  edge_has {d} s numbers [] p at e = absurd (none-some p e)
+  edge_has {d} s numbers (f ∷ []) p at e = absurd (none-some p e)
+  edge_has {d} s numbers (f ∷ g ∷ h ∷ more) p at e = absurd (none-some p e)
+  edge_has {d} s numbers (In _ _ ∷ g ∷ []) p at e = absurd (none-some p e)
+  edge_has {d} s numbers (Edge _ _ _ ∷ In _ _ ∷ []) p at e = absurd (none-some p e)
+  edge_has {d} s [] (Edge x q y ∷ Edge _ _ _ ∷ []) p at e = absurd (cc)
+  edge_has {d} s (n ∷ ns) (Edge x q y ∷ Edge z o v ∷ []) p at e =
+      let here : slice_get d.facts n ≡ Some (Edge x q y) = cc in
+      subst (Has closure) (same_Some q p e) (first_edge s n (Edge x q y) here x q y refl)
+
+-- .. and that of each edge
+pub has_property : (k : Problem) {closure : Known} → IsClosureOf k.forms closure → {d : Derived} → IsDerived k d → (n : ℕ) (f : Fact) → slice_get d.facts n ≡ Some f → HasProperty closure f
+has_property k closed s n (In a x) at = tt
+has_property k closed s n (Edge x r y) at = first_edge k closed s n (Edge x r y) at x r y refl
+
+pub property_there : (k : Problem) {closure : Known} → IsClosureOf k.forms closure → {d : Derived} → IsDerived k d → (n : ℕ) (f : Fact) (p : PropId2) → slice_get d.facts n ≡ Some f → IsBy p f → Has closure p
+property_there k closed s n (In a x) p at by = absurd by
+property_there k {closure = closure} closed s n (Edge x r y) p at by = subst (Has closure) by (first_edge k closed s n (Edge x r y) at x r y refl)

@@ -1,0 +1,124 @@
+-- Facts that give nothing with one another.
+use Rattle.std.proofs.Common.{◌≡◌, ℕ, [], ◌∷◌, slice_get, Some, refl, sym, ap, subst}
+use Rattle.normal_forms.specs.declared.forms.Form.{Form}
+use Rattle.normal_forms.specs.declared.forms.Form.TheVariants.{N1, N2, N3, N4, N5, N6, N7, N8, N9}
+use Rattle.normal_forms.specs.declared.forms.Class2.{Class2}
+use Rattle.normal_forms.specs.declared.forms.PropId2.{PropId2}
+use Rattle.normal_forms.specs.Properties.{IsAtOrBelow}
+use Rattle.facts.specs.declared.contexts.Context.{Context}
+use Rattle.facts.specs.declared.contexts.Fact.{Fact}
+use Rattle.facts.specs.declared.contexts.Fact.TheVariants.{In, Edge}
+use Rattle.facts.specs.Closure.{Problem, FromTwo, Carries, in_thing, in_itself, by_form, unsatisfiable, loop, nothing}
+use Rattle.form_index.specs.Named.{class_key, property_key, by_first, by_second, by_filler, by_chain}
+use Rattle.inference.specs.Visited.{GiveNothing, NoneUnder, IsEdge, IsBy, IsClassFact}
+use Rattle.inference.specs.Derived.{Derived}
+use Rattle.inference.specs.Working.{DrawnButSpared, MeetEachOther}
+
+-- two facts give something by a form, or owl:Nothing is carried back
+by_form_or_back : (k : Problem) (f g : Fact) → ((n : ℕ) (form : Form) (h : Fact) → slice_get k.forms n ≡ Some form → FromTwo k form f g h → ⊥) → ((h : Fact) → Carries f g h → ⊥) → GiveNothing k f g
+by_form_or_back k f g forms back _ _ h (in_thing c) = c
+by_form_or_back k f g forms back _ _ h (in_itself c) = c
+by_form_or_back k f g forms back _ _ h (by_form n form at gives) = forms n form h at gives
+by_form_or_back k f g forms back _ _ h (unsatisfiable b) = back h b
+by_form_or_back k f g forms back _ _ h (loop x n form at l c) = c
+
+-- a form that gives something from two classes in a context has them as operands
+first_operand : (k : Problem) (form : Form) (a b : Class2) (x y : Context) (h : Fact) → FromTwo k form (In a x) (In b y) h → by_first form ≡ Some (class_key a)
+first_operand k (N1 _ _) a b x y h w = absurd w
+first_operand k (N2 _ _ _) a b x y h w = ap (λ d. Some (class_key d)) (sym w.0)
+first_operand k (N3 _ _ _) a b x y h w = absurd w
+first_operand k (N4 _ _ _) a b x y h w = absurd w
+first_operand k (N5 _ _) a b x y h w = absurd w
+first_operand k (N6 _ _ _) a b x y h w = absurd w
+first_operand k (N7 _) a b x y h w = absurd w
+first_operand k (N8 _ _) a b x y h w = absurd w
+first_operand k (N9 _ _ _) a b x y h w = absurd w
+
+second_operand : (k : Problem) (form : Form) (a b : Class2) (x y : Context) (h : Fact) → FromTwo k form (In a x) (In b y) h → by_second form ≡ Some (class_key b)
+second_operand k (N1 _ _) a b x y h w = absurd w
+second_operand k (N2 _ _ _) a b x y h w = ap (λ d. Some (class_key d)) (sym w.1)
+second_operand k (N3 _ _ _) a b x y h w = absurd w
+second_operand k (N4 _ _ _) a b x y h w = absurd w
+second_operand k (N5 _ _) a b x y h w = absurd w
+second_operand k (N6 _ _ _) a b x y h w = absurd w
+second_operand k (N7 _) a b x y h w = absurd w
+second_operand k (N8 _ _) a b x y h w = absurd w
+second_operand k (N9 _ _ _) a b x y h w = absurd w
+
+-- from an edge and a class at its target, the class as its filler
+filler : (k : Problem) (form : Form) (x y z : Context) (r : PropId2) (c : Class2) (h : Fact) → FromTwo k form (Edge x r y) (In c z) h → by_filler form ≡ Some (class_key c)
+filler k (N1 _ _) x y z r c h w = absurd w
+filler k (N2 _ _ _) x y z r c h w = absurd w
+filler k (N3 _ _ _) x y z r c h w = absurd w
+filler k (N4 _ _ _) x y z r c h w = ap (λ d. Some (class_key d)) (sym w.1)
+filler k (N5 _ _) x y z r c h w = absurd w
+filler k (N6 _ _ _) x y z r c h w = absurd w
+filler k (N7 _) x y z r c h w = absurd w
+filler k (N8 _ _) x y z r c h w = absurd w
+filler k (N9 _ _ _) x y z r c h w = absurd w
+
+-- from two edges, a property at or above that of the first
+pub beginning : (k : Problem) (form : Form) (x y z v : Context) (p q : PropId2) (h : Fact) → FromTwo k form (Edge x p y) (Edge z q v) h → (r : PropId2) × IsAtOrBelow k.forms p r × (by_chain form ≡ Some (property_key r))
+beginning k (N1 _ _) x y z v p q h w = absurd w
+beginning k (N2 _ _ _) x y z v p q h w = absurd w
+beginning k (N3 _ _ _) x y z v p q h w = absurd w
+beginning k (N4 _ _ _) x y z v p q h w = absurd w
+beginning k (N5 _ _) x y z v p q h w = absurd w
+beginning k (N6 r s t) x y z v p q h w = (r, w.0, refl)
+beginning k (N7 _) x y z v p q h w = absurd w
+beginning k (N8 _ _) x y z v p q h w = absurd w
+beginning k (N9 _ _ _) x y z v p q h w = absurd w
+
+-- from a class and an edge, in this order, none
+no_edge_behind : (k : Problem) (form : Form) (a : Class2) (x y z : Context) (r : PropId2) (h : Fact) → FromTwo k form (In a x) (Edge y r z) h → ⊥
+no_edge_behind k (N1 _ _) a x y z r h w = w
+no_edge_behind k (N2 _ _ _) a x y z r h w = w
+no_edge_behind k (N3 _ _ _) a x y z r h w = w
+no_edge_behind k (N4 _ _ _) a x y z r h w = w
+no_edge_behind k (N5 _ _) a x y z r h w = w
+no_edge_behind k (N6 _ _ _) a x y z r h w = w
+no_edge_behind k (N7 _) a x y z r h w = w
+no_edge_behind k (N8 _ _) a x y z r h w = w
+no_edge_behind k (N9 _ _ _) a x y z r h w = w
+
+-- ---- pairs of facts that give nothing
+
+pub no_first : (k : Problem) (a b : Class2) (x y : Context) → NoneUnder by_first k.forms (class_key a) → GiveNothing k (In a x) (In b y)
+no_first k a b x y none = by_form_or_back k (In a x) (In b y) (λ n form h at w. none n (form, at, first_operand k form a b x y h w)) (λ h c. c)
+
+pub no_second : (k : Problem) (a b : Class2) (x y : Context) → NoneUnder by_second k.forms (class_key b) → GiveNothing k (In a x) (In b y)
+no_second k a b x y none = by_form_or_back k (In a x) (In b y) (λ n form h at w. none n (form, at, second_operand k form a b x y h w)) (λ h c. c)
+
+pub no_filler : (k : Problem) (x y z : Context) (r : PropId2) (c : Class2) → (c ≡ nothing → ⊥) → NoneUnder by_filler k.forms (class_key c) → GiveNothing k (Edge x r y) (In c z)
+no_filler k x y z r c other none = by_form_or_back k (Edge x r y) (In c z) (λ n form h at w. none n (form, at, filler k form x y z r c h w)) (λ h b. other b.0)
+
+pub no_chain : (k : Problem) (x y z v : Context) (p q : PropId2) → ((r : PropId2) → IsAtOrBelow k.forms p r → NoneUnder by_chain k.forms (property_key r)) → GiveNothing k (Edge x p y) (Edge z q v)
+no_chain k x y z v p q none = by_form_or_back k (Edge x p y) (Edge z q v) (λ n form h at w. let b = beginning k form x y z v p q h w in none b.0 b.1 n (form, at, b.2)) (λ h b. b)
+
+pub no_order : (k : Problem) (a : Class2) (x y z : Context) (r : PropId2) → GiveNothing k (In a x) (Edge y r z)
+no_order k a x y z r = by_form_or_back k (In a x) (Edge y r z) (λ n form h at w. no_edge_behind k form a x y z r h w) (λ h c. c)
+
+-- ---- so nothing is missing
+
+pub nothing_missing : (k : Problem) (f g : Fact) (facts : Derived) → GiveNothing k f g → DrawnButSpared k (f ∷ g ∷ []) facts
+nothing_missing k f g facts none condition form h gives = absurd (none condition form h gives)
+
+-- a class that is no operand meets a class
+pub no_operand : (k : Problem) (a : Class2) (x : Context) (g : Fact) (facts : Derived) → NoneUnder by_first k.forms (class_key a) → NoneUnder by_second k.forms (class_key a) → IsClassFact g → MeetEachOther k (In a x) g facts
+no_operand k a x (In b y) facts first second is = record {
+  first = nothing_missing k (In a x) (In b y) facts (no_first k a b x y first);
+  second = nothing_missing k (In b y) (In a x) facts (no_second k b a y x second);
+}
+no_operand k a x (Edge y r z) facts first second is = absurd is
+
+-- nothing is carried for a class along an edge
+pub not_carried : (k : Problem) (c : Class2) (z : Context) (g : Fact) (facts : Derived) → (c ≡ nothing → ⊥) → NoneUnder by_filler k.forms (class_key c) → IsEdge g → DrawnButSpared k (g ∷ In c z ∷ []) facts
+not_carried k c z (In b y) facts other none is = absurd is
+not_carried k c z (Edge x r y) facts other none is = nothing_missing k (Edge x r y) (In c z) facts (no_filler k x y z r c other none)
+
+-- no chain begins with an edge
+pub no_beginning : (k : Problem) (p : PropId2) (f g : Fact) (facts : Derived) → IsBy p f → ((r : PropId2) → IsAtOrBelow k.forms p r → NoneUnder by_chain k.forms (property_key r)) → IsEdge g → DrawnButSpared k (f ∷ g ∷ []) facts
+no_beginning k p (In a x) g facts by none is = absurd by
+no_beginning k p (Edge x r y) (In b z) facts by none is = absurd is
+no_beginning k p (Edge x r y) (Edge z q v) facts by none is =
+    nothing_missing k (Edge x r y) (Edge z q v) facts (no_chain k x y z v r q (subst (λ s. (t : PropId2) → IsAtOrBelow k.forms s t → NoneUnder by_chain k.forms (property_key t)) (sym by) none))

@@ -1,0 +1,108 @@
+-- A form that gives something from facts is listed for them.
+use Rattle.std.proofs.Common.{◌≡◌, ℕ, List, [], ◌∷◌, slice_get, Some, None, Contains, refl, sym, ap}
+use Rattle.normal_forms.specs.declared.forms.Form.{Form}
+use Rattle.normal_forms.specs.declared.forms.Form.TheVariants.{N1, N2, N3, N4, N5, N6, N7, N8, N9}
+use Rattle.normal_forms.specs.declared.forms.PropId2.{PropId2}
+use Rattle.facts.specs.declared.contexts.Context.{Context}
+use Rattle.facts.specs.declared.contexts.Fact.{Fact}
+use Rattle.facts.specs.declared.contexts.Fact.TheVariants.{In, Edge}
+use Rattle.normal_forms.specs.Properties.{IsAtOrBelow}
+use Rattle.facts.specs.Closure.{Problem, FromNone, FromOne, FromTwo, Concludes, IsLoop}
+use Rattle.number_table.specs.declared.keys.Key.TheVariants.{Whole}
+use Rattle.form_index.specs.Named.{class_key, by_kind, by_alone, by_first, by_second, by_filler, by_chain}
+use Rattle.inference.specs.Visited.{chained_property, ChainsDrawn}
+use Rattle.inference.specs.Working.{AreDrawn, AllDrawn, DrawnAt}
+use Rattle.inference.proofs.Lists.{slice_get-from_Contains}
+
+pub kind_given : (form : Form) (f : Fact) → FromNone form f → by_kind form ≡ Some (Whole 0)
+kind_given (N1 _ _) f w = absurd w
+kind_given (N2 _ _ _) f w = absurd w
+kind_given (N3 _ _ _) f w = absurd w
+kind_given (N4 _ _ _) f w = absurd w
+kind_given (N5 _ _) f w = absurd w
+kind_given (N6 _ _ _) f w = absurd w
+kind_given (N7 _) f w = absurd w
+kind_given (N8 _ _) f w = refl
+kind_given (N9 _ _ _) f w = refl
+
+kind_loop : (x : Context) (form : Form) (f : Fact) → IsLoop x form f → by_kind form ≡ Some (Whole 1)
+kind_loop x (N1 _ _) f w = absurd w
+kind_loop x (N2 _ _ _) f w = absurd w
+kind_loop x (N3 _ _ _) f w = absurd w
+kind_loop x (N4 _ _ _) f w = absurd w
+kind_loop x (N5 _ _) f w = absurd w
+kind_loop x (N6 _ _ _) f w = absurd w
+kind_loop x (N7 _) f w = refl
+kind_loop x (N8 _ _) f w = absurd w
+kind_loop x (N9 _ _ _) f w = absurd w
+
+-- the form is listed for the fact
+abbrev pub IsForOne : Form → Fact → Type 0
+IsForOne form (In a x) = by_alone form ≡ Some (class_key a)
+IsForOne form (Edge x r y) = ⊥
+
+pub for_one : (form : Form) (g f : Fact) → FromOne form g f → IsForOne form g
+for_one (N1 a b) (In c x) f w = ap (λ d. Some (class_key d)) (sym w.0)
+for_one (N1 a b) (Edge x r y) f w = w
+for_one (N2 _ _ _) g f w = absurd w
+for_one (N3 a r b) (In c x) f w = ap (λ d. Some (class_key d)) (sym w.0)
+for_one (N3 a r b) (Edge x s y) f w = w
+for_one (N4 _ _ _) g f w = absurd w
+for_one (N5 _ _) g f w = absurd w
+for_one (N6 _ _ _) g f w = absurd w
+for_one (N7 _) g f w = absurd w
+for_one (N8 _ _) g f w = absurd w
+for_one (N9 _ _ _) g f w = absurd w
+
+-- .. for the two facts, unless it is a chain
+abbrev pub IsForTwo : Form → Fact → Fact → Type 0
+IsForTwo form (In a x) (In b y) = (by_first form ≡ Some (class_key a)) × (by_second form ≡ Some (class_key b))
+IsForTwo form (In a x) (Edge y r z) = ⊥
+IsForTwo form (Edge x r y) (In c z) = by_filler form ≡ Some (class_key c)
+IsForTwo form (Edge x p y) (Edge z q w) = ⊥
+
+pub for_two : (k : Problem) (form : Form) (g h f : Fact) → by_chain form ≡ None → FromTwo k form g h f → IsForTwo form g h
+for_two k (N1 _ _) g h f none w = absurd w
+for_two k (N2 _ _ _) (In _ _) (In _ _) f none w = (ap (λ d. Some (class_key d)) (sym w.0), ap (λ d. Some (class_key d)) (sym w.1))
+for_two k (N2 _ _ _) (In _ _) (Edge _ _ _) f none w = w
+for_two k (N2 _ _ _) (Edge _ _ _) g f none w = absurd w
+for_two k (N3 _ _ _) g h f none w = absurd w
+for_two k (N4 _ _ _) (Edge _ _ _) (In _ _) f none w = ap (λ d. Some (class_key d)) (sym w.1)
+for_two k (N4 _ _ _) (Edge _ _ _) (Edge _ _ _) f none w = w
+for_two k (N4 _ _ _) (In _ _) h f none w = absurd w
+for_two k (N5 _ _) g h f none w = absurd w
+for_two k (N6 _ _ _) g h f none w = absurd (cc)
+for_two k (N7 _) g h f none w = absurd w
+for_two k (N8 _ _) g h f none w = absurd w
+for_two k (N9 _ _ _) g h f none w = absurd w
+
+-- a chain gives something from two edges alone, of which the first is at or below its first property
+chain : (k : Problem) (r s t : PropId2) (older : List Fact) (f : Fact) → Concludes k (N6 r s t) older f → (p : PropId2) × (chained_property older ≡ Some p) × IsAtOrBelow k.forms p r
+chain k r s t [] f w = absurd w
+chain k r s t (g ∷ []) f w = absurd w
+chain k r s t (In _ _ ∷ g ∷ []) f w = absurd w
+chain k r s t (Edge _ _ _ ∷ In _ _ ∷ []) f w = absurd w
+chain k r s t (Edge x p y ∷ Edge z q v ∷ []) f w = (p, refl, w.0)
+chain k r s t (g ∷ h ∷ i ∷ more) f w = absurd w
+
+-- so what these forms give is all that forms give
+module _ (k : Problem) (older new : List Fact)
+    (plain : (n : ℕ) (form : Form) (f : Fact) → slice_get k.forms n ≡ Some form → by_chain form ≡ None → Concludes k form older f → Contains new f)
+    (chains : (p : PropId2) → chained_property older ≡ Some p → (r : PropId2) → IsAtOrBelow k.forms p r → ChainsDrawn k older new r) where
+  given : (form : Form) (n : ℕ) → slice_get k.forms n ≡ Some form → (f : Fact) → Concludes k form older f → Contains new f
+  given (N1 a b) n at f w = plain n (N1 a b) f at refl w
+  given (N2 a b c) n at f w = plain n (N2 a b c) f at refl w
+  given (N3 a r b) n at f w = plain n (N3 a r b) f at refl w
+  given (N4 r a b) n at f w = plain n (N4 r a b) f at refl w
+  given (N5 r s) n at f w = plain n (N5 r s) f at refl w
+  given (N6 r s t) n at f w = let c = chain k r s t older f w in chains c.0 c.1 r c.2 n (N6 r s t, at, refl) (N6 r s t) at f w
+  given (N7 r) n at f w = plain n (N7 r) f at refl w
+  given (N8 i a) n at f w = plain n (N8 i a) f at refl w
+  given (N9 i r j) n at f w = plain n (N9 i r j) f at refl w
+
+  pub all_given : AreDrawn k k.forms older new
+  all_given form there f w = let at = slice_get-from_Contains k.forms form there in given form at.0 at.1 f w
+
+-- the loops of the reflexive properties are all loops
+pub all_loops : (k : Problem) (x : Context) (new : List Fact) → ((n : ℕ) (form : Form) → slice_get k.forms n ≡ Some form → by_kind form ≡ Some (Whole 1) → DrawnAt (IsLoop x) k.forms new n) → AllDrawn (IsLoop x) k.forms new
+all_loops k x new drawn form there f w = let at = slice_get-from_Contains k.forms form there in drawn at.0 form at.1 (kind_loop x form f w) form at.1 f w

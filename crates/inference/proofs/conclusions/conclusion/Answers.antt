@@ -1,0 +1,10 @@
+use Rattle.std.proofs.Common.{◌≡◌, ◌↔◌, Some, List, subst}
+use Rattle.facts.specs.declared.contexts.Fact.{Fact}
+use Rattle.facts.specs.Closure.{Concludes}
+use Rattle.inference.proofs.Lists.{two_elements}
+use Rattle.inference.proofs.conclusions.conclusion.Goals as goal
+
+pub returns-in-len2 : goal.returns-in-len2
+returns-in-len2 c = λ k f closed.
+    let P : List Fact → Type 0 = λ older. (c.from_two.result ≡ Some f) ↔ Concludes k c.args.form.now older f in
+    subst P (two_elements c.args.older.now _ _ c.in-len2.len_at_least c.in-len2.len_below) (c.from_two.ensures k f closed)

@@ -1,0 +1,12 @@
+use Rattle.inference.proofs.Giving.{not_carried}
+use Rattle.saturate.proofs.Listing.{numbers_within, kind_of}
+use Rattle.inference.specs.Visited.{IsEdge}
+use Rattle.inference.proofs.rules.Rules.carry.Goals as goal
+
+pub meet_behind-requires-clause-numbers : goal.meet_behind-requires-clause-numbers
+meet_behind-requires-clause-numbers c = numbers_within IsEdge c.args.facts.now.facts c.args.numbers.now c.requires.numbers
+
+pub returns-else-is_carried-clause-met : goal.returns-else-is_carried-clause-met
+returns-else-is_carried-clause-met c = λ n there g at.
+    not_carried c.args.self.now.problem.now c.args.class c.args.context g c.args.facts.now (c.is_carried.ensures.nothing c.if-is_carried.false) (c.is_carried.ensures.filler c.if-is_carried.false)
+    (kind_of IsEdge c.args.facts.now.facts c.args.numbers.now c.requires.numbers n there g at)

@@ -1,0 +1,28 @@
+use Rattle.std.proofs.Common.{refl}
+use Rattle.inference.specs.Visited.{ChainsDrawn}
+use Rattle.inference.proofs.Growth.{grows_trans}
+use Rattle.inference.proofs.Drawing.{at_still, each_more, each, drawn_at_still}
+use Rattle.normal_forms.proofs.Suffice.{suffice}
+use Rattle.inference.proofs.rules.Rules.draw_chains.Goals as goal
+
+pub draw_listed-requires-clause-older : goal.draw_listed-requires-clause-older
+draw_listed-requires-clause-older c = at_still _ _ c.loop-above.invariant.grows.facts c.args.numbers.now c.args.older.now c.requires.older
+
+pub loop-above-preserved : goal.loop-above-preserved
+loop-above-preserved c =
+    let k = c.args.self.now.problem.now in
+    let older = c.args.older.now in
+    let s = c.draw_listed.ensures.grows in
+    let items = c.supers-above-items.result.now in
+    record {
+      grows = grows_trans c.loop-above.invariant.grows s;
+      drawn = each_more (ChainsDrawn k older c.loop-above.facts.facts) (ChainsDrawn k older c.draw_listed.new.facts.facts)
+          items items c.loop-above.above-index _ refl c.loop-above-test.true c.loop-above.invariant.drawn
+          (λ r drawn n under. drawn_at_still s _ _ n (drawn n under))
+          (λ n under. c.in_ok-draw_listed.ensures.drawn n ((c.chains_from.ensures n).1 under));
+    }
+
+pub returns-clause-drawn : goal.returns-clause-drawn
+returns-clause-drawn c = λ r above.
+    let items = c.supers-above-items.result.now in
+    each (ChainsDrawn c.args.self.now.problem.now c.args.older.now c.loop-above.facts.facts) items items c.loop-above.above-index refl c.loop-above-test.false c.loop-above.invariant.drawn r ((c.supers-above-items.ensures.exact r).1 (c.requires.has, rw c.requires.closed.same ((suffice c.args.self.now.problem.now.forms c.args.property r (c.args.property, r)).0.1 above)))

@@ -1,0 +1,20 @@
+use Rattle.std.proofs.Common.{[], ◌∷◌, Option, refl, ap, subst}
+use Rattle.facts.specs.declared.contexts.Context.{Context}
+use Rattle.facts.specs.declared.contexts.Fact.{Fact}
+use Rattle.facts.specs.Closure.{IsLoop}
+use Rattle.inference.specs.Working.{AllDrawn}
+use Rattle.inference.proofs.Lists.{one_value}
+use Rattle.inference.proofs.rules.Rules.draw_target.Goals as goal
+
+pub draw_loops-requires-clause-context : goal.draw_loops-requires-clause-context
+draw_loops-requires-clause-context c = (c.get-fact.result ∷ [], ap (λ (o : Option Fact). o ∷ []) c.get-fact.ensures, rw c.in-Edge.is refl)
+
+pub returns-in_ok-draw_loops-clause-drawn : goal.returns-in_ok-draw_loops-clause-drawn
+returns-in_ok-draw_loops-clause-drawn c = λ f x at target.
+    let e = one_value _ f c.get-fact.result at c.get-fact.ensures in
+    subst (λ (y : Context). AllDrawn (IsLoop y) c.args.self.now.problem.now.forms c.draw_loops.new.facts.facts) (rw (e, c.in-Edge.is) at target) c.in_ok-draw_loops.ensures.drawn
+
+pub returns-in_default-clause-drawn : goal.returns-in_default-clause-drawn
+returns-in_default-clause-drawn c = λ f x at target.
+    let e = one_value _ f c.get-fact.result at c.get-fact.ensures in
+    absurd (rw (e, c.in_default.is) at target)

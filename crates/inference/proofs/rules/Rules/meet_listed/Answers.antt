@@ -1,0 +1,54 @@
+use Rattle.std.proofs.Common.{subst}
+use Rattle.inference.specs.Visited.{IsClassFact, IsEdge}
+use Rattle.inference.specs.Working.{IsSparedAsSecond}
+use Rattle.inference.proofs.Growth.{grows_trans}
+use Rattle.inference.proofs.Drawing.{all_met_still, before_still, before_earlier, behind_earlier}
+use Rattle.saturate.proofs.Listing.{met_in, met_edge, classes_listed, seconds_listed, into_listed, all_still_there, numbers_within}
+use Rattle.inference.proofs.Sparing.{second_still}
+use Rattle.inference.proofs.rules.Rules.meet_listed.Goals as goal
+
+pub meet_classes-requires-clause-numbers : goal.meet_classes-requires-clause-numbers
+meet_classes-requires-clause-numbers c = classes_listed c.requires.index c.in-In.x c.classes_in.result.now c.classes_in.ensures
+
+pub carry-requires-clause-numbers : goal.carry-requires-clause-numbers
+carry-requires-clause-numbers c = all_still_there c.meet_classes.ensures.grows IsEdge c.edges_into.result.now (into_listed c.requires.index c.in-In.x c.edges_into.result.now c.edges_into.ensures)
+
+pub meet_before-requires-clause-numbers : goal.meet_before-requires-clause-numbers
+meet_before-requires-clause-numbers c =
+    numbers_within IsClassFact c.args.facts.now.facts c.classes_in-in-Edge.result.now
+    (classes_listed c.requires.index c.in-Edge.y c.classes_in-in-Edge.result.now c.classes_in-in-Edge.ensures)
+
+pub lead_on-requires-clause-numbers : goal.lead_on-requires-clause-numbers
+lead_on-requires-clause-numbers c = all_still_there c.meet_before.ensures.grows IsEdge c.seconds_from.result.now (seconds_listed c.requires.index c.in-Edge.y c.seconds_from.result.now c.seconds_from.ensures)
+
+pub lead_up-requires-clause-second : goal.lead_up-requires-clause-second
+lead_up-requires-clause-second c = λ no.
+    subst (IsSparedAsSecond c.args.self.now.problem.now c.lead_on.new.facts) c.in-Edge.is
+    (second_still (grows_trans c.meet_before.ensures.grows c.lead_on.ensures.grows) c.args.fact (c.requires.second no))
+
+pub lead_up-requires-clause-numbers : goal.lead_up-requires-clause-numbers
+lead_up-requires-clause-numbers c =
+    numbers_within IsEdge c.lead_on.new.facts.facts c.edges_into-in-Edge.result.now
+    (all_still_there (grows_trans c.meet_before.ensures.grows c.lead_on.ensures.grows) IsEdge c.edges_into-in-Edge.result.now
+    (into_listed c.requires.index c.in-Edge.x c.edges_into-in-Edge.result.now c.edges_into-in-Edge.ensures))
+
+pub returns-in_ok-carry-in-In-clause-met : goal.returns-in_ok-carry-in-In-clause-met
+returns-in_ok-carry-in-In-clause-met c =
+    let old = c.args.facts.now.facts in
+    let new = c.carry.new.facts in
+    rw c.in-In.is (met_in c.args.self.now.problem.now old c.args.index.now new _ c.in-In.x c.classes_in.result.now c.edges_into.result.now c.classes_in.ensures c.edges_into.ensures
+    (all_met_still c.carry.ensures.grows _ old _ c.in_ok-meet_classes-in-In.ensures.met)
+    (behind_earlier c.meet_classes.ensures.grows _ _ new c.in_ok-carry-in-In.ensures.met))
+
+pub returns-in_ok-lead_up-in-Edge-clause-met : goal.returns-in_ok-lead_up-in-Edge-clause-met
+returns-in_ok-lead_up-in-Edge-clause-met c =
+    let old = c.args.facts.now.facts in
+    let new = c.lead_up.new.facts in
+    let s = c.meet_before.ensures.grows in
+    let t = c.lead_on.ensures.grows in
+    let u = c.lead_up.ensures.grows in
+    rw c.in-Edge.is (met_edge c.args.self.now.problem.now old c.args.index.now new c.in-Edge.x _ c.in-Edge.y c.classes_in-in-Edge.result.now c.seconds_from.result.now c.edges_into-in-Edge.result.now
+    c.classes_in-in-Edge.ensures c.seconds_from.ensures c.edges_into-in-Edge.ensures
+    (before_still (grows_trans t u) _ old _ c.in_ok-meet_before-in-Edge.ensures.met)
+    (before_still u _ old _ (before_earlier s _ _ _ c.in_ok-lead_on-in-Edge.ensures.met))
+    (behind_earlier (grows_trans s t) _ _ new c.in_ok-lead_up-in-Edge.ensures.met))

@@ -1,0 +1,13 @@
+//! The facts so far, and what the rules give from them.
+#![tactic(auto)]
+
+mod conclusions;
+mod known_facts;
+mod properties;
+mod rules;
+mod seconds;
+mod visits;
+
+pub use known_facts::{KnownFacts, Stop};
+pub use rules::Rules;
+pub use seconds::stands_second;

@@ -1,0 +1,126 @@
+//! Which forms are visited for facts: those that give something from them are listed.
+ghost use Rattle.std.specs.Prelude.{◌≡◌, ◌↔◌, ℕ, Some, None, Contains, false, slice_get};
+ghost use Rattle.facts.specs.Closure.{Concludes, FromOne, FromTwo, nothing};
+ghost use Rattle.facts.specs.declared.contexts.Fact.{Fact as Fact2};
+ghost use Rattle.normal_forms.specs.declared.forms.Form.{Form as Form2};
+ghost use Rattle.normal_forms.specs.Properties.{IsAtOrBelow};
+ghost use Rattle.normal_forms.specs.declared.forms.PropId2.{PropId2 as PropId3};
+ghost use Rattle.form_index.specs.Named.{by_chain, by_filler, by_first, by_second, class_key, property_key};
+ghost use Rattle.form_index.specs.Under.{IsUnder};
+ghost use Rattle.property_closure.specs.Closed.{Has};
+ghost use Rattle.inference.specs.Closed.{IsClosureOf};
+ghost use Rattle.inference.specs.Visited.{NoneUnder, chained_pair, chained_property};
+
+use crate::conclusions::NOTHING;
+use facts::Fact;
+use form_index::IndexedProblem;
+use normal_forms::{Class2, PropId2};
+use property_closure::PropertyClosure;
+
+/// The property of the first of two edges.
+fn chained_by(first: Fact, second: Fact) -> Option<PropId2>
+    ensures { result ≡ chained_pair first second }
+{
+    match (first, second) {
+        (Fact::Edge(_, property, _), Fact::Edge(..)) => Some(property),
+        _ => None,
+    }
+}
+
+/// The property of the first edge, where the facts are two edges.
+pub(crate) fn chained(older: &[Fact]) -> Option<PropId2>
+    ensures { result ≡ chained_property older.now }
+{
+    match *older {
+        [first, second] => chained_by(first, second),
+        _ => None,
+    }
+}
+
+/// The intersections of two classes, by that of the two which fewer have.
+fn operands(problem: &IndexedProblem, first: Class2, second: Class2) -> &[u32]
+    ensures { (n : ℕ) → IsUnder by_first problem.now.forms (class_key first) n → IsUnder by_second problem.now.forms (class_key second) n → Contains result.now n }
+{
+    let by_first = problem.first(first);
+    let by_second = problem.second(second);
+    if by_first.len() <= by_second.len() {
+        by_first
+    } else {
+        by_second
+    }
+}
+
+/// The forms that give something from one fact.
+fn visited_by_one(problem: &IndexedProblem, first: Fact) -> &[u32]
+    ensures { (n : ℕ) (form : Form2) (f : Fact2) → slice_get problem.now.forms n ≡ Some form → FromOne form first f → Contains result.now n }
+{
+    match first {
+        Fact::In(class, _) => problem.alone(class),
+        Fact::Edge(..) => &[],
+    }
+}
+
+/// The forms, but chains, that give something from two facts in this order.
+fn visited_by_two(problem: &IndexedProblem, first: Fact, second: Fact) -> &[u32]
+    ensures { (n : ℕ) (form : Form2) (f : Fact2) → slice_get problem.now.forms n ≡ Some form → by_chain form ≡ None → FromTwo problem.now form first second f → Contains result.now n }
+{
+    match (first, second) {
+        (Fact::In(a, _), Fact::In(b, _)) => operands(problem, a, b),
+        (Fact::Edge(..), Fact::In(filler, _)) => problem.with_filler(filler),
+        _ => &[],
+    }
+}
+
+/// The forms, but chains, that give something from the facts in their order.
+pub(crate) fn visited<'a>(problem: &'a IndexedProblem, older: &[Fact]) -> &'a [u32]
+    ensures { (n : ℕ) (form : Form2) (f : Fact2) → slice_get problem.now.forms n ≡ Some form → by_chain form ≡ None → Concludes problem.now form older.now f → Contains result.now n }
+{
+    match *older {
+        [] => problem.given(),
+        [first] => visited_by_one(problem, first),
+        [first, second] => visited_by_two(problem, first, second),
+        _ => &[],
+    }
+}
+
+/// Whether the list has any number.
+pub(crate) fn has_any(list: &[u32]) -> bool
+    ensures { result ≡ false → (n : ℕ) → Contains list.now n → ⊥ }
+{
+    !list.is_empty()
+}
+
+/// Whether some intersection has the class as an operand.
+pub(crate) fn is_operand(problem: &IndexedProblem, class: Class2) -> bool
+    ensures first { result ≡ false → NoneUnder by_first problem.now.forms (class_key class) }
+    ensures second { result ≡ false → NoneUnder by_second problem.now.forms (class_key class) }
+{
+    has_any(problem.first(class)) || has_any(problem.second(class))
+}
+
+/// Whether edges carry something to their sources for the class at their targets: a restriction has it as its filler, or it is
+/// `owl:Nothing`.
+pub(crate) fn is_carried(problem: &IndexedProblem, class: Class2) -> bool
+    ensures nothing { result ≡ false → class ≡ nothing → ⊥ }
+    ensures filler { result ≡ false → NoneUnder by_filler problem.now.forms (class_key class) }
+{
+    class == NOTHING || has_any(problem.with_filler(class))
+}
+
+/// Whether some chain begins with the property, or one above it.
+pub(crate) fn begins_chain(
+    problem: &IndexedProblem,
+    closure: &PropertyClosure,
+    property: PropId2,
+) -> bool
+    requires closed { IsClosureOf problem.now.forms closure.now }
+    requires has { Has closure.now property }
+    ensures { result ≡ false → (r : PropId3) → IsAtOrBelow problem.now.forms property r → NoneUnder by_chain problem.now.forms (property_key r) }
+{
+    for above in closure.supers(property) {
+        if has_any(problem.chains_from(*above)) {
+            return true;
+        }
+    }
+    false
+}
