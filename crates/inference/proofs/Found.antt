@@ -1,5 +1,5 @@
 -- A fact that a test finds.
-use Rattle.std.proofs.Common.{◌≡◌, ◌↔◌, zero, suc, ◌||◌, Bool, true, false, List, [], ◌∷◌, ◌++◌, if◌then◌else◌, Contains, IsTrue, refl, sym, ap, ap₂, ◌∙◌, arith}
+use Rattle.std.proofs.Common.{◌≡◌, ◌↔◌, zero, suc, ◌||◌, Bool, true, false, not, List, [], ◌∷◌, ◌++◌, if◌then◌else◌, Contains, IsTrue, refl, sym, ap, ap₂, ◌∙◌, arith}
 use Rattle.std.proofs.lemmas.Bool.{true≢false}
 use Rattle.std.proofs.lemmas.Bool.Decides.{Decides-eqb, Decides-like, Decides-and}
 use Rattle.std.proofs.lemmas.Map.Views.{Contains-from_any}
@@ -64,3 +64,17 @@ goes_last facts f new = by (list_any (ghosts.eq f) facts) refl
     by : (b : Bool) → list_any (ghosts.eq f) facts ≡ b → (if b then facts else facts ++ f ∷ []) ≡ facts ++ f ∷ []
     by true any = absurd (new (Contains-from_any (λ x y. (same_fact x y).0) f facts any))
     by false any = refl
+
+-- what is put into a set is new, or was there
+pub inserted : (facts new : List Fact) (f : Fact) (is_new : Bool) → is_new ≡ not (list_any (ghosts.eq f) facts) → new ≡ insert_key ghosts.eq facts f
+    → (is_new ≡ true → (Contains facts f → ⊥) × (new ≡ facts ++ f ∷ [])) × (is_new ≡ false → Contains facts f × (new ≡ facts))
+inserted facts new f is_new told keys = by (list_any (ghosts.eq f) facts) refl
+  where
+    by : (there : Bool) → list_any (ghosts.eq f) facts ≡ there → (is_new ≡ true → (Contains facts f → ⊥) × (new ≡ facts ++ f ∷ [])) × (is_new ≡ false → Contains facts f × (new ≡ facts))
+    by true any =
+        (λ yes. absurd (true≢false (sym yes ∙ told ∙ ap not any)),
+         λ _. (Contains-from_any (λ x y. (same_fact x y).0) f facts any, keys ∙ ap (λ b. if b then facts else facts ++ f ∷ []) any))
+    by false any =
+        let new_here : Contains facts f → ⊥ = λ c. true≢false (sym (found f facts c) ∙ any) in
+        (λ _. (new_here, keys ∙ goes_last facts f new_here),
+         λ no. absurd (true≢false (sym (told ∙ ap not any) ∙ no)))

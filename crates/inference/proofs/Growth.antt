@@ -1,5 +1,5 @@
 -- Facts that only grow, each with a reason.
-use Rattle.std.proofs.Common.{◌≡◌, ℕ, zero, suc, ◌+◌, ◌<◌, ◌≤◌, ◌⊎◌, inl, inr, List, [], ◌∷◌, ◌++◌, length, map, take, slice_get, Some, Contains, sym, ap, ◌∙◌, arith, length-append}
+use Rattle.std.proofs.Common.{◌≡◌, ℕ, zero, suc, ◌+◌, ◌<◌, ◌≤◌, ◌⊎◌, inl, inr, Bool, true, false, refl, List, [], ◌∷◌, ◌++◌, length, map, take, slice_get, Some, Contains, sym, ap, ◌∙◌, arith, length-append}
 use Rattle.std.proofs.lemmas.List.{take-append-le, take_all}
 use Rattle.std.proofs.lemmas.Option.{slice_get_within, slice_get-get_or}
 use Rattle.facts.specs.declared.contexts.Fact.{Fact}
@@ -92,3 +92,10 @@ one_too_many k d f r limit s birth new many =
       each = sound grown.derived;
       many = omega (arith, length-append d.facts (f ∷ []));
     }
+
+-- a fact is put in with its reason, where it was not there
+pub put : (k : Problem) (most : ℕ) (d new : Derived) (f : Fact) (r : Reason) (is_new : Bool) → IsDerived k d → IsBirth k d.facts f r → length d.facts < most
+    → (is_new ≡ true → (Contains d.facts f → ⊥) × (new ≡ record { facts = d.facts ++ f ∷ []; births = d.births ++ r ∷ [] })) → (is_new ≡ false → Contains d.facts f × (new ≡ d))
+    → Grows k most d new
+put k most d new f r true s birth low fresh known = rw (fresh refl).1 (added k most d f r s birth (fresh refl).0 low)
+put k most d new f r false s birth low fresh known = rw (known refl).1 (grows_same s)

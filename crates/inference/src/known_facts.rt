@@ -1,12 +1,11 @@
 //! The facts so far, and what gave them.
-ghost use Rattle.facts.specs.Births.{IsBirth, reason};
-ghost use Rattle.inference.specs.Derived.{with_fact, IsDerived, Grows, HasMoreFactsThan};
+ghost use Rattle.facts.specs.Births.{reason};
+ghost use Rattle.inference.specs.Derived.{with_fact};
 ghost use Rattle.inference.specs.declared.known_facts.Stop.TheVariants as stops;
-ghost use Rattle.std.specs.Prelude.{◌≡◌, ◌↔◌, ◌<◌, ◌^◌, ◌++◌, ◌∷◌, Some, [], length, map, take, slice_get, Contains, Err, IfOk, IsTrue, OnOk, OnErr};
+ghost use Rattle.std.specs.Prelude.{◌≡◌, ◌↔◌, ◌<◌, ◌^◌, ◌++◌, ◌∷◌, Some, [], length, map, take, slice_get, Contains, Ok, IfOk, IsTrue, OnErr, false, true};
 
 use axioms::Memory;
 use facts::{Birth, Fact};
-use form_index::IndexedProblem;
 use indexmap::IndexSet;
 use std::alloc::Global;
 use std::hash::RandomState;
@@ -48,14 +47,14 @@ impl Model for KnownFacts {
     ghost invariant = { λ s. length s.facts.keys < 2 ^ 32 };
 }
 
-/// Adds a fact that is not there.
-fn insert(facts: &mut IndexSet<Fact, RandomState>, fact: Fact) -> Result<(), Memory>
-    requires { Contains facts.old.keys fact → ⊥ }
-    ensures ok { OnOk result (facts.new.keys ≡ facts.old.keys ++ fact ∷ []) }
+/// Adds a fact, unless it is there, and tells whether it was new.
+fn insert(facts: &mut IndexSet<Fact, RandomState>, fact: Fact) -> Result<bool, Memory>
+    ensures new { result ≡ Ok true → (Contains facts.old.keys fact → ⊥) × (facts.new.keys ≡ facts.old.keys ++ fact ∷ []) }
+    ensures known { result ≡ Ok false → Contains facts.old.keys fact × (facts.new.keys ≡ facts.old.keys) }
     ensures err { OnErr result (facts.new.keys ≡ facts.old.keys) }
 {
-    facts.insert(fact)?;
-    Ok(())
+    let is_new = facts.insert(fact)?;
+    Ok(is_new)
 }
 
 impl KnownFacts {
@@ -113,23 +112,25 @@ impl KnownFacts {
     }
 
     /// Whether the fact is there.
-    fn contains(&self, fact: &Fact) -> bool
+    pub(crate) fn contains(&self, fact: &Fact) -> bool
         ensures { IsTrue result ↔ Contains self.now.facts fact.now }
     {
         self.facts.contains(fact)
     }
 
-    /// Adds a fact, with what gave it.
-    fn push(&mut self, fact: Fact, birth: Birth) -> Result<(), Memory>
-        requires new { Contains self.old.facts fact → ⊥ }
-        requires room { length self.old.facts < u32.MAX }
-        ensures ok { OnOk result (self.new ≡ with_fact self.old fact (reason birth)) }
+    /// Adds a fact with what gave it, unless it is there, and tells whether it was new.
+    pub(crate) fn put(&mut self, fact: Fact, birth: Birth) -> Result<bool, Memory>
+        requires { length self.old.facts < u32.MAX }
+        ensures new { result ≡ Ok true → (Contains self.old.facts fact → ⊥) × (self.new ≡ with_fact self.old fact (reason birth)) }
+        ensures known { result ≡ Ok false → Contains self.old.facts fact × (self.new ≡ self.old) }
         ensures err { OnErr result (self.new ≡ self.old) }
     {
         self.births.reserve(1)?;
-        insert(&mut self.facts, fact)?;
-        let _ = self.births.push(birth);
-        Ok(())
+        let is_new = insert(&mut self.facts, fact)?;
+        if is_new {
+            let _ = self.births.push(birth);
+        }
+        Ok(is_new)
     }
 
     /// Keeps the first so many facts.
@@ -139,33 +140,5 @@ impl KnownFacts {
     {
         self.facts.truncate(len);
         self.births.truncate(len);
-    }
-
-    /// Adds a fact, unless it is there.
-    #[tactic(auto, using(crate::proofs::Growth::grows_same))]
-    pub fn add(
-        &mut self,
-        problem: &IndexedProblem,
-        max_facts: u32,
-        fact: Fact,
-        condition: u8,
-        older: &[u32],
-        form: Option<u32>,
-    ) -> Result<(), Stop>
-        requires derived { IsDerived problem.now self.old }
-        requires birth { IsBirth problem.now self.old.facts fact (record { condition = condition; older = older.now; form = form }) }
-        ensures grows { Grows problem.now max_facts self.old self.new }
-        ensures there { OnOk result (Contains self.new.facts fact) }
-        ensures limit { result ≡ Err Stop.Limit → HasMoreFactsThan problem.now max_facts }
-    {
-        if self.contains(&fact) {
-            return Ok(());
-        }
-        if self.len() >= max_facts as usize {
-            return Err(Stop::Limit);
-        }
-        let birth = Birth::new(condition, older, form);
-        self.push(fact, birth)?;
-        Ok(())
     }
 }

@@ -1,5 +1,6 @@
 //! What facts give, added to the facts.
 ghost use Rattle.std.specs.Prelude.{◌≡◌, ◌<◌, ℕ, [], ◌∷◌, true, false, Some, Err, length, slice_get, Contains, OnOk};
+ghost use Rattle.facts.specs.Births.{IsBirth};
 ghost use Rattle.facts.specs.Closure.{Concludes, CarriesBack, IsLoop};
 ghost use Rattle.axioms.specs.declared.ids.ExprId.{ExprId as ExprId2};
 ghost use Rattle.facts.specs.declared.contexts.Fact.{Fact as Fact2};
@@ -20,7 +21,7 @@ use crate::conclusions::{THING, carried_back, conclusion, condition_of, loop_at}
 use crate::known_facts::{KnownFacts, Stop};
 use crate::visits::{begins_chain, chained, has_any, is_carried, is_operand, visited};
 use fact_index::Index;
-use facts::{Context, Fact};
+use facts::{Birth, Context, Fact};
 use form_index::IndexedProblem;
 use normal_forms::{Class2, PropId2};
 use property_closure::PropertyClosure;
@@ -33,7 +34,42 @@ pub struct Rules<'a> {
     pub max_facts: u32,
 }
 
+/// Where no fact may be added: whether the fact is there.
+fn found_at_limit(facts: &KnownFacts, fact: &Fact) -> Result<(), Stop>
+    ensures there { OnOk result (Contains facts.now.facts fact.now) }
+    ensures not { result ≡ Err Stop.Limit → Contains facts.now.facts fact.now → ⊥ }
+{
+    if facts.contains(fact) {
+        Ok(())
+    } else {
+        Err(Stop::Limit)
+    }
+}
+
 impl Rules<'_> {
+    /// Adds a fact, unless it is there, with what gave it: a condition, older facts and a form.
+    #[tactic(auto, using(crate::proofs::Growth::grows_same))]
+    fn add(
+        &self,
+        facts: &mut KnownFacts,
+        fact: Fact,
+        condition: u8,
+        older: &[u32],
+        form: Option<u32>,
+    ) -> Result<(), Stop>
+        requires derived { IsDerived self.now.problem.now facts.old }
+        requires birth { IsBirth self.now.problem.now facts.old.facts fact (record { condition = condition; older = older.now; form = form }) }
+        ensures grows { Grows self.now.problem.now self.now.max_facts facts.old facts.new }
+        ensures there { OnOk result (Contains facts.new.facts fact) }
+        ensures limit { result ≡ Err Stop.Limit → HasMoreFactsThan self.now.problem.now self.now.max_facts }
+    {
+        if facts.len() >= self.max_facts as usize {
+            return found_at_limit(facts, &fact);
+        }
+        facts.put(fact, Birth::new(condition, older, form))?;
+        Ok(())
+    }
+
     /// Adds what the form of that number gives from the facts, whose numbers are given too.
     fn draw_form(
         &self,
@@ -55,14 +91,7 @@ impl Rules<'_> {
         }
         let form = &forms[number as usize];
         if let Some(fact) = conclusion(self.closure, form, older) {
-            facts.add(
-                self.problem,
-                self.max_facts,
-                fact,
-                condition_of(form),
-                numbers,
-                Some(number),
-            )?;
+            self.add(facts, fact, condition_of(form), numbers, Some(number))?;
         }
         Ok(())
     }
@@ -143,7 +172,7 @@ impl Rules<'_> {
     {
         self.draw_forms(facts, numbers, older)?;
         if let Some(fact) = carried_back(older) {
-            facts.add(self.problem, self.max_facts, fact, 8, numbers, None)?;
+            self.add(facts, fact, 8, numbers, None)?;
         }
         Ok(())
     }
@@ -167,14 +196,7 @@ impl Rules<'_> {
             return Ok(());
         }
         if let Some(fact) = loop_at(context, &forms[number as usize]) {
-            facts.add(
-                self.problem,
-                self.max_facts,
-                fact,
-                10,
-                numbers,
-                Some(number),
-            )?;
+            self.add(facts, fact, 10, numbers, Some(number))?;
         }
         Ok(())
     }
@@ -213,7 +235,7 @@ impl Rules<'_> {
     {
         if let Context::Expr(e) = context {
             let itself = Fact::In(Class2::Expr(e), context);
-            facts.add(self.problem, self.max_facts, itself, 1, numbers, None)?;
+            self.add(facts, itself, 1, numbers, None)?;
         }
         Ok(())
     }
@@ -227,7 +249,7 @@ impl Rules<'_> {
         ensures entered { OnOk result (IsEntered self.now.problem.now context facts.new.facts) }
     {
         let top = Fact::In(THING, context);
-        facts.add(self.problem, self.max_facts, top, 1, numbers, None)?;
+        self.add(facts, top, 1, numbers, None)?;
         self.enter_itself(facts, context, numbers)?;
         self.draw_loops(facts, context, numbers)?;
         Ok(())
