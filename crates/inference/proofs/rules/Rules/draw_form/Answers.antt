@@ -12,7 +12,7 @@ add-requires-clause-birth c =
 pub returns-in_ok-add-clause-drawn : goal.returns-in_ok-add-clause-drawn
 returns-in_ok-add-clause-drawn c =
     let k = c.args.self.now.problem.now in
-    let new = c.add.new.self.facts in
+    let new = c.add.new.facts.facts in
     drawn_here (λ form. Concludes k form c.args.older.now) k.forms c.forms-forms.result.now c.args.number _ new c.forms-forms.ensures c.if-number-forms.false
     (λ f gives. subst (Contains new) (one_value c.conclusion.result c.in-Some.fact f c.in-Some.is ((c.conclusion.ensures k f c.requires.closed).1 gives)) c.in_ok-add.ensures.there)
 

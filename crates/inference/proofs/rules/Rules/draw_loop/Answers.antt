@@ -12,7 +12,7 @@ add-requires-clause-birth c =
 
 pub returns-in_ok-add-clause-drawn : goal.returns-in_ok-add-clause-drawn
 returns-in_ok-add-clause-drawn c =
-    let new = c.add.new.self.facts in
+    let new = c.add.new.facts.facts in
     drawn_here (IsLoop c.args.context) c.args.self.now.problem.now.forms c.forms-forms.result.now c.args.number _ new c.forms-forms.ensures c.if-number-forms.false
     (λ f is. subst (Contains new) (one_value c.loop_at.result c.in-Some.fact f c.in-Some.is ((c.loop_at.ensures f).1 is)) c.in_ok-add.ensures.there)
 
