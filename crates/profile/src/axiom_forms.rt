@@ -9,15 +9,16 @@ ghost use Rattle.profile.specs.ClassTrees.{AreClassTrees, AreManyDistinct, AreMa
 ghost use Rattle.profile.specs.Statements.{chain_of, class_of, classes_of, iri_of, iris_of};
 
 use crate::expressions::{class_expression, class_expressions};
+use crate::name_builder::NameBuilder;
 use crate::operands::{individual, property};
 use crate::properties::{chain, properties};
-use axioms::{Axiom, BuildFault, Builder};
+use axioms::{Axiom, BuildFault};
 use fs_parser::Tree;
 use std::alloc::Global;
 
 /// Adds the axiom over what is there.
 #[inline(always)]
-fn state(builder: &mut Builder, axiom: Axiom) -> Result<(), BuildFault>
+fn state(builder: &mut NameBuilder, axiom: Axiom) -> Result<(), BuildFault>
     requires { IsAxiomOf builder.old (axiom_of «axiom») }
     ensures { AxiomRead result (axiom_of «axiom») builder.old builder.new }
 {
@@ -31,7 +32,7 @@ fn state(builder: &mut Builder, axiom: Axiom) -> Result<(), BuildFault>
 /// A subclass axiom.
 pub(crate) fn sub_class(
     alloc: Global,
-    builder: &mut Builder,
+    builder: &mut NameBuilder,
     sub: &Tree<'_>,
     superclass: &Tree<'_>,
 ) -> Result<(), BuildFault>
@@ -53,7 +54,7 @@ pub(crate) fn sub_class(
 /// An axiom that classes have the same members.
 pub(crate) fn equivalent_classes(
     alloc: Global,
-    builder: &mut Builder,
+    builder: &mut NameBuilder,
     trees: &[Tree<'_>],
 ) -> Result<(), BuildFault>
     requires classes { AreClassTrees (trees_of trees.now) }
@@ -70,7 +71,7 @@ pub(crate) fn equivalent_classes(
 /// An axiom that no two of the classes have a common member.
 pub(crate) fn disjoint_classes(
     alloc: Global,
-    builder: &mut Builder,
+    builder: &mut NameBuilder,
     trees: &[Tree<'_>],
 ) -> Result<(), BuildFault>
     requires classes { AreClassTrees (trees_of trees.now) }
@@ -87,14 +88,14 @@ pub(crate) fn disjoint_classes(
 /// An axiom that what has a successor by the property is in the class.
 pub(crate) fn property_domain(
     alloc: Global,
-    builder: &mut Builder,
+    builder: &mut NameBuilder,
     first: &Tree<'_>,
     second: &Tree<'_>,
 ) -> Result<(), BuildFault>
     requires { IsClassTree (tree_of second.now) }
     ensures { StatementRead result (States (PropertyDomain (iri_of (tree_of first.now)) (class_of (tree_of second.now)))) builder.old builder.new }
 {
-    let property = match property(alloc, builder, first) {
+    let property = match property(builder, first) {
         Ok(property) => property,
         Err(fault) => return Err(fault),
     };
@@ -107,13 +108,12 @@ pub(crate) fn property_domain(
 
 /// An axiom that the property is transitive.
 pub(crate) fn transitive_property(
-    alloc: Global,
-    builder: &mut Builder,
+    builder: &mut NameBuilder,
     tree: &Tree<'_>,
 ) -> Result<(), BuildFault>
     ensures { StatementRead result (States (TransitiveProperty (iri_of (tree_of tree.now)))) builder.old builder.new }
 {
-    let property = match property(alloc, builder, tree) {
+    let property = match property(builder, tree) {
         Ok(property) => property,
         Err(fault) => return Err(fault),
     };
@@ -122,13 +122,12 @@ pub(crate) fn transitive_property(
 
 /// An axiom that the property is reflexive.
 pub(crate) fn reflexive_property(
-    alloc: Global,
-    builder: &mut Builder,
+    builder: &mut NameBuilder,
     tree: &Tree<'_>,
 ) -> Result<(), BuildFault>
     ensures { StatementRead result (States (ReflexiveProperty (iri_of (tree_of tree.now)))) builder.old builder.new }
 {
-    let property = match property(alloc, builder, tree) {
+    let property = match property(builder, tree) {
         Ok(property) => property,
         Err(fault) => return Err(fault),
     };
@@ -138,7 +137,7 @@ pub(crate) fn reflexive_property(
 /// An axiom that the individual is in the class.
 pub(crate) fn class_assertion(
     alloc: Global,
-    builder: &mut Builder,
+    builder: &mut NameBuilder,
     first: &Tree<'_>,
     second: &Tree<'_>,
 ) -> Result<(), BuildFault>
@@ -149,7 +148,7 @@ pub(crate) fn class_assertion(
         Ok(class) => class,
         Err(fault) => return Err(fault),
     };
-    let individual = match individual(alloc, builder, second) {
+    let individual = match individual(builder, second) {
         Ok(individual) => individual,
         Err(fault) => return Err(fault),
     };
@@ -158,23 +157,22 @@ pub(crate) fn class_assertion(
 
 /// An axiom that the property holds from the source to the target.
 pub(crate) fn property_assertion(
-    alloc: Global,
-    builder: &mut Builder,
+    builder: &mut NameBuilder,
     first: &Tree<'_>,
     second: &Tree<'_>,
     third: &Tree<'_>,
 ) -> Result<(), BuildFault>
     ensures { StatementRead result (States (PropertyAssertion (iri_of (tree_of first.now)) (iri_of (tree_of second.now)) (iri_of (tree_of third.now)))) builder.old builder.new }
 {
-    let property = match property(alloc, builder, first) {
+    let property = match property(builder, first) {
         Ok(property) => property,
         Err(fault) => return Err(fault),
     };
-    let source = match individual(alloc, builder, second) {
+    let source = match individual(builder, second) {
         Ok(source) => source,
         Err(fault) => return Err(fault),
     };
-    let target = match individual(alloc, builder, third) {
+    let target = match individual(builder, third) {
         Ok(target) => target,
         Err(fault) => return Err(fault),
     };
@@ -184,7 +182,7 @@ pub(crate) fn property_assertion(
 /// An axiom that the properties hold between the same individuals.
 pub(crate) fn equivalent_properties(
     alloc: Global,
-    builder: &mut Builder,
+    builder: &mut NameBuilder,
     trees: &[Tree<'_>],
 ) -> Result<(), BuildFault>
     requires { AreManyDistinctNames (trees_of trees.now) }
@@ -200,7 +198,7 @@ pub(crate) fn equivalent_properties(
 /// An axiom that what the chain of properties leads to, or the one property, the other property leads to too.
 pub(crate) fn sub_property(
     alloc: Global,
-    builder: &mut Builder,
+    builder: &mut NameBuilder,
     first: &Tree<'_>,
     second: &Tree<'_>,
 ) -> Result<(), BuildFault>
@@ -211,7 +209,7 @@ pub(crate) fn sub_property(
         Ok(steps) => steps,
         Err(fault) => return Err(fault),
     };
-    let whole = match property(alloc, builder, second) {
+    let whole = match property(builder, second) {
         Ok(whole) => whole,
         Err(fault) => return Err(fault),
     };

@@ -4,34 +4,26 @@ ghost use Rattle.fs_parser.specs.View.{tree_of};
 ghost use Rattle.profile.specs.Additions.{StatementRead};
 ghost use Rattle.profile.specs.Statements.{iri_of};
 
+use crate::name_builder::NameBuilder;
 use crate::operands::{class, individual, property};
-use axioms::{BuildFault, Builder};
+use axioms::BuildFault;
 use fs_parser::Tree;
-use std::alloc::Global;
 
 /// Declares the class that the tree names.
-pub(crate) fn declare_class(
-    alloc: Global,
-    builder: &mut Builder,
-    tree: &Tree<'_>,
-) -> Result<(), BuildFault>
+pub(crate) fn declare_class(builder: &mut NameBuilder, tree: &Tree<'_>) -> Result<(), BuildFault>
     ensures { StatementRead result (DeclaresClass (iri_of (tree_of tree.now))) builder.old builder.new }
 {
-    match class(alloc, builder, tree) {
+    match class(builder, tree) {
         Ok(_) => Ok(()),
         Err(fault) => Err(fault),
     }
 }
 
 /// Declares the property that the tree names.
-pub(crate) fn declare_property(
-    alloc: Global,
-    builder: &mut Builder,
-    tree: &Tree<'_>,
-) -> Result<(), BuildFault>
+pub(crate) fn declare_property(builder: &mut NameBuilder, tree: &Tree<'_>) -> Result<(), BuildFault>
     ensures { StatementRead result (DeclaresProperty (iri_of (tree_of tree.now))) builder.old builder.new }
 {
-    match property(alloc, builder, tree) {
+    match property(builder, tree) {
         Ok(_) => Ok(()),
         Err(fault) => Err(fault),
     }
@@ -39,13 +31,12 @@ pub(crate) fn declare_property(
 
 /// Declares the individual that the tree names.
 pub(crate) fn declare_individual(
-    alloc: Global,
-    builder: &mut Builder,
+    builder: &mut NameBuilder,
     tree: &Tree<'_>,
 ) -> Result<(), BuildFault>
     ensures { StatementRead result (DeclaresIndividual (iri_of (tree_of tree.now))) builder.old builder.new }
 {
-    match individual(alloc, builder, tree) {
+    match individual(builder, tree) {
         Ok(_) => Ok(()),
         Err(fault) => Err(fault),
     }

@@ -5,17 +5,18 @@ ghost use Rattle.profile.specs.Additions.{ClassRead, ClassesRead};
 ghost use Rattle.profile.specs.ClassTrees.{AreClassTrees, AreManyDistinct, AreSomeTrees, IsClassTree};
 ghost use Rattle.profile.specs.Statements.{class_of, classes_of, some_values};
 
+use crate::name_builder::NameBuilder;
 use crate::names;
 use crate::operands::{add, class, property};
-use axioms::{BuildFault, Builder, Expr, ExprId};
-use fs_parser::Tree;
+use axioms::{BuildFault, Expr, ExprId};
+use fs_parser::{Iri, Tree};
 use std::alloc::Global;
 
 /// The class expression that the tree is, with its parts.
 #[cycle(reading)]
 pub(crate) fn class_expression(
     alloc: Global,
-    builder: &mut Builder,
+    builder: &mut NameBuilder,
     tree: &Tree<'_>,
 ) -> Result<ExprId, BuildFault>
     requires { IsClassTree (tree_of tree.now) }
@@ -29,7 +30,7 @@ pub(crate) fn class_expression(
                 some_values(alloc, builder, trees)
             }
         }
-        _ => class(alloc, builder, tree),
+        _ => class(builder, tree),
     }
 }
 
@@ -37,7 +38,7 @@ pub(crate) fn class_expression(
 #[cycle(reading)]
 fn intersection(
     alloc: Global,
-    builder: &mut Builder,
+    builder: &mut NameBuilder,
     trees: &[Tree<'_>],
 ) -> Result<ExprId, BuildFault>
     requires classes { AreClassTrees (trees_of trees.now) }
@@ -58,7 +59,7 @@ fn intersection(
 #[cycle(reading)]
 pub(crate) fn class_expressions(
     alloc: Global,
-    builder: &mut Builder,
+    builder: &mut NameBuilder,
     trees: &[Tree<'_>],
 ) -> Result<Vec<ExprId>, BuildFault>
     requires { AreClassTrees (trees_of trees.now) }
@@ -83,16 +84,22 @@ pub(crate) fn class_expressions(
 #[cycle(reading)]
 fn some_values(
     alloc: Global,
-    builder: &mut Builder,
+    builder: &mut NameBuilder,
     trees: &[Tree<'_>],
 ) -> Result<ExprId, BuildFault>
     requires { AreSomeTrees (trees_of trees.now) }
     ensures { ClassRead result (some_values (trees_of trees.now) (classes_of (trees_of trees.now))) builder.old builder.new }
 {
     let [first, second] = trees else {
-        return names::class(builder, "");
+        return names::class(
+            builder,
+            &Iri {
+                base: "",
+                local: "",
+            },
+        );
     };
-    let property = match property(alloc, builder, first) {
+    let property = match property(builder, first) {
         Ok(property) => property,
         Err(fault) => return Err(fault),
     };

@@ -5,8 +5,9 @@ ghost use Rattle.std.specs.Prelude.{IfErr, IfOk};
 
 use crate::acceptance::{Refusal, take_all};
 use crate::expressions::class_expression;
+use crate::name_builder::NameBuilder;
 use crate::ontology_reader::OntologyReader;
-use axioms::{BuildFault, Builder, ExprId, Ontology};
+use axioms::{BuildFault, ExprId, Ontology};
 use fs_parser::Tree;
 use shapes::{Version, expression_faults};
 use std::alloc::Global;
@@ -70,7 +71,7 @@ pub fn accept_expression(
     ontology.well_formed();
     ontology.bounded();
     let mut builder = match ontology.copy() {
-        Ok(copy) => Builder::from(copy),
+        Ok(copy) => NameBuilder::from(alloc, copy),
         Err(_) => return Err(Refusal::Memory),
     };
     match class_expression(alloc, &mut builder, tree) {

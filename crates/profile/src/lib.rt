@@ -9,6 +9,7 @@ mod axiom_forms;
 mod declarations;
 mod expressions;
 mod growth;
+mod name_builder;
 mod names;
 mod ontology_reader;
 mod operands;

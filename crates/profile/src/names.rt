@@ -1,13 +1,16 @@
 //! Names as the builder numbers them. It answers a kind with a name of that kind; another would be told as refused memory.
 ghost use Rattle.axioms.specs.Expression.{Named};
+ghost use Rattle.fs_parser.specs.View.{iri_of};
 ghost use Rattle.profile.specs.Additions.{ClassRead, IndividualRead, PropertyRead};
 
-use axioms::{BuildFault, Builder, ExprId, IndId, Kind, Name, PropId};
+use crate::name_builder::NameBuilder;
+use axioms::{BuildFault, ExprId, IndId, Kind, Name, PropId};
+use fs_parser::Iri;
 
 /// The expression of the class of this name, which is declared where it is new.
 #[inline(always)]
-pub(crate) fn class(builder: &mut Builder, iri: &str) -> Result<ExprId, BuildFault>
-    ensures { ClassRead result (Named iri.now) builder.old builder.new }
+pub(crate) fn class(builder: &mut NameBuilder, iri: &Iri<'_>) -> Result<ExprId, BuildFault>
+    ensures { ClassRead result (Named (iri_of iri.now)) builder.old builder.new }
 {
     builder.well_formed();
     let name = match builder.declare(Kind::Class, iri) {
@@ -23,8 +26,8 @@ pub(crate) fn class(builder: &mut Builder, iri: &str) -> Result<ExprId, BuildFau
 
 /// The property of this name, which is declared where it is new.
 #[inline(always)]
-pub(crate) fn property(builder: &mut Builder, iri: &str) -> Result<PropId, BuildFault>
-    ensures { PropertyRead result iri.now builder.old builder.new }
+pub(crate) fn property(builder: &mut NameBuilder, iri: &Iri<'_>) -> Result<PropId, BuildFault>
+    ensures { PropertyRead result (iri_of iri.now) builder.old builder.new }
 {
     builder.well_formed();
     let name = match builder.declare(Kind::Property, iri) {
@@ -40,8 +43,8 @@ pub(crate) fn property(builder: &mut Builder, iri: &str) -> Result<PropId, Build
 
 /// The individual of this name, which is declared where it is new.
 #[inline(always)]
-pub(crate) fn individual(builder: &mut Builder, iri: &str) -> Result<IndId, BuildFault>
-    ensures { IndividualRead result iri.now builder.old builder.new }
+pub(crate) fn individual(builder: &mut NameBuilder, iri: &Iri<'_>) -> Result<IndId, BuildFault>
+    ensures { IndividualRead result (iri_of iri.now) builder.old builder.new }
 {
     builder.well_formed();
     let name = match builder.declare(Kind::Individual, iri) {

@@ -10,8 +10,9 @@ ghost use Rattle.shapes.specs.Stated.{meaning, stated};
 ghost use Rattle.std.specs.Prelude.{◌∷◌, [], List, IfErr, IfOk, OnOk, option_map};
 
 use crate::acceptance::Refusal;
+use crate::name_builder::NameBuilder;
 use crate::statement::add_statement;
-use axioms::{BuildFault, Builder, Memory, Ontology};
+use axioms::{BuildFault, Memory, Ontology};
 use fs_parser::Tree;
 use shapes::{Fault, Place, Statement, Version, part_faults};
 use std::alloc::Global;
@@ -28,7 +29,7 @@ pub struct OntologyReader {
     found: Vec<Fault>,
     place: Place,
     is_full: bool,
-    builder: Builder,
+    builder: NameBuilder,
 }
 
 impl Model for OntologyReader {
@@ -44,7 +45,7 @@ impl Model for OntologyReader {
 /// Adds what is stated, if anything is. Whether of a kind there would be too many names.
 fn overflows(
     alloc: Global,
-    builder: &mut Builder,
+    builder: &mut NameBuilder,
     statement: Option<Statement<'_, '_>>,
 ) -> Result<bool, Memory>
     requires { IsFitting (option_map stated statement) }
@@ -76,7 +77,7 @@ impl OntologyReader {
     ) -> Result<OntologyReader, Memory>
         ensures { IfOk result (AreTaken (of_document version) []) }
     {
-        let builder = Builder::new(alloc, state)?;
+        let builder = NameBuilder::new(alloc, state)?;
         builder.well_formed();
         Ok(OntologyReader {
             alloc,
@@ -106,7 +107,7 @@ impl OntologyReader {
             found: Vec::new(alloc),
             place: Place::Axioms,
             is_full: false,
-            builder: Builder::from(ontology),
+            builder: NameBuilder::from(alloc, ontology),
         }
     }
 

@@ -9,14 +9,14 @@ ghost use Rattle.fs_parser.specs.View.{tree_of, iri_of};
 ghost use Rattle.profile.specs.Additions.{ClassRead, HasAdded, IndividualRead, PropertyRead};
 ghost use Rattle.profile.specs.Statements.{iri_of as tree_iri};
 
+use crate::name_builder::NameBuilder;
 use crate::names;
-use axioms::{BuildFault, Builder, Expr, ExprId, IndId, Memory, PropId};
+use axioms::{BuildFault, Expr, ExprId, IndId, Memory, PropId};
 use fs_parser::{Iri, Tree};
-use std::alloc::Global;
 
 /// The expression over what is there, which is added where it is new.
 #[inline(always)]
-pub(crate) fn add(builder: &mut Builder, expr: Expr) -> Result<ExprId, Memory>
+pub(crate) fn add(builder: &mut NameBuilder, expr: Expr) -> Result<ExprId, Memory>
     requires fits { IsNodeOf builder.old (length builder.old.nodes) (node_of expr) }
     requires unnamed { class_name (node_tree builder.old.names (trees builder.old) (node_of expr)) ≡ None }
     ensures { IfOk result (λ e. HasAdded builder.old builder.new e.0 (node_tree builder.old.names (trees builder.old) (node_of expr))) }
@@ -43,48 +43,24 @@ fn iri_of<'a>(tree: &Tree<'a>) -> Iri<'a>
 
 /// The property that the tree is.
 #[inline(always)]
-pub(crate) fn property(
-    alloc: Global,
-    builder: &mut Builder,
-    tree: &Tree<'_>,
-) -> Result<PropId, BuildFault>
+pub(crate) fn property(builder: &mut NameBuilder, tree: &Tree<'_>) -> Result<PropId, BuildFault>
     ensures { PropertyRead result (tree_iri (tree_of tree.now)) builder.old builder.new }
 {
-    let text = match iri_of(tree).text(alloc) {
-        Ok(text) => text,
-        Err(_) => return Err(BuildFault::Memory),
-    };
-    names::property(builder, text.as_str())
+    names::property(builder, &iri_of(tree))
 }
 
 /// The individual that the tree is.
 #[inline(always)]
-pub(crate) fn individual(
-    alloc: Global,
-    builder: &mut Builder,
-    tree: &Tree<'_>,
-) -> Result<IndId, BuildFault>
+pub(crate) fn individual(builder: &mut NameBuilder, tree: &Tree<'_>) -> Result<IndId, BuildFault>
     ensures { IndividualRead result (tree_iri (tree_of tree.now)) builder.old builder.new }
 {
-    let text = match iri_of(tree).text(alloc) {
-        Ok(text) => text,
-        Err(_) => return Err(BuildFault::Memory),
-    };
-    names::individual(builder, text.as_str())
+    names::individual(builder, &iri_of(tree))
 }
 
 /// The class that the tree names.
 #[inline(always)]
-pub(crate) fn class(
-    alloc: Global,
-    builder: &mut Builder,
-    tree: &Tree<'_>,
-) -> Result<ExprId, BuildFault>
+pub(crate) fn class(builder: &mut NameBuilder, tree: &Tree<'_>) -> Result<ExprId, BuildFault>
     ensures { ClassRead result (Named (tree_iri (tree_of tree.now))) builder.old builder.new }
 {
-    let text = match iri_of(tree).text(alloc) {
-        Ok(text) => text,
-        Err(_) => return Err(BuildFault::Memory),
-    };
-    names::class(builder, text.as_str())
+    names::class(builder, &iri_of(tree))
 }

@@ -5,15 +5,16 @@ ghost use Rattle.profile.specs.ClassTrees.{IsChain};
 ghost use Rattle.profile.specs.Statements.{chain_of, iri_of, iris_of};
 ghost use Rattle.std.specs.Prelude.{[], ◌∷◌};
 
+use crate::name_builder::NameBuilder;
 use crate::operands::property;
-use axioms::{BuildFault, Builder, PropId};
+use axioms::{BuildFault, PropId};
 use fs_parser::Tree;
 use std::alloc::Global;
 
 /// The properties that the trees are, in their order.
 pub(crate) fn properties(
     alloc: Global,
-    builder: &mut Builder,
+    builder: &mut NameBuilder,
     trees: &[Tree<'_>],
 ) -> Result<Vec<PropId>, BuildFault>
     ensures { PropertiesRead result (iris_of (trees_of trees.now)) builder.old builder.new }
@@ -21,7 +22,7 @@ pub(crate) fn properties(
     builder.well_formed();
     let mut properties = Vec::new(alloc);
     for tree in trees {
-        let property = match property(alloc, builder, tree) {
+        let property = match property(builder, tree) {
             Ok(property) => property,
             Err(fault) => return Err(fault),
         };
@@ -36,12 +37,12 @@ pub(crate) fn properties(
 /// The one property that the tree is, in a list.
 fn one_property(
     alloc: Global,
-    builder: &mut Builder,
+    builder: &mut NameBuilder,
     tree: &Tree<'_>,
 ) -> Result<Vec<PropId>, BuildFault>
     ensures { PropertiesRead result (iri_of (tree_of tree.now) ∷ []) builder.old builder.new }
 {
-    let property = match property(alloc, builder, tree) {
+    let property = match property(builder, tree) {
         Ok(property) => property,
         Err(fault) => return Err(fault),
     };
@@ -55,7 +56,7 @@ fn one_property(
 /// The properties of the chain that the tree is, or the one property.
 pub(crate) fn chain(
     alloc: Global,
-    builder: &mut Builder,
+    builder: &mut NameBuilder,
     tree: &Tree<'_>,
 ) -> Result<Vec<PropId>, BuildFault>
     requires { IsChain (tree_of tree.now) }

@@ -11,7 +11,8 @@ use crate::axiom_forms::{
     transitive_property,
 };
 use crate::declarations::{declare_class, declare_individual, declare_property};
-use axioms::{BuildFault, Builder};
+use crate::name_builder::NameBuilder;
+use axioms::BuildFault;
 use shapes::Statement;
 use std::alloc::Global;
 
@@ -22,7 +23,7 @@ use std::alloc::Global;
 /// `TooManyNames` where of a kind there would be more than 1,000,000 names; `Memory` where memory was refused.
 pub(crate) fn add_statement(
     alloc: Global,
-    builder: &mut Builder,
+    builder: &mut NameBuilder,
     statement: Statement<'_, '_>,
 ) -> Result<(), BuildFault>
     requires { AreOperands (row (form_stated statement)).1 (trees_stated statement) }
@@ -37,16 +38,16 @@ pub(crate) fn add_statement(
             equivalent_properties(alloc, builder, properties)
         }
         Statement::Domain(property, class) => property_domain(alloc, builder, property, class),
-        Statement::Transitive(property) => transitive_property(alloc, builder, property),
-        Statement::Reflexive(property) => reflexive_property(alloc, builder, property),
+        Statement::Transitive(property) => transitive_property(builder, property),
+        Statement::Reflexive(property) => reflexive_property(builder, property),
         Statement::ClassAssertion(class, individual) => {
             class_assertion(alloc, builder, class, individual)
         }
         Statement::PropertyAssertion(property, source, target) => {
-            property_assertion(alloc, builder, property, source, target)
+            property_assertion(builder, property, source, target)
         }
-        Statement::DeclareClass(name) => declare_class(alloc, builder, name),
-        Statement::DeclareProperty(name) => declare_property(alloc, builder, name),
-        Statement::DeclareIndividual(name) => declare_individual(alloc, builder, name),
+        Statement::DeclareClass(name) => declare_class(builder, name),
+        Statement::DeclareProperty(name) => declare_property(builder, name),
+        Statement::DeclareIndividual(name) => declare_individual(builder, name),
     }
 }
