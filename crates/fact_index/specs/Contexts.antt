@@ -38,3 +38,4 @@ pub record IsEmptyIndex (index : Index) : Type 0 where
   pub from : IsEmptyTable index.from
   pub into : IsEmptyTable index.into
   pub seconds : IsEmptyTable index.seconds
+  pub fillers : IsEmptyTable index.fillers

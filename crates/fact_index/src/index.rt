@@ -7,13 +7,15 @@ use crate::by_context::ByContext;
 use facts::{Context, Fact};
 use std::alloc::{AllocError, Global};
 
-/// The numbers of facts, by context: classes in it, edges from it, edges into it, and those of the edges from it that are seconds.
+/// The numbers of facts, by context: classes in it, edges from it, edges into it, those of the edges from it that are seconds, and
+/// those of the classes in it that are fillers.
 #[derive(Drop)]
 pub struct Index {
     classes: ByContext,
     from: ByContext,
     into: ByContext,
     seconds: ByContext,
+    fillers: ByContext,
 }
 
 impl Index {
@@ -26,6 +28,7 @@ impl Index {
             from: ByContext::new(alloc),
             into: ByContext::new(alloc),
             seconds: ByContext::new(alloc),
+            fillers: ByContext::new(alloc),
         }
     }
 
@@ -57,14 +60,32 @@ impl Index {
         self.seconds.of(context)
     }
 
-    /// Lists a fact, once where it was the last to be listed; an edge among the seconds too, where it is one. Where memory is refused
-    /// it may be listed in part.
-    pub fn add(&mut self, number: u32, fact: Fact, is_second: bool) -> Result<(), AllocError>
-        ensures may { MayList self.old self.new number fact is_second }
-        ensures ok { OnOk result (Lists self.new number fact is_second) }
+    /// Those facts that put a class into the context that were added as fillers.
+    pub fn fillers_in(&self, context: Context) -> &[u32]
+        ensures { result.now ≡ at_context self.now.fillers context }
+    {
+        self.fillers.of(context)
+    }
+
+    /// Lists a fact, once where it was the last to be listed; an edge among the seconds too, where it is one, and a class among the
+    /// fillers. Where memory is refused it may be listed in part.
+    pub fn add(
+        &mut self,
+        number: u32,
+        fact: Fact,
+        is_second: bool,
+        is_filler: bool,
+    ) -> Result<(), AllocError>
+        ensures may { MayList self.old self.new number fact is_second is_filler }
+        ensures ok { OnOk result (Lists self.new number fact is_second is_filler) }
     {
         match fact {
-            Fact::In(_, x) => self.classes.add(x, number)?,
+            Fact::In(_, x) => {
+                self.classes.add(x, number)?;
+                if is_filler {
+                    self.fillers.add(x, number)?;
+                }
+            }
             Fact::Edge(x, _, y) => {
                 self.from.add(x, number)?;
                 self.into.add(y, number)?;
