@@ -10,7 +10,7 @@ use Rattle.facts.specs.declared.contexts.Fact.{Fact}
 use Rattle.facts.specs.declared.contexts.Fact.TheVariants.{In, Edge}
 use Rattle.facts.specs.Closure.{Problem, FromTwo, Carries, in_thing, in_itself, by_form, unsatisfiable, loop, nothing}
 use Rattle.form_index.specs.Named.{class_key, property_key, by_first, by_second, by_filler, by_chain}
-use Rattle.inference.specs.Visited.{GiveNothing, NoneUnder, IsEdge, IsBy, IsClassFact}
+use Rattle.inference.specs.Visited.{GiveNothing, NoneUnder, IsEdge, IsBy, IsClassFact, IsNotCarried}
 use Rattle.inference.specs.Derived.{Derived}
 use Rattle.inference.specs.Working.{DrawnButSpared, MeetEachOther}
 
@@ -98,6 +98,10 @@ no_chain k x y z v p q none = by_form_or_back k (Edge x p y) (Edge z q v) (λ n 
 pub no_order : (k : Problem) (a : Class2) (x y z : Context) (r : PropId2) → GiveNothing k (In a x) (Edge y r z)
 no_order k a x y z r = by_form_or_back k (In a x) (Edge y r z) (λ n form h at w. no_edge_behind k form a x y z r h w) (λ h c. c)
 
+pub uncarried : (k : Problem) (c : Class2) (z : Context) → (c ≡ nothing → ⊥) → NoneUnder by_filler k.forms (class_key c) → IsNotCarried k (In c z)
+uncarried k c z other none (In b y) is = absurd is
+uncarried k c z other none (Edge x r y) is = no_filler k x y z r c other none
+
 -- ---- so nothing is missing
 
 pub nothing_missing : (k : Problem) (f g : Fact) (facts : Derived) → GiveNothing k f g → DrawnButSpared k (f ∷ g ∷ []) facts
@@ -113,8 +117,7 @@ no_operand k a x (Edge y r z) facts first second is = absurd is
 
 -- nothing is carried for a class along an edge
 pub not_carried : (k : Problem) (c : Class2) (z : Context) (g : Fact) (facts : Derived) → (c ≡ nothing → ⊥) → NoneUnder by_filler k.forms (class_key c) → IsEdge g → DrawnButSpared k (g ∷ In c z ∷ []) facts
-not_carried k c z (In b y) facts other none is = absurd is
-not_carried k c z (Edge x r y) facts other none is = nothing_missing k (Edge x r y) (In c z) facts (no_filler k x y z r c other none)
+not_carried k c z g facts other none is = nothing_missing k g (In c z) facts (uncarried k c z other none g is)
 
 -- no chain begins with an edge
 pub no_beginning : (k : Problem) (p : PropId2) (f g : Fact) (facts : Derived) → IsBy p f → ((r : PropId2) → IsAtOrBelow k.forms p r → NoneUnder by_chain k.forms (property_key r)) → IsEdge g → DrawnButSpared k (f ∷ g ∷ []) facts

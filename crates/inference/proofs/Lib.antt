@@ -7,3 +7,4 @@ pub mod Giving
 pub mod Visiting
 pub mod Edges
 pub mod Below
+pub mod Meeting

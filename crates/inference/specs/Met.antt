@@ -11,20 +11,21 @@ use Rattle.fact_index.specs.Indexed.{IsIn, IsFrom, IsInto}
 use Rattle.inference.specs.Derived.{Derived}
 use Rattle.inference.specs.Working.{AreMet, AreMetBefore, AreMetBehind}
 
--- what is listed is a fact: a class in the context, an edge from it, or one into it
+-- what is listed is a fact: a class in the context, which fillers are too, an edge from it, or one into it
 pub record IsWithin (facts : List Fact) (index : Index) : Type 0 where
   pub classes : (x : Context) (n : ℕ) → Contains (at_context index.classes x) n → (f : Fact) × (slice_get facts n ≡ Some f) × IsIn x f
   pub seconds : (x : Context) (n : ℕ) → Contains (at_context index.seconds x) n → (f : Fact) × (slice_get facts n ≡ Some f) × IsFrom x f
+  pub fillers : (x : Context) (n : ℕ) → Contains (at_context index.fillers x) n → (f : Fact) × (slice_get facts n ≡ Some f) × IsIn x f
   pub into : (x : Context) (n : ℕ) → Contains (at_context index.into x) n → (f : Fact) × (slice_get facts n ≡ Some f) × IsInto x f
 
 -- what the fact gives with those that the index lists is there or spared: a class in a context with the classes in it, and behind the
--- edges into it; an edge before the classes in its target and the seconds among the edges on from it, and behind the edges into its
--- source
+-- edges into it; an edge before the fillers among the classes in its target and the seconds among the edges on from it, and behind the
+-- edges into its source
 abbrev pub AllListedAreMet : Problem → Fact → List Fact → Index → Derived → Type 0
 AllListedAreMet k (In a x) old index new =
     AreMet k (In a x) old (at_context index.classes x) new
     × AreMetBehind k (In a x) old (at_context index.into x) new
 AllListedAreMet k (Edge x r y) old index new =
-    AreMetBefore k (Edge x r y) old (at_context index.classes y) new
+    AreMetBefore k (Edge x r y) old (at_context index.fillers y) new
     × AreMetBefore k (Edge x r y) old (at_context index.seconds y) new
     × AreMetBehind k (Edge x r y) old (at_context index.into x) new

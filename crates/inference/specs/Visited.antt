@@ -39,6 +39,10 @@ abbrev pub IsBy : PropId2 → Fact → Type 0
 IsBy p (In a x) = ⊥
 IsBy p (Edge x r y) = r ≡ p
 
+-- no edge carries anything to its source for the fact at its target
+abbrev pub IsNotCarried : Problem → Fact → Type 0
+IsNotCarried k g = (f : Fact) → IsEdge f → GiveNothing k f g
+
 -- the closure has the property of an edge
 abbrev pub HasProperty : Known → Fact → Type 0
 HasProperty c (In a x) = Unit {0}

@@ -11,3 +11,4 @@ mod visits;
 pub use known_facts::{KnownFacts, Stop};
 pub use rules::Rules;
 pub use seconds::stands_second;
+pub use visits::is_filler;

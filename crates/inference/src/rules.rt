@@ -571,7 +571,7 @@ impl Rules<'_> {
                 self.carry(facts, hand, class, x, index.edges_into(x))?;
             }
             Fact::Edge(x, property, y) => {
-                self.meet_before(facts, hand, fact, index.classes_in(y))?;
+                self.meet_before(facts, hand, fact, index.fillers_in(y))?;
                 self.lead_on(facts, hand, fact, property, index.seconds_from(y))?;
                 self.lead_up(facts, hand, fact, is_second, index.edges_into(x))?;
             }

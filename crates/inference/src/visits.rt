@@ -9,7 +9,7 @@ ghost use Rattle.form_index.specs.Named.{by_chain, by_filler, by_first, by_secon
 ghost use Rattle.form_index.specs.Under.{IsUnder};
 ghost use Rattle.property_closure.specs.Closed.{Has};
 ghost use Rattle.inference.specs.Closed.{IsClosureOf};
-ghost use Rattle.inference.specs.Visited.{NoneUnder, chained_pair, chained_property};
+ghost use Rattle.inference.specs.Visited.{IsNotCarried, NoneUnder, chained_pair, chained_property};
 
 use crate::conclusions::NOTHING;
 use facts::Fact;
@@ -105,6 +105,16 @@ pub(crate) fn is_carried(problem: &IndexedProblem, class: Class2) -> bool
     ensures filler { result ≡ false → NoneUnder by_filler problem.now.forms (class_key class) }
 {
     class == NOTHING || has_any(problem.with_filler(class))
+}
+
+/// Whether edges into its context have to meet the fact. They have not where it puts a class there for which they carry nothing.
+pub fn is_filler(problem: &IndexedProblem, fact: Fact) -> bool
+    ensures { result ≡ false → IsNotCarried problem.now fact }
+{
+    match fact {
+        Fact::In(class, _) => is_carried(problem, class),
+        Fact::Edge(..) => true,
+    }
 }
 
 /// Whether some chain begins with the property, or one above it.

@@ -1,5 +1,5 @@
 use Rattle.inference.proofs.Giving.{not_carried}
-use Rattle.saturate.proofs.Listing.{numbers_within, kind_of}
+use Rattle.inference.proofs.Meeting.{numbers_within, kind_of}
 use Rattle.inference.specs.Visited.{IsEdge}
 use Rattle.inference.proofs.rules.Rules.carry.Goals as goal
 

@@ -1,6 +1,6 @@
 use Rattle.inference.proofs.Edges.{property_there}
 use Rattle.inference.proofs.Giving.{no_beginning}
-use Rattle.saturate.proofs.Listing.{numbers_within, kind_of}
+use Rattle.inference.proofs.Meeting.{numbers_within, kind_of}
 use Rattle.inference.specs.Visited.{IsEdge}
 use Rattle.inference.proofs.rules.Rules.lead_on.Goals as goal
 

@@ -1,5 +1,5 @@
 use Rattle.inference.proofs.Giving.{no_operand}
-use Rattle.saturate.proofs.Listing.{numbers_within, kind_of}
+use Rattle.inference.proofs.Meeting.{numbers_within, kind_of}
 use Rattle.inference.specs.Visited.{IsClassFact}
 use Rattle.inference.proofs.rules.Rules.meet_classes.Goals as goal
 

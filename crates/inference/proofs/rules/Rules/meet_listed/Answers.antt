@@ -3,7 +3,7 @@ use Rattle.inference.specs.Visited.{IsClassFact, IsEdge}
 use Rattle.inference.specs.Working.{IsSparedAsSecond}
 use Rattle.inference.proofs.Growth.{grows_trans}
 use Rattle.inference.proofs.Drawing.{all_met_still, before_still, before_earlier, behind_earlier}
-use Rattle.saturate.proofs.Listing.{met_in, met_edge, classes_listed, seconds_listed, into_listed, all_still_there, numbers_within}
+use Rattle.inference.proofs.Meeting.{met_in, met_edge, classes_listed, fillers_listed, seconds_listed, into_listed, all_still_there, numbers_within}
 use Rattle.inference.proofs.Sparing.{second_still}
 use Rattle.inference.proofs.rules.Rules.meet_listed.Goals as goal
 
@@ -15,8 +15,8 @@ carry-requires-clause-numbers c = all_still_there c.meet_classes.ensures.grows I
 
 pub meet_before-requires-clause-numbers : goal.meet_before-requires-clause-numbers
 meet_before-requires-clause-numbers c =
-    numbers_within IsClassFact c.args.facts.now.facts c.classes_in-in-Edge.result.now
-    (classes_listed c.requires.index c.in-Edge.y c.classes_in-in-Edge.result.now c.classes_in-in-Edge.ensures)
+    numbers_within IsClassFact c.args.facts.now.facts c.fillers_in.result.now
+    (fillers_listed c.requires.index c.in-Edge.y c.fillers_in.result.now c.fillers_in.ensures)
 
 pub lead_on-requires-clause-numbers : goal.lead_on-requires-clause-numbers
 lead_on-requires-clause-numbers c = all_still_there c.meet_before.ensures.grows IsEdge c.seconds_from.result.now (seconds_listed c.requires.index c.in-Edge.y c.seconds_from.result.now c.seconds_from.ensures)
@@ -47,8 +47,8 @@ returns-in_ok-lead_up-in-Edge-clause-met c =
     let s = c.meet_before.ensures.grows in
     let t = c.lead_on.ensures.grows in
     let u = c.lead_up.ensures.grows in
-    rw c.in-Edge.is (met_edge c.args.self.now.problem.now old c.args.index.now new c.in-Edge.x _ c.in-Edge.y c.classes_in-in-Edge.result.now c.seconds_from.result.now c.edges_into-in-Edge.result.now
-    c.classes_in-in-Edge.ensures c.seconds_from.ensures c.edges_into-in-Edge.ensures
+    rw c.in-Edge.is (met_edge c.args.self.now.problem.now old c.args.index.now new c.in-Edge.x _ c.in-Edge.y c.fillers_in.result.now c.seconds_from.result.now c.edges_into-in-Edge.result.now
+    c.fillers_in.ensures c.seconds_from.ensures c.edges_into-in-Edge.ensures
     (before_still (grows_trans t u) _ old _ c.in_ok-meet_before-in-Edge.ensures.met)
     (before_still u _ old _ (before_earlier s _ _ _ c.in_ok-lead_on-in-Edge.ensures.met))
     (behind_earlier (grows_trans s t) _ _ new c.in_ok-lead_up-in-Edge.ensures.met))

@@ -1,5 +1,5 @@
 use Rattle.inference.proofs.Drawing.{drawn_still}
-use Rattle.saturate.proofs.Listing.{listed_earlier, within_still}
+use Rattle.inference.proofs.Meeting.{listed_earlier, within_still}
 use Rattle.inference.proofs.Sparing.{second_still}
 use Rattle.inference.proofs.rules.Rules.serve.Goals as goal
 
