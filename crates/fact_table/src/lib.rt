@@ -1,0 +1,7 @@
+//! The facts of a saturation in order, each once, in a table that finds them.
+#![tactic(auto)]
+
+mod chains;
+mod table;
+
+pub use table::FactTable;
