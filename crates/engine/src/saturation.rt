@@ -82,25 +82,20 @@ impl Saturation {
 
     /// Lets go what only a run needs: the tables that find facts, and whose turn it is. All facts are served. What is left is read as
     /// before, and may be resumed.
-    ///
-    /// # Errors
-    ///
-    /// `Memory` where memory was refused.
-    pub fn release(self) -> Result<Saturation, Memory>
+    pub fn release(self) -> Saturation
         requires { IsFinished self }
-        ensures normal { IfOk result (λ s. s.normal ≡ self.normal) }
-        ensures problem { IfOk result (λ s. s.state.problem ≡ self.state.problem) }
-        ensures facts { IfOk result (λ s. s.state.facts ≡ self.state.facts) }
-        ensures births { IfOk result (λ s. s.state.births ≡ self.state.births) }
-        ensures finished { IfOk result IsFinished }
-        ensures saturated { IfOk result (λ s. (o : Ontology2) → IsSaturated o self → IsSaturated o s) }
+        ensures normal { result.normal ≡ self.normal }
+        ensures problem { result.state.problem ≡ self.state.problem }
+        ensures facts { result.state.facts ≡ self.state.facts }
+        ensures births { result.state.births ≡ self.state.births }
+        ensures finished { IsFinished result }
+        ensures saturated { (o : Ontology2) → IsSaturated o self → IsSaturated o result }
     {
         let Saturation { normal, state } = self;
-        let kept = state.release()?;
-        Ok(Saturation {
+        Saturation {
             normal,
-            state: kept,
-        })
+            state: state.release(),
+        }
     }
 
     /// How many of the facts are served.
@@ -192,10 +187,7 @@ pub fn saturated(
 {
     let mut saturation = Saturation::start(alloc, state, ontology)?;
     match saturation.resume(max_facts) {
-        Ok(()) => {
-            let kept = saturation.release()?;
-            Ok(kept)
-        }
+        Ok(()) => Ok(saturation.release()),
         Err(stop) => {
             drop(saturation);
             Err(stop)

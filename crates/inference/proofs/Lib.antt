@@ -2,7 +2,6 @@ pub mod Lists
 pub mod Growth
 pub mod Sparing
 pub mod Drawing
-pub mod Found
 pub mod Giving
 pub mod Visiting
 pub mod Edges

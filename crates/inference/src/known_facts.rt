@@ -5,8 +5,8 @@ ghost use Rattle.inference.specs.declared.known_facts.Stop.TheVariants as stops;
 ghost use Rattle.std.specs.Prelude.{◌≡◌, ◌↔◌, ◌<◌, ◌^◌, ◌++◌, ◌∷◌, Some, [], length, map, take, slice_get, Contains, Ok, IfOk, IsTrue, OnErr, false, true};
 
 use axioms::Memory;
+use fact_table::FactTable;
 use facts::{Birth, Fact};
-use indexmap::IndexSet;
 use std::alloc::Global;
 use std::hash::RandomState;
 use std::marker::Model;
@@ -31,30 +31,18 @@ impl From<Memory> for Stop {
 /// Facts in order of birth, fewer than 2^32, each with what gave it.
 #[derive(Drop)]
 pub struct KnownFacts {
-    facts: IndexSet<Fact, RandomState>,
+    facts: FactTable,
     births: Vec<Birth>,
 }
 
 impl Model for KnownFacts {
     ghost use Rattle.facts.specs.Births.{reason};
     ghost use Rattle.inference.specs.Derived.{Derived};
-    ghost use Rattle.std.specs.Prelude.{◌<◌, ◌^◌, length, map};
+    ghost use Rattle.std.specs.Prelude.{map};
 
     ghost Value = { Derived };
 
-    ghost view = { λ s. record { facts = s.facts.keys; births = map reason s.births.items } };
-
-    ghost invariant = { λ s. length s.facts.keys < 2 ^ 32 };
-}
-
-/// Adds a fact, unless it is there, and tells whether it was new.
-fn insert(facts: &mut IndexSet<Fact, RandomState>, fact: Fact) -> Result<bool, Memory>
-    ensures new { result ≡ Ok true → (Contains facts.old.keys fact → ⊥) × (facts.new.keys ≡ facts.old.keys ++ fact ∷ []) }
-    ensures known { result ≡ Ok false → Contains facts.old.keys fact × (facts.new.keys ≡ facts.old.keys) }
-    ensures err { OnErr result (facts.new.keys ≡ facts.old.keys) }
-{
-    let is_new = facts.insert(fact)?;
-    Ok(is_new)
+    ghost view = { λ s. record { facts = s.facts; births = map reason s.births.items } };
 }
 
 impl KnownFacts {
@@ -64,7 +52,7 @@ impl KnownFacts {
         ensures births { result.births ≡ [] }
     {
         KnownFacts {
-            facts: IndexSet::with_hasher(alloc, state),
+            facts: FactTable::new(alloc, state),
             births: Vec::new(alloc),
         }
     }
@@ -101,14 +89,13 @@ impl KnownFacts {
         &self.births[number as usize]
     }
 
-    /// The facts, and what gave them, without the table that finds a fact.
-    pub fn into_lists(self, alloc: Global) -> Result<(Vec<Fact>, Vec<Birth>), Memory>
-        ensures facts { IfOk result (λ p. p.0.items ≡ self.facts) }
-        ensures births { IfOk result (λ p. map reason p.1.items ≡ self.births) }
+    /// The facts, and what gave them, without what finds a fact.
+    pub fn into_lists(self) -> (Vec<Fact>, Vec<Birth>)
+        ensures facts { result.0.items ≡ self.facts }
+        ensures births { map reason result.1.items ≡ self.births }
     {
         let KnownFacts { facts, births } = self;
-        let list = Vec::from_iter(alloc, facts)?;
-        Ok((list, births))
+        (facts.into_list(), births)
     }
 
     /// Whether the fact is there.
@@ -126,7 +113,7 @@ impl KnownFacts {
         ensures err { OnErr result (self.new ≡ self.old) }
     {
         self.births.reserve(1)?;
-        let is_new = insert(&mut self.facts, fact)?;
+        let is_new = self.facts.insert(fact)?;
         if is_new {
             let _ = self.births.push(birth);
         }

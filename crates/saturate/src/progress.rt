@@ -9,7 +9,6 @@ ghost use Rattle.inference.specs.Working.{IsClosure};
 
 use crate::kept::Kept;
 use crate::state::State;
-use axioms::Memory;
 use facts::{Birth, Fact, FactId};
 use inference::Stop;
 use property_closure::PropertyClosure;
@@ -122,31 +121,23 @@ impl<W: WorkList> Progress<W> {
     }
 
     /// Lets go what only a run needs. All facts are served.
-    ///
-    /// # Errors
-    ///
-    /// `Memory` where memory was refused.
-    pub fn release(self) -> Result<Progress<W>, Memory>
+    pub fn release(self) -> Progress<W>
     where
         W: Drop,
         requires { length self.served ≡ length self.facts }
-        ensures problem { IfOk result (λ p. p.problem ≡ self.problem) }
-        ensures facts { IfOk result (λ p. p.facts ≡ self.facts) }
-        ensures births { IfOk result (λ p. p.births ≡ self.births) }
-        ensures served { IfOk result (λ p. length p.served ≡ length p.facts) }
+        ensures problem { result.problem ≡ self.problem }
+        ensures facts { result.facts ≡ self.facts }
+        ensures births { result.births ≡ self.births }
+        ensures served { length result.served ≡ length result.facts }
     {
         let Progress { stage } = self;
-        match stage {
-            Stage::Growing(state) => {
-                let kept = state.kept()?;
-                kept.well_formed();
-                Ok(Progress {
-                    stage: Stage::Kept(kept),
-                })
-            }
-            Stage::Kept(kept) => Ok(Progress {
-                stage: Stage::Kept(kept),
-            }),
+        let kept = match stage {
+            Stage::Growing(state) => state.kept(),
+            Stage::Kept(kept) => kept,
+        };
+        kept.well_formed();
+        Progress {
+            stage: Stage::Kept(kept),
         }
     }
 }

@@ -141,31 +141,31 @@ impl<W: WorkList> State<W> {
         self.queue.all_served();
     }
 
-    /// What is kept where all facts are served: the tables that only a run needs go before the facts are copied from theirs.
-    pub(crate) fn kept(self) -> Result<Kept, Memory>
+    /// What is kept where all facts are served.
+    pub(crate) fn kept(self) -> Kept
     where
         W: Drop,
         requires { length self.served ≡ length self.facts }
-        ensures problem { IfOk result (λ k. k.problem ≡ self.problem) }
-        ensures facts { IfOk result (λ k. k.facts ≡ self.facts) }
-        ensures births { IfOk result (λ k. k.births ≡ self.births) }
+        ensures problem { result.problem ≡ self.problem }
+        ensures facts { result.facts ≡ self.facts }
+        ensures births { result.births ≡ self.births }
     {
         self.well_formed();
         let State {
-            alloc,
             ground,
             facts,
             queue,
             index,
+            ..
         } = self;
         drop(queue);
         drop(index);
-        let (facts, births) = facts.into_lists(alloc)?;
-        Ok(Kept {
+        let (facts, births) = facts.into_lists();
+        Kept {
             ground,
             facts,
             births,
-        })
+        }
     }
 
     /// Serves a fact that is pending, or answers `false` where there is none.
