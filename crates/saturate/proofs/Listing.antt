@@ -4,8 +4,6 @@ use Rattle.std.proofs.lemmas.List.Elements.{Contains-push, Contains-push_cases}
 use Rattle.std.proofs.lemmas.Option.{slice_get_within}
 use Rattle.normal_forms.specs.declared.forms.Form.{Form}
 use Rattle.normal_forms.specs.declared.forms.Form.TheVariants.{N1, N2, N3, N4, N5, N6, N7, N8, N9}
-use Rattle.normal_forms.specs.declared.forms.Class2.{Class2}
-use Rattle.normal_forms.specs.declared.forms.PropId2.{PropId2}
 use Rattle.facts.specs.declared.contexts.Context.{Context}
 use Rattle.facts.specs.declared.contexts.Fact.{Fact}
 use Rattle.facts.specs.declared.contexts.Fact.TheVariants.{In, Edge}
@@ -15,12 +13,12 @@ use Rattle.fact_index.specs.declared.index.Index.{Index}
 use Rattle.fact_index.specs.Contexts.{at_context, IsLast, IsEmptyTable, IsEmptyIndex}
 use Rattle.fact_index.specs.Parts.{ArePartOf}
 use Rattle.fact_index.proofs.Parts.{part_empty, part_same, part_push, part_more, part_behind, part_within, part_cases, part_contains}
-use Rattle.fact_index.specs.Indexed.{IsIn, IsFrom, IsInto, IsSecondFrom, MayListIn, MayList, Lists, ListsIn}
+use Rattle.fact_index.specs.Indexed.{IsIn, IsFrom, IsInto, MayListIn, MayList, Lists, ListsIn}
 use Rattle.inference.specs.Derived.{Derived, Grows}
 use Rattle.saturate.specs.Queued.{Queued, option_list}
-use Rattle.inference.specs.Working.{MeetEachOther, AreMet, AreMetBefore, AreMetBehind, IsSparedAsSecond}
-use Rattle.inference.specs.Visited.{AreAll, IsClassFact, IsEdge}
-use Rattle.saturate.specs.Listed.{ListsFacts, ListsSeconds, ListsServed}
+use Rattle.inference.specs.Working.{MeetEachOther, IsSparedAsSecond}
+use Rattle.inference.specs.Visited.{IsNotCarried}
+use Rattle.saturate.specs.Listed.{ListsFacts, ListsNeeded, ListsServed}
 use Rattle.inference.specs.Met.{IsWithin, AllListedAreMet}
 use Rattle.inference.proofs.Lists.{one_value}
 use Rattle.inference.proofs.Sparing.{second_still}
@@ -79,45 +77,50 @@ module _ (has : Context → Fact → Type 0) where
     order = λ x. rw (e x) (part_empty m);
   }
 
--- ---- seconds
+-- ---- seconds and fillers
 
-few_seconds : {k : Problem} {d : Derived} {w : List ℕ} {table : ByContext} (v : List ℕ) → ListsSeconds k d w table → ((n : ℕ) → Contains v n → Contains w n) → ListsSeconds k d v table
-few_seconds v s low = record { all = λ x n f c. s.all x n f (low n c); only = s.only }
+module _ (has : Context → Fact → Type 0) where
+  -- where the flag is up
+  abbrev Flagged : Bool → Context → Fact → Type 0
+  Flagged flag x f = (flag ≡ true) × has x f
 
-may_second : {k : Problem} {d : Derived} {w : List ℕ} {old new : ByContext} {n : ℕ} {f : Fact} {is_second : Bool} → ListsSeconds k d w old → MayListIn (IsSecondFrom is_second) old new n f → slice_get d.facts n ≡ Some f → ListsSeconds k d w new
-may_second {d = d} {f = f} s t at = record {
-  all = λ x i g c at_i h. ⊎_elim (λ here. inl (t.kept x i here)) (λ spared. inr spared) (s.all x i g c at_i h);
-  only = λ x i c. ⊎_elim (s.only x i) (λ v. (f, subst (λ (j : ℕ). slice_get d.facts j ≡ Some f) (sym v.1) at, v.0.1)) (t.only x i c);
-}
+  few_needed : {Not : Fact → Type 0} {facts : List Fact} {w : List ℕ} {table : ByContext} (v : List ℕ) → ListsNeeded has Not facts w table → ((n : ℕ) → Contains v n → Contains w n) → ListsNeeded has Not facts v table
+  few_needed v s low = record { all = λ x n f c. s.all x n f (low n c); only = s.only }
 
-all_seconds : {k : Problem} {d : Derived} {w : List ℕ} {table : ByContext} {n : ℕ} {f : Fact} (is_second : Bool) → ListsSeconds k d w table → slice_get d.facts n ≡ Some f → ((x : Context) → IsSecondFrom is_second x f → Contains (at_context table x) n) → (is_second ≡ false → IsSparedAsSecond k d f)
-    → ListsSeconds k d (w ++ n ∷ []) table
-all_seconds {k} {d} {w} {table} {n} {f} is_second s at t spared = record {
-  all = λ x i g c at_i h. ⊎_elim
-      (λ before. s.all x i g before at_i h)
-      (λ e.
-      let at_n : slice_get d.facts n ≡ Some g = subst (λ (j : ℕ). slice_get d.facts j ≡ Some g) (sym e) at_i in
-      subst (λ (j : ℕ). Contains (at_context table x) j ⊎ IsSparedAsSecond k d g) e
-      (subst (λ (y : Fact). Contains (at_context table x) n ⊎ IsSparedAsSecond k d y) (one_value _ f g at at_n) (here is_second t spared x (subst (IsFrom x) (one_value _ g f at_n at) h))))
-      (Contains-push_cases w n i c);
-  only = s.only;
-}
-  where
-    here : (b : Bool) → ((x : Context) → IsSecondFrom b x f → Contains (at_context table x) n) → (b ≡ false → IsSparedAsSecond k d f) → (x : Context) → IsFrom x f → Contains (at_context table x) n ⊎ IsSparedAsSecond k d f
-    here true u v x h = inl (u x (refl, h))
-    here false u v x h = inr (v refl)
+  may_need : {Not : Fact → Type 0} {facts : List Fact} {w : List ℕ} {old new : ByContext} {n : ℕ} {f : Fact} (flag : Bool) → ListsNeeded has Not facts w old → MayListIn (Flagged flag) old new n f → slice_get facts n ≡ Some f → ListsNeeded has Not facts w new
+  may_need {facts = facts} {f = f} flag s t at = record {
+    all = λ x i g c at_i h. ⊎_elim (λ here. inl (t.kept x i here)) (λ spared. inr spared) (s.all x i g c at_i h);
+    only = λ x i c. ⊎_elim (s.only x i) (λ v. (f, subst (λ (j : ℕ). slice_get facts j ≡ Some f) (sym v.1) at, v.0.1)) (t.only x i c);
+  }
 
-second_grown : {k : Problem} {most : ℕ} {a b : Derived} {w : List ℕ} {table : ByContext} → Grows k most a b → ((n : ℕ) → Contains w n → n < length a.facts) → ListsSeconds k a w table → ListsSeconds k b w table
-second_grown t low s = record {
-  all = λ x n f c at h. ⊎_elim (λ here. inl here) (λ spared. inr (second_still t f spared)) (s.all x n f c (was_there t n f (low n c) at) h);
-  only = λ x n c. let o = s.only x n c in (o.0, t.facts n o.0 o.1, o.2);
-}
+  all_needed : {Not : Fact → Type 0} {facts : List Fact} {w : List ℕ} {table : ByContext} {n : ℕ} {f : Fact} (flag : Bool) → ListsNeeded has Not facts w table → slice_get facts n ≡ Some f → ((x : Context) → Flagged flag x f → Contains (at_context table x) n) → (flag ≡ false → Not f)
+      → ListsNeeded has Not facts (w ++ n ∷ []) table
+  all_needed {Not} {facts} {w} {table} {n} {f} flag s at t spared = record {
+    all = λ x i g c at_i h. ⊎_elim
+        (λ before. s.all x i g before at_i h)
+        (λ e.
+        let at_n : slice_get facts n ≡ Some g = subst (λ (j : ℕ). slice_get facts j ≡ Some g) (sym e) at_i in
+        subst (λ (j : ℕ). Contains (at_context table x) j ⊎ Not g) e
+        (subst (λ (y : Fact). Contains (at_context table x) n ⊎ Not y) (one_value _ f g at at_n) (here flag t spared x (subst (has x) (one_value _ g f at_n at) h))))
+        (Contains-push_cases w n i c);
+    only = s.only;
+  }
+    where
+      here : (b : Bool) → ((x : Context) → Flagged b x f → Contains (at_context table x) n) → (b ≡ false → Not f) → (x : Context) → has x f → Contains (at_context table x) n ⊎ Not f
+      here true u v x h = inl (u x (refl, h))
+      here false u v x h = inr (v refl)
 
-no_seconds : (k : Problem) (d : Derived) (table : ByContext) → IsEmptyTable table → ListsSeconds k d [] table
-no_seconds k d table e = record {
-  all = λ x n f c at h. absurd (omega (arith, c.1));
-  only = λ x n c. let d = rw (e x) at c in absurd (omega (arith, d.1));
-}
+  needed_grown : {k : Problem} {most : ℕ} {a b : Derived} {Not Nor : Fact → Type 0} {w : List ℕ} {table : ByContext} → Grows k most a b → ((f : Fact) → Not f → Nor f) → ((n : ℕ) → Contains w n → n < length a.facts) → ListsNeeded has Not a.facts w table → ListsNeeded has Nor b.facts w table
+  needed_grown t still low s = record {
+    all = λ x n f c at h. ⊎_elim (λ here. inl here) (λ spared. inr (still f spared)) (s.all x n f c (was_there t n f (low n c) at) h);
+    only = λ x n c. let o = s.only x n c in (o.0, t.facts n o.0 o.1, o.2);
+  }
+
+  none_needed : (Not : Fact → Type 0) (facts : List Fact) (table : ByContext) → IsEmptyTable table → ListsNeeded has Not facts [] table
+  none_needed Not facts table e = record {
+    all = λ x n f c at h. absurd (omega (arith, c.1));
+    only = λ x n c. let d = rw (e x) at c in absurd (omega (arith, d.1));
+  }
 
 -- ---- the index
 
@@ -128,27 +131,30 @@ fewer v l s low high = record {
     from = fewer_in IsFrom _ _ _ v l _ s.by_context.from low high;
     into = fewer_in IsInto _ _ _ v l _ s.by_context.into low high;
   };
-  seconds = few_seconds v s.seconds low;
+  seconds = few_needed IsFrom v s.seconds low;
+  fillers = few_needed IsIn v s.fillers low;
 }
 
-pub may : {k : Problem} {d : Derived} {w m : List ℕ} {old new : Index} {n : ℕ} {f : Fact} {is_second : Bool} → ListsFacts k d w m old → MayList old new n f is_second → slice_get d.facts n ≡ Some f → m ≡ w ++ n ∷ [] → ListsFacts k d w m new
-may s t at e = record {
+pub may : {k : Problem} {d : Derived} {w m : List ℕ} {old new : Index} {n : ℕ} {f : Fact} {is_second is_filler : Bool} → ListsFacts k d w m old → MayList old new n f is_second is_filler → slice_get d.facts n ≡ Some f → m ≡ w ++ n ∷ [] → ListsFacts k d w m new
+may {is_second = is_second} {is_filler = is_filler} s t at e = record {
   by_context = record {
     classes = may_in IsIn _ _ _ _ _ _ _ s.by_context.classes t.classes at e;
     from = may_in IsFrom _ _ _ _ _ _ _ s.by_context.from t.from at e;
     into = may_in IsInto _ _ _ _ _ _ _ s.by_context.into t.into at e;
   };
-  seconds = may_second s.seconds t.seconds at;
+  seconds = may_need IsFrom is_second s.seconds t.seconds at;
+  fillers = may_need IsIn is_filler s.fillers t.fillers at;
 }
 
-pub listed : {k : Problem} {d : Derived} {w m : List ℕ} {new : Index} {n : ℕ} {f : Fact} {is_second : Bool} → ListsFacts k d w m new → slice_get d.facts n ≡ Some f → Lists new n f is_second → (is_second ≡ false → IsSparedAsSecond k d f) → ListsFacts k d (w ++ n ∷ []) m new
-listed {is_second = is_second} s at t spared = record {
+pub listed : {k : Problem} {d : Derived} {w m : List ℕ} {new : Index} {n : ℕ} {f : Fact} {is_second is_filler : Bool} → ListsFacts k d w m new → slice_get d.facts n ≡ Some f → Lists new n f is_second is_filler → (is_second ≡ false → IsSparedAsSecond k d f) → (is_filler ≡ false → IsNotCarried k f) → ListsFacts k d (w ++ n ∷ []) m new
+listed {is_second = is_second} {is_filler = is_filler} s at t spared uncarried = record {
   by_context = record {
     classes = all_in IsIn _ _ _ _ _ _ s.by_context.classes at t.classes;
     from = all_in IsFrom _ _ _ _ _ _ s.by_context.from at t.from;
     into = all_in IsInto _ _ _ _ _ _ s.by_context.into at t.into;
   };
-  seconds = all_seconds is_second s.seconds at t.seconds spared;
+  seconds = all_needed IsFrom is_second s.seconds at t.seconds spared;
+  fillers = all_needed IsIn is_filler s.fillers at t.fillers uncarried;
 }
 
 pub still_listed : {k : Problem} {most : ℕ} {a b : Derived} {w m : List ℕ} {index : Index} → Grows k most a b → ((n : ℕ) → Contains w n → n < length a.facts) → ListsFacts k a w m index → ListsFacts k b w m index
@@ -158,16 +164,18 @@ still_listed t low s = record {
     from = grown_in IsFrom t _ _ _ low s.by_context.from;
     into = grown_in IsInto t _ _ _ low s.by_context.into;
   };
-  seconds = second_grown t low s.seconds;
+  seconds = needed_grown IsFrom t (second_still t) low s.seconds;
+  fillers = needed_grown IsIn t (λ f not. not) low s.fillers;
 }
 
 pub all_within : {k : Problem} {d : Derived} {w m : List ℕ} {index : Index} → ListsFacts k d w m index → IsWithin d.facts index
-all_within s = record { classes = within_in IsIn _ _ _ _ s.by_context.classes; seconds = s.seconds.only; into = within_in IsInto _ _ _ _ s.by_context.into }
+all_within s = record { classes = within_in IsIn _ _ _ _ s.by_context.classes; seconds = s.seconds.only; fillers = s.fillers.only; into = within_in IsInto _ _ _ _ s.by_context.into }
 
 pub nothing_listed : (k : Problem) (d : Derived) (m : List ℕ) (index : Index) → IsEmptyIndex index → ListsFacts k d [] m index
 nothing_listed k d m index e = record {
   by_context = record { classes = empty_in IsIn d.facts m _ e.classes; from = empty_in IsFrom d.facts m _ e.from; into = empty_in IsInto d.facts m _ e.into };
-  seconds = no_seconds k d _ e.seconds;
+  seconds = none_needed IsFrom _ d.facts _ e.seconds;
+  fillers = none_needed IsIn _ d.facts _ e.fillers;
 }
 
 -- a number in hand stays there
@@ -228,7 +236,10 @@ module _ {k : Problem} {d : Derived} {w m : List ℕ} {index : Index} (s : Lists
     second = λ c form h gives. met.1 n (s.by_context.into.all x n (Edge u r v) there at (sym (touch gives))) (Edge u r v) at c form h gives;
   }
   all_met (Edge x p y) (In b z) met at = record {
-    first = λ c form h gives. met.0 n (s.by_context.classes.all y n (In b z) there at (touch gives)) (In b z) at c form h gives;
+    first = λ c form h gives. ⊎_elim
+        (λ filler. met.0 n filler (In b z) at c form h gives)
+        (λ not. absurd (not (Edge x p y) tt c form h gives))
+        (s.fillers.all y n (In b z) there at (touch gives));
     second = λ c form h gives. absurd (touch gives);
   }
   all_met (Edge x p y) (Edge u r v) met at = record {
@@ -239,77 +250,16 @@ module _ {k : Problem} {d : Derived} {w m : List ℕ} {index : Index} (s : Lists
     second = λ c form h gives. met.2 n (s.by_context.into.all x n (Edge u r v) there at (sym (touch gives))) (Edge u r v) at c form h gives;
   }
 
--- what holds of the numbers of one list holds of those of another that is the same
-same_list : (P : List ℕ → Type 0) (l m : List ℕ) → l ≡ m → P l → P m
-same_list P l m e p = subst P e p
-
-module _ (k : Problem) (old : List Fact) (index : Index) (new : Derived) where
-  pub met_in : (a : Class2) (x : Context) (l m : List ℕ) → l ≡ at_context index.classes x → m ≡ at_context index.into x → AreMet k (In a x) old l new → AreMetBehind k (In a x) old m new → AllListedAreMet k (In a x) old index new
-  met_in a x l m e d p q = (
-    same_list (λ ns. AreMet k (In a x) old ns new) l _ e p,
-    same_list (λ ns. AreMetBehind k (In a x) old ns new) m _ d q,
-  )
-
-  pub met_edge : (x : Context) (r : PropId2) (y : Context) (l m o : List ℕ) → l ≡ at_context index.classes y → m ≡ at_context index.seconds y → o ≡ at_context index.into x → AreMetBefore k (Edge x r y) old l new → AreMetBefore k (Edge x r y) old m new → AreMetBehind k (Edge x r y) old o new → AllListedAreMet k (Edge x r y) old index new
-  met_edge x r y l m o e d b p q t = (
-    same_list (λ ns. AreMetBefore k (Edge x r y) old ns new) l _ e p,
-    same_list (λ ns. AreMetBefore k (Edge x r y) old ns new) m _ d q,
-    same_list (λ ns. AreMetBehind k (Edge x r y) old ns new) o _ b t,
-  )
-
--- what is listed are facts of those kinds
-pub classes_listed : {facts : List Fact} {index : Index} → IsWithin facts index → (x : Context) (numbers : List ℕ) → numbers ≡ at_context index.classes x → AreAll IsClassFact facts numbers
-classes_listed w x numbers e n c = let o = w.classes x n (subst (λ ns. Contains ns n) e c) in (o.0, o.1, kind o.0 o.2)
-  where
-    kind : (f : Fact) → IsIn x f → IsClassFact f
-    kind (In a y) h = tt
-    kind (Edge y r z) h = absurd h
-
-pub seconds_listed : {facts : List Fact} {index : Index} → IsWithin facts index → (x : Context) (numbers : List ℕ) → numbers ≡ at_context index.seconds x → AreAll IsEdge facts numbers
-seconds_listed w x numbers e n c = let o = w.seconds x n (subst (λ ns. Contains ns n) e c) in (o.0, o.1, kind o.0 o.2)
-  where
-    kind : (f : Fact) → IsFrom x f → IsEdge f
-    kind (In a y) h = absurd h
-    kind (Edge y r z) h = tt
-
-pub into_listed : {facts : List Fact} {index : Index} → IsWithin facts index → (x : Context) (numbers : List ℕ) → numbers ≡ at_context index.into x → AreAll IsEdge facts numbers
-into_listed w x numbers e n c = let o = w.into x n (subst (λ ns. Contains ns n) e c) in (o.0, o.1, kind o.0 o.2)
-  where
-    kind : (f : Fact) → IsInto x f → IsEdge f
-    kind (In a y) h = absurd h
-    kind (Edge y r z) h = tt
-
-pub within_still : {k : Problem} {most : ℕ} {a b : Derived} {index : Index} → Grows k most a b → IsWithin a.facts index → IsWithin b.facts index
-within_still s w = record {
-  classes = λ x n c. let o = w.classes x n c in (o.0, s.facts n o.0 o.1, o.2);
-  seconds = λ x n c. let o = w.seconds x n c in (o.0, s.facts n o.0 o.1, o.2);
-  into = λ x n c. let o = w.into x n c in (o.0, s.facts n o.0 o.1, o.2);
-}
-
--- .. and stay so
-pub all_still_there : {k : Problem} {most : ℕ} {a b : Derived} → Grows k most a b → (P : Fact → Type 0) (numbers : List ℕ) → AreAll P a.facts numbers → AreAll P b.facts numbers
-all_still_there s P numbers all n c = let o = all n c in (o.0, s.facts n o.0 o.1, o.2)
-
-pub kind_of : (P : Fact → Type 0) (facts : List Fact) (numbers : List ℕ) → AreAll P facts numbers → (n : ℕ) → Contains numbers n → (f : Fact) → slice_get facts n ≡ Some f → P f
-kind_of P facts numbers all n c f at = let o = all n c in subst P (one_value _ o.0 f o.1 at) o.2
-
-pub numbers_within : (P : Fact → Type 0) (facts : List Fact) (numbers : List ℕ) → AreAll P facts numbers → (n : ℕ) → Contains numbers n → n < length facts
-numbers_within P facts numbers all n c = let o = all n c in slice_get_within facts n o.0 o.1
-
-pub listed_earlier : {k : Problem} {most : ℕ} {a b : Derived} (index : Index) (new : Derived) → Grows k most a b → (f : Fact) → AllListedAreMet k f b.facts index new → AllListedAreMet k f a.facts index new
-listed_earlier index new s (In c x) met = ((λ n t g at. met.0 n t g (s.facts n g at)), (λ n t g at. met.1 n t g (s.facts n g at)))
-listed_earlier index new s (Edge x r y) met = ((λ n t g at. met.0 n t g (s.facts n g at)), (λ n t g at. met.1 n t g (s.facts n g at)), (λ n t g at. met.2 n t g (s.facts n g at)))
-
 pub in_most : (served : List ℕ) (hand : Option ℕ) (n : ℕ) → hand ≡ Some n → served ++ option_list hand ≡ served ++ n ∷ []
 in_most served hand n e = ap (λ (o : Option ℕ). served ++ option_list o) e
 
 -- the fact in hand was listed, and is served
-pub finish_listed : {k : Problem} {most : ℕ} {old new : Derived} {index : Index} {n : ℕ} {f : Fact} {is_second : Bool} (q r : Queued) → ListsServed k old q index → q.hand ≡ Some n → slice_get old.facts n ≡ Some f → Lists index n f is_second → (is_second ≡ false → IsSparedAsSecond k old f) → Grows k most old new
+pub finish_listed : {k : Problem} {most : ℕ} {old new : Derived} {index : Index} {n : ℕ} {f : Fact} {is_second is_filler : Bool} (q r : Queued) → ListsServed k old q index → q.hand ≡ Some n → slice_get old.facts n ≡ Some f → Lists index n f is_second is_filler → (is_second ≡ false → IsSparedAsSecond k old f) → (is_filler ≡ false → IsNotCarried k f) → Grows k most old new
     → ((i : ℕ) → Contains q.served i → i < length old.facts) → r.served ≡ q.served ++ n ∷ [] → ListsServed k new r index
-finish_listed {old = old} {n = n} {f = f} q r s hand at t spared grows within same =
+finish_listed {old = old} {n = n} {f = f} q r s hand at t spared uncarried grows within same =
     let low : (i : ℕ) → Contains (q.served ++ n ∷ []) i → i < length old.facts = λ i c. ⊎_elim (within i) (λ e. subst (λ (j : ℕ). j < length old.facts) e (slice_get_within old.facts n f at)) (Contains-push_cases q.served n i c) in
-    fewer r.served (r.served ++ option_list r.hand) (still_listed grows low (listed s at t spared)) (λ i c. rw same at c) (rw (hand, same) (part_more (option_list r.hand) (part_same (q.served ++ n ∷ []))))
+    fewer r.served (r.served ++ option_list r.hand) (still_listed grows low (listed s at t spared uncarried)) (λ i c. rw same at c) (rw (hand, same) (part_more (option_list r.hand) (part_same (q.served ++ n ∷ []))))
 
 -- one fact more is listed
-pub one_more : {k : Problem} {d : Derived} {w : List ℕ} {old new : Index} {n : ℕ} {f : Fact} {is_second : Bool} → ListsFacts k d w w old → MayList old new n f is_second → slice_get d.facts n ≡ Some f → Lists new n f is_second → (is_second ≡ false → IsSparedAsSecond k d f) → ListsFacts k d (w ++ n ∷ []) (w ++ n ∷ []) new
-one_more {w = w} {n = n} s m at t spared = listed (may (fewer w (w ++ n ∷ []) s (λ i c. c) (part_more (n ∷ []) (part_same w))) m at refl) at t spared
+pub one_more : {k : Problem} {d : Derived} {w : List ℕ} {old new : Index} {n : ℕ} {f : Fact} {is_second is_filler : Bool} → ListsFacts k d w w old → MayList old new n f is_second is_filler → slice_get d.facts n ≡ Some f → Lists new n f is_second is_filler → (is_second ≡ false → IsSparedAsSecond k d f) → (is_filler ≡ false → IsNotCarried k f) → ListsFacts k d (w ++ n ∷ []) (w ++ n ∷ []) new
+one_more {w = w} {n = n} s m at t spared uncarried = listed (may (fewer w (w ++ n ∷ []) s (λ i c. c) (part_more (n ∷ []) (part_same w))) m at refl) at t spared uncarried

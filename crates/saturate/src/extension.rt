@@ -12,7 +12,7 @@ use crate::queue::{Queue, has_flag};
 use axioms::Memory;
 use fact_index::Index;
 use form_index::IndexedProblem;
-use inference::{KnownFacts, Rules, stands_second};
+use inference::{KnownFacts, Rules, is_filler, stands_second};
 use normal_forms::Form;
 use std::alloc::Global;
 use work_list::WorkList;
@@ -71,8 +71,11 @@ fn index_kept(
     if has_flag(flags, number) {
         return Ok(());
     }
-    let is_second = stands_second(ground.problem(), ground.closure(), facts, number);
-    index.add(number, facts.get(number), is_second)?;
+    let problem = ground.problem();
+    let fact = facts.get(number);
+    let is_second = stands_second(problem, ground.closure(), facts, number);
+    let is_filler = is_filler(problem, fact);
+    index.add(number, fact, is_second, is_filler)?;
     Ok(())
 }
 

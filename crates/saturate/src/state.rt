@@ -16,7 +16,7 @@ use crate::queue::Queue;
 use axioms::Memory;
 use fact_index::Index;
 use facts::{Birth, Context, Fact, FactId};
-use inference::{KnownFacts, Rules, Stop, stands_second};
+use inference::{KnownFacts, Rules, Stop, is_filler, stands_second};
 use normal_forms::Form;
 use property_closure::PropertyClosure;
 use std::alloc::Global;
@@ -192,7 +192,8 @@ impl<W: WorkList> State<W> {
         let problem = self.ground.problem();
         let closure = self.ground.closure();
         let is_second = stands_second(problem, closure, &self.facts, hand);
-        let Ok(()) = self.index.add(hand, fact, is_second) else {
+        let is_filler = is_filler(problem, fact);
+        let Ok(()) = self.index.add(hand, fact, is_second, is_filler) else {
             return Err(Stop::Memory);
         };
         let rules = Rules {

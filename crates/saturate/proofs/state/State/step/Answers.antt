@@ -2,6 +2,7 @@ use Rattle.std.proofs.Common.{◌≡◌, ◌++◌, length, Some, [], ◌∷◌, 
 use Rattle.std.proofs.lemmas.Option.{none-some}
 use Rattle.facts.specs.Closure.{Problem}
 use Rattle.inference.specs.Derived.{Grows}
+use Rattle.inference.specs.Visited.{IsNotCarried}
 use Rattle.inference.specs.Working.{Drawn, IsSparedAsSecond}
 use Rattle.saturate.specs.State.{IsState}
 use Rattle.saturate.specs.Listed.{ListsServed}
@@ -36,6 +37,10 @@ handed g c = sym c.in_ok-hand.ensures.hand ∙ c.in-Some.is
 spared : (g : _) (c : After-add g) → c.stands_second-is_second.result ≡ false → IsSparedAsSecond c.self.inside.ground c.self.inside.facts c.get-fact.result
 spared g c not_second = subst (λ (k : Problem). IsSparedAsSecond k c.self.inside.facts c.get-fact.result) c.problem-problem.ensures (c.stands_second-is_second.ensures not_second c.get-fact.result c.get-fact.ensures)
 
+-- .. and where edges carry nothing for it
+uncarried : (g : _) (c : After-add g) → c.is_filler-is_filler.result ≡ false → IsNotCarried c.self.inside.ground c.get-fact.result
+uncarried g c no_filler = subst (λ (k : Problem). IsNotCarried k c.get-fact.result) c.problem-problem.ensures (c.is_filler-is_filler.ensures no_filler)
+
 indexed : (g : _) (c : After-add g) → ListsServed c.self.inside.ground c.self.inside.facts c.turn.new.self c.add.new.self
 indexed g c = may (turned c.self.inside.queue c.turn.new.self c.self.invariant.1 c.turn.ensures.served c.turn.ensures.kept) c.add.ensures.may c.get-fact.ensures (in_most c.turn.new.self.served c.turn.new.self.hand c.in-Some.hand (handed g c))
 
@@ -68,10 +73,10 @@ invariant_of-self-2 g c =
     let alone = subst (λ (k : Problem). Drawn k (f ∷ []) new.facts) c.problem-problem.ensures c.in_ok-serve.ensures.alone in
     let met = subst (λ (k : Problem). AllListedAreMet k f c.self.inside.facts.facts c.add.new.self new) c.problem-problem.ensures c.in_ok-serve.ensures.met in
     let served : c.finish.new.self.served ≡ c.turn.new.self.served ++ n ∷ [] = c.finish.ensures.served ∙ in_most c.turn.new.self.served c.turn.new.self.hand n (handed g d.After-add) in
-    let whole = listed (indexed g d.After-add) c.get-fact.ensures c.in-Ok.ensures.ok (spared g d.After-add) in (
+    let whole = listed (indexed g d.After-add) c.get-fact.ensures c.in-Ok.ensures.ok (spared g d.After-add) (uncarried g d.After-add) in (
       one_served s grows n f c.get-fact.ensures alone
           (λ m t h at. all_met whole grows m t f h met at)
           (omega (arith, c.finish.ensures.queued, c.turn.ensures.queued, ap length c.as_slice.ensures.value))
           served,
-      finish_listed c.turn.new.self c.finish.new.self (indexed g d.After-add) (handed g d.After-add) c.get-fact.ensures c.in-Ok.ensures.ok (spared g d.After-add) grows s.within served,
+      finish_listed c.turn.new.self c.finish.new.self (indexed g d.After-add) (handed g d.After-add) c.get-fact.ensures c.in-Ok.ensures.ok (spared g d.After-add) (uncarried g d.After-add) grows s.within served,
     )
