@@ -17,4 +17,4 @@ pub returns-clause-grows : goal.returns-clause-grows
 returns-clause-grows c =
     let birth = subst (IsBirth c.args.self.now.problem.now c.args.facts.now.facts c.args.fact) (sym c.new.ensures) c.requires.birth in
     put c.args.self.now.problem.now c.args.self.now.max_facts c.args.facts.now _ c.args.fact _ c.in_ok-put.field-0 c.requires.derived birth (omega (arith, c.if-len-self.false, c.len.ensures.value))
-        (λ yes. c.in_ok-put.ensures.new cc) (λ no. c.in_ok-put.ensures.known cc)
+    (λ yes. c.in_ok-put.ensures.new cc) (λ no. c.in_ok-put.ensures.known cc)
