@@ -13,7 +13,7 @@ use crate::types::types_of;
 use axioms::{Memory, Ontology};
 use engine::{Saturation, Stop, saturated};
 use explain::{contradiction_text, line_text};
-use listing::listed;
+use listing::text_with_listed;
 use std::alloc::Global;
 use std::hash::RandomState;
 use taxonomy::{Outcome, instances_bytes, taxonomy_bytes};
@@ -79,8 +79,7 @@ fn certificate_of_closure(
     ontology.bounded();
     let lines = line_text(alloc, ontology, saturation)?;
     lines.bounded();
-    let listed = listed(alloc, ontology, saturation)?;
-    let text = lines.with_listed(&listed)?;
+    let text = text_with_listed(alloc, ontology, saturation, lines)?;
     Ok(text)
 }
 

@@ -4,5 +4,7 @@ pub mod FirstIndividuals
 pub mod FirstClaims
 pub mod Members
 pub mod ClassRows
+pub mod RowTexts
 pub mod MemberFacts
 pub mod Interpreted
+pub mod Spelled

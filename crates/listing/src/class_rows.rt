@@ -1,10 +1,12 @@
 //! Rows of classes.
+ghost use Rattle.certificate.specs.Text.{class_text};
 ghost use Rattle.certificate.specs.View.{class_row_of};
 ghost use Rattle.closure_model.specs.Listed.{AreSatisfiableContexts};
 ghost use Rattle.engine.specs.Saturated.{IsSaturated};
+ghost use Rattle.listed_text.specs.Parts.{Writes};
 ghost use Rattle.listing.specs.Making.{AreMembers, AreRowsOf, IsMember, IsOwnClass};
 ghost use Rattle.listing.specs.Rows.{AreClassRows};
-ghost use Rattle.std.specs.Prelude.{◌↔◌, ◌≡◌, ◌≤◌, ◌^◌, [], IfOk, IsTrue, MatchOption, length, map, ℕ};
+ghost use Rattle.std.specs.Prelude.{◌↔◌, ◌≡◌, ◌≤◌, ◌^◌, [], IfOk, IsTrue, MatchOption, OnOk, length, map, ℕ};
 
 use crate::ascending::ascending;
 use axioms::{ExprId, Memory, Ontology};
@@ -12,6 +14,7 @@ use certificate::ClassRow;
 use elements::Elements;
 use engine::Saturation;
 use facts::Fact;
+use listed_text::push_class;
 use normal_forms::Class2;
 use number_sets::OpenLists;
 use std::alloc::Global;
@@ -89,4 +92,37 @@ pub(crate) fn class_rows(
     ontology.bounded();
     let lists = members(alloc, ontology, elements, saturation.facts())?;
     rows_of(alloc, &lists)
+}
+
+/// Writes behind the text the row of each list that has numbers.
+fn write_rows_of(alloc: Global, lists: &OpenLists, text: &mut Vec<u8>) -> Result<(), Memory>
+    requires { length lists.now ≤ 2 ^ 32 }
+    ensures { OnOk result (Writes (AreRowsOf lists.now) class_text text.old.items text.new.items) }
+{
+    for number in 0..lists.len() {
+        let list = lists.at(number);
+        if !list.is_empty() {
+            let elements = ascending(alloc, list)?;
+            push_class(text, ExprId(number as u32), &elements)?;
+        }
+    }
+    Ok(())
+}
+
+/// Writes behind the text the row of each class that has elements, but for `owl:Thing` and `owl:Nothing`, in order.
+pub(crate) fn write_class_rows(
+    alloc: Global,
+    ontology: &Ontology,
+    saturation: &Saturation,
+    elements: &Elements,
+    text: &mut Vec<u8>,
+) -> Result<(), Memory>
+    requires saturated { IsSaturated ontology.now saturation.now }
+    requires elements { AreSatisfiableContexts ontology.now [] elements.now }
+    ensures { OnOk result (Writes (AreClassRows ontology.now elements.now) class_text text.old.items text.new.items) }
+{
+    ontology.bounded();
+    let lists = members(alloc, ontology, elements, saturation.facts())?;
+    write_rows_of(alloc, &lists, text)?;
+    Ok(())
 }

@@ -5,7 +5,7 @@ ghost use Rattle.interpretation_spec.specs.Numbered.{IsMadeFor};
 ghost use Rattle.std.specs.Prelude.{[]};
 
 use axioms::{ClassId, ExprId, Ontology, PropId};
-use certificate::{Claim, ClassRow, Listed, PairRow};
+use certificate::{Claim, ClassRow, LineText, Listed, PairRow};
 use classification::is_consistent;
 use countermodel::build;
 use document::read_bytes;
@@ -13,7 +13,7 @@ use elements::Elements;
 use engine::{Saturation, saturated};
 use facts::Context;
 use interpretation_spec::{Interpretation, Row};
-use listing::listed;
+use listing::{listed, text_with_listed};
 use normalise::Normal;
 use pair_rows::pair_rows;
 use std::alloc::Global;
@@ -24,6 +24,10 @@ use std::test::Fail;
 /// The classes E, W, H and D are the expressions 2, 3, 5 and 7; loc and part are the properties 0 and 1.
 const CHAIN_INTO_A_DEFINITION: &str =
     "Prefix(:=<x:>) Ontology(SubClassOf(:E ObjectSomeValuesFrom(:loc :W)) SubClassOf(:W ObjectSomeValuesFrom(:part :H)) SubObjectPropertyOf(ObjectPropertyChain(:loc :part) :loc) EquivalentClasses(:D ObjectSomeValuesFrom(:loc :H)))";
+
+/// What the closure of that document lists, behind no lines: E and D are at the places 1 and 4, and loc leads from 1 to 2 and 3.
+const LISTED_CHAIN: &[u8] =
+    b"elcert 1 consistent\ndomain 5\nclass e2 1\nclass e3 2\nclass e5 3\nclass e7 1 4\nsucc p0 1 2 3\nsucc p0 4 3\nsucc p1 2 3\nclaim e0 0\nclaim e2 1\nclaim e3 2\nclaim e5 3\nclaim e7 4\nend\n";
 
 /// The classes A, B, C and D are the expressions 2, 3, 5 and 7; r and s are the properties 0 and 1.
 const IRREGULAR_HIERARCHY: &str =
@@ -133,6 +137,22 @@ fn lists_the_chain(alloc: Global, ontology: &Ontology, saturation: &Saturation) 
     }
 }
 
+/// Whether the text of the interpretation of the chain is the one that was worked out.
+fn writes_the_chain(alloc: Global, ontology: &Ontology, saturation: &Saturation) -> bool
+    requires { IsSaturated ontology.now saturation.now }
+{
+    if !is_consistent(ontology, saturation) {
+        return false;
+    }
+    let Ok(lines) = LineText::new(alloc) else {
+        return false;
+    };
+    match text_with_listed(alloc, ontology, saturation, lines) {
+        Ok(text) => text.as_slice() == LISTED_CHAIN,
+        Err(_) => false,
+    }
+}
+
 /// Whether the members are these of three elements.
 fn has_members(row: Option<&Row>, members: [bool; 3]) -> bool {
     row.is_some_and(|row| {
@@ -176,6 +196,7 @@ fn has_one_form(normal: &Normal) -> bool {
 enum Asked {
     ElementsAndPairs,
     Listing,
+    Text,
     Model,
     OneForm,
 }
@@ -187,6 +208,7 @@ fn answer(alloc: Global, ontology: &Ontology, saturation: &Saturation, asked: As
     match asked {
         Asked::ElementsAndPairs => has_elements_and_pairs(alloc, ontology, saturation),
         Asked::Listing => lists_the_chain(alloc, ontology, saturation),
+        Asked::Text => writes_the_chain(alloc, ontology, saturation),
         Asked::Model => builds_a_model(alloc, ontology, saturation),
         Asked::OneForm => has_one_form(saturation.normal()),
     }
@@ -219,6 +241,7 @@ fn reads_what_worked_documents_list(rt: HostRuntime) -> Result<(), Fail> {
         (CHAIN_INTO_A_DEFINITION, Asked::ElementsAndPairs),
         (IRREGULAR_HIERARCHY, Asked::ElementsAndPairs),
         (CHAIN_INTO_A_DEFINITION, Asked::Listing),
+        (CHAIN_INTO_A_DEFINITION, Asked::Text),
         (ONE_SUBCLASS, Asked::Model),
         (ONE_SUBCLASS, Asked::OneForm),
     ];

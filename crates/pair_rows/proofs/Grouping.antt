@@ -1,8 +1,8 @@
 -- Rows of pairs that are in order.
-use Rattle.std.proofs.Common.{◌≡◌, ◌↔◌, ℕ, suc, ◌<◌, ◌≤◌, ◌⊎◌, inl, inr, List, [], ◌∷◌, ◌++◌, length, get_or, Contains, All, AllPairs, refl, sym, ap, ap₂, ◌∙◌, subst, arith}
+use Rattle.std.proofs.Common.{◌≡◌, ◌↔◌, ℕ, suc, ◌+◌, ◌<◌, ◌≤◌, ◌⊎◌, inl, inr, List, [], ◌∷◌, ◌++◌, length, take, get_or, Contains, All, AllPairs, refl, sym, ap, ap₂, ◌∙◌, subst, subst₂, arith}
 use Rattle.std.specs.List.{flat_map}
 use Rattle.std.proofs.lemmas.Bool.{cases_lt}
-use Rattle.std.proofs.lemmas.List.{append_assoc, flat_map_more, length_push, map-append}
+use Rattle.std.proofs.lemmas.List.{append_assoc, flat_map_more, get_or-take, get_or_default, length-take, length_push, map-append, take_more}
 use Rattle.std.proofs.lemmas.List.Elements.{All-contains, All-nil, All-push, Contains-append_cases, Contains-append_left, Contains-append_right, Contains-get_or, Contains-push}
 use Rattle.lemmas.proofs.Mapped.{Contains-map, slice_get_map_from}
 use Rattle.lemmas.proofs.Members.{Contains-cons_cases, Contains-first, Contains-from_slice_get, Contains-later, Contains-none, slice_get-from_Contains}
@@ -166,3 +166,12 @@ added p pairs old new (as_row other f) g before = subst (AreGrouped (pairs ++ p 
 
 pub no_rows : AreGrouped [] []
 no_rows = record { together = refl; ascend = λ i j d l k. absurd (omega arith); targets = All-nil (λ (row : Row). (0 < length row.2) × Ascends row.2) }
+
+-- pairs in order, one after another
+pub next_pair : (pairs : List Pair) (k : ℕ) (d : Pair) (old new : List Row) → k < length pairs → AllPairs ComesBefore pairs → AddsPair (get_or pairs k d) old new → AreGrouped (take k pairs) old → AreGrouped (take (k + 1) pairs) new
+next_pair pairs k d old new l ascend adds g =
+    let p = get_or pairs k d in
+    let before : All (λ q. ComesBefore q p) (take k pairs) = λ j e m.
+    let low : j < k = omega (arith, length-take k pairs) in
+    subst₂ ComesBefore (sym (get_or-take k pairs j e low)) (get_or_default pairs k e d l) (ascend j k e low l) in
+    subst (λ (ps : List Pair). AreGrouped ps new) (sym (take_more pairs k d l)) (added p (take k pairs) old new adds g before)

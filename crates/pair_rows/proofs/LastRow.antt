@@ -11,7 +11,7 @@ use Rattle.pair_rows.proofs.Ends.{at_end, ends_at, ends_with}
 abbrev pub row_at : ℕ → ℕ → List ℕ → Row
 row_at r x ys = (r, x, ys)
 
-one_last : {X : Type 0} (xs ys : List X) (x y : X) → xs ++ x ∷ [] ≡ ys ++ y ∷ [] → x ≡ y
+pub one_last : {X : Type 0} (xs ys : List X) (x y : X) → xs ++ x ∷ [] ≡ ys ++ y ∷ [] → x ≡ y
 one_last {X} xs ys x y e = sym (at_end xs x x) ∙ ap (λ (l : List X). get_or l (length l - 1) x) e ∙ at_end ys y x
 
 split_last : (rows : List PairRow) (row : PairRow) → 0 < length rows → row ≡ get_or rows (length rows - 1) row → rows ≡ take (length rows - 1) rows ++ row ∷ []

@@ -4,4 +4,5 @@ pub mod Grouping
 pub mod LastRow
 pub mod Listed
 pub mod Order
+pub mod RowTexts
 pub mod Said

@@ -1,3 +1,4 @@
 pub mod Rows
 pub mod Pairs
 pub mod Edges
+pub mod RowTexts

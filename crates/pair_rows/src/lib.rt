@@ -5,6 +5,7 @@ mod ascending;
 mod edges;
 mod grouped;
 mod pair;
+mod row_texts;
 mod rows;
 
-pub use rows::pair_rows;
+pub use rows::{pair_rows, write_pair_rows};

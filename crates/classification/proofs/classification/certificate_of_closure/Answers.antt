@@ -1,16 +1,16 @@
 use Rattle.std.proofs.Common.{Some}
-use Rattle.certificate.specs.View.{listed_of}
 use Rattle.classification.proofs.Writing.{derivation_has_text}
 use Rattle.classification.proofs.classification.certificate_of_closure.Goals as goal
 
 pub returns : goal.returns
 returns c =
     let lines = c.in_ok-lines.lines in
-    let listed = Some (listed_of c.in_ok-listed.listed) in
-    let has_text = derivation_has_text c.args.ontology.now c.bounded.ensures lines listed c.in_ok-lines.ensures.derivation c.bounded-2.ensures c.in_ok-listed.ensures.text c.in_ok-listed.ensures.numbers in
+    let is = c.in_ok-text.ensures in
+    let listed = Some is.listed in
+    let has_text = derivation_has_text c.args.ontology.now c.bounded.ensures lines listed c.in_ok-lines.ensures.derivation c.bounded-2.ensures is.within is.numbers in
     record {
       certificate = record { lines = lines; listed = listed };
-      text_of = record { has_text = has_text; spelled = c.in_ok-text.ensures };
+      text_of = record { has_text = has_text; spelled = is.spelled };
       derivation = c.in_ok-lines.ensures.derivation;
-      shown = (c.in_ok-lines.ensures.facts, c.in_ok-listed.ensures.listed);
+      shown = (c.in_ok-lines.ensures.facts, is.is_listed);
     }
