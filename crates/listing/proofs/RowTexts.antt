@@ -1,6 +1,5 @@
 -- The text of rows, list by list.
 use Rattle.std.proofs.Common.{◌≡◌, ◌↔◌, ℕ, ◌+◌, ◌≤◌, List, [], ◌∷◌, ◌++◌, length, Contains, sym, ap, ◌∙◌}
-use Rattle.std.specs.List.{flat_map}
 use Rattle.std.proofs.lemmas.List.{append-nil, flat_map_more}
 use Rattle.number_sets.specs.Pieces.{list_at}
 use Rattle.certificate.specs.HasText.{Ascends}

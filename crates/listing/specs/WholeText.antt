@@ -2,7 +2,7 @@
 use Rattle.std.specs.Prelude.{◌≡◌, ℕ, ◌<◌, ◌^◌, List, Some}
 use Rattle.std.specs.List.{All}
 use Rattle.axioms.specs.Numbered.{Ontology}
-use Rattle.certificate.specs.Certificate.{Line, Listed, Certificate}
+use Rattle.certificate.specs.Certificate.{Line, Listed}
 use Rattle.certificate.specs.HasText.{IsListedOf, listed_numbers}
 use Rattle.certificate.specs.Text.{certificate_text}
 use Rattle.exactness.specs.Acceptance.{IsListedFor}

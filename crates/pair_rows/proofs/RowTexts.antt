@@ -5,8 +5,8 @@ use Rattle.std.proofs.lemmas.List.{append-nil, flat_map_more, length_push, take_
 use Rattle.certificate.specs.Text.{pairs_text}
 use Rattle.listed_text.specs.Parts.{AddsTarget, Writes}
 use Rattle.pair_rows.specs.declared.pair.Pair.{Pair}
-use Rattle.pair_rows.specs.Pairs.{AddsPair, AreGrouped, ComesBefore, IsOfLast, Row, as_row, row_with, to_last}
-use Rattle.pair_rows.specs.RowTexts.{AddsPairText, EndWith, HasGrouped, HasRows, IsOfRow}
+use Rattle.pair_rows.specs.Pairs.{AreGrouped, ComesBefore, IsOfLast, Row, as_row, row_with, to_last}
+use Rattle.pair_rows.specs.RowTexts.{AddsPairText, EndWith, HasGrouped, IsOfRow}
 use Rattle.pair_rows.proofs.Grouping.{next_pair, no_rows}
 use Rattle.pair_rows.proofs.LastRow.{one_last, row_at}
 

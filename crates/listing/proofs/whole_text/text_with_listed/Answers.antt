@@ -1,4 +1,4 @@
-use Rattle.std.proofs.Common.{◌<◌, ◌++◌, ◌^◌, List, ℕ, length, map, ap, ◌∙◌, subst}
+use Rattle.std.proofs.Common.{◌<◌, ◌++◌, ◌^◌, List, ℕ, map, ap, ◌∙◌, subst}
 use Rattle.std.specs.Prelude.{codes}
 use Rattle.std.specs.List.{flat_map, enumerate_from}
 use Rattle.certificate.specs.Text.{individual_text, claim_text}
