@@ -68,7 +68,7 @@ fn link(state: &RandomState, facts: &[Fact], heads: &mut [u32], before: &mut [u3
     }
 }
 
-/// Makes room for as many facts again, or for the first. Fails where memory is refused; then nothing changes.
+/// Makes room for three times as many facts more, or for the first. Fails where memory is refused; then nothing changes.
 fn grow(
     state: &RandomState,
     facts: &[Fact],
@@ -84,7 +84,7 @@ fn grow(
     ensures room { length facts.now ≤ length heads.new.items }
     ensures more { OnOk result (length facts.now < length heads.new.items) }
 {
-    let count = FEWEST.max(2 * heads.len());
+    let count = FEWEST.max(4 * heads.len());
     heads.resize(count, 0)?;
     heads.fill(0);
     link(state, facts, heads, before);

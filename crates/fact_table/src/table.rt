@@ -9,7 +9,8 @@ use std::alloc::Global;
 use std::hash::RandomState;
 use std::marker::Model;
 
-/// Facts in order, each once, fewer than 2^32, found by their hashes. Beside a fact it takes 8 to 12 bytes.
+/// Facts in order, each once, fewer than 2^32, found by their hashes. Beside a fact it takes 8 bytes where it is full, and 20 where it
+/// has just grown.
 #[derive(Drop)]
 pub struct FactTable {
     state: RandomState,
