@@ -1,7 +1,7 @@
 -- Facts that are the same, and facts each once.
-use Rattle.std.proofs.Common.{◌≡◌, ℕ, inl, inr, List, [], ◌∷◌, ◌++◌, take, Contains, sym, ap, ap₂, ◌∙◌, subst}
+use Rattle.std.proofs.Common.{◌≡◌, ℕ, ◌<◌, inl, inr, Bool, true, List, [], ◌∷◌, ◌++◌, length, get_or, slice_get, Some, take, Contains, sym, ap, ap₂, ◌∙◌, subst}
 use Rattle.std.proofs.lemmas.Bool.{true≢false}
-use Rattle.std.proofs.lemmas.Option.{none-some}
+use Rattle.std.proofs.lemmas.Option.{none-some, slice_get-get_or, get_or_from_slice_get}
 use Rattle.std.proofs.lemmas.Bool.Decides.{Decides-eqb, Decides-like, Decides-and}
 use Rattle.std.specs.Bool.{Decides}
 use Rattle.axioms.specs.WellFormed.{AreDistinct}
@@ -67,3 +67,15 @@ distinct_push facts fact distinct new m n f g g' =
 -- the first so many facts
 pub distinct_take : (facts : List Fact) (len : ℕ) → AreDistinct facts → AreDistinct (take len facts)
 distinct_take facts len distinct m n f g g' = distinct m n f (slice_get_take len facts m f g).1 (slice_get_take len facts n f g').1
+
+-- the fact at a place, by a test
+pub here_is : (facts : List Fact) (fact d : Fact) (place : ℕ) (test : Bool) → place < length facts →
+    test ≡ ghosts.eq (get_or facts place d) fact → test ≡ true → slice_get facts place ≡ Some fact
+here_is facts fact d place test within says passed =
+    slice_get-get_or facts place d within ∙ ap Some ((same_fact (get_or facts place d) fact).0 (sym says ∙ passed))
+
+-- .. and of what is there
+pub here_passes : (facts : List Fact) (fact d : Fact) (place : ℕ) (test : Bool) →
+    test ≡ ghosts.eq (get_or facts place d) fact → slice_get facts place ≡ Some fact → test ≡ true
+here_passes facts fact d place test says there =
+    says ∙ (same_fact (get_or facts place d) fact).1 (get_or_from_slice_get facts place fact d there)

@@ -1,3 +1,3 @@
 pub mod Facts
-pub mod Linking
-pub mod Links
+pub mod Filling
+pub mod Placing

@@ -1,7 +1,8 @@
 //! The facts of a saturation in order, each once, in a table that finds them.
 #![tactic(auto)]
 
-mod chains;
+mod homes;
+mod slots;
 mod table;
 
 pub use table::FactTable;

@@ -2,25 +2,27 @@
 ghost use Rattle.axioms.specs.WellFormed.{AreDistinct};
 ghost use Rattle.std.specs.Prelude.{◌≡◌, ◌↔◌, ◌<◌, ◌^◌, ◌++◌, ◌∷◌, [], true, false, length, take, Contains, Ok, IsTrue, OnErr};
 
-use crate::chains;
+use crate::homes;
+use crate::slots::Slots;
 use axioms::Memory;
 use facts::Fact;
 use std::alloc::Global;
 use std::hash::RandomState;
 use std::marker::Model;
 
-/// Facts in order, each once, fewer than 2^32, found by their hashes. Beside a fact it takes 8 bytes where it is full, and 20 where it
-/// has just grown.
+/// Facts in order, each once, fewer than 2^32, found by their hashes among those of the same context. Beside a fact this takes 6 to 11
+/// bytes where a context has many, and 32 and the slots of the fewest beside a context.
 #[derive(Drop)]
 pub struct FactTable {
+    alloc: Global,
     state: RandomState,
     facts: Vec<Fact>,
-    heads: Vec<u32>,
-    before: Vec<u32>,
+    // by the number of the context
+    homes: Vec<Slots>,
 }
 
 impl Model for FactTable {
-    ghost use Rattle.fact_table.specs.Chains.{IsTable};
+    ghost use Rattle.fact_table.specs.Slots.{IsTable};
     ghost use Rattle.facts.specs.declared.contexts.Fact.{Fact};
     ghost use Rattle.std.specs.Prelude.{List};
 
@@ -28,7 +30,7 @@ impl Model for FactTable {
 
     ghost view = { λ t. t.facts.items };
 
-    ghost invariant = { λ t. IsTable t.state t.facts.items t.heads.items t.before.items };
+    ghost invariant = { λ t. IsTable t.state t.facts.items t.homes.items };
 }
 
 impl FactTable {
@@ -37,10 +39,10 @@ impl FactTable {
         ensures { result ≡ [] }
     {
         FactTable {
+            alloc,
             state,
             facts: Vec::new(alloc),
-            heads: Vec::new(alloc),
-            before: Vec::new(alloc),
+            homes: Vec::new(alloc),
         }
     }
 
@@ -65,10 +67,7 @@ impl FactTable {
     pub fn contains(&self, fact: &Fact) -> bool
         ensures { IsTrue result ↔ Contains self.now fact.now }
     {
-        if self.heads.is_empty() {
-            return false;
-        }
-        chains::free_bucket(&self.state, &self.facts, &self.heads, &self.before, *fact).is_none()
+        homes::has(&self.state, &self.facts, &self.homes, *fact)
     }
 
     /// Adds a fact at the end, unless it is there, and says whether it was added. Fails where memory is refused; then the facts are
@@ -79,18 +78,14 @@ impl FactTable {
         ensures no { result ≡ Ok false → Contains self.old fact × (self.new ≡ self.old) }
         ensures err { OnErr result (self.new ≡ self.old) }
     {
-        chains::make_room(&self.state, &self.facts, &mut self.heads, &mut self.before)?;
-        let Some(bucket) = chains::free_bucket(
-            &self.state,
-            &self.facts,
-            &self.heads,
-            &self.before,
-            fact,
-        ) else {
+        let home = homes::home_of(fact);
+        homes::make_room(self.alloc, &self.state, &self.facts, &mut self.homes, home)?;
+        let Some(slot) = homes::free_slot(&self.state, &self.facts, &self.homes, home, fact) else {
             return Ok(false);
         };
-        chains::push(&mut self.facts, &mut self.before, fact, self.heads[bucket])?;
-        self.heads[bucket] = self.facts.len() as u32;
+        self.facts.reserve(1)?;
+        homes::put(&mut self.homes, home, slot, self.facts.len() as u32 + 1)?;
+        let _ = self.facts.push(fact);
         Ok(true)
     }
 
@@ -98,11 +93,7 @@ impl FactTable {
     pub fn truncate(&mut self, len: usize)
         ensures { self.new ≡ take len self.old }
     {
-        if len < self.facts.len() {
-            chains::unlink(&self.state, &self.facts, &mut self.heads, &self.before, len);
-            self.facts.truncate(len);
-            self.before.truncate(len);
-        }
+        self.facts.truncate(len);
     }
 
     /// The facts alone, in order.

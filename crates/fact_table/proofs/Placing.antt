@@ -1,0 +1,163 @@
+-- Slots by the number of a context, as those of one number change.
+use Rattle.std.proofs.Common.{◌≡◌, ◌≢◌, ℕ, zero, suc, ◌+◌, ◌^◌, ◌<◌, ◌≤◌, inl, inr, List, [], ◌∷◌, ◌++◌, length, get_or, set, take, slice_get, Bool, true, false, Option, Some, None, IfSome, IsNone, Result, Ok, Err, OnOk, Contains, refl, sym, ap, ◌∙◌, subst, arith}
+use Rattle.std.proofs.lemmas.Bool.{cases_eq}
+use Rattle.std.specs.Prelude.{IsOk, is_ok, if◌then◌else◌}
+use Rattle.std.proofs.lemmas.List.{length_push, length-take}
+use Rattle.std.proofs.lemmas.Option.{none-some, slice_get-get_or, slice_get_within}
+use Rattle.lemmas.proofs.Members.{slice_get-from_Contains}
+use Rattle.lemmas.proofs.Places.{slice_get_push_cases, slice_get_take}
+use Rattle.std.specs.declared.hash.RandomState.{RandomState}
+use Rattle.facts.specs.declared.contexts.Fact.{Fact}
+use Rattle.fact_table.specs.declared.slots.Slots.{Slots}
+use Rattle.fact_table.specs.Slots.{home_of, bucket_of, Stands, IsFirstFree, IsFound, AreFound, HaveSlots, Holds, IsFreeFor, IsTable}
+use Rattle.axioms.specs.WellFormed.{AreDistinct}
+use Rattle.fact_table.proofs.Facts.{distinct_push, distinct_take}
+
+pub set_here : {X : Type 0} (xs : List X) (i : ℕ) (x y : X) → slice_get xs i ≡ Some y → slice_get (set xs i x) i ≡ Some x
+set_here [] i x y h = absurd (none-some y h)
+set_here (z ∷ xs) zero x y h = refl
+set_here (z ∷ xs) (suc i) x y h = set_here xs i x y h
+
+pub set_elsewhere : {X : Type 0} (xs : List X) (i j : ℕ) (x : X) → j ≢ i → slice_get (set xs i x) j ≡ slice_get xs j
+set_elsewhere [] i j x ne = refl
+set_elsewhere (z ∷ xs) zero zero x ne = absurd (ne refl)
+set_elsewhere (z ∷ xs) zero (suc j) x ne = refl
+set_elsewhere (z ∷ xs) (suc i) zero x ne = refl
+set_elsewhere (z ∷ xs) (suc i) (suc j) x ne = set_elsewhere xs i j x (λ e. ne (ap suc e))
+
+pub same_table : {X : Type 0} (xs : List X) (i : ℕ) (x y : X) → slice_get xs i ≡ Some x → slice_get xs i ≡ Some y → x ≡ y
+same_table xs i x y e f = cc
+
+-- what is found is found where other numbers are put into the slots of a home
+pub found_still : (state : RandomState) (homes : List Slots) (home : ℕ) (old new : Slots) (fact : Fact) (place : ℕ) →
+    slice_get homes home ≡ Some old → new.buckets ≡ old.buckets →
+    ((b n : ℕ) → 0 < n → Stands old.numbers.items b n → Stands new.numbers.items b n) →
+    IsFound state homes fact place → IsFound state (set homes home new) fact place
+found_still state homes home old new fact place there same keeps found =
+    elim (cases_eq (home_of fact) home) [
+      | inl e ↦ record {
+        table = new;
+        at = subst (λ i. slice_get (set homes home new) i ≡ Some new) (sym e) (set_here homes home new old there);
+        holds = rw same (keeps (bucket_of state old.buckets fact) (suc place) (omega arith)
+            (subst (λ t. Stands t.numbers.items (bucket_of state t.buckets fact) (suc place))
+            (same_table homes (home_of fact) found.table old found.at (rw e there)) found.holds));
+      }
+      | inr ne ↦ record {
+        table = found.table;
+        at = set_elsewhere homes home (home_of fact) new ne ∙ found.at;
+        holds = found.holds;
+      }
+    ]
+
+-- .. and so is what is put
+pub found_new : (state : RandomState) (homes : List Slots) (home slot number : ℕ) (old new : Slots) (fact : Fact) (place : ℕ) →
+    slice_get homes home ≡ Some old → new.buckets ≡ old.buckets →
+    ((b : ℕ) → IsFirstFree old.numbers.items b slot → Stands new.numbers.items b number) →
+    home_of fact ≡ home → number ≡ suc place → IsFreeFor state homes fact slot → IsFound state (set homes home new) fact place
+found_new state homes home slot number old new fact place there same puts at_home is free = record {
+  table = new;
+  at = subst (λ i. slice_get (set homes home new) i ≡ Some new) (sym at_home) (set_here homes home new old there);
+  holds = rw (same, ← is) (puts (bucket_of state old.buckets fact)
+      (subst (λ t. IsFirstFree t.numbers.items (bucket_of state t.buckets fact) slot)
+      (same_table homes (home_of fact) free.table old free.at (rw at_home there)) free.free));
+}
+
+-- the first facts
+pub table_take : (state : RandomState) (facts : List Fact) (homes : List Slots) (len : ℕ) → IsTable state facts homes → IsTable state (take len facts) homes
+table_take state facts homes len table = record {
+  few = omega (arith, table.few, length-take len facts);
+  distinct = distinct_take facts len table.distinct;
+  slots = table.slots;
+  found = λ place fact there. table.found place fact (slice_get_take len facts place fact there).1;
+}
+
+-- a fact more, which is found
+pub table_push : (state : RandomState) (facts : List Fact) (homes : List Slots) (fact : Fact) → length facts + 1 < 2 ^ 32 → AreDistinct facts →
+    (Contains facts fact → ⊥) → HaveSlots homes → AreFound state facts homes → IsFound state homes fact (length facts) → IsTable state (facts ++ fact ∷ []) homes
+table_push state facts homes fact few distinct new slots found here = record {
+  few = omega (arith, few, length_push facts fact);
+  distinct = distinct_push facts fact distinct new;
+  slots = slots;
+  found = λ place other there. elim (slice_get_push_cases facts fact place other there) [
+    | inl before ↦ found place other before
+    | inr (last, same) ↦ subst (λ f. IsFound state homes f place) same (subst (λ i. IsFound state homes fact i) (sym last) here)
+  ];
+}
+
+-- an element that is read stands there
+pub read_at : {X : Type 0} (xs : List X) (i : ℕ) (x : X) → i < length xs → x ≡ get_or xs i x → slice_get xs i ≡ Some x
+read_at xs i x within read = slice_get-get_or xs i x within ∙ ap Some (sym read)
+
+pub on_ok : {A E : Type 0} (r : Result A E) {P Q : Type 0} → OnOk r P → (P → Q) → OnOk r Q
+on_ok (Ok x) h f = f h
+on_ok (Err e) h f = tt
+
+-- slots whose facts are found as before
+pub found_grown : (state : RandomState) (facts : List Fact) (homes : List Slots) (home : ℕ) (old new : Slots) →
+    slice_get homes home ≡ Some old →
+    ((place : ℕ) (fact : Fact) → slice_get facts place ≡ Some fact → Holds state old fact place → Holds state new fact place) →
+    AreFound state facts homes → AreFound state facts (set homes home new)
+found_grown state facts homes home old new there holds found place fact at =
+    let here : IsFound state homes fact place = found place fact at in
+    elim (cases_eq (home_of fact) home) [
+      | inl e ↦ record {
+        table = new;
+        at = subst (λ i. slice_get (set homes home new) i ≡ Some new) (sym e) (set_here homes home new old there);
+        holds = holds place fact at (subst (λ t. Holds state t fact place) (same_table homes (home_of fact) here.table old here.at (rw e there)) here.holds);
+      }
+      | inr ne ↦ record {
+        table = here.table;
+        at = set_elsewhere homes home (home_of fact) new ne ∙ here.at;
+        holds = here.holds;
+      }
+    ]
+
+-- .. and more homes
+pub found_kept : (state : RandomState) (facts : List Fact) (homes more : List Slots) →
+    ((n : ℕ) (table : Slots) → slice_get homes n ≡ Some table → slice_get more n ≡ Some table) → AreFound state facts homes → AreFound state facts more
+found_kept state facts homes more kept found place fact at =
+    let here : IsFound state homes fact place = found place fact at in
+    record {
+      table = here.table;
+      at = kept (home_of fact) here.table here.at;
+      holds = here.holds;
+    }
+
+-- each list of slots has as many as buckets
+pub slots_set : (homes : List Slots) (home : ℕ) (old new : Slots) → slice_get homes home ≡ Some old → HaveSlots homes → new.buckets ≤ length new.numbers.items → HaveSlots (set homes home new)
+slots_set homes home old new there have room n table at =
+    elim (cases_eq n home) [
+      | inl e ↦ subst (λ t. t.buckets ≤ length t.numbers.items)
+          (same_table (set homes home new) home new table (set_here homes home new old there) (subst (λ i. slice_get (set homes home new) i ≡ Some table) e at)) room
+      | inr ne ↦ have n table (sym (set_elsewhere homes home n new ne) ∙ at)
+    ]
+
+-- a fact that no search finds is not there
+pub not_there : (state : RandomState) (facts : List Fact) (homes : List Slots) (fact : Fact) (table : Slots) → AreFound state facts homes →
+    slice_get homes (home_of fact) ≡ Some table →
+    ((place : ℕ) → slice_get facts place ≡ Some fact → Holds state table fact place → ⊥) → Contains facts fact → ⊥
+not_there state facts homes fact table found at absent member =
+    let (place, there) = slice_get-from_Contains facts fact member in
+    let here : IsFound state homes fact place = found place fact there in
+    absent place there (subst (λ t. Holds state t fact place) (same_table homes (home_of fact) here.table table here.at at) here.holds)
+
+-- .. nor is one whose home has no slots
+pub no_home : (state : RandomState) (facts : List Fact) (homes : List Slots) (fact : Fact) → AreFound state facts homes → length homes ≤ home_of fact → Contains facts fact → ⊥
+no_home state facts homes fact found past member =
+    let (place, there) = slice_get-from_Contains facts fact member in
+    let here : IsFound state homes fact place = found place fact there in
+    absurd (omega (arith, past, slice_get_within homes (home_of fact) here.table here.at))
+
+-- what cannot be some is none
+pub none_or : {X : Type 0} (o : Option X) {P : Type 0} → IfSome o (λ _. P) → (P → ⊥) → IsNone o
+none_or None h never = refl
+none_or (Some x) h never = absurd (never h)
+
+-- what cannot be false is true
+pub true_or : (b : Bool) → (b ≡ false → ⊥) → b ≡ true
+true_or true never = refl
+true_or false never = absurd (never refl)
+
+-- what a push that has room leaves
+pub pushes : {X A E : Type 0} (r : Result A E) (xs ys zs : List X) → IsOk r → zs ≡ (if is_ok r then xs else ys) → zs ≡ xs
+pushes r xs ys zs fits is = is ∙ ap (λ b. if b then xs else ys) fits

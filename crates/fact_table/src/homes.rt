@@ -1,0 +1,111 @@
+//! Slots by the number of the context that a fact is of.
+ghost use Rattle.fact_table.specs.Slots.{home_of, AreFound, HaveSlots, IsFound, IsFreeAt, IsFreeFor, number_of};
+ghost use Rattle.fact_table.specs.declared.slots.Slots.{Slots as TheSlots};
+ghost use Rattle.facts.specs.declared.contexts.Fact.{Fact as AFact};
+ghost use Rattle.std.specs.Prelude.{◌≡◌, ◌↔◌, ℕ, suc, ◌<◌, ◌≤◌, [], length, slice_get, Contains, IfSome, IsNone, IsTrue, OnOk, Some};
+
+use crate::slots::Slots;
+use axioms::{ExprId, IndId, Memory};
+use facts::{Context, Fact};
+use std::alloc::Global;
+use std::hash::RandomState;
+
+/// The number of the context. An expression and an individual may have the same.
+#[inline(always)]
+fn number_of(context: Context) -> usize
+    ensures { result ≡ number_of context }
+{
+    match context {
+        Context::Expr(ExprId(number)) => number as usize,
+        Context::Individual(IndId(number)) => number as usize,
+    }
+}
+
+/// The number of the context that the fact is of, an edge of its source.
+#[inline(always)]
+pub fn home_of(fact: Fact) -> usize
+    ensures { result ≡ home_of fact }
+{
+    match fact {
+        Fact::In(_, context) => number_of(context),
+        Fact::Edge(source, _, _) => number_of(source),
+    }
+}
+
+/// Makes slots for the home. Fails where memory is refused; no slots go.
+fn extend(alloc: Global, homes: &mut Vec<Slots>, home: usize) -> Result<(), Memory>
+    requires { HaveSlots homes.old.items }
+    ensures kept { (n : ℕ) (table : TheSlots) → slice_get homes.old.items n ≡ Some table → slice_get homes.new.items n ≡ Some table }
+    ensures slots { HaveSlots homes.new.items }
+    ensures there { OnOk result (home < length homes.new.items) }
+{
+    while homes.len() <= home {
+        homes.push(Slots::new(alloc))?;
+    }
+    Ok(())
+}
+
+/// Makes room for one fact more of the home. Fails where memory is refused; each fact is found as before.
+#[inline(always)]
+pub fn make_room(
+    alloc: Global,
+    state: &RandomState,
+    facts: &[Fact],
+    homes: &mut Vec<Slots>,
+    home: usize,
+) -> Result<(), Memory>
+    requires slots { HaveSlots homes.old.items }
+    requires found { AreFound state.now facts.now homes.old.items }
+    ensures slots { HaveSlots homes.new.items }
+    ensures found { AreFound state.now facts.now homes.new.items }
+    ensures there { OnOk result (home < length homes.new.items) }
+{
+    extend(alloc, homes, home)?;
+    homes[home].make_room(alloc, state, facts)
+}
+
+/// The slot that the fact goes into, or nothing where it is there.
+#[inline(always)]
+pub fn free_slot(
+    state: &RandomState,
+    facts: &[Fact],
+    homes: &[Slots],
+    home: usize,
+    fact: Fact,
+) -> Option<usize>
+    requires home { home ≡ home_of fact }
+    requires slots { HaveSlots homes.now }
+    requires found { AreFound state.now facts.now homes.now }
+    requires there { home < length homes.now }
+    ensures there { IsNone result ↔ Contains facts.now fact }
+    ensures free { IfSome result (IsFreeFor state.now homes.now fact) }
+{
+    homes[home].free_slot(state, facts, fact)
+}
+
+/// Whether the fact is there.
+pub fn has(state: &RandomState, facts: &[Fact], homes: &[Slots], fact: Fact) -> bool
+    requires slots { HaveSlots homes.now }
+    requires found { AreFound state.now facts.now homes.now }
+    ensures { IsTrue result ↔ Contains facts.now fact }
+{
+    let home = home_of(fact);
+    if home < homes.len() {
+        return homes[home].has(state, facts, fact);
+    }
+    false
+}
+
+/// Puts a number into a free slot of a home. Fails where memory is refused; each fact is found as before.
+#[inline(always)]
+pub fn put(homes: &mut Vec<Slots>, home: usize, slot: usize, number: u32) -> Result<(), Memory>
+    requires slots { HaveSlots homes.old.items }
+    requires free { IsFreeAt homes.old.items home slot }
+    requires number { 0 < number }
+    ensures slots { HaveSlots homes.new.items }
+    ensures found { (state : RandomState) (fact : AFact) (place : ℕ) → IsFound state homes.old.items fact place → IsFound state homes.new.items fact place }
+    ensures stands { OnOk result ((state : RandomState) (fact : AFact) (place : ℕ) → home_of fact ≡ home → number ≡ suc place →
+        IsFreeFor state homes.old.items fact slot → IsFound state homes.new.items fact place) }
+{
+    homes[home].put(slot, number)
+}
