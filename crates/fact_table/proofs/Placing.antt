@@ -6,7 +6,7 @@ use Rattle.std.proofs.lemmas.List.{length_push, length-take}
 use Rattle.std.proofs.lemmas.Option.{none-some, slice_get-get_or, slice_get_within}
 use Rattle.lemmas.proofs.Members.{slice_get-from_Contains}
 use Rattle.lemmas.proofs.Places.{slice_get_push_cases, slice_get_take}
-use Rattle.std.specs.declared.hash.RandomState.{RandomState}
+use Rattle.fact_table.specs.declared.seeds.Seeds.{Seeds}
 use Rattle.facts.specs.declared.contexts.Fact.{Fact}
 use Rattle.fact_table.specs.declared.slots.Slots.{Slots}
 use Rattle.fact_table.specs.Slots.{home_of, bucket_of, Stands, IsFirstFree, IsFound, AreFound, HaveSlots, Holds, IsFreeFor, IsTable}
@@ -29,17 +29,17 @@ pub same_table : {X : Type 0} (xs : List X) (i : ℕ) (x y : X) → slice_get xs
 same_table xs i x y e f = cc
 
 -- what is found is found where other numbers are put into the slots of a home
-pub found_still : (state : RandomState) (homes : List Slots) (home : ℕ) (old new : Slots) (fact : Fact) (place : ℕ) →
+pub found_still : (seeds : Seeds) (homes : List Slots) (home : ℕ) (old new : Slots) (fact : Fact) (place : ℕ) →
     slice_get homes home ≡ Some old → new.buckets ≡ old.buckets →
     ((b n : ℕ) → 0 < n → Stands old.numbers.items b n → Stands new.numbers.items b n) →
-    IsFound state homes fact place → IsFound state (set homes home new) fact place
-found_still state homes home old new fact place there same keeps found =
+    IsFound seeds homes fact place → IsFound seeds (set homes home new) fact place
+found_still seeds homes home old new fact place there same keeps found =
     elim (cases_eq (home_of fact) home) [
       | inl e ↦ record {
         table = new;
         at = subst (λ i. slice_get (set homes home new) i ≡ Some new) (sym e) (set_here homes home new old there);
-        holds = rw same (keeps (bucket_of state old.buckets fact) (suc place) (omega arith)
-            (subst (λ t. Stands t.numbers.items (bucket_of state t.buckets fact) (suc place))
+        holds = rw same (keeps (bucket_of seeds old.buckets fact) (suc place) (omega arith)
+            (subst (λ t. Stands t.numbers.items (bucket_of seeds t.buckets fact) (suc place))
             (same_table homes (home_of fact) found.table old found.at (rw e there)) found.holds));
       }
       | inr ne ↦ record {
@@ -50,21 +50,21 @@ found_still state homes home old new fact place there same keeps found =
     ]
 
 -- .. and so is what is put
-pub found_new : (state : RandomState) (homes : List Slots) (home slot number : ℕ) (old new : Slots) (fact : Fact) (place : ℕ) →
+pub found_new : (seeds : Seeds) (homes : List Slots) (home slot number : ℕ) (old new : Slots) (fact : Fact) (place : ℕ) →
     slice_get homes home ≡ Some old → new.buckets ≡ old.buckets →
     ((b : ℕ) → IsFirstFree old.numbers.items b slot → Stands new.numbers.items b number) →
-    home_of fact ≡ home → number ≡ suc place → IsFreeFor state homes fact slot → IsFound state (set homes home new) fact place
-found_new state homes home slot number old new fact place there same puts at_home is free = record {
+    home_of fact ≡ home → number ≡ suc place → IsFreeFor seeds homes fact slot → IsFound seeds (set homes home new) fact place
+found_new seeds homes home slot number old new fact place there same puts at_home is free = record {
   table = new;
   at = subst (λ i. slice_get (set homes home new) i ≡ Some new) (sym at_home) (set_here homes home new old there);
-  holds = rw (same, ← is) (puts (bucket_of state old.buckets fact)
-      (subst (λ t. IsFirstFree t.numbers.items (bucket_of state t.buckets fact) slot)
+  holds = rw (same, ← is) (puts (bucket_of seeds old.buckets fact)
+      (subst (λ t. IsFirstFree t.numbers.items (bucket_of seeds t.buckets fact) slot)
       (same_table homes (home_of fact) free.table old free.at (rw at_home there)) free.free));
 }
 
 -- the first facts
-pub table_take : (state : RandomState) (facts : List Fact) (homes : List Slots) (len : ℕ) → IsTable state facts homes → IsTable state (take len facts) homes
-table_take state facts homes len table = record {
+pub table_take : (seeds : Seeds) (facts : List Fact) (homes : List Slots) (len : ℕ) → IsTable seeds facts homes → IsTable seeds (take len facts) homes
+table_take seeds facts homes len table = record {
   few = omega (arith, table.few, length-take len facts);
   distinct = distinct_take facts len table.distinct;
   slots = table.slots;
@@ -72,15 +72,15 @@ table_take state facts homes len table = record {
 }
 
 -- a fact more, which is found
-pub table_push : (state : RandomState) (facts : List Fact) (homes : List Slots) (fact : Fact) → length facts + 1 < 2 ^ 32 → AreDistinct facts →
-    (Contains facts fact → ⊥) → HaveSlots homes → AreFound state facts homes → IsFound state homes fact (length facts) → IsTable state (facts ++ fact ∷ []) homes
-table_push state facts homes fact few distinct new slots found here = record {
+pub table_push : (seeds : Seeds) (facts : List Fact) (homes : List Slots) (fact : Fact) → length facts + 1 < 2 ^ 32 → AreDistinct facts →
+    (Contains facts fact → ⊥) → HaveSlots homes → AreFound seeds facts homes → IsFound seeds homes fact (length facts) → IsTable seeds (facts ++ fact ∷ []) homes
+table_push seeds facts homes fact few distinct new slots found here = record {
   few = omega (arith, few, length_push facts fact);
   distinct = distinct_push facts fact distinct new;
   slots = slots;
   found = λ place other there. elim (slice_get_push_cases facts fact place other there) [
     | inl before ↦ found place other before
-    | inr (last, same) ↦ subst (λ f. IsFound state homes f place) same (subst (λ i. IsFound state homes fact i) (sym last) here)
+    | inr (last, same) ↦ subst (λ f. IsFound seeds homes f place) same (subst (λ i. IsFound seeds homes fact i) (sym last) here)
   ];
 }
 
@@ -93,17 +93,17 @@ on_ok (Ok x) h f = f h
 on_ok (Err e) h f = tt
 
 -- slots whose facts are found as before
-pub found_grown : (state : RandomState) (facts : List Fact) (homes : List Slots) (home : ℕ) (old new : Slots) →
+pub found_grown : (seeds : Seeds) (facts : List Fact) (homes : List Slots) (home : ℕ) (old new : Slots) →
     slice_get homes home ≡ Some old →
-    ((place : ℕ) (fact : Fact) → slice_get facts place ≡ Some fact → Holds state old fact place → Holds state new fact place) →
-    AreFound state facts homes → AreFound state facts (set homes home new)
-found_grown state facts homes home old new there holds found place fact at =
-    let here : IsFound state homes fact place = found place fact at in
+    ((place : ℕ) (fact : Fact) → slice_get facts place ≡ Some fact → Holds seeds old fact place → Holds seeds new fact place) →
+    AreFound seeds facts homes → AreFound seeds facts (set homes home new)
+found_grown seeds facts homes home old new there holds found place fact at =
+    let here : IsFound seeds homes fact place = found place fact at in
     elim (cases_eq (home_of fact) home) [
       | inl e ↦ record {
         table = new;
         at = subst (λ i. slice_get (set homes home new) i ≡ Some new) (sym e) (set_here homes home new old there);
-        holds = holds place fact at (subst (λ t. Holds state t fact place) (same_table homes (home_of fact) here.table old here.at (rw e there)) here.holds);
+        holds = holds place fact at (subst (λ t. Holds seeds t fact place) (same_table homes (home_of fact) here.table old here.at (rw e there)) here.holds);
       }
       | inr ne ↦ record {
         table = here.table;
@@ -113,10 +113,10 @@ found_grown state facts homes home old new there holds found place fact at =
     ]
 
 -- .. and more homes
-pub found_kept : (state : RandomState) (facts : List Fact) (homes more : List Slots) →
-    ((n : ℕ) (table : Slots) → slice_get homes n ≡ Some table → slice_get more n ≡ Some table) → AreFound state facts homes → AreFound state facts more
-found_kept state facts homes more kept found place fact at =
-    let here : IsFound state homes fact place = found place fact at in
+pub found_kept : (seeds : Seeds) (facts : List Fact) (homes more : List Slots) →
+    ((n : ℕ) (table : Slots) → slice_get homes n ≡ Some table → slice_get more n ≡ Some table) → AreFound seeds facts homes → AreFound seeds facts more
+found_kept seeds facts homes more kept found place fact at =
+    let here : IsFound seeds homes fact place = found place fact at in
     record {
       table = here.table;
       at = kept (home_of fact) here.table here.at;
@@ -133,19 +133,19 @@ slots_set homes home old new there have room n table at =
     ]
 
 -- a fact that no search finds is not there
-pub not_there : (state : RandomState) (facts : List Fact) (homes : List Slots) (fact : Fact) (table : Slots) → AreFound state facts homes →
+pub not_there : (seeds : Seeds) (facts : List Fact) (homes : List Slots) (fact : Fact) (table : Slots) → AreFound seeds facts homes →
     slice_get homes (home_of fact) ≡ Some table →
-    ((place : ℕ) → slice_get facts place ≡ Some fact → Holds state table fact place → ⊥) → Contains facts fact → ⊥
-not_there state facts homes fact table found at absent member =
+    ((place : ℕ) → slice_get facts place ≡ Some fact → Holds seeds table fact place → ⊥) → Contains facts fact → ⊥
+not_there seeds facts homes fact table found at absent member =
     let (place, there) = slice_get-from_Contains facts fact member in
-    let here : IsFound state homes fact place = found place fact there in
-    absent place there (subst (λ t. Holds state t fact place) (same_table homes (home_of fact) here.table table here.at at) here.holds)
+    let here : IsFound seeds homes fact place = found place fact there in
+    absent place there (subst (λ t. Holds seeds t fact place) (same_table homes (home_of fact) here.table table here.at at) here.holds)
 
 -- .. nor is one whose home has no slots
-pub no_home : (state : RandomState) (facts : List Fact) (homes : List Slots) (fact : Fact) → AreFound state facts homes → length homes ≤ home_of fact → Contains facts fact → ⊥
-no_home state facts homes fact found past member =
+pub no_home : (seeds : Seeds) (facts : List Fact) (homes : List Slots) (fact : Fact) → AreFound seeds facts homes → length homes ≤ home_of fact → Contains facts fact → ⊥
+no_home seeds facts homes fact found past member =
     let (place, there) = slice_get-from_Contains facts fact member in
-    let here : IsFound state homes fact place = found place fact there in
+    let here : IsFound seeds homes fact place = found place fact there in
     absurd (omega (arith, past, slice_get_within homes (home_of fact) here.table here.at))
 
 -- what cannot be some is none

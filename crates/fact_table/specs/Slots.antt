@@ -1,21 +1,18 @@
 -- Where facts are found by their hashes: in slots, which hold one more than the place of a fact, or 0 where they are free. The facts
 -- of contexts with one number share slots, since they are sought one after the other.
 use Rattle.std.specs.Prelude.{◌≡◌, ℕ, suc, ◌-◌, ◌<◌, ◌≤◌, ◌^◌, List, length, slice_index, slice_get, Some, bit_and}
-use Rattle.std.specs.List.{fold}
-use Rattle.std.specs.RandomState.{initial_hasher}
-use Rattle.std.specs.declared.hash.RandomState.{RandomState}
-use Rattle.std.specs.Hash.DefaultHasher as sip
 use Rattle.axioms.specs.WellFormed.{AreDistinct}
-use Rattle.facts.specs.Writes.{fact_words}
 use Rattle.facts.specs.declared.contexts.Context.{Context}
 use Rattle.facts.specs.declared.contexts.Context.TheVariants as contexts
 use Rattle.facts.specs.declared.contexts.Fact.{Fact}
 use Rattle.facts.specs.declared.contexts.Fact.TheVariants as facts
+use Rattle.fact_table.specs.Hashes.{hash_of}
+use Rattle.fact_table.specs.declared.seeds.Seeds.{Seeds}
 use Rattle.fact_table.specs.declared.slots.Slots.{Slots}
 
 -- the bucket of the fact, of so many
-unfoldable pub bucket_of : RandomState → ℕ → Fact → ℕ
-bucket_of state count fact = bit_and (sip.finish (fold sip.write (initial_hasher state) (fact_words fact))) (count - 1)
+unfoldable pub bucket_of : Seeds → ℕ → Fact → ℕ
+bucket_of seeds count fact = bit_and (hash_of seeds fact) (count - 1)
 
 -- the number of the context: an expression and an individual may have the same
 abbrev pub number_of : Context → ℕ
@@ -42,17 +39,17 @@ pub record IsFirstFree (slots : List ℕ) (bucket slot : ℕ) : Type 0 where
   pub no_gap : (i : ℕ) → bucket ≤ i → i < slot → slice_index slots i ≡ 0 → ⊥
 
 -- the fact that is at the place is found in the slots
-abbrev pub Holds : RandomState → Slots → Fact → ℕ → Type 0
-Holds state table fact place = Stands table.numbers.items (bucket_of state table.buckets fact) (suc place)
+abbrev pub Holds : Seeds → Slots → Fact → ℕ → Type 0
+Holds seeds table fact place = Stands table.numbers.items (bucket_of seeds table.buckets fact) (suc place)
 
 -- .. in those of its home
-pub record IsFound (state : RandomState) (homes : List Slots) (fact : Fact) (place : ℕ) : Type 0 where
+pub record IsFound (seeds : Seeds) (homes : List Slots) (fact : Fact) (place : ℕ) : Type 0 where
   pub table : Slots
   pub at : slice_get homes (home_of fact) ≡ Some table
-  pub holds : Holds state table fact place
+  pub holds : Holds seeds table fact place
 
-abbrev pub AreFound : RandomState → List Fact → List Slots → Type 0
-AreFound state facts homes = (place : ℕ) (fact : Fact) → slice_get facts place ≡ Some fact → IsFound state homes fact place
+abbrev pub AreFound : Seeds → List Fact → List Slots → Type 0
+AreFound seeds facts homes = (place : ℕ) (fact : Fact) → slice_get facts place ≡ Some fact → IsFound seeds homes fact place
 
 -- there are as many slots as buckets, or more
 abbrev pub HaveSlots : List Slots → Type 0
@@ -66,14 +63,14 @@ pub record IsFreeAt (homes : List Slots) (home slot : ℕ) : Type 0 where
   pub free : slice_index table.numbers.items slot ≡ 0
 
 -- the slot is the first that is free for the fact
-pub record IsFreeFor (state : RandomState) (homes : List Slots) (fact : Fact) (slot : ℕ) : Type 0 where
+pub record IsFreeFor (seeds : Seeds) (homes : List Slots) (fact : Fact) (slot : ℕ) : Type 0 where
   pub table : Slots
   pub at : slice_get homes (home_of fact) ≡ Some table
-  pub free : IsFirstFree table.numbers.items (bucket_of state table.buckets fact) slot
+  pub free : IsFirstFree table.numbers.items (bucket_of seeds table.buckets fact) slot
 
 -- what holds of a table
-pub record IsTable (state : RandomState) (facts : List Fact) (homes : List Slots) : Type 0 where
+pub record IsTable (seeds : Seeds) (facts : List Fact) (homes : List Slots) : Type 0 where
   pub few : length facts < 2 ^ 32
   pub distinct : AreDistinct facts
   pub slots : HaveSlots homes
-  pub found : AreFound state facts homes
+  pub found : AreFound seeds facts homes

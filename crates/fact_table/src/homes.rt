@@ -1,14 +1,15 @@
 //! Slots by the number of the context that a fact is of.
 ghost use Rattle.fact_table.specs.Slots.{home_of, AreFound, HaveSlots, IsFound, IsFreeAt, IsFreeFor, number_of};
+ghost use Rattle.fact_table.specs.declared.seeds.Seeds.{Seeds as TheSeeds};
 ghost use Rattle.fact_table.specs.declared.slots.Slots.{Slots as TheSlots};
 ghost use Rattle.facts.specs.declared.contexts.Fact.{Fact as AFact};
 ghost use Rattle.std.specs.Prelude.{◌≡◌, ◌↔◌, ℕ, suc, ◌<◌, ◌≤◌, [], length, slice_get, Contains, IfSome, IsNone, IsTrue, OnOk, Some};
 
+use crate::seeds::Seeds;
 use crate::slots::Slots;
 use axioms::{ExprId, IndId, Memory};
 use facts::{Context, Fact};
 use std::alloc::Global;
-use std::hash::RandomState;
 
 /// The number of the context. An expression and an individual may have the same.
 #[inline(always)]
@@ -49,25 +50,25 @@ fn extend(alloc: Global, homes: &mut Vec<Slots>, home: usize) -> Result<(), Memo
 #[inline(always)]
 pub fn make_room(
     alloc: Global,
-    state: &RandomState,
+    seeds: &Seeds,
     facts: &[Fact],
     homes: &mut Vec<Slots>,
     home: usize,
 ) -> Result<(), Memory>
     requires slots { HaveSlots homes.old.items }
-    requires found { AreFound state.now facts.now homes.old.items }
+    requires found { AreFound seeds.now facts.now homes.old.items }
     ensures slots { HaveSlots homes.new.items }
-    ensures found { AreFound state.now facts.now homes.new.items }
+    ensures found { AreFound seeds.now facts.now homes.new.items }
     ensures there { OnOk result (home < length homes.new.items) }
 {
     extend(alloc, homes, home)?;
-    homes[home].make_room(alloc, state, facts)
+    homes[home].make_room(alloc, seeds, facts)
 }
 
 /// The slot that the fact goes into, or nothing where it is there.
 #[inline(always)]
 pub fn free_slot(
-    state: &RandomState,
+    seeds: &Seeds,
     facts: &[Fact],
     homes: &[Slots],
     home: usize,
@@ -75,23 +76,23 @@ pub fn free_slot(
 ) -> Option<usize>
     requires home { home ≡ home_of fact }
     requires slots { HaveSlots homes.now }
-    requires found { AreFound state.now facts.now homes.now }
+    requires found { AreFound seeds.now facts.now homes.now }
     requires there { home < length homes.now }
     ensures there { IsNone result ↔ Contains facts.now fact }
-    ensures free { IfSome result (IsFreeFor state.now homes.now fact) }
+    ensures free { IfSome result (IsFreeFor seeds.now homes.now fact) }
 {
-    homes[home].free_slot(state, facts, fact)
+    homes[home].free_slot(seeds, facts, fact)
 }
 
 /// Whether the fact is there.
-pub fn has(state: &RandomState, facts: &[Fact], homes: &[Slots], fact: Fact) -> bool
+pub fn has(seeds: &Seeds, facts: &[Fact], homes: &[Slots], fact: Fact) -> bool
     requires slots { HaveSlots homes.now }
-    requires found { AreFound state.now facts.now homes.now }
+    requires found { AreFound seeds.now facts.now homes.now }
     ensures { IsTrue result ↔ Contains facts.now fact }
 {
     let home = home_of(fact);
     if home < homes.len() {
-        return homes[home].has(state, facts, fact);
+        return homes[home].has(seeds, facts, fact);
     }
     false
 }
@@ -103,9 +104,9 @@ pub fn put(homes: &mut Vec<Slots>, home: usize, slot: usize, number: u32) -> Res
     requires free { IsFreeAt homes.old.items home slot }
     requires number { 0 < number }
     ensures slots { HaveSlots homes.new.items }
-    ensures found { (state : RandomState) (fact : AFact) (place : ℕ) → IsFound state homes.old.items fact place → IsFound state homes.new.items fact place }
-    ensures stands { OnOk result ((state : RandomState) (fact : AFact) (place : ℕ) → home_of fact ≡ home → number ≡ suc place →
-        IsFreeFor state homes.old.items fact slot → IsFound state homes.new.items fact place) }
+    ensures found { (seeds : TheSeeds) (fact : AFact) (place : ℕ) → IsFound seeds homes.old.items fact place → IsFound seeds homes.new.items fact place }
+    ensures stands { OnOk result ((seeds : TheSeeds) (fact : AFact) (place : ℕ) → home_of fact ≡ home → number ≡ suc place →
+        IsFreeFor seeds homes.old.items fact slot → IsFound seeds homes.new.items fact place) }
 {
     homes[home].put(slot, number)
 }

@@ -2,6 +2,7 @@
 #![tactic(auto)]
 
 mod homes;
+mod seeds;
 mod slots;
 mod table;
 

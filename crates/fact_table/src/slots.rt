@@ -7,10 +7,10 @@ ghost use Rattle.fact_table.specs.Slots.{bucket_of, Holds, IsFirstFree, Stands};
 ghost use Rattle.facts.specs.declared.contexts.Fact.{Fact as AFact};
 ghost use Rattle.std.specs.Prelude.{◌≡◌, ◌↔◌, ℕ, suc, ◌+◌, ◌<◌, ◌≤◌, [], length, slice_get, slice_index, Contains, IfOk, IfSome, IsNone, IsTrue, OnOk, Some, false, true};
 
+use crate::seeds::{Seeds, hash};
 use axioms::Memory;
 use facts::Fact;
 use std::alloc::Global;
-use std::hash::{BuildHasher, RandomState};
 
 /// How many buckets there are at least, once there is a fact.
 const FEWEST: u32 = 4;
@@ -31,12 +31,11 @@ pub struct Slots {
 
 /// The bucket of the fact, of so many. Where they are a power of 2, it takes the lowest bits of the hash.
 #[inline(always)]
-fn bucket(state: &RandomState, count: usize, fact: Fact) -> usize
-    ensures value { result ≡ bucket_of state.now count fact }
+fn bucket(seeds: &Seeds, count: usize, fact: Fact) -> usize
+    ensures value { result ≡ bucket_of seeds.now count fact }
     ensures within { result ≤ count }
 {
-    let hash = state.hash_one(fact);
-    hash as usize & count.saturating_sub(1)
+    hash(seeds, fact) as usize & count.saturating_sub(1)
 }
 
 /// Whether the fact is the one whose place the number is one more than.
@@ -107,7 +106,7 @@ fn occupy(numbers: &mut Vec<u32>, slot: usize, number: u32) -> Result<(), Memory
 
 /// Puts a number into its slot among so many buckets, if it leads to a fact. Fails where memory is refused; then nothing changes.
 fn carry(
-    state: &RandomState,
+    seeds: &Seeds,
     facts: &[Fact],
     wider: &mut Vec<u32>,
     buckets: usize,
@@ -115,14 +114,14 @@ fn carry(
 ) -> Result<(), Memory>
     requires { buckets ≤ length wider.old.items }
     ensures stands { OnOk result ((place : ℕ) (fact : AFact) → number ≡ suc place → slice_get facts.now place ≡ Some fact →
-        Stands wider.new.items (bucket_of state.now buckets fact) number) }
+        Stands wider.new.items (bucket_of seeds.now buckets fact) number) }
     ensures others { (b n : ℕ) → 0 < n → Stands wider.old.items b n → Stands wider.new.items b n }
     ensures room { length wider.old.items ≤ length wider.new.items }
 {
     if number == 0 || facts.len() < number as usize {
         return Ok(());
     }
-    let bucket = bucket(state, buckets, facts[number as usize - 1]);
+    let bucket = bucket(seeds, buckets, facts[number as usize - 1]);
     let slot = first_free(wider, bucket);
     occupy(wider, slot, number)
 }
@@ -130,20 +129,20 @@ fn carry(
 /// The numbers in their slots among so many buckets.
 fn spread(
     alloc: Global,
-    state: &RandomState,
+    seeds: &Seeds,
     facts: &[Fact],
     numbers: &[u32],
     buckets: usize,
 ) -> Result<Vec<u32>, Memory>
     ensures stands { IfOk result (λ v. (slot place : ℕ) (fact : AFact) → slice_index numbers.now slot ≡ suc place →
-        slice_get facts.now place ≡ Some fact → Stands v.items (bucket_of state.now buckets fact) (suc place)) }
+        slice_get facts.now place ≡ Some fact → Stands v.items (bucket_of seeds.now buckets fact) (suc place)) }
     ensures room { IfOk result (λ v. buckets ≤ length v.items) }
 {
     let spare = MOST_SPARE.min(buckets / 2);
     let mut wider = Vec::with_capacity(alloc, buckets.saturating_add(spare))?;
     wider.resize(buckets, 0)?;
     for slot in 0..numbers.len() {
-        carry(state, facts, &mut wider, buckets, numbers[slot])?;
+        carry(seeds, facts, &mut wider, buckets, numbers[slot])?;
     }
     Ok(wider)
 }
@@ -166,52 +165,52 @@ impl Slots {
     pub(crate) fn make_room(
         &mut self,
         alloc: Global,
-        state: &RandomState,
+        seeds: &Seeds,
         facts: &[Fact],
     ) -> Result<(), Memory>
         requires { self.old.buckets ≤ length self.old.numbers.items }
         ensures holds { (place : ℕ) (fact : AFact) → slice_get facts.now place ≡ Some fact →
-            Holds state.now self.old fact place → Holds state.now self.new fact place }
+            Holds seeds.now self.old fact place → Holds seeds.now self.new fact place }
         ensures room { self.new.buckets ≤ length self.new.numbers.items }
     {
         if self.used < self.buckets / 4 * 3 {
             return Ok(());
         }
-        self.grow(alloc, state, facts)
+        self.grow(alloc, seeds, facts)
     }
 
     /// Makes twice as many buckets, or the first. Fails where memory is refused; then nothing changes.
-    fn grow(&mut self, alloc: Global, state: &RandomState, facts: &[Fact]) -> Result<(), Memory>
+    fn grow(&mut self, alloc: Global, seeds: &Seeds, facts: &[Fact]) -> Result<(), Memory>
         requires { self.old.buckets ≤ length self.old.numbers.items }
         ensures holds { (place : ℕ) (fact : AFact) → slice_get facts.now place ≡ Some fact →
-            Holds state.now self.old fact place → Holds state.now self.new fact place }
+            Holds seeds.now self.old fact place → Holds seeds.now self.new fact place }
         ensures room { self.new.buckets ≤ length self.new.numbers.items }
     {
         let buckets = FEWEST.max(self.buckets.saturating_mul(2));
-        self.numbers = spread(alloc, state, facts, &self.numbers, buckets as usize)?;
+        self.numbers = spread(alloc, seeds, facts, &self.numbers, buckets as usize)?;
         self.buckets = buckets;
         Ok(())
     }
 
     /// The slot that the fact goes into, or nothing where it is there.
     #[inline(always)]
-    pub(crate) fn free_slot(&self, state: &RandomState, facts: &[Fact], fact: Fact) -> Option<usize>
+    pub(crate) fn free_slot(&self, seeds: &Seeds, facts: &[Fact], fact: Fact) -> Option<usize>
         requires { self.now.buckets ≤ length self.now.numbers.items }
         ensures there { IsNone result → Contains facts.now fact }
-        ensures free { IfSome result (IsFirstFree self.now.numbers.items (bucket_of state.now self.now.buckets fact)) }
-        ensures absent { IfSome result (λ _. (place : ℕ) → slice_get facts.now place ≡ Some fact → Holds state.now self.now fact place → ⊥) }
+        ensures free { IfSome result (IsFirstFree self.now.numbers.items (bucket_of seeds.now self.now.buckets fact)) }
+        ensures absent { IfSome result (λ _. (place : ℕ) → slice_get facts.now place ≡ Some fact → Holds seeds.now self.now fact place → ⊥) }
     {
-        let bucket = bucket(state, self.buckets as usize, fact);
+        let bucket = bucket(seeds, self.buckets as usize, fact);
         free_slot(facts, &self.numbers, bucket, fact)
     }
 
     /// Whether the fact stands in its slots.
-    pub(crate) fn has(&self, state: &RandomState, facts: &[Fact], fact: Fact) -> bool
+    pub(crate) fn has(&self, seeds: &Seeds, facts: &[Fact], fact: Fact) -> bool
         requires { self.now.buckets ≤ length self.now.numbers.items }
         ensures yes { result ≡ true → Contains facts.now fact }
-        ensures no { result ≡ false → (place : ℕ) → slice_get facts.now place ≡ Some fact → Holds state.now self.now fact place → ⊥ }
+        ensures no { result ≡ false → (place : ℕ) → slice_get facts.now place ≡ Some fact → Holds seeds.now self.now fact place → ⊥ }
     {
-        self.free_slot(state, facts, fact).is_none()
+        self.free_slot(seeds, facts, fact).is_none()
     }
 
     /// Puts a number into a free slot. Fails where memory is refused; then nothing changes.

@@ -3,6 +3,7 @@ ghost use Rattle.axioms.specs.WellFormed.{AreDistinct};
 ghost use Rattle.std.specs.Prelude.{◌≡◌, ◌↔◌, ◌<◌, ◌^◌, ◌++◌, ◌∷◌, [], true, false, length, take, Contains, Ok, IsTrue, OnErr};
 
 use crate::homes;
+use crate::seeds::Seeds;
 use crate::slots::Slots;
 use axioms::Memory;
 use facts::Fact;
@@ -15,7 +16,7 @@ use std::marker::Model;
 #[derive(Drop)]
 pub struct FactTable {
     alloc: Global,
-    state: RandomState,
+    seeds: Seeds,
     facts: Vec<Fact>,
     // by the number of the context
     homes: Vec<Slots>,
@@ -30,7 +31,7 @@ impl Model for FactTable {
 
     ghost view = { λ t. t.facts.items };
 
-    ghost invariant = { λ t. IsTable t.state t.facts.items t.homes.items };
+    ghost invariant = { λ t. IsTable t.seeds t.facts.items t.homes.items };
 }
 
 impl FactTable {
@@ -40,7 +41,7 @@ impl FactTable {
     {
         FactTable {
             alloc,
-            state,
+            seeds: Seeds::new(&state),
             facts: Vec::new(alloc),
             homes: Vec::new(alloc),
         }
@@ -67,7 +68,7 @@ impl FactTable {
     pub fn contains(&self, fact: &Fact) -> bool
         ensures { IsTrue result ↔ Contains self.now fact.now }
     {
-        homes::has(&self.state, &self.facts, &self.homes, *fact)
+        homes::has(&self.seeds, &self.facts, &self.homes, *fact)
     }
 
     /// Adds a fact at the end, unless it is there, and says whether it was added. Fails where memory is refused; then the facts are
@@ -79,8 +80,8 @@ impl FactTable {
         ensures err { OnErr result (self.new ≡ self.old) }
     {
         let home = homes::home_of(fact);
-        homes::make_room(self.alloc, &self.state, &self.facts, &mut self.homes, home)?;
-        let Some(slot) = homes::free_slot(&self.state, &self.facts, &self.homes, home, fact) else {
+        homes::make_room(self.alloc, &self.seeds, &self.facts, &mut self.homes, home)?;
+        let Some(slot) = homes::free_slot(&self.seeds, &self.facts, &self.homes, home, fact) else {
             return Ok(false);
         };
         self.facts.reserve(1)?;

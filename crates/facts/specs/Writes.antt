@@ -1,10 +1,7 @@
--- What a fact feeds a hasher: words of 8 bytes, so that no hasher has to join parts of words.
-use Rattle.std.specs.Hash as fed
-use Rattle.std.specs.Prelude.{ℕ, ◌+◌, ◌++◌}
+-- Numbers that stand for the parts of facts, from which facts are hashed.
+use Rattle.std.specs.Prelude.{ℕ, ◌+◌}
 use Rattle.facts.specs.declared.contexts.Context.{Context}
 use Rattle.facts.specs.declared.contexts.Context.TheVariants as contexts
-use Rattle.facts.specs.declared.contexts.Fact.{Fact}
-use Rattle.facts.specs.declared.contexts.Fact.TheVariants as facts
 use Rattle.normal_forms.specs.declared.forms.Class2.{Class2}
 use Rattle.normal_forms.specs.declared.forms.Class2.TheVariants as classes
 use Rattle.normal_forms.specs.declared.forms.PropId2.{PropId2}
@@ -22,7 +19,3 @@ property_word (properties.Partial n) = 4294967296 + n
 abbrev pub context_word : Context → ℕ
 context_word (contexts.Expr e) = e.0
 context_word (contexts.Individual a) = 4294967296 + a.0
-
-abbrev pub fact_words : Fact → fed.HashWrites
-fact_words (facts.In c x) = fed.u64 (class_word c) ++ fed.u64 (context_word x)
-fact_words (facts.Edge x p y) = fed.u64 (context_word x) ++ (fed.u64 (property_word p) ++ fed.u64 (context_word y))

@@ -6,5 +6,5 @@ mod contexts;
 mod theory;
 
 pub use births::{Birth, FactId, Older};
-pub use contexts::{Context, Fact};
+pub use contexts::{Context, Fact, class_word, context_word, property_word};
 pub use theory::closure;

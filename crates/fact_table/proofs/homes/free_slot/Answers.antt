@@ -8,7 +8,7 @@ returns-clause-there c =
     let table = c.index-homes-home.result in (
       c.free_slot.ensures.there,
       λ member. none_or c.free_slot.result c.free_slot.ensures.absent (λ absent.
-          not_there c.args.state.now c.args.facts.now c.args.homes.now c.args.fact table c.requires.found
+          not_there c.args.seeds.now c.args.facts.now c.args.homes.now c.args.fact table c.requires.found
           (subst (λ i. slice_get c.args.homes.now i ≡ Some table) c.requires.home (read_at c.args.homes.now c.args.home table c.requires.there c.index-homes-home.is)) absent member),
     )
 

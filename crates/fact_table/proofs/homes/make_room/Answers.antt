@@ -2,7 +2,7 @@ use Rattle.fact_table.proofs.Placing.{found_kept, found_grown, slots_set, read_a
 use Rattle.fact_table.proofs.homes.make_room.Goals as goal
 
 pub returns-in_err-extend-clause-found : goal.returns-in_err-extend-clause-found
-returns-in_err-extend-clause-found c = found_kept c.args.state.now c.args.facts.now c.args.homes.now.items c.extend.new.homes.items c.extend.ensures.kept c.requires.found
+returns-in_err-extend-clause-found c = found_kept c.args.seeds.now c.args.facts.now c.args.homes.now.items c.extend.new.homes.items c.extend.ensures.kept c.requires.found
 
 pub make_room-requires : goal.make_room-requires
 make_room-requires c =
@@ -16,7 +16,7 @@ returns-clause-slots c =
 
 pub returns-clause-found : goal.returns-clause-found
 returns-clause-found c =
-    found_grown c.args.state.now c.args.facts.now c.extend.new.homes.items c.args.home c.index_mut.result.now c.make_room.new.self
+    found_grown c.args.seeds.now c.args.facts.now c.extend.new.homes.items c.args.home c.index_mut.result.now c.make_room.new.self
     (read_at c.extend.new.homes.items c.args.home c.index_mut.result.now c.in_ok-extend.ensures.there c.index_mut.ensures.value)
     c.make_room.ensures.holds
-    (found_kept c.args.state.now c.args.facts.now c.args.homes.now.items c.extend.new.homes.items c.extend.ensures.kept c.requires.found)
+    (found_kept c.args.seeds.now c.args.facts.now c.args.homes.now.items c.extend.new.homes.items c.extend.ensures.kept c.requires.found)

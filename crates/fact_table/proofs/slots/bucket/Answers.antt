@@ -6,7 +6,7 @@ use Rattle.fact_table.proofs.slots.bucket.Goals as goal
 
 pub returns-clause-value : goal.returns-clause-value
 unfolding bucket_of
-returns-clause-value c = ap₂ bit_and c.hash_one-hash.ensures c.saturating_sub.ensures
+returns-clause-value c = ap₂ bit_and c.hash.ensures c.saturating_sub.ensures
 
 pub returns-clause-within : goal.returns-clause-within
-returns-clause-within c = omega (arith, and_le_r c.hash_one-hash.result c.saturating_sub.result, c.saturating_sub.ensures)
+returns-clause-within c = omega (arith, and_le_r c.hash.result c.saturating_sub.result, c.saturating_sub.ensures)

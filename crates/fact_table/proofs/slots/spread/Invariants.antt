@@ -7,4 +7,4 @@ use Rattle.fact_table.proofs.slots.spread.Given as goal
 abbrev pub invariant-loop-slot : goal.invariant-loop-slot
 invariant-loop-slot l = (l.buckets ≤ length l.wider.items)
     × ((slot place : ℕ) (fact : Fact) → slot < l.slot → get_or l.numbers slot 0 ≡ suc place → slice_get l.facts place ≡ Some fact →
-    Stands l.wider.items (bucket_of l.state l.buckets fact) (suc place))
+    Stands l.wider.items (bucket_of l.seeds l.buckets fact) (suc place))

@@ -34,7 +34,7 @@ invariant_of-self-in_err-reserve c = rw c.reserve.ensures.items (record {
 pub put-requires-clause-free : goal.put-requires-clause-free
 put-requires-clause-free c =
     let homes = c.make_room.new.homes.items in
-    let free : IsFreeFor c.self.inside.state homes c.args.fact c.in-Some.slot = rw c.deref-3.ensures.value at c.in-Some.ensures.free in
+    let free : IsFreeFor c.self.inside.seeds homes c.args.fact c.in-Some.slot = rw c.deref-3.ensures.value at c.in-Some.ensures.free in
     record {
       table = free.table;
       at = subst (λ i. slice_get homes i ≡ Some free.table) (sym c.home_of-home.ensures) free.at;
@@ -44,12 +44,12 @@ put-requires-clause-free c =
 
 pub invariant_of-self-in_err-put : goal.invariant_of-self-in_err-put
 invariant_of-self-in_err-put c =
-    let found : AreFound c.self.inside.state c.self.inside.facts.items c.make_room.new.homes.items = rw c.deref.ensures.value at c.make_room.ensures.found in
+    let found : AreFound c.self.inside.seeds c.self.inside.facts.items c.make_room.new.homes.items = rw c.deref.ensures.value at c.make_room.ensures.found in
     rw c.reserve.ensures.items (record {
       few = c.self.invariant.few;
       distinct = c.self.invariant.distinct;
       slots = c.put.ensures.slots;
-      found = λ place fact at. c.put.ensures.found c.self.inside.state fact place (found place fact at);
+      found = λ place fact at. c.put.ensures.found c.self.inside.seeds fact place (found place fact at);
     })
 
 pub invariant_of-self-2 : goal.invariant_of-self-2
@@ -59,9 +59,9 @@ invariant_of-self-2 c =
     let few : length facts < 4294967295 = rw (← c.self.view_is) at c.requires in
     let short : length facts + 1 < 2 ^ 32 = omega (arith, few) in
     let absent : Contains facts c.args.fact → ⊥ = λ there. true≢false ((rw (c.deref-2.ensures.value) at c.in-Some.ensures.there).1 there) in
-    let free : IsFreeFor c.self.inside.state homes c.args.fact c.in-Some.slot = rw c.deref-3.ensures.value at c.in-Some.ensures.free in
-    let found : AreFound c.self.inside.state facts homes = rw c.deref.ensures.value at c.make_room.ensures.found in
+    let free : IsFreeFor c.self.inside.seeds homes c.args.fact c.in-Some.slot = rw c.deref-3.ensures.value at c.in-Some.ensures.free in
+    let found : AreFound c.self.inside.seeds facts homes = rw c.deref.ensures.value at c.make_room.ensures.found in
     let pushed : c.push.new.self.items ≡ facts ++ c.args.fact ∷ [] = pushes c.push.result _ _ _ (c.push.ensures.succeeds (omega (arith, c.in_ok-reserve.ensures.ok))) c.push.ensures.items ∙ ap (λ l. l ++ c.args.fact ∷ []) c.reserve.ensures.items in
-    rw pushed (table_push c.self.inside.state facts c.put.new.homes.items c.args.fact short c.self.invariant.distinct absent c.put.ensures.slots
-    (λ place fact at. c.put.ensures.found c.self.inside.state fact place (found place fact at))
-    (c.in_ok-put.ensures.stands c.self.inside.state c.args.fact (length facts) (sym c.home_of-home.ensures) (omega (arith, c.len.ensures, c.reserve.ensures.len, c.self.inside.facts.ok.0)) free))
+    rw pushed (table_push c.self.inside.seeds facts c.put.new.homes.items c.args.fact short c.self.invariant.distinct absent c.put.ensures.slots
+    (λ place fact at. c.put.ensures.found c.self.inside.seeds fact place (found place fact at))
+    (c.in_ok-put.ensures.stands c.self.inside.seeds c.args.fact (length facts) (sym c.home_of-home.ensures) (omega (arith, c.len.ensures, c.reserve.ensures.len, c.self.inside.facts.ok.0)) free))
