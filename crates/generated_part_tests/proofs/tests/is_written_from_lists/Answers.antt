@@ -5,4 +5,4 @@ use Rattle.generated_part_tests.proofs.tests.is_written_from_lists.Goals as goal
 
 pub is_listed_part_written-requires : goal.is_listed_part_written-requires
 is_listed_part_written-requires c =
-    subst (λ (l : Option Listed). IfSome l (IsListedOf c.args.ontology.now)) (sym c.in-Some.ensures) c.in_ok-certificate.ensures.found.has_text.listed
+    subst (λ (l : Option Listed). IfSome l (IsListedOf c.args.ontology.now)) (sym c.in-Some.ensures) c.in-Ok.ensures.found.has_text.listed
