@@ -1,30 +1,35 @@
 //! Names in byte order.
 
 use answers::names_in_order;
-use axioms::{Builder, Kind};
-use std::alloc::AllocGlobal;
+use axioms::Ontology;
+use document::read_bytes;
+use std::alloc::Global;
 use std::hash::RandomState;
-use std::process::Abort;
-use std::random::RandomSource;
 use std::test::Fail;
 
+const DOCUMENT: &str =
+    "Prefix(:=<x:>) Ontology(Declaration(Class(:b)) Declaration(Class(:C)) Declaration(Class(:a)))";
+
 /// Whether of the classes `x:b`, `x:C` and `x:a` the first and the last come in byte order.
-fn are_in_order<R: AllocGlobal + Abort + RandomSource>(rt: &R) -> Result<bool, Fail> {
-    let mut builder = Builder::new(rt.alloc(), RandomState::new(rt)?)?;
-    builder.declare(Kind::Class, "x:b")?;
-    builder.declare(Kind::Class, "x:C")?;
-    builder.declare(Kind::Class, "x:a")?;
-    let ontology = builder.finish();
+fn are_in_order(alloc: Global, ontology: &Ontology) -> bool {
     ontology.well_formed();
     let names = ontology.classes();
     let marks = [false, false, true, false, true];
-    assert!(rt; names.len() == marks.len());
-    let found = names_in_order(rt.alloc(), names, &marks)?;
-    Ok(found.as_slice() == ["x:a", "x:b"].as_slice())
+    if names.len() != marks.len() {
+        return false;
+    }
+    match names_in_order(alloc, names, &marks) {
+        Ok(found) => found.as_slice() == ["x:a", "x:b"].as_slice(),
+        Err(_) => false,
+    }
 }
 
 #[test]
 fn names_come_in_byte_order(rt: HostRuntime) -> Result<(), Fail> {
-    assert!(rt; are_in_order(&rt)?);
+    let state = RandomState::new(&rt)?;
+    let ontology = read_bytes(rt.alloc(), DOCUMENT.as_bytes(), state)?;
+    let are_in_order = are_in_order(rt.alloc(), &ontology);
+    drop(ontology);
+    assert!(rt; are_in_order, "a before b");
     Ok(())
 }

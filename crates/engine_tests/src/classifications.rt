@@ -103,13 +103,21 @@ bottom <http://www.w3.org/2002/07/owl#Nothing>
         && are_accepted(alloc, ontology, made)
 }
 
-#[test]
-fn classifies_one_subclass(rt: HostRuntime) -> Result<(), Fail> {
-    let (ontology, made) = classified(&rt, ONE_SUBCLASS, 8)?;
+/// Whether one subclass axiom is classified as it is by hand.
+fn one_subclass_is_classified<R: AllocGlobal + RandomSource>(rt: &R) -> Result<bool, Fail> {
+    let (ontology, made) = classified(rt, ONE_SUBCLASS, 8)?;
     let is_expected = match &made {
         Ok(made) => is_one_subclass(rt.alloc(), &ontology, made),
         Err(_) => false,
     };
+    drop(made);
+    drop(ontology);
+    Ok(is_expected)
+}
+
+#[test]
+fn classifies_one_subclass(rt: HostRuntime) -> Result<(), Fail> {
+    let is_expected = one_subclass_is_classified(&rt)?;
     assert!(rt; is_expected);
     Ok(())
 }

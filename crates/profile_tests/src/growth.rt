@@ -3,7 +3,7 @@
 use crate::tables::{Shown, counts, random, told};
 use axioms::{ExprId, Ontology};
 use fs_lexer::{Token, tokens};
-use fs_parser::{Document, forms};
+use fs_parser::{Document, Tree, forms};
 use profile::{Refusal, Version, accept, accept_expression, accept_statements};
 use std::alloc::{AllocError, Global};
 use std::hash::RandomState;
@@ -43,6 +43,28 @@ enum Growth {
     Expression,
 }
 
+/// What is shown of the ontology that has grown by the trees.
+fn grown_by_statements(
+    alloc: Global,
+    state: RandomState,
+    ontology: &Ontology,
+    trees: &[Tree<'_>],
+) -> Shown {
+    let grown = accept_statements(alloc, ontology, trees, Version::One, state);
+    shown(alloc, &grown)
+}
+
+/// What is shown of the ontology that has grown by the class expression.
+fn grown_by_expression(
+    alloc: Global,
+    state: RandomState,
+    ontology: &Ontology,
+    tree: &Tree<'_>,
+) -> Shown {
+    let grown = accept_expression(alloc, ontology, tree, Version::One, state);
+    shown_expression(alloc, &grown)
+}
+
 /// What is shown of the ontology that has grown by the trees of the document, or by the first.
 fn grown_by_document(
     alloc: Global,
@@ -53,14 +75,8 @@ fn grown_by_document(
 ) -> Shown {
     let trees = &document.trees;
     match (growth, trees.first()) {
-        (Growth::Expression, Some(tree)) => {
-            let grown = accept_expression(alloc, ontology, tree, Version::One, state);
-            shown_expression(alloc, &grown)
-        }
-        _ => {
-            let grown = accept_statements(alloc, ontology, trees, Version::One, state);
-            shown(alloc, &grown)
-        }
+        (Growth::Expression, Some(tree)) => grown_by_expression(alloc, state, ontology, tree),
+        _ => grown_by_statements(alloc, state, ontology, trees),
     }
 }
 
