@@ -21,13 +21,13 @@ use saturate::{Progress, State, Stop};
 use std::alloc::Global;
 use std::hash::RandomState;
 use std::marker::Model;
-use work_list::Fifo;
+use work_list::ByContext;
 
 /// The normal forms of an ontology, and facts that they lead to: after a run to the end all of them.
 #[derive(Drop)]
 pub struct Saturation {
     normal: Normal,
-    state: Progress<Fifo>,
+    state: Progress<ByContext>,
 }
 
 impl Model for Saturation {
@@ -151,7 +151,7 @@ fn begun(
     state: RandomState,
     ontology: &Ontology,
     normal: &Normal,
-) -> Result<State<Fifo>, Memory>
+) -> Result<State<ByContext>, Memory>
     requires normal { IsNormalFor ontology.now normal.now }
     requires asked { normal.now.asked ≡ [] }
     ensures problem { IfOk result (λ s. IsProblemOf ontology.now [] (beginnings_of normal.now) s.problem) }
@@ -159,7 +159,7 @@ fn begun(
     ensures served { IfOk result (λ s. s.served ≡ []) }
 {
     let roots = roots(alloc, ontology, &[])?;
-    let mut begun = State::new(alloc, state, Fifo::new(alloc))?;
+    let mut begun = State::new(alloc, state, ByContext::new(alloc))?;
     match begun.extend(normal.forms(), &roots) {
         Ok(()) => Ok(begun),
         Err(error) => {
