@@ -9,7 +9,6 @@ mod axiom_forms;
 mod declarations;
 mod expressions;
 mod growth;
-mod hints;
 mod name_builder;
 mod names;
 mod ontology_reader;

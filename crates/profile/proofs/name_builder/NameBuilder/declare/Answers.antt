@@ -3,7 +3,7 @@ use Rattle.std.proofs.lemmas.Bool.Decides.{nat_tests}
 use Rattle.axioms.specs.Growth.{IsFull, names_of}
 use Rattle.fs_parser.specs.View.{iri_of}
 use Rattle.profile.proofs.Named.{full_of, has_room, one_piece}
-use Rattle.profile.proofs.name_builder.NameBuilder.look_up.Goals as goal
+use Rattle.profile.proofs.name_builder.NameBuilder.declare.Goals as goal
 
 pub returns-then-is_empty-clause-room : goal.returns-then-is_empty-clause-room
 returns-then-is_empty-clause-room c =
