@@ -10,6 +10,7 @@ use crate::ids::ExprId;
 use crate::ontology::Ontology;
 use crate::terms::{Axiom, Expr, Kind, Name};
 use device::Memory;
+use keyed_hash::KeyedState;
 use std::alloc::Global;
 use std::hash::RandomState;
 use std::marker::Model;
@@ -29,12 +30,13 @@ impl Model for Builder {
 }
 
 impl Builder {
-    /// A builder of the ontology that has `owl:Thing` and `owl:Nothing` and nothing else. Its tables hash by `state`.
+    /// A builder of the ontology that has `owl:Thing` and `owl:Nothing` and nothing else. Its tables hash by secret numbers that
+    /// `state` gives.
     pub fn new(alloc: Global, state: RandomState) -> Result<Builder, Memory>
         ensures { IfOk result (λ b. b ≡ empty_ontology) }
     {
         Ok(Builder {
-            ontology: Ontology::empty(alloc, state)?,
+            ontology: Ontology::empty(alloc, KeyedState::new(&state))?,
         })
     }
 

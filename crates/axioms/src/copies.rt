@@ -7,12 +7,12 @@ use crate::ontology::Ontology;
 use crate::terms::{Axiom, Expr};
 use device::Memory;
 use indexmap::IndexSet;
-use std::hash::RandomState;
+use keyed_hash::KeyedState;
 
 // The same texts.
 fn copied_names(
-    names: &IndexSet<String, RandomState>,
-) -> Result<IndexSet<String, RandomState>, Memory>
+    names: &IndexSet<String, KeyedState>,
+) -> Result<IndexSet<String, KeyedState>, Memory>
     ensures { IfOk result (λ s. map string_bytes s.keys ≡ map string_bytes names.now.keys) }
 {
     Ok(names.clone()?)
@@ -20,8 +20,8 @@ fn copied_names(
 
 // The same expressions.
 fn copied_expressions(
-    expressions: &IndexSet<Expr, RandomState>,
-) -> Result<IndexSet<Expr, RandomState>, Memory>
+    expressions: &IndexSet<Expr, KeyedState>,
+) -> Result<IndexSet<Expr, KeyedState>, Memory>
     ensures { IfOk result (λ s. map node_of s.keys ≡ map node_of expressions.now.keys) }
 {
     Ok(expressions.clone()?)
@@ -44,16 +44,16 @@ fn copied_places(places: &Vec<ExprId>) -> Result<Vec<ExprId>, Memory>
 /// The names of an ontology.
 #[derive(Drop)]
 struct Names {
-    classes: IndexSet<String, RandomState>,
-    properties: IndexSet<String, RandomState>,
-    individuals: IndexSet<String, RandomState>,
+    classes: IndexSet<String, KeyedState>,
+    properties: IndexSet<String, KeyedState>,
+    individuals: IndexSet<String, KeyedState>,
 }
 
 // The same names of each kind.
 fn copied_signature(
-    classes: &IndexSet<String, RandomState>,
-    properties: &IndexSet<String, RandomState>,
-    individuals: &IndexSet<String, RandomState>,
+    classes: &IndexSet<String, KeyedState>,
+    properties: &IndexSet<String, KeyedState>,
+    individuals: &IndexSet<String, KeyedState>,
 ) -> Result<Names, Memory>
     ensures classes { IfOk result (λ n. map string_bytes n.classes.keys ≡ map string_bytes classes.now.keys) }
     ensures properties { IfOk result (λ n. map string_bytes n.properties.keys ≡ map string_bytes properties.now.keys) }
@@ -69,14 +69,14 @@ fn copied_signature(
 /// The expressions and axioms of an ontology.
 #[derive(Drop)]
 struct Terms {
-    expressions: IndexSet<Expr, RandomState>,
+    expressions: IndexSet<Expr, KeyedState>,
     class_expressions: Vec<ExprId>,
     axioms: Vec<Axiom>,
 }
 
 // The same expressions and axioms.
 fn copied_terms(
-    expressions: &IndexSet<Expr, RandomState>,
+    expressions: &IndexSet<Expr, KeyedState>,
     class_expressions: &Vec<ExprId>,
     axioms: &Vec<Axiom>,
 ) -> Result<Terms, Memory>

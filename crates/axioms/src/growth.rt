@@ -13,8 +13,8 @@ use crate::ontology::Ontology;
 use crate::terms::{Axiom, Expr};
 use device::Memory;
 use indexmap::IndexSet;
+use keyed_hash::KeyedState;
 use std::alloc::{AllocError, Global};
-use std::hash::RandomState;
 
 /// The IRI of `owl:Thing` (OWL 2 Structural Specification, section 5.1).
 pub const OWL_THING: &str = "http://www.w3.org/2002/07/owl#Thing";
@@ -35,7 +35,7 @@ pub const MOST_AXIOMS: usize = 4_294_967_295;
 // The number of the name; a new one goes last.
 fn number_of(
     alloc: Global,
-    names: &mut IndexSet<String, RandomState>,
+    names: &mut IndexSet<String, KeyedState>,
     iri: &str,
 ) -> Result<u32, BuildFault>
     requires { length names.old.keys ≤ most_names }
@@ -58,8 +58,8 @@ fn number_of(
 // The classes of the standard, in their order.
 fn standard_classes(
     alloc: Global,
-    state: RandomState,
-) -> Result<IndexSet<String, RandomState>, Memory>
+    state: KeyedState,
+) -> Result<IndexSet<String, KeyedState>, Memory>
     ensures { IfOk result (λ s. map string_bytes s.keys ≡ owl_thing ∷ owl_nothing ∷ []) }
 {
     let mut classes = IndexSet::with_hasher(alloc, state);
@@ -71,8 +71,8 @@ fn standard_classes(
 // Their expressions.
 fn standard_expressions(
     alloc: Global,
-    state: RandomState,
-) -> Result<IndexSet<Expr, RandomState>, Memory>
+    state: KeyedState,
+) -> Result<IndexSet<Expr, KeyedState>, Memory>
     ensures { IfOk result (λ s. map node_of s.keys ≡ Class 0 ∷ Class 1 ∷ []) }
 {
     let mut expressions = IndexSet::with_hasher(alloc, state);
@@ -83,7 +83,7 @@ fn standard_expressions(
 
 impl Ontology {
     // The ontology of no statements.
-    pub(crate) fn empty(alloc: Global, state: RandomState) -> Result<Ontology, Memory>
+    pub(crate) fn empty(alloc: Global, state: KeyedState) -> Result<Ontology, Memory>
         ensures { IfOk result (λ o. o ≡ empty_ontology) }
     {
         let classes = standard_classes(alloc, state)?;

@@ -10,18 +10,18 @@ ghost use Rattle.axioms.specs.WellFormed.{IsOntology};
 use crate::ids::{ClassId, ExprId};
 use crate::terms::{Axiom, Expr, Kind};
 use indexmap::IndexSet;
+use keyed_hash::KeyedState;
 use std::alloc::Global;
-use std::hash::RandomState;
 use std::marker::Model;
 
 /// Names, class expressions and logical axioms, each numbered by its first place.
 #[derive(Drop)]
 pub struct Ontology {
     pub(crate) alloc: Global,
-    pub(crate) classes: IndexSet<String, RandomState>,
-    pub(crate) properties: IndexSet<String, RandomState>,
-    pub(crate) individuals: IndexSet<String, RandomState>,
-    pub(crate) expressions: IndexSet<Expr, RandomState>,
+    pub(crate) classes: IndexSet<String, KeyedState>,
+    pub(crate) properties: IndexSet<String, KeyedState>,
+    pub(crate) individuals: IndexSet<String, KeyedState>,
+    pub(crate) expressions: IndexSet<Expr, KeyedState>,
     // the expression of each class, by the number of the class
     pub(crate) class_expressions: Vec<ExprId>,
     pub(crate) axioms: Vec<Axiom>,
@@ -39,7 +39,7 @@ impl Model for Ontology {
 }
 
 // Whether the IRI is one of the names.
-fn is_named(names: &IndexSet<String, RandomState>, iri: &str) -> bool
+fn is_named(names: &IndexSet<String, KeyedState>, iri: &str) -> bool
     ensures { result ≡ list_any (bytes_eq iri.now) (map string_bytes names.now.keys) }
 {
     names.contains(iri)

@@ -1,0 +1,7 @@
+use Rattle.std.proofs.Common.{refl}
+use Rattle.keyed_hash.specs.Keyed.{folded_product}
+use Rattle.keyed_hash.proofs.numbers.folded_product.Goals as goal
+
+pub returns : goal.returns
+unfolding folded_product
+returns c = refl
