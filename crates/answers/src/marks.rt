@@ -10,16 +10,16 @@ use crate::question::Question;
 use axioms::{ClassId, IndId, Memory, Ontology};
 use classification::is_consistent;
 use engine::Saturation;
-use facts::{Context, Fact};
+use facts::{Context, Fact, StoredFact};
 use normal_forms::Class2;
 use std::alloc::Global;
 
 /// The class that the fact is about, and the class that it puts above it.
-fn class_pair(ontology: &Ontology, fact: &Fact) -> Option<(ClassId, ClassId)>
+fn class_pair(ontology: &Ontology, fact: &StoredFact) -> Option<(ClassId, ClassId)>
     ensures { MatchOption result ((c d : ℕ) → PutsBelow ontology.now fact.now c d → ⊥)
         (λ p. PutsBelow ontology.now fact.now p.0.0 p.1.0) }
 {
-    match *fact {
+    match fact.get() {
         Fact::In(Class2::Expr(above), Context::Expr(expression)) => {
             let class = ontology.class_of(expression)?;
             let above = ontology.class_of(above)?;
@@ -30,11 +30,11 @@ fn class_pair(ontology: &Ontology, fact: &Fact) -> Option<(ClassId, ClassId)>
 }
 
 /// The individual that the fact is about, and the class that it puts it into.
-fn type_pair(ontology: &Ontology, fact: &Fact) -> Option<(IndId, ClassId)>
+fn type_pair(ontology: &Ontology, fact: &StoredFact) -> Option<(IndId, ClassId)>
     ensures { MatchOption result ((a d : ℕ) → PutsInto ontology.now fact.now a d → ⊥)
         (λ p. PutsInto ontology.now fact.now p.0.0 p.1.0) }
 {
-    match *fact {
+    match fact.get() {
         Fact::In(Class2::Expr(class), Context::Individual(individual)) => {
             let class = ontology.class_of(class)?;
             Some((individual, class))
@@ -44,7 +44,7 @@ fn type_pair(ontology: &Ontology, fact: &Fact) -> Option<(IndId, ClassId)>
 }
 
 /// The class above this one by the fact.
-fn above(ontology: &Ontology, class: usize, fact: &Fact) -> Option<usize>
+fn above(ontology: &Ontology, class: usize, fact: &StoredFact) -> Option<usize>
     ensures { IsAnswer ontology.now (asked.Above class) fact.now result }
 {
     let (below, above) = class_pair(ontology, fact)?;
@@ -56,7 +56,7 @@ fn above(ontology: &Ontology, class: usize, fact: &Fact) -> Option<usize>
 }
 
 /// The class below this one or below `owl:Nothing` by the fact.
-fn below(ontology: &Ontology, class: usize, fact: &Fact) -> Option<usize>
+fn below(ontology: &Ontology, class: usize, fact: &StoredFact) -> Option<usize>
     ensures { IsAnswer ontology.now (asked.Below class) fact.now result }
 {
     let (below, above) = class_pair(ontology, fact)?;
@@ -68,7 +68,7 @@ fn below(ontology: &Ontology, class: usize, fact: &Fact) -> Option<usize>
 }
 
 /// The individual in this class by the fact.
-fn member(ontology: &Ontology, class: usize, fact: &Fact) -> Option<usize>
+fn member(ontology: &Ontology, class: usize, fact: &StoredFact) -> Option<usize>
     ensures { IsAnswer ontology.now (asked.Members class) fact.now result }
 {
     let (individual, above) = type_pair(ontology, fact)?;
@@ -80,7 +80,7 @@ fn member(ontology: &Ontology, class: usize, fact: &Fact) -> Option<usize>
 }
 
 /// The number that the fact answers the question with.
-fn answer(ontology: &Ontology, question: Question, fact: &Fact) -> Option<usize>
+fn answer(ontology: &Ontology, question: Question, fact: &StoredFact) -> Option<usize>
     ensures { IsAnswer ontology.now question fact.now result }
 {
     match question {
@@ -106,7 +106,7 @@ fn mark(marks: &mut [bool], n: Option<usize>)
 fn marked_by(
     alloc: Global,
     ontology: &Ontology,
-    facts: &[Fact],
+    facts: &[StoredFact],
     question: Question,
     every: bool,
     size: usize,
@@ -121,7 +121,7 @@ fn marked_by(
 }
 
 /// Whether the fact puts the class below `owl:Nothing`.
-fn is_below_nothing(ontology: &Ontology, class: usize, fact: &Fact) -> bool
+fn is_below_nothing(ontology: &Ontology, class: usize, fact: &StoredFact) -> bool
     ensures { IsTrue result ↔ PutsBelow ontology.now fact.now class nothing_class }
 {
     match above(ontology, class, fact) {
@@ -131,7 +131,7 @@ fn is_below_nothing(ontology: &Ontology, class: usize, fact: &Fact) -> bool
 }
 
 /// Whether a fact puts the class below `owl:Nothing`.
-fn is_empty(ontology: &Ontology, facts: &[Fact], class: usize) -> bool
+fn is_empty(ontology: &Ontology, facts: &[StoredFact], class: usize) -> bool
     ensures { IsTrue result ↔ SomeFact facts.now (λ fact. PutsBelow ontology.now fact class nothing_class) }
 {
     for fact in facts {

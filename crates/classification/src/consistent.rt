@@ -6,14 +6,14 @@ ghost use Rattle.std.specs.Prelude.{◌↔◌, [], All, IsTrue};
 
 use axioms::{ExprId, Ontology};
 use engine::Saturation;
-use facts::{Context, Fact};
+use facts::{Context, Fact, StoredFact};
 use normal_forms::Class2;
 
 /// Whether the fact puts all things or an individual in `owl:Nothing`.
-fn is_contradiction(fact: &Fact) -> bool
+fn is_contradiction(fact: &StoredFact) -> bool
     ensures { IsTrue result ↔ IsContradiction fact.now }
 {
-    match *fact {
+    match fact.get() {
         Fact::In(Class2::Expr(class), Context::Expr(expression)) => {
             class == ExprId::NOTHING && expression == ExprId::THING
         }
@@ -23,7 +23,7 @@ fn is_contradiction(fact: &Fact) -> bool
 }
 
 /// Whether none of the facts does.
-fn has_no_contradiction(facts: &[Fact]) -> bool
+fn has_no_contradiction(facts: &[StoredFact]) -> bool
     ensures { IsTrue result ↔ All (λ f. IsContradiction f → ⊥) facts.now }
 {
     for fact in facts {

@@ -5,18 +5,18 @@ ghost use Rattle.std.specs.Prelude.{◌<◌, ◌≡◌, IfOk, MatchOption, OnOk,
 
 use axioms::{ClassId, Memory, Ontology};
 use engine::Saturation;
-use facts::{Context, Fact};
+use facts::{Context, Fact, StoredFact};
 use normal_forms::Class2;
 use number_sets::{OpenLists, PackedLists};
 use std::alloc::Global;
 use taxonomy::{Relation, Taxonomy, reduce};
 
 /// The class that the fact is about, and the class that it puts above it.
-fn class_pair(ontology: &Ontology, fact: &Fact) -> Option<(ClassId, ClassId)>
+fn class_pair(ontology: &Ontology, fact: &StoredFact) -> Option<(ClassId, ClassId)>
     ensures { MatchOption result ((c d : ℕ) → PutsBelow ontology.now fact.now c d → ⊥)
         (λ p. PutsBelow ontology.now fact.now p.0.0 p.1.0 × (p.0.0 < length ontology.now.names.classes)) }
 {
-    match *fact {
+    match fact.get() {
         Fact::In(Class2::Expr(above), Context::Expr(expression)) => {
             let class = ontology.class_of(expression)?;
             let above = ontology.class_of(above)?;
@@ -27,7 +27,7 @@ fn class_pair(ontology: &Ontology, fact: &Fact) -> Option<(ClassId, ClassId)>
 }
 
 /// Adds the class that the fact puts above a class.
-fn put_below(ontology: &Ontology, lists: &mut OpenLists, fact: &Fact) -> Result<(), Memory>
+fn put_below(ontology: &Ontology, lists: &mut OpenLists, fact: &StoredFact) -> Result<(), Memory>
     requires { length lists.old ≡ length ontology.now.names.classes }
     ensures { OnOk result (Adds (PutsBelow ontology.now fact.now) lists.old lists.new) }
 {
@@ -39,7 +39,7 @@ fn put_below(ontology: &Ontology, lists: &mut OpenLists, fact: &Fact) -> Result<
 }
 
 /// For each class the list of the classes that a fact puts above it.
-fn class_lists(alloc: Global, ontology: &Ontology, facts: &[Fact]) -> Result<PackedLists, Memory>
+fn class_lists(alloc: Global, ontology: &Ontology, facts: &[StoredFact]) -> Result<PackedLists, Memory>
     ensures { IfOk result (λ lists. AreClassLists ontology.now facts.now lists) }
 {
     let mut lists = OpenLists::new(alloc, ontology.classes().len())?;

@@ -5,17 +5,17 @@ ghost use Rattle.std.specs.Prelude.{◌≡◌, All, IfOk, MatchOption, OnOk, len
 
 use axioms::{ClassId, IndId, Memory, Ontology};
 use engine::Saturation;
-use facts::{Context, Fact};
+use facts::{Context, Fact, StoredFact};
 use normal_forms::Class2;
 use number_sets::{OpenLists, PackedLists};
 use std::alloc::Global;
 
 /// The individual that the fact is about, and the class that it puts it into.
-fn type_pair(ontology: &Ontology, fact: &Fact) -> Option<(IndId, ClassId)>
+fn type_pair(ontology: &Ontology, fact: &StoredFact) -> Option<(IndId, ClassId)>
     ensures { MatchOption result ((a d : ℕ) → PutsInto ontology.now fact.now a d → ⊥)
         (λ p. PutsInto ontology.now fact.now p.0.0 p.1.0) }
 {
-    match *fact {
+    match fact.get() {
         Fact::In(Class2::Expr(class), Context::Individual(individual)) => {
             let class = ontology.class_of(class)?;
             Some((individual, class))
@@ -25,7 +25,7 @@ fn type_pair(ontology: &Ontology, fact: &Fact) -> Option<(IndId, ClassId)>
 }
 
 /// Adds the class that the fact puts an individual into.
-fn put_into(ontology: &Ontology, lists: &mut OpenLists, fact: &Fact) -> Result<(), Memory>
+fn put_into(ontology: &Ontology, lists: &mut OpenLists, fact: &StoredFact) -> Result<(), Memory>
     requires within { IsAboutIndividualOf ontology.now fact.now }
     requires long { length lists.old ≡ length ontology.now.names.individuals }
     ensures { OnOk result (Adds (PutsInto ontology.now fact.now) lists.old lists.new) }
@@ -38,7 +38,7 @@ fn put_into(ontology: &Ontology, lists: &mut OpenLists, fact: &Fact) -> Result<(
 }
 
 /// For each individual the list of the classes that a fact puts it into.
-fn type_lists(alloc: Global, ontology: &Ontology, facts: &[Fact]) -> Result<PackedLists, Memory>
+fn type_lists(alloc: Global, ontology: &Ontology, facts: &[StoredFact]) -> Result<PackedLists, Memory>
     requires { All (IsAboutIndividualOf ontology.now) facts.now }
     ensures { IfOk result (λ lists. AreTypeLists ontology.now facts.now lists) }
 {

@@ -13,7 +13,7 @@ ghost use Rattle.std.specs.Prelude.{◌↔◌, ◌≡◌, [], Contains, IfOk, So
 use crate::context_set::ContextSet;
 use axioms::{ExprId, Memory, Ontology};
 use engine::Saturation;
-use facts::{Context, Fact};
+use facts::{Context, Fact, StoredFact};
 use normal_forms::Class2;
 use std::alloc::Global;
 
@@ -25,10 +25,10 @@ pub(crate) struct Satisfiable {
 }
 
 /// The context that has the class by the fact, if the fact is of the class.
-fn context_with(class: ExprId, fact: &Fact) -> Option<Context>
+fn context_with(class: ExprId, fact: &StoredFact) -> Option<Context>
     ensures { (x : Context3) → (result ≡ Some x) ↔ (fact.now ≡ said.In (classes.Expr class) x) }
 {
-    match *fact {
+    match fact.get() {
         Fact::In(Class2::Expr(other), context) if other == class => Some(context),
         _ => None,
     }
@@ -38,7 +38,7 @@ fn context_with(class: ExprId, fact: &Fact) -> Option<Context>
 fn contexts_with(
     alloc: Global,
     ontology: &Ontology,
-    facts: &[Fact],
+    facts: &[StoredFact],
     class: ExprId,
 ) -> Result<ContextSet, Memory>
     requires { (x : Context3) → Contains facts.now (said.In (classes.Expr class) x) → IsWithin ontology.now (context_of x) }

@@ -13,7 +13,7 @@ ghost use Rattle.inference.specs.declared.known_facts.Stop.TheVariants as stops;
 ghost use Rattle.std.specs.Prelude.{◌≡◌, ◌≤◌, ◌↔◌, Err, IfNone, IfOk, IfSome, IsTrue, OnOk, Some, [], length, map, slice_get, take};
 
 use axioms::{Memory, Ontology};
-use facts::{Birth, Fact, FactId};
+use facts::{Birth, FactId, StoredFact};
 use normalise::{Normal, normalise};
 use problem::roots;
 use property_closure::PropertyClosure;
@@ -122,7 +122,7 @@ impl Saturation {
     }
 
     /// The facts, in order of birth.
-    pub fn facts(&self) -> &[Fact]
+    pub fn facts(&self) -> &[StoredFact]
         ensures { result.now ≡ self.now.state.facts }
     {
         self.state.facts()

@@ -4,7 +4,7 @@ ghost use Rattle.facts.specs.declared.contexts.Fact.{Fact as Fact2};
 ghost use Rattle.std.specs.Prelude.{◌↔◌, ◌≡◌, IfOk, IsTrue, Some, length, slice_get, ℕ};
 
 use axioms::{ExprId, Memory, Ontology};
-use facts::{Context, Fact};
+use facts::{Context, Fact, StoredFact};
 use normal_forms::Class2;
 use std::alloc::Global;
 
@@ -67,14 +67,14 @@ fn is_contradictory(ontology: &Ontology, fact: Fact) -> bool
 pub(crate) fn wanted(
     alloc: Global,
     ontology: &Ontology,
-    facts: &[Fact],
+    facts: &[StoredFact],
 ) -> Result<Vec<bool>, Memory>
     ensures long { IfOk result (λ v. length v.items ≡ length facts.now) }
     ensures exact { IfOk result (λ v. (n : ℕ) (f : Fact2) → slice_get facts.now n ≡ Some f → IsMarked v.items n ↔ IsWantedFact ontology.now f) }
 {
     let mut marks = Vec::new(alloc);
     for fact in facts {
-        marks.push(is_wanted(ontology, *fact))?;
+        marks.push(is_wanted(ontology, fact.get()))?;
     }
     Ok(marks)
 }
@@ -87,7 +87,7 @@ pub(crate) fn wanted(
 pub(crate) fn first_contradiction(
     alloc: Global,
     ontology: &Ontology,
-    facts: &[Fact],
+    facts: &[StoredFact],
 ) -> Result<Vec<bool>, Memory>
     ensures long { IfOk result (λ v. length v.items ≡ length facts.now) }
     ensures each { IfOk result (λ v. (n : ℕ) (f : Fact2) → slice_get facts.now n ≡ Some f → IsMarked v.items n → IsContradictoryFact ontology.now f) }
@@ -96,7 +96,7 @@ pub(crate) fn first_contradiction(
     let mut marks = Vec::new(alloc);
     let mut found = false;
     for fact in facts {
-        let first = !found && is_contradictory(ontology, *fact);
+        let first = !found && is_contradictory(ontology, fact.get());
         marks.push(first)?;
         found = found || first;
     }

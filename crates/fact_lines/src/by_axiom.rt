@@ -14,7 +14,7 @@ ghost use Rattle.problem.specs.Made.{beginnings_of};
 ghost use Rattle.std.specs.Prelude.{◌≡◌, ◌<◌, IfOk, OnOk, Some, length, option_map, slice_get, ℕ};
 
 use crate::derivation::Derivation;
-use crate::line::concluded;
+use crate::line::{concluded, fact_of};
 use crate::older::rests_on;
 use crate::premises::premises;
 use crate::sink::LineSink;
@@ -82,7 +82,7 @@ pub(crate) fn shown_by_axiom<L: LineSink>(
     let numbers = premises(
         alloc, ontology, saturation, paths, derivation, shown, older, &form,
     )?;
-    let fact = saturation.facts()[fact.0 as usize];
+    let fact = fact_of(saturation, fact);
     let numbers = concluded(alloc, derivation, fact, rule(stated), Some(number), numbers)?;
     Ok(numbers)
 }

@@ -13,7 +13,7 @@ ghost use Rattle.problem.specs.Made.{beginnings_of};
 ghost use Rattle.std.specs.Prelude.{◌≡◌, ◌<◌, IfOk, OnOk, Some, length, option_map, slice_get, ℕ};
 
 use crate::derivation::Derivation;
-use crate::line::concluded;
+use crate::line::{concluded, fact_of};
 use crate::premises::premises;
 use crate::sink::LineSink;
 use axioms::{ExprId, Memory, Ontology};
@@ -80,7 +80,7 @@ pub(crate) fn shown_by_expression<L: LineSink>(
         birth.older(),
         &form,
     )?;
-    let fact = saturation.facts()[fact.0 as usize];
+    let fact = fact_of(saturation, fact);
     let numbers = concluded(alloc, derivation, fact, rule(&form), None, numbers)?;
     Ok(numbers)
 }

@@ -6,15 +6,24 @@ ghost use Rattle.closure.specs.Said.{Beginnings};
 ghost use Rattle.fact_lines.specs.Serving.{IsAmong, Uses};
 ghost use Rattle.fact_lines.specs.Shown.{AreShowing, Lengthens};
 ghost use Rattle.fact_lines.specs.Step.{LeadTo, said_by, subject_in};
-ghost use Rattle.std.specs.Prelude.{◌≡◌, IfOk, OnOk, option_map};
+ghost use Rattle.std.specs.Prelude.{◌≡◌, ◌<◌, IfOk, OnOk, Some, length, option_map, slice_get};
 
 use crate::derivation::Derivation;
 use crate::sink::LineSink;
 use axioms::Memory;
 use certificate::{Conclusion, Line, Rule, Subject};
-use facts::{Context, Fact};
+use engine::Saturation;
+use facts::{Context, Fact, FactId};
 use normal_forms::{Class2, PropId2};
 use std::alloc::Global;
+
+/// The fact of that number.
+pub(crate) fn fact_of(saturation: &Saturation, number: FactId) -> Fact
+    requires { number.0 < length saturation.now.state.facts }
+    ensures { slice_get saturation.now.state.facts number.0 ≡ Some result }
+{
+    saturation.facts()[number.0 as usize].get()
+}
 
 /// The context as the subject of lines.
 fn subject(context: Context) -> Subject

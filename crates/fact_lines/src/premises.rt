@@ -14,6 +14,7 @@ ghost use Rattle.std.specs.Prelude.{◌≡◌, ◌<◌, IfOk, List, OnOk, Some, 
 
 use crate::derivation::Derivation;
 use crate::lifting::lifted;
+use crate::line::fact_of;
 use crate::sink::LineSink;
 use axioms::{Memory, Ontology};
 use engine::Saturation;
@@ -76,7 +77,7 @@ fn led_up<L: LineSink>(
     ensures used { IfOk result (λ v. Uses derivation.old derivation.new (IsAmong (list_at shown.now older.0)) v.items) }
 {
     let known = shown.at(older.0 as usize);
-    match (saturation.facts()[older.0 as usize], property) {
+    match (fact_of(saturation, older), property) {
         (Fact::Edge(source, below, target), Some(above)) => {
             let numbers = lifted(
                 alloc, ontology, saturation, paths, derivation, known, source, below, target, above,

@@ -13,7 +13,7 @@ ghost use Rattle.std.specs.Prelude.{◌≡◌, ◌<◌, IfOk, List, None, OnOk, 
 use crate::by_axiom::shown_by_axiom;
 use crate::by_expression::shown_by_expression;
 use crate::derivation::Derivation;
-use crate::line::concluded;
+use crate::line::{concluded, fact_of};
 use crate::nothing::carried_back;
 use crate::sink::LineSink;
 use axioms::{Memory, Ontology};
@@ -56,7 +56,7 @@ fn shown_of_context<L: LineSink>(
     ensures used { IfOk result (λ numbers. (shown : List (List ℕ)) → EachIsUsed saturation.now shown fact.0 derivation.old derivation.new numbers.items) }
 {
     ontology.well_formed();
-    let fact = saturation.facts()[fact.0 as usize];
+    let fact = fact_of(saturation, fact);
     let numbers = concluded(alloc, derivation, fact, rule(fact), None, Vec::new(alloc))?;
     Ok(numbers)
 }

@@ -8,7 +8,7 @@ ghost use Rattle.std.specs.Prelude.{◌≡◌, ◌↔◌, ℕ, suc, ◌<◌, ◌
 use crate::seeds::Seeds;
 use crate::slots::Slots;
 use axioms::{ExprId, IndId, Memory};
-use facts::{Context, Fact};
+use facts::{Context, Fact, StoredFact};
 use std::alloc::Global;
 
 /// The number of the context. An expression and an individual may have the same.
@@ -51,7 +51,7 @@ fn extend(alloc: Global, homes: &mut Vec<Slots>, home: usize) -> Result<(), Memo
 pub fn make_room(
     alloc: Global,
     seeds: &Seeds,
-    facts: &[Fact],
+    facts: &[StoredFact],
     homes: &mut Vec<Slots>,
     home: usize,
 ) -> Result<(), Memory>
@@ -69,7 +69,7 @@ pub fn make_room(
 #[inline(always)]
 pub fn free_slot(
     seeds: &Seeds,
-    facts: &[Fact],
+    facts: &[StoredFact],
     homes: &[Slots],
     home: usize,
     fact: Fact,
@@ -85,7 +85,7 @@ pub fn free_slot(
 }
 
 /// Whether the fact is there.
-pub fn has(seeds: &Seeds, facts: &[Fact], homes: &[Slots], fact: Fact) -> bool
+pub fn has(seeds: &Seeds, facts: &[StoredFact], homes: &[Slots], fact: Fact) -> bool
     requires slots { HaveSlots homes.now }
     requires found { AreFound seeds.now facts.now homes.now }
     ensures { IsTrue result ↔ Contains facts.now fact }

@@ -9,7 +9,7 @@ ghost use Rattle.std.specs.Prelude.{◌≡◌, ◌↔◌, ℕ, suc, ◌+◌, ◌
 
 use crate::seeds::{Seeds, hash};
 use axioms::Memory;
-use facts::Fact;
+use facts::{Fact, StoredFact};
 use std::alloc::Global;
 
 /// How many buckets there are at least, once there is a fact.
@@ -40,20 +40,20 @@ fn bucket(seeds: &Seeds, count: usize, fact: Fact) -> usize
 
 /// Whether the fact is the one whose place the number is one more than.
 #[inline(always)]
-fn leads_to(facts: &[Fact], number: u32, fact: Fact) -> bool
+fn leads_to(facts: &[StoredFact], number: u32, fact: Fact) -> bool
     requires { 0 < number }
     ensures { (place : ℕ) → number ≡ suc place → IsTrue result ↔ (slice_get facts.now place ≡ Some fact) }
 {
     let place = number as usize - 1;
     if place < facts.len() {
-        return facts[place] == fact;
+        return facts[place].get() == fact;
     }
     false
 }
 
 /// The first free slot from the bucket on, or nothing where the fact stands before it.
 #[inline(always)]
-fn free_slot(facts: &[Fact], numbers: &[u32], bucket: usize, fact: Fact) -> Option<usize>
+fn free_slot(facts: &[StoredFact], numbers: &[u32], bucket: usize, fact: Fact) -> Option<usize>
     requires { bucket ≤ length numbers.now }
     ensures there { IsNone result → Contains facts.now fact }
     ensures free { IfSome result (IsFirstFree numbers.now bucket) }
@@ -107,7 +107,7 @@ fn occupy(numbers: &mut Vec<u32>, slot: usize, number: u32) -> Result<(), Memory
 /// Puts a number into its slot among so many buckets, if it leads to a fact. Fails where memory is refused; then nothing changes.
 fn carry(
     seeds: &Seeds,
-    facts: &[Fact],
+    facts: &[StoredFact],
     wider: &mut Vec<u32>,
     buckets: usize,
     number: u32,
@@ -121,7 +121,7 @@ fn carry(
     if number == 0 || facts.len() < number as usize {
         return Ok(());
     }
-    let bucket = bucket(seeds, buckets, facts[number as usize - 1]);
+    let bucket = bucket(seeds, buckets, facts[number as usize - 1].get());
     let slot = first_free(wider, bucket);
     occupy(wider, slot, number)
 }
@@ -130,7 +130,7 @@ fn carry(
 fn spread(
     alloc: Global,
     seeds: &Seeds,
-    facts: &[Fact],
+    facts: &[StoredFact],
     numbers: &[u32],
     buckets: usize,
 ) -> Result<Vec<u32>, Memory>
@@ -166,7 +166,7 @@ impl Slots {
         &mut self,
         alloc: Global,
         seeds: &Seeds,
-        facts: &[Fact],
+        facts: &[StoredFact],
     ) -> Result<(), Memory>
         requires { self.old.buckets ≤ length self.old.numbers.items }
         ensures holds { (place : ℕ) (fact : AFact) → slice_get facts.now place ≡ Some fact →
@@ -180,7 +180,7 @@ impl Slots {
     }
 
     /// Makes twice as many buckets, or the first. Fails where memory is refused; then nothing changes.
-    fn grow(&mut self, alloc: Global, seeds: &Seeds, facts: &[Fact]) -> Result<(), Memory>
+    fn grow(&mut self, alloc: Global, seeds: &Seeds, facts: &[StoredFact]) -> Result<(), Memory>
         requires { self.old.buckets ≤ length self.old.numbers.items }
         ensures holds { (place : ℕ) (fact : AFact) → slice_get facts.now place ≡ Some fact →
             Holds seeds.now self.old fact place → Holds seeds.now self.new fact place }
@@ -194,7 +194,7 @@ impl Slots {
 
     /// The slot that the fact goes into, or nothing where it is there.
     #[inline(always)]
-    pub(crate) fn free_slot(&self, seeds: &Seeds, facts: &[Fact], fact: Fact) -> Option<usize>
+    pub(crate) fn free_slot(&self, seeds: &Seeds, facts: &[StoredFact], fact: Fact) -> Option<usize>
         requires { self.now.buckets ≤ length self.now.numbers.items }
         ensures there { IsNone result → Contains facts.now fact }
         ensures free { IfSome result (IsFirstFree self.now.numbers.items (bucket_of seeds.now self.now.buckets fact)) }
@@ -205,7 +205,7 @@ impl Slots {
     }
 
     /// Whether the fact stands in its slots.
-    pub(crate) fn has(&self, seeds: &Seeds, facts: &[Fact], fact: Fact) -> bool
+    pub(crate) fn has(&self, seeds: &Seeds, facts: &[StoredFact], fact: Fact) -> bool
         requires { self.now.buckets ≤ length self.now.numbers.items }
         ensures yes { result ≡ true → Contains facts.now fact }
         ensures no { result ≡ false → (place : ℕ) → slice_get facts.now place ≡ Some fact → Holds seeds.now self.now fact place → ⊥ }

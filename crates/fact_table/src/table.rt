@@ -6,7 +6,7 @@ use crate::homes;
 use crate::seeds::Seeds;
 use crate::slots::Slots;
 use axioms::Memory;
-use facts::Fact;
+use facts::{Fact, StoredFact};
 use std::alloc::Global;
 use std::hash::RandomState;
 use std::marker::Model;
@@ -17,7 +17,7 @@ use std::marker::Model;
 pub struct FactTable {
     alloc: Global,
     seeds: Seeds,
-    facts: Vec<Fact>,
+    facts: Vec<StoredFact>,
     // by the number of the context
     homes: Vec<Slots>,
 }
@@ -48,7 +48,7 @@ impl FactTable {
     }
 
     /// The facts, in order.
-    pub fn as_slice(&self) -> &[Fact]
+    pub fn as_slice(&self) -> &[StoredFact]
         ensures value { result.now ≡ self.now }
         ensures few { length result.now < 2 ^ 32 }
         ensures distinct { AreDistinct result.now }
@@ -86,7 +86,7 @@ impl FactTable {
         };
         self.facts.reserve(1)?;
         homes::put(&mut self.homes, home, slot, self.facts.len() as u32 + 1)?;
-        let _ = self.facts.push(fact);
+        let _ = self.facts.push(StoredFact::new(fact));
         Ok(true)
     }
 
@@ -98,7 +98,7 @@ impl FactTable {
     }
 
     /// The facts alone, in order.
-    pub fn into_list(self) -> Vec<Fact>
+    pub fn into_list(self) -> Vec<StoredFact>
         ensures { result.items ≡ self }
     {
         self.facts

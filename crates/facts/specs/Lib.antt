@@ -1,4 +1,5 @@
 pub mod Births
 pub mod Closure
+pub mod Stored
 pub mod Theorems
 pub mod Writes

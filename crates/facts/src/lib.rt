@@ -3,8 +3,10 @@
 
 mod births;
 mod contexts;
+mod stored;
 mod theory;
 
 pub use births::{Birth, FactId, Older};
 pub use contexts::{Context, Fact, class_word, context_word, property_word};
+pub use stored::StoredFact;
 pub use theory::closure;

@@ -6,7 +6,7 @@ ghost use Rattle.std.specs.Prelude.{◌≡◌, ◌↔◌, ◌<◌, ◌^◌, ◌+
 
 use axioms::Memory;
 use fact_table::FactTable;
-use facts::{Birth, Fact};
+use facts::{Birth, Fact, StoredFact};
 use std::alloc::Global;
 use std::hash::RandomState;
 use std::marker::Model;
@@ -58,7 +58,7 @@ impl KnownFacts {
     }
 
     /// The facts, in order of birth.
-    pub fn as_slice(&self) -> &[Fact]
+    pub fn as_slice(&self) -> &[StoredFact]
         ensures value { result.now ≡ self.now.facts }
         ensures few { length result.now < 2 ^ 32 }
     {
@@ -78,7 +78,7 @@ impl KnownFacts {
         requires { number < length self.now.facts }
         ensures { slice_get self.now.facts number ≡ Some result }
     {
-        self.facts.as_slice()[number as usize]
+        self.facts.as_slice()[number as usize].get()
     }
 
     /// What gave the fact of that number.
@@ -90,7 +90,7 @@ impl KnownFacts {
     }
 
     /// The facts, and what gave them, without what finds a fact.
-    pub fn into_lists(self) -> (Vec<Fact>, Vec<Birth>)
+    pub fn into_lists(self) -> (Vec<StoredFact>, Vec<Birth>)
         ensures facts { result.0.items ≡ self.facts }
         ensures births { map reason result.1.items ≡ self.births }
     {

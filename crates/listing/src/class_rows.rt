@@ -13,7 +13,7 @@ use axioms::{ExprId, Memory, Ontology};
 use certificate::ClassRow;
 use elements::Elements;
 use engine::Saturation;
-use facts::Fact;
+use facts::{Fact, StoredFact};
 use listed_text::push_class;
 use normal_forms::Class2;
 use number_sets::OpenLists;
@@ -27,10 +27,10 @@ fn is_own_class(ontology: &Ontology, class: ExprId) -> bool
 }
 
 /// The class, and the element that the fact puts into it, where it puts one into a named class but `owl:Thing` and `owl:Nothing`.
-fn member(ontology: &Ontology, elements: &Elements, fact: &Fact) -> Option<(ExprId, u32)>
+fn member(ontology: &Ontology, elements: &Elements, fact: &StoredFact) -> Option<(ExprId, u32)>
     ensures { MatchOption result ((e m : ℕ) → IsMember ontology.now elements.now fact.now e m → ⊥) (λ p. IsMember ontology.now elements.now fact.now p.0.0 p.1) }
 {
-    match *fact {
+    match fact.get() {
         Fact::In(Class2::Expr(class), context) if is_own_class(ontology, class) => {
             match elements.element(context) {
                 Some(element) => Some((class, element)),
@@ -46,7 +46,7 @@ fn members(
     alloc: Global,
     ontology: &Ontology,
     elements: &Elements,
-    facts: &[Fact],
+    facts: &[StoredFact],
 ) -> Result<OpenLists, Memory>
     requires { AreSatisfiableContexts ontology.now [] elements.now }
     ensures members { IfOk result (λ lists. AreMembers ontology.now elements.now facts.now lists) }

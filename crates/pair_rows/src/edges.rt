@@ -7,7 +7,7 @@ ghost use Rattle.std.specs.Prelude.{◌↔◌, Contains, IfOk, OnOk};
 use crate::pair::Pair;
 use axioms::Memory;
 use elements::Elements;
-use facts::Fact;
+use facts::{Fact, StoredFact};
 use normal_forms::PropId2;
 use property_closure::PropertyClosure;
 use std::alloc::Global;
@@ -64,14 +64,14 @@ pub(crate) fn pairs_of(
     alloc: Global,
     closure: &PropertyClosure,
     elements: &Elements,
-    facts: &[Fact],
+    facts: &[StoredFact],
 ) -> Result<Vec<Pair>, Memory>
     requires { AreDistinct elements.now }
     ensures { IfOk result (λ v. (p : Pair2) → Contains v.items p ↔ IsGiven closure.now elements.now facts.now p) }
 {
     let mut pairs = Vec::new(alloc);
     for fact in facts {
-        add_fact(&mut pairs, closure, elements, *fact)?;
+        add_fact(&mut pairs, closure, elements, fact.get())?;
     }
     Ok(pairs)
 }

@@ -30,7 +30,7 @@ fn flagged(
     let closure = ground.closure();
     let mut flags = Vec::new(alloc);
     for fact in facts.as_slice() {
-        flags.push(asks_for(added, closure, *fact))?;
+        flags.push(asks_for(added, closure, fact.get()))?;
     }
     Ok(flags)
 }

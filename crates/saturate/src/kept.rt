@@ -8,7 +8,7 @@ ghost use Rattle.saturate.specs.State.{AreBorn};
 ghost use Rattle.inference.specs.Working.{IsClosure};
 
 use crate::ground::Ground;
-use facts::{Birth, Fact, FactId};
+use facts::{Birth, FactId, StoredFact};
 use inference::Stop;
 use property_closure::PropertyClosure;
 use std::marker::Model;
@@ -18,7 +18,7 @@ use std::marker::Model;
 #[derive(Drop)]
 pub(crate) struct Kept {
     pub ground: Ground,
-    pub facts: Vec<Fact>,
+    pub facts: Vec<StoredFact>,
     pub births: Vec<Birth>,
 }
 
@@ -44,7 +44,7 @@ impl Kept {
     }
 
     /// The facts, in order of birth.
-    pub fn facts(&self) -> &[Fact]
+    pub fn facts(&self) -> &[StoredFact]
         ensures { result.now ≡ self.now.facts }
     {
         &self.facts

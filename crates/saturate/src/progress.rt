@@ -9,7 +9,7 @@ ghost use Rattle.inference.specs.Working.{IsClosure};
 
 use crate::kept::Kept;
 use crate::state::State;
-use facts::{Birth, Fact, FactId};
+use facts::{Birth, FactId, StoredFact};
 use inference::Stop;
 use property_closure::PropertyClosure;
 use std::marker::Model;
@@ -58,7 +58,7 @@ impl<W: WorkList> Progress<W> {
     }
 
     /// The facts, in order of birth.
-    pub fn facts(&self) -> &[Fact]
+    pub fn facts(&self) -> &[StoredFact]
         ensures { result.now ≡ self.now.facts }
     {
         match &self.stage {

@@ -5,7 +5,7 @@ ghost use Rattle.saturate.specs.Queued.{with_one_more, option_list, HasTurn, IsS
 ghost use Rattle.work_list.specs.Bag.{IsEmpty};
 
 use axioms::Memory;
-use facts::{Context, Fact};
+use facts::{Context, Fact, StoredFact};
 use std::alloc::Global;
 use std::marker::Model;
 use work_list::{Item, WorkList};
@@ -32,8 +32,8 @@ impl<W: WorkList> Model for Queue<W> {
 }
 
 /// The number of a fact's context: expressions have the even ones, and individuals the odd ones.
-fn context_of(fact: &Fact) -> usize {
-    match fact {
+fn context_of(fact: &StoredFact) -> usize {
+    match fact.get() {
         Fact::In(_, x) | Fact::Edge(x, _, _) => match x {
             Context::Expr(id) => 2 * id.0 as usize,
             Context::Individual(id) => 2 * id.0 as usize + 1,
@@ -175,7 +175,7 @@ impl<W: WorkList> Queue<W> {
     }
 
     /// Queues the numbers of all facts.
-    fn fill(&mut self, facts: &[Fact]) -> Result<(), Memory>
+    fn fill(&mut self, facts: &[StoredFact]) -> Result<(), Memory>
         requires few { length facts.now < 2 ^ 32 }
         requires least { self.old.queued ≤ length facts.now }
         ensures most { self.new.queued ≤ length facts.now }
@@ -233,7 +233,7 @@ impl<W: WorkList> Queue<W> {
     }
 
     /// Takes a number in hand, unless one is there.
-    pub fn turn(&mut self, facts: &[Fact]) -> Result<Option<u32>, Memory>
+    pub fn turn(&mut self, facts: &[StoredFact]) -> Result<Option<u32>, Memory>
         requires few { length facts.now < 2 ^ 32 }
         requires least { self.old.queued ≤ length facts.now }
         ensures queued { self.new.queued ≤ length facts.now }

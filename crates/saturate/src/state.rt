@@ -15,7 +15,7 @@ use crate::kept::Kept;
 use crate::queue::Queue;
 use axioms::Memory;
 use fact_index::Index;
-use facts::{Birth, Context, Fact, FactId};
+use facts::{Birth, Context, FactId, StoredFact};
 use inference::{KnownFacts, Rules, Stop, is_filler, stands_second};
 use normal_forms::Form;
 use property_closure::PropertyClosure;
@@ -107,7 +107,7 @@ impl<W: WorkList> State<W> {
     }
 
     /// The facts, in order of birth.
-    pub fn facts(&self) -> &[Fact]
+    pub fn facts(&self) -> &[StoredFact]
         ensures { result.now ≡ self.now.facts }
     {
         self.facts.as_slice()

@@ -6,7 +6,7 @@ use crate::problems::{
     ALL_GO_ON, Born, ONE_ENDS, PROBLEMS, Problem, SUBCLASSES_IN_A_CIRCLE, TWO_SUBCLASSES,
 };
 use axioms::Memory;
-use facts::{Fact, FactId, Older};
+use facts::{FactId, Older, StoredFact};
 use saturate::{State, Stop};
 use std::alloc::Global;
 use std::hash::RandomState;
@@ -159,7 +159,7 @@ fn follows<W: WorkList>(
 
 /// Whether two older facts gave the fact so.
 fn is_born<W: WorkList>(state: &State<W>, born: &Born) -> bool {
-    let Some(place) = state.facts().iter().position(|fact| *fact == born.fact) else {
+    let Some(place) = state.facts().iter().position(|fact| fact.get() == born.fact) else {
         return false;
     };
     let Ok(number) = u32::try_from(place) else {
@@ -176,9 +176,9 @@ fn is_born<W: WorkList>(state: &State<W>, born: &Born) -> bool {
 }
 
 /// Whether the state has the facts of the problem, all served, and each of these.
-fn has_ended<W: WorkList>(state: &State<W>, problem: &Problem, facts: &[Fact]) -> bool {
+fn has_ended<W: WorkList>(state: &State<W>, problem: &Problem, facts: &[StoredFact]) -> bool {
     for fact in facts {
-        if !state.facts().contains(fact) {
+        if !state.facts().iter().any(|known| known.get() == fact.get()) {
             return false;
         }
     }
@@ -196,7 +196,7 @@ fn grows<W: WorkList + Drop>(
     alloc: Global,
     seed: RandomState,
     problem: &Problem,
-    facts: &[Fact],
+    facts: &[StoredFact],
     script: &[Act],
     list: W,
 ) -> Option<u32>
@@ -221,7 +221,7 @@ fn in_any_order(
     alloc: Global,
     seed: RandomState,
     problem: &Problem,
-    facts: &[Fact],
+    facts: &[StoredFact],
     script: &[Act],
 ) -> bool {
     let backwards = Scripted::new(alloc, &[2, 0, 1, 5, 3, 0, 7, 1, 1, 4, 0, 9]);
@@ -237,7 +237,7 @@ fn with_each_push_refused(
     alloc: Global,
     seed: RandomState,
     problem: &Problem,
-    facts: &[Fact],
+    facts: &[StoredFact],
     script: &[Act],
 ) -> bool {
     for push in 1..200 {
@@ -258,7 +258,7 @@ fn with_each_push_refused(
 }
 
 /// Whether every script leads to these facts, by each list of work and with each push refused.
-fn by_each_script(alloc: Global, seed: RandomState, problem: &Problem, facts: &[Fact]) -> bool {
+fn by_each_script(alloc: Global, seed: RandomState, problem: &Problem, facts: &[StoredFact]) -> bool {
     for script in SCRIPTS {
         if !in_any_order(alloc, seed, problem, facts, script)
             || !with_each_push_refused(alloc, seed, problem, facts, script)

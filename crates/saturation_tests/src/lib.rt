@@ -19,3 +19,5 @@ mod problems;
 mod properties;
 #[cfg(test)]
 mod seconds;
+#[cfg(test)]
+mod stored_facts;

@@ -33,7 +33,7 @@ fn times_listed<W: WorkList>(state: &State<W>, number: usize, fact: Fact) -> Opt
 fn lists_served<W: WorkList>(state: &State<W>) -> bool {
     let mut many: usize = 0;
     for (number, fact) in state.facts().iter().enumerate() {
-        match times_listed(state, number, *fact) {
+        match times_listed(state, number, fact.get()) {
             Some(0) => {}
             Some(1) => many = many.saturating_add(1),
             _ => return false,

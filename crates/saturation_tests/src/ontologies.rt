@@ -93,7 +93,7 @@ const ROWS: &[Row] = &[
 /// Whether the facts are these and no others, where none of these stands twice.
 fn has_exactly(saturation: &Saturation, facts: &[Fact]) -> bool {
     for fact in facts {
-        if !saturation.facts().contains(fact) {
+        if !saturation.facts().iter().any(|known| known.get() == *fact) {
             return false;
         }
     }

@@ -26,9 +26,6 @@ use Rattle.fact_lines.proofs.by_axiom.shown_by_axiom.Goals as goal
 abbrev no_form : Form
 no_form = forms.N1 (classes.Expr (record { 0 = 0 })) (classes.Expr (record { 0 = 0 }))
 
-abbrev no_fact : Fact
-no_fact = facts.In (classes.Expr (record { 0 = 0 })) (contexts.Expr (record { 0 = 0 }))
-
 pub unreachable-requires-in_default-axiom : goal.unreachable-requires-in_default-axiom
 unreachable-requires-in_default-axiom g c =
     let s = c.args.saturation.now in
@@ -67,16 +64,16 @@ premises-requires-clause-below g c fs at_fs =
     rests_lead_up c.args.ontology.now s c.requires.saturated c.args.fact.0 (reason c.args.birth.now) c.requires.birth c.in-Some.form (sym c.in-Some.ensures) c.args.number origin (get_or c.forms.result.now c.in-Some.form no_form) f at_form at fs
     (ap (map (slice_get s.state.facts)) (sym (rests g c)) ∙ at_fs)
 
-leading : (g : Over) (c : goal.In_ok-numbers-2 g) → LeadTo c.args.ontology.now (beginnings_of c.args.saturation.now.normal) c.premises.new.derivation c.rule.result (Some c.args.number) c.in_ok-numbers.numbers.items (get_or c.facts.result.now c.args.fact.0 no_fact)
+leading : (g : Over) (c : goal.In_ok-numbers-2 g) → LeadTo c.args.ontology.now (beginnings_of c.args.saturation.now.normal) c.premises.new.derivation c.rule.result (Some c.args.number) c.in_ok-numbers.numbers.items c.fact_of-fact.result
 leading g c =
     let o = c.args.ontology.now in
     let s = c.args.saturation.now in
-    let f = get_or c.facts.result.now c.args.fact.0 no_fact in
+    let f = c.fact_of-fact.result in
     let origin = origin_of_form s.normal.entries (reason c.args.birth.now).form c.in-Some.form (origins.Axiom c.args.number) c.requires.origin (sym c.in-Some.ensures) in
     let at_form = form_read c.args.ontology.now s c.in-Some.form (origins.Axiom c.args.number) c.forms.result.now no_form c.requires.saturated origin (c.forms.ensures ∙ ap (λ v. map form_in v.entries) c.normal.ensures) in
     let stated : at_number o.axioms c.args.number ≡ Some (axiom_of c.in-Some-axiom.stated.now) = sym c.axiom.ensures ∙ ap (option_map (λ a. axiom_of a.now)) c.in-Some-axiom.is in
     let to = leads_to o s c.requires.saturated c.args.fact.0 (reason c.args.birth.now) c.requires.birth c.in-Some.form (sym c.in-Some.ensures) c.args.number origin (get_or c.forms.result.now c.in-Some.form no_form) at_form
-    c.well_formed-2.ensures (axiom_of c.in-Some-axiom.stated.now) stated f (read_in s.state.facts c.facts.result.now c.args.fact.0 no_fact c.facts.ensures c.requires.there) c.premises.new.derivation c.in_ok-numbers.numbers.items
+    c.well_formed-2.ensures (axiom_of c.in-Some-axiom.stated.now) stated f c.fact_of-fact.ensures c.premises.new.derivation c.in_ok-numbers.numbers.items
     (λ fs at. c.in_ok-numbers.ensures.shown fs (ap (map (slice_get s.state.facts)) (c.rests_on-older.ensures ∙ ap (λ v. rests_on v.entries (reason c.args.birth.now)) c.normal-2.ensures) ∙ at)) in
     subst (λ (rule : Rule). LeadTo o (beginnings_of s.normal) c.premises.new.derivation rule (Some c.args.number) c.in_ok-numbers.numbers.items f) (sym c.rule.ensures) to
 
@@ -86,7 +83,7 @@ returns-clause-derivation g c = c.in_ok-numbers-2.ensures.derivation c.args.onto
 pub returns-clause-shown : goal.returns-clause-shown
 returns-clause-shown g c f at =
     let s = c.args.saturation.now in
-    let same = same_Some (get_or c.facts.result.now c.args.fact.0 no_fact) f (sym (read_in s.state.facts c.facts.result.now c.args.fact.0 no_fact c.facts.ensures c.requires.there) ∙ at) in
+    let same = same_Some c.fact_of-fact.result f (sym c.fact_of-fact.ensures ∙ at) in
     subst (AreShowing (beginnings_of s.normal) c.concluded.new.derivation c.in_ok-numbers-2.numbers.items) same
     (c.in_ok-numbers-2.ensures.shown c.args.ontology.now (beginnings_of s.normal) (leading g c))
 

@@ -32,7 +32,7 @@ premises-requires-clause-below g c fs at =
 pub returns-clause-derivation : goal.returns-clause-derivation
 returns-clause-derivation g c =
     let facts = c.args.saturation.now.state.facts in
-    let read = read_there facts c.facts.result.now c.args.fact.0 _ _ c.facts.ensures c.requires.there refl in
+    let read = c.fact_of-fact.ensures in
     let born = born_by_expression c.args.ontology.now c.args.saturation.now c.well_formed-2.ensures c.requires.saturated c.args.fact.0 (reason c.args.birth.now) c.requires.birth _ read c.in-Some.number c.args.whole (sym c.in-Some.ensures) c.requires.origin c.forms.result.now _ (c.forms.ensures ∙ ap (λ (v : Listing). map form_in v.entries) c.normal.ensures) in
     let b = beginnings_of c.args.saturation.now.normal in
     let leads = same_rule c.rule.ensures (born.lead_to c.premises.new.derivation c.in_ok-numbers.numbers.items (λ fs at. c.in_ok-numbers.ensures.shown fs (ap (map (slice_get facts)) c.older.ensures ∙ at))) in
@@ -41,7 +41,7 @@ returns-clause-derivation g c =
 pub returns-clause-shown : goal.returns-clause-shown
 returns-clause-shown g c f there =
     let facts = c.args.saturation.now.state.facts in
-    let read = read_there facts c.facts.result.now c.args.fact.0 _ _ c.facts.ensures c.requires.there refl in
+    let read = c.fact_of-fact.ensures in
     let born = born_by_expression c.args.ontology.now c.args.saturation.now c.well_formed-2.ensures c.requires.saturated c.args.fact.0 (reason c.args.birth.now) c.requires.birth _ read c.in-Some.number c.args.whole (sym c.in-Some.ensures) c.requires.origin c.forms.result.now _ (c.forms.ensures ∙ ap (λ (v : Listing). map form_in v.entries) c.normal.ensures) in
     let b = beginnings_of c.args.saturation.now.normal in
     let leads = same_rule c.rule.ensures (born.lead_to c.premises.new.derivation c.in_ok-numbers.numbers.items (λ fs at. c.in_ok-numbers.ensures.shown fs (ap (map (slice_get facts)) c.older.ensures ∙ at))) in

@@ -14,14 +14,14 @@ use Rattle.fact_lines.proofs.premises.led_up.Goals.{in_default-via-in-Edge+in_de
 pub lifted-requires-clause-below : goal.lifted-requires-clause-below
 lifted-requires-clause-below g c =
     let facts = c.args.saturation.now.state.facts in
-    let there = read_there facts _ c.args.older.0 _ _ c.facts.ensures c.requires.there c.in-Edge-Some.is-0 in
+    let there = c.fact_of.ensures ∙ ap (λ g. Some g) c.in-Edge-Some.is-0 in
     subst (λ p. LeadsUp c.args.saturation.now.state.problem.forms p (Edge c.in-Edge-Some.source c.in-Edge-Some.below c.in-Edge-Some.target)) c.in-Edge-Some.is-1
     (c.requires.below _ there)
 
 pub returns-in_ok-numbers-in-Edge-Some-clause-shown : goal.returns-in_ok-numbers-in-Edge-Some-clause-shown
 returns-in_ok-numbers-in-Edge-Some-clause-shown g c f there =
     let facts = c.args.saturation.now.state.facts in
-    let read = read_there facts _ c.args.older.0 _ _ c.facts.ensures c.requires.there c.in-Edge-Some.is-0 in
+    let read = c.fact_of.ensures ∙ ap (λ g. Some g) c.in-Edge-Some.is-0 in
     let P : Option PropId2 → Fact → Type 0 = λ p g. AreShowing (beginnings_of c.args.saturation.now.normal) c.lifted.new.derivation c.in_ok-numbers-in-Edge-Some.numbers.items (led_up p g) in
     subst (λ p. P p f) (sym c.in-Edge-Some.is-1)
     (subst (P (Some c.in-Edge-Some.above)) (same_Some _ f (sym read ∙ there)) c.in_ok-numbers-in-Edge-Some.ensures.shown)
@@ -32,7 +32,7 @@ returns-in_ok-numbers-in_default-clause-shown g c f there =
     let stays : led_up c.args.property f ≡ f =
     elim c.in_default.branch [
       | in_default-via-in-Edge+in_default w ↦ ap (λ p. led_up p f) w.in_default.is-1
-      | in_default-via-in_default w ↦ class_stays c.args.property _ _ f (same_Some f _ (sym there ∙ read_there facts _ c.args.older.0 _ _ c.facts.ensures c.requires.there w.in_default.is-0))
+      | in_default-via-in_default w ↦ class_stays c.args.property _ _ f (same_Some f _ (sym there ∙ c.fact_of.ensures ∙ ap (λ g. Some g) w.in_default.is-0))
     ] in
     let P : List ℕ → Fact → Type 0 = AreShowing (beginnings_of c.args.saturation.now.normal) c.args.derivation.now in
     subst (P c.in_ok-numbers-in_default.numbers.items) (sym stays)

@@ -15,16 +15,12 @@ use Rattle.fact_lines.proofs.Leading.{read_in}
 use Rattle.fact_lines.proofs.showing.shown_of_context.Given.{Over}
 use Rattle.fact_lines.proofs.showing.shown_of_context.Goals as goal
 
--- what is read where nothing is
-abbrev no_fact : Fact
-no_fact = facts.In (classes.Expr (record { 0 = 0 })) (contexts.Expr (record { 0 = 0 }))
-
-leading : (g : Over) (c : goal.In_ok-numbers g) → LeadTo c.args.ontology.now (beginnings_of c.args.saturation.now.normal) c.args.derivation.now c.rule.result None c.new.result.items (get_or c.facts.result.now c.args.fact.0 no_fact)
+leading : (g : Over) (c : goal.In_ok-numbers g) → LeadTo c.args.ontology.now (beginnings_of c.args.saturation.now.normal) c.args.derivation.now c.rule.result None c.new.result.items c.fact_of-fact.result
 leading g c =
     let o = c.args.ontology.now in
     let s = c.args.saturation.now in
-    let f = get_or c.facts.result.now c.args.fact.0 no_fact in
-    let at = read_in s.state.facts c.facts.result.now c.args.fact.0 no_fact c.facts.ensures c.requires.there in
+    let f = c.fact_of-fact.result in
+    let at = c.fact_of-fact.ensures in
     let to = context_leads o s c.requires.saturated c.args.fact.0 (reason c.args.birth.now) c.requires.birth f at c.well_formed-2.ensures c.requires.form c.requires.condition c.args.derivation.now in
     subst (λ (ns : List ℕ). LeadTo o (beginnings_of s.normal) c.args.derivation.now c.rule.result None ns f) (sym c.new.ensures.items)
     (subst (λ (rule : Rule). LeadTo o (beginnings_of s.normal) c.args.derivation.now rule None [] f) (sym c.rule.ensures) to)
@@ -35,13 +31,13 @@ returns-clause-derivation g c = c.in_ok-numbers.ensures.derivation c.args.ontolo
 pub returns-clause-shown : goal.returns-clause-shown
 returns-clause-shown g c f at =
     let s = c.args.saturation.now in
-    let same = same_Some (get_or c.facts.result.now c.args.fact.0 no_fact) f (sym (read_in s.state.facts c.facts.result.now c.args.fact.0 no_fact c.facts.ensures c.requires.there) ∙ at) in
+    let same = same_Some c.fact_of-fact.result f (sym c.fact_of-fact.ensures ∙ at) in
     subst (AreShowing (beginnings_of s.normal) c.concluded.new.derivation c.in_ok-numbers.numbers.items) same
     (c.in_ok-numbers.ensures.shown c.args.ontology.now (beginnings_of s.normal) (leading g c))
 
 pub returns-clause-used : goal.returns-clause-used
 returns-clause-used g c shown =
     let s = c.args.saturation.now in
-    let at = read_in s.state.facts c.facts.result.now c.args.fact.0 no_fact c.facts.ensures c.requires.there in
+    let at = c.fact_of-fact.ensures in
     let rests = rests_on_none c.args.ontology.now s c.requires.saturated c.args.fact.0 (reason c.args.birth.now) c.requires.birth _ at c.requires.form c.requires.condition in
     used_of_none s shown c.args.fact.0 (reason c.args.birth.now) c.requires.birth rests c.args.derivation.now c.concluded.new.derivation c.new.result.items c.in_ok-numbers.numbers.items c.in_ok-numbers.ensures.used

@@ -61,7 +61,7 @@ invariant_of-self-2 c =
     let absent : Contains facts c.args.fact → ⊥ = λ there. true≢false ((rw (c.deref-2.ensures.value) at c.in-Some.ensures.there).1 there) in
     let free : IsFreeFor c.self.inside.seeds homes c.args.fact c.in-Some.slot = rw c.deref-3.ensures.value at c.in-Some.ensures.free in
     let found : AreFound c.self.inside.seeds facts homes = rw c.deref.ensures.value at c.make_room.ensures.found in
-    let pushed : c.push.new.self.items ≡ facts ++ c.args.fact ∷ [] = pushes c.push.result _ _ _ (c.push.ensures.succeeds (omega (arith, c.in_ok-reserve.ensures.ok))) c.push.ensures.items ∙ ap (λ l. l ++ c.args.fact ∷ []) c.reserve.ensures.items in
+    let pushed : c.push.new.self.items ≡ facts ++ c.args.fact ∷ [] = pushes c.push.result _ _ _ (c.push.ensures.succeeds (omega (arith, c.in_ok-reserve.ensures.ok))) c.push.ensures.items ∙ ap (λ f. c.reserve.new.self.items ++ f ∷ []) c.new.ensures ∙ ap (λ l. l ++ c.args.fact ∷ []) c.reserve.ensures.items in
     rw pushed (table_push c.self.inside.seeds facts c.put.new.homes.items c.args.fact short c.self.invariant.distinct absent c.put.ensures.slots
     (λ place fact at. c.put.ensures.found c.self.inside.seeds fact place (found place fact at))
     (c.in_ok-put.ensures.stands c.self.inside.seeds c.args.fact (length facts) (sym c.home_of-home.ensures) (omega (arith, c.len.ensures, c.reserve.ensures.len, c.self.inside.facts.ok.0)) free))
