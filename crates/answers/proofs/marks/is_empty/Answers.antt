@@ -10,7 +10,7 @@ loop-fact-preserved c =
     let o = c.args.ontology.now in
     let facts = c.args.facts.now in
     let there = slice_get-get_or facts c.loop-fact.fact-index _ c.loop-fact-test.true in
-    none_more (λ fact. PutsBelow o fact c.args.class nothing_class) facts c.loop-fact.fact-index _ there c.is_below_nothing.result c.is_below_nothing.ensures c.if-is_below_nothing.false c.loop-fact.invariant
+    none_more (λ fact. PutsBelow o fact c.args.class nothing_class) facts c.loop-fact.fact-index _ there c.is_below_nothing.result (rw c.fact-item.is at c.is_below_nothing.ensures) c.if-is_below_nothing.false c.loop-fact.invariant
 
 pub returns : goal.returns
 returns c = (

@@ -15,4 +15,4 @@ loop-fact-preserved c =
     let facts = c.args.facts.now in
     let there = slice_get-get_or facts c.loop-fact.fact-index _ c.loop-fact-test.true in
     lists_more (PutsInto o) (length o.names.individuals) facts c.loop-fact.fact-index _ there c.loop-fact.lists c.put_into.new.lists
-    c.loop-fact.invariant c.in_ok-put_into.ensures
+    c.loop-fact.invariant (rw c.fact-item.is at c.in_ok-put_into.ensures)

@@ -12,10 +12,10 @@ loop-fact-preserved c =
     elim c.match-context_with.branch [
       | in-Some w ↦
           subst (HasMarked o facts c.args.class (k + 1)) (sym (w.set-is ∙ w.put.ensures))
-          (one_marked o facts c.args.class k _ set w.in-Some.context c.loop-fact-test.true c.requires ((c.context_with.ensures w.in-Some.context).0 w.in-Some.is) c.loop-fact.invariant)
+          (one_marked o facts c.args.class k _ set w.in-Some.context c.loop-fact-test.true c.requires ((rw c.fact-item.is at c.context_with.ensures w.in-Some.context).0 w.in-Some.is) c.loop-fact.invariant)
       | in_default w ↦
           subst (HasMarked o facts c.args.class (k + 1)) (sym w.set-is)
-          (other_marked o facts c.args.class k _ set c.loop-fact-test.true (λ x is. w.in_default.not-Some x ((c.context_with.ensures x).1 is)) c.loop-fact.invariant)
+          (other_marked o facts c.args.class k _ set c.loop-fact-test.true (λ x is. w.in_default.not-Some x ((rw c.fact-item.is at c.context_with.ensures x).1 is)) c.loop-fact.invariant)
     ]
 
 pub returns : goal.returns

@@ -4,7 +4,7 @@ use Rattle.pair_rows.proofs.edges.pairs_of.Goals as goal
 pub loop-fact-preserved : goal.loop-fact-preserved
 loop-fact-preserved c =
     more_given c.args.closure.now c.args.elements.now c.args.facts.now c.loop-fact.fact-index _ c.loop-fact.pairs.items c.add_fact.new.pairs.items
-    c.loop-fact-test.true c.loop-fact.invariant c.in_ok-add_fact.ensures
+    c.loop-fact-test.true c.loop-fact.invariant (rw (c.get.ensures, c.fact-item.is) at c.in_ok-add_fact.ensures)
 
 pub returns : goal.returns
 returns c = λ p.
