@@ -39,7 +39,11 @@ fn put_below(ontology: &Ontology, lists: &mut OpenLists, fact: &StoredFact) -> R
 }
 
 /// For each class the list of the classes that a fact puts above it.
-fn class_lists(alloc: Global, ontology: &Ontology, facts: &[StoredFact]) -> Result<PackedLists, Memory>
+fn class_lists(
+    alloc: Global,
+    ontology: &Ontology,
+    facts: &[StoredFact],
+) -> Result<PackedLists, Memory>
     ensures { IfOk result (λ lists. AreClassLists ontology.now facts.now lists) }
 {
     let mut lists = OpenLists::new(alloc, ontology.classes().len())?;

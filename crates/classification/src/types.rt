@@ -38,7 +38,11 @@ fn put_into(ontology: &Ontology, lists: &mut OpenLists, fact: &StoredFact) -> Re
 }
 
 /// For each individual the list of the classes that a fact puts it into.
-fn type_lists(alloc: Global, ontology: &Ontology, facts: &[StoredFact]) -> Result<PackedLists, Memory>
+fn type_lists(
+    alloc: Global,
+    ontology: &Ontology,
+    facts: &[StoredFact],
+) -> Result<PackedLists, Memory>
     requires { All (IsAboutIndividualOf ontology.now) facts.now }
     ensures { IfOk result (λ lists. AreTypeLists ontology.now facts.now lists) }
 {

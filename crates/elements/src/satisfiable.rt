@@ -1,5 +1,4 @@
 //! Which contexts are satisfiable.
-ghost use Rattle.axioms.specs.declared.ids.ExprId.{ExprId as ExprId2};
 ghost use Rattle.closure.specs.Closure.{Context as Context2};
 ghost use Rattle.closure_model.specs.Listed.{IsSatisfiable};
 ghost use Rattle.elements.specs.Elements.{context_of};

@@ -159,7 +159,11 @@ fn follows<W: WorkList>(
 
 /// Whether two older facts gave the fact so.
 fn is_born<W: WorkList>(state: &State<W>, born: &Born) -> bool {
-    let Some(place) = state.facts().iter().position(|fact| fact.get() == born.fact) else {
+    let Some(place) = state
+        .facts()
+        .iter()
+        .position(|fact| fact.get() == born.fact)
+    else {
         return false;
     };
     let Ok(number) = u32::try_from(place) else {
@@ -258,7 +262,12 @@ fn with_each_push_refused(
 }
 
 /// Whether every script leads to these facts, by each list of work and with each push refused.
-fn by_each_script(alloc: Global, seed: RandomState, problem: &Problem, facts: &[StoredFact]) -> bool {
+fn by_each_script(
+    alloc: Global,
+    seed: RandomState,
+    problem: &Problem,
+    facts: &[StoredFact],
+) -> bool {
     for script in SCRIPTS {
         if !in_any_order(alloc, seed, problem, facts, script)
             || !with_each_push_refused(alloc, seed, problem, facts, script)

@@ -5,7 +5,6 @@ use Rattle.axioms.specs.View.{at_number, axiom_of}
 use Rattle.certificate.specs.declared.line.Rule.{Rule}
 use Rattle.facts.specs.Births.{reason, numbers_of}
 use Rattle.facts.specs.declared.contexts.Context.TheVariants as contexts
-use Rattle.facts.specs.declared.contexts.Fact.{Fact}
 use Rattle.facts.specs.declared.contexts.Fact.TheVariants as facts
 use Rattle.normal_forms.specs.declared.forms.Class2.TheVariants as classes
 use Rattle.normal_forms.specs.declared.forms.Form.{Form}
@@ -18,7 +17,7 @@ use Rattle.fact_lines.specs.Step.{LeadTo}
 use Rattle.fact_lines.specs.Shown.{AreShowing}
 use Rattle.fact_lines.proofs.Births.{rests_there, rests_lead_up}
 use Rattle.fact_lines.proofs.Used.{used_by_fact}
-use Rattle.fact_lines.proofs.Leading.{origin_of_form, read_in, form_inside, form_read, axiom_there, leads_to}
+use Rattle.fact_lines.proofs.Leading.{origin_of_form, form_inside, form_read, axiom_there, leads_to}
 use Rattle.fact_lines.proofs.by_axiom.shown_by_axiom.Given.{Over}
 use Rattle.fact_lines.proofs.by_axiom.shown_by_axiom.Goals as goal
 

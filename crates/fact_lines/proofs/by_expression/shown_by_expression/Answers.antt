@@ -1,9 +1,8 @@
-use Rattle.std.proofs.Common.{ℕ, ◌<◌, List, length, map, slice_get, refl, ap, sym, ◌∙◌, subst, Contains}
+use Rattle.std.proofs.Common.{ℕ, ◌<◌, List, length, map, slice_get, ap, sym, ◌∙◌, subst, Contains}
 use Rattle.std.proofs.lemmas.Option.{same_Some}
 use Rattle.lemmas.proofs.Places.{slice_get_there}
 use Rattle.fact_lines.proofs.BornByExpression.{born_by_expression, rests_on_all, older_there}
 use Rattle.fact_lines.proofs.ByExpression.{same_rule}
-use Rattle.fact_lines.proofs.Reading.{read_there}
 use Rattle.fact_lines.proofs.Used.{used_by_fact}
 use Rattle.fact_lines.specs.Shown.{AreShowing}
 use Rattle.facts.specs.Births.{reason}

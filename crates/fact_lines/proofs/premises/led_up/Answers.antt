@@ -1,6 +1,6 @@
 use Rattle.std.proofs.Common.{◌≡◌, List, ℕ, Option, Some, sym, ap, ◌∙◌, subst}
 use Rattle.std.proofs.lemmas.Option.{same_Some}
-use Rattle.fact_lines.proofs.Reading.{read_there, class_stays}
+use Rattle.fact_lines.proofs.Reading.{class_stays}
 use Rattle.fact_lines.specs.Premises.{LeadsUp, led_up}
 use Rattle.fact_lines.specs.Serving.{IsAmong, Uses}
 use Rattle.fact_lines.specs.Shown.{AreShowing}

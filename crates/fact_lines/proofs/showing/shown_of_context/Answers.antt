@@ -1,9 +1,8 @@
-use Rattle.std.proofs.Common.{◌∙◌, [], ℕ, List, None, get_or, sym, subst}
+use Rattle.std.proofs.Common.{◌∙◌, [], ℕ, List, None, sym, subst}
 use Rattle.std.proofs.lemmas.Option.{same_Some}
 use Rattle.certificate.specs.declared.line.Rule.{Rule}
 use Rattle.facts.specs.Births.{reason}
 use Rattle.facts.specs.declared.contexts.Context.TheVariants as contexts
-use Rattle.facts.specs.declared.contexts.Fact.{Fact}
 use Rattle.facts.specs.declared.contexts.Fact.TheVariants as facts
 use Rattle.normal_forms.specs.declared.forms.Class2.TheVariants as classes
 use Rattle.problem.specs.Made.{beginnings_of}
@@ -11,7 +10,6 @@ use Rattle.fact_lines.specs.Shown.{AreShowing}
 use Rattle.fact_lines.specs.Step.{LeadTo}
 use Rattle.fact_lines.proofs.Formless.{context_leads, rests_on_none}
 use Rattle.fact_lines.proofs.Used.{used_of_none}
-use Rattle.fact_lines.proofs.Leading.{read_in}
 use Rattle.fact_lines.proofs.showing.shown_of_context.Given.{Over}
 use Rattle.fact_lines.proofs.showing.shown_of_context.Goals as goal
 
