@@ -1,5 +1,7 @@
-//! Tests of ontologies and their builder.
+//! Tests of ontologies and their builder, and of the hasher of their tables.
 #![tactic(auto)]
 
+#[cfg(test)]
+mod hashers;
 #[cfg(test)]
 mod tests;
