@@ -3,7 +3,7 @@ ghost use Rattle.fact_table.specs.Slots.{home_of, AreFound, HaveSlots, IsFound, 
 ghost use Rattle.fact_table.specs.declared.seeds.Seeds.{Seeds as TheSeeds};
 ghost use Rattle.fact_table.specs.declared.slots.Slots.{Slots as TheSlots};
 ghost use Rattle.facts.specs.declared.contexts.Fact.{Fact as AFact};
-ghost use Rattle.std.specs.Prelude.{◌≡◌, ◌↔◌, ℕ, suc, ◌<◌, ◌≤◌, [], length, slice_get, Contains, IfSome, IsNone, IsTrue, OnOk, Some};
+ghost use Rattle.std.specs.Prelude.{◌≡◌, ◌↔◌, ℕ, suc, ◌<◌, ◌≤◌, [], length, slice_get, Contains, IfSome, IsNone, OnOk, Some};
 
 use crate::seeds::Seeds;
 use crate::slots::Slots;
@@ -84,17 +84,18 @@ pub fn free_slot(
     homes[home].free_slot(seeds, facts, fact)
 }
 
-/// Whether the fact is there.
-pub fn has(seeds: &Seeds, facts: &[StoredFact], homes: &[Slots], fact: Fact) -> bool
+/// The place of the fact, if it is there.
+pub fn find(seeds: &Seeds, facts: &[StoredFact], homes: &[Slots], fact: Fact) -> Option<u32>
     requires slots { HaveSlots homes.now }
     requires found { AreFound seeds.now facts.now homes.now }
-    ensures { IsTrue result ↔ Contains facts.now fact }
+    ensures there { IfSome result (λ place. slice_get facts.now place ≡ Some fact) }
+    ensures none { IsNone result → Contains facts.now fact → ⊥ }
 {
     let home = home_of(fact);
     if home < homes.len() {
-        return homes[home].has(seeds, facts, fact);
+        return homes[home].find(seeds, facts, fact);
     }
-    false
+    None
 }
 
 /// Puts a number into a free slot of a home. Fails where memory is refused; each fact is found as before.

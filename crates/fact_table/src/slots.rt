@@ -73,6 +73,26 @@ fn free_slot(facts: &[StoredFact], numbers: &[u32], bucket: usize, fact: Fact) -
     Some(slot)
 }
 
+/// The place of the fact, where its number stands from the bucket on with no free slot before it.
+fn place_of(facts: &[StoredFact], numbers: &[u32], bucket: usize, fact: Fact) -> Option<u32>
+    requires { bucket ≤ length numbers.now }
+    ensures there { IfSome result (λ place. slice_get facts.now place ≡ Some fact) }
+    ensures absent { IsNone result → (place : ℕ) → slice_get facts.now place ≡ Some fact → Stands numbers.now bucket (suc place) → ⊥ }
+{
+    let mut slot = bucket;
+    while slot < numbers.len() {
+        let number = numbers[slot];
+        if number == 0 {
+            return None;
+        }
+        if leads_to(facts, number, fact) {
+            return Some(number - 1);
+        }
+        slot += 1;
+    }
+    None
+}
+
 /// The first free slot from the bucket on.
 #[inline(always)]
 fn first_free(numbers: &[u32], bucket: usize) -> usize
@@ -204,13 +224,14 @@ impl Slots {
         free_slot(facts, &self.numbers, bucket, fact)
     }
 
-    /// Whether the fact stands in its slots.
-    pub(crate) fn has(&self, seeds: &Seeds, facts: &[StoredFact], fact: Fact) -> bool
+    /// The place of the fact, where it stands in its slots.
+    pub(crate) fn find(&self, seeds: &Seeds, facts: &[StoredFact], fact: Fact) -> Option<u32>
         requires { self.now.buckets ≤ length self.now.numbers.items }
-        ensures yes { result ≡ true → Contains facts.now fact }
-        ensures no { result ≡ false → (place : ℕ) → slice_get facts.now place ≡ Some fact → Holds seeds.now self.now fact place → ⊥ }
+        ensures there { IfSome result (λ place. slice_get facts.now place ≡ Some fact) }
+        ensures absent { IsNone result → (place : ℕ) → slice_get facts.now place ≡ Some fact → Holds seeds.now self.now fact place → ⊥ }
     {
-        self.free_slot(seeds, facts, fact).is_none()
+        let bucket = bucket(seeds, self.buckets as usize, fact);
+        place_of(facts, &self.numbers, bucket, fact)
     }
 
     /// Puts a number into a free slot. Fails where memory is refused; then nothing changes.

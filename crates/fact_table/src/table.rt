@@ -1,6 +1,6 @@
 //! Facts in order, each once, found by their hashes.
 ghost use Rattle.axioms.specs.WellFormed.{AreDistinct};
-ghost use Rattle.std.specs.Prelude.{◌≡◌, ◌↔◌, ◌<◌, ◌^◌, ◌++◌, ◌∷◌, [], true, false, length, take, Contains, Ok, IsTrue, OnErr};
+ghost use Rattle.std.specs.Prelude.{◌≡◌, ◌↔◌, ◌<◌, ◌^◌, ◌++◌, ◌∷◌, [], true, false, length, take, Contains, Ok, IfSome, IsNone, OnErr, Some, slice_get};
 
 use crate::homes;
 use crate::seeds::Seeds;
@@ -64,11 +64,12 @@ impl FactTable {
         self.facts.len()
     }
 
-    /// Whether the fact is there.
-    pub fn contains(&self, fact: &Fact) -> bool
-        ensures { IsTrue result ↔ Contains self.now fact.now }
+    /// The place of the fact, if it is there.
+    pub fn find(&self, fact: Fact) -> Option<u32>
+        ensures there { IfSome result (λ place. slice_get self.now place ≡ Some fact) }
+        ensures none { IsNone result → Contains self.now fact → ⊥ }
     {
-        homes::has(&self.seeds, &self.facts, &self.homes, *fact)
+        homes::find(&self.seeds, &self.facts, &self.homes, fact)
     }
 
     /// Adds a fact at the end, unless it is there, and says whether it was added. Fails where memory is refused; then the facts are

@@ -10,9 +10,9 @@ use Rattle.facts.specs.declared.contexts.Fact.{Fact}
 use Rattle.facts.specs.declared.contexts.Fact.TheVariants.{In, Edge}
 use Rattle.facts.specs.Closure.{Problem, FromTwo, Carries, in_thing, in_itself, by_form, unsatisfiable, loop, nothing}
 use Rattle.form_index.specs.Named.{class_key, property_key, by_first, by_second, by_filler, by_chain}
-use Rattle.inference.specs.Visited.{GiveNothing, NoneUnder, IsEdge, IsBy, IsClassFact, IsNotCarried}
+use Rattle.inference.specs.Visited.{GiveNothing, NoneUnder, IsEdge, IsBy, IsNotCarried}
 use Rattle.inference.specs.Derived.{Derived}
-use Rattle.inference.specs.Working.{DrawnButSpared, MeetEachOther}
+use Rattle.inference.specs.Working.{DrawnButSpared}
 
 -- two facts give something by a form, or owl:Nothing is carried back
 by_form_or_back : (k : Problem) (f g : Fact) → ((n : ℕ) (form : Form) (h : Fact) → slice_get k.forms n ≡ Some form → FromTwo k form f g h → ⊥) → ((h : Fact) → Carries f g h → ⊥) → GiveNothing k f g
@@ -23,7 +23,7 @@ by_form_or_back k f g forms back _ _ h (unsatisfiable b) = back h b
 by_form_or_back k f g forms back _ _ h (loop x n form at l c) = c
 
 -- a form that gives something from two classes in a context has them as operands
-first_operand : (k : Problem) (form : Form) (a b : Class2) (x y : Context) (h : Fact) → FromTwo k form (In a x) (In b y) h → by_first form ≡ Some (class_key a)
+pub first_operand : (k : Problem) (form : Form) (a b : Class2) (x y : Context) (h : Fact) → FromTwo k form (In a x) (In b y) h → by_first form ≡ Some (class_key a)
 first_operand k (N1 _ _) a b x y h w = absurd w
 first_operand k (N2 _ _ _) a b x y h w = ap (λ d. Some (class_key d)) (sym w.0)
 first_operand k (N3 _ _ _) a b x y h w = absurd w
@@ -34,7 +34,7 @@ first_operand k (N7 _) a b x y h w = absurd w
 first_operand k (N8 _ _) a b x y h w = absurd w
 first_operand k (N9 _ _ _) a b x y h w = absurd w
 
-second_operand : (k : Problem) (form : Form) (a b : Class2) (x y : Context) (h : Fact) → FromTwo k form (In a x) (In b y) h → by_second form ≡ Some (class_key b)
+pub second_operand : (k : Problem) (form : Form) (a b : Class2) (x y : Context) (h : Fact) → FromTwo k form (In a x) (In b y) h → by_second form ≡ Some (class_key b)
 second_operand k (N1 _ _) a b x y h w = absurd w
 second_operand k (N2 _ _ _) a b x y h w = ap (λ d. Some (class_key d)) (sym w.1)
 second_operand k (N3 _ _ _) a b x y h w = absurd w
@@ -106,14 +106,6 @@ uncarried k c z other none (Edge x r y) is = no_filler k x y z r c other none
 
 pub nothing_missing : (k : Problem) (f g : Fact) (facts : Derived) → GiveNothing k f g → DrawnButSpared k (f ∷ g ∷ []) facts
 nothing_missing k f g facts none condition form h gives = absurd (none condition form h gives)
-
--- a class that is no operand meets a class
-pub no_operand : (k : Problem) (a : Class2) (x : Context) (g : Fact) (facts : Derived) → NoneUnder by_first k.forms (class_key a) → NoneUnder by_second k.forms (class_key a) → IsClassFact g → MeetEachOther k (In a x) g facts
-no_operand k a x (In b y) facts first second is = record {
-  first = nothing_missing k (In a x) (In b y) facts (no_first k a b x y first);
-  second = nothing_missing k (In b y) (In a x) facts (no_second k b a y x second);
-}
-no_operand k a x (Edge y r z) facts first second is = absurd is
 
 -- nothing is carried for a class along an edge
 pub not_carried : (k : Problem) (c : Class2) (z : Context) (g : Fact) (facts : Derived) → (c ≡ nothing → ⊥) → NoneUnder by_filler k.forms (class_key c) → IsEdge g → DrawnButSpared k (g ∷ In c z ∷ []) facts

@@ -3,6 +3,7 @@ pub mod Growth
 pub mod Sparing
 pub mod Drawing
 pub mod Giving
+pub mod Intersections
 pub mod Visiting
 pub mod Edges
 pub mod Below

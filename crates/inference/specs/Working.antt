@@ -5,6 +5,7 @@ use Rattle.axioms.specs.declared.ids.ExprId.{ExprId}
 use Rattle.normal_forms.specs.declared.forms.Form.{Form}
 use Rattle.normal_forms.specs.declared.forms.Form.TheVariants.{N6}
 use Rattle.normal_forms.specs.declared.forms.PropId2.{PropId2}
+use Rattle.normal_forms.specs.declared.forms.Class2.{Class2}
 use Rattle.normal_forms.specs.declared.forms.Class2.TheVariants as class
 use Rattle.normal_forms.specs.Properties.{IsAtOrBelow}
 use Rattle.facts.specs.declared.contexts.Context.{Context}
@@ -13,6 +14,8 @@ use Rattle.facts.specs.declared.contexts.Fact.{Fact}
 use Rattle.facts.specs.declared.contexts.Fact.TheVariants.{In}
 use Rattle.facts.specs.Closure.{Problem, Concludes, IsContextBy, IsLoop, Gives, IsFact, thing}
 use Rattle.facts.specs.Births.{Reason}
+use Rattle.form_index.specs.Named.{class_key, by_first, by_second}
+use Rattle.form_index.specs.Under.{IsUnder}
 use Rattle.inference.specs.Derived.{Derived}
 
 -- the facts of these numbers
@@ -34,6 +37,19 @@ DrawnAt D forms facts n = (form : Form) → slice_get forms n ≡ Some form → 
 -- .. from those at the places
 abbrev pub AreDrawnAt : (Form → Fact → Type 0) → List Form → List ℕ → List Fact → Type 0
 AreDrawnAt D forms places facts = (n : ℕ) → Contains places n → DrawnAt D forms facts n
+
+-- what the form at the place gives from two classes that were in the context is there
+abbrev pub IsDrawnIn : Problem → List Fact → Context → List Fact → ℕ → Type 0
+IsDrawnIn k old x new n = (a b : Class2) → Contains old (In a x) → Contains old (In b x) → DrawnAt (λ form. Concludes k form (In a x ∷ In b x ∷ [])) k.forms new n
+
+-- .. what those at the places give
+abbrev pub AreDrawnIn : Problem → List Fact → Context → List Fact → List ℕ → Type 0
+AreDrawnIn k old x new places = (n : ℕ) → Contains places n → IsDrawnIn k old x new n
+
+-- .. what the intersections give of which the class is an operand
+pub record MeetsOperands (k : Problem) (old : List Fact) (a : Class2) (x : Context) (new : List Fact) : Type 0 where
+  pub first : (n : ℕ) → IsUnder by_first k.forms (class_key a) n → IsDrawnIn k old x new n
+  pub second : (n : ℕ) → IsUnder by_second k.forms (class_key a) n → IsDrawnIn k old x new n
 
 -- what the forms give from these facts is there
 abbrev pub AreDrawn : Problem → List Form → List Fact → List Fact → Type 0

@@ -2,7 +2,7 @@
 ghost use Rattle.facts.specs.Births.{reason};
 ghost use Rattle.inference.specs.Derived.{with_fact};
 ghost use Rattle.inference.specs.declared.known_facts.Stop.TheVariants as stops;
-ghost use Rattle.std.specs.Prelude.{◌≡◌, ◌↔◌, ◌<◌, ◌^◌, ◌++◌, ◌∷◌, Some, [], length, map, take, slice_get, Contains, Ok, IfOk, IsTrue, OnErr, false, true};
+ghost use Rattle.std.specs.Prelude.{◌≡◌, ◌↔◌, ◌<◌, ◌^◌, ◌++◌, ◌∷◌, Some, [], length, map, take, slice_get, Contains, Ok, IfOk, IfSome, IsNone, OnErr, false, true};
 
 use axioms::Memory;
 use fact_table::FactTable;
@@ -98,11 +98,12 @@ impl KnownFacts {
         (facts.into_list(), births)
     }
 
-    /// Whether the fact is there.
-    pub(crate) fn contains(&self, fact: &Fact) -> bool
-        ensures { IsTrue result ↔ Contains self.now.facts fact.now }
+    /// The number of the fact, if it is there.
+    pub(crate) fn find(&self, fact: Fact) -> Option<u32>
+        ensures there { IfSome result (λ number. slice_get self.now.facts number ≡ Some fact) }
+        ensures none { IsNone result → Contains self.now.facts fact → ⊥ }
     {
-        self.facts.contains(fact)
+        self.facts.find(fact)
     }
 
     /// Adds a fact with what gave it, unless it is there, and tells whether it was new.

@@ -12,14 +12,14 @@ ghost use Rattle.inference.specs.Derived.{IsDerived, Grows, HasMoreFactsThan};
 ghost use Rattle.normal_forms.specs.Properties.{IsAtOrBelow};
 ghost use Rattle.property_closure.specs.Closed.{Has};
 ghost use Rattle.inference.specs.Closed.{IsClosureOf};
-ghost use Rattle.inference.specs.Working.{AreAt, IsContextAt, AllDrawn, DrawnAt, AreDrawnAt, AreDrawn, IsEntered, IsSparedAsSecond, Drawn, MeetEachOther, AreMet, AreMetBefore, AreMetBehind};
+ghost use Rattle.inference.specs.Working.{AreAt, IsContextAt, AllDrawn, DrawnAt, AreDrawnAt, AreDrawn, IsEntered, IsSparedAsSecond, Drawn, IsDrawnIn, AreDrawnIn, MeetsOperands, MeetEachOther, AreMet, AreMetBefore, AreMetBehind};
 ghost use Rattle.inference.specs.Visited.{AreAll, ChainsDrawn, GiveNothing, HasProperty, IsBy, IsClassFact, IsEdge};
 ghost use Rattle.inference.specs.Met.{IsWithin, AllListedAreMet};
 ghost use Rattle.inference.specs.Begun.{HasBegun, LoopIsDrawn, LoopsAreDrawn};
 
 use crate::conclusions::{THING, carried_back, conclusion, condition_of, loop_at};
 use crate::known_facts::{KnownFacts, Stop};
-use crate::visits::{begins_chain, chained, has_any, is_carried, is_operand, visited};
+use crate::visits::{begins_chain, chained, has_any, is_carried, operands_of, visited};
 use fact_index::Index;
 use facts::{Birth, Context, Fact};
 use form_index::IndexedProblem;
@@ -39,10 +39,9 @@ fn found_at_limit(facts: &KnownFacts, fact: &Fact) -> Result<(), Stop>
     ensures there { OnOk result (Contains facts.now.facts fact.now) }
     ensures not { result ≡ Err Stop.Limit → Contains facts.now.facts fact.now → ⊥ }
 {
-    if facts.contains(fact) {
-        Ok(())
-    } else {
-        Err(Stop::Limit)
+    match facts.find(*fact) {
+        Some(_) => Ok(()),
+        None => Err(Stop::Limit),
     }
 }
 
@@ -406,7 +405,78 @@ impl Rules<'_> {
         Ok(())
     }
 
-    /// Adds what the class in a context gives with the other classes in it, which have those numbers.
+    /// Adds what the intersection of that number gives from its two classes, if both are in the context.
+    fn draw_intersection(
+        &self,
+        facts: &mut KnownFacts,
+        number: u32,
+        context: Context,
+    ) -> Result<(), Stop>
+        requires closed { IsClosureOf self.now.problem.now.forms self.now.closure.now }
+        requires derived { IsDerived self.now.problem.now facts.old }
+        ensures grows { Grows self.now.problem.now self.now.max_facts facts.old facts.new }
+        ensures limit { result ≡ Err Stop.Limit → HasMoreFactsThan self.now.problem.now self.now.max_facts }
+        ensures drawn { OnOk result (IsDrawnIn self.now.problem.now facts.old.facts context facts.new.facts number) }
+    {
+        let Some((first, second)) = operands_of(self.problem, number) else {
+            return Ok(());
+        };
+        let Some(place) = facts.find(Fact::In(second, context)) else {
+            return Ok(());
+        };
+        let Some(before) = facts.find(Fact::In(first, context)) else {
+            return Ok(());
+        };
+        let older = [Fact::In(first, context), Fact::In(second, context)];
+        self.draw_form(facts, number, &[before, place], &older)
+    }
+
+    /// Adds what the listed intersections give from classes in the context.
+    fn draw_intersections(
+        &self,
+        facts: &mut KnownFacts,
+        listed: &[u32],
+        context: Context,
+    ) -> Result<(), Stop>
+        requires closed { IsClosureOf self.now.problem.now.forms self.now.closure.now }
+        requires derived { IsDerived self.now.problem.now facts.old }
+        ensures grows { Grows self.now.problem.now self.now.max_facts facts.old facts.new }
+        ensures limit { result ≡ Err Stop.Limit → HasMoreFactsThan self.now.problem.now self.now.max_facts }
+        ensures drawn { OnOk result (AreDrawnIn self.now.problem.now facts.old.facts context facts.new.facts listed.now) }
+    {
+        for number in listed {
+            self.draw_intersection(facts, *number, context)?;
+        }
+        Ok(())
+    }
+
+    /// Adds what the intersections that have the class as an operand give from it and from classes in the context.
+    fn meet_operands(
+        &self,
+        facts: &mut KnownFacts,
+        class: Class2,
+        context: Context,
+    ) -> Result<(), Stop>
+        requires closed { IsClosureOf self.now.problem.now.forms self.now.closure.now }
+        requires derived { IsDerived self.now.problem.now facts.old }
+        ensures grows { Grows self.now.problem.now self.now.max_facts facts.old facts.new }
+        ensures limit { result ≡ Err Stop.Limit → HasMoreFactsThan self.now.problem.now self.now.max_facts }
+        ensures met { OnOk result (MeetsOperands self.now.problem.now facts.old.facts class context facts.new.facts) }
+    {
+        self.draw_intersections(facts, self.problem.first(class), context)?;
+        self.draw_intersections(facts, self.problem.second(class), context)?;
+        Ok(())
+    }
+
+    /// Whether at most so many intersections have the class as an operand.
+    fn has_few_operands(&self, class: Class2, most: usize) -> bool {
+        let first = self.problem.first(class).len();
+        let second = self.problem.second(class).len();
+        first.saturating_add(second) <= most
+    }
+
+    /// Adds what the class in a context gives with the other classes in it, which have those numbers: by the intersections that have
+    /// the class as an operand, or by the other classes, whichever are fewer.
     fn meet_classes(
         &self,
         facts: &mut KnownFacts,
@@ -423,7 +493,9 @@ impl Rules<'_> {
         ensures limit { result ≡ Err Stop.Limit → HasMoreFactsThan self.now.problem.now self.now.max_facts }
         ensures met { OnOk result (AreMet self.now.problem.now (the_facts.In class context) facts.old.facts numbers.now facts.new) }
     {
-        if is_operand(self.problem, class) {
+        if self.has_few_operands(class, numbers.len()) {
+            self.meet_operands(facts, class, context)?;
+        } else {
             self.meet_all(facts, hand, Fact::In(class, context), numbers)?;
         }
         Ok(())

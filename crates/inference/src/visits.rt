@@ -1,8 +1,10 @@
 //! Which forms are visited for facts: those that give something from them are listed.
-ghost use Rattle.std.specs.Prelude.{◌≡◌, ◌↔◌, ℕ, Some, None, Contains, false, slice_get};
+ghost use Rattle.std.specs.Prelude.{◌≡◌, ◌↔◌, ℕ, Some, None, Contains, IfSome, IsNone, false, slice_get};
 ghost use Rattle.facts.specs.Closure.{Concludes, FromOne, FromTwo, nothing};
 ghost use Rattle.facts.specs.declared.contexts.Fact.{Fact as Fact2};
 ghost use Rattle.normal_forms.specs.declared.forms.Form.{Form as Form2};
+ghost use Rattle.normal_forms.specs.declared.forms.Class2.{Class2 as Class3};
+ghost use Rattle.normal_forms.specs.declared.forms.Form.TheVariants as forms;
 ghost use Rattle.normal_forms.specs.Properties.{IsAtOrBelow};
 ghost use Rattle.normal_forms.specs.declared.forms.PropId2.{PropId2 as PropId3};
 ghost use Rattle.form_index.specs.Named.{by_chain, by_filler, by_first, by_second, class_key, property_key};
@@ -14,7 +16,7 @@ ghost use Rattle.inference.specs.Visited.{IsNotCarried, NoneUnder, chained_pair,
 use crate::conclusions::NOTHING;
 use facts::Fact;
 use form_index::IndexedProblem;
-use normal_forms::{Class2, PropId2};
+use normal_forms::{Class2, Form, PropId2};
 use property_closure::PropertyClosure;
 
 /// The property of the first of two edges.
@@ -90,12 +92,15 @@ pub(crate) fn has_any(list: &[u32]) -> bool
     !list.is_empty()
 }
 
-/// Whether some intersection has the class as an operand.
-pub(crate) fn is_operand(problem: &IndexedProblem, class: Class2) -> bool
-    ensures first { result ≡ false → NoneUnder by_first problem.now.forms (class_key class) }
-    ensures second { result ≡ false → NoneUnder by_second problem.now.forms (class_key class) }
+/// The two classes of the intersection of that number, if the form of that number is one.
+pub(crate) fn operands_of(problem: &IndexedProblem, number: u32) -> Option<(Class2, Class2)>
+    ensures some { IfSome result (λ p. (c : Class3) × (slice_get problem.now.forms number ≡ Some (forms.N2 p.0 p.1 c))) }
+    ensures none { IsNone result → (a b c : Class3) → slice_get problem.now.forms number ≡ Some (forms.N2 a b c) → ⊥ }
 {
-    has_any(problem.first(class)) || has_any(problem.second(class))
+    match problem.forms().get(number as usize) {
+        Some(&Form::N2(first, second, _)) => Some((first, second)),
+        _ => None,
+    }
 }
 
 /// Whether edges carry something to their sources for the class at their targets: a restriction has it as its filler, or it is

@@ -1,12 +1,15 @@
-use Rattle.inference.proofs.Giving.{no_operand}
-use Rattle.inference.proofs.Meeting.{numbers_within, kind_of}
 use Rattle.inference.specs.Visited.{IsClassFact}
+use Rattle.inference.proofs.Lists.{Contains-from_slice_get}
+use Rattle.inference.proofs.Meeting.{numbers_within, kind_of}
+use Rattle.inference.proofs.Intersections.{met_by_operands}
 use Rattle.inference.proofs.rules.Rules.meet_classes.Goals as goal
 
 pub meet_all-requires-clause-numbers : goal.meet_all-requires-clause-numbers
 meet_all-requires-clause-numbers c = numbers_within IsClassFact c.args.facts.now.facts c.args.numbers.now c.requires.numbers
 
-pub returns-else-is_operand-clause-met : goal.returns-else-is_operand-clause-met
-returns-else-is_operand-clause-met c = λ n there g at.
-    no_operand c.args.self.now.problem.now c.args.class c.args.context g c.args.facts.now (c.is_operand.ensures.first c.if-is_operand.false) (c.is_operand.ensures.second c.if-is_operand.false)
-    (kind_of IsClassFact c.args.facts.now.facts c.args.numbers.now c.requires.numbers n there g at)
+pub returns-in_ok-meet_operands-clause-met : goal.returns-in_ok-meet_operands-clause-met
+returns-in_ok-meet_operands-clause-met c n there g at =
+    let old = c.args.facts.now.facts in
+    met_by_operands c.args.self.now.problem.now old c.args.class c.args.context g c.meet_operands.new.facts
+    (kind_of IsClassFact old c.args.numbers.now c.requires.numbers n there g at)
+    (Contains-from_slice_get old c.args.hand _ c.requires.hand) (Contains-from_slice_get old n g at) c.in_ok-meet_operands.ensures.met

@@ -1,0 +1,10 @@
+use Rattle.std.proofs.Common.{◌-◌, length}
+use Rattle.fact_table.proofs.Filling.{HasPassed}
+use Rattle.fact_table.proofs.slots.place_of.Given as goal
+
+-- what was passed
+abbrev pub invariant-loop-slot : goal.invariant-loop-slot
+invariant-loop-slot l = HasPassed l.facts l.numbers l.bucket l.fact l.slot
+
+abbrev pub decreases-loop-slot : goal.decreases-loop-slot
+decreases-loop-slot l = length l.numbers - l.slot

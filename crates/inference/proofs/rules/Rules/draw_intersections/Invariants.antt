@@ -1,0 +1,10 @@
+use Rattle.std.proofs.Common.{take}
+use Rattle.inference.specs.Derived.{Grows}
+use Rattle.inference.specs.Working.{AreDrawnIn}
+use Rattle.inference.proofs.rules.Rules.draw_intersections.Given as goal
+
+abbrev pub invariant-loop-number : goal.invariant-loop-number
+invariant-loop-number l = record {
+  grows : Grows l.self.problem.now l.self.max_facts l.fn.facts l.facts;
+  drawn : AreDrawnIn l.self.problem.now l.fn.facts.facts l.context l.facts.facts (take l.number-index l.listed);
+}
