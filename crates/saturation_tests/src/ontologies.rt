@@ -20,6 +20,14 @@ const B: Class2 = Class2::Expr(ExprId(3));
 /// `ObjectSomeValuesFrom(:r :A)`.
 const SOME_A: Class2 = Class2::Expr(ExprId(4));
 
+/// The classes of the document with an intersection, by the places where their expressions stand first.
+const C: Class2 = Class2::Expr(ExprId(4));
+
+/// `ObjectIntersectionOf(:B :C)`.
+const B_AND_C: Class2 = Class2::Expr(ExprId(5));
+
+const D: Class2 = Class2::Expr(ExprId(6));
+
 const IN_THING: Context = Context::Expr(ExprId(0));
 
 const IN_NOTHING: Context = Context::Expr(ExprId(1));
@@ -86,6 +94,26 @@ const ROWS: &[Row] = &[
             Fact::Edge(FIRST, R, SECOND),
             Fact::In(SOME_A, FIRST),
             Fact::In(B, FIRST),
+        ],
+    },
+    Row {
+        document: "Ontology(SubClassOf(<x:A> <x:B>) SubClassOf(<x:A> <x:C>) SubClassOf(ObjectIntersectionOf(<x:B> <x:C>) <x:D>))",
+        facts: &[
+            Fact::In(THING, IN_THING),
+            Fact::In(THING, IN_NOTHING),
+            Fact::In(NOTHING, IN_NOTHING),
+            Fact::In(THING, IN_A),
+            Fact::In(A, IN_A),
+            Fact::In(B, IN_A),
+            Fact::In(C, IN_A),
+            Fact::In(B_AND_C, IN_A),
+            Fact::In(D, IN_A),
+            Fact::In(THING, IN_B),
+            Fact::In(B, IN_B),
+            Fact::In(THING, Context::Expr(ExprId(4))),
+            Fact::In(C, Context::Expr(ExprId(4))),
+            Fact::In(THING, Context::Expr(ExprId(6))),
+            Fact::In(D, Context::Expr(ExprId(6))),
         ],
     },
 ];
