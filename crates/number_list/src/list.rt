@@ -18,7 +18,7 @@ pub enum Numbers {
     Many(Box<Vec<u32>>),
 }
 
-/// Numbers in order, in 16 bytes, and in memory beside them only where they once were more than three.
+/// Numbers in order, in 16 bytes, and elsewhere only where they were more than three since there last was none.
 #[derive(Drop)]
 pub struct NumberList {
     numbers: Numbers,
@@ -44,11 +44,22 @@ fn many(alloc: Global, numbers: &[u32], number: u32) -> Result<Box<Vec<u32>>, Al
     Ok(list)
 }
 
+/// Makes room for one number more, and for half as many as there are: twice as many would leave a quarter of an index unused.
+fn make_room(list: &mut Vec<u32>) -> Result<(), AllocError>
+    ensures { list.new.items ≡ list.old.items }
+{
+    if list.len() < list.capacity() {
+        return Ok(());
+    }
+    list.reserve_exact(list.len() / 2 + 1)
+}
+
 /// Adds a number at the end. Fails where memory is refused; then nothing changes.
 fn add(list: &mut Vec<u32>, number: u32) -> Result<(), AllocError>
     ensures ok { OnOk result (list.new.items ≡ list.old.items ++ number ∷ []) }
     ensures err { OnErr result (list.new.items ≡ list.old.items) }
 {
+    make_room(list)?;
     let Ok(()) = list.push(number) else {
         return Err(AllocError);
     };
@@ -70,7 +81,7 @@ fn push(numbers: &mut Numbers, alloc: Global, number: u32) -> Result<(), AllocEr
     Ok(())
 }
 
-/// Takes the last number out, if there is one.
+/// Takes the last number out, if there is one. Where none is left there is no memory elsewhere.
 fn pop(numbers: &mut Numbers) -> Option<u32>
     ensures { items_of numbers.old ≡ items_of numbers.new ++ option_to_list result }
 {
@@ -79,7 +90,13 @@ fn pop(numbers: &mut Numbers) -> Option<u32>
         Numbers::One(numbers) => (Numbers::None, numbers[0]),
         Numbers::Two(numbers) => (Numbers::One([numbers[0]]), numbers[1]),
         Numbers::Three(numbers) => (Numbers::Two([numbers[0], numbers[1]]), numbers[2]),
-        Numbers::Many(numbers) => return numbers.pop(),
+        Numbers::Many(numbers) => {
+            let last = numbers.pop();
+            if numbers.len() > 0 {
+                return last;
+            }
+            (Numbers::None, last?)
+        }
     };
     *numbers = fewer;
     Some(last)
