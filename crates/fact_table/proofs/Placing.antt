@@ -1,15 +1,19 @@
 -- Slots by the number of a context, as those of one number change.
-use Rattle.std.proofs.Common.{◌≡◌, ◌≢◌, ℕ, zero, suc, ◌+◌, ◌^◌, ◌<◌, ◌≤◌, inl, inr, List, [], ◌∷◌, ◌++◌, length, get_or, set, take, slice_get, Bool, true, false, Option, Some, None, IfSome, IsNone, Result, Ok, Err, OnOk, Contains, refl, sym, ap, ◌∙◌, subst, arith}
-use Rattle.std.proofs.lemmas.Bool.{cases_eq}
-use Rattle.std.specs.Prelude.{IsOk, is_ok, if◌then◌else◌}
+use Rattle.std.proofs.Common.{◌≡◌, ◌≢◌, ℕ, zero, suc, ◌+◌, ◌^◌, ◌<◌, ◌≤◌, inl, inr, List, [], ◌∷◌, ◌++◌, length, get_or, set, take, slice_get, Some, Result, Ok, Err, OnOk, Contains, refl, sym, ap, ◌∙◌, subst, arith}
+use Rattle.std.proofs.lemmas.Bool.{cases_eq, cases_lt}
+use Rattle.std.proofs.lemmas.Nat.{and_le_r}
+use Rattle.fact_table.specs.Hashes.{hash_of}
 use Rattle.std.proofs.lemmas.List.{length_push, length-take}
 use Rattle.std.proofs.lemmas.Option.{none-some, slice_get-get_or, slice_get_within}
 use Rattle.lemmas.proofs.Members.{slice_get-from_Contains}
 use Rattle.lemmas.proofs.Places.{slice_get_push_cases, slice_get_take}
 use Rattle.fact_table.specs.declared.seeds.Seeds.{Seeds}
 use Rattle.facts.specs.declared.contexts.Fact.{Fact}
+use Rattle.fact_table.specs.declared.slots.Found.{Found}
+use Rattle.fact_table.specs.declared.slots.Found.TheVariants.{At, Free}
 use Rattle.fact_table.specs.declared.slots.Slots.{Slots}
-use Rattle.fact_table.specs.Slots.{home_of, bucket_of, Stands, IsFirstFree, IsFound, AreFound, HaveSlots, Holds, IsFreeFor, IsTable}
+use Rattle.fact_table.specs.declared.slots.Slots.TheVariants.{Few, Many}
+use Rattle.fact_table.specs.Slots.{home_of, bucket_of, buckets_of, numbers_of, Stands, IsFirstFree, IsFound, AreFound, HasSlots, HasRoom, CanHold, HaveSlots, IfFree, Holds, IsReady, IsFreeAt, IsFreeFor, IsTable}
 use Rattle.axioms.specs.WellFormed.{AreDistinct}
 use Rattle.fact_table.proofs.Facts.{distinct_push, distinct_take}
 
@@ -30,16 +34,16 @@ same_table xs i x y e f = cc
 
 -- what is found is found where other numbers are put into the slots of a home
 pub found_still : (seeds : Seeds) (homes : List Slots) (home : ℕ) (old new : Slots) (fact : Fact) (place : ℕ) →
-    slice_get homes home ≡ Some old → new.buckets ≡ old.buckets →
-    ((b n : ℕ) → 0 < n → Stands old.numbers.items b n → Stands new.numbers.items b n) →
+    slice_get homes home ≡ Some old → buckets_of new ≡ buckets_of old →
+    ((b n : ℕ) → 0 < n → Stands (numbers_of old) b n → Stands (numbers_of new) b n) →
     IsFound seeds homes fact place → IsFound seeds (set homes home new) fact place
 found_still seeds homes home old new fact place there same keeps found =
     elim (cases_eq (home_of fact) home) [
       | inl e ↦ record {
         table = new;
         at = subst (λ i. slice_get (set homes home new) i ≡ Some new) (sym e) (set_here homes home new old there);
-        holds = rw same (keeps (bucket_of seeds old.buckets fact) (suc place) (omega arith)
-            (subst (λ t. Stands t.numbers.items (bucket_of seeds t.buckets fact) (suc place))
+        holds = rw same (keeps (bucket_of seeds (buckets_of old) fact) (suc place) (omega arith)
+            (subst (λ t. Stands (numbers_of t) (bucket_of seeds (buckets_of t) fact) (suc place))
             (same_table homes (home_of fact) found.table old found.at (rw e there)) found.holds));
       }
       | inr ne ↦ record {
@@ -51,14 +55,14 @@ found_still seeds homes home old new fact place there same keeps found =
 
 -- .. and so is what is put
 pub found_new : (seeds : Seeds) (homes : List Slots) (home slot number : ℕ) (old new : Slots) (fact : Fact) (place : ℕ) →
-    slice_get homes home ≡ Some old → new.buckets ≡ old.buckets →
-    ((b : ℕ) → IsFirstFree old.numbers.items b slot → Stands new.numbers.items b number) →
+    slice_get homes home ≡ Some old → buckets_of new ≡ buckets_of old →
+    ((b : ℕ) → IsFirstFree (numbers_of old) b slot → Stands (numbers_of new) b number) →
     home_of fact ≡ home → number ≡ suc place → IsFreeFor seeds homes fact slot → IsFound seeds (set homes home new) fact place
 found_new seeds homes home slot number old new fact place there same puts at_home is free = record {
   table = new;
   at = subst (λ i. slice_get (set homes home new) i ≡ Some new) (sym at_home) (set_here homes home new old there);
-  holds = rw (same, ← is) (puts (bucket_of seeds old.buckets fact)
-      (subst (λ t. IsFirstFree t.numbers.items (bucket_of seeds t.buckets fact) slot)
+  holds = rw (same, ← is) (puts (bucket_of seeds (buckets_of old) fact)
+      (subst (λ t. IsFirstFree (numbers_of t) (bucket_of seeds (buckets_of t) fact) slot)
       (same_table homes (home_of fact) free.table old free.at (rw at_home there)) free.free));
 }
 
@@ -92,6 +96,11 @@ pub on_ok : {A E : Type 0} (r : Result A E) {P Q : Type 0} → OnOk r P → (P �
 on_ok (Ok x) h f = f h
 on_ok (Err e) h f = tt
 
+-- what follows for the free slot
+pub if_free : (found : Found) {P Q : ℕ → Type 0} → IfFree found P → ((slot : ℕ) → P slot → Q slot) → IfFree found Q
+if_free (At place) h f = tt
+if_free (Free slot) h f = f slot h
+
 -- slots whose facts are found as before
 pub found_grown : (seeds : Seeds) (facts : List Fact) (homes : List Slots) (home : ℕ) (old new : Slots) →
     slice_get homes home ≡ Some old →
@@ -124,10 +133,10 @@ found_kept seeds facts homes more kept found place fact at =
     }
 
 -- each list of slots has as many as buckets
-pub slots_set : (homes : List Slots) (home : ℕ) (old new : Slots) → slice_get homes home ≡ Some old → HaveSlots homes → new.buckets ≤ length new.numbers.items → HaveSlots (set homes home new)
+pub slots_set : (homes : List Slots) (home : ℕ) (old new : Slots) → slice_get homes home ≡ Some old → HaveSlots homes → HasSlots new → HaveSlots (set homes home new)
 slots_set homes home old new there have room n table at =
     elim (cases_eq n home) [
-      | inl e ↦ subst (λ t. t.buckets ≤ length t.numbers.items)
+      | inl e ↦ subst (λ t. HasSlots t)
           (same_table (set homes home new) home new table (set_here homes home new old there) (subst (λ i. slice_get (set homes home new) i ≡ Some table) e at)) room
       | inr ne ↦ have n table (sym (set_elsewhere homes home n new ne) ∙ at)
     ]
@@ -148,16 +157,29 @@ no_home seeds facts homes fact found past member =
     let here : IsFound seeds homes fact place = found place fact there in
     absurd (omega (arith, past, slice_get_within homes (home_of fact) here.table here.at))
 
--- what cannot be some is none
-pub none_or : {X : Type 0} (o : Option X) {P : Type 0} → IfSome o (λ _. P) → (P → ⊥) → IsNone o
-none_or None h never = refl
-none_or (Some x) h never = absurd (never h)
+-- the one bucket is the first
+pub one_bucket : (seeds : Seeds) (fact : Fact) → bucket_of seeds 1 fact ≡ 0
+unfolding bucket_of
+one_bucket seeds fact = omega (arith, and_le_r (hash_of seeds fact) 0)
 
--- what cannot be false is true
-pub true_or : (b : Bool) → (b ≡ false → ⊥) → b ≡ true
-true_or true never = refl
-true_or false never = absurd (never refl)
+-- where there is room for a number, the first free slot can hold it
+pub first_holds : (seeds : Seeds) (table : Slots) (fact : Fact) (slot : ℕ) → HasRoom table →
+    IsFirstFree (numbers_of table) (bucket_of seeds (buckets_of table) fact) slot → CanHold table slot
+first_holds seeds (Few numbers) fact slot last first =
+    elim (cases_lt 6 slot) [
+      | inl past ↦ absurd (first.no_gap 6 (omega (arith, one_bucket seeds fact)) past last)
+      | inr within ↦ omega arith
+    ]
+first_holds seeds (Many size used numbers) fact slot room first = first.within
 
--- what a push that has room leaves
-pub pushes : {X A E : Type 0} (r : Result A E) (xs ys zs : List X) → IsOk r → zs ≡ (if is_ok r then xs else ys) → zs ≡ xs
-pushes r xs ys zs fits is = is ∙ ap (λ b. if b then xs else ys) fits
+-- a free slot for the fact, in a home that is ready for it
+pub free_at : (seeds : Seeds) (homes : List Slots) (home slot : ℕ) (fact : Fact) → home ≡ home_of fact → IsReady homes home →
+    IsFreeFor seeds homes fact slot → IsFreeAt homes home slot
+free_at seeds homes home slot fact is ready free =
+    let same : ready.table ≡ free.table = same_table homes home ready.table free.table ready.at (rw is free.at) in
+    record {
+      table = free.table;
+      at = rw is free.at;
+      within = first_holds seeds free.table fact slot (subst HasRoom same ready.room) free.free;
+      free = free.free.free;
+    }

@@ -1,12 +1,12 @@
 //! Slots by the number of the context that a fact is of.
-ghost use Rattle.fact_table.specs.Slots.{home_of, AreFound, HaveSlots, IsFound, IsFreeAt, IsFreeFor, number_of};
+ghost use Rattle.fact_table.specs.Slots.{home_of, AreFound, HaveSlots, IfAt, IfFree, IsFound, IsFreeAt, IsFreeFor, IsReady, number_of};
 ghost use Rattle.fact_table.specs.declared.seeds.Seeds.{Seeds as TheSeeds};
 ghost use Rattle.fact_table.specs.declared.slots.Slots.{Slots as TheSlots};
 ghost use Rattle.facts.specs.declared.contexts.Fact.{Fact as AFact};
-ghost use Rattle.std.specs.Prelude.{◌≡◌, ◌↔◌, ℕ, suc, ◌<◌, ◌≤◌, [], length, slice_get, Contains, IfSome, IsNone, OnOk, Some};
+ghost use Rattle.std.specs.Prelude.{◌≡◌, ℕ, suc, ◌<◌, ◌≤◌, [], length, slice_get, Contains, IfSome, IsNone, OnOk, Some};
 
 use crate::seeds::Seeds;
-use crate::slots::Slots;
+use crate::slots::{Found, Slots};
 use axioms::{ExprId, IndId, Memory};
 use facts::{Context, Fact, StoredFact};
 use std::alloc::Global;
@@ -34,14 +34,14 @@ pub fn home_of(fact: Fact) -> usize
 }
 
 /// Makes slots for the home. Fails where memory is refused; no slots go.
-fn extend(alloc: Global, homes: &mut Vec<Slots>, home: usize) -> Result<(), Memory>
+fn extend(homes: &mut Vec<Slots>, home: usize) -> Result<(), Memory>
     requires { HaveSlots homes.old.items }
     ensures kept { (n : ℕ) (table : TheSlots) → slice_get homes.old.items n ≡ Some table → slice_get homes.new.items n ≡ Some table }
     ensures slots { HaveSlots homes.new.items }
     ensures there { OnOk result (home < length homes.new.items) }
 {
     while homes.len() <= home {
-        homes.push(Slots::new(alloc))?;
+        homes.push(Slots::new())?;
     }
     Ok(())
 }
@@ -59,29 +59,30 @@ pub fn make_room(
     requires found { AreFound seeds.now facts.now homes.old.items }
     ensures slots { HaveSlots homes.new.items }
     ensures found { AreFound seeds.now facts.now homes.new.items }
-    ensures there { OnOk result (home < length homes.new.items) }
+    ensures ready { OnOk result (IsReady homes.new.items home) }
 {
-    extend(alloc, homes, home)?;
+    extend(homes, home)?;
     homes[home].make_room(alloc, seeds, facts)
 }
 
-/// The slot that the fact goes into, or nothing where it is there.
+/// The place of the fact, if it is there, or else the slot that it goes into.
 #[inline(always)]
-pub fn free_slot(
+pub fn search(
     seeds: &Seeds,
     facts: &[StoredFact],
     homes: &[Slots],
     home: usize,
     fact: Fact,
-) -> Option<usize>
+) -> Found
     requires home { home ≡ home_of fact }
     requires slots { HaveSlots homes.now }
     requires found { AreFound seeds.now facts.now homes.now }
     requires there { home < length homes.now }
-    ensures there { IsNone result ↔ Contains facts.now fact }
-    ensures free { IfSome result (IsFreeFor seeds.now homes.now fact) }
+    ensures there { IfAt result (λ place. slice_get facts.now place ≡ Some fact) }
+    ensures absent { IfFree result (λ _. Contains facts.now fact → ⊥) }
+    ensures free { IfFree result (IsFreeFor seeds.now homes.now fact) }
 {
-    homes[home].free_slot(seeds, facts, fact)
+    homes[home].search(seeds, facts, fact)
 }
 
 /// The place of the fact, if it is there.
@@ -92,10 +93,13 @@ pub fn find(seeds: &Seeds, facts: &[StoredFact], homes: &[Slots], fact: Fact) ->
     ensures none { IsNone result → Contains facts.now fact → ⊥ }
 {
     let home = home_of(fact);
-    if home < homes.len() {
-        return homes[home].find(seeds, facts, fact);
+    if homes.len() <= home {
+        return None;
     }
-    None
+    match search(seeds, facts, homes, home, fact) {
+        Found::At(place) => Some(place),
+        Found::Free(_) => None,
+    }
 }
 
 /// Puts a number into a free slot of a home. Fails where memory is refused; each fact is found as before.

@@ -2,31 +2,59 @@
 //!
 //! A slot holds a number, which is one more than the place of a fact, or 0, and then it is free. A fact falls into a bucket, which
 //! is the number of a slot, and its number stands there or behind, with no free slot between: so who looks from the bucket on finds
-//! it, or a free slot where it is not there. Numbers that lead nowhere, since facts were taken away, do no harm.
-ghost use Rattle.fact_table.specs.Slots.{bucket_of, Holds, IsFirstFree, Stands};
+//! it, or a free slot where it is not there. Numbers that lead nowhere, since facts were taken away, do no harm. The slots of few facts
+//! have one bucket, and stand where those of many have the address of theirs.
+ghost use Rattle.fact_table.specs.Slots.{bucket_of, buckets_of, CanHold, count_of, HasRoom, HasSlots, Holds, IfAt, IfFree, IsFirstFree, numbers_of, Stands};
 ghost use Rattle.facts.specs.declared.contexts.Fact.{Fact as AFact};
-ghost use Rattle.std.specs.Prelude.{◌≡◌, ◌↔◌, ℕ, suc, ◌+◌, ◌<◌, ◌≤◌, [], length, slice_get, slice_index, Contains, IfOk, IfSome, IsNone, IsTrue, OnOk, Some, false, true};
+ghost use Rattle.std.specs.Prelude.{◌≡◌, ◌↔◌, ◌⊎◌, ℕ, suc, ◌<◌, ◌≤◌, length, slice_get, slice_index, IfOk, IsTrue, OnOk, Some, false, true};
 
 use crate::seeds::{Seeds, hash};
 use axioms::Memory;
 use facts::{Fact, StoredFact};
 use std::alloc::Global;
 
-/// How many buckets there are at least, once there is a fact.
-const FEWEST: u32 = 4;
+/// How many facts are few.
+const FEW: usize = 7;
+
+/// The size of the first slots for more than a few.
+const FIRST_SIZE: u8 = 4;
 
 /// How many slots more than buckets there is room for, where there are many.
-const MOST_SPARE: usize = 8;
+const MOST_SPARE: usize = 4;
 
 /// Slots for the facts that share them.
 #[derive(Drop)]
-pub struct Slots {
-    /// What the slots hold. There are as many as buckets, and those that were put behind the last.
-    pub numbers: Vec<u32>,
-    /// How many buckets there are: a power of 2, as long as that is a number.
-    pub buckets: u32,
-    /// How many numbers were put.
-    pub used: u32,
+pub enum Slots {
+    /// The numbers of few facts, in the order in which they came, and free slots behind them. They have one bucket.
+    Few([u32; FEW]),
+    /// Slots by hash.
+    Many {
+        /// The power of 2 that is the number of buckets. As a byte it leaves the whole no larger than the few are.
+        size: u8,
+        /// How many numbers were put.
+        used: u32,
+        /// What the slots hold. There are as many as buckets, and those that were put behind the last.
+        numbers: Vec<u32>,
+    },
+}
+
+const _: () = prove!(size_of::<Slots>() == 32);
+
+/// What a search for a fact comes to.
+#[derive(Clone, Copy, Debug, PartialEq, Eq, Drop)]
+pub enum Found {
+    /// The fact, at this place.
+    At(u32),
+    /// This slot, which is free for the fact.
+    Free(usize),
+}
+
+/// How many buckets slots of that size have.
+#[inline(always)]
+fn count(size: u8) -> usize
+    ensures { result ≡ count_of size }
+{
+    1 << (size % 64)
 }
 
 /// The bucket of the fact, of so many. Where they are a power of 2, it takes the lowest bits of the hash.
@@ -51,46 +79,26 @@ fn leads_to(facts: &[StoredFact], number: u32, fact: Fact) -> bool
     false
 }
 
-/// The first free slot from the bucket on, or nothing where the fact stands before it.
+/// The place of the fact, where its number stands from the bucket on with no free slot before it, or else the first free slot.
 #[inline(always)]
-fn free_slot(facts: &[StoredFact], numbers: &[u32], bucket: usize, fact: Fact) -> Option<usize>
+fn search(facts: &[StoredFact], numbers: &[u32], bucket: usize, fact: Fact) -> Found
     requires { bucket ≤ length numbers.now }
-    ensures there { IsNone result → Contains facts.now fact }
-    ensures free { IfSome result (IsFirstFree numbers.now bucket) }
-    ensures absent { IfSome result (λ _. (place : ℕ) → slice_get facts.now place ≡ Some fact → Stands numbers.now bucket (suc place) → ⊥) }
+    ensures there { IfAt result (λ place. slice_get facts.now place ≡ Some fact) }
+    ensures free { IfFree result (IsFirstFree numbers.now bucket) }
+    ensures absent { IfFree result (λ _. (place : ℕ) → slice_get facts.now place ≡ Some fact → Stands numbers.now bucket (suc place) → ⊥) }
 {
     let mut slot = bucket;
     while slot < numbers.len() {
         let number = numbers[slot];
         if number == 0 {
-            return Some(slot);
+            return Found::Free(slot);
         }
         if leads_to(facts, number, fact) {
-            return None;
+            return Found::At(number - 1);
         }
         slot += 1;
     }
-    Some(slot)
-}
-
-/// The place of the fact, where its number stands from the bucket on with no free slot before it.
-fn place_of(facts: &[StoredFact], numbers: &[u32], bucket: usize, fact: Fact) -> Option<u32>
-    requires { bucket ≤ length numbers.now }
-    ensures there { IfSome result (λ place. slice_get facts.now place ≡ Some fact) }
-    ensures absent { IsNone result → (place : ℕ) → slice_get facts.now place ≡ Some fact → Stands numbers.now bucket (suc place) → ⊥ }
-{
-    let mut slot = bucket;
-    while slot < numbers.len() {
-        let number = numbers[slot];
-        if number == 0 {
-            return None;
-        }
-        if leads_to(facts, number, fact) {
-            return Some(number - 1);
-        }
-        slot += 1;
-    }
-    None
+    Found::Free(slot)
 }
 
 /// The first free slot from the bucket on.
@@ -168,19 +176,48 @@ fn spread(
 }
 
 impl Slots {
-    /// No slot.
-    pub(crate) fn new(alloc: Global) -> Slots
-        ensures numbers { result.numbers.items ≡ [] }
-        ensures buckets { result.buckets ≡ 0 }
+    /// No fact.
+    pub(crate) fn new() -> Slots
+        ensures { HasSlots result }
     {
-        Slots {
-            numbers: Vec::new(alloc),
-            buckets: 0,
-            used: 0,
+        Slots::Few([0; FEW])
+    }
+
+    /// What the slots hold.
+    #[inline(always)]
+    fn numbers(&self) -> &[u32]
+        ensures { result.now ≡ numbers_of self.now }
+    {
+        match self {
+            Slots::Few(numbers) => numbers,
+            Slots::Many { numbers, .. } => numbers,
         }
     }
 
-    /// Makes room for one fact more: at least one slot in four is free. Fails where memory is refused; then nothing changes.
+    /// The bucket of the fact.
+    #[inline(always)]
+    fn bucket(&self, seeds: &Seeds, fact: Fact) -> usize
+        ensures value { result ≡ bucket_of seeds.now (buckets_of self.now) fact }
+        ensures within { result ≤ buckets_of self.now }
+    {
+        match self {
+            Slots::Few(_) => 0,
+            Slots::Many { size, .. } => bucket(seeds, count(*size), fact),
+        }
+    }
+
+    /// Whether there is no room for one fact more: of few no slot is free, or of many not one in four.
+    #[inline(always)]
+    fn is_full(&self) -> bool
+        ensures { IsTrue result ⊎ HasRoom self.now }
+    {
+        match self {
+            Slots::Few(numbers) => numbers[FEW - 1] != 0,
+            Slots::Many { size, used, .. } => count(*size) / 4 * 3 <= *used as usize,
+        }
+    }
+
+    /// Makes room for one fact more. Fails where memory is refused; then nothing changes.
     #[inline(always)]
     pub(crate) fn make_room(
         &mut self,
@@ -188,64 +225,71 @@ impl Slots {
         seeds: &Seeds,
         facts: &[StoredFact],
     ) -> Result<(), Memory>
-        requires { self.old.buckets ≤ length self.old.numbers.items }
+        requires { HasSlots self.old }
         ensures holds { (place : ℕ) (fact : AFact) → slice_get facts.now place ≡ Some fact →
             Holds seeds.now self.old fact place → Holds seeds.now self.new fact place }
-        ensures room { self.new.buckets ≤ length self.new.numbers.items }
+        ensures slots { HasSlots self.new }
+        ensures room { OnOk result (HasRoom self.new) }
     {
-        if self.used < self.buckets / 4 * 3 {
-            return Ok(());
+        if self.is_full() {
+            return self.grow(alloc, seeds, facts);
         }
-        self.grow(alloc, seeds, facts)
-    }
-
-    /// Makes twice as many buckets, or the first. Fails where memory is refused; then nothing changes.
-    fn grow(&mut self, alloc: Global, seeds: &Seeds, facts: &[StoredFact]) -> Result<(), Memory>
-        requires { self.old.buckets ≤ length self.old.numbers.items }
-        ensures holds { (place : ℕ) (fact : AFact) → slice_get facts.now place ≡ Some fact →
-            Holds seeds.now self.old fact place → Holds seeds.now self.new fact place }
-        ensures room { self.new.buckets ≤ length self.new.numbers.items }
-    {
-        let buckets = FEWEST.max(self.buckets.saturating_mul(2));
-        self.numbers = spread(alloc, seeds, facts, &self.numbers, buckets as usize)?;
-        self.buckets = buckets;
         Ok(())
     }
 
-    /// The slot that the fact goes into, or nothing where it is there.
-    #[inline(always)]
-    pub(crate) fn free_slot(&self, seeds: &Seeds, facts: &[StoredFact], fact: Fact) -> Option<usize>
-        requires { self.now.buckets ≤ length self.now.numbers.items }
-        ensures there { IsNone result → Contains facts.now fact }
-        ensures free { IfSome result (IsFirstFree self.now.numbers.items (bucket_of seeds.now self.now.buckets fact)) }
-        ensures absent { IfSome result (λ _. (place : ℕ) → slice_get facts.now place ≡ Some fact → Holds seeds.now self.now fact place → ⊥) }
+    /// Makes twice as many buckets, or the first by hash. Fails where memory is refused; then nothing changes.
+    fn grow(&mut self, alloc: Global, seeds: &Seeds, facts: &[StoredFact]) -> Result<(), Memory>
+        requires { HasSlots self.old }
+        ensures holds { (place : ℕ) (fact : AFact) → slice_get facts.now place ≡ Some fact →
+            Holds seeds.now self.old fact place → Holds seeds.now self.new fact place }
+        ensures slots { HasSlots self.new }
+        ensures room { OnOk result (HasRoom self.new) }
     {
-        let bucket = bucket(seeds, self.buckets as usize, fact);
-        free_slot(facts, &self.numbers, bucket, fact)
+        let (size, used) = match self {
+            Slots::Few(_) => (FIRST_SIZE, FEW as u32),
+            Slots::Many { size, used, .. } => (size.saturating_add(1), *used),
+        };
+        let numbers = spread(alloc, seeds, facts, self.numbers(), count(size))?;
+        *self = Slots::Many {
+            size,
+            used,
+            numbers,
+        };
+        Ok(())
     }
 
-    /// The place of the fact, where it stands in its slots.
-    pub(crate) fn find(&self, seeds: &Seeds, facts: &[StoredFact], fact: Fact) -> Option<u32>
-        requires { self.now.buckets ≤ length self.now.numbers.items }
-        ensures there { IfSome result (λ place. slice_get facts.now place ≡ Some fact) }
-        ensures absent { IsNone result → (place : ℕ) → slice_get facts.now place ≡ Some fact → Holds seeds.now self.now fact place → ⊥ }
+    /// The place of the fact, where it stands in its slots, or else the slot that it goes into.
+    #[inline(always)]
+    pub(crate) fn search(&self, seeds: &Seeds, facts: &[StoredFact], fact: Fact) -> Found
+        requires { HasSlots self.now }
+        ensures there { IfAt result (λ place. slice_get facts.now place ≡ Some fact) }
+        ensures free { IfFree result (IsFirstFree (numbers_of self.now) (bucket_of seeds.now (buckets_of self.now) fact)) }
+        ensures absent { IfFree result (λ _. (place : ℕ) → slice_get facts.now place ≡ Some fact → Holds seeds.now self.now fact place → ⊥) }
     {
-        let bucket = bucket(seeds, self.buckets as usize, fact);
-        place_of(facts, &self.numbers, bucket, fact)
+        let bucket = self.bucket(seeds, fact);
+        search(facts, self.numbers(), bucket, fact)
     }
 
     /// Puts a number into a free slot. Fails where memory is refused; then nothing changes.
     #[inline(always)]
     pub(crate) fn put(&mut self, slot: usize, number: u32) -> Result<(), Memory>
-        requires within { slot ≤ length self.old.numbers.items }
-        requires free { slice_index self.old.numbers.items slot ≡ 0 }
+        requires within { CanHold self.old slot }
+        requires free { slice_index (numbers_of self.old) slot ≡ 0 }
         requires number { 0 < number }
-        ensures stands { OnOk result ((b : ℕ) → IsFirstFree self.old.numbers.items b slot → Stands self.new.numbers.items b number) }
-        ensures others { (b n : ℕ) → 0 < n → Stands self.old.numbers.items b n → Stands self.new.numbers.items b n }
-        ensures buckets { self.new.buckets ≡ self.old.buckets }
-        ensures room { length self.old.numbers.items ≤ length self.new.numbers.items }
+        ensures stands { OnOk result ((b : ℕ) → IsFirstFree (numbers_of self.old) b slot → Stands (numbers_of self.new) b number) }
+        ensures others { (b n : ℕ) → 0 < n → Stands (numbers_of self.old) b n → Stands (numbers_of self.new) b n }
+        ensures buckets { buckets_of self.new ≡ buckets_of self.old }
+        ensures slots { HasSlots self.old → HasSlots self.new }
     {
-        self.used = self.used.saturating_add(1);
-        occupy(&mut self.numbers, slot, number)
+        match self {
+            Slots::Few(numbers) => {
+                numbers[slot] = number;
+                Ok(())
+            }
+            Slots::Many { used, numbers, .. } => {
+                *used = used.saturating_add(1);
+                occupy(numbers, slot, number)
+            }
+        }
     }
 }

@@ -4,15 +4,15 @@ ghost use Rattle.std.specs.Prelude.{◌≡◌, ◌↔◌, ◌<◌, ◌^◌, ◌+
 
 use crate::homes;
 use crate::seeds::Seeds;
-use crate::slots::Slots;
+use crate::slots::{Found, Slots};
 use axioms::Memory;
 use facts::{Fact, StoredFact};
 use std::alloc::Global;
 use std::hash::RandomState;
 use std::marker::Model;
 
-/// Facts in order, each once, fewer than 2^32, found by their hashes among those of the same context. Beside a fact this takes 6 to 11
-/// bytes where a context has many, and 32 and the slots of the fewest beside a context.
+/// Facts in order, each once, fewer than 2^32, found by their hashes among those of the same context. Beside each number of a context
+/// this takes 32 bytes, in which up to seven facts are found, and 6 to 11 bytes beside a fact where there are more.
 #[derive(Drop)]
 pub struct FactTable {
     alloc: Global,
@@ -82,12 +82,13 @@ impl FactTable {
     {
         let home = homes::home_of(fact);
         homes::make_room(self.alloc, &self.seeds, &self.facts, &mut self.homes, home)?;
-        let Some(slot) = homes::free_slot(&self.seeds, &self.facts, &self.homes, home, fact) else {
+        let Found::Free(slot) = homes::search(&self.seeds, &self.facts, &self.homes, home, fact)
+        else {
             return Ok(false);
         };
         self.facts.reserve(1)?;
         homes::put(&mut self.homes, home, slot, self.facts.len() as u32 + 1)?;
-        let _ = self.facts.push(StoredFact::new(fact));
+        self.facts.push_reserved(StoredFact::new(fact));
         Ok(true)
     }
 

@@ -1,7 +1,7 @@
-use Rattle.std.proofs.Common.{◌≡◌, ◌+◌, ◌^◌, ◌<◌, [], ◌∷◌, ◌++◌, length, slice_get, Some, Contains, sym, ap, ◌∙◌, subst, arith}
-use Rattle.std.proofs.lemmas.Bool.{true≢false}
+use Rattle.std.proofs.Common.{◌≡◌, ◌+◌, ◌^◌, ◌<◌, [], ◌∷◌, ◌++◌, length, Contains, sym, ap, ◌∙◌, arith}
+use Rattle.std.proofs.lemmas.Option.{slice_get_within}
 use Rattle.fact_table.specs.Slots.{AreFound, IsFreeFor}
-use Rattle.fact_table.proofs.Placing.{table_push, pushes}
+use Rattle.fact_table.proofs.Placing.{free_at, table_push}
 use Rattle.fact_table.proofs.table.FactTable.insert.Goals as goal
 
 pub invariant_of-self : goal.invariant_of-self
@@ -12,8 +12,8 @@ invariant_of-self c = record {
   found = rw c.deref.ensures.value at c.make_room.ensures.found;
 }
 
-pub free_slot-requires-clause-found : goal.free_slot-requires-clause-found
-free_slot-requires-clause-found c = rw (c.deref-2.ensures.value, c.deref-3.ensures.value, ← c.deref.ensures.value) c.make_room.ensures.found
+pub search-requires-clause-found : goal.search-requires-clause-found
+search-requires-clause-found c = rw (c.deref-2.ensures.value, c.deref-3.ensures.value, ← c.deref.ensures.value) c.make_room.ensures.found
 
 pub invariant_of-self-in_default : goal.invariant_of-self-in_default
 invariant_of-self-in_default c = record {
@@ -31,16 +31,15 @@ invariant_of-self-in_err-reserve c = rw c.reserve.ensures.items (record {
   found = rw c.deref.ensures.value at c.make_room.ensures.found;
 })
 
+pub search-requires-clause-there : goal.search-requires-clause-there
+search-requires-clause-there c =
+    let ready = c.in_ok-make_room.ensures.ready in
+    rw c.deref-3.ensures.value (slice_get_within c.make_room.new.homes.items c.home_of-home.result ready.table ready.at)
+
 pub put-requires-clause-free : goal.put-requires-clause-free
 put-requires-clause-free c =
-    let homes = c.make_room.new.homes.items in
-    let free : IsFreeFor c.self.inside.seeds homes c.args.fact c.in-Some.slot = rw c.deref-3.ensures.value at c.in-Some.ensures.free in
-    record {
-      table = free.table;
-      at = subst (λ i. slice_get homes i ≡ Some free.table) (sym c.home_of-home.ensures) free.at;
-      within = free.free.within;
-      free = free.free.free;
-    }
+    free_at c.self.inside.seeds c.make_room.new.homes.items c.home_of-home.result c.in-Free.slot c.args.fact c.home_of-home.ensures c.in_ok-make_room.ensures.ready
+    (rw c.deref-3.ensures.value at c.in-Free.ensures.free)
 
 pub invariant_of-self-in_err-put : goal.invariant_of-self-in_err-put
 invariant_of-self-in_err-put c =
@@ -58,10 +57,10 @@ invariant_of-self-2 c =
     let homes = c.make_room.new.homes.items in
     let few : length facts < 4294967295 = rw (← c.self.view_is) at c.requires in
     let short : length facts + 1 < 2 ^ 32 = omega (arith, few) in
-    let absent : Contains facts c.args.fact → ⊥ = λ there. true≢false ((rw (c.deref-2.ensures.value) at c.in-Some.ensures.there).1 there) in
-    let free : IsFreeFor c.self.inside.seeds homes c.args.fact c.in-Some.slot = rw c.deref-3.ensures.value at c.in-Some.ensures.free in
+    let absent : Contains facts c.args.fact → ⊥ = rw c.deref-2.ensures.value at c.in-Free.ensures.absent in
+    let free : IsFreeFor c.self.inside.seeds homes c.args.fact c.in-Free.slot = rw c.deref-3.ensures.value at c.in-Free.ensures.free in
     let found : AreFound c.self.inside.seeds facts homes = rw c.deref.ensures.value at c.make_room.ensures.found in
-    let pushed : c.push.new.self.items ≡ facts ++ c.args.fact ∷ [] = pushes c.push.result _ _ _ (c.push.ensures.succeeds (omega (arith, c.in_ok-reserve.ensures.ok))) c.push.ensures.items ∙ ap (λ f. c.reserve.new.self.items ++ f ∷ []) c.new.ensures ∙ ap (λ l. l ++ c.args.fact ∷ []) c.reserve.ensures.items in
+    let pushed : c.push_reserved.new.self.items ≡ facts ++ c.args.fact ∷ [] = c.push_reserved.ensures.items ∙ ap (λ f. c.reserve.new.self.items ++ f ∷ []) c.new.ensures ∙ ap (λ l. l ++ c.args.fact ∷ []) c.reserve.ensures.items in
     rw pushed (table_push c.self.inside.seeds facts c.put.new.homes.items c.args.fact short c.self.invariant.distinct absent c.put.ensures.slots
     (λ place fact at. c.put.ensures.found c.self.inside.seeds fact place (found place fact at))
     (c.in_ok-put.ensures.stands c.self.inside.seeds c.args.fact (length facts) (sym c.home_of-home.ensures) (omega (arith, c.len.ensures, c.reserve.ensures.len, c.self.inside.facts.ok.0)) free))

@@ -1,6 +1,6 @@
 use Rattle.std.proofs.Common.{◌-◌, length}
 use Rattle.fact_table.proofs.Filling.{HasPassed}
-use Rattle.fact_table.proofs.slots.place_of.Given as goal
+use Rattle.fact_table.proofs.slots.search.Given as goal
 
 -- what was passed
 abbrev pub invariant-loop-slot : goal.invariant-loop-slot
