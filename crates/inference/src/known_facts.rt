@@ -116,7 +116,7 @@ impl KnownFacts {
         self.births.reserve(1)?;
         let is_new = self.facts.insert(fact)?;
         if is_new {
-            let _ = self.births.push(birth);
+            self.births.push_reserved(birth);
         }
         Ok(is_new)
     }
