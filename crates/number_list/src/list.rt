@@ -1,6 +1,6 @@
 //! A list of numbers.
 ghost use Rattle.number_list.specs.Numbers.{items_of};
-ghost use Rattle.std.specs.Prelude.{◌≡◌, ◌<◌, ◌++◌, ◌∷◌, [], OnErr, OnOk, IfOk, length, slice_set, option_to_list};
+ghost use Rattle.std.specs.Prelude.{◌≡◌, ◌<◌, ◌++◌, ◌∷◌, [], OnErr, OnOk, IfNone, IfOk, length, slice_set, option_to_list};
 
 use std::alloc::{AllocError, Global};
 use std::marker::Model;
@@ -83,7 +83,8 @@ fn push(numbers: &mut Numbers, alloc: Global, number: u32) -> Result<(), AllocEr
 
 /// Takes the last number out, if there is one. Where none is left there is no memory elsewhere.
 fn pop(numbers: &mut Numbers) -> Option<u32>
-    ensures { items_of numbers.old ≡ items_of numbers.new ++ option_to_list result }
+    ensures last { items_of numbers.old ≡ items_of numbers.new ++ option_to_list result }
+    ensures none { IfNone result (items_of numbers.old ≡ []) }
 {
     let (fewer, last) = match numbers {
         Numbers::None => return None,
@@ -148,9 +149,10 @@ impl NumberList {
         push(&mut self.numbers, alloc, number)
     }
 
-    /// Takes the last number out, if there is one.
+    /// Takes the last number out, or gives none, exactly where there is none.
     pub fn pop(&mut self) -> Option<u32>
-        ensures { self.old ≡ self.new ++ option_to_list result }
+        ensures last { self.old ≡ self.new ++ option_to_list result }
+        ensures none { IfNone result (self.old ≡ []) }
     {
         pop(&mut self.numbers)
     }
