@@ -31,12 +31,12 @@ impl<W: WorkList> Model for Queue<W> {
     ghost invariant = { λ q. IsQueue (W.pending q.list) q.queued q.taken.items q.served };
 }
 
-/// The number of a fact's context: expressions have the even ones, and individuals the odd ones.
-fn context_of(fact: &StoredFact) -> usize {
+/// The number of a fact's context. An expression and an individual may have the same one, and their facts come together then.
+fn context_of(fact: &StoredFact) -> u32 {
     match fact.get() {
         Fact::In(_, x) | Fact::Edge(x, _, _) => match x {
-            Context::Expr(id) => 2 * id.0 as usize,
-            Context::Individual(id) => 2 * id.0 as usize + 1,
+            Context::Expr(id) => id.0,
+            Context::Individual(id) => id.0,
         },
     }
 }
@@ -140,7 +140,7 @@ impl<W: WorkList> Queue<W> {
     }
 
     /// Queues the next number.
-    fn wait(&mut self, context: usize) -> Result<(), Memory>
+    fn wait(&mut self, context: u32) -> Result<(), Memory>
         requires { self.old.queued < u32.MAX }
         ensures ok { OnOk result (self.new ≡ with_one_more self.old) }
         ensures err { OnErr result (self.new ≡ self.old) }

@@ -11,12 +11,14 @@ use std::alloc::Global;
 use std::marker::Model;
 
 /// Pops an item of the context that it popped last, while it has any. It is seen as its items and that context.
-/// A push and a pop take constant time, however many items and contexts there are; memory goes by the items and by the largest
-/// number of a context.
+/// A push and a pop take constant time, however many items and contexts there are. A push hands the item back where memory is
+/// refused, or 2^32 items wait already. Memory goes by the items, 12 bytes for each, which are given back once most were popped, and by
+/// the largest number of a context, 16 bytes for each number up to it, and more for a context only while more than three of its
+/// items wait.
 #[derive(Drop)]
 pub struct ByContext {
     waiting: Indexed,
-    last: Option<usize>,
+    last: Option<u32>,
 }
 
 impl Model for ByContext {
@@ -57,7 +59,9 @@ impl WorkList for ByContext {
     {
         let context = self.waiting.next_context(self.last)?;
         self.last = Some(context);
-        Some(self.waiting.take(context))
+        let item = self.waiting.take(context);
+        self.waiting.shrink();
+        Some(item)
     }
 
     fn len(&self) -> usize

@@ -15,8 +15,21 @@ use std::alloc::Global;
 pub(crate) struct Indexed {
     pub items: Vec<Item>,
     /// For each item where its place stands in the list of its context.
-    pub slots: Vec<usize>,
+    pub slots: Vec<u32>,
     pub places: Places,
+}
+
+/// How many there is room for at least.
+const LEAST_ROOM: usize = 1024;
+
+/// Gives back half of the memory where less than a quarter of it is used.
+fn shrink<T>(list: &mut Vec<T>)
+    ensures { list.new.items ≡ list.old.items }
+{
+    let room = list.capacity();
+    if room > LEAST_ROOM && list.len() < room / 4 {
+        list.shrink_to(room / 2);
+    }
 }
 
 impl Indexed {
@@ -44,8 +57,13 @@ impl Indexed {
         let Ok(()) = self.slots.reserve(1) else {
             return Err(item);
         };
-        let slot = self.places.count(item.context);
-        let Ok(()) = self.places.add(item.context, self.items.len()) else {
+        let Ok(place) = u32::try_from(self.items.len()) else {
+            return Err(item);
+        };
+        let Ok(slot) = u32::try_from(self.places.count(item.context)) else {
+            return Err(item);
+        };
+        let Ok(()) = self.places.add(item.context, place) else {
             return Err(item);
         };
         self.items.push_reserved(item);
@@ -54,7 +72,7 @@ impl Indexed {
     }
 
     /// Takes an item of the context, which has one.
-    pub(crate) fn take(&mut self, context: usize) -> Item
+    pub(crate) fn take(&mut self, context: u32) -> Item
         requires indexed { IsIndexed self.old }
         requires there { 0 < length (at self.old.places context) }
         ensures indexed { IsIndexed self.new }
@@ -62,18 +80,29 @@ impl Indexed {
         ensures context { result.context ≡ context }
     {
         let place = self.places.take(context);
-        let item = self.items.swap_remove(place);
-        let _ = self.slots.swap_remove(place);
-        if place < self.items.len() {
+        let index = place as usize;
+        let item = self.items.swap_remove(index);
+        let _ = self.slots.swap_remove(index);
+        if index < self.items.len() {
             // the last item stands there now
             self.places
-                .set(self.items[place].context, self.slots[place], place);
+                .set(self.items[index].context, self.slots[index], place);
         }
         item
     }
 
+    /// Gives back memory where most of it is not needed any more.
+    pub(crate) fn shrink(&mut self)
+        requires { IsIndexed self.old }
+        ensures indexed { IsIndexed self.new }
+        ensures items { self.new.items.items ≡ self.old.items.items }
+    {
+        shrink(&mut self.items);
+        shrink(&mut self.slots);
+    }
+
     /// The context to take from next: that of the last time, where it has an item, or else that of some item.
-    pub(crate) fn next_context(&self, last: Option<usize>) -> Option<usize>
+    pub(crate) fn next_context(&self, last: Option<u32>) -> Option<u32>
         requires { IsIndexed self.now }
         ensures there { IfSome result (λ c. 0 < length (at self.now.places c)) }
         ensures together { IfSome result (λ c. (other : AnItem) → Contains self.now.items.items other → last ≡ Some other.context → last ≡ Some c) }
