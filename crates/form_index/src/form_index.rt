@@ -5,6 +5,7 @@ ghost use Rattle.form_index.specs.Listed.{AddsForm, IsFormIndex};
 use crate::named::{
     alone_key, chain_key, end_key, filler_key, first_key, kind_key, plain_key, second_key,
 };
+use form_list::FormList;
 use normal_forms::Form;
 use number_table::KeyTable;
 use std::alloc::{AllocError, Global};
@@ -55,13 +56,13 @@ impl FormIndex {
     }
 
     /// Lists all of the forms.
-    pub fn of(alloc: Global, forms: &[Form]) -> Result<Self, AllocError>
+    pub fn of(alloc: Global, forms: &FormList) -> Result<Self, AllocError>
         requires { length forms.now ≤ u32.MAX }
         ensures { IfOk result (λ index. IsFormIndex forms.now index) }
     {
         let mut index = FormIndex::new(alloc);
-        for (number, form) in forms.iter().enumerate() {
-            index.add(number as u32, form)?;
+        for number in 0..forms.len() {
+            index.add(number as u32, &forms.at(number))?;
         }
         Ok(index)
     }

@@ -1,5 +1,5 @@
 //! A problem whose forms are found by key.
-ghost use Rattle.std.specs.Prelude.{◌≡◌, ◌↔◌, ◌++◌, [], ℕ, Contains, IfOk};
+ghost use Rattle.std.specs.Prelude.{◌≡◌, ◌↔◌, ◌++◌, [], ℕ, Contains, IfOk, slice_get};
 ghost use Rattle.number_table.specs.declared.keys.Key.TheVariants as keys;
 ghost use Rattle.form_index.specs.Named.{class_key, property_key, by_kind, by_alone, by_first, by_second, by_filler, by_chain, by_end, by_plain};
 ghost use Rattle.form_index.specs.Under.{IsUnder};
@@ -7,6 +7,7 @@ ghost use Rattle.form_index.specs.Under.{IsUnder};
 use crate::form_index::FormIndex;
 use crate::named::{key_of_class, key_of_property};
 use facts::Context;
+use form_list::FormList;
 use normal_forms::{Class2, Form, PropId2};
 use number_table::Key;
 use std::alloc::{AllocError, Global};
@@ -16,7 +17,7 @@ use std::marker::Model;
 #[derive(Drop)]
 pub struct IndexedProblem {
     alloc: Global,
-    forms: Vec<Form>,
+    forms: FormList,
     roots: Vec<Context>,
     index: FormIndex,
 }
@@ -27,13 +28,13 @@ impl Model for IndexedProblem {
 
     ghost Value = { Problem };
 
-    ghost view = { λ p. record { forms = p.forms.items; roots = p.roots.items } };
+    ghost view = { λ p. record { forms = p.forms; roots = p.roots.items } };
 
-    ghost invariant = { λ p. IsFormIndex p.forms.items p.index };
+    ghost invariant = { λ p. IsFormIndex p.forms p.index };
 }
 
-/// The elements of the first list, and then those of the second.
-fn joined<T: Copy + Drop>(alloc: Global, first: &[T], second: &[T]) -> Result<Vec<T>, AllocError>
+/// The contexts of the first list, and then those of the second.
+fn joined(alloc: Global, first: &[Context], second: &[Context]) -> Result<Vec<Context>, AllocError>
     ensures { IfOk result (λ all. all.items ≡ first.now ++ second.now) }
 {
     let mut all = Vec::new(alloc);
@@ -50,7 +51,7 @@ impl IndexedProblem {
     {
         IndexedProblem {
             alloc,
-            forms: Vec::new(alloc),
+            forms: FormList::new(alloc),
             roots: Vec::new(alloc),
             index: FormIndex::new(alloc),
         }
@@ -58,18 +59,18 @@ impl IndexedProblem {
 
     /// The problem with these forms and contexts behind its own; the problem itself stays. Fails where memory is refused, and where
     /// there would be 2^32 forms.
-    pub fn grown(&self, forms: &[Form], roots: &[Context]) -> Result<Self, AllocError>
+    pub fn grown(&self, forms: &FormList, roots: &[Context]) -> Result<Self, AllocError>
         ensures forms { IfOk result (λ p. p.forms ≡ self.now.forms ++ forms.now) }
         ensures roots { IfOk result (λ p. p.roots ≡ self.now.roots ++ roots.now) }
     {
-        let forms = joined(self.alloc, &self.forms, forms)?;
+        let forms = self.forms.joined(forms)?;
         let roots = joined(self.alloc, &self.roots, roots)?;
         IndexedProblem::new(self.alloc, forms, roots)
     }
 
     /// The problem of these forms, of which there are fewer than 2^32, and roots. Fails where memory is refused.
-    pub fn new(alloc: Global, forms: Vec<Form>, roots: Vec<Context>) -> Result<Self, AllocError>
-        ensures forms { IfOk result (λ p. p.forms ≡ forms.items) }
+    pub fn new(alloc: Global, forms: FormList, roots: Vec<Context>) -> Result<Self, AllocError>
+        ensures forms { IfOk result (λ p. p.forms ≡ forms) }
         ensures roots { IfOk result (λ p. p.roots ≡ roots.items) }
     {
         if forms.len() > u32::MAX as usize {
@@ -85,10 +86,18 @@ impl IndexedProblem {
     }
 
     /// The forms.
-    pub fn forms(&self) -> &[Form]
+    pub fn forms(&self) -> &FormList
         ensures { result.now ≡ self.now.forms }
     {
         &self.forms
+    }
+
+    /// The form of that number, if there is one.
+    #[inline(always)]
+    pub fn form(&self, number: u32) -> Option<Form>
+        ensures { result ≡ slice_get self.now.forms number }
+    {
+        self.forms.get(number as usize)
     }
 
     /// The contexts that are there from the start.

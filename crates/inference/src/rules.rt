@@ -84,13 +84,11 @@ impl Rules<'_> {
         ensures limit { result ≡ Err Stop.Limit → HasMoreFactsThan self.now.problem.now self.now.max_facts }
         ensures drawn { OnOk result (DrawnAt (λ form. Concludes self.now.problem.now form older.now) self.now.problem.now.forms facts.new.facts number) }
     {
-        let forms = self.problem.forms();
-        if number as usize >= forms.len() {
+        let Some(form) = self.problem.form(number) else {
             return Ok(());
-        }
-        let form = &forms[number as usize];
-        if let Some(fact) = conclusion(self.closure, form, older) {
-            self.add(facts, fact, condition_of(form), numbers, Some(number))?;
+        };
+        if let Some(fact) = conclusion(self.closure, &form, older) {
+            self.add(facts, fact, condition_of(&form), numbers, Some(number))?;
         }
         Ok(())
     }
@@ -190,11 +188,10 @@ impl Rules<'_> {
         ensures limit { result ≡ Err Stop.Limit → HasMoreFactsThan self.now.problem.now self.now.max_facts }
         ensures drawn { OnOk result (DrawnAt (IsLoop context) self.now.problem.now.forms facts.new.facts number) }
     {
-        let forms = self.problem.forms();
-        if number as usize >= forms.len() {
+        let Some(form) = self.problem.form(number) else {
             return Ok(());
-        }
-        if let Some(fact) = loop_at(context, &forms[number as usize]) {
+        };
+        if let Some(fact) = loop_at(context, &form) {
             self.add(facts, fact, 10, numbers, Some(number))?;
         }
         Ok(())

@@ -28,15 +28,24 @@ fn goes_on(closure: &PropertyClosure, form: &Form) -> bool
     }
 }
 
+/// Whether the form of that number goes on, if there is one.
+fn goes_on_at(problem: &IndexedProblem, closure: &PropertyClosure, number: u32) -> bool
+    requires { IsClosureOf problem.now.forms closure.now }
+    ensures { result ≡ true → GoesOnAt problem.now.forms number }
+{
+    match problem.form(number) {
+        Some(form) => goes_on(closure, &form),
+        None => true,
+    }
+}
+
 /// Whether each of the chains of those numbers goes on.
 fn all_go_on(problem: &IndexedProblem, closure: &PropertyClosure, chains: &[u32]) -> bool
     requires { IsClosureOf problem.now.forms closure.now }
     ensures { result ≡ true → (n : ℕ) → Contains chains.now n → GoesOnAt problem.now.forms n }
 {
-    let forms = problem.forms();
     for number in chains {
-        let place = *number as usize;
-        if place < forms.len() && !goes_on(closure, &forms[place]) {
+        if !goes_on_at(problem, closure, *number) {
             return false;
         }
     }
@@ -84,9 +93,7 @@ fn is_needed(
 fn makes_transitive(problem: &IndexedProblem, number: u32, property: PropId2) -> bool
     ensures { result ≡ true → slice_get problem.now.forms number ≡ Some (the_forms.N6 property property property) }
 {
-    let forms = problem.forms();
-    let place = number as usize;
-    place < forms.len() && forms[place] == Form::N6(property, property, property)
+    problem.form(number) == Some(Form::N6(property, property, property))
 }
 
 /// Whether the form of a transitive property gave the edge of that number, which is by the property.

@@ -97,8 +97,8 @@ pub(crate) fn operands_of(problem: &IndexedProblem, number: u32) -> Option<(Clas
     ensures some { IfSome result (λ p. (c : Class3) × (slice_get problem.now.forms number ≡ Some (forms.N2 p.0 p.1 c))) }
     ensures none { IsNone result → (a b c : Class3) → slice_get problem.now.forms number ≡ Some (forms.N2 a b c) → ⊥ }
 {
-    match problem.forms().get(number as usize) {
-        Some(&Form::N2(first, second, _)) => Some((first, second)),
+    match problem.form(number) {
+        Some(Form::N2(first, second, _)) => Some((first, second)),
         _ => None,
     }
 }

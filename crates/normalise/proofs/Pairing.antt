@@ -1,6 +1,9 @@
 -- Forms with their origins.
-use Rattle.std.proofs.Common.{◌≡◌, ℕ, zero, suc, List, [], ◌∷◌, ◌++◌, length, map, slice_get, refl, ap, arith}
+use Rattle.std.proofs.Common.{◌≡◌, ℕ, zero, suc, List, [], ◌∷◌, ◌++◌, length, map, slice_get, refl, ap, ◌∙◌, arith}
 use Rattle.std.specs.Option.{option_map}
+use Rattle.std.proofs.lemmas.List.{length-map, map-append}
+use Rattle.form_list.specs.Stored.{origin_of}
+use Rattle.form_list.specs.declared.origins.StoredOrigin.{StoredOrigin}
 use Rattle.normal_forms.specs.declared.forms.Form.{Form}
 use Rattle.normal_forms.specs.declared.forms.Origin.{Origin}
 use Rattle.normalise.specs.Entries.{paired, form_in, origin_in}
@@ -28,3 +31,9 @@ paired_append [] forms' [] origins' e = refl
 paired_append [] forms' (p ∷ origins) origins' e = absurd (omega arith)
 paired_append (g ∷ forms) forms' [] origins' e = absurd (omega arith)
 paired_append (g ∷ forms) forms' (p ∷ origins) origins' e = ap (λ xs. record { form = g; origin = p } ∷ xs) (paired_append forms forms' origins origins' (omega arith))
+
+pub as_many : (forms : List Form) (origins : List StoredOrigin) → length origins ≡ length forms → length (map origin_of origins) ≡ length forms
+as_many forms origins e = length-map origins origin_of ∙ e
+
+pub origins_push : (origins : List StoredOrigin) (stored : StoredOrigin) (o : Origin) → origin_of stored ≡ o → map origin_of (origins ++ stored ∷ []) ≡ map origin_of origins ++ o ∷ []
+origins_push origins stored o e = map-append origin_of origins (stored ∷ []) ∙ ap (λ x. map origin_of origins ++ x ∷ []) e

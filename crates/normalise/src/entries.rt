@@ -1,8 +1,10 @@
 //! Forms in a row, each with what gave it.
+ghost use Rattle.form_list.specs.Stored.{origin_of};
 ghost use Rattle.std.specs.Prelude.{◌≡◌, [], ◌∷◌, ◌++◌, IfOk, OnErr, OnOk, length, map, option_map, slice_get};
 ghost use Rattle.normalise.specs.Entries.{form_in, origin_in};
 
 use axioms::Memory;
+use form_list::{FormList, StoredOrigin};
 use normal_forms::{Form, Origin};
 use std::alloc::Global;
 use std::marker::Model;
@@ -17,28 +19,30 @@ pub struct Entry {
 /// Forms, each with what gave it. The forms alone are a list too.
 #[derive(Drop)]
 pub(crate) struct Entries {
-    forms: Vec<Form>,
+    forms: FormList,
     // as many
-    origins: Vec<Origin>,
+    origins: Vec<StoredOrigin>,
 }
 
 impl Model for Entries {
-    ghost use Rattle.std.specs.Prelude.{◌≡◌, List, length};
+    ghost use Rattle.form_list.specs.Stored.{origin_of};
+    ghost use Rattle.std.specs.Prelude.{◌≡◌, List, length, map};
     ghost use Rattle.normalise.specs.declared.entries.Entry.{Entry};
     ghost use Rattle.normalise.specs.Entries.{paired};
 
     ghost Value = { List Entry };
 
-    ghost view = { λ e. paired e.forms.items e.origins.items };
+    ghost view = { λ e. paired e.forms (map origin_of e.origins.items) };
 
-    ghost invariant = { λ e. length e.origins.items ≡ length e.forms.items };
+    ghost invariant = { λ e. length e.origins.items ≡ length e.forms };
 }
 
 // The origin at that place.
-fn origin_at(origins: &[Origin], place: usize) -> Option<Origin>
-    ensures { result ≡ slice_get origins.now place }
+fn origin_at(origins: &[StoredOrigin], place: usize) -> Option<Origin>
+    ensures { result ≡ slice_get (map origin_of origins.now) place }
 {
-    origins.get(place).copied()
+    let origin = origins.get(place)?;
+    Some(origin.get())
 }
 
 impl Entries {
@@ -47,13 +51,13 @@ impl Entries {
         ensures { result ≡ [] }
     {
         Entries {
-            forms: Vec::new(alloc),
+            forms: FormList::new(alloc),
             origins: Vec::new(alloc),
         }
     }
 
     // The forms.
-    pub(crate) fn forms(&self) -> &[Form]
+    pub(crate) fn forms(&self) -> &FormList
         ensures { result.now ≡ map form_in self.now }
     {
         &self.forms
@@ -71,9 +75,12 @@ impl Entries {
         ensures ok { OnOk result (self.new ≡ self.old ++ entry ∷ []) }
         ensures err { OnErr result (self.new ≡ self.old) }
     {
-        self.forms.reserve(1)?;
-        self.origins.push(entry.origin)?;
-        self.forms.push_reserved(entry.form);
+        let Some(origin) = StoredOrigin::new(entry.origin) else {
+            return Err(Memory);
+        };
+        self.origins.reserve(1)?;
+        self.forms.push(entry.form)?;
+        self.origins.push_reserved(origin);
         Ok(())
     }
 
@@ -82,9 +89,9 @@ impl Entries {
         ensures ok { OnOk result (self.new ≡ self.old ++ more.now) }
         ensures err { OnErr result (self.new ≡ self.old) }
     {
-        self.forms.reserve(more.forms.len())?;
+        let forms = self.forms.joined(&more.forms)?;
         self.origins.extend_from_slice(&more.origins)?;
-        self.forms.extend_from_slice(&more.forms).unwrap();
+        self.forms = forms;
         Ok(())
     }
 
@@ -92,10 +99,20 @@ impl Entries {
     pub(crate) fn copy(&self, alloc: Global) -> Result<Entries, Memory>
         ensures { IfOk result (λ e. e ≡ self.now) }
     {
-        let mut forms = Vec::new(alloc);
-        forms.extend_from_slice(&self.forms)?;
+        let forms = self.forms.copy()?;
         let mut origins = Vec::new(alloc);
         origins.extend_from_slice(&self.origins)?;
         Ok(Entries { forms, origins })
+    }
+
+    // The same, so that copies of the forms are in the same memory.
+    pub(crate) fn share(self) -> Entries
+        ensures { result ≡ self }
+    {
+        let Entries { forms, origins } = self;
+        Entries {
+            forms: forms.share(),
+            origins,
+        }
     }
 }

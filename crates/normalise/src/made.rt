@@ -61,6 +61,22 @@ impl Made {
         })
     }
 
+    // The same, so that copies of the forms are in the same memory.
+    pub(crate) fn share(self) -> Made
+        ensures { result ≡ self }
+    {
+        let Made {
+            entries,
+            operands,
+            steps,
+        } = self;
+        Made {
+            entries: entries.share(),
+            operands,
+            steps,
+        }
+    }
+
     // Adds a form.
     pub(crate) fn add(&mut self, form: Form, origin: Origin) -> Result<(), Memory>
         ensures { OnOk result ((g : Formed) → Says self.old.operands self.old.steps form g → Adds self.old self.new (IsOne origin g)) }

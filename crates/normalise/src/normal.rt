@@ -5,7 +5,8 @@ ghost use Rattle.normalise.specs.Entries.{form_in, origin_in};
 
 use crate::made::Made;
 use axioms::{ExprId, Memory, PropId};
-use normal_forms::{Form, Origin};
+use form_list::FormList;
+use normal_forms::Origin;
 use std::alloc::Global;
 use std::hash::RandomState;
 use std::marker::Model;
@@ -45,7 +46,7 @@ impl Normal {
     }
 
     /// The forms, by number from 0.
-    pub fn forms(&self) -> &[Form]
+    pub fn forms(&self) -> &FormList
         ensures { result.now ≡ map form_in self.now.entries }
     {
         self.made.entries.forms()
@@ -123,5 +124,25 @@ impl Normal {
             right,
             left,
         })
+    }
+
+    /// The same, so that copies of the list of forms are in the same memory, where none is refused.
+    pub fn share(self) -> Normal
+        ensures { result ≡ self }
+    {
+        let Normal {
+            alloc,
+            made,
+            asked,
+            right,
+            left,
+        } = self;
+        Normal {
+            alloc,
+            made: made.share(),
+            asked,
+            right,
+            left,
+        }
     }
 }
