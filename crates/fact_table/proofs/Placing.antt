@@ -1,5 +1,5 @@
 -- Slots by the number of a context, as those of one number change.
-use Rattle.std.proofs.Common.{◌≡◌, ◌≢◌, ℕ, zero, suc, ◌+◌, ◌^◌, ◌<◌, ◌≤◌, inl, inr, List, [], ◌∷◌, ◌++◌, length, get_or, set, take, slice_get, Some, Result, Ok, Err, OnOk, Contains, refl, sym, ap, ◌∙◌, subst, arith}
+use Rattle.std.proofs.Common.{◌≡◌, ◌≢◌, ℕ, zero, suc, ◌+◌, ◌^◌, ◌<◌, ◌≤◌, inl, inr, List, [], ◌∷◌, ◌++◌, length, get_or, set, take, slice_get, Some, Result, Ok, Err, IfOk, OnOk, Contains, refl, sym, ap, ◌∙◌, subst, arith}
 use Rattle.std.proofs.lemmas.Bool.{cases_eq, cases_lt}
 use Rattle.std.proofs.lemmas.Nat.{and_le_r}
 use Rattle.fact_table.specs.Hashes.{hash_of}
@@ -13,7 +13,7 @@ use Rattle.fact_table.specs.declared.slots.Found.{Found}
 use Rattle.fact_table.specs.declared.slots.Found.TheVariants.{At, Free}
 use Rattle.fact_table.specs.declared.slots.Slots.{Slots}
 use Rattle.fact_table.specs.declared.slots.Slots.TheVariants.{Few, Many}
-use Rattle.fact_table.specs.Slots.{home_of, bucket_of, buckets_of, numbers_of, Stands, IsFirstFree, IsFound, AreFound, HasSlots, HasRoom, CanHold, HaveSlots, IfFree, Holds, IsReady, IsFreeAt, IsFreeFor, IsTable}
+use Rattle.fact_table.specs.Slots.{home_of, bucket_of, buckets_of, numbers_of, Stands, IsFirstFree, IsFound, AreFound, HasSlots, HasRoom, CanHold, HaveSlots, IfFree, Holds, IsFreeFor, IsTable}
 use Rattle.axioms.specs.WellFormed.{AreDistinct}
 use Rattle.fact_table.proofs.Facts.{distinct_push, distinct_take}
 
@@ -31,6 +31,13 @@ set_elsewhere (z ∷ xs) (suc i) (suc j) x ne = set_elsewhere xs i j x (λ e. ne
 
 pub same_table : {X : Type 0} (xs : List X) (i : ℕ) (x y : X) → slice_get xs i ≡ Some x → slice_get xs i ≡ Some y → x ≡ y
 same_table xs i x y e f = cc
+
+-- what is free for a fact is free in the slots of its home
+pub free_here : (seeds : Seeds) (homes : List Slots) (home slot : ℕ) (table : Slots) (fact : Fact) → home ≡ home_of fact → IsFreeFor seeds homes fact slot →
+    slice_get homes home ≡ Some table → IsFirstFree (numbers_of table) (bucket_of seeds (buckets_of table) fact) slot
+free_here seeds homes home slot table fact is free there =
+    subst (λ t. IsFirstFree (numbers_of t) (bucket_of seeds (buckets_of t) fact) slot)
+    (same_table homes (home_of fact) free.table table free.at (subst (λ i. slice_get homes i ≡ Some table) is there)) free.free
 
 -- what is found is found where other numbers are put into the slots of a home
 pub found_still : (seeds : Seeds) (homes : List Slots) (home : ℕ) (old new : Slots) (fact : Fact) (place : ℕ) →
@@ -61,9 +68,7 @@ pub found_new : (seeds : Seeds) (homes : List Slots) (home slot number : ℕ) (o
 found_new seeds homes home slot number old new fact place there same puts at_home is free = record {
   table = new;
   at = subst (λ i. slice_get (set homes home new) i ≡ Some new) (sym at_home) (set_here homes home new old there);
-  holds = rw (same, ← is) (puts (bucket_of seeds (buckets_of old) fact)
-      (subst (λ t. IsFirstFree (numbers_of t) (bucket_of seeds (buckets_of t) fact) slot)
-      (same_table homes (home_of fact) free.table old free.at (rw at_home there)) free.free));
+  holds = rw (same, ← is) (puts (bucket_of seeds (buckets_of old) fact) (free_here seeds homes home slot old fact (sym at_home) free there));
 }
 
 -- the first facts
@@ -96,6 +101,11 @@ pub on_ok : {A E : Type 0} (r : Result A E) {P Q : Type 0} → OnOk r P → (P �
 on_ok (Ok x) h f = f h
 on_ok (Err e) h f = tt
 
+-- what follows from two facts of what was answered
+pub if_ok : {A E : Type 0} (r : Result A E) {P Q R : A → Type 0} → IfOk r P → IfOk r Q → ((x : A) → P x → Q x → R x) → IfOk r R
+if_ok (Ok x) h k f = f x h k
+if_ok (Err e) h k f = tt
+
 -- what follows for the free slot
 pub if_free : (found : Found) {P Q : ℕ → Type 0} → IfFree found P → ((slot : ℕ) → P slot → Q slot) → IfFree found Q
 if_free (At place) h f = tt
@@ -120,17 +130,6 @@ found_grown seeds facts homes home old new there holds found place fact at =
         holds = here.holds;
       }
     ]
-
--- .. and more homes
-pub found_kept : (seeds : Seeds) (facts : List Fact) (homes more : List Slots) →
-    ((n : ℕ) (table : Slots) → slice_get homes n ≡ Some table → slice_get more n ≡ Some table) → AreFound seeds facts homes → AreFound seeds facts more
-found_kept seeds facts homes more kept found place fact at =
-    let here : IsFound seeds homes fact place = found place fact at in
-    record {
-      table = here.table;
-      at = kept (home_of fact) here.table here.at;
-      holds = here.holds;
-    }
 
 -- each list of slots has as many as buckets
 pub slots_set : (homes : List Slots) (home : ℕ) (old new : Slots) → slice_get homes home ≡ Some old → HaveSlots homes → HasSlots new → HaveSlots (set homes home new)
@@ -172,14 +171,7 @@ first_holds seeds (Few numbers) fact slot last first =
     ]
 first_holds seeds (Many size used numbers) fact slot room first = first.within
 
--- a free slot for the fact, in a home that is ready for it
-pub free_at : (seeds : Seeds) (homes : List Slots) (home slot : ℕ) (fact : Fact) → home ≡ home_of fact → IsReady homes home →
-    IsFreeFor seeds homes fact slot → IsFreeAt homes home slot
-free_at seeds homes home slot fact is ready free =
-    let same : ready.table ≡ free.table = same_table homes home ready.table free.table ready.at (rw is free.at) in
-    record {
-      table = free.table;
-      at = rw is free.at;
-      within = first_holds seeds free.table fact slot (subst HasRoom same ready.room) free.free;
-      free = free.free.free;
-    }
+-- the slots that are read at the home of a fact that a slot is free for
+pub read_at_home : (seeds : Seeds) (homes : List Slots) (home slot : ℕ) (table : Slots) (fact : Fact) → home ≡ home_of fact → IsFreeFor seeds homes fact slot →
+    table ≡ get_or homes home table → slice_get homes home ≡ Some table
+read_at_home seeds homes home slot table fact is free read = read_at homes home table (rw is (slice_get_within homes (home_of fact) free.table free.at)) read

@@ -96,12 +96,6 @@ AreFound seeds facts homes = (place : ℕ) (fact : Fact) → slice_get facts pla
 abbrev pub HaveSlots : List Slots → Type 0
 HaveSlots homes = (n : ℕ) (table : Slots) → slice_get homes n ≡ Some table → HasSlots table
 
--- the home has slots, with room for one number more
-pub record IsReady (homes : List Slots) (home : ℕ) : Type 0 where
-  pub table : Slots
-  pub at : slice_get homes home ≡ Some table
-  pub room : HasRoom table
-
 -- the slot is free among those of that home, and can hold a number
 pub record IsFreeAt (homes : List Slots) (home slot : ℕ) : Type 0 where
   pub table : Slots

@@ -1,9 +1,9 @@
 //! Slots by the number of the context that a fact is of.
-ghost use Rattle.fact_table.specs.Slots.{home_of, AreFound, HaveSlots, IfAt, IfFree, IsFound, IsFreeAt, IsFreeFor, IsReady, number_of};
+ghost use Rattle.fact_table.specs.Slots.{home_of, AreFound, HaveSlots, IfAt, IfFree, IsFound, IsFreeAt, IsFreeFor, number_of};
 ghost use Rattle.fact_table.specs.declared.seeds.Seeds.{Seeds as TheSeeds};
 ghost use Rattle.fact_table.specs.declared.slots.Slots.{Slots as TheSlots};
 ghost use Rattle.facts.specs.declared.contexts.Fact.{Fact as AFact};
-ghost use Rattle.std.specs.Prelude.{◌≡◌, ℕ, suc, ◌<◌, ◌≤◌, [], length, slice_get, Contains, IfSome, IsNone, OnOk, Some};
+ghost use Rattle.std.specs.Prelude.{◌≡◌, ℕ, suc, ◌<◌, ◌≤◌, [], length, slice_get, Contains, IfOk, IfSome, IsNone, OnOk, Some};
 
 use crate::seeds::Seeds;
 use crate::slots::{Found, Slots};
@@ -33,36 +33,17 @@ pub fn home_of(fact: Fact) -> usize
     }
 }
 
-/// Makes slots for the home. Fails where memory is refused; no slots go.
-fn extend(homes: &mut Vec<Slots>, home: usize) -> Result<(), Memory>
+/// Makes slots for the home. Fails where memory is refused; each fact is found as before.
+pub fn extend(homes: &mut Vec<Slots>, home: usize) -> Result<(), Memory>
     requires { HaveSlots homes.old.items }
-    ensures kept { (n : ℕ) (table : TheSlots) → slice_get homes.old.items n ≡ Some table → slice_get homes.new.items n ≡ Some table }
     ensures slots { HaveSlots homes.new.items }
+    ensures found { (seeds : TheSeeds) (fact : AFact) (place : ℕ) → IsFound seeds homes.old.items fact place → IsFound seeds homes.new.items fact place }
     ensures there { OnOk result (home < length homes.new.items) }
 {
     while homes.len() <= home {
         homes.push(Slots::new())?;
     }
     Ok(())
-}
-
-/// Makes room for one fact more of the home. Fails where memory is refused; each fact is found as before.
-#[inline(always)]
-pub fn make_room(
-    alloc: Global,
-    seeds: &Seeds,
-    facts: &[StoredFact],
-    homes: &mut Vec<Slots>,
-    home: usize,
-) -> Result<(), Memory>
-    requires slots { HaveSlots homes.old.items }
-    requires found { AreFound seeds.now facts.now homes.old.items }
-    ensures slots { HaveSlots homes.new.items }
-    ensures found { AreFound seeds.now facts.now homes.new.items }
-    ensures ready { OnOk result (IsReady homes.new.items home) }
-{
-    extend(homes, home)?;
-    homes[home].make_room(alloc, seeds, facts)
 }
 
 /// The place of the fact, if it is there, or else the slot that it goes into.
@@ -100,6 +81,28 @@ pub fn find(seeds: &Seeds, facts: &[StoredFact], homes: &[Slots], fact: Fact) ->
         Found::At(place) => Some(place),
         Found::Free(_) => None,
     }
+}
+
+/// Makes room for the fact, and tells the slot that it goes into: this one, the first that is free for it, where there was room.
+/// Fails where memory is refused; each fact is found as before.
+#[inline(always)]
+pub fn make_room(
+    alloc: Global,
+    seeds: &Seeds,
+    facts: &[StoredFact],
+    homes: &mut Vec<Slots>,
+    fact: Fact,
+    slot: usize,
+) -> Result<usize, Memory>
+    requires slots { HaveSlots homes.old.items }
+    requires found { AreFound seeds.now facts.now homes.old.items }
+    requires free { IsFreeFor seeds.now homes.old.items fact slot }
+    ensures slots { HaveSlots homes.new.items }
+    ensures found { AreFound seeds.now facts.now homes.new.items }
+    ensures free { IfOk result (λ slot. IsFreeFor seeds.now homes.new.items fact slot) }
+    ensures room { IfOk result (λ slot. IsFreeAt homes.new.items (home_of fact) slot) }
+{
+    homes[home_of(fact)].make_room(alloc, seeds, facts, fact, slot)
 }
 
 /// Puts a number into a free slot of a home. Fails where memory is refused; each fact is found as before.

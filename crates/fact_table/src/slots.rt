@@ -217,24 +217,30 @@ impl Slots {
         }
     }
 
-    /// Makes room for one fact more. Fails where memory is refused; then nothing changes.
+    /// Makes room for the fact, and tells the slot that it goes into: this one, the first that is free for it, where there was room.
+    /// Fails where memory is refused; then nothing changes.
     #[inline(always)]
     pub(crate) fn make_room(
         &mut self,
         alloc: Global,
         seeds: &Seeds,
         facts: &[StoredFact],
-    ) -> Result<(), Memory>
-        requires { HasSlots self.old }
+        fact: Fact,
+        slot: usize,
+    ) -> Result<usize, Memory>
+        requires slots { HasSlots self.old }
+        requires free { IsFirstFree (numbers_of self.old) (bucket_of seeds.now (buckets_of self.old) fact) slot }
         ensures holds { (place : ℕ) (fact : AFact) → slice_get facts.now place ≡ Some fact →
             Holds seeds.now self.old fact place → Holds seeds.now self.new fact place }
         ensures slots { HasSlots self.new }
-        ensures room { OnOk result (HasRoom self.new) }
+        ensures free { IfOk result (λ slot. IsFirstFree (numbers_of self.new) (bucket_of seeds.now (buckets_of self.new) fact) slot) }
+        ensures room { IfOk result (λ slot. CanHold self.new slot) }
     {
-        if self.is_full() {
-            return self.grow(alloc, seeds, facts);
+        if !self.is_full() {
+            return Ok(slot);
         }
-        Ok(())
+        self.grow(alloc, seeds, facts)?;
+        Ok(first_free(self.numbers(), self.bucket(seeds, fact)))
     }
 
     /// Makes twice as many buckets, or the first by hash. Fails where memory is refused; then nothing changes.

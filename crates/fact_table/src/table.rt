@@ -12,7 +12,7 @@ use std::hash::RandomState;
 use std::marker::Model;
 
 /// Facts in order, each once, fewer than 2^32, found by their hashes among those of the same context. Beside each number of a context
-/// this takes 32 bytes, in which up to seven facts are found, and 6 to 11 bytes beside a fact where there are more.
+/// this takes 32 bytes, in which up to seven facts are found, and 5 to 11 bytes beside a fact where there are more.
 #[derive(Drop)]
 pub struct FactTable {
     alloc: Global,
@@ -72,6 +72,14 @@ impl FactTable {
         homes::find(&self.seeds, &self.facts, &self.homes, fact)
     }
 
+    /// Makes room for so many facts more. Fails where memory is refused; the facts are what they were.
+    pub fn reserve(&mut self, additional: usize) -> Result<(), Memory>
+        ensures { self.new ≡ self.old }
+    {
+        self.facts.reserve(additional)?;
+        Ok(())
+    }
+
     /// Adds a fact at the end, unless it is there, and says whether it was added. Fails where memory is refused; then the facts are
     /// what they were.
     pub fn insert(&mut self, fact: Fact) -> Result<bool, Memory>
@@ -81,11 +89,19 @@ impl FactTable {
         ensures err { OnErr result (self.new ≡ self.old) }
     {
         let home = homes::home_of(fact);
-        homes::make_room(self.alloc, &self.seeds, &self.facts, &mut self.homes, home)?;
+        homes::extend(&mut self.homes, home)?;
         let Found::Free(slot) = homes::search(&self.seeds, &self.facts, &self.homes, home, fact)
         else {
             return Ok(false);
         };
+        let slot = homes::make_room(
+            self.alloc,
+            &self.seeds,
+            &self.facts,
+            &mut self.homes,
+            fact,
+            slot,
+        )?;
         self.facts.reserve(1)?;
         homes::put(&mut self.homes, home, slot, self.facts.len() as u32 + 1)?;
         self.facts.push_reserved(StoredFact::new(fact));

@@ -1,26 +1,48 @@
 use Rattle.std.proofs.Common.{◌≡◌, ◌+◌, ◌^◌, ◌<◌, [], ◌∷◌, ◌++◌, length, Contains, sym, ap, ◌∙◌, arith}
-use Rattle.std.proofs.lemmas.Option.{slice_get_within}
-use Rattle.fact_table.specs.Slots.{AreFound, IsFreeFor}
-use Rattle.fact_table.proofs.Placing.{free_at, table_push}
+use Rattle.fact_table.specs.Slots.{AreFound}
+use Rattle.fact_table.proofs.Placing.{table_push}
 use Rattle.fact_table.proofs.table.FactTable.insert.Goals as goal
 
 pub invariant_of-self : goal.invariant_of-self
 invariant_of-self c = record {
   few = c.self.invariant.few;
   distinct = c.self.invariant.distinct;
-  slots = c.make_room.ensures.slots;
-  found = rw c.deref.ensures.value at c.make_room.ensures.found;
+  slots = c.extend.ensures.slots;
+  found = λ place fact at. c.extend.ensures.found c.self.inside.seeds fact place (c.self.invariant.found place fact at);
 }
 
 pub search-requires-clause-found : goal.search-requires-clause-found
-search-requires-clause-found c = rw (c.deref-2.ensures.value, c.deref-3.ensures.value, ← c.deref.ensures.value) c.make_room.ensures.found
+search-requires-clause-found c =
+    let found : AreFound c.self.inside.seeds c.self.inside.facts.items c.extend.new.homes.items =
+    λ place fact at. c.extend.ensures.found c.self.inside.seeds fact place (c.self.invariant.found place fact at) in
+    rw (c.deref.ensures.value, c.deref-2.ensures.value) found
+
+pub search-requires-clause-there : goal.search-requires-clause-there
+search-requires-clause-there c = rw c.deref-2.ensures.value c.in_ok-extend.ensures.there
 
 pub invariant_of-self-in_default : goal.invariant_of-self-in_default
 invariant_of-self-in_default c = record {
   few = c.self.invariant.few;
   distinct = c.self.invariant.distinct;
+  slots = c.extend.ensures.slots;
+  found = λ place fact at. c.extend.ensures.found c.self.inside.seeds fact place (c.self.invariant.found place fact at);
+}
+
+pub make_room-requires-clause-found : goal.make_room-requires-clause-found
+make_room-requires-clause-found c =
+    let found : AreFound c.self.inside.seeds c.self.inside.facts.items c.extend.new.homes.items =
+    λ place fact at. c.extend.ensures.found c.self.inside.seeds fact place (c.self.invariant.found place fact at) in
+    rw c.deref-3.ensures.value found
+
+pub make_room-requires-clause-free : goal.make_room-requires-clause-free
+make_room-requires-clause-free c = rw c.deref-2.ensures.value at c.in-Free.ensures.free
+
+pub invariant_of-self-in_err-slot : goal.invariant_of-self-in_err-slot
+invariant_of-self-in_err-slot c = record {
+  few = c.self.invariant.few;
+  distinct = c.self.invariant.distinct;
   slots = c.make_room.ensures.slots;
-  found = rw c.deref.ensures.value at c.make_room.ensures.found;
+  found = rw c.deref-3.ensures.value at c.make_room.ensures.found;
 }
 
 pub invariant_of-self-in_err-reserve : goal.invariant_of-self-in_err-reserve
@@ -28,22 +50,15 @@ invariant_of-self-in_err-reserve c = rw c.reserve.ensures.items (record {
   few = c.self.invariant.few;
   distinct = c.self.invariant.distinct;
   slots = c.make_room.ensures.slots;
-  found = rw c.deref.ensures.value at c.make_room.ensures.found;
+  found = rw c.deref-3.ensures.value at c.make_room.ensures.found;
 })
 
-pub search-requires-clause-there : goal.search-requires-clause-there
-search-requires-clause-there c =
-    let ready = c.in_ok-make_room.ensures.ready in
-    rw c.deref-3.ensures.value (slice_get_within c.make_room.new.homes.items c.home_of-home.result ready.table ready.at)
-
 pub put-requires-clause-free : goal.put-requires-clause-free
-put-requires-clause-free c =
-    free_at c.self.inside.seeds c.make_room.new.homes.items c.home_of-home.result c.in-Free.slot c.args.fact c.home_of-home.ensures c.in_ok-make_room.ensures.ready
-    (rw c.deref-3.ensures.value at c.in-Free.ensures.free)
+put-requires-clause-free c = rw c.home_of-home.ensures c.in_ok-slot.ensures.room
 
 pub invariant_of-self-in_err-put : goal.invariant_of-self-in_err-put
 invariant_of-self-in_err-put c =
-    let found : AreFound c.self.inside.seeds c.self.inside.facts.items c.make_room.new.homes.items = rw c.deref.ensures.value at c.make_room.ensures.found in
+    let found : AreFound c.self.inside.seeds c.self.inside.facts.items c.make_room.new.homes.items = rw c.deref-3.ensures.value at c.make_room.ensures.found in
     rw c.reserve.ensures.items (record {
       few = c.self.invariant.few;
       distinct = c.self.invariant.distinct;
@@ -54,13 +69,12 @@ invariant_of-self-in_err-put c =
 pub invariant_of-self-2 : goal.invariant_of-self-2
 invariant_of-self-2 c =
     let facts = c.self.inside.facts.items in
-    let homes = c.make_room.new.homes.items in
     let few : length facts < 4294967295 = rw (← c.self.view_is) at c.requires in
     let short : length facts + 1 < 2 ^ 32 = omega (arith, few) in
-    let absent : Contains facts c.args.fact → ⊥ = rw c.deref-2.ensures.value at c.in-Free.ensures.absent in
-    let free : IsFreeFor c.self.inside.seeds homes c.args.fact c.in-Free.slot = rw c.deref-3.ensures.value at c.in-Free.ensures.free in
-    let found : AreFound c.self.inside.seeds facts homes = rw c.deref.ensures.value at c.make_room.ensures.found in
+    let absent : Contains facts c.args.fact → ⊥ = rw c.deref.ensures.value at c.in-Free.ensures.absent in
+    let found : AreFound c.self.inside.seeds facts c.make_room.new.homes.items = rw c.deref-3.ensures.value at c.make_room.ensures.found in
     let pushed : c.push_reserved.new.self.items ≡ facts ++ c.args.fact ∷ [] = c.push_reserved.ensures.items ∙ ap (λ f. c.reserve.new.self.items ++ f ∷ []) c.new.ensures ∙ ap (λ l. l ++ c.args.fact ∷ []) c.reserve.ensures.items in
     rw pushed (table_push c.self.inside.seeds facts c.put.new.homes.items c.args.fact short c.self.invariant.distinct absent c.put.ensures.slots
     (λ place fact at. c.put.ensures.found c.self.inside.seeds fact place (found place fact at))
-    (c.in_ok-put.ensures.stands c.self.inside.seeds c.args.fact (length facts) (sym c.home_of-home.ensures) (omega (arith, c.len.ensures, c.reserve.ensures.len, c.self.inside.facts.ok.0)) free))
+    (c.in_ok-put.ensures.stands c.self.inside.seeds c.args.fact (length facts) (sym c.home_of-home.ensures) (omega (arith, c.len.ensures, c.reserve.ensures.len, c.self.inside.facts.ok.0))
+    c.in_ok-slot.ensures.free))
