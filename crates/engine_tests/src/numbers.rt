@@ -2,7 +2,7 @@
 ghost use Rattle.std.specs.Prelude.{◌≡◌, IfOk};
 
 use number_list::NumberList;
-use number_table::{Key, KeyTable, Table};
+use number_table::Table;
 use std::alloc::{AllocError, Global};
 use std::mem::size_of;
 use std::test::Fail;
@@ -53,10 +53,5 @@ fn each_key_has_its_list(rt: HostRuntime) -> Result<(), Fail> {
     assert!(rt; table.of(0) == [2].as_slice());
     assert!(rt; table.of(1).is_empty());
     assert!(rt; table.of(4).is_empty());
-    let mut keys = KeyTable::new(rt.alloc());
-    keys.add_at(Some(Key::Partial(2)), 5)?;
-    keys.add_at(None, 6)?;
-    assert!(rt; keys.of(Key::Partial(2)) == [5].as_slice());
-    assert!(rt; keys.of(Key::Whole(2)).is_empty());
     Ok(())
 }

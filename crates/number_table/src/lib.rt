@@ -4,5 +4,5 @@
 mod keys;
 mod table;
 
-pub use keys::{Key, KeyTable};
+pub use keys::Key;
 pub use table::Table;
