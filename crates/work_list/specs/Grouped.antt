@@ -1,12 +1,17 @@
 -- Items that are popped context by context.
-use Rattle.std.specs.Prelude.{◌≡◌, ℕ, List, [], Contains, Option, Some, None}
+use Rattle.std.specs.Prelude.{◌≡◌, ℕ, List, [], Contains, Option, Some, None, Result, Ok, Err}
 use Rattle.work_list.specs.declared.item.Item.{Item}
 use Rattle.work_list.specs.Bag.{bag_of, Adds}
 
--- the items that wait, and the context of the one that was popped last
+-- the items that wait, in no order that means anything, and the context of the one that was popped last
 pub record Grouped : Type 0 where
   pub items : List Item
   pub last : Option ℕ
+
+-- new is old with the item, or the item is handed back and nothing changes
+abbrev pub PushesInto : Item → Result Unit Item → (old new : List Item) → Type 0
+PushesInto item (Ok _) old new = Adds item (bag_of old) (bag_of new)
+PushesInto item (Err back) old new = (back ≡ item) × (new ≡ old)
 
 -- the item is of the context popped last, if any of the items is
 abbrev pub StaysWith : Option ℕ → List Item → Item → Type 0

@@ -1,5 +1,4 @@
 pub mod Bag
 pub mod Grouped
-pub mod Indexed
 pub mod Order
-pub mod Places
+pub mod Stacked

@@ -3,11 +3,11 @@
 
 mod by_context;
 mod fifo;
-mod indexed;
+mod groups;
 mod item;
 mod lifo;
 mod list;
-mod places;
+mod room;
 
 pub use by_context::ByContext;
 pub use fifo::Fifo;
