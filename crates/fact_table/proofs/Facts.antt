@@ -1,7 +1,7 @@
 -- Facts that are the same, and facts each once.
 use Rattle.std.proofs.Common.{◌≡◌, ℕ, ◌<◌, inl, inr, Bool, true, List, [], ◌∷◌, ◌++◌, length, get_or, slice_get, Some, take, Contains, sym, ap, ap₂, ◌∙◌, subst}
 use Rattle.std.proofs.lemmas.Bool.{true≢false}
-use Rattle.std.proofs.lemmas.Option.{none-some, slice_get-get_or, get_or_from_slice_get}
+use Rattle.std.proofs.lemmas.Option.{slice_get-get_or, get_or_from_slice_get}
 use Rattle.std.proofs.lemmas.Bool.Decides.{Decides-eqb, Decides-like, Decides-and}
 use Rattle.std.specs.Bool.{Decides}
 use Rattle.axioms.specs.WellFormed.{AreDistinct}
@@ -45,10 +45,6 @@ same_fact (In a x) (Edge y r z) = (λ h. absurd (true≢false (sym h)), λ h. cc
 same_fact (Edge x r y) (In a z) = (λ h. absurd (true≢false (sym h)), λ h. cc)
 same_fact (Edge x r y) (Edge z s w) = Decides-like _ (λ e. cc) (λ e. (cc, (cc, cc)))
     (Decides-and _ _ (same_context x z) (Decides-and _ _ (same_property r s) (same_context y w)))
-
--- no two of no facts are equal
-pub distinct_none : AreDistinct {A = Fact} []
-distinct_none m n f g g' = absurd (none-some f g)
 
 -- a fact more that is not there
 pub distinct_push : (facts : List Fact) (fact : Fact) → AreDistinct facts → (Contains facts fact → ⊥) → AreDistinct (facts ++ fact ∷ [])

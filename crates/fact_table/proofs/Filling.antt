@@ -1,5 +1,5 @@
 -- Slots as they are filled and searched.
-use Rattle.std.proofs.Common.{◌≡◌, ◌≢◌, ℕ, suc, ◌+◌, ◌<◌, ◌≤◌, inl, inr, List, [], ◌∷◌, ◌++◌, length, get_or, set, slice_get, Some, sym, ap, ◌∙◌, subst, arith}
+use Rattle.std.proofs.Common.{◌≡◌, ◌≢◌, ℕ, suc, ◌<◌, ◌≤◌, inl, inr, List, [], ◌∷◌, ◌++◌, length, get_or, set, slice_get, Some, sym, ap, ◌∙◌, arith}
 use Rattle.std.proofs.lemmas.Bool.{cases_eq, cases_lt}
 use Rattle.std.proofs.lemmas.List.{length_push, get_or_append_left, get_or_past, get_or-set_other, get_or-set_same}
 use Rattle.std.proofs.Math.Seq.{get_or-append_seam}
@@ -61,83 +61,8 @@ pub record HasPassed (facts : List Fact) (slots : List ℕ) (bucket : ℕ) (fact
   pub no_gap : (i : ℕ) → bucket ≤ i → i < slot → get_or slots i 0 ≡ 0 → ⊥
   pub others : (i place : ℕ) → bucket ≤ i → i < slot → get_or slots i 0 ≡ suc place → slice_get facts place ≡ Some fact → ⊥
 
-pub passed_none : (facts : List Fact) (slots : List ℕ) (bucket : ℕ) (fact : Fact) → bucket ≤ length slots → HasPassed facts slots bucket fact bucket
-passed_none facts slots bucket fact within = record {
-  from = omega arith;
-  within = within;
-  no_gap = λ i low high. absurd (omega arith);
-  others = λ i place low high. absurd (omega arith);
-}
-
-pub passed_more : (facts : List Fact) (slots : List ℕ) (bucket : ℕ) (fact : Fact) (slot : ℕ) → HasPassed facts slots bucket fact slot →
-    slot < length slots → (get_or slots slot 0 ≡ 0 → ⊥) → ((place : ℕ) → get_or slots slot 0 ≡ suc place → slice_get facts place ≡ Some fact → ⊥) →
-    HasPassed facts slots bucket fact (slot + 1)
-passed_more facts slots bucket fact slot passed within taken other = record {
-  from = omega (arith, passed.from);
-  within = omega arith;
-  no_gap = λ i low high free. elim (cases_eq i slot) [
-    | inl e ↦ taken (subst (λ j. get_or slots j 0 ≡ 0) e free)
-    | inr ne ↦ passed.no_gap i low (omega (arith, ne)) free
-  ];
-  others = λ i place low high is there. elim (cases_eq i slot) [
-    | inl e ↦ other place (subst (λ j. get_or slots j 0 ≡ suc place) e is) there
-    | inr ne ↦ passed.others i place low (omega (arith, ne)) is there
-  ];
-}
-
--- where a search has come to a free slot, that is the first
-pub passed_free : (facts : List Fact) (slots : List ℕ) (bucket : ℕ) (fact : Fact) (slot : ℕ) → HasPassed facts slots bucket fact slot →
-    get_or slots slot 0 ≡ 0 → IsFirstFree slots bucket slot
-passed_free facts slots bucket fact slot passed free = record {
-  from = passed.from;
-  within = passed.within;
-  free = free;
-  no_gap = passed.no_gap;
-}
-
--- .. and the fact does not stand in the slots
-pub passed_absent : (facts : List Fact) (slots : List ℕ) (bucket : ℕ) (fact : Fact) (slot : ℕ) → HasPassed facts slots bucket fact slot →
-    get_or slots slot 0 ≡ 0 → (place : ℕ) → slice_get facts place ≡ Some fact → Stands slots bucket (suc place) → ⊥
-passed_absent facts slots bucket fact slot passed free place there stood =
-    elim (cases_lt stood.slot slot) [
-      | inl before ↦ passed.others stood.slot place stood.from before stood.holds there
-      | inr reached ↦ elim (cases_eq stood.slot slot) [
-        | inl e ↦ absurd (omega (arith, stood.holds, ap (λ i. get_or slots i 0) e, free))
-        | inr ne ↦ stood.no_gap slot passed.from (omega (arith, ne, reached)) free
-      ]
-    ]
-
--- behind the last slot each is free
-pub free_at_end : (slots : List ℕ) (slot : ℕ) → length slots ≤ slot → get_or slots slot 0 ≡ 0
-free_at_end slots slot past = get_or_past slots slot 0 past
-
 -- the first free slot, without a fact
 pub record IsFilled (slots : List ℕ) (bucket slot : ℕ) : Type 0 where
   pub from : bucket ≤ slot
   pub within : slot ≤ length slots
   pub no_gap : (i : ℕ) → bucket ≤ i → i < slot → get_or slots i 0 ≡ 0 → ⊥
-
-pub filled_none : (slots : List ℕ) (bucket : ℕ) → bucket ≤ length slots → IsFilled slots bucket bucket
-filled_none slots bucket within = record {
-  from = omega arith;
-  within = within;
-  no_gap = λ i low high. absurd (omega arith);
-}
-
-pub filled_more : (slots : List ℕ) (bucket slot : ℕ) → IsFilled slots bucket slot → slot < length slots → (get_or slots slot 0 ≡ 0 → ⊥) → IsFilled slots bucket (slot + 1)
-filled_more slots bucket slot filled within taken = record {
-  from = omega (arith, filled.from);
-  within = omega arith;
-  no_gap = λ i low high free. elim (cases_eq i slot) [
-    | inl e ↦ taken (subst (λ j. get_or slots j 0 ≡ 0) e free)
-    | inr ne ↦ filled.no_gap i low (omega (arith, ne)) free
-  ];
-}
-
-pub filled_first : (slots : List ℕ) (bucket slot : ℕ) → IsFilled slots bucket slot → get_or slots slot 0 ≡ 0 → IsFirstFree slots bucket slot
-filled_first slots bucket slot filled free = record {
-  from = filled.from;
-  within = filled.within;
-  free = free;
-  no_gap = filled.no_gap;
-}
