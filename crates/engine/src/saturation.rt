@@ -52,7 +52,7 @@ impl Saturation {
         ensures sound { IfOk result (IsSound ontology.now) }
         ensures unserved { IfOk result (λ s. s.state.served ≡ []) }
     {
-        let normal = normalise(alloc, state, ontology)?;
+        let normal = normalise(alloc, state, ontology)?.share();
         let state = begun(alloc, state, ontology, &normal)?;
         state.well_formed();
         Ok(Saturation {

@@ -83,7 +83,7 @@ fn each_list_has_its_order(rt: HostRuntime) -> Result<(), Fail> {
     let last = popped(&mut Lifo::new(alloc), alloc)?;
     assert!(rt; last.as_slice() == [4, 3, 2, 1, 0].as_slice());
     let together = popped(&mut ByContext::new(alloc), alloc)?;
-    assert!(rt; together.as_slice() == [4, 2, 0, 3, 1].as_slice());
+    assert!(rt; together.as_slice() == [3, 1, 4, 2, 0].as_slice());
     let mut scripted = Scripted {
         items: Vec::new(alloc),
         places: vec![in alloc; 1, 0, 2]?,

@@ -1,6 +1,7 @@
 //! Paths worked out by hand.
 
 use axioms::{Memory, PropId};
+use form_list::FormList;
 use normal_forms::{Class2, Form};
 use property_paths::PropertyPaths;
 use std::alloc::Global;
@@ -23,7 +24,7 @@ fn paths(alloc: Global) -> Result<PropertyPaths, Memory> {
         Form::N5(S, R),
         Form::N5(S, T),
     ];
-    PropertyPaths::new(alloc, 4, &forms)
+    PropertyPaths::new(alloc, 4, &FormList::of(alloc, &forms)?)
 }
 
 #[test]

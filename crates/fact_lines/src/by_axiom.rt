@@ -77,7 +77,7 @@ pub(crate) fn shown_by_axiom<L: LineSink>(
     let Some(stated) = ontology.axiom(number) else {
         unreachable!()
     };
-    let form = saturation.normal().forms()[form as usize];
+    let form = saturation.normal().forms().at(form as usize);
     let older = rests_on(saturation.normal(), birth);
     let numbers = premises(
         alloc, ontology, saturation, paths, derivation, shown, older, &form,

@@ -69,7 +69,7 @@ pub(crate) fn shown_by_expression<L: LineSink>(
     let Some(number) = birth.form() else {
         unreachable!()
     };
-    let form = saturation.normal().forms()[number as usize];
+    let form = saturation.normal().forms().at(number as usize);
     let numbers = premises(
         alloc,
         ontology,

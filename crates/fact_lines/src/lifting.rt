@@ -31,7 +31,7 @@ fn step(normal: &Normal, form: usize) -> Option<(PropId, usize)>
     let Some(Origin::Axiom(axiom)) = normal.origin(form) else {
         return None;
     };
-    match normal.forms()[form] {
+    match normal.forms().at(form) {
         Form::N5(_, above) => Some((above, axiom)),
         _ => None,
     }

@@ -45,12 +45,9 @@ each P xs items i same long before x there =
 pub member_at : {X : Type 0} (xs items : List X) (i : ℕ) (d : X) → items ≡ xs → i < length items → Contains xs (get_or items i d)
 member_at {X} xs items i d same low = subst (λ (ys : List X). Contains ys (get_or items i d)) same (Contains-get_or items i d low)
 
--- the form that is read at a place
-pub read_at : (forms items : List Form) (n : ℕ) (d : Form) → items ≡ forms → n < length items → slice_get forms n ≡ Some (get_or items n d)
-read_at forms items n d same low = subst (λ (fs : List Form). slice_get fs n ≡ Some (get_or items n d)) same (slice_get-get_or items n d low)
-
-pub drawn_here : (D : Form → Fact → Type 0) (forms items : List Form) (n : ℕ) (d : Form) (facts : List Fact) → items ≡ forms → n < length items → ((f : Fact) → D (get_or items n d) f → Contains facts f) → DrawnAt D forms facts n
-drawn_here D forms items n d facts same low here form at f w = here f (subst (λ (x : Form). D x f) (one_value _ form (get_or items n d) at (read_at forms items n d same low)) w)
+-- what the form that is read at a place gives is there
+pub drawn_here : (D : Form → Fact → Type 0) (forms : List Form) (n : ℕ) (read : Form) (facts : List Fact) → slice_get forms n ≡ Some read → ((f : Fact) → D read f → Contains facts f) → DrawnAt D forms facts n
+drawn_here D forms n read facts is here form at f w = here f (subst (λ (x : Form). D x f) (one_value _ form read at is) w)
 
 -- what the form at a place gives is there still
 pub drawn_at_still : {k : Problem} {most : ℕ} {a b : Derived} → Grows k most a b → (D : Form → Fact → Type 0) (forms : List Form) (n : ℕ) → DrawnAt D forms a.facts n → DrawnAt D forms b.facts n

@@ -1,5 +1,5 @@
 -- What intersections give from the classes in a context.
-use Rattle.std.proofs.Common.{◌≡◌, ℕ, List, [], ◌∷◌, slice_get, Some, Contains, inl, refl, sym, ap₂, subst}
+use Rattle.std.proofs.Common.{◌≡◌, ℕ, List, [], ◌∷◌, slice_get, Some, Contains, inl, sym, ap₂, subst}
 use Rattle.normal_forms.specs.declared.forms.Form.{Form}
 use Rattle.normal_forms.specs.declared.forms.Form.TheVariants.{N1, N2, N3, N4, N5, N6, N7, N8, N9}
 use Rattle.normal_forms.specs.declared.forms.Class2.{Class2}
@@ -7,7 +7,6 @@ use Rattle.facts.specs.declared.contexts.Context.{Context}
 use Rattle.facts.specs.declared.contexts.Fact.{Fact}
 use Rattle.facts.specs.declared.contexts.Fact.TheVariants.{In, Edge}
 use Rattle.facts.specs.Closure.{Problem, Concludes, FromTwo, in_thing, in_itself, by_form, unsatisfiable, loop}
-use Rattle.form_index.specs.Named.{class_key, by_first, by_second}
 use Rattle.inference.specs.Derived.{Derived, Grows}
 use Rattle.inference.specs.Visited.{IsClassFact}
 use Rattle.inference.specs.Working.{DrawnAt, IsDrawnIn, MeetsOperands, MeetEachOther, DrawnButSpared}

@@ -1,6 +1,5 @@
 -- What two facts are spared, and that it stays so.
-use Rattle.std.proofs.Common.{◌≡◌, inl, inr, ⊎_elim, ℕ, ◌<◌, ◌≤◌, Bool, true, List, [], ◌∷◌, get_or, length, slice_get, Some, None, Option, refl, ap, subst, arith}
-use Rattle.std.proofs.lemmas.Option.{slice_get_within, slice_get-get_or}
+use Rattle.std.proofs.Common.{◌≡◌, inl, inr, ⊎_elim, ℕ, Bool, true, List, [], ◌∷◌, slice_get, Some, None, Option, refl, subst}
 use Rattle.normal_forms.specs.declared.forms.Form.{Form}
 use Rattle.normal_forms.specs.declared.forms.Form.TheVariants.{N1, N2, N3, N4, N5, N6, N7, N8, N9}
 use Rattle.normal_forms.specs.declared.forms.PropId2.{PropId2}
@@ -83,10 +82,5 @@ spared_edge k d z q v is_given given none f _ _ _ (loop u m form at l c) = absur
 
 -- ---- whether a chain goes on, by what is read at its place
 
-pub goes_on_here : (forms items : List Form) (n : ℕ) (d : Form) → items ≡ forms → n < length items → GoesOn forms (get_or items n d) → GoesOnAt forms n
-goes_on_here forms items n d same low on form at =
-    let read : slice_get forms n ≡ Some (get_or items n d) = subst (λ (fs : List Form). slice_get fs n ≡ Some (get_or items n d)) same (slice_get-get_or items n d low) in
-    subst (GoesOn forms) (one_value _ (get_or items n d) form read at) on
-
-pub goes_on_past : (forms items : List Form) (n : ℕ) → items ≡ forms → length items ≤ n → GoesOnAt forms n
-goes_on_past forms items n same high form at = absurd (omega (arith, slice_get_within forms n form at, ap length same, high))
+pub goes_on_here : (forms : List Form) (n : ℕ) (read : Form) → slice_get forms n ≡ Some read → GoesOn forms read → GoesOnAt forms n
+goes_on_here forms n read is on form at = subst (GoesOn forms) (one_value _ read form is at) on

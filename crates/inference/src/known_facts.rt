@@ -121,6 +121,15 @@ impl KnownFacts {
         Ok(is_new)
     }
 
+    /// Makes room for so many facts more at once, where memory is to be had; else room is made as they come.
+    pub fn expect(&mut self, more: usize)
+        ensures { self.new ≡ self.old }
+    {
+        if self.births.reserve(more).is_ok() && self.facts.reserve(more).is_ok() {
+            return;
+        }
+    }
+
     /// Keeps the first so many facts.
     pub fn truncate(&mut self, len: usize)
         ensures facts { self.new.facts ≡ take len self.old.facts }

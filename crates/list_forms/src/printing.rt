@@ -150,9 +150,10 @@ pub(crate) fn push_forms(
     text: &mut String,
     normal: &Normal,
 ) -> Result<(), AllocError> {
-    for (number, form) in normal.forms().iter().enumerate() {
-        push_inclusion(alloc, text, normal, *form)?;
-        push_other(alloc, text, normal, *form)?;
+    for number in 0..normal.forms().len() {
+        let form = normal.forms().at(number);
+        push_inclusion(alloc, text, normal, form)?;
+        push_other(alloc, text, normal, form)?;
         push_origin(alloc, text, normal.origin(number))?;
         text.push_str("\n")?;
     }

@@ -6,7 +6,7 @@ ghost use Rattle.std.specs.Prelude.{◌<◌, ◌≡◌, ◌≤◌, ◌^◌, IfOk
 use crate::search::{Reached, Search};
 use crate::told::all_told;
 use axioms::{Memory, PropId};
-use normal_forms::Form;
+use form_list::FormList;
 use number_sets::PackedLists;
 use std::alloc::Global;
 
@@ -14,7 +14,7 @@ use std::alloc::Global;
 pub(crate) fn all_above(
     alloc: Global,
     properties: usize,
-    forms: &[Form],
+    forms: &FormList,
 ) -> Result<PackedLists<Reached>, Memory>
     requires numbers { properties ≤ 2 ^ 32 }
     requires few { length forms.now ≤ 2 ^ 32 }

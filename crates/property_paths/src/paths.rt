@@ -9,7 +9,7 @@ use crate::above::all_above;
 use crate::search::Reached;
 use crate::walk::{place_of, walk};
 use axioms::{Memory, PropId};
-use normal_forms::Form;
+use form_list::FormList;
 use number_sets::PackedLists;
 use std::alloc::Global;
 use std::marker::Model;
@@ -17,7 +17,7 @@ use std::marker::Model;
 /// For each property those above it, each with the plain form that leads there.
 #[derive(Drop)]
 pub struct PropertyPaths {
-    forms: Vec<Form>,
+    forms: FormList,
     above: PackedLists<Reached>,
 }
 
@@ -28,18 +28,9 @@ impl Model for PropertyPaths {
 
     ghost Value = { List Form2 };
 
-    ghost view = { λ p. p.forms.items };
+    ghost view = { λ p. p.forms };
 
-    ghost invariant = { λ p. AreAllReached p.forms.items p.above };
-}
-
-/// The same forms.
-fn copied(alloc: Global, forms: &[Form]) -> Result<Vec<Form>, Memory>
-    ensures { IfOk result (λ v. v.items ≡ forms.now) }
-{
-    let mut all = Vec::new(alloc);
-    all.extend_from_slice(forms)?;
-    Ok(all)
+    ghost invariant = { λ p. AreAllReached p.forms p.above };
 }
 
 impl PropertyPaths {
@@ -48,7 +39,7 @@ impl PropertyPaths {
     /// # Errors
     ///
     /// `Memory` where memory was refused, or there are more than 2^32 - 1 forms.
-    pub fn new(alloc: Global, properties: usize, forms: &[Form]) -> Result<PropertyPaths, Memory>
+    pub fn new(alloc: Global, properties: usize, forms: &FormList) -> Result<PropertyPaths, Memory>
         requires numbers { properties ≤ 2 ^ 32 }
         requires forms { All (IsPropertyFormOf properties (2 ^ 32)) forms.now }
         ensures { IfOk result (λ p. p ≡ forms.now) }
@@ -58,7 +49,7 @@ impl PropertyPaths {
         }
         let above = all_above(alloc, properties, forms)?;
         Ok(PropertyPaths {
-            forms: copied(alloc, forms)?,
+            forms: forms.copy()?,
             above,
         })
     }

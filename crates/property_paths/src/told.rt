@@ -3,6 +3,7 @@ ghost use Rattle.property_paths.specs.Search.{AreLeadsWithin, AreTold};
 ghost use Rattle.std.specs.Prelude.{◌≤◌, ◌^◌, IfOk, length};
 
 use axioms::{Memory, PropId};
+use form_list::FormList;
 use normal_forms::Form;
 use number_sets::{OpenLists, PackedLists};
 use std::alloc::Global;
@@ -18,18 +19,18 @@ pub(crate) struct Told {
 pub(crate) fn all_told(
     alloc: Global,
     properties: usize,
-    forms: &[Form],
+    forms: &FormList,
 ) -> Result<PackedLists<Told>, Memory>
     requires few { length forms.now ≤ 2 ^ 32 }
     requires within { AreLeadsWithin properties forms.now }
     ensures { IfOk result (λ l. AreTold properties forms.now l) }
 {
     let mut told = OpenLists::new(alloc, properties)?;
-    for (number, form) in forms.iter().enumerate() {
-        if let Form::N5(sub, sup) = form {
+    for number in 0..forms.len() {
+        if let Form::N5(sub, sup) = forms.at(number) {
             let step = Told {
                 form: number as u32,
-                above: *sup,
+                above: sup,
             };
             told.push(sub.index(), step)?;
         }

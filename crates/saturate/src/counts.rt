@@ -3,6 +3,7 @@ ghost use Rattle.saturate.specs.Counts.{HasNames, HasProperty, IsMore, IsSmall};
 ghost use Rattle.normal_forms.specs.declared.forms.Form.{Form as Form2};
 ghost use Rattle.std.specs.Prelude.{Contains};
 
+use form_list::FormList;
 use normal_forms::{Form, PropId2};
 
 /// A number of properties and one of beginnings of chains.
@@ -53,7 +54,7 @@ impl Counts {
 }
 
 /// So many that what the forms name is among them.
-pub(crate) fn counted(forms: &[Form]) -> Counts
+pub(crate) fn counted(forms: &FormList) -> Counts
     ensures small { IsSmall result }
     ensures has { (form : Form2) → Contains forms.now form → HasNames result form }
 {
@@ -61,8 +62,8 @@ pub(crate) fn counted(forms: &[Form]) -> Counts
         properties: 0,
         partials: 0,
     };
-    for form in forms {
-        counts = counts.with_form(form);
+    for number in 0..forms.len() {
+        counts = counts.with_form(&forms.at(number));
     }
     counts
 }

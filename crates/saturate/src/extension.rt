@@ -12,8 +12,8 @@ use crate::queue::{Queue, has_flag};
 use axioms::Memory;
 use fact_index::Index;
 use form_index::IndexedProblem;
+use form_list::FormList;
 use inference::{KnownFacts, Rules, is_filler, stands_second};
-use normal_forms::Form;
 use std::alloc::Global;
 use work_list::WorkList;
 
@@ -39,7 +39,7 @@ fn flagged(
 fn flags_of(
     alloc: Global,
     ground: &Ground,
-    forms: &[Form],
+    forms: &FormList,
     facts: &KnownFacts,
     served: &[u32],
 ) -> Result<Vec<bool>, Memory>
@@ -98,6 +98,20 @@ fn indexed(
     Ok(index)
 }
 
+/// How many facts a form leads to in most ontologies, and a context alone. Where there is room for so many from the start, less memory
+/// is left unused by lists that grew out of it.
+const FACTS_OF_FORM: usize = 8;
+
+const FACTS_OF_CONTEXT: usize = 4;
+
+/// How many facts there may well be. It decides nothing.
+fn expected(ground: &Ground) -> usize {
+    let problem = ground.problem();
+    let of_forms = problem.forms().len().saturating_mul(FACTS_OF_FORM);
+    let of_contexts = problem.roots().len().saturating_mul(FACTS_OF_CONTEXT);
+    of_forms.saturating_add(of_contexts)
+}
+
 /// Adds what is there at once, and makes the facts that are flagged wait again. Changes nothing where memory is refused.
 fn begun_again<W: WorkList>(
     alloc: Global,
@@ -114,6 +128,7 @@ fn begun_again<W: WorkList>(
     ensures queue { OnErr result (queue.new ≡ queue.old) }
 {
     let before = facts.len();
+    facts.expect(expected(ground).saturating_sub(before));
     let rules = Rules {
         problem: ground.problem(),
         closure: ground.closure(),
@@ -134,7 +149,7 @@ fn begun_again<W: WorkList>(
 pub(crate) fn restart<W: WorkList>(
     alloc: Global,
     ground: &Ground,
-    forms: &[Form],
+    forms: &FormList,
     facts: &mut KnownFacts,
     queue: &mut Queue<W>,
     index: &mut Index,

@@ -1,5 +1,6 @@
 //! What facts are drawn from.
 ghost use Rattle.inference.specs.Closed.{IsClosureOf};
+ghost use Rattle.normal_forms.specs.Properties.{property_forms};
 ghost use Rattle.saturate.specs.Growing.{with_more};
 ghost use Rattle.std.specs.Prelude.{◌≡◌, [], IfOk};
 
@@ -7,6 +8,7 @@ use crate::counts::counted;
 use axioms::Memory;
 use facts::Context;
 use form_index::IndexedProblem;
+use form_list::FormList;
 use normal_forms::Form;
 use property_closure::{PropertyClosure, close};
 use std::alloc::Global;
@@ -30,12 +32,27 @@ impl Model for Ground {
     ghost invariant = { λ g. IsClosureOf g.problem.forms g.closure };
 }
 
+/// The forms of properties among these.
+fn property_forms_of(alloc: Global, forms: &FormList) -> Result<Vec<Form>, Memory>
+    ensures { IfOk result (λ v. v.items ≡ property_forms forms.now) }
+{
+    let mut kept = Vec::new(alloc);
+    for number in 0..forms.len() {
+        let form = forms.at(number);
+        if form.is_of_properties() {
+            kept.push(form)?;
+        }
+    }
+    Ok(kept)
+}
+
 /// What the forms say of properties.
-fn closed(alloc: Global, forms: &[Form]) -> Result<PropertyClosure, Memory>
+fn closed(alloc: Global, forms: &FormList) -> Result<PropertyClosure, Memory>
     ensures { IfOk result (λ c. IsClosureOf forms.now c) }
 {
     let counts = counted(forms);
-    close(alloc, counts.properties, counts.partials, forms)
+    let of_properties = property_forms_of(alloc, forms)?;
+    close(alloc, counts.properties, counts.partials, &of_properties)
 }
 
 impl Ground {
@@ -44,13 +61,18 @@ impl Ground {
         ensures forms { IfOk result (λ g. g.forms ≡ []) }
         ensures roots { IfOk result (λ g. g.roots ≡ []) }
     {
-        let closure = closed(alloc, &[])?;
+        let closure = closed(alloc, &FormList::new(alloc))?;
         let problem = IndexedProblem::empty(alloc);
         Ok(Ground { problem, closure })
     }
 
     /// The same forms and contexts, and then those that are added.
-    pub fn grown(&self, alloc: Global, forms: &[Form], roots: &[Context]) -> Result<Ground, Memory>
+    pub fn grown(
+        &self,
+        alloc: Global,
+        forms: &FormList,
+        roots: &[Context],
+    ) -> Result<Ground, Memory>
         ensures { IfOk result (λ g. g ≡ with_more self.now forms.now roots.now) }
     {
         let problem = self.problem.grown(forms, roots)?;

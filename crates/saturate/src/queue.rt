@@ -203,7 +203,7 @@ impl<W: WorkList> Queue<W> {
         }
         self.taken.reserve(1)?;
         if let Some(item) = self.list.pop() {
-            let _ = self.taken.push(item.fact);
+            self.taken.push_reserved(item.fact);
         }
         Ok(())
     }

@@ -16,8 +16,8 @@ use crate::queue::Queue;
 use axioms::Memory;
 use fact_index::Index;
 use facts::{Birth, Context, FactId, StoredFact};
+use form_list::FormList;
 use inference::{KnownFacts, Rules, Stop, is_filler, stands_second};
-use normal_forms::Form;
 use property_closure::PropertyClosure;
 use std::alloc::Global;
 use std::hash::RandomState;
@@ -73,7 +73,7 @@ impl<W: WorkList> State<W> {
     /// # Errors
     ///
     /// `Memory` where memory was refused, or there would be 2^32 forms or facts; then nothing changes.
-    pub fn extend(&mut self, forms: &[Form], roots: &[Context]) -> Result<(), Memory>
+    pub fn extend(&mut self, forms: &FormList, roots: &[Context]) -> Result<(), Memory>
         ensures grown { OnOk result (HasGrown forms.now roots.now self.old self.new) }
         ensures served { OnOk result (KeepsServed self.new.problem.forms forms.now self.old.facts self.old.served self.new.served) }
         ensures born { AreBorn self.new }

@@ -7,6 +7,7 @@ use crate::problems::{
 };
 use axioms::Memory;
 use facts::{FactId, Older, StoredFact};
+use form_list::FormList;
 use saturate::{State, Stop};
 use std::alloc::Global;
 use std::hash::RandomState;
@@ -74,6 +75,7 @@ const SCRIPTS: &[&[Act]] = &[
 /// How much of a problem a state has by now, and how many calls were refused.
 #[derive(Drop)]
 struct Progress {
+    alloc: Global,
     forms: usize,
     roots: usize,
     refused: u32,
@@ -94,10 +96,11 @@ fn extend<W: WorkList>(
     forms: usize,
     roots: usize,
 ) -> Result<bool, Stop> {
-    let added = state.extend(
-        next(problem.forms, progress.forms, forms),
-        next(problem.roots, progress.roots, roots),
-    );
+    let more = next(problem.forms, progress.forms, forms);
+    let Ok(more) = FormList::of(progress.alloc, more) else {
+        return Err(Stop::Memory);
+    };
+    let added = state.extend(&more, next(problem.roots, progress.roots, roots));
     if added.is_err() {
         return Err(Stop::Memory);
     }
@@ -210,6 +213,7 @@ fn grows<W: WorkList + Drop>(
         return None;
     };
     let mut progress = Progress {
+        alloc,
         forms: 0,
         roots: 0,
         refused: 0,
@@ -279,8 +283,11 @@ fn by_each_script(
 }
 
 /// Adds all of the problem and runs to the end.
-fn run_whole(state: &mut State<Fifo>, problem: &Problem) -> Result<(), Stop> {
-    let Ok(()) = state.extend(problem.forms, problem.roots) else {
+fn run_whole(state: &mut State<Fifo>, alloc: Global, problem: &Problem) -> Result<(), Stop> {
+    let Ok(forms) = FormList::of(alloc, problem.forms) else {
+        return Err(Stop::Memory);
+    };
+    let Ok(()) = state.extend(&forms, problem.roots) else {
         return Err(Stop::Memory);
     };
     state.run(problem.facts)
@@ -291,7 +298,7 @@ fn fits(alloc: Global, seed: RandomState, problem: &Problem) -> bool {
     let Ok(mut whole) = State::new(alloc, seed, Fifo::new(alloc)) else {
         return false;
     };
-    let right = run_whole(&mut whole, problem) == Ok(())
+    let right = run_whole(&mut whole, alloc, problem) == Ok(())
         && by_each_script(alloc, seed, problem, whole.facts());
     drop(whole);
     right

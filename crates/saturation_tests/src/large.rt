@@ -2,6 +2,7 @@
 
 use axioms::{ExprId, Memory};
 use facts::Context;
+use form_list::FormList;
 use normal_forms::{Class2, Form};
 use saturate::State;
 use std::alloc::Global;
@@ -15,7 +16,7 @@ fn after(others: u32) -> ExprId {
 }
 
 /// The form that puts the first class of the pair of that number below the second, and both as contexts.
-fn add_pair(forms: &mut Vec<Form>, roots: &mut Vec<Context>, pair: u32) -> Result<(), Memory> {
+fn add_pair(forms: &mut FormList, roots: &mut Vec<Context>, pair: u32) -> Result<(), Memory> {
     let first = after(pair.saturating_mul(2));
     let second = after(pair.saturating_mul(2).saturating_add(1));
     forms.push(Form::N1(Class2::Expr(first), Class2::Expr(second)))?;
@@ -26,7 +27,7 @@ fn add_pair(forms: &mut Vec<Form>, roots: &mut Vec<Context>, pair: u32) -> Resul
 
 /// Adds the pairs of classes of these numbers, each with the first below the second.
 fn extend(state: &mut State<Fifo>, alloc: Global, from: u32, to: u32) -> Result<(), Memory> {
-    let mut forms = Vec::new(alloc);
+    let mut forms = FormList::new(alloc);
     let mut roots = Vec::new(alloc);
     for pair in from..to {
         add_pair(&mut forms, &mut roots, pair)?;
@@ -49,7 +50,7 @@ fn facts_with(state: &mut State<Fifo>, alloc: Global, from: u32, to: u32) -> Opt
 /// class, two in that of each second, and three in those of `owl:Thing` and `owl:Nothing`.
 fn grows(state: &mut State<Fifo>, alloc: Global) -> bool {
     let ends = [Context::Expr(ExprId::THING), Context::Expr(ExprId::NOTHING)];
-    state.extend(&[], &ends).is_ok()
+    state.extend(&FormList::new(alloc), &ends).is_ok()
         && facts_with(state, alloc, 0, 100_000) == Some(500_003)
         && facts_with(state, alloc, 100_000, 110_000) == Some(550_003)
         && state.served() == 550_003

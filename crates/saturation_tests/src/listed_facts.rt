@@ -3,6 +3,7 @@
 use crate::problems::{PROBLEMS, Problem};
 use axioms::{ExprId, IndId, PropId};
 use facts::{Context, Fact};
+use form_list::FormList;
 use normal_forms::{Class2, Form};
 use saturate::{State, Stop};
 use std::alloc::Global;
@@ -61,20 +62,30 @@ fn serves<W: WorkList>(state: &mut State<W>, facts: u32, refused: &mut u32) -> b
 /// Whether the lists are right from these forms and contexts on.
 fn extends<W: WorkList>(
     state: &mut State<W>,
+    alloc: Global,
     forms: &[Form],
     roots: &[Context],
     facts: u32,
     refused: &mut u32,
 ) -> bool {
-    state.extend(forms, roots).is_ok() && lists_served(state) && serves(state, facts, refused)
+    let Ok(forms) = FormList::of(alloc, forms) else {
+        return false;
+    };
+    state.extend(&forms, roots).is_ok() && lists_served(state) && serves(state, facts, refused)
 }
 
 /// Whether the lists are right throughout, with half of the forms first and then the others.
-fn in_two_parts<W: WorkList>(state: &mut State<W>, problem: &Problem) -> bool {
+fn in_two_parts<W: WorkList>(state: &mut State<W>, alloc: Global, problem: &Problem) -> bool {
     let (first, rest) = problem.forms.split_at(problem.forms.len() / 2);
     let mut refused = 0;
-    extends(state, first, problem.roots, problem.facts, &mut refused)
-        && extends(state, rest, &[], problem.facts, &mut refused)
+    extends(
+        state,
+        alloc,
+        first,
+        problem.roots,
+        problem.facts,
+        &mut refused,
+    ) && extends(state, alloc, rest, &[], problem.facts, &mut refused)
         && refused > 0
         && state.served() == problem.facts as usize
 }
@@ -106,7 +117,7 @@ fn lists(alloc: Global, seed: RandomState, problem: &Problem, rows: &[Row]) -> b
     let Ok(mut state) = State::new(alloc, seed, Fifo::new(alloc)) else {
         return false;
     };
-    let right = in_two_parts(&mut state, problem) && has_rows(&state, rows);
+    let right = in_two_parts(&mut state, alloc, problem) && has_rows(&state, rows);
     drop(state);
     right
 }

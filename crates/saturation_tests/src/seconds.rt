@@ -3,6 +3,7 @@ ghost use Rattle.work_list.specs.Bag.{IsEmpty};
 
 use crate::problems::{ALL_GO_ON, ONE_ENDS, Problem};
 use facts::{Fact, FactId, Older};
+use form_list::FormList;
 use saturate::{State, Stop};
 use std::alloc::Global;
 use std::hash::RandomState;
@@ -41,15 +42,19 @@ fn have_stated_seconds<W: WorkList>(state: &State<W>, facts: u32) -> bool {
 /// Runs over the problem's first forms, and then over all.
 fn run_in_two_parts<W: WorkList>(
     state: &mut State<W>,
+    alloc: Global,
     problem: &Problem,
     first: usize,
 ) -> Result<(), Stop> {
-    let first = first.min(problem.forms.len());
-    let Ok(()) = state.extend(&problem.forms[..first], problem.roots) else {
+    let (first, rest) = problem.forms.split_at(first.min(problem.forms.len()));
+    let (Ok(first), Ok(rest)) = (FormList::of(alloc, first), FormList::of(alloc, rest)) else {
+        return Err(Stop::Memory);
+    };
+    let Ok(()) = state.extend(&first, problem.roots) else {
         return Err(Stop::Memory);
     };
     state.run(problem.facts)?;
-    let Ok(()) = state.extend(&problem.forms[first..], &[]) else {
+    let Ok(()) = state.extend(&rest, &[]) else {
         return Err(Stop::Memory);
     };
     state.run(problem.facts)
@@ -70,7 +75,7 @@ fn has<W: WorkList + Drop>(
     let Ok(mut state) = State::new(alloc, seed, list) else {
         return false;
     };
-    let right = run_in_two_parts(&mut state, problem, first) == Ok(())
+    let right = run_in_two_parts(&mut state, alloc, problem, first) == Ok(())
         && state.facts().len() == problem.facts as usize
         && have_stated_seconds(&state, problem.facts) == stated;
     drop(state);

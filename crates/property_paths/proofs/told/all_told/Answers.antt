@@ -1,7 +1,7 @@
 use Rattle.std.proofs.Common.{◌≡◌, ◌+◌, List, [], ◌∷◌, ◌++◌, length, Contains, sym, ap, ◌∙◌, subst, arith}
 use Rattle.std.specs.Prelude.{slice_set, Some}
 use Rattle.std.proofs.lemmas.List.{length-set}
-use Rattle.std.proofs.lemmas.Option.{slice_get-get_or, slice_get_within}
+use Rattle.std.proofs.lemmas.Option.{slice_get_within}
 use Rattle.number_sets.specs.Pieces.{list_at}
 use Rattle.normal_forms.specs.declared.forms.Form.TheVariants.{N5}
 use Rattle.property_paths.specs.declared.told.Told.{Told}
@@ -20,7 +20,7 @@ loop-number-preserved c =
       | in-N5+in_ok-push w ↦
           let sub = w.in-N5.sub in
           let sup = w.in-N5.sup in
-          let here : Leads forms k sub sup = slice_get-get_or forms k _ c.loop-number-test.true ∙ ap Some w.in-N5.is in
+          let here : Leads forms k sub sup = c.at.ensures ∙ ap Some w.in-N5.is in
           let x : Told = record { form = k; above = sup } in
           let is : c.match-form.told ≡ slice_set lists sub.0 (list_at lists sub.0 ++ x ∷ []) =
           w.told-is ∙ w.in_ok-push.ensures.ok ∙ ap (λ n. slice_set lists n (list_at lists n ++ x ∷ [])) w.index.ensures in record {
@@ -29,7 +29,7 @@ loop-number-preserved c =
           }
       | in_default w ↦ record {
         long = ap length w.told-is ∙ before.long;
-        exact = subst (AreToldBefore (k + 1) forms) (sym w.told-is) (told_same forms k _ lists (slice_get-get_or forms k _ c.loop-number-test.true) w.in_default.not-N5 before.exact);
+        exact = subst (AreToldBefore (k + 1) forms) (sym w.told-is) (told_same forms k _ lists c.at.ensures w.in_default.not-N5 before.exact);
       }
     ]
 
@@ -41,6 +41,6 @@ returns c =
       long = ap length is ∙ before.long;
       exact = λ r t. (
         λ h. ((before.exact r t).0 (subst (λ (l : List (List Told)). Contains (list_at l r) t) is h)).1,
-        λ h. subst (λ (l : List (List Told)). Contains (list_at l r) t) (sym is) ((before.exact r t).1 (omega (arith, slice_get_within forms t.form (N5 (as_id r) t.above) h), h)),
+        λ h. subst (λ (l : List (List Told)). Contains (list_at l r) t) (sym is) ((before.exact r t).1 (omega (arith, slice_get_within forms t.form (N5 (as_id r) t.above) h, c.loop-number-test.false, c.len-number-end.ensures), h)),
       );
     }

@@ -1,8 +1,8 @@
 use Rattle.saturate.specs.Counts.{HasNamesBelow, IsSmall}
 use Rattle.saturate.proofs.counts.counted.Given as goal
 
-abbrev pub invariant-loop-form : goal.invariant-loop-form
-invariant-loop-form l = record {
+abbrev pub invariant-loop-number : goal.invariant-loop-number
+invariant-loop-number l = record {
   small : IsSmall l.counts;
-  has : HasNamesBelow l.counts l.forms l.form-index;
+  has : HasNamesBelow l.counts l.forms l.number;
 }

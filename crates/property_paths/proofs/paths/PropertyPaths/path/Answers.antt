@@ -8,7 +8,7 @@ use Rattle.property_paths.proofs.paths.PropertyPaths.path.Goals as goal
 pub walk-requires-clause-earlier : goal.walk-requires-clause-earlier
 walk-requires-clause-earlier c =
     let kept = c.self.inside in
-    kept_earlier kept.forms.items kept.above c.args.from c.at-reached.result.now c.self.invariant (c.at-reached.ensures ∙ ap (list_at kept.above) c.index.ensures)
+    kept_earlier kept.forms kept.above c.args.from c.at-reached.result.now c.self.invariant (c.at-reached.ensures ∙ ap (list_at kept.above) c.index.ensures)
 
 pub walk-requires-clause-there : goal.walk-requires-clause-there
 walk-requires-clause-there c = stands_within c.at-reached.result.now c.args.to c.in-Some.place c.in-Some.ensures
@@ -17,7 +17,7 @@ pub returns-in-None : goal.returns-in-None
 returns-in-None c =
     let kept = c.self.inside in
     rw (← c.self.view_is)
-    (kept_none kept.forms.items kept.above c.args.from c.args.to c.at-reached.result.now c.self.invariant (c.at-reached.ensures ∙ ap (list_at kept.above) c.index.ensures) c.in-None.ensures
+    (kept_none kept.forms kept.above c.args.from c.args.to c.at-reached.result.now c.self.invariant (c.at-reached.ensures ∙ ap (list_at kept.above) c.index.ensures) c.in-None.ensures
     (λ e. false≢true (c.if-eq.ensures ∙ eq-eqb c.args.from.0 c.args.to.0 e)))
 
 pub returns-in_ok-walk-in-Some : goal.returns-in_ok-walk-in-Some
@@ -26,4 +26,4 @@ returns-in_ok-walk-in-Some c =
     let list = c.at-reached.result.now in
     let is = c.at-reached.ensures ∙ ap (list_at kept.above) c.index.ensures in
     rw (← c.self.view_is)
-    (c.in_ok-walk-in-Some.ensures kept.forms.items c.args.from c.args.to (kept_ways kept.forms.items kept.above c.args.from c.args.to c.in-Some.place list c.self.invariant is c.in-Some.ensures) c.in-Some.ensures)
+    (c.in_ok-walk-in-Some.ensures kept.forms c.args.from c.args.to (kept_ways kept.forms kept.above c.args.from c.args.to c.in-Some.place list c.self.invariant is c.in-Some.ensures) c.in-Some.ensures)

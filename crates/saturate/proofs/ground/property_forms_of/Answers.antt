@@ -1,0 +1,15 @@
+use Rattle.std.proofs.Common.{ap, sym, ◌∙◌}
+use Rattle.saturate.proofs.Naming.{next_of_properties, next_of_others}
+use Rattle.saturate.proofs.ground.property_forms_of.Goals as goal
+use Rattle.saturate.proofs.ground.property_forms_of.Goals.{then-is_of_properties+in_ok-push, else-is_of_properties}
+
+pub loop-number-preserved : goal.loop-number-preserved
+loop-number-preserved c =
+    let forms = c.args.forms.now in
+    let k = c.loop-number.number in
+    elim c.if-is_of_properties.branch [
+      | then-is_of_properties+in_ok-push w ↦
+          ap (λ v. v.items) w.kept-is ∙ w.in_ok-push.ensures.items ∙ next_of_properties forms c.loop-number.kept.items k c.at-form.result c.at-form.ensures (sym c.is_of_properties.ensures ∙ w.if-is_of_properties.true) c.loop-number.invariant
+      | else-is_of_properties w ↦
+          ap (λ v. v.items) w.kept-is ∙ next_of_others forms c.loop-number.kept.items k c.at-form.result c.at-form.ensures (sym c.is_of_properties.ensures ∙ w.if-is_of_properties.false) c.loop-number.invariant
+    ]
