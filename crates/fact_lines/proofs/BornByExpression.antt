@@ -131,8 +131,8 @@ module _ (o : Ontology) (s : Saturated) (w : IsOntology o) (saturated : IsSatura
     within = omega (arith, form_there s.normal.entries m (origins.Expr e) origin, length-map s.normal.entries form_in)
 
     -- .. the form being read from the forms
-    pub born_by_expression : (read : List Form) (d : Form) → read ≡ map form_in s.normal.entries → IsBornByExpression o s r (get_or read m d) f
-    born_by_expression read d is = born_at m e (get_or read m d) place origin (read_there (map form_in s.normal.entries) read m d (get_or read m d) is within refl)
+    pub born_by_expression : (read : List Form) (form : Form) → read ≡ map form_in s.normal.entries → slice_get read m ≡ Some form → IsBornByExpression o s r form f
+    born_by_expression read form is at = born_at m e form place origin (ap (λ (fs : List Form). slice_get fs m) (sym is) ∙ at)
 
     pub rests_on_all : rests_on s.normal.entries r ≡ r.older
     rests_on_all = let (form, at) = slice_get_there (map form_in s.normal.entries) m within in (born_at m e form place origin at).rests

@@ -48,10 +48,8 @@ form_inside entries m origin ys by e =
     let (form, at) = form_at entries m origin by in
     subst (λ (fs : List Form). m < length fs) (sym e) (slice_get_within (map form_in entries) m form at)
 
-pub form_read : (o : Ontology) (s : Saturated) (m : ℕ) (origin : Origin) (ys : List Form) (d : Form) → IsSaturated o s → option_map origin_in (slice_get s.normal.entries m) ≡ Some origin → ys ≡ map form_in s.normal.entries
-    → slice_get s.state.problem.forms m ≡ Some (get_or ys m d)
-form_read o s m origin ys d saturated by e =
-    ap (λ (fs : List Form). slice_get fs m) (saturated.forms ∙ sym e) ∙ slice_get-get_or ys m d (form_inside s.normal.entries m origin ys by e)
+pub form_read : (o : Ontology) (s : Saturated) (m : ℕ) (ys : List Form) (form : Form) → IsSaturated o s → ys ≡ map form_in s.normal.entries → slice_get ys m ≡ Some form → slice_get s.state.problem.forms m ≡ Some form
+form_read o s m ys form saturated e at = ap (λ (fs : List Form). slice_get fs m) (saturated.forms ∙ sym e) ∙ at
 
 pub axiom_there : (o : Ontology) (s : Saturated) (m number : ℕ) → IsSaturated o s → option_map origin_in (slice_get s.normal.entries m) ≡ Some (origins.Axiom number) → (a : Axiom) × (at_number o.axioms number ≡ Some a)
 axiom_there o s m number saturated by =

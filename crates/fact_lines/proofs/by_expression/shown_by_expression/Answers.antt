@@ -26,13 +26,13 @@ premises-requires-clause-shown g c m member =
 pub premises-requires-clause-below : goal.premises-requires-clause-below
 premises-requires-clause-below g c fs at =
     let (f, there) = slice_get_there c.args.saturation.now.state.facts c.args.fact.0 c.requires.there in
-    (born_by_expression c.args.ontology.now c.args.saturation.now c.well_formed-2.ensures c.requires.saturated c.args.fact.0 (reason c.args.birth.now) c.requires.birth f there c.in-Some.number c.args.whole (sym c.in-Some.ensures) c.requires.origin c.forms.result.now _ (c.forms.ensures ∙ ap (λ (v : Listing). map form_in v.entries) c.normal.ensures)).lead_up fs (ap (map (slice_get c.args.saturation.now.state.facts)) (sym c.older.ensures) ∙ at)
+    (born_by_expression c.args.ontology.now c.args.saturation.now c.well_formed-2.ensures c.requires.saturated c.args.fact.0 (reason c.args.birth.now) c.requires.birth f there c.in-Some.number c.args.whole (sym c.in-Some.ensures) c.requires.origin c.forms.result.now c.at-form.result (c.forms.ensures ∙ ap (λ (v : Listing). map form_in v.entries) c.normal.ensures) c.at-form.ensures).lead_up fs (ap (map (slice_get c.args.saturation.now.state.facts)) (sym c.older.ensures) ∙ at)
 
 pub returns-clause-derivation : goal.returns-clause-derivation
 returns-clause-derivation g c =
     let facts = c.args.saturation.now.state.facts in
     let read = c.fact_of-fact.ensures in
-    let born = born_by_expression c.args.ontology.now c.args.saturation.now c.well_formed-2.ensures c.requires.saturated c.args.fact.0 (reason c.args.birth.now) c.requires.birth _ read c.in-Some.number c.args.whole (sym c.in-Some.ensures) c.requires.origin c.forms.result.now _ (c.forms.ensures ∙ ap (λ (v : Listing). map form_in v.entries) c.normal.ensures) in
+    let born = born_by_expression c.args.ontology.now c.args.saturation.now c.well_formed-2.ensures c.requires.saturated c.args.fact.0 (reason c.args.birth.now) c.requires.birth _ read c.in-Some.number c.args.whole (sym c.in-Some.ensures) c.requires.origin c.forms.result.now c.at-form.result (c.forms.ensures ∙ ap (λ (v : Listing). map form_in v.entries) c.normal.ensures) c.at-form.ensures in
     let b = beginnings_of c.args.saturation.now.normal in
     let leads = same_rule c.rule.ensures (born.lead_to c.premises.new.derivation c.in_ok-numbers.numbers.items (λ fs at. c.in_ok-numbers.ensures.shown fs (ap (map (slice_get facts)) c.older.ensures ∙ at))) in
     c.in_ok-numbers-2.ensures.derivation c.args.ontology.now b c.in_ok-numbers.ensures.derivation leads
@@ -41,7 +41,7 @@ pub returns-clause-shown : goal.returns-clause-shown
 returns-clause-shown g c f there =
     let facts = c.args.saturation.now.state.facts in
     let read = c.fact_of-fact.ensures in
-    let born = born_by_expression c.args.ontology.now c.args.saturation.now c.well_formed-2.ensures c.requires.saturated c.args.fact.0 (reason c.args.birth.now) c.requires.birth _ read c.in-Some.number c.args.whole (sym c.in-Some.ensures) c.requires.origin c.forms.result.now _ (c.forms.ensures ∙ ap (λ (v : Listing). map form_in v.entries) c.normal.ensures) in
+    let born = born_by_expression c.args.ontology.now c.args.saturation.now c.well_formed-2.ensures c.requires.saturated c.args.fact.0 (reason c.args.birth.now) c.requires.birth _ read c.in-Some.number c.args.whole (sym c.in-Some.ensures) c.requires.origin c.forms.result.now c.at-form.result (c.forms.ensures ∙ ap (λ (v : Listing). map form_in v.entries) c.normal.ensures) c.at-form.ensures in
     let b = beginnings_of c.args.saturation.now.normal in
     let leads = same_rule c.rule.ensures (born.lead_to c.premises.new.derivation c.in_ok-numbers.numbers.items (λ fs at. c.in_ok-numbers.ensures.shown fs (ap (map (slice_get facts)) c.older.ensures ∙ at))) in
     subst (AreShowing b c.concluded.new.derivation c.in_ok-numbers-2.numbers.items) (same_Some _ f (sym read ∙ there))

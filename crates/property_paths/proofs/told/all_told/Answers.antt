@@ -16,13 +16,13 @@ loop-number-preserved c =
     let k = c.loop-number.number in
     let before = c.loop-number.invariant in
     let lists = c.loop-number.told in
-    elim c.match-form.branch [
+    elim c.match-at.branch [
       | in-N5+in_ok-push w ↦
           let sub = w.in-N5.sub in
           let sup = w.in-N5.sup in
           let here : Leads forms k sub sup = c.at.ensures ∙ ap Some w.in-N5.is in
           let x : Told = record { form = k; above = sup } in
-          let is : c.match-form.told ≡ slice_set lists sub.0 (list_at lists sub.0 ++ x ∷ []) =
+          let is : c.match-at.told ≡ slice_set lists sub.0 (list_at lists sub.0 ++ x ∷ []) =
           w.told-is ∙ w.in_ok-push.ensures.ok ∙ ap (λ n. slice_set lists n (list_at lists n ++ x ∷ [])) w.index.ensures in record {
             long = ap length is ∙ length-set lists sub.0 (list_at lists sub.0 ++ x ∷ []) ∙ before.long;
             exact = subst (AreToldBefore (k + 1) forms) (sym is) (told_more forms k sub sup lists here (omega (arith, (c.requires.within k sub sup here).0, before.long)) before.exact);
