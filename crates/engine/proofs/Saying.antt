@@ -15,7 +15,6 @@ use Rattle.facts.specs.declared.contexts.Context.TheVariants as contexts
 use Rattle.facts.specs.declared.contexts.Fact as code_fact
 use Rattle.facts.specs.declared.contexts.Fact.TheVariants as facts
 use Rattle.facts.specs.Closure.{Problem}
-use Rattle.facts.specs.Closure as numbered
 use Rattle.closure.specs.Closure.{Context, Fact, IsFact}
 use Rattle.closure.specs.Said.{Beginnings, SaysClass, whole, beginning, SaysProperty, property, steps, SaysContext, expression, individual, SaysFact, in_context, edge, IsProblemOf}
 use Rattle.closure.proofs.Said.{said}
