@@ -1,5 +1,5 @@
 -- What gave a fact by the form of an expression.
-use Rattle.std.proofs.Common.{◌≡◌, ℕ, ◌<◌, List, [], ◌∷◌, map, length, slice_get, get_or, option_map, Option, Some, None, false, Contains, refl, sym, ap, ◌∙◌, subst, arith}
+use Rattle.std.proofs.Common.{◌≡◌, ℕ, ◌<◌, List, [], ◌∷◌, map, length, slice_get, option_map, Option, Some, None, false, Contains, refl, sym, ap, ◌∙◌, subst, arith}
 use Rattle.std.proofs.lemmas.List.{length-map}
 use Rattle.std.proofs.lemmas.Option.{same_Some, none-some}
 use Rattle.lemmas.proofs.Places.{slice_get_there}
@@ -10,7 +10,6 @@ use Rattle.certificate.specs.Certificate.{Line}
 use Rattle.engine.specs.Saturated.{Saturated, IsSaturated}
 use Rattle.fact_lines.proofs.Births.{born_by, same_each, each_there, none_named}
 use Rattle.fact_lines.proofs.ByExpression.{IsOfExpression, expression_kind, expression_leads, leads_to}
-use Rattle.fact_lines.proofs.Reading.{read_there}
 use Rattle.fact_lines.proofs.Within.{fact_within, form_said, form_there}
 use Rattle.fact_lines.specs.Older.{rests_on, by_axiom, is_by_axiom, is_axiom}
 use Rattle.fact_lines.specs.Premises.{AreShowingEach, LeadUp, taken}

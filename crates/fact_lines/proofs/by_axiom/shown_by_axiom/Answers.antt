@@ -4,8 +4,6 @@ use Rattle.lemmas.proofs.Places.{slice_get_there}
 use Rattle.axioms.specs.View.{at_number, axiom_of}
 use Rattle.certificate.specs.declared.line.Rule.{Rule}
 use Rattle.facts.specs.Births.{reason, numbers_of}
-use Rattle.facts.specs.declared.contexts.Context.TheVariants as contexts
-use Rattle.facts.specs.declared.contexts.Fact.TheVariants as facts
 use Rattle.normal_forms.specs.declared.forms.Origin.TheVariants as origins
 use Rattle.normalise.specs.Entries.{form_in}
 use Rattle.problem.specs.Made.{beginnings_of}
@@ -32,7 +30,7 @@ at-form-requires g c =
     form_inside s.normal.entries c.in-Some.form (origins.Axiom c.args.number) c.forms.result.now origin (c.forms.ensures ∙ ap (λ v. map form_in v.entries) c.normal.ensures)
 
 -- the facts that the line rests on
-rests : (g : Over) (c : goal.After-form-3-1 g) → numbers_of c.rests_on-older.result ≡ rests_on c.args.saturation.now.normal.entries (reason c.args.birth.now)
+rests : (g : Over) (c : goal.After-form-2-1 g) → numbers_of c.rests_on-older.result ≡ rests_on c.args.saturation.now.normal.entries (reason c.args.birth.now)
 rests g c = c.rests_on-older.ensures ∙ ap (λ v. rests_on v.entries (reason c.args.birth.now)) c.normal-2.ensures
 
 pub premises-requires-clause-shown : goal.premises-requires-clause-shown

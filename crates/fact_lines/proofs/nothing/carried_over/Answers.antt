@@ -1,4 +1,4 @@
-use Rattle.std.proofs.Common.{◌≡◌, ◌++◌, ◌∷◌, [], Some, refl, sym, ap, ◌∙◌, subst}
+use Rattle.std.proofs.Common.{◌≡◌, ◌++◌, ◌∷◌, [], Some, refl, ap, ◌∙◌, subst}
 use Rattle.certificate.specs.Certificate.{Sub}
 use Rattle.certificate.specs.View.{subject_of}
 use Rattle.axioms.specs.Numbered.{nothing}

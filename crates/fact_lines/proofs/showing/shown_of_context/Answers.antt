@@ -2,9 +2,6 @@ use Rattle.std.proofs.Common.{◌∙◌, [], ℕ, List, None, sym, subst}
 use Rattle.std.proofs.lemmas.Option.{same_Some}
 use Rattle.certificate.specs.declared.line.Rule.{Rule}
 use Rattle.facts.specs.Births.{reason}
-use Rattle.facts.specs.declared.contexts.Context.TheVariants as contexts
-use Rattle.facts.specs.declared.contexts.Fact.TheVariants as facts
-use Rattle.normal_forms.specs.declared.forms.Class2.TheVariants as classes
 use Rattle.problem.specs.Made.{beginnings_of}
 use Rattle.fact_lines.specs.Shown.{AreShowing}
 use Rattle.fact_lines.specs.Step.{LeadTo}
