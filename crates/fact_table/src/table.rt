@@ -72,11 +72,14 @@ impl FactTable {
         homes::find(&self.seeds, &self.facts, &self.homes, fact)
     }
 
-    /// Makes room for so many facts more. Fails where memory is refused; the facts are what they were.
-    pub fn reserve(&mut self, additional: usize) -> Result<(), Memory>
+    /// Makes room for so many facts more, and for the slots of so many contexts. Fails where memory is refused; the facts are what they
+    /// were.
+    pub fn reserve(&mut self, facts: usize, contexts: usize) -> Result<(), Memory>
         ensures { self.new ≡ self.old }
     {
-        self.facts.reserve(additional)?;
+        self.facts.reserve(facts)?;
+        self.homes
+            .reserve(contexts.saturating_sub(self.homes.len()))?;
         Ok(())
     }
 

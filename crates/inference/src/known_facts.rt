@@ -121,11 +121,11 @@ impl KnownFacts {
         Ok(is_new)
     }
 
-    /// Makes room for so many facts more at once, where memory is to be had; else room is made as they come.
-    pub fn expect(&mut self, more: usize)
+    /// Makes room for so many facts more of so many contexts at once, where memory is to be had; else room is made as they come.
+    pub fn expect(&mut self, facts: usize, contexts: usize)
         ensures { self.new ≡ self.old }
     {
-        if self.births.reserve(more).is_ok() && self.facts.reserve(more).is_ok() {
+        if self.births.reserve(facts).is_ok() && self.facts.reserve(facts, contexts).is_ok() {
             return;
         }
     }

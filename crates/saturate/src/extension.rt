@@ -105,11 +105,15 @@ const FACTS_OF_FORM: usize = 8;
 const FACTS_OF_CONTEXT: usize = 4;
 
 /// How many facts there may well be. It decides nothing.
-fn expected(ground: &Ground) -> usize {
-    let problem = ground.problem();
+fn expected_facts(problem: &IndexedProblem) -> usize {
     let of_forms = problem.forms().len().saturating_mul(FACTS_OF_FORM);
     let of_contexts = problem.roots().len().saturating_mul(FACTS_OF_CONTEXT);
     of_forms.saturating_add(of_contexts)
+}
+
+/// Up to which number contexts may well come. It decides nothing.
+fn expected_contexts(problem: &IndexedProblem) -> usize {
+    problem.roots().len().saturating_add(problem.forms().len())
 }
 
 /// Adds what is there at once, and makes the facts that are flagged wait again. Changes nothing where memory is refused.
@@ -128,9 +132,11 @@ fn begun_again<W: WorkList>(
     ensures queue { OnErr result (queue.new ≡ queue.old) }
 {
     let before = facts.len();
-    facts.expect(expected(ground).saturating_sub(before));
+    let problem = ground.problem();
+    let more = expected_facts(problem).saturating_sub(before);
+    facts.expect(more, expected_contexts(problem));
     let rules = Rules {
-        problem: ground.problem(),
+        problem,
         closure: ground.closure(),
         max_facts: u32::MAX,
     };
@@ -142,6 +148,7 @@ fn begun_again<W: WorkList>(
         facts.truncate(before);
         return Err(Memory);
     };
+    queue.expect(more);
     Ok(())
 }
 

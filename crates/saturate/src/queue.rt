@@ -266,6 +266,15 @@ impl<W: WorkList> Queue<W> {
         &self.taken[..self.served]
     }
 
+    /// Makes room for so many turns more at once, where memory is to be had; else room is made as they come.
+    pub fn expect(&mut self, more: usize)
+        ensures { self.new ≡ self.old }
+    {
+        if self.taken.reserve(more).is_ok() {
+            return;
+        }
+    }
+
     /// Numbers that were served and are flagged wait again.
     pub fn unserve(&mut self, alloc: Global, flags: &[bool]) -> Result<(), Memory>
         ensures queued { self.new.queued ≡ self.old.queued }
