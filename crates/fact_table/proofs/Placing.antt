@@ -12,7 +12,7 @@ use Rattle.facts.specs.declared.contexts.Fact.{Fact}
 use Rattle.fact_table.specs.declared.slots.Found.{Found}
 use Rattle.fact_table.specs.declared.slots.Found.TheVariants.{At, Free}
 use Rattle.fact_table.specs.declared.slots.Slots.{Slots}
-use Rattle.fact_table.specs.declared.slots.Slots.TheVariants.{Few, Many}
+use Rattle.fact_table.specs.declared.slots.Slots.TheVariants.{Few, Several, Many}
 use Rattle.fact_table.specs.Slots.{home_of, bucket_of, buckets_of, numbers_of, Stands, IsFirstFree, IsFound, AreFound, HasSlots, HasRoom, CanHold, HaveSlots, IfFree, Holds, IsFreeFor, IsTable}
 use Rattle.axioms.specs.WellFormed.{AreDistinct}
 use Rattle.fact_table.proofs.Facts.{distinct_push, distinct_take}
@@ -161,14 +161,20 @@ pub one_bucket : (seeds : Seeds) (fact : Fact) → bucket_of seeds 1 fact ≡ 0
 unfolding bucket_of
 one_bucket seeds fact = omega (arith, and_le_r (hash_of seeds fact) 0)
 
+-- in one bucket with a free slot, the first that is free is no later one
+not_past : (seeds : Seeds) (numbers : List ℕ) (fact : Fact) (slot last : ℕ) → get_or numbers last 0 ≡ 0 →
+    IsFirstFree numbers (bucket_of seeds 1 fact) slot → slot ≤ last
+not_past seeds numbers fact slot last free first =
+    elim (cases_lt last slot) [
+      | inl past ↦ absurd (first.no_gap last (omega (arith, one_bucket seeds fact)) past free)
+      | inr within ↦ within
+    ]
+
 -- where there is room for a number, the first free slot can hold it
 pub first_holds : (seeds : Seeds) (table : Slots) (fact : Fact) (slot : ℕ) → HasRoom table →
     IsFirstFree (numbers_of table) (bucket_of seeds (buckets_of table) fact) slot → CanHold table slot
-first_holds seeds (Few numbers) fact slot last first =
-    elim (cases_lt 6 slot) [
-      | inl past ↦ absurd (first.no_gap 6 (omega (arith, one_bucket seeds fact)) past last)
-      | inr within ↦ omega arith
-    ]
+first_holds seeds (Few numbers) fact slot last first = omega (arith, not_past seeds numbers fact slot 2 last first)
+first_holds seeds (Several numbers) fact slot last first = omega (arith, not_past seeds numbers.value fact slot 5 last first)
 first_holds seeds (Many size used numbers) fact slot room first = first.within
 
 -- the slots that are read at the home of a fact that a slot is free for

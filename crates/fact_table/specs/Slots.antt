@@ -11,8 +11,8 @@ use Rattle.fact_table.specs.declared.seeds.Seeds.{Seeds}
 use Rattle.fact_table.specs.declared.slots.Found.{Found}
 use Rattle.fact_table.specs.declared.slots.Found.TheVariants.{At, Free}
 use Rattle.fact_table.specs.declared.slots.Slots.{Slots}
-use Rattle.fact_table.specs.declared.slots.Slots.TheVariants.{Few, Many}
-use Rattle.fact_table.specs.declared.slots.TheConstants.{FEW}
+use Rattle.fact_table.specs.declared.slots.Slots.TheVariants.{Few, Several, Many}
+use Rattle.fact_table.specs.declared.slots.TheConstants.{FEW, SEVERAL}
 
 -- the bucket of the fact, of so many
 unfoldable pub bucket_of : Seeds → ℕ → Fact → ℕ
@@ -35,11 +35,13 @@ count_of size = 2 ^ (size % 64)
 -- what the slots hold
 abbrev pub numbers_of : Slots → List ℕ
 numbers_of (Few numbers) = numbers
-numbers_of (Many size used numbers) = numbers.items
+numbers_of (Several numbers) = numbers.value
+numbers_of (Many size used numbers) = numbers.value.items
 
--- how many buckets there are, of few facts one
+-- how many buckets there are, of few facts or several one
 abbrev pub buckets_of : Slots → ℕ
 buckets_of (Few numbers) = 1
+buckets_of (Several numbers) = 1
 buckets_of (Many size used numbers) = count_of size
 
 -- the number is in a slot from the bucket on, and none before it is free
@@ -74,15 +76,17 @@ Holds seeds table fact place = Stands (numbers_of table) (bucket_of seeds (bucke
 abbrev pub HasSlots : Slots → Type 0
 HasSlots table = buckets_of table ≤ length (numbers_of table)
 
--- there is room for one number more: of few the last slot is free
+-- there is room for one number more: of few or several the last slot is free
 abbrev pub HasRoom : Slots → Type 0
 HasRoom (Few numbers) = slice_index numbers (FEW - 1) ≡ 0
+HasRoom (Several numbers) = slice_index numbers.value (SEVERAL - 1) ≡ 0
 HasRoom (Many size used numbers) = Unit {0}
 
--- the slot is one of the few, or one of many or the next behind them
+-- the slot is one of the few or the several, or one of many or the next behind them
 abbrev pub CanHold : Slots → ℕ → Type 0
 CanHold (Few numbers) slot = slot < FEW
-CanHold (Many size used numbers) slot = slot ≤ length numbers.items
+CanHold (Several numbers) slot = slot < SEVERAL
+CanHold (Many size used numbers) slot = slot ≤ length numbers.value.items
 
 -- .. in those of its home
 pub record IsFound (seeds : Seeds) (homes : List Slots) (fact : Fact) (place : ℕ) : Type 0 where

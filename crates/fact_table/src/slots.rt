@@ -3,7 +3,7 @@
 //! A slot holds a number, which is one more than the place of a fact, or 0, and then it is free. A fact falls into a bucket, which
 //! is the number of a slot, and its number stands there or behind, with no free slot between: so who looks from the bucket on finds
 //! it, or a free slot where it is not there. Numbers that lead nowhere, since facts were taken away, do no harm. The slots of few facts
-//! have one bucket, and stand where those of many have the address of theirs.
+//! stand where those of more have the address of theirs, and those of few or several have one bucket.
 ghost use Rattle.fact_table.specs.Slots.{bucket_of, buckets_of, CanHold, count_of, HasRoom, HasSlots, Holds, IfAt, IfFree, IsFirstFree, numbers_of, Stands};
 ghost use Rattle.facts.specs.declared.contexts.Fact.{Fact as AFact};
 ghost use Rattle.std.specs.Prelude.{◌≡◌, ◌↔◌, ◌⊎◌, ℕ, suc, ◌<◌, ◌≤◌, length, slice_get, slice_index, IfOk, IsTrue, OnOk, Some, false, true};
@@ -14,9 +14,12 @@ use facts::{Fact, StoredFact};
 use std::alloc::Global;
 
 /// How many facts are few.
-const FEW: usize = 7;
+const FEW: usize = 3;
 
-/// The size of the first slots for more than a few.
+/// How many are several.
+const SEVERAL: usize = 6;
+
+/// The size of the first slots for more than several.
 const FIRST_SIZE: u8 = 4;
 
 /// How many slots more than buckets there is room for, where there are many.
@@ -27,6 +30,8 @@ const MOST_SPARE: usize = 4;
 pub enum Slots {
     /// The numbers of few facts, in the order in which they came, and free slots behind them. They have one bucket.
     Few([u32; FEW]),
+    /// Those of several, in the same way.
+    Several(Box<[u32; SEVERAL]>),
     /// Slots by hash.
     Many {
         /// The power of 2 that is the number of buckets. As a byte it leaves the whole no larger than the few are.
@@ -34,11 +39,11 @@ pub enum Slots {
         /// How many numbers were put.
         used: u32,
         /// What the slots hold. There are as many as buckets, and those that were put behind the last.
-        numbers: Vec<u32>,
+        numbers: Box<Vec<u32>>,
     },
 }
 
-const _: () = prove!(size_of::<Slots>() == 32);
+const _: () = prove!(size_of::<Slots>() == 16);
 
 /// What a search for a fact comes to.
 #[derive(Clone, Copy, Debug, PartialEq, Eq, Drop)]
@@ -114,6 +119,19 @@ fn first_free(numbers: &[u32], bucket: usize) -> usize
     slot
 }
 
+/// Puts the number into a free slot of so many.
+#[inline(always)]
+fn fill<const SLOTS: usize>(numbers: &mut [u32; SLOTS], slot: usize, number: u32)
+    requires within { slot < SLOTS }
+    requires free { slice_index numbers.old slot ≡ 0 }
+    requires number { 0 < number }
+    ensures stands { (b : ℕ) → IsFirstFree numbers.old b slot → Stands numbers.new b number }
+    ensures others { (b n : ℕ) → 0 < n → Stands numbers.old b n → Stands numbers.new b n }
+    ensures room { length numbers.new ≡ length numbers.old }
+{
+    numbers[slot] = number;
+}
+
 /// Puts the number into a free slot. Fails where memory is refused; then nothing changes.
 #[inline(always)]
 fn occupy(numbers: &mut Vec<u32>, slot: usize, number: u32) -> Result<(), Memory>
@@ -175,6 +193,41 @@ fn spread(
     Ok(wider)
 }
 
+/// Slots for several facts, with the numbers of few.
+fn several(alloc: Global, numbers: &[u32; FEW]) -> Result<Slots, Memory>
+    ensures stands { IfOk result (λ slots. (b n : ℕ) → 0 < n → Stands numbers.now b n → Stands (numbers_of slots) b n) }
+    ensures buckets { IfOk result (λ slots. buckets_of slots ≡ 1) }
+    ensures slots { IfOk result HasSlots }
+    ensures room { IfOk result HasRoom }
+{
+    let [first, second, third] = *numbers;
+    let several = Box::new(alloc, [first, second, third, 0, 0, 0])?;
+    Ok(Slots::Several(several))
+}
+
+/// Slots of that size, with these numbers, so many of which were put.
+fn many(
+    alloc: Global,
+    seeds: &Seeds,
+    facts: &[StoredFact],
+    numbers: &[u32],
+    size: u8,
+    used: u32,
+) -> Result<Slots, Memory>
+    ensures holds { IfOk result (λ slots. (slot place : ℕ) (fact : AFact) → slice_index numbers.now slot ≡ suc place →
+        slice_get facts.now place ≡ Some fact → Holds seeds.now slots fact place) }
+    ensures slots { IfOk result HasSlots }
+    ensures room { IfOk result HasRoom }
+{
+    let numbers = spread(alloc, seeds, facts, numbers, count(size))?;
+    let numbers = Box::new(alloc, numbers)?;
+    Ok(Slots::Many {
+        size,
+        used,
+        numbers,
+    })
+}
+
 impl Slots {
     /// No fact.
     pub(crate) fn new() -> Slots
@@ -190,7 +243,8 @@ impl Slots {
     {
         match self {
             Slots::Few(numbers) => numbers,
-            Slots::Many { numbers, .. } => numbers,
+            Slots::Several(numbers) => numbers.as_slice(),
+            Slots::Many { numbers, .. } => numbers.as_slice(),
         }
     }
 
@@ -201,18 +255,19 @@ impl Slots {
         ensures within { result ≤ buckets_of self.now }
     {
         match self {
-            Slots::Few(_) => 0,
+            Slots::Few(_) | Slots::Several(_) => 0,
             Slots::Many { size, .. } => bucket(seeds, count(*size), fact),
         }
     }
 
-    /// Whether there is no room for one fact more: of few no slot is free, or of many not one in four.
+    /// Whether there is no room for one fact more: of few or several no slot is free, or of many not one in four.
     #[inline(always)]
     fn is_full(&self) -> bool
         ensures { IsTrue result ⊎ HasRoom self.now }
     {
         match self {
             Slots::Few(numbers) => numbers[FEW - 1] != 0,
+            Slots::Several(numbers) => numbers[SEVERAL - 1] != 0,
             Slots::Many { size, used, .. } => count(*size) / 4 * 3 <= *used as usize,
         }
     }
@@ -243,7 +298,7 @@ impl Slots {
         Ok(first_free(self.numbers(), self.bucket(seeds, fact)))
     }
 
-    /// Makes twice as many buckets, or the first by hash. Fails where memory is refused; then nothing changes.
+    /// Makes slots for several, for many, or for twice as many. Fails where memory is refused; then nothing changes.
     fn grow(&mut self, alloc: Global, seeds: &Seeds, facts: &[StoredFact]) -> Result<(), Memory>
         requires { HasSlots self.old }
         ensures holds { (place : ℕ) (fact : AFact) → slice_get facts.now place ≡ Some fact →
@@ -251,15 +306,28 @@ impl Slots {
         ensures slots { HasSlots self.new }
         ensures room { OnOk result (HasRoom self.new) }
     {
-        let (size, used) = match self {
-            Slots::Few(_) => (FIRST_SIZE, FEW as u32),
-            Slots::Many { size, used, .. } => (size.saturating_add(1), *used),
-        };
-        let numbers = spread(alloc, seeds, facts, self.numbers(), count(size))?;
-        *self = Slots::Many {
-            size,
-            used,
-            numbers,
+        *self = match self {
+            Slots::Few(numbers) => several(alloc, numbers)?,
+            Slots::Several(numbers) => many(
+                alloc,
+                seeds,
+                facts,
+                numbers.as_slice(),
+                FIRST_SIZE,
+                SEVERAL as u32,
+            )?,
+            Slots::Many {
+                size,
+                used,
+                numbers,
+            } => many(
+                alloc,
+                seeds,
+                facts,
+                numbers.as_slice(),
+                size.saturating_add(1),
+                *used,
+            )?,
         };
         Ok(())
     }
@@ -288,8 +356,12 @@ impl Slots {
         ensures slots { HasSlots self.old → HasSlots self.new }
     {
         match self {
-            Slots::Few(numbers) => {
-                numbers[slot] = number;
+            Slots::Few(few) => {
+                fill(few, slot, number);
+                Ok(())
+            }
+            Slots::Several(several) => {
+                fill(several, slot, number);
                 Ok(())
             }
             Slots::Many { used, numbers, .. } => {
