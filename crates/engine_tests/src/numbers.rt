@@ -1,5 +1,4 @@
 //! Lists of numbers, short and long, and by key, worked out by hand.
-ghost use Rattle.std.specs.Prelude.{◌≡◌, IfOk};
 
 use number_list::NumberList;
 use number_table::Table;
@@ -46,6 +45,7 @@ fn numbers_come_back(rt: HostRuntime) -> Result<(), Fail> {
 #[test]
 fn each_key_has_its_list(rt: HostRuntime) -> Result<(), Fail> {
     let mut table = Table::new(rt.alloc());
+    table.reserve(2)?;
     for (key, number) in [(3, 1), (0, 2), (3, 4), (3, 8), (3, 16)] {
         table.add(key, number)?;
     }
@@ -53,5 +53,7 @@ fn each_key_has_its_list(rt: HostRuntime) -> Result<(), Fail> {
     assert!(rt; table.of(0) == [2].as_slice());
     assert!(rt; table.of(1).is_empty());
     assert!(rt; table.of(4).is_empty());
+    table.reserve(100)?;
+    assert!(rt; table.of(3) == [1, 4, 8, 16].as_slice());
     Ok(())
 }

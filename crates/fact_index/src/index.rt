@@ -67,6 +67,15 @@ impl Index {
         self.fillers.of(context)
     }
 
+    /// Makes room for the classes in so many expressions more at once, where memory is to be had; else room is made as they come.
+    pub fn expect(&mut self, expressions: usize)
+        ensures { self.new ≡ self.old }
+    {
+        if self.classes.expressions.reserve(expressions).is_ok() {
+            return;
+        }
+    }
+
     /// Lists a fact, once where it was the last to be listed; an edge among the seconds too, where it is one, and a class among the
     /// fillers. Where memory is refused it may be listed in part.
     pub fn add(

@@ -161,6 +161,15 @@ impl Table {
         put(alloc, &mut self.keys, &mut self.lists, key, number)
     }
 
+    /// Makes room for the lists of so many keys more. Fails where memory is refused; each list is what it was.
+    pub fn reserve(&mut self, keys: usize) -> Result<(), AllocError>
+        ensures { self.new ≡ self.old }
+    {
+        self.keys.reserve(keys)?;
+        self.lists.reserve(keys)?;
+        Ok(())
+    }
+
     /// Adds a number to the list of the key. Fails where memory is refused; then each list is what it was.
     pub fn add(&mut self, key: usize, number: u32) -> Result<(), AllocError>
         ensures ok { OnOk result (Adds self.old self.new key number) }
