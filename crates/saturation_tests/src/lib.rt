@@ -2,6 +2,8 @@
 #![tactic(auto)]
 
 #[cfg(test)]
+mod form_lists;
+#[cfg(test)]
 mod forms;
 #[cfg(test)]
 mod growing;
