@@ -1,5 +1,5 @@
 -- What holds of more forms and roots.
-use Rattle.std.proofs.Common.{◌≡◌, ℕ, zero, suc, ◌<◌, ◌⊎◌, inl, inr, ⊎_elim, List, [], ◌∷◌, ◌++◌, length, take, slice_get, Some, None, Option, Contains, refl, sym, ap, ap₂, ◌∙◌, subst, arith}
+use Rattle.std.proofs.Common.{◌≡◌, ℕ, zero, suc, ◌<◌, ◌≤◌, ◌⊎◌, inl, inr, ⊎_elim, List, [], ◌∷◌, ◌++◌, length, take, slice_get, Some, None, Option, Contains, refl, sym, ap, ap₂, ◌∙◌, subst, arith}
 use Rattle.std.proofs.lemmas.List.Elements.{Contains-append_left, Contains-append_cases}
 use Rattle.std.proofs.lemmas.Option.{none-some, same_Some}
 use Rattle.normal_forms.specs.declared.forms.Form.{Form}
@@ -273,10 +273,10 @@ module _ (k : Problem) (forms : List Form) (roots : List Context) {j : Problem} 
   pub derived_then : {d : Derived} → IsDerived k d → IsDerived j d
   derived_then {d} s = subst (λ (i : Problem). IsDerived i d) (sym same) (derived_more k forms roots s)
 
-  pub extended : {most : ℕ} {old new : Derived} {q r : Queued} → IsState k old q → HasBegun j most old new → r.queued ≡ q.queued → KeepsServed j.forms forms old.facts q.served r.served → IsState j new r
+  pub extended : {most : ℕ} {old new : Derived} {q r : Queued} → IsState k old q → HasBegun j most old new → r.queued ≤ length new.facts → KeepsServed j.forms forms old.facts q.served r.served → IsState j new r
   extended {most} {old} {new} {q} {r} s begun queued keeps = record {
     derived = begun.grows.derived;
-    queued = omega (arith, queued, s.queued, begun.grows.longer);
+    queued = queued;
     within = λ n c. omega (arith, s.within n ((keeps n).0 c).0, begun.grows.longer);
     complete = subst (λ (i : Problem). IsCompleteButSpared i new r.served) (sym same)
         (complete_still k forms roots (subst (λ (i : Problem). HasBegun i most old new) same begun) q.served s.within s.complete r.served

@@ -1,5 +1,5 @@
 -- Numbers that have their turns.
-use Rattle.std.specs.Prelude.{◌≡◌, ℕ, ◌+◌, ◌<◌, ◌≤◌, ◌⊎◌, List, [], ◌∷◌, ◌++◌, length, slice_get, Option, Some, None}
+use Rattle.std.specs.Prelude.{◌≡◌, ℕ, ◌+◌, ◌-◌, ◌<◌, ◌≤◌, ◌⊎◌, List, [], ◌∷◌, ◌++◌, length, slice_get, Option, Some, None}
 use Rattle.std.specs.List.{Contains}
 use Rattle.axioms.specs.WellFormed.{AreDistinct}
 use Rattle.fact_index.specs.Contexts.{IsLast}
@@ -22,15 +22,22 @@ option_list (Some n) = n ∷ []
 abbrev pub item : ℕ → ℕ → Item
 item n c = record { fact = n; context = c }
 
--- each number is either in the list, once, or was taken
-pub record IsQueue (bag : Bag) (queued : ℕ) (taken : List ℕ) (served : ℕ) : Type 0 where
+-- the number waits beside the list, where those from start on and before end do
+abbrev pub IsBeside : ℕ → ℕ → ℕ → Type 0
+IsBeside start end n = (start ≤ n) × (n < end)
+
+-- each number either waits beside the list, or is in the list, once, or was taken
+pub record IsQueue (bag : Bag) (start end queued : ℕ) (taken : List ℕ) (served : ℕ) : Type 0 where
   pub contexts : List ℕ
   pub long : length contexts ≡ queued
-  pub each : (n c : ℕ) → slice_get contexts n ≡ Some c → ((bag.count (item n c) ≡ 1) × (Contains taken n → ⊥)) ⊎ ((bag.count (item n c) ≡ 0) × Contains taken n)
+  pub each : (n c : ℕ) → slice_get contexts n ≡ Some c → IsBeside start end n ⊎ (((bag.count (item n c) ≡ 1) × (Contains taken n → ⊥)) ⊎ ((bag.count (item n c) ≡ 0) × Contains taken n))
+  pub beside : (n : ℕ) → IsBeside start end n → ((c : ℕ) → bag.count (item n c) ≡ 0) × (Contains taken n → ⊥)
   pub known : (x : Item) → 0 < bag.count x → slice_get contexts x.fact ≡ Some x.context
   pub within : (n : ℕ) → Contains taken n → n < queued
   pub distinct : AreDistinct taken
-  pub tally : bag.total + length taken ≡ queued
+  pub order : start ≤ end
+  pub last : end ≤ queued
+  pub tally : bag.total + length taken + (end - start) ≡ queued
   pub low : served ≤ length taken
 
 -- it is the turn of the number, if there is one that was not served

@@ -4,7 +4,7 @@ ghost use Rattle.inference.specs.Derived.{IsDerived};
 ghost use Rattle.saturate.specs.Flagged.{IsFlagged, kept};
 ghost use Rattle.saturate.specs.Growing.{KeepsServed};
 ghost use Rattle.inference.specs.Begun.{HasBegun};
-ghost use Rattle.std.specs.Prelude.{◌≡◌, ◌<◌, ◌++◌, ◌∷◌, [], ℕ, List, Contains, IfOk, OnErr, OnOk, length};
+ghost use Rattle.std.specs.Prelude.{◌≡◌, ◌<◌, ◌≤◌, ◌++◌, ◌∷◌, [], ℕ, List, Contains, IfOk, OnErr, OnOk, length};
 
 use crate::additions::asks_for;
 use crate::ground::Ground;
@@ -79,25 +79,6 @@ fn index_kept(
     Ok(())
 }
 
-/// An index of those of the facts that are not flagged.
-fn indexed(
-    alloc: Global,
-    ground: &Ground,
-    facts: &KnownFacts,
-    numbers: &[u32],
-    flags: &[bool],
-) -> Result<Index, Memory>
-    requires derived { IsDerived ground.now facts.now }
-    requires numbers { (n : ℕ) → Contains numbers.now n → n < length facts.now.facts }
-    ensures { IfOk result (λ index. ListsFacts ground.now facts.now (kept flags.now numbers.now) (kept flags.now numbers.now) index) }
-{
-    let mut index = Index::new(alloc);
-    for number in numbers {
-        index_kept(&mut index, ground, facts, *number, flags)?;
-    }
-    Ok(index)
-}
-
 /// How many facts a form leads to in most ontologies, and a context alone. Where there is room for so many from the start, less memory
 /// is left unused by lists that grew out of it.
 const FACTS_OF_FORM: usize = 8;
@@ -116,6 +97,26 @@ fn expected_contexts(problem: &IndexedProblem) -> usize {
     problem.roots().len().saturating_add(problem.forms().len())
 }
 
+/// An index of those of the facts that are not flagged.
+fn indexed(
+    alloc: Global,
+    ground: &Ground,
+    facts: &KnownFacts,
+    numbers: &[u32],
+    flags: &[bool],
+) -> Result<Index, Memory>
+    requires derived { IsDerived ground.now facts.now }
+    requires numbers { (n : ℕ) → Contains numbers.now n → n < length facts.now.facts }
+    ensures { IfOk result (λ index. ListsFacts ground.now facts.now (kept flags.now numbers.now) (kept flags.now numbers.now) index) }
+{
+    let mut index = Index::new(alloc);
+    index.expect(ground.problem().roots().len());
+    for number in numbers {
+        index_kept(&mut index, ground, facts, *number, flags)?;
+    }
+    Ok(index)
+}
+
 /// Adds what is there at once, and makes the facts that are flagged wait again. Changes nothing where memory is refused.
 fn begun_again<W: WorkList>(
     alloc: Global,
@@ -124,9 +125,10 @@ fn begun_again<W: WorkList>(
     queue: &mut Queue<W>,
     flags: &[bool],
 ) -> Result<(), Memory>
-    requires { IsDerived ground.now facts.old }
+    requires derived { IsDerived ground.now facts.old }
+    requires queued { queue.old.queued ≤ length facts.old.facts }
     ensures begun { OnOk result (HasBegun ground.now u32.MAX facts.old facts.new) }
-    ensures queued { queue.new.queued ≡ queue.old.queued }
+    ensures queued { queue.new.queued ≤ length facts.new.facts }
     ensures served { OnOk result (queue.new.served ≡ kept flags.now queue.old.served) }
     ensures facts { OnErr result (facts.new ≡ facts.old) }
     ensures queue { OnErr result (queue.new ≡ queue.old) }
@@ -148,6 +150,7 @@ fn begun_again<W: WorkList>(
         facts.truncate(before);
         return Err(Memory);
     };
+    queue.line_up(facts.as_slice());
     queue.expect(more);
     Ok(())
 }
@@ -163,8 +166,9 @@ pub(crate) fn restart<W: WorkList>(
 ) -> Result<(), Memory>
     requires derived { IsDerived ground.now facts.old }
     requires served { (n : ℕ) → Contains queue.old.served n → n < length facts.old.facts }
+    requires queued { queue.old.queued ≤ length facts.old.facts }
     ensures begun { OnOk result (HasBegun ground.now u32.MAX facts.old facts.new) }
-    ensures queued { queue.new.queued ≡ queue.old.queued }
+    ensures queued { queue.new.queued ≤ length facts.new.facts }
     ensures served { OnOk result (KeepsServed ground.now.forms forms.now facts.old.facts queue.old.served queue.new.served) }
     ensures index { OnOk result (ListsFacts ground.now facts.new queue.new.served queue.new.served index.new) }
     ensures facts { OnErr result (facts.new ≡ facts.old) }

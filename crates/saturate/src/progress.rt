@@ -1,5 +1,5 @@
 //! A saturation under way, or ended.
-ghost use Rattle.std.specs.Prelude.{◌≡◌, ◌≤◌, ◌^◌, Err, IfNone, IfOk, IfSome, OnOk, Some, length, slice_get, take};
+ghost use Rattle.std.specs.Prelude.{◌≡◌, ◌≤◌, Err, IfNone, IfSome, OnOk, Some, length, slice_get, take};
 ghost use Rattle.facts.specs.Births.{IsBirth, reason};
 ghost use Rattle.facts.specs.declared.contexts.Fact.{Fact as Fact2};
 ghost use Rattle.inference.specs.Closed.{IsClosureOf};

@@ -1,5 +1,5 @@
 //! Whose turn it is.
-ghost use Rattle.std.specs.Prelude.{◌≡◌, ◌<◌, ◌≤◌, ◌^◌, ◌+◌, ◌++◌, ◌∷◌, [], ℕ, None, Some, length, take, drop, Contains, OnOk, OnErr, IfOk, IfSome};
+ghost use Rattle.std.specs.Prelude.{◌≡◌, ◌<◌, ◌≤◌, ◌^◌, ◌+◌, ◌++◌, [], ℕ, None, Some, length, take, Contains, OnOk, OnErr, IfOk};
 ghost use Rattle.saturate.specs.Flagged.{asked, is_flagged, kept};
 ghost use Rattle.saturate.specs.Queued.{with_one_more, option_list, HasTurn, IsServedOnce, IsWithoutHand, IsWithoutLast};
 ghost use Rattle.work_list.specs.Bag.{IsEmpty};
@@ -10,12 +10,15 @@ use std::alloc::Global;
 use std::marker::Model;
 use work_list::{Item, WorkList};
 
-/// Numbers from 0 on, each of which has one turn: some wait in a list of work, some were taken from it, of which the first are
-/// served and the next is in hand.
+/// Numbers from 0 on, each of which has one turn: some wait in a list of work, some beside it, and some were taken,
+/// of which the first are served and the next is in hand.
 #[derive(Drop)]
 pub(crate) struct Queue<W: WorkList> {
     list: W,
     queued: u32,
+    /// Those from here on and before the end wait beside the list, and take no memory there, until it is empty.
+    start: u32,
+    end: u32,
     taken: Vec<u32>,
     served: usize,
 }
@@ -28,7 +31,7 @@ impl<W: WorkList> Model for Queue<W> {
 
     ghost view = { λ q. record { queued = q.queued; served = take q.served q.taken.items; hand = slice_get q.taken.items q.served } };
 
-    ghost invariant = { λ q. IsQueue (W.pending q.list) q.queued q.taken.items q.served };
+    ghost invariant = { λ q. IsQueue (W.pending q.list) q.start q.end q.queued q.taken.items q.served };
 }
 
 /// The number of a fact's context. An expression and an individual may have the same one, and their facts come together then.
@@ -127,6 +130,8 @@ impl<W: WorkList> Queue<W> {
         Queue {
             list,
             queued: 0,
+            start: 0,
+            end: 0,
             taken: Vec::new(alloc),
             served: 0,
         }
@@ -190,7 +195,22 @@ impl<W: WorkList> Queue<W> {
         Ok(())
     }
 
-    /// Takes a number that waits in hand.
+    /// The numbers of facts that are not queued yet wait beside the list, unless others still do.
+    pub fn line_up(&mut self, facts: &[StoredFact])
+        requires few { length facts.now < 2 ^ 32 }
+        requires least { self.old.queued ≤ length facts.now }
+        ensures queued { self.new.queued ≤ length facts.now }
+        ensures served { self.new.served ≡ self.old.served }
+        ensures hand { self.new.hand ≡ self.old.hand }
+    {
+        if self.start == self.end {
+            self.start = self.queued;
+            self.end = facts.len() as u32;
+            self.queued = self.end;
+        }
+    }
+
+    /// Takes a number that waits in hand, where the list is empty the last of those beside it.
     fn take(&mut self) -> Result<(), Memory>
         requires { self.old.hand ≡ None }
         ensures queued { self.new.queued ≡ self.old.queued }
@@ -199,6 +219,10 @@ impl<W: WorkList> Queue<W> {
         ensures err { OnErr result (self.new.hand ≡ None) }
     {
         if self.list.len() == 0 {
+            if self.start < self.end {
+                self.taken.push(self.end - 1)?;
+                self.end -= 1;
+            }
             return Ok(());
         }
         self.taken.reserve(1)?;

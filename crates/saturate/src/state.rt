@@ -1,5 +1,5 @@
 //! The state of a saturation.
-ghost use Rattle.std.specs.Prelude.{OnErr, ◌≡◌, ◌↔◌, ◌<◌, ◌≤◌, ◌+◌, ◌∷◌, ◌++◌, [], ℕ, Ok, Err, Some, true, false, length, take, slice_get, IfOk, OnOk, IfSome, IfNone, Contains};
+ghost use Rattle.std.specs.Prelude.{OnErr, ◌≡◌, ◌↔◌, ◌<◌, ◌≤◌, ◌+◌, Ok, Err, Some, true, false, length, take, slice_get, IfOk, OnOk, IfSome, IfNone};
 ghost use Rattle.facts.specs.Births.{IsBirth, reason};
 ghost use Rattle.inference.specs.Derived.{HasMoreFactsThan};
 ghost use Rattle.facts.specs.declared.contexts.Fact.{Fact as Fact2};
@@ -97,6 +97,13 @@ impl<W: WorkList> State<W> {
                 Err(error)
             }
         }
+    }
+
+    /// The normal forms, in the order in which they were added.
+    pub fn normal(&self) -> &FormList
+        ensures { result.now ≡ self.now.problem.forms }
+    {
+        self.ground.problem().forms()
     }
 
     /// The closure of the properties.

@@ -8,6 +8,7 @@ use crate::problems::{
 use axioms::Memory;
 use facts::{FactId, Older, StoredFact};
 use form_list::FormList;
+use normal_forms::Form;
 use saturate::{State, Stop};
 use std::alloc::Global;
 use std::hash::RandomState;
@@ -182,14 +183,26 @@ fn is_born<W: WorkList>(state: &State<W>, born: &Born) -> bool {
     }
 }
 
-/// Whether the state has the facts of the problem, all served, and each of these.
+/// Whether the state has just the forms of the problem.
+fn has_forms<W: WorkList>(state: &State<W>, problem: &Problem) -> bool {
+    let forms = state.normal();
+    for (number, form) in problem.forms.iter().enumerate() {
+        if forms.get(number) != Some(*form) {
+            return false;
+        }
+    }
+    forms.len() == problem.forms.len()
+}
+
+/// Whether the state has the forms and the facts of the problem, all served, and each of these.
 fn has_ended<W: WorkList>(state: &State<W>, problem: &Problem, facts: &[StoredFact]) -> bool {
     for fact in facts {
         if !state.facts().iter().any(|known| known.get() == fact.get()) {
             return false;
         }
     }
-    state.facts().len() == problem.facts as usize
+    has_forms(state, problem)
+        && state.facts().len() == problem.facts as usize
         && state.served() == problem.facts as usize
         && problem
             .born
@@ -239,8 +252,23 @@ fn in_any_order(
         && grows(alloc, seed, problem, facts, script, backwards) == Some(0)
 }
 
+/// How many facts of the problem may be there from the start, and wait beside the list of work: two for each context, one more for each
+/// reflexive property, and one for each assertion.
+fn most_at_start(problem: &Problem) -> usize {
+    let contexts = problem.roots.len();
+    let mut most = contexts.saturating_mul(2);
+    for form in problem.forms {
+        most = most.saturating_add(match form {
+            Form::N7(_) => contexts,
+            Form::N8(..) | Form::N9(..) => 1,
+            _ => 0,
+        });
+    }
+    most
+}
+
 /// Whether the script leads there whichever one push hands its item back: for each push until none does, of which there are at
-/// least as many as facts.
+/// least as many as facts that are not there from the start.
 fn with_each_push_refused(
     alloc: Global,
     seed: RandomState,
@@ -258,7 +286,10 @@ fn with_each_push_refused(
             Refusing::new(alloc, push),
         ) {
             Some(1) => {}
-            Some(0) => return push > problem.facts,
+            Some(0) => {
+                let drawn = (problem.facts as usize).saturating_sub(most_at_start(problem));
+                return push as usize > drawn;
+            }
             _ => return false,
         }
     }

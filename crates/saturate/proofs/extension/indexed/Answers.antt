@@ -5,7 +5,7 @@ use Rattle.saturate.proofs.Listing.{nothing_listed}
 use Rattle.saturate.proofs.extension.indexed.Goals as goal
 
 pub loop-number-init : goal.loop-number-init
-loop-number-init c = nothing_listed c.args.ground.now c.args.facts.now [] c.new-index.result c.new-index.ensures
+loop-number-init c = rw c.expect.ensures (nothing_listed c.args.ground.now c.args.facts.now [] c.new-index.result c.new-index.ensures)
 
 pub index_kept-requires-clause-number : goal.index_kept-requires-clause-number
 index_kept-requires-clause-number c = c.requires.numbers _ (Contains-get_or c.args.numbers.now c.loop-number.number-index 0 c.loop-number-test.true)
