@@ -1,5 +1,5 @@
 -- Every document of the profile is classified.
-use Rattle.std.proofs.Common.{◌≡◌, ◌<◌, ◌≤◌, ℕ, List, length, Some, Ok, Err, subst, arith}
+use Rattle.std.proofs.Common.{◌<◌, ◌≤◌, ℕ, List, length, Some, Ok, Err, subst, arith}
 use Rattle.axioms.specs.Numbered.{Ontology}
 use Rattle.cert_check.specs.Acceptable.{IsAcceptable}
 use Rattle.classification.specs.Classified.{AreCountsOf}

@@ -1,5 +1,4 @@
 //! Why a document is not classified, or not checked.
-ghost use Rattle.std.specs.Prelude.{◌≡◌};
 
 use classification::Stop;
 use document::DocumentFault;

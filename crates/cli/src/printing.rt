@@ -2,7 +2,7 @@
 ghost use Rattle.cli.specs.Devices.{seen};
 ghost use Rattle.cli.specs.Printed.{IsPrinted, IsToldMessage, IsAnsweredMessage, IsDocumentText, IsClassifyText, IsCheckText, IsQuestionText, classify_status, check_status, question_status, name_at, outputs, reason_text as text_of_reason, summary_text, verdict_text, verdict_status, written_path as path_written, read_path as path_read, out_of_memory};
 ghost use Rattle.document.specs.Printed.{status_of};
-ghost use Rattle.std.specs.Prelude.{◌≡◌, ℕ, IfOk, Ok, map, string_bytes};
+ghost use Rattle.std.specs.Prelude.{◌≡◌, IfOk, Ok, map, string_bytes};
 
 use crate::fault::{CheckFault, ClassifyFault};
 use axioms::Ontology;

@@ -1,9 +1,6 @@
 -- Whatever the members of the listed interpretation stand for is the listed interpretation.
-use Rattle.std.proofs.Common.{◌≡◌, ℕ, zero, suc, ◌<◌, ◌≤◌, ◌↔◌, List, [], length, slice_get, Some, true, false, refl, sym, subst, ap, ◌∙◌, arith}
-use Rattle.std.specs.List.{Contains}
+use Rattle.std.proofs.Common.{◌≡◌, ℕ, zero, suc, ◌<◌, ◌↔◌, List, [], length, slice_get, Some, true, false, sym, subst, ◌∙◌, arith}
 use Rattle.std.proofs.lemmas.Option.{slice_get-get_or, slice_get_within}
-use Rattle.std.proofs.lemmas.Bool.{true≢false}
-use Rattle.axioms.specs.Expression.{Iri, Named}
 use Rattle.axioms.specs.Numbered.{Ontology, IsClassAt, name_at, property_name, individual_name, nothing, thing, expression}
 use Rattle.axioms.specs.WellFormed.{IsOntology}
 use Rattle.axioms.proofs.Trees.{class_tree}

@@ -5,7 +5,7 @@ use Rattle.std.proofs.lemmas.Option.{same_Some, none-some, slice_get_within}
 use Rattle.lemmas.proofs.Places.{take_push}
 use Rattle.axioms.specs.Numbered.{Ontology, Node, Class, And, Exists}
 use Rattle.axioms.specs.declared.ids.ExprId.{ExprId}
-use Rattle.certificate.specs.Certificate.{Subject, Conclusion, Sub, Line}
+use Rattle.certificate.specs.Certificate.{Conclusion, Sub, Line}
 use Rattle.certificate.specs.Certificate as line
 use Rattle.certificate.specs.HasText.{IsConclusionOf}
 use Rattle.certificate.specs.declared.line.Rule.{Rule}

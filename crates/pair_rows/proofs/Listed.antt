@@ -13,7 +13,6 @@ use Rattle.normal_forms.specs.declared.forms.PropId2.TheVariants as properties
 use Rattle.normal_forms.specs.declared.forms.Form as code_form
 use Rattle.normal_forms.specs.Forms.{Property2, Property, Steps, N5, IsForm, sub_property, same_property, IsNextInCircle}
 use Rattle.normal_forms.specs.Properties as code_below
-use Rattle.normal_forms.specs.Properties.{property_forms}
 use Rattle.normal_forms.proofs.Suffice.{suffice}
 use Rattle.facts.specs.declared.contexts.Context as code_context
 use Rattle.facts.specs.declared.contexts.Fact as code_fact

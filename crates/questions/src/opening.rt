@@ -1,5 +1,5 @@
 //! Sessions that are run to their end.
-ghost use Rattle.engine.specs.Saturated.{HasMoreFactsThan, IsFinished};
+ghost use Rattle.engine.specs.Saturated.{IsFinished};
 ghost use Rattle.questions.specs.Texts.{IsUnanswered};
 ghost use Rattle.std.specs.Prelude.{◌≡◌, [], IfErr, OnOk};
 

@@ -1,6 +1,5 @@
 use Rattle.std.proofs.Common.{[], length, ◌<◌}
 use Rattle.std.proofs.lemmas.List.Elements.{All-nil}
-use Rattle.axioms.specs.Numbered.{axiom_trees}
 use Rattle.certificate.specs.View.{listed_of}
 use Rattle.closure_model.specs.Listed.{IsListedInterpretation}
 use Rattle.closure_model.proofs.Complete.{listed_is_model, listed_agrees}

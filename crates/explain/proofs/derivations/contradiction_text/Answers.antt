@@ -1,4 +1,4 @@
-use Rattle.std.proofs.Common.{sym, subst, ◌∙◌}
+use Rattle.std.proofs.Common.{sym, subst}
 use Rattle.cert_check.specs.Derivation.{IsDerivation}
 use Rattle.explain.specs.Needed.{EachIsNeeded}
 use Rattle.explain.proofs.derivations.contradiction_text.Goals as goal
