@@ -20,13 +20,13 @@ use Rattle.normal_forms.specs.declared.forms.Form.TheVariants as forms
 use Rattle.normal_forms.specs.Forms.{Whole, Property2, Property, Steps, Form, N5, IsForm}
 use Rattle.closure.specs.Closure.{Context, Expression, Individual, Fact, In, Edge, IsFact, IsAtOrBelow, same, step}
 use Rattle.closure.specs.Said.{Beginnings, SaysProperty, property, steps, SaysContext, expression, individual, SaysFact, edge, SaysForm, n5, IsProblemOf}
-use Rattle.closure_model.specs.Listed.{HasEdge, IsConsistent, IsListedInterpretation, IsSatisfiable, AreSatisfiableContexts}
-use Rattle.closure_model.proofs.Listed.{listed_exists}
+use Rattle.exactness.specs.Listed.{HasEdge, IsConsistent, IsListedInterpretation, IsSatisfiable, AreSatisfiableContexts}
+use Rattle.exactness.proofs.Listed.{listed_exists}
 use Rattle.interpretation_spec.specs.Interpretation.{Interpretation}
-use Rattle.elements.specs.Elements.{contexts_of}
-use Rattle.elements.proofs.Contexts.{context_has_thing}
-use Rattle.elements.proofs.Facts.{code_of, whole_said, satisfiable_within}
-use Rattle.elements.proofs.Listing.{HasListed, HasListedMore, none_listed, listed_more, listed_same, none_listed_more, individual_more, individual_same, no_individual, expressions_done, contexts_done}
+use Rattle.countermodel.specs.Elements.{contexts_of}
+use Rattle.countermodel.proofs.Contexts.{context_has_thing}
+use Rattle.countermodel.proofs.Facts.{code_of, whole_said, satisfiable_within}
+use Rattle.countermodel.proofs.Listing.{HasListed, HasListedMore, none_listed, listed_more, listed_same, none_listed_more, individual_more, individual_same, no_individual, expressions_done, contexts_done}
 use Rattle.engine.specs.Saturated.{SayTheClosure}
 use Rattle.answers.proofs.Deciding.{Decided, is_yes, tells, SomeOf, some_of, same_context, is_in, Reach, reach, reach_same, reach_on}
 

@@ -15,11 +15,11 @@ use Rattle.facts.specs.declared.contexts.Fact.TheVariants as facts
 use Rattle.normal_forms.specs.declared.forms.Class2.TheVariants as classes
 use Rattle.normal_forms.specs.Forms.{Whole}
 use Rattle.closure.specs.Closure.{Context, Expression, Individual, In, IsFact, IsRoot}
-use Rattle.closure_model.specs.Listed.{IsConsistent, IsListedInterpretation}
-use Rattle.closure_model.proofs.Complete.{complete_contradictory}
+use Rattle.exactness.specs.Listed.{IsConsistent, IsListedInterpretation}
+use Rattle.exactness.proofs.Complete.{complete_contradictory}
 use Rattle.exactness.proofs.Exact.{sound_below, sound_nothing, contradiction_sound, exact_below, exact_types}
 use Rattle.interpretation_spec.specs.Interpretation.{Interpretation, IsBelow, IsMember, IsContradictory}
-use Rattle.problem.specs.Made.{beginnings_of}
+use Rattle.normalise.specs.Problem.{beginnings_of}
 use Rattle.engine.specs.Saturated.{Saturated, IsSaturated}
 use Rattle.classification.specs.Contradiction.{IsContradiction}
 use Rattle.classification.proofs.Saying.{consistent_by_facts}

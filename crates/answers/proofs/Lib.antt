@@ -3,4 +3,11 @@ pub mod Existing
 pub mod Following
 pub mod Naming
 pub mod Marking
-pub mod Answering
+pub mod AnsweredByFacts
+pub mod NamedThings
+pub mod Deriving
+pub mod Refuting
+pub mod Placed
+pub mod Ending
+pub mod Explaining
+pub mod Knowing

@@ -3,7 +3,7 @@ use Rattle.std.specs.Prelude.{◌≡◌, ◌↔◌, ◌⊎◌, ◌<◌, ℕ, Lis
 use Rattle.axioms.specs.Expression.{Iri}
 use Rattle.axioms.specs.Numbered.{Ontology, name_at}
 use Rattle.classification.specs.Lists.{PutsBelow, PutsInto, SomeFact}
-use Rattle.closure_model.specs.Listed.{IsConsistent}
+use Rattle.exactness.specs.Listed.{IsConsistent}
 use Rattle.facts.specs.declared.contexts.Fact.{Fact}
 use Rattle.answers.specs.Follows.{LiesBelow, BelongsTo}
 use Rattle.answers.specs.Names.{IsMarked}

@@ -5,7 +5,7 @@ use Rattle.axioms.specs.Expression.{Iri, Named}
 use Rattle.axioms.specs.Numbered.{Ontology, IsClassAt, nothing, name_at, individual_name, axiom_trees}
 use Rattle.axioms.specs.WellFormed.{IsOntology}
 use Rattle.closure.specs.Closure.{Expression, Individual, In, IsFact}
-use Rattle.closure_model.specs.Listed.{IsConsistent}
+use Rattle.exactness.specs.Listed.{IsConsistent}
 use Rattle.engine.specs.Saturated.{Saturated, IsSaturated}
 use Rattle.interpretation_spec.specs.Interpretation.{IsBelow, IsMember, IsContradictory}
 use Rattle.normal_forms.specs.Forms.{Whole}

@@ -1,12 +1,22 @@
-//! What follows from the axioms of an ontology about its named classes and its individuals, by all facts of its closure.
+//! What follows from the axioms of an ontology about its named classes and its individuals, by all facts of its closure; and
+//! why something follows, or why it does not.
 #![tactic(auto)]
 
+mod answering;
+mod asked;
 mod asking;
+mod derived;
+mod explanation;
 mod marks;
+mod named;
 mod names;
 mod question;
+mod refuted;
 mod theory;
 
+pub use answering::explained;
+pub use asked::Asked;
 pub use asking::{instances, subclasses, superclasses};
+pub use explanation::Explanation;
 pub use names::names_in_order;
 pub use theory::what_follows;

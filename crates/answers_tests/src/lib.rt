@@ -1,5 +1,17 @@
-//! Tests of answers about named classes and individuals.
+//! Tests of answers: what follows, why and why not, their texts, sessions and questions.
 #![tactic(auto)]
 
 #[cfg(test)]
+mod explanations;
+#[cfg(test)]
+mod generated_parts;
+#[cfg(test)]
+mod listings;
+#[cfg(test)]
 mod names;
+#[cfg(test)]
+mod questions_asked;
+#[cfg(test)]
+mod sessions;
+#[cfg(test)]
+mod texts;

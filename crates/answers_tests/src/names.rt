@@ -2,7 +2,7 @@
 
 use answers::names_in_order;
 use axioms::Ontology;
-use document::read_bytes;
+use profile::read_bytes;
 use std::alloc::Global;
 use std::hash::RandomState;
 use std::test::Fail;

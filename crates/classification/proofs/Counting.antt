@@ -16,7 +16,7 @@ use Rattle.interpretation_spec.specs.Interpretation.{IsContradictory}
 use Rattle.normal_forms.specs.declared.forms.Class2 as code_class
 use Rattle.normal_forms.specs.declared.forms.PropId2 as code_property
 use Rattle.normal_forms.specs.Forms.{Class2, Whole, Beginning, Property2, Property, Steps}
-use Rattle.problem.specs.Made.{beginnings_of}
+use Rattle.normalise.specs.Problem.{beginnings_of}
 use Rattle.classification.specs.Classified.{HasFacts, AreCountsOf}
 use Rattle.classification.specs.declared.classification.Summary.{Summary}
 

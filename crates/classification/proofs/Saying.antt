@@ -14,9 +14,9 @@ use Rattle.facts.specs.declared.contexts.Fact as code_fact
 use Rattle.facts.specs.declared.contexts.Fact.TheVariants as facts
 use Rattle.closure.specs.Closure.{Expression, Individual, Fact, In, IsFact}
 use Rattle.closure.specs.Said.{Beginnings, whole, expression, individual, SaysFact, in_context}
-use Rattle.closure_model.specs.Listed.{IsConsistent}
-use Rattle.derivable.specs.Derivable.{FactIsDerivable}
-use Rattle.derivable.proofs.Facts.{fact_derivable}
+use Rattle.exactness.specs.Listed.{IsConsistent}
+use Rattle.exactness.specs.Derivable.{FactIsDerivable}
+use Rattle.exactness.proofs.Facts.{fact_derivable}
 use Rattle.engine.specs.Saturated.{SayTheClosure}
 use Rattle.classification.specs.Contradiction.{IsContradiction}
 use Rattle.classification.specs.Lists.{PutsBelow, PutsInto, IsAboutIndividualOf, SomeFact}

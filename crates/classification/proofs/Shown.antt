@@ -10,8 +10,8 @@ use Rattle.certificate.specs.HasText.{HasText}
 use Rattle.certificate.specs.Text.{certificate_text}
 use Rattle.cert_check.specs.Acceptable.{IsContradictionShown, IsAcceptable}
 use Rattle.cert_check.specs.Derivation.{IsDerivation}
-use Rattle.closure_model.specs.Listed.{IsConsistent}
-use Rattle.closure_model.proofs.Complete.{complete_contradictory}
+use Rattle.exactness.specs.Listed.{IsConsistent}
+use Rattle.exactness.proofs.Complete.{complete_contradictory}
 use Rattle.exactness.specs.Acceptance.{ShowsClosure}
 use Rattle.exactness.proofs.Acceptance.{shown_is_acceptable}
 use Rattle.exactness.proofs.Exact.{contradiction_sound}

@@ -9,7 +9,7 @@ use Rattle.axioms.specs.View.{at_number}
 use Rattle.certificate.specs.Certificate.{Subject, Expression, Individual, Conclusion, Sub, Edge, Line, Listed}
 use Rattle.certificate.specs.HasText.{IsSubjectOf, IsConclusionOf, IsAxiomNumberOf, IsListedOf, HasText, subject_number, conclusion_numbers, axiom_numbers, line_numbers, listed_numbers}
 use Rattle.cert_check.specs.Derivation.{IsDerivation, at_numbers}
-use Rattle.derivable.proofs.Derivable.{prepended_list_parts}
+use Rattle.exactness.proofs.Derivable.{prepended_list_parts}
 
 All-flat : {A B : Type 0} (P : B → Type 0) (f : A → List B) (xs : List A) → ((n : ℕ) (x : A) → slice_get xs n ≡ Some x → All P (f x)) → All P (flat_map f xs)
 All-flat P f [] h = All-nil P

@@ -1,6 +1,6 @@
 //! Whether a closure is without contradiction.
 ghost use Rattle.classification.specs.Contradiction.{IsContradiction};
-ghost use Rattle.closure_model.specs.Listed.{IsConsistent};
+ghost use Rattle.exactness.specs.Listed.{IsConsistent};
 ghost use Rattle.engine.specs.Saturated.{IsSaturated};
 ghost use Rattle.std.specs.Prelude.{◌↔◌, [], All, IsTrue};
 

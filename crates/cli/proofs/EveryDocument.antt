@@ -6,11 +6,11 @@ use Rattle.classification.specs.Classified.{AreCountsOf}
 use Rattle.cli.proofs.WrittenAccepted.{not_refused}
 use Rattle.cli.specs.Theorems.{EveryDocumentIsClassified, StopsClassification}
 use Rattle.cli.specs.declared.fault.ClassifyFault.TheVariants.{Document, Memory, Limit, Io}
-use Rattle.document.proofs.OneReading.{one_reading}
-use Rattle.document.specs.Documents.{ReadsAs}
-use Rattle.document.specs.Faults.{RefusesKnown}
-use Rattle.document.specs.declared.fault.DocumentFault.{DocumentFault}
-use Rattle.document.specs.declared.fault.DocumentFault.TheVariants as reading
+use Rattle.profile.proofs.OneReading.{one_reading}
+use Rattle.profile.specs.Documents.{ReadsAs}
+use Rattle.profile.specs.Faults.{RefusesKnown}
+use Rattle.profile.specs.declared.fault.DocumentFault.{DocumentFault}
+use Rattle.profile.specs.declared.fault.DocumentFault.TheVariants as reading
 use Rattle.engine.specs.Saturated.{HasMoreFactsThan}
 
 -- bytes within the limit that read as an ontology are not refused

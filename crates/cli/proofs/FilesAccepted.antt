@@ -24,12 +24,12 @@ use Rattle.cli.specs.Writing.{IsClassified, Texts}
 use Rattle.cli.specs.declared.fault.ClassifyFault.{ClassifyFault}
 use Rattle.cli.specs.declared.fault.ClassifyFault.TheVariants as classifying
 use Rattle.classification.specs.declared.classification.Summary.{Summary}
-use Rattle.document.specs.Printed.{status_of}
+use Rattle.profile.specs.Printed.{status_of}
 use Rattle.program.specs.Status.{code_of}
 use Rattle.program.specs.declared.status.Status.{Status}
 use Rattle.program.specs.declared.status.Status.TheVariants as statuses
-use Rattle.document.specs.declared.fault.DocumentFault.{DocumentFault}
-use Rattle.document.specs.declared.fault.DocumentFault.TheVariants as reading
+use Rattle.profile.specs.declared.fault.DocumentFault.{DocumentFault}
+use Rattle.profile.specs.declared.fault.DocumentFault.TheVariants as reading
 use Rattle.system_files.specs.Contents.{Content}
 
 -- ---- a fault has another status than 0

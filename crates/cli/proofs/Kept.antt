@@ -11,10 +11,10 @@ use Rattle.cli.specs.declared.fault.CheckFault.{CheckFault}
 use Rattle.cli.specs.declared.fault.CheckFault.TheVariants as checking
 use Rattle.cli.specs.declared.fault.ClassifyFault.{ClassifyFault}
 use Rattle.cli.specs.declared.fault.ClassifyFault.TheVariants as classifying
-use Rattle.document.specs.Documents.{ReadsAs}
-use Rattle.document.specs.Faults.{ReadsKnown, RefusesKnown}
-use Rattle.document.specs.declared.fault.DocumentFault.{DocumentFault}
-use Rattle.document.specs.declared.fault.DocumentFault.TheVariants as reading
+use Rattle.profile.specs.Documents.{ReadsAs}
+use Rattle.profile.specs.Faults.{ReadsKnown, RefusesKnown}
+use Rattle.profile.specs.declared.fault.DocumentFault.{DocumentFault}
+use Rattle.profile.specs.declared.fault.DocumentFault.TheVariants as reading
 
 pub all_known : (left rest : Option (List ℕ)) (bytes : List ℕ) → Consumes left rest bytes → IsAtEnd rest → AreKnown left bytes
 all_known None rest bytes all end = tt

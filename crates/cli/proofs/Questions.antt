@@ -5,11 +5,11 @@ use Rattle.axioms.specs.Expression.{Iri}
 use Rattle.axioms.specs.Numbered.{Ontology}
 use Rattle.axioms.specs.declared.terms.Kind.{Kind}
 use Rattle.cli.proofs.Kept.{reads_file, refuses_file}
-use Rattle.questions.specs.Answered.{AnswersInstances, AnswersWhy, IsFaultOf, IsReadAs}
-use Rattle.questions.specs.declared.fault.QuestionFault.{QuestionFault}
-use Rattle.questions.specs.declared.fault.QuestionFault.TheVariants.{Document, Limit, UnknownName, Memory}
-use Rattle.questions.specs.declared.form.Form.{Form}
-use Rattle.reasons.specs.declared.asked.Asked.{Asked}
+use Rattle.session.specs.Answered.{AnswersInstances, AnswersWhy, IsFaultOf, IsReadAs}
+use Rattle.session.specs.declared.question_fault.QuestionFault.{QuestionFault}
+use Rattle.session.specs.declared.question_fault.QuestionFault.TheVariants.{Document, Limit, UnknownName, Memory}
+use Rattle.session.specs.declared.form.Form.{Form}
+use Rattle.answers.specs.declared.asked.Asked.{Asked}
 
 read_as_file : (file left : Option (List ℕ)) (most : ℕ) (o : Ontology) → Keeps file left → IsReadAs most left o → IsReadAs most file o
 read_as_file file left most o kept is = record { reads = reads_file file left most o kept is.reads; taken = is.taken }

@@ -2,12 +2,12 @@
 use Rattle.std.proofs.Common.{◌≡◌, ℕ, List, Some, Ok, Err, subst}
 use Rattle.axioms.specs.Numbered.{Ontology}
 use Rattle.cert_check.specs.Acceptable.{IsAcceptable}
-use Rattle.document.proofs.OneReading.{one_reading}
-use Rattle.document.proofs.Refused.{bytes_read_as_none}
-use Rattle.document.specs.Documents.{ReadsAs}
-use Rattle.document.specs.Faults.{Refuses, RefusesKnown}
-use Rattle.document.specs.declared.fault.DocumentFault.{DocumentFault}
-use Rattle.document.specs.declared.fault.DocumentFault.TheVariants as reading
+use Rattle.profile.proofs.OneReading.{one_reading}
+use Rattle.profile.proofs.Refused.{bytes_read_as_none}
+use Rattle.profile.specs.Documents.{ReadsAs}
+use Rattle.profile.specs.Faults.{Refuses, RefusesKnown}
+use Rattle.profile.specs.declared.fault.DocumentFault.{DocumentFault}
+use Rattle.profile.specs.declared.fault.DocumentFault.TheVariants as reading
 use Rattle.cli.specs.Theorems.{IsStop, WhatIsWrittenIsAccepted}
 use Rattle.cli.specs.declared.fault.CheckFault.TheVariants.{Document, Memory, Io}
 

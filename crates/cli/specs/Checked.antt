@@ -11,7 +11,7 @@ use Rattle.cli.specs.Writing.{IsRead}
 use Rattle.cli.specs.declared.fault.CheckFault.{CheckFault}
 use Rattle.cli.specs.declared.fault.CheckFault.TheVariants.{Document, Memory, Io}
 use Rattle.device.specs.declared.device.Source.{Ghosts}
-use Rattle.document.specs.Faults.{ReadsKnown, RefusesKnown}
+use Rattle.profile.specs.Faults.{ReadsKnown, RefusesKnown}
 
 -- the bytes are those of a source that tells its bytes
 abbrev pub AreKnown : Option (List ℕ) → List ℕ → Type 0

@@ -4,8 +4,8 @@ use Rattle.std.specs.Io.KnownBytes.{Appends, IsAtEnd}
 use Rattle.device.specs.declared.device.Sink as sinks
 use Rattle.device.specs.declared.device.Source as sources
 use Rattle.device.specs.Device.{AppendsBeginning, HasFailed, LosesFront}
-use Rattle.document.specs.declared.fault.DocumentFault.{DocumentFault}
-use Rattle.document.specs.declared.fault.DocumentFault.TheVariants.{Io}
+use Rattle.profile.specs.declared.fault.DocumentFault.{DocumentFault}
+use Rattle.profile.specs.declared.fault.DocumentFault.TheVariants.{Io}
 
 -- ---- sinks
 

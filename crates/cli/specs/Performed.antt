@@ -19,13 +19,13 @@ use Rattle.cli.specs.declared.fault.ClassifyFault.TheVariants.{Io}
 use Rattle.device.specs.declared.device.Sink as sinks
 use Rattle.program.specs.declared.limits.Limits.{Limits}
 use Rattle.program.specs.declared.status.Status.TheVariants as statuses
-use Rattle.questions.specs.Answered as asking
-use Rattle.questions.specs.Answered.{AnswersInstances, AnswersWhy}
-use Rattle.questions.specs.declared.fault.QuestionFault.{QuestionFault}
-use Rattle.questions.specs.declared.form.Form.{Form}
-use Rattle.questions.specs.declared.form.Form.TheVariants.{Graph, Lines}
-use Rattle.reasons.specs.declared.asked.Asked.{Asked}
-use Rattle.reasons.specs.declared.asked.Asked.TheVariants.{Class, Individual}
+use Rattle.session.specs.Answered as asking
+use Rattle.session.specs.Answered.{AnswersInstances, AnswersWhy}
+use Rattle.session.specs.declared.question_fault.QuestionFault.{QuestionFault}
+use Rattle.session.specs.declared.form.Form.{Form}
+use Rattle.session.specs.declared.form.Form.TheVariants.{Graph, Lines}
+use Rattle.answers.specs.declared.asked.Asked.{Asked}
+use Rattle.answers.specs.declared.asked.Asked.TheVariants.{Class, Individual}
 use Rattle.session.specs.Asking.{class_name, subject_name}
 use Rattle.system_files.specs.Contents.{Content}
 use Rattle.system_files.specs.declared.files.Files as files

@@ -16,15 +16,15 @@ use Rattle.cli.specs.declared.fault.ClassifyFault.TheVariants as classifying
 use Rattle.command_line.specs.declared.tasks.LineFault.{LineFault}
 use Rattle.command_line.specs.declared.tasks.LineFault.TheVariants as line
 use Rattle.command_line.specs.declared.tasks.Paths.{Paths}
-use Rattle.document.specs.declared.fault.DocumentFault.{DocumentFault}
+use Rattle.profile.specs.declared.fault.DocumentFault.{DocumentFault}
 use Rattle.device.specs.declared.device.Sink.{Ghosts}
-use Rattle.document.specs.Printed.{fault_text, status_of}
-use Rattle.document.specs.declared.fault.DocumentFault.TheVariants.{TooLarge, Io, TooManyNames}
+use Rattle.profile.specs.Printed.{fault_text, status_of}
+use Rattle.profile.specs.declared.fault.DocumentFault.TheVariants.{TooLarge, Io, TooManyNames}
 use Rattle.program.specs.Status.{code_of}
 use Rattle.program.specs.declared.status.Status.{Status}
 use Rattle.program.specs.declared.status.Status.TheVariants as statuses
-use Rattle.questions.specs.declared.fault.QuestionFault.{QuestionFault}
-use Rattle.questions.specs.declared.fault.QuestionFault.TheVariants as asking
+use Rattle.session.specs.declared.question_fault.QuestionFault.{QuestionFault}
+use Rattle.session.specs.declared.question_fault.QuestionFault.TheVariants as asking
 
 -- ---- what standard output and standard error show
 

@@ -18,8 +18,8 @@ use Rattle.cli.specs.declared.fault.CheckFault.{CheckFault}
 use Rattle.cli.specs.declared.fault.CheckFault.TheVariants.{Document, Memory, Io}
 use Rattle.cli.specs.declared.fault.ClassifyFault.{ClassifyFault}
 use Rattle.cli.specs.declared.fault.ClassifyFault.TheVariants as classifying
-use Rattle.document.specs.Documents.{ReadsAs}
-use Rattle.document.specs.declared.fault.DocumentFault.TheVariants as reading
+use Rattle.profile.specs.Documents.{ReadsAs}
+use Rattle.profile.specs.declared.fault.DocumentFault.TheVariants as reading
 use Rattle.engine.specs.Saturated.{HasMoreFactsThan}
 use Rattle.program.specs.Status.{code_of}
 use Rattle.program.specs.declared.status.Status.TheVariants as statuses

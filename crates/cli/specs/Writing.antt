@@ -10,7 +10,7 @@ use Rattle.cli.specs.Devices.{Device, seen, Takes, FailsIn, SourceState, IsReadT
 use Rattle.cli.specs.declared.fault.ClassifyFault.{ClassifyFault}
 use Rattle.cli.specs.declared.fault.ClassifyFault.TheVariants.{Document, Memory, Limit, Io}
 use Rattle.device.specs.declared.device.Sink.{Ghosts}
-use Rattle.document.specs.Faults.{ReadsKnown, RefusesKnown}
+use Rattle.profile.specs.Faults.{ReadsKnown, RefusesKnown}
 use Rattle.engine.specs.Saturated.{HasMoreFactsThan}
 use Rattle.program.specs.declared.limits.Limits.{Limits}
 

@@ -4,12 +4,12 @@ ghost use Rattle.cli.specs.Printed.{outputs};
 ghost use Rattle.std.specs.Prelude.{◌≡◌};
 
 use crate::printing::{print_bytes, question_message, tell, tell_out_of_memory};
+use answers::Asked;
 use command_line::Question;
 use device::Sink;
-use document::Limits;
+use profile::Limits;
 use program::Status;
-use questions::{Form, explanation_text, instances_text};
-use reasons::Asked;
+use session::{Form, explanation_text, instances_text};
 use std::alloc::Global;
 use std::hash::RandomState;
 use system_files::Files;

@@ -7,7 +7,7 @@ use crate::fault::CheckFault;
 use axioms::Ontology;
 use cert_check::{Verdict, check_owned};
 use device::{ReadFault, Source, read_all};
-use document::{Limits, read_document};
+use profile::{Limits, read_document};
 use std::alloc::Global;
 use std::hash::RandomState;
 

@@ -6,7 +6,7 @@ ghost use Rattle.std.specs.Prelude.{◌≡◌, IfErr, IfOk};
 use crate::fault::ClassifyFault;
 use classification::{Classification, Stop, Summary, classify};
 use device::{Sink, Source, write_all};
-use document::{Limits, read_document};
+use profile::{Limits, read_document};
 use std::alloc::Global;
 use std::hash::RandomState;
 

@@ -1,7 +1,7 @@
 //! Why a document is not classified, or not checked.
 
 use classification::Stop;
-use document::DocumentFault;
+use profile::DocumentFault;
 
 /// Why a document was not classified.
 #[derive(Debug, Drop)]

@@ -16,8 +16,8 @@ pub use checking::check_document;
 pub use classification::Summary;
 pub use classifying::classify_document;
 pub use command_line::{LineFault, Paths, Question, Task, task};
-pub use document::{DocumentFault, Limits, read_document};
 pub use fault::{CheckFault, ClassifyFault};
+pub use profile::{DocumentFault, Limits, read_document};
 pub use run::perform;
 pub use system_files::Files;
 

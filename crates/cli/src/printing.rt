@@ -1,7 +1,7 @@
 //! What the program prints, and its statuses.
 ghost use Rattle.cli.specs.Devices.{seen};
 ghost use Rattle.cli.specs.Printed.{IsPrinted, IsToldMessage, IsAnsweredMessage, IsDocumentText, IsClassifyText, IsCheckText, IsQuestionText, classify_status, check_status, question_status, name_at, outputs, reason_text as text_of_reason, summary_text, verdict_text, verdict_status, written_path as path_written, read_path as path_read, out_of_memory};
-ghost use Rattle.document.specs.Printed.{status_of};
+ghost use Rattle.profile.specs.Printed.{status_of};
 ghost use Rattle.std.specs.Prelude.{◌≡◌, IfOk, Ok, map, string_bytes};
 
 use crate::fault::{CheckFault, ClassifyFault};
@@ -10,9 +10,9 @@ use cert_check::{Reason, Verdict};
 use classification::Summary;
 use command_line::Paths;
 use device::{Sink, write_all};
-use document::{DocumentFault, Limits};
+use profile::{DocumentFault, Limits};
 use program::Status;
-use questions::QuestionFault;
+use session::QuestionFault;
 use std::alloc::{AllocError, Global};
 
 /// A text for standard output or standard error, and the status that goes with it.

@@ -16,7 +16,7 @@ use crate::printing::{
 use axioms::Memory;
 use command_line::{LineFault, Paths, Task, task};
 use device::Sink;
-use document::{Limits, MOST_FACTS};
+use profile::{Limits, MOST_FACTS};
 use std::alloc::Global;
 use std::hash::RandomState;
 use system_files::Files;

@@ -2,7 +2,7 @@
 use Rattle.std.specs.Prelude.{List, []}
 use Rattle.axioms.specs.Numbered.{Ontology, axiom_trees}
 use Rattle.closure.specs.Closure.{Context}
-use Rattle.closure_model.specs.Listed.{IsListedInterpretation, AgreesWithClosure}
+use Rattle.exactness.specs.Listed.{IsListedInterpretation, AgreesWithClosure}
 use Rattle.interpretation_spec.specs.ByName.{interpretation_of}
 use Rattle.interpretation_spec.specs.Interpretation.{IsModel}
 use Rattle.interpretation_spec.specs.Numbered.{NumberedInterpretation}

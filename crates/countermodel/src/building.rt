@@ -1,15 +1,15 @@
 //! The interpretation that a closure lists, as a value.
-ghost use Rattle.closure_model.specs.Listed.{IsConsistent};
+ghost use Rattle.exactness.specs.Listed.{IsConsistent};
 ghost use Rattle.countermodel.specs.Built.{IsBuilt};
 ghost use Rattle.engine.specs.Saturated.{IsSaturated};
 ghost use Rattle.interpretation_spec.specs.Numbered.{IsMadeFor};
 ghost use Rattle.std.specs.Prelude.{[], IfOk};
 
+use crate::interpretation::listed;
 use axioms::{Memory, Ontology};
 use cert_check::interpretation_of;
 use engine::Saturation;
 use interpretation_spec::Interpretation;
-use listing::listed;
 use std::alloc::Global;
 
 /// The interpretation that the closure of a consistent ontology lists: an element for each context without `owl:Nothing`, in

@@ -12,9 +12,9 @@ use Rattle.closure.proofs.Said.{said, sayer}
 use Rattle.normalise.specs.Entries.{form_in}
 use Rattle.normalise.specs.Growing.{IsNormalFor}
 use Rattle.normalise.specs.Listing.{Listing}
-use Rattle.problem.specs.Made.{beginnings_of, problem_of}
-use Rattle.problem.specs.Roots.{AreRoots}
-use Rattle.problem.proofs.Made.{makes_the_problem}
+use Rattle.normalise.specs.Problem.{beginnings_of, problem_of}
+use Rattle.normalise.specs.Roots.{AreRoots}
+use Rattle.normalise.proofs.ProblemForms.{makes_the_problem}
 use Rattle.saturate.specs.Growing.{HasGrown, KeepsServed, with_more}
 use Rattle.saturate.specs.State.{Seen, AreBorn, nothing_seen}
 use Rattle.inference.specs.Working.{IsClosure}

@@ -9,7 +9,7 @@ use Rattle.closure.specs.Said.{Beginnings, SaysFact, IsProblemOf}
 use Rattle.normalise.specs.Entries.{form_in}
 use Rattle.normalise.specs.Growing.{IsNormalFor}
 use Rattle.normalise.specs.Listing.{Listing}
-use Rattle.problem.specs.Made.{beginnings_of}
+use Rattle.normalise.specs.Problem.{beginnings_of}
 use Rattle.saturate.specs.State.{Seen, AreBorn}
 
 -- normal forms, and what they lead to

@@ -6,7 +6,7 @@ ghost use Rattle.facts.specs.Births.{IsBirth, reason};
 ghost use Rattle.facts.specs.declared.contexts.Fact.{Fact as Fact2};
 ghost use Rattle.normalise.specs.Entries.{form_in};
 ghost use Rattle.normalise.specs.Growing.{IsNormalFor};
-ghost use Rattle.problem.specs.Made.{beginnings_of};
+ghost use Rattle.normalise.specs.Problem.{beginnings_of};
 ghost use Rattle.inference.specs.Closed.{IsClosureOf};
 ghost use Rattle.saturate.specs.State.{Extends};
 ghost use Rattle.inference.specs.declared.known_facts.Stop.TheVariants as stops;
@@ -14,8 +14,7 @@ ghost use Rattle.std.specs.Prelude.{◌≡◌, ◌≤◌, ◌↔◌, Err, IfNone
 
 use axioms::{Memory, Ontology};
 use facts::{Birth, FactId, StoredFact};
-use normalise::{Normal, normalise};
-use problem::roots;
+use normalise::{Normal, normalise, roots};
 use property_closure::PropertyClosure;
 use saturate::{Progress, State, Stop};
 use std::alloc::Global;

@@ -3,7 +3,7 @@
 use axioms::Ontology;
 use cert_check::{Verdict, check};
 use classification::{Classification, Stop, Summary, classify};
-use document::read_bytes;
+use profile::read_bytes;
 use std::alloc::Global;
 use std::hash::RandomState;
 use std::random::RandomSource;

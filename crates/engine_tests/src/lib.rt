@@ -1,13 +1,35 @@
-//! Tests of the engine: sets and lists of numbers, work lists, paths of properties and classifications.
+//! Tests of the engine: lists, forms, states, and the facts of whole ontologies.
 #![tactic(auto)]
 
 #[cfg(test)]
 mod classifications;
 #[cfg(test)]
+mod form_lists;
+#[cfg(test)]
+mod forms;
+#[cfg(test)]
+mod growing;
+#[cfg(test)]
+mod large;
+#[cfg(test)]
+mod listed_facts;
+#[cfg(test)]
 mod lists;
 #[cfg(test)]
 mod numbers;
 #[cfg(test)]
+mod ontologies;
+#[cfg(test)]
+mod orders;
+#[cfg(test)]
 mod paths;
 #[cfg(test)]
+mod problems;
+#[cfg(test)]
+mod properties;
+#[cfg(test)]
+mod seconds;
+#[cfg(test)]
 mod sets;
+#[cfg(test)]
+mod stored_facts;

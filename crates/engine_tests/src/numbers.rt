@@ -1,7 +1,7 @@
 //! Lists of numbers, short and long, and by key, worked out by hand.
 
-use number_list::NumberList;
-use number_table::Table;
+use indexes::Table;
+use number_sets::NumberList;
 use std::alloc::{AllocError, Global};
 use std::mem::size_of;
 use std::test::Fail;

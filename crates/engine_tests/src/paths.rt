@@ -1,9 +1,8 @@
 //! Paths worked out by hand.
 
 use axioms::{Memory, PropId};
-use form_list::FormList;
-use normal_forms::{Class2, Form};
-use property_paths::PropertyPaths;
+use explain::PropertyPaths;
+use normal_forms::{Class2, Form, FormList};
 use std::alloc::Global;
 use std::test::Fail;
 

@@ -15,9 +15,9 @@ use Rattle.cert_check.specs.Acceptable.{Agrees, ClaimHolds, LiesBelow, Belongs, 
 use Rattle.normal_forms.specs.Forms.{Whole}
 use Rattle.closure.specs.Closure.{Context, Expression, Individual, In, IsRoot, IsFact}
 use Rattle.closure.proofs.Facts as fact
-use Rattle.closure_model.specs.Listed.{IsSatisfiable, IsListedInterpretation, IsConsistent}
-use Rattle.closure_model.specs.Theorems.{AreAsked}
-use Rattle.closure_model.proofs.Complete.{listed_is_model, answered, individual_at}
+use Rattle.exactness.specs.Listed.{IsSatisfiable, IsListedInterpretation, IsConsistent}
+use Rattle.exactness.specs.ListedTheorems.{AreAsked}
+use Rattle.exactness.proofs.Complete.{listed_is_model, answered, individual_at}
 use Rattle.exactness.specs.Acceptance.{AreClaims, AreRelations, AreTextsOfClosure, IsListedFor, ShowsClosure}
 use Rattle.exactness.specs.Theorems.{HaveFacts}
 use Rattle.exactness.proofs.Exact.{meets_claims}

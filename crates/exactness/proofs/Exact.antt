@@ -14,12 +14,12 @@ use Rattle.cert_check.proofs.Derivations.{line_true}
 use Rattle.normal_forms.specs.Forms.{Whole}
 use Rattle.closure.specs.Closure.{Context, Expression, Individual, In, IsRoot, IsFact}
 use Rattle.closure.proofs.Facts as fact
-use Rattle.closure_model.specs.Listed.{IsListedInterpretation, IsConsistent}
-use Rattle.closure_model.specs.Theorems.{AreAsked}
-use Rattle.closure_model.proofs.Complete.{listed_is_model, complete_below, complete_types, complete_contradictory, within, answered, individual_at}
-use Rattle.derivable.specs.Derivable.{IsDerivable, subject_of}
-use Rattle.derivable.proofs.Derivable.{HasLine-from_derivable}
-use Rattle.derivable.proofs.Facts.{below_derivable}
+use Rattle.exactness.specs.Listed.{IsListedInterpretation, IsConsistent}
+use Rattle.exactness.specs.ListedTheorems.{AreAsked}
+use Rattle.exactness.proofs.Complete.{listed_is_model, complete_below, complete_types, complete_contradictory, within, answered, individual_at}
+use Rattle.exactness.specs.Derivable.{IsDerivable, subject_of}
+use Rattle.exactness.proofs.Derivable.{HasLine-from_derivable}
+use Rattle.exactness.proofs.Facts.{below_derivable}
 use Rattle.exactness.specs.Theorems.{HaveFacts}
 
 -- what is derivable is true in each model of the axioms

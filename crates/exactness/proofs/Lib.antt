@@ -1,2 +1,9 @@
 pub mod Exact
 pub mod Acceptance
+pub mod Operands
+pub mod Complete
+pub mod Listed
+pub mod Derivable
+pub mod Rules
+pub mod Facts
+pub mod Trimmed

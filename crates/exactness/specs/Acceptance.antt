@@ -12,7 +12,7 @@ use Rattle.cert_check.specs.Acceptable.{IsContradictionShown, IsAcceptable}
 use Rattle.listed_model.specs.Listing.{IsListing}
 use Rattle.closure.specs.Closure.{Context, Expression, Individual, In, IsFact}
 use Rattle.normal_forms.specs.Forms.{Whole}
-use Rattle.closure_model.specs.Listed.{IsListedInterpretation, IsConsistent}
+use Rattle.exactness.specs.Listed.{IsListedInterpretation, IsConsistent}
 use Rattle.exactness.specs.Theorems.{HaveFacts}
 
 -- each satisfiable named class is claimed, at its own element

@@ -10,9 +10,9 @@ use Rattle.cert_check.specs.Derivation.{IsDerivation, HasLine}
 use Rattle.cert_check.specs.Acceptable.{Agrees, ClaimHolds}
 use Rattle.normal_forms.specs.Forms.{Whole}
 use Rattle.closure.specs.Closure.{Context, Expression, Individual, In, IsRoot, IsFact}
-use Rattle.closure_model.specs.Listed.{IsListedInterpretation, IsConsistent}
-use Rattle.closure_model.specs.Theorems.{AreAsked}
-use Rattle.derivable.specs.Derivable.{subject_of}
+use Rattle.exactness.specs.Listed.{IsListedInterpretation, IsConsistent}
+use Rattle.exactness.specs.ListedTheorems.{AreAsked}
+use Rattle.exactness.specs.Derivable.{subject_of}
 
 -- a fact says what holds in every finite interpretation of the axioms
 abbrev pub FactsFollow : Type 0

@@ -1,8 +1,30 @@
-//! The closure has exactly what follows.
+//! Laws of the closure: what it lists is a model, each of its facts has a derivation, and it has exactly what follows.
 #![tactic(auto)]
 
 ghost use Rattle.exactness.specs.Acceptance.{ShownIsAcceptable};
+ghost use Rattle.exactness.specs.DerivationTheorems.{DerivableHasDerivation, FactsAreDerivable, FactsHaveDerivation, FactHasShortDerivation, TrimmedIsDerivation, TrimmedIsTrimmed};
+ghost use Rattle.exactness.specs.ListedTheorems.{ListedIsModel, ListedAgrees, ClosureIsComplete, TypesAreComplete, ListedExists, ListedIsDetermined};
 ghost use Rattle.exactness.specs.Theorems.{FactsFollow, NothingIsBelowAll, ClosureIsExact, TypesAreExact, ContradictionIsSound, ContradictionIsComplete, QuestionsChangeNothing, ListedMeetsClaims};
+
+/// What holds in the interpretation that the closure lists.
+pub fn listed_interpretation()
+    ensures model { ListedIsModel }
+    ensures agrees { ListedAgrees }
+    ensures complete { ClosureIsComplete }
+    ensures types { TypesAreComplete }
+    ensures exists { ListedExists }
+    ensures determined { ListedIsDetermined }
+{}
+
+/// Facts have derivations, and what is left of a derivation for a goal is one.
+pub fn derivations()
+    ensures derivable { DerivableHasDerivation }
+    ensures facts { FactsAreDerivable }
+    ensures lines { FactsHaveDerivation }
+    ensures short { FactHasShortDerivation }
+    ensures trimmed { TrimmedIsDerivation }
+    ensures computed { TrimmedIsTrimmed }
+{}
 
 /// What the closure says is what follows from the axioms.
 pub fn exact_closure()

@@ -12,17 +12,17 @@ use Rattle.explain.proofs.Below.{from_next, rests_below}
 use Rattle.explain.proofs.Saying.{wanted_line}
 use Rattle.explain.specs.Marks.{IsMarked, AreClosed, EachIsCalledFor, IsShown, IsWantedFact, ServesLater}
 use Rattle.explain.specs.Needed.{IsWanted, EachIsNeeded}
-use Rattle.explain.specs.Shown.{IsAwaited, IsShowing}
-use Rattle.fact_lines.proofs.Growing.{showing_grown}
-use Rattle.fact_lines.specs.Older.{AreOlderShown}
-use Rattle.fact_lines.specs.Serving.{IsPremise, RestsOn, EachIsUsed}
-use Rattle.fact_lines.specs.Shown.{AreShowing, Lengthens}
+use Rattle.explain.specs.ShownInOrder.{IsAwaited, IsShowing}
+use Rattle.explain.proofs.Growing.{showing_grown}
+use Rattle.explain.specs.Older.{AreOlderShown}
+use Rattle.explain.specs.Serving.{IsPremise, RestsOn, EachIsUsed}
+use Rattle.explain.specs.Shown.{AreShowing, Lengthens}
 use Rattle.facts.specs.declared.contexts.Fact.{Fact}
 use Rattle.lemmas.proofs.Choices.{one_value}
 use Rattle.lemmas.proofs.Members.{Contains-none, Contains-one}
 use Rattle.lemmas.proofs.Places.{slice_get_there}
 use Rattle.number_sets.specs.Pieces.{list_at}
-use Rattle.problem.specs.Made.{beginnings_of}
+use Rattle.normalise.specs.Problem.{beginnings_of}
 
 -- ---- lists that grow
 

@@ -4,8 +4,8 @@ use Rattle.std.proofs.lemmas.Bool.{false≢true}
 use Rattle.std.specs.List.{Contains}
 use Rattle.engine.specs.Saturated.{Saturated}
 use Rattle.explain.specs.Marks.{IsMarked, ServesLater}
-use Rattle.fact_lines.specs.Older.{rests_on, by_axiom}
-use Rattle.fact_lines.specs.Serving.{RestsOn}
+use Rattle.explain.specs.Older.{rests_on, by_axiom}
+use Rattle.explain.specs.Serving.{RestsOn}
 use Rattle.facts.specs.Births.{Reason, IsBirth}
 use Rattle.facts.specs.declared.contexts.Fact.{Fact}
 use Rattle.lemmas.proofs.Choices.{one_value}

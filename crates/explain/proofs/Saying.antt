@@ -13,14 +13,14 @@ use Rattle.certificate.specs.Certificate as subjects
 use Rattle.certificate.specs.Certificate.{Sub, Line}
 use Rattle.closure.specs.Closure.{Context, Expression, Individual, Fact, In, IsRoot, IsFact}
 use Rattle.closure.specs.Said.{Beginnings, whole, SaysContext, expression, individual, SaysFact, in_context}
-use Rattle.closure_model.specs.Listed.{IsConsistent}
-use Rattle.derivable.proofs.Derivable.{conclusions, at_conclusion, prepended_list_parts}
-use Rattle.derivable.specs.Derivable.{subject_of}
+use Rattle.exactness.specs.Listed.{IsConsistent}
+use Rattle.exactness.proofs.Derivable.{conclusions, at_conclusion, prepended_list_parts}
+use Rattle.exactness.specs.Derivable.{subject_of}
 use Rattle.engine.specs.Saturated.{Saturated, IsSaturated}
 use Rattle.exactness.specs.Theorems.{HaveFacts}
 use Rattle.explain.specs.Marks.{IsClass, IsNamed, IsWantedFact, IsTopContext, IsContradictoryFact, IsMarked, IsShown}
 use Rattle.explain.specs.Needed.{IsWanted, ShowsContradiction}
-use Rattle.fact_lines.specs.Shown.{AreShowing, IsShownBy}
+use Rattle.explain.specs.Shown.{AreShowing, IsShownBy}
 use Rattle.facts.specs.declared.contexts.Context as code_context
 use Rattle.facts.specs.declared.contexts.Context.TheVariants as contexts
 use Rattle.facts.specs.declared.contexts.Fact as code
@@ -29,7 +29,7 @@ use Rattle.lemmas.proofs.Members.{slice_get-from_Contains, Contains-none}
 use Rattle.lemmas.proofs.Places.{slice_get_there}
 use Rattle.normal_forms.specs.Forms.{Whole}
 use Rattle.normal_forms.specs.declared.forms.Class2.TheVariants as classes
-use Rattle.problem.specs.Made.{beginnings_of}
+use Rattle.normalise.specs.Problem.{beginnings_of}
 
 -- what follows from what is said of the value of a call that is handed on
 pub if_ok_then : {X E : Type 0} (r : Result X E) {P Q : X → Type 0} → IfOk r P → ((x : X) → P x → Q x) → IfOk r Q

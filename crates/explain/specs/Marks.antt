@@ -4,8 +4,8 @@ use Rattle.axioms.specs.Numbered.{Ontology, IsClassAt, thing, nothing}
 use Rattle.certificate.specs.Certificate.{Line}
 use Rattle.closure.specs.Said.{Beginnings}
 use Rattle.engine.specs.Saturated.{Saturated}
-use Rattle.fact_lines.specs.Serving.{RestsOn}
-use Rattle.fact_lines.specs.Shown.{AreShowing}
+use Rattle.explain.specs.Serving.{RestsOn}
+use Rattle.explain.specs.Shown.{AreShowing}
 use Rattle.facts.specs.declared.contexts.Context.{Context}
 use Rattle.facts.specs.declared.contexts.Context.TheVariants as contexts
 use Rattle.facts.specs.declared.contexts.Fact.{Fact}

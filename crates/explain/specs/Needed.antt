@@ -5,8 +5,8 @@ use Rattle.certificate.specs.Certificate.{Conclusion, Subject, Sub, Line}
 use Rattle.cert_check.specs.Acceptable.{IsTop}
 use Rattle.cert_check.specs.Derivation.{HasLine}
 use Rattle.closure.specs.Closure.{Context, Expression, IsRoot}
-use Rattle.derivable.specs.Derivable.{subject_of}
-use Rattle.fact_lines.specs.Serving.{IsPremise}
+use Rattle.exactness.specs.Derivable.{subject_of}
+use Rattle.explain.specs.Serving.{IsPremise}
 
 -- the conclusion puts a named class or an individual below a named class
 pub record IsWanted (o : Ontology) (conclusion : Conclusion) : Type 0 where

@@ -1,38 +1,37 @@
--- Lines that show the marked facts, one fact after the other.
-use Rattle.std.specs.Prelude.{◌≡◌, ℕ, suc, ◌<◌, ◌≤◌, ◌⊎◌, List, Bool, length, slice_get, Some}
-use Rattle.std.specs.List.{Contains}
-use Rattle.axioms.specs.Numbered.{Ontology}
-use Rattle.certificate.specs.Certificate.{Line}
-use Rattle.cert_check.specs.Derivation.{IsDerivation}
-use Rattle.engine.specs.Saturated.{Saturated, IsSaturated}
-use Rattle.explain.specs.Marks.{IsMarked, AreClosed, EachIsCalledFor}
-use Rattle.explain.specs.Needed.{IsWanted}
-use Rattle.fact_lines.specs.Serving.{IsPremise, RestsOn}
-use Rattle.fact_lines.specs.Shown.{AreShowing}
-use Rattle.facts.specs.declared.contexts.Fact.{Fact}
-use Rattle.normal_forms.specs.declared.forms.Form.{Form}
-use Rattle.number_sets.specs.Pieces.{list_at}
-use Rattle.problem.specs.Made.{beginnings_of}
+-- Lines that show facts: of a beginning of an intersection a line for each operand, of one of a chain a walk along it.
+use Rattle.std.specs.Prelude.{◌≡◌, ℕ, List, [], ◌∷◌, ◌++◌, map, Some}
+use Rattle.certificate.specs.Certificate.{Conclusion, Sub, Line}
+use Rattle.cert_check.specs.Derivation.{at_numbers}
+use Rattle.cert_check.specs.Lines.{IsWalk}
+use Rattle.closure.specs.Closure.{Fact, In, Edge}
+use Rattle.closure.specs.Said.{Beginnings, SaysFact}
+use Rattle.exactness.specs.Derivable.{subject_of}
+use Rattle.facts.specs.declared.contexts.Fact as code
+use Rattle.normal_forms.specs.Forms.{Class2, Whole, Beginning, Property2, Property, Steps}
 
--- the facts, the paths by their forms, and marks that are handed on
-pub record AreReady (o : Ontology) (s : Saturated) (forms : List Form) (marks : List Bool) : Type 0 where
-  pub saturated : IsSaturated o s
-  pub paths : forms ≡ s.state.problem.forms
-  pub long : length marks ≡ length s.state.facts
-  pub closed : AreClosed s marks
-  pub called_for : EachIsCalledFor o s marks
+-- a class itself, or the operands of a beginning
+abbrev pub operands_of : Class2 → List ℕ
+operands_of (Whole e) = e ∷ []
+operands_of (Beginning ds) = ds
 
--- the n-th line shows a fact on which the line of a marked fact rests that is still to come
-pub record IsAwaited (s : Saturated) (marks : List Bool) (shown : List (List ℕ)) (n : ℕ) : Type 0 where
-  pub fact : ℕ
-  pub shows : Contains (list_at shown fact) (suc n)
-  pub later : ℕ
-  pub to_come : length shown ≤ later
-  pub marked : IsMarked marks later
-  pub rests : RestsOn s later fact
+abbrev pub steps_of : Property2 → List ℕ
+steps_of (Property r) = r ∷ []
+steps_of (Steps rs) = rs
 
--- the lines show each marked fact so far by those whose numbers stand in its list, and each line is wanted, or needed by another
-pub record IsShowing (o : Ontology) (s : Saturated) (marks : List Bool) (lines : List Line) (shown : List (List ℕ)) : Type 0 where
-  pub derivation : IsDerivation o lines
-  pub each : (n : ℕ) (f : Fact) → n < length shown → IsMarked marks n → slice_get s.state.facts n ≡ Some f → AreShowing (beginnings_of s.normal) lines (list_at shown n) f
-  pub needed : (n : ℕ) (line : Line) → slice_get lines n ≡ Some line → IsWanted o line.conclusion ⊎ (IsPremise lines n ⊎ IsAwaited s marks shown n)
+-- the conclusions say what the fact does
+abbrev pub IsShownBy : Fact → List Conclusion → Type 0
+IsShownBy (In a x) cs = cs ≡ map (Sub (subject_of x)) (operands_of a)
+IsShownBy (Edge x r y) cs = IsWalk (subject_of x) (steps_of r) (subject_of y) cs
+
+-- the lines of these numbers, counted from 1, show what the fact over numbers says
+pub record AreShowing (b : Beginnings) (lines : List Line) (numbers : List ℕ) (f : code.Fact) : Type 0 where
+  pub fact : Fact
+  pub says : SaysFact b f fact
+  pub conclusions : List Conclusion
+  pub at : at_numbers (map (λ l. l.conclusion) lines) numbers ≡ Some conclusions
+  pub shown : IsShownBy fact conclusions
+
+-- the new lines are the old ones with more behind them
+pub record Lengthens (old new : List Line) : Type 0 where
+  pub more : List Line
+  pub new_is : new ≡ old ++ more

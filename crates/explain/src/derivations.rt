@@ -1,18 +1,19 @@
 //! The lines of a saturation.
 ghost use Rattle.cert_check.specs.Derivation.{IsDerivation};
 ghost use Rattle.certificate.specs.View.{lines_of};
-ghost use Rattle.closure_model.specs.Listed.{IsConsistent};
+ghost use Rattle.exactness.specs.Listed.{IsConsistent};
 ghost use Rattle.engine.specs.Saturated.{IsSaturated};
 ghost use Rattle.exactness.specs.Theorems.{HaveFacts};
 ghost use Rattle.explain.specs.Needed.{EachIsNeeded, ShowsContradiction};
 ghost use Rattle.std.specs.Prelude.{◌≡◌, [], IfOk, OnOk};
 
+use crate::derivation::Derivation;
 use crate::shown::add_lines;
+use crate::sink::{LineList, LineSink};
 use crate::wanted::{first_contradiction, wanted};
 use axioms::{Memory, Ontology};
 use certificate::{Line, LineText};
 use engine::Saturation;
-use fact_lines::{Derivation, LineList, LineSink};
 use std::alloc::Global;
 
 /// Adds a derivation with a line for each named class that is a fact of a named class or of an individual.

@@ -1,10 +1,10 @@
 //! Marks on the facts that the lines of marked facts rest on.
 ghost use Rattle.explain.specs.Marks.{AreClosed, IsMarked, ServesLater};
-ghost use Rattle.fact_lines.specs.Serving.{RestsOn};
+ghost use Rattle.explain.specs.Serving.{RestsOn};
 ghost use Rattle.std.specs.Prelude.{◌↔◌, ◌<◌, ◌≡◌, ◌⊎◌, length, ℕ};
 
+use crate::older::rests_on;
 use engine::Saturation;
-use fact_lines::rests_on;
 use facts::{FactId, Older};
 
 // Marks one fact.

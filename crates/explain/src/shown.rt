@@ -3,19 +3,21 @@ ghost use Rattle.cert_check.specs.Derivation.{IsDerivation};
 ghost use Rattle.engine.specs.Saturated.{IsSaturated};
 ghost use Rattle.explain.specs.Marks.{IsMarked, IsShown, IsWantedFact};
 ghost use Rattle.explain.specs.Needed.{EachIsNeeded};
-ghost use Rattle.explain.specs.Shown.{AreReady, IsShowing};
+ghost use Rattle.explain.specs.ShownInOrder.{AreReady, IsShowing};
 ghost use Rattle.facts.specs.declared.contexts.Fact.{Fact as Fact2};
-ghost use Rattle.problem.specs.Made.{beginnings_of};
+ghost use Rattle.normalise.specs.Problem.{beginnings_of};
 ghost use Rattle.std.specs.Prelude.{◌+◌, ◌<◌, ◌≡◌, [], IfOk, OnOk, Some, length, slice_get, ℕ};
 
+use crate::derivation::Derivation;
 use crate::marking::mark_older;
+use crate::paths::PropertyPaths;
+use crate::showing::show;
+use crate::sink::LineSink;
 use axioms::{Memory, Ontology};
 use engine::Saturation;
-use fact_lines::{Derivation, LineSink, show};
 use facts::FactId;
 use normalise::property_forms_are_named;
 use number_sets::PackedLists;
-use property_paths::PropertyPaths;
 use std::alloc::Global;
 
 // How many facts there are. It is `Memory` where 32 bits do not count them.

@@ -1,2 +1,5 @@
 pub mod Least
 pub mod Premises
+pub mod Facts
+pub mod Filling
+pub mod Placing

@@ -9,7 +9,7 @@ use Rattle.facts.specs.declared.contexts.Context.{Context}
 use Rattle.facts.specs.declared.contexts.Fact.{Fact}
 use Rattle.facts.specs.declared.contexts.Fact.TheVariants.{In, Edge}
 use Rattle.facts.specs.Closure.{Problem, FromTwo, Carries, in_thing, in_itself, by_form, unsatisfiable, loop, nothing}
-use Rattle.form_index.specs.Named.{class_key, property_key, by_first, by_second, by_filler, by_chain}
+use Rattle.indexes.specs.Named.{class_key, property_key, by_first, by_second, by_filler, by_chain}
 use Rattle.inference.specs.Visited.{GiveNothing, NoneUnder, IsEdge, IsBy, IsNotCarried}
 use Rattle.inference.specs.Derived.{Derived}
 use Rattle.inference.specs.Working.{DrawnButSpared}

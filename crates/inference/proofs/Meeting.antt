@@ -7,9 +7,9 @@ use Rattle.facts.specs.declared.contexts.Context.{Context}
 use Rattle.facts.specs.declared.contexts.Fact.{Fact}
 use Rattle.facts.specs.declared.contexts.Fact.TheVariants.{In, Edge}
 use Rattle.facts.specs.Closure.{Problem}
-use Rattle.fact_index.specs.declared.index.Index.{Index}
-use Rattle.fact_index.specs.Contexts.{at_context}
-use Rattle.fact_index.specs.Indexed.{IsIn, IsFrom, IsInto}
+use Rattle.indexes.specs.declared.index.Index.{Index}
+use Rattle.indexes.specs.Contexts.{at_context}
+use Rattle.indexes.specs.Indexed.{IsIn, IsFrom, IsInto}
 use Rattle.inference.specs.Derived.{Derived, Grows}
 use Rattle.inference.specs.Working.{AreMet, AreMetBefore, AreMetBehind}
 use Rattle.inference.specs.Visited.{AreAll, IsClassFact, IsEdge}

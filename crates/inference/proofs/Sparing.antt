@@ -8,7 +8,7 @@ use Rattle.facts.specs.declared.contexts.Context.{Context}
 use Rattle.facts.specs.declared.contexts.Fact.{Fact}
 use Rattle.facts.specs.declared.contexts.Fact.TheVariants.{In, Edge}
 use Rattle.facts.specs.Closure.{Problem, FromTwo, Carries, in_thing, in_itself, by_form, unsatisfiable, loop}
-use Rattle.form_index.specs.Named.{property_key, by_end}
+use Rattle.indexes.specs.Named.{property_key, by_end}
 use Rattle.inference.specs.Derived.{Derived, Grows}
 use Rattle.inference.specs.Visited.{GoesOnAt, NoneNeeds}
 use Rattle.inference.specs.Working.{Drawn, DrawnButSpared, AreSpared, EndsAbove, GoesOn, IsGivenBy, IsSparedAsSecond}

@@ -1,14 +1,14 @@
 -- Which forms are visited for facts.
 use Rattle.std.specs.Prelude.{◌≡◌, ℕ, Bool, true, List, [], ◌∷◌, slice_get, Option, Some, None}
 use Rattle.std.specs.List.{Contains}
-use Rattle.number_table.specs.declared.keys.Key.{Key}
+use Rattle.indexes.specs.declared.keys.Key.{Key}
 use Rattle.normal_forms.specs.declared.forms.Form.{Form}
 use Rattle.normal_forms.specs.declared.forms.PropId2.{PropId2}
 use Rattle.facts.specs.declared.contexts.Fact.{Fact}
 use Rattle.facts.specs.declared.contexts.Fact.TheVariants.{In, Edge}
 use Rattle.facts.specs.Closure.{Problem, Concludes, Gives}
-use Rattle.form_index.specs.Named.{by_chain, by_end, property_key}
-use Rattle.form_index.specs.Under.{IsUnder}
+use Rattle.indexes.specs.Named.{by_chain, by_end, property_key}
+use Rattle.indexes.specs.Under.{IsUnder}
 use Rattle.property_closure.specs.Closed.{Known, Has}
 use Rattle.inference.specs.Working.{DrawnAt, GoesOn}
 

@@ -14,8 +14,8 @@ use Rattle.facts.specs.declared.contexts.Fact.{Fact}
 use Rattle.facts.specs.declared.contexts.Fact.TheVariants.{In}
 use Rattle.facts.specs.Closure.{Problem, Concludes, IsContextBy, IsLoop, Gives, IsFact, thing}
 use Rattle.facts.specs.Births.{Reason}
-use Rattle.form_index.specs.Named.{class_key, by_first, by_second}
-use Rattle.form_index.specs.Under.{IsUnder}
+use Rattle.indexes.specs.Named.{class_key, by_first, by_second}
+use Rattle.indexes.specs.Under.{IsUnder}
 use Rattle.inference.specs.Derived.{Derived}
 
 -- the facts of these numbers

@@ -5,8 +5,7 @@ ghost use Rattle.inference.specs.declared.known_facts.Stop.TheVariants as stops;
 ghost use Rattle.std.specs.Prelude.{◌≡◌, ◌↔◌, ◌<◌, ◌^◌, ◌++◌, ◌∷◌, Some, [], length, map, take, slice_get, Contains, Ok, IfOk, IfSome, IsNone, OnErr, false, true};
 
 use axioms::Memory;
-use fact_table::FactTable;
-use facts::{Birth, Fact, StoredFact};
+use facts::{Birth, Fact, FactTable, StoredFact};
 use std::alloc::Global;
 use std::hash::RandomState;
 use std::marker::Model;

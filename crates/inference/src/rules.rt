@@ -20,9 +20,8 @@ ghost use Rattle.inference.specs.Begun.{HasBegun, LoopIsDrawn, LoopsAreDrawn};
 use crate::conclusions::{THING, carried_back, conclusion, condition_of, loop_at};
 use crate::known_facts::{KnownFacts, Stop};
 use crate::visits::{begins_chain, chained, has_any, is_carried, operands_of, visited};
-use fact_index::Index;
 use facts::{Birth, Context, Fact};
-use form_index::IndexedProblem;
+use indexes::{Index, IndexedProblem};
 use normal_forms::{Class2, PropId2};
 use property_closure::PropertyClosure;
 

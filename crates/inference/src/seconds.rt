@@ -14,7 +14,7 @@ ghost use Rattle.inference.specs.Working.{GoesOn, IsGivenBy, IsSparedAsSecond};
 use crate::known_facts::KnownFacts;
 use crate::properties::is_below;
 use facts::Fact;
-use form_index::IndexedProblem;
+use indexes::IndexedProblem;
 use normal_forms::{Form, PropId2};
 use property_closure::PropertyClosure;
 

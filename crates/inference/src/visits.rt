@@ -7,15 +7,15 @@ ghost use Rattle.normal_forms.specs.declared.forms.Class2.{Class2 as Class3};
 ghost use Rattle.normal_forms.specs.declared.forms.Form.TheVariants as forms;
 ghost use Rattle.normal_forms.specs.Properties.{IsAtOrBelow};
 ghost use Rattle.normal_forms.specs.declared.forms.PropId2.{PropId2 as PropId3};
-ghost use Rattle.form_index.specs.Named.{by_chain, by_filler, by_first, by_second, class_key, property_key};
-ghost use Rattle.form_index.specs.Under.{IsUnder};
+ghost use Rattle.indexes.specs.Named.{by_chain, by_filler, by_first, by_second, class_key, property_key};
+ghost use Rattle.indexes.specs.Under.{IsUnder};
 ghost use Rattle.property_closure.specs.Closed.{Has};
 ghost use Rattle.inference.specs.Closed.{IsClosureOf};
 ghost use Rattle.inference.specs.Visited.{IsNotCarried, NoneUnder, chained_pair, chained_property};
 
 use crate::conclusions::NOTHING;
 use facts::Fact;
-use form_index::IndexedProblem;
+use indexes::IndexedProblem;
 use normal_forms::{Class2, Form, PropId2};
 use property_closure::PropertyClosure;
 

@@ -1,8 +1,8 @@
 //! Rows, and the normal forms that they have.
 
 use axioms::{ExprId, Ontology};
-use document::read_bytes;
 use normalise::{Normal, normalise};
+use profile::read_bytes;
 use std::alloc::Global;
 use std::hash::RandomState;
 

@@ -1,8 +1,14 @@
-//! Normal forms of an ontology: inclusions, properties and assertions over expressions and fresh names.
+//! Normal forms of an ontology: inclusions, properties and assertions over expressions and fresh names; and lists of them in
+//! little memory, which several may share.
 #![tactic(auto)]
 
 mod forms;
+mod list;
+mod origins;
+mod stored;
 mod theory;
 
 pub use forms::{Class2, Form, Origin, PropId2};
+pub use list::FormList;
+pub use origins::StoredOrigin;
 pub use theory::{forms_are_given, property_forms_suffice};

@@ -11,7 +11,7 @@ use Rattle.axioms.specs.Numbered.{Axiom, Node, Class, And, Exists, SubProperty}
 use Rattle.axioms.specs.WellFormed.{AreDistinct}
 use Rattle.axioms.specs.declared.ids.ExprId.{ExprId}
 use Rattle.axioms.specs.declared.ids.PropId.{PropId}
-use Rattle.beginnings.specs.Shorter.{IsShorter}
+use Rattle.normalise.specs.Shorter.{IsShorter}
 use Rattle.normal_forms.specs.declared.forms.Class2 as code_class
 use Rattle.normal_forms.specs.declared.forms.Class2.TheVariants as classes
 use Rattle.normal_forms.specs.declared.forms.PropId2 as code_property

@@ -8,3 +8,9 @@ pub mod Marked
 pub mod Grown
 pub mod Asking
 pub mod Naming
+pub mod Placing
+pub mod Spelling
+pub mod Pairs
+pub mod Keeping
+pub mod ProblemForms
+pub mod AddingRoots

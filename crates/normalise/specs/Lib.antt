@@ -5,3 +5,8 @@ pub mod View
 pub mod Steps
 pub mod Growing
 pub mod Joining
+pub mod Shorter
+pub mod Spans
+pub mod Tables
+pub mod Roots
+pub mod Problem

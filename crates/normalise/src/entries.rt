@@ -1,11 +1,10 @@
 //! Forms in a row, each with what gave it.
-ghost use Rattle.form_list.specs.Stored.{origin_of};
+ghost use Rattle.normal_forms.specs.Stored.{origin_of};
 ghost use Rattle.std.specs.Prelude.{◌≡◌, [], ◌∷◌, ◌++◌, IfOk, OnErr, OnOk, length, map, option_map, slice_get};
 ghost use Rattle.normalise.specs.Entries.{form_in, origin_in};
 
 use axioms::Memory;
-use form_list::{FormList, StoredOrigin};
-use normal_forms::{Form, Origin};
+use normal_forms::{Form, FormList, Origin, StoredOrigin};
 use std::alloc::Global;
 use std::marker::Model;
 
@@ -25,7 +24,7 @@ pub(crate) struct Entries {
 }
 
 impl Model for Entries {
-    ghost use Rattle.form_list.specs.Stored.{origin_of};
+    ghost use Rattle.normal_forms.specs.Stored.{origin_of};
     ghost use Rattle.std.specs.Prelude.{◌≡◌, List, length, map};
     ghost use Rattle.normalise.specs.declared.entries.Entry.{Entry};
     ghost use Rattle.normalise.specs.Entries.{paired};

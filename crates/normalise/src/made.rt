@@ -4,8 +4,8 @@ ghost use Rattle.normal_forms.specs.Forms.{Form as Formed};
 ghost use Rattle.normalise.specs.View.{Adds, IsOne, Says};
 
 use crate::entries::{Entries, Entry};
+use crate::table::Beginnings;
 use axioms::{ExprId, Memory, PropId};
-use beginnings::Beginnings;
 use normal_forms::{Form, Origin};
 use std::alloc::Global;
 use std::hash::RandomState;

@@ -5,8 +5,7 @@ ghost use Rattle.normalise.specs.Entries.{form_in, origin_in};
 
 use crate::made::Made;
 use axioms::{ExprId, Memory, PropId};
-use form_list::FormList;
-use normal_forms::Origin;
+use normal_forms::{FormList, Origin};
 use std::alloc::Global;
 use std::hash::RandomState;
 use std::marker::Model;

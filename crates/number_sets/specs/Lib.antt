@@ -3,3 +3,4 @@ pub mod Marks
 pub mod Pieces
 pub mod Turned
 pub mod Words
+pub mod Numbers

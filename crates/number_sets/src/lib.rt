@@ -2,6 +2,7 @@
 #![tactic(auto)]
 
 mod epoch_set;
+mod list;
 mod open_lists;
 mod packed_lists;
 mod row;
@@ -9,6 +10,7 @@ mod turning;
 mod words;
 
 pub use epoch_set::EpochSet;
+pub use list::NumberList;
 pub use open_lists::OpenLists;
 pub use packed_lists::PackedLists;
 pub use row::Row;

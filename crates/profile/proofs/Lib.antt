@@ -20,3 +20,8 @@ pub mod Stated
 pub mod Adding
 pub mod KnownNames
 pub mod Takings
+pub mod Bounds
+pub mod OneReading
+pub mod Refused
+pub mod Readings
+pub mod OneByOne

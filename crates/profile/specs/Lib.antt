@@ -6,3 +6,8 @@ pub mod Reading
 pub mod Fitting
 pub mod Grown
 pub mod Taking
+pub mod Documents
+pub mod Faults
+pub mod DocumentTheorems
+pub mod Printed
+pub mod Streaming

@@ -1,13 +1,16 @@
-//! The profile: a document's trees as the one ontology that they state, or every fault in them; and how an ontology grows by
-//! more trees.
+//! Documents of the profile: from bytes to the one ontology that they state, or to every fault in them; and how an ontology
+//! grows by more trees.
 #![tactic(auto)]
 
+ghost use Rattle.profile.specs.DocumentTheorems.{AxiomsTakeBytes, BytesHaveOneFaultList, BytesReadAsOneOntology, RefusedBytesReadAsNone, RefusedSourcesReadAsNone};
 ghost use Rattle.profile.specs.Theorems.{AdditionsChangeNoNumber, FirstPlacesJoin, OneMoreStatement};
 
 mod acceptance;
 mod axiom_forms;
 mod declarations;
+mod document;
 mod expressions;
+mod fault;
 mod growth;
 mod name_builder;
 mod names;
@@ -15,10 +18,14 @@ mod ontology_reader;
 mod operands;
 mod properties;
 mod statement;
+mod streamed;
 
 pub use acceptance::{Refusal, accept};
+pub use document::{read_bytes, read_document};
+pub use fault::DocumentFault;
 pub use growth::{accept_expression, accept_statements};
 pub use ontology_reader::OntologyReader;
+pub use program::{Limits, MOST_BYTES, MOST_FACTS, Status};
 pub use shapes::{Fault, Version};
 
 /// How an ontology grows: to add what a statement brings, each at its first place, is to read one statement more, and what
@@ -27,4 +34,21 @@ pub fn statements_one_by_one()
     ensures join { FirstPlacesJoin }
     ensures more { OneMoreStatement }
     ensures numbers { AdditionsChangeNoNumber }
+{}
+
+/// Bytes read as at most one ontology, and have at most one list of faults.
+pub fn one_ontology_is_read()
+    ensures ontology { BytesReadAsOneOntology }
+    ensures faults { BytesHaveOneFaultList }
+{}
+
+/// What is refused reads as no ontology, unless memory was refused or the source failed.
+pub fn refused_bytes_read_as_none()
+    ensures bytes { RefusedBytesReadAsNone }
+    ensures sources { RefusedSourcesReadAsNone }
+{}
+
+/// A document has at least as many bytes as its ontology has axioms.
+pub fn axioms_take_bytes()
+    ensures { AxiomsTakeBytes }
 {}

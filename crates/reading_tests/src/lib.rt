@@ -1,11 +1,25 @@
-//! Tests of tokens and of trees.
+//! Tests of reading: tokens, trees, keywords, documents of the profile and their faults.
 #![tactic(auto)]
 
 #[cfg(test)]
+mod documents;
+#[cfg(test)]
+mod faults;
+#[cfg(test)]
+mod growth;
+#[cfg(test)]
+mod keywords;
+#[cfg(test)]
 mod lexer;
+#[cfg(test)]
+mod one_by_one;
 #[cfg(test)]
 mod parser;
 #[cfg(test)]
 mod parts;
 #[cfg(test)]
+mod sources;
+#[cfg(test)]
 mod stream;
+#[cfg(test)]
+mod tables;

@@ -9,11 +9,11 @@ use Rattle.normal_forms.specs.declared.forms.Class2.TheVariants as class
 use Rattle.normal_forms.specs.declared.forms.PropId2.{PropId2}
 use Rattle.normal_forms.specs.declared.forms.PropId2.TheVariants as property
 use Rattle.normal_forms.specs.Properties.{IsAtOrBelow}
-use Rattle.number_table.specs.declared.keys.Key.{Key}
+use Rattle.indexes.specs.declared.keys.Key.{Key}
 use Rattle.facts.specs.declared.contexts.Context.{Context}
 use Rattle.facts.specs.declared.contexts.Fact.TheVariants.{In, Edge}
-use Rattle.form_index.specs.Named.{class_key, property_key, by_alone, by_first, by_filler, by_chain, by_plain}
-use Rattle.form_index.specs.Under.{IsUnder}
+use Rattle.indexes.specs.Named.{class_key, property_key, by_alone, by_first, by_filler, by_chain, by_plain}
+use Rattle.indexes.specs.Under.{IsUnder}
 use Rattle.saturate.specs.Asked.{Asks, IsAsked, BeginsWith}
 use Rattle.inference.proofs.Lists.{Contains-from_slice_get, slice_get-from_Contains}
 

@@ -4,11 +4,11 @@ use Rattle.std.proofs.lemmas.List.{append-nil, append_cancel_right}
 use Rattle.std.proofs.lemmas.List.Elements.{Contains-append_left, Contains-push, Contains-push_cases}
 use Rattle.facts.specs.declared.contexts.Context.{Context}
 use Rattle.facts.specs.declared.contexts.Fact.{Fact}
-use Rattle.fact_index.specs.declared.by_context.ByContext.{ByContext}
-use Rattle.fact_index.specs.Contexts.{at_context}
-use Rattle.fact_index.specs.Indexed.{ListsIn}
-use Rattle.fact_index.specs.Parts.{ArePartOf}
-use Rattle.fact_index.proofs.Parts.{part_cases, part_contains, part_distinct}
+use Rattle.indexes.specs.declared.by_context.ByContext.{ByContext}
+use Rattle.indexes.specs.Contexts.{at_context}
+use Rattle.indexes.specs.Indexed.{ListsIn}
+use Rattle.indexes.specs.Parts.{ArePartOf}
+use Rattle.indexes.proofs.Parts.{part_cases, part_contains, part_distinct}
 use Rattle.saturate.specs.Queued.{Queued, IsServedOnce, IsWithoutHand, option_list}
 use Rattle.saturate.specs.Served.{AreExactly}
 use Rattle.saturate.specs.State.{Seen}

@@ -24,8 +24,8 @@ use Rattle.inference.proofs.Sparing.{spared_still}
 use Rattle.saturate.specs.State.{IsState}
 use Rattle.saturate.specs.Listed.{ListsFacts, ListsServed}
 use Rattle.saturate.specs.Queued.{Queued, option_list}
-use Rattle.fact_index.specs.declared.index.Index.{Index}
-use Rattle.fact_index.proofs.Parts.{part_same, part_more}
+use Rattle.indexes.specs.declared.index.Index.{Index}
+use Rattle.indexes.proofs.Parts.{part_same, part_more}
 use Rattle.saturate.proofs.Listing.{fewer}
 use Rattle.saturate.proofs.States.{was_there}
 

@@ -8,12 +8,12 @@ use Rattle.facts.specs.declared.contexts.Context.{Context}
 use Rattle.facts.specs.declared.contexts.Fact.{Fact}
 use Rattle.facts.specs.declared.contexts.Fact.TheVariants.{In, Edge}
 use Rattle.facts.specs.Closure.{Problem, FromTwo, Carries, Gives, in_thing, in_itself, by_form, unsatisfiable, loop}
-use Rattle.fact_index.specs.declared.by_context.ByContext.{ByContext}
-use Rattle.fact_index.specs.declared.index.Index.{Index}
-use Rattle.fact_index.specs.Contexts.{at_context, IsLast, IsEmptyTable, IsEmptyIndex}
-use Rattle.fact_index.specs.Parts.{ArePartOf}
-use Rattle.fact_index.proofs.Parts.{part_empty, part_same, part_push, part_more, part_behind, part_within, part_cases, part_contains}
-use Rattle.fact_index.specs.Indexed.{IsIn, IsFrom, IsInto, MayListIn, MayList, Lists, ListsIn}
+use Rattle.indexes.specs.declared.by_context.ByContext.{ByContext}
+use Rattle.indexes.specs.declared.index.Index.{Index}
+use Rattle.indexes.specs.Contexts.{at_context, IsLast, IsEmptyTable, IsEmptyIndex}
+use Rattle.indexes.specs.Parts.{ArePartOf}
+use Rattle.indexes.proofs.Parts.{part_empty, part_same, part_push, part_more, part_behind, part_within, part_cases, part_contains}
+use Rattle.indexes.specs.Indexed.{IsIn, IsFrom, IsInto, MayListIn, MayList, Lists, ListsIn}
 use Rattle.inference.specs.Derived.{Derived, Grows}
 use Rattle.saturate.specs.Queued.{Queued, option_list}
 use Rattle.inference.specs.Working.{MeetEachOther, IsSparedAsSecond}

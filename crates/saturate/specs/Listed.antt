@@ -4,10 +4,10 @@ use Rattle.std.specs.List.{Contains}
 use Rattle.facts.specs.declared.contexts.Context.{Context}
 use Rattle.facts.specs.declared.contexts.Fact.{Fact}
 use Rattle.facts.specs.Closure.{Problem}
-use Rattle.fact_index.specs.declared.by_context.ByContext.{ByContext}
-use Rattle.fact_index.specs.declared.index.Index.{Index}
-use Rattle.fact_index.specs.Contexts.{at_context}
-use Rattle.fact_index.specs.Indexed.{IsFrom, IsIn, IsIndex}
+use Rattle.indexes.specs.declared.by_context.ByContext.{ByContext}
+use Rattle.indexes.specs.declared.index.Index.{Index}
+use Rattle.indexes.specs.Contexts.{at_context}
+use Rattle.indexes.specs.Indexed.{IsFrom, IsIn, IsIndex}
 use Rattle.inference.specs.Derived.{Derived}
 use Rattle.saturate.specs.Queued.{Queued, option_list}
 use Rattle.inference.specs.Visited.{IsNotCarried}

@@ -2,7 +2,7 @@
 use Rattle.std.specs.Prelude.{◌≡◌, ℕ, ◌+◌, ◌-◌, ◌<◌, ◌≤◌, ◌⊎◌, List, [], ◌∷◌, ◌++◌, length, slice_get, Option, Some, None}
 use Rattle.std.specs.List.{Contains}
 use Rattle.axioms.specs.WellFormed.{AreDistinct}
-use Rattle.fact_index.specs.Contexts.{IsLast}
+use Rattle.indexes.specs.Contexts.{IsLast}
 use Rattle.work_list.specs.declared.item.Item.{Item}
 use Rattle.work_list.specs.Bag.{Bag}
 

@@ -3,7 +3,7 @@ use Rattle.std.specs.Prelude.{◌≡◌, ℕ, ◌↔◌, List, slice_get, Some}
 use Rattle.std.specs.List.{Contains}
 use Rattle.axioms.specs.WellFormed.{AreDistinct}
 use Rattle.facts.specs.declared.contexts.Fact.{Fact}
-use Rattle.fact_index.specs.Parts.{ArePartOf}
+use Rattle.indexes.specs.Parts.{ArePartOf}
 use Rattle.saturate.specs.State.{Seen}
 
 -- the numbers are those of the served facts of this kind, each once, in the order in which they were served

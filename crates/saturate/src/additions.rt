@@ -2,7 +2,7 @@
 ghost use Rattle.facts.specs.declared.contexts.Context.{Context as Context2};
 ghost use Rattle.facts.specs.declared.contexts.Fact.TheVariants as the_facts;
 ghost use Rattle.normal_forms.specs.declared.forms.Form.{Form as Form2};
-ghost use Rattle.form_index.specs.Named.{by_filler, by_first, class_key};
+ghost use Rattle.indexes.specs.Named.{by_filler, by_first, class_key};
 ghost use Rattle.property_closure.specs.Closed.{Has};
 ghost use Rattle.saturate.specs.Asked.{BeginsWith, IsAsked};
 ghost use Rattle.inference.specs.Closed.{IsClosureOf};
@@ -10,7 +10,7 @@ ghost use Rattle.inference.specs.Visited.{HasProperty, NoneUnder};
 ghost use Rattle.std.specs.Prelude.{◌≡◌, ℕ, List, Contains, false, true};
 
 use facts::Fact;
-use form_index::IndexedProblem;
+use indexes::IndexedProblem;
 use normal_forms::{Class2, PropId2};
 use property_closure::PropertyClosure;
 

@@ -3,8 +3,7 @@ ghost use Rattle.saturate.specs.Counts.{HasNames, HasProperty, IsMore, IsSmall};
 ghost use Rattle.normal_forms.specs.declared.forms.Form.{Form as Form2};
 ghost use Rattle.std.specs.Prelude.{Contains};
 
-use form_list::FormList;
-use normal_forms::{Form, PropId2};
+use normal_forms::{Form, FormList, PropId2};
 
 /// A number of properties and one of beginnings of chains.
 #[derive(Clone, Copy)]

@@ -10,10 +10,9 @@ use crate::additions::asks_for;
 use crate::ground::Ground;
 use crate::queue::{Queue, has_flag};
 use axioms::Memory;
-use fact_index::Index;
-use form_index::IndexedProblem;
-use form_list::FormList;
+use indexes::{Index, IndexedProblem};
 use inference::{KnownFacts, Rules, is_filler, stands_second};
+use normal_forms::FormList;
 use std::alloc::Global;
 use work_list::WorkList;
 

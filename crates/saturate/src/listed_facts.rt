@@ -1,5 +1,5 @@
 //! The served facts that speak of a context, by number.
-ghost use Rattle.fact_index.specs.Indexed.{IsFrom, IsIn, IsInto};
+ghost use Rattle.indexes.specs.Indexed.{IsFrom, IsIn, IsInto};
 ghost use Rattle.saturate.specs.Served.{AreExactly};
 
 use crate::state::State;

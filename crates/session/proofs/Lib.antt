@@ -1,3 +1,3 @@
 pub mod Outcomes
-pub mod Opening
+pub mod SessionOpened
 pub mod Finding

@@ -11,9 +11,9 @@ use Rattle.classification.specs.Classified.{AreCountsOf, AreTextsOf}
 use Rattle.classification.specs.declared.classification.Summary.{Summary}
 use Rattle.device.specs.declared.device.Sink.{Ghosts}
 use Rattle.engine.specs.Saturated.{IsFinished}
-use Rattle.reasons.specs.Explained.{IsKnown}
-use Rattle.reasons.specs.declared.asked.Asked.{Asked}
-use Rattle.reasons.specs.declared.asked.Asked.TheVariants as subjects
+use Rattle.answers.specs.Explained.{IsKnown}
+use Rattle.answers.specs.declared.asked.Asked.{Asked}
+use Rattle.answers.specs.declared.asked.Asked.TheVariants as subjects
 use Rattle.session.specs.Opened.{Opened}
 use Rattle.session.specs.Written.{Sinks, Texts, AreWritten, AreWrittenUntil, all_seen}
 use Rattle.session.specs.declared.fault.AskFault.{AskFault}

@@ -2,3 +2,5 @@ pub mod Devices
 pub mod Written
 pub mod Opened
 pub mod Asking
+pub mod Texts
+pub mod Answered

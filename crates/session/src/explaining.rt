@@ -1,12 +1,12 @@
 //! Why a subject is in a class, or why not.
-ghost use Rattle.reasons.specs.Explained.{Explains, IsKnown};
+ghost use Rattle.answers.specs.Explained.{Explains, IsKnown};
 ghost use Rattle.session.specs.Asking.{HasNames, IsFirstUnknown, IsQuestionRefusal, class_name, subject_name};
 ghost use Rattle.std.specs.Prelude.{◌↔◌, ◌≡◌, ◌∷◌, [], Contains, IfErr, IfOk, IsTrue, OnOk};
 
 use crate::fault::AskFault;
 use crate::session::Session;
+use answers::{Asked, Explanation, explained};
 use axioms::{Kind, Ontology};
-use reasons::{Asked, Explanation, explained};
 
 /// The name of what is asked about.
 fn name_of<'n>(asked: Asked<'n>) -> &'n str

@@ -1,18 +1,28 @@
-//! A session over one document: it is opened, run, and asked as often as is wanted.
+//! A session over one document: it is opened, run, and asked as often as is wanted; and questions about a document, each
+//! answered by a text in memory.
 #![tactic(auto)]
 
+mod answering;
 mod classes;
 mod explaining;
 mod fault;
+mod form;
 mod individuals;
+mod listed;
+mod opening;
+mod question_fault;
 mod session;
+mod shown;
 mod texts;
 mod writing;
 
+pub use answering::{explanation_text, instances_text};
+pub use answers::{Asked, Explanation};
 pub use classification::Summary;
-pub use document::{DocumentFault, Limits};
 pub use engine::Stop;
 pub use fault::{AskFault, TextFault};
-pub use reasons::{Asked, Explanation};
+pub use form::Form;
+pub use profile::{DocumentFault, Limits};
+pub use question_fault::QuestionFault;
 pub use session::Session;
 pub use writing::write_texts;

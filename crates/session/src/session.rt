@@ -1,7 +1,7 @@
 //! A document that is opened, and run as far as is wanted.
 ghost use Rattle.device.specs.Device.{HasFailed, LosesFront};
-ghost use Rattle.document.specs.Documents.{IsTaken};
-ghost use Rattle.document.specs.Faults.{ReadsKnown, RefusesKnown};
+ghost use Rattle.profile.specs.Documents.{IsTaken};
+ghost use Rattle.profile.specs.Faults.{ReadsKnown, RefusesKnown};
 ghost use Rattle.engine.specs.Saturated.{HasMoreFactsThan, IsFinished, IsSaturated};
 ghost use Rattle.saturate.specs.State.{Extends};
 ghost use Rattle.inference.specs.declared.known_facts.Stop.TheVariants as stops;
@@ -10,8 +10,8 @@ ghost use Rattle.std.specs.Prelude.{◌≡◌, ◌≤◌, [], Err, IfErr, IfOk, 
 
 use axioms::Ontology;
 use device::Source;
-use document::{DocumentFault, Limits, read_document};
 use engine::{Saturation, Stop};
+use profile::{DocumentFault, Limits, read_document};
 use std::alloc::Global;
 use std::hash::RandomState;
 use std::marker::Model;

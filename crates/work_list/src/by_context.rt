@@ -8,7 +8,7 @@ ghost use Rattle.work_list.specs.Stacked.{IsApart, items_in, items_of_last, wait
 use crate::groups::Groups;
 use crate::item::Item;
 use crate::list::WorkList;
-use number_list::NumberList;
+use number_sets::NumberList;
 use std::alloc::{AllocError, Global};
 use std::marker::Model;
 

@@ -5,7 +5,7 @@ ghost use Rattle.work_list.specs.Stacked.{IsGrouped, IsSame, IsSameBut, items_in
 
 use crate::item::Item;
 use crate::room::{make_room, shrink};
-use number_list::NumberList;
+use number_sets::NumberList;
 use std::alloc::{AllocError, Global};
 
 /// The facts of a context that wait.

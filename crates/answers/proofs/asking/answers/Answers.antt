@@ -2,7 +2,7 @@ use Rattle.std.proofs.Common.{length, map, sym}
 use Rattle.std.proofs.lemmas.List.{length-map}
 use Rattle.std.proofs.lemmas.Result.{IfOk-weaker}
 use Rattle.std.specs.String.{string_bytes}
-use Rattle.answers.proofs.Answering.{those_named}
+use Rattle.answers.proofs.AnsweredByFacts.{those_named}
 use Rattle.answers.proofs.asking.answers.Goals as goal
 
 pub returns : goal.returns

@@ -1,4 +1,4 @@
-use Rattle.answers.proofs.Answering.{members_named}
+use Rattle.answers.proofs.AnsweredByFacts.{members_named}
 use Rattle.answers.proofs.asking.instances.Goals as goal
 
 pub returns-in_ok-answers-in-Some-clause-exact : goal.returns-in_ok-answers-in-Some-clause-exact

@@ -3,7 +3,7 @@ use Rattle.std.proofs.lemmas.List.{length-map}
 use Rattle.std.proofs.lemmas.Option.{same_Some, slice_get-get_or}
 use Rattle.std.specs.String.{string_bytes}
 use Rattle.lemmas.proofs.Mapped.{slice_get_map}
-use Rattle.answers.proofs.Answering.{is_nowhere_below, same_text, other_text}
+use Rattle.answers.proofs.AnsweredByFacts.{is_nowhere_below, same_text, other_text}
 use Rattle.answers.proofs.asking.number_of.Goals as goal
 
 pub returns-then-eq : goal.returns-then-eq

@@ -1,4 +1,4 @@
-use Rattle.answers.proofs.Answering.{below_named}
+use Rattle.answers.proofs.AnsweredByFacts.{below_named}
 use Rattle.answers.proofs.asking.subclasses.Goals as goal
 
 pub returns-in_ok-answers-in-Some-clause-exact : goal.returns-in_ok-answers-in-Some-clause-exact

@@ -1,4 +1,4 @@
-use Rattle.answers.proofs.Answering.{above_named}
+use Rattle.answers.proofs.AnsweredByFacts.{above_named}
 use Rattle.answers.proofs.asking.superclasses.Goals as goal
 
 pub returns-in_ok-answers-in-Some-clause-exact : goal.returns-in_ok-answers-in-Some-clause-exact

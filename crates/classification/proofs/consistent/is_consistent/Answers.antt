@@ -1,5 +1,5 @@
 use Rattle.std.proofs.Common.{◌↔◌, All, IsTrue, subst}
-use Rattle.problem.specs.Made.{beginnings_of}
+use Rattle.normalise.specs.Problem.{beginnings_of}
 use Rattle.classification.specs.Contradiction.{IsContradiction}
 use Rattle.classification.proofs.Saying.{consistent_by_facts}
 use Rattle.classification.proofs.consistent.is_consistent.Goals as goal

@@ -1,5 +1,5 @@
 use Rattle.std.proofs.Common.{subst}
-use Rattle.problem.specs.Made.{beginnings_of}
+use Rattle.normalise.specs.Problem.{beginnings_of}
 use Rattle.classification.specs.Lists.{AreClassLists}
 use Rattle.classification.proofs.Taxonomy.{is_taxonomy}
 use Rattle.classification.proofs.relation.relation_of.Goals as goal

@@ -1,7 +1,7 @@
 use Rattle.std.proofs.Common.{All, get_or, subst, sym}
 use Rattle.std.proofs.lemmas.List.Elements.{Contains-get_or}
 use Rattle.std.proofs.lemmas.Result.{IfOk-weaker}
-use Rattle.problem.specs.Made.{beginnings_of}
+use Rattle.normalise.specs.Problem.{beginnings_of}
 use Rattle.classification.specs.Lists.{AreTypeLists, IsAboutIndividualOf}
 use Rattle.classification.proofs.Saying.{about_individual}
 use Rattle.classification.proofs.Taxonomy.{are_types}

@@ -4,12 +4,12 @@ use Rattle.cli.proofs.Questions.{why_of_file, question_fault_of_file}
 use Rattle.cli.proofs.Telling.{answered_bytes, told}
 use Rattle.cli.specs.Performed.{asked_by, form_of}
 use Rattle.cli.specs.Printed.{Output, IsQuestionText, question_status}
-use Rattle.document.specs.declared.fault.DocumentFault.TheVariants.{Memory}
+use Rattle.profile.specs.declared.fault.DocumentFault.TheVariants.{Memory}
 use Rattle.program.specs.declared.status.Status.TheVariants as statuses
-use Rattle.questions.specs.Answered.{AnswersWhy, IsFaultOf}
-use Rattle.questions.specs.declared.fault.QuestionFault.TheVariants.{Document}
-use Rattle.questions.specs.declared.form.Form.{Form}
-use Rattle.reasons.specs.declared.asked.Asked.{Asked}
+use Rattle.session.specs.Answered.{AnswersWhy, IsFaultOf}
+use Rattle.session.specs.declared.question_fault.QuestionFault.TheVariants.{Document}
+use Rattle.session.specs.declared.form.Form.{Form}
+use Rattle.answers.specs.declared.asked.Asked.{Asked}
 use Rattle.session.specs.Asking.{class_name, subject_name}
 use Rattle.cli.proofs.asking.perform_explain.Goals as goal
 

@@ -3,9 +3,9 @@ use Rattle.cli.proofs.Kept.{refused_memory}
 use Rattle.cli.proofs.Questions.{instances_of_file, question_fault_of_file}
 use Rattle.cli.proofs.Telling.{answered_bytes, told}
 use Rattle.cli.specs.Printed.{Output, IsQuestionText, question_status}
-use Rattle.document.specs.declared.fault.DocumentFault.TheVariants.{Memory}
+use Rattle.profile.specs.declared.fault.DocumentFault.TheVariants.{Memory}
 use Rattle.program.specs.declared.status.Status.TheVariants as statuses
-use Rattle.questions.specs.declared.fault.QuestionFault.TheVariants.{Document}
+use Rattle.session.specs.declared.question_fault.QuestionFault.TheVariants.{Document}
 use Rattle.session.specs.Asking.{class_name}
 use Rattle.cli.proofs.asking.perform_instances.Goals as goal
 

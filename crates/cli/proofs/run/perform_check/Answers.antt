@@ -3,7 +3,7 @@ use Rattle.cli.proofs.Kept.{checked_files, check_fault_of_file, refused_memory}
 use Rattle.cli.proofs.Telling.{told, answered}
 use Rattle.cli.specs.Printed.{Output, IsCheckText, check_status, verdict_text, verdict_status}
 use Rattle.cli.specs.declared.fault.CheckFault.TheVariants.{Document}
-use Rattle.document.specs.declared.fault.DocumentFault.TheVariants.{Memory}
+use Rattle.profile.specs.declared.fault.DocumentFault.TheVariants.{Memory}
 use Rattle.cli.proofs.run.perform_check.Goals as goal
 
 pub returns-in_default : goal.returns-in_default

@@ -8,7 +8,7 @@ use Rattle.cli.specs.Printed.{Output, IsClassifyText, classify_status, summary_t
 use Rattle.cli.specs.Writing.{Sinks}
 use Rattle.program.specs.declared.status.Status.TheVariants as statuses
 use Rattle.cli.specs.declared.fault.ClassifyFault.TheVariants.{Document}
-use Rattle.document.specs.declared.fault.DocumentFault.TheVariants.{Memory}
+use Rattle.profile.specs.declared.fault.DocumentFault.TheVariants.{Memory}
 use Rattle.cli.proofs.run.perform_classify.Goals as goal
 
 pub returns-in_default : goal.returns-in_default

@@ -1,5 +1,5 @@
 use Rattle.std.proofs.Common.{refl}
-use Rattle.form_index.specs.Named.{property_key, by_chain}
+use Rattle.indexes.specs.Named.{property_key, by_chain}
 use Rattle.normal_forms.proofs.Suffice.{suffice}
 use Rattle.inference.specs.Visited.{NoneUnder}
 use Rattle.inference.proofs.Drawing.{each_more, each}

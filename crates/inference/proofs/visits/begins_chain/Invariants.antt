@@ -1,6 +1,6 @@
 use Rattle.std.proofs.Common.{take, Contains}
 use Rattle.normal_forms.specs.declared.forms.PropId2.{PropId2}
-use Rattle.form_index.specs.Named.{property_key, by_chain}
+use Rattle.indexes.specs.Named.{property_key, by_chain}
 use Rattle.inference.specs.Visited.{NoneUnder}
 use Rattle.inference.proofs.visits.begins_chain.Given as goal
 

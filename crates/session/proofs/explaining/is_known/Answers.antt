@@ -1,6 +1,6 @@
 use Rattle.std.proofs.Common.{◌↔◌, IsTrue, subst, sym}
-use Rattle.reasons.specs.Explained.{IsKnown}
-use Rattle.reasons.specs.declared.asked.Asked.{Asked}
+use Rattle.answers.specs.Explained.{IsKnown}
+use Rattle.answers.specs.declared.asked.Asked.{Asked}
 use Rattle.session.proofs.Finding.{finds}
 use Rattle.session.proofs.explaining.is_known.Goals as goal
 

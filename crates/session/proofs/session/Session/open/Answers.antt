@@ -1,9 +1,9 @@
 use Rattle.std.proofs.Common.{◌≤◌, length}
 use Rattle.axioms.specs.Numbered.{Ontology}
-use Rattle.document.specs.Documents.{IsTaken}
-use Rattle.document.specs.Faults.{ReadsKnown}
+use Rattle.profile.specs.Documents.{IsTaken}
+use Rattle.profile.specs.Faults.{ReadsKnown}
 use Rattle.std.specs.Io.KnownBytes.{IsAtEnd}
-use Rattle.session.proofs.Opening.{of_ontology, for_memory, not_io, on_ok}
+use Rattle.session.proofs.SessionOpened.{of_ontology, for_memory, not_io, on_ok}
 use Rattle.session.proofs.session.Session.open.Goals as goal
 
 pub returns-in-Ok-clause-read : goal.returns-in-Ok-clause-read

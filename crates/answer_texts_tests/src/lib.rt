@@ -1,5 +1,0 @@
-//! Tests of the texts of answers.
-#![tactic(auto)]
-
-#[cfg(test)]
-mod tests;

@@ -1,0 +1,68 @@
+-- What a derivation that was found, and one that was not, say of what is asked.
+use Rattle.std.proofs.Common.{◌≡◌, ℕ, ◌<◌, Option, Some, None, MatchOption, List, [], ◌∷◌, ◌++◌, length, sym, subst}
+use Rattle.std.proofs.lemmas.List.{length-map}
+use Rattle.answers.proofs.Following.{contradictory}
+use Rattle.axioms.specs.Expression.{Iri}
+use Rattle.axioms.specs.Numbered.{Ontology, nothing}
+use Rattle.axioms.specs.WellFormed.{IsOntology}
+use Rattle.cert_check.specs.Derivation.{HasLine}
+use Rattle.certificate.specs.Certificate.{Line, Subject, Sub}
+use Rattle.certificate.specs.HasText.{IsSubjectOf}
+use Rattle.certificate.specs.View.{line_of, lines_of}
+use Rattle.certificate.specs.declared.line.Line as code_line
+use Rattle.closure.specs.Closure.{Context, Expression, IsContextBy, IsRoot, AreFacts}
+use Rattle.exactness.specs.Listed.{IsConsistent, IsSatisfiable}
+use Rattle.exactness.specs.Derivable.{subject_of}
+use Rattle.engine.specs.Saturated.{Saturated, IsSaturated}
+use Rattle.exactness.specs.Theorems.{HaveFacts}
+use Rattle.answers.specs.Explained.{IsAbout, IsClassNamed, Derives, ShowsThatItFollows}
+use Rattle.answers.specs.Numbered.{IsRefutable, line_from_nothing}
+use Rattle.answers.specs.declared.asked.Asked.{Asked}
+use Rattle.answers.proofs.Deriving.{derived_follows, derives_class, root_subject}
+
+-- ---- what there is, or is not
+
+pub at_some : {A : Type 0} (P : Type 0) (Q : A → Type 0) (m : Option A) (x : A) → m ≡ Some x → MatchOption m P Q → Q x
+at_some {A} P Q m x is h = subst (λ (k : Option A). MatchOption k P Q) is h
+
+pub at_none : {A : Type 0} (P : Type 0) (Q : A → Type 0) (m : Option A) → m ≡ None → MatchOption m P Q → P
+at_none {A} P Q m is h = subst (λ (k : Option A). MatchOption k P Q) is h
+
+-- ---- derivations
+
+class_within : (o : Ontology) (e : ℕ) → IsRoot o [] (Expression e) → e < length o.nodes
+class_within o e root = root_subject o (Expression e) root
+
+pub derives_with : (o : Ontology) → IsOntology o → (x : Context) (class : ℕ) (items : List code_line.Line) (more : List Line) (y : Subject)
+    → y ≡ subject_of x → IsRoot o [] x → IsRoot o [] (Expression class) → Derives o (Sub y nothing) (lines_of items)
+    → more ≡ lines_of items ++ line_from_nothing y class (length items) ∷ [] → Derives o (Sub (subject_of x) class) more
+derives_with o w x class items more y same root class_root d is =
+    let counted : length (lines_of items) ≡ length items = length-map items line_of in
+    let derived : Derives o (Sub y class) (lines_of items ++ line_from_nothing y class (length (lines_of items)) ∷ []) =
+    derives_class o w y class (lines_of items) (subst (IsSubjectOf o) (sym same) (root_subject o x root)) (class_within o class class_root) d in
+    let by_length : Derives o (Sub y class) (lines_of items ++ line_from_nothing y class (length items) ∷ []) =
+    subst (λ (n : ℕ). Derives o (Sub y class) (lines_of items ++ line_from_nothing y class n ∷ [])) counted derived in
+    subst (λ (z : Subject). Derives o (Sub z class) more) same (subst (λ (ls : List Line). Derives o (Sub y class) ls) (sym is) by_length)
+
+-- where no line says it, and no line puts the subject in owl:Nothing
+pub refutable : (o : Ontology) → IsOntology o → (x : Context) (class : ℕ) (lines : List Line) → HaveFacts o [] lines → IsRoot o [] x → IsRoot o [] (Expression class)
+    → (HasLine lines (Sub (subject_of x) class) → ⊥) → (HasLine lines (Sub (subject_of x) nothing) → ⊥) → IsRefutable o x class
+refutable o w x class lines have root class_root without empty =
+    (λ f. empty (have x nothing root (IsRoot.named _ nothing w.nothing_node) f), λ f. without (have x class root class_root f))
+
+-- ---- explanations
+
+pub yes_explains : (o : Ontology) → IsOntology o → (s : Saturated) → IsSaturated o s → IsConsistent o [] → (x : Context) (class : ℕ) (lines : List Line) → Derives o (Sub (subject_of x) class) lines
+    → (a : Asked) (name : Iri) → IsAbout o a x → IsClassNamed o name class → ShowsThatItFollows o a name lines
+yes_explains o w s h consistent x class lines d a name about named = record {
+  consistent = λ none. (contradictory o w s h).0 none consistent;
+  follows = derived_follows o w a x about name class named lines d;
+  subject = x;
+  about = about;
+  expression = class;
+  named = named;
+  derives = d;
+}
+
+pub is_satisfiable : (o : Ontology) (x : Context) (class : ℕ) → IsRoot o [] x → IsRefutable o x class → IsSatisfiable o [] x
+is_satisfiable o x class root refutable = record { context = ([], IsContextBy.root root, AreFacts.none); without_nothing = refutable.0 }

@@ -1,0 +1,100 @@
+-- The part that is made refutes what is asked.
+use Rattle.std.proofs.Common.{◌≡◌, ◌↔◌, ℕ, ◌<◌, inl, inr, List, [], length, get_or, slice_get, Some, Option, unwrap_or, refl, sym, ap, ◌∙◌, subst, arith}
+use Rattle.std.specs.List.Sorted.{IsStrictlyIncreasing}
+use Rattle.std.proofs.lemmas.Bool.{cases_order}
+use Rattle.std.proofs.lemmas.List.Kept.{AllPairs-from_increasing}
+use Rattle.std.proofs.lemmas.Option.{slice_get_within, get_or_from_slice_get}
+use Rattle.axioms.specs.Expression.{Iri, ClassExpression, Named}
+use Rattle.axioms.specs.Numbered.{Ontology, Class, expression, individual_name, axiom_trees}
+use Rattle.axioms.specs.WellFormed.{IsOntology}
+use Rattle.axioms.proofs.Trees.{class_tree}
+use Rattle.closure.specs.Closure.{Context, Expression, IsRoot}
+use Rattle.closure.specs.Closure as closure
+use Rattle.generated_part.specs.Generated.{IsGenerated}
+use Rattle.generated_part.proofs.Keeping.{same, model_kept}
+use Rattle.interpretation_spec.specs.ByName.{interpretation_of}
+use Rattle.interpretation_spec.specs.Interpretation.{Interpretation, IsInterpretation, IsIn, IsModel}
+use Rattle.interpretation_spec.specs.Numbered.{NumberedInterpretation, IsNumberedInterpretation}
+use Rattle.interpretation_spec.proofs.Names.{stands_well, size_of}
+use Rattle.answers.specs.Explained.{IsAbout, IsClassNamed, IsOf, Refutes}
+use Rattle.answers.specs.Numbered.{IsPartFor, IsRefutable}
+use Rattle.answers.specs.declared.asked.Asked.{Asked}
+use Rattle.answers.specs.declared.asked.Asked.TheVariants as asked
+use Rattle.answers.proofs.Deriving.{named_tree}
+
+-- a number stands at one place of a list that ascends
+one_place : (xs : List ℕ) → IsStrictlyIncreasing xs → (m n x : ℕ) → slice_get xs m ≡ Some x → slice_get xs n ≡ Some x → m ≡ n
+one_place xs up m n x g h = elim (cases_order m n) [
+  | inl e ↦ e
+  | inr (inl l) ↦ absurd (earlier m n l g h)
+  | inr (inr l) ↦ absurd (earlier n m l h g)
+]
+  where
+    earlier : (m n : ℕ) → m < n → slice_get xs m ≡ Some x → slice_get xs n ≡ Some x → ⊥
+    earlier m n l g h =
+        let low : get_or xs m 0 < get_or xs n 0 = AllPairs-from_increasing xs up m n 0 l (slice_get_within xs n x h) in
+        omega (arith, low, get_or_from_slice_get xs m x 0 g, get_or_from_slice_get xs n x 0 h)
+
+module _ (o : Ontology) (w : IsOntology o) (x : Context) (p : NumberedInterpretation) (new : ℕ) (valid : IsNumberedInterpretation p) (part : IsPartFor o x p new) where
+  i : Interpretation
+  i = interpretation_of o.names p
+
+  v : IsInterpretation i
+  unfolding i
+  v = stands_well o w p valid
+
+  g : IsGenerated o part.whole part.from i new
+  unfolding i
+  g = part.generated
+
+  model : IsModel i (axiom_trees o)
+  model = model_kept o w part.whole i part.from new g v part.model
+
+  holds : (e : ℕ) → e < length o.nodes → IsIn i (expression o e) new ↔ IsIn part.whole (expression o e) part.from
+  holds e l = same o w part.whole i part.from new part.model.interpretation g e l new part.from g.from_at
+
+  within : new < i.size
+  within = subst (λ (n : ℕ). new < n) (sym g.size) (slice_get_within g.elements new part.from g.from_at)
+
+  inside : (a : Asked) → (y : Context) → x ≡ y → IsAbout o a y → IsOf i a new
+  inside (asked.Class c) (Expression e) same_x about =
+      let low = slice_get_within o.nodes e (Class about.0) about.1 in
+      let own : slice_get part.elements part.from ≡ Some (Expression e) = part.own ∙ ap Some same_x in
+      subst (λ (t : ClassExpression). IsIn i t new) (named_tree o c.now e about)
+      ((holds e low).1 (part.agrees.claimed e part.from (IsRoot.named about.0 e about.1) own))
+  inside (asked.Class c) (closure.Individual n) same_x about = absurd about
+  inside (asked.Individual a) (Expression e) same_x about = absurd about
+  inside (asked.Individual a) (closure.Individual n) same_x about =
+      let low = slice_get_within o.names.individuals n a.now about in
+      let own : slice_get part.elements part.from ≡ Some (closure.Individual n) = part.own ∙ ap Some same_x in
+      let there = g.individuals n low ∙ ap Some (part.listed.individuals n part.from low own) in
+      let name : individual_name o n ≡ a.now = ap (λ (k : Option Iri). unwrap_or k []) about in
+      ap i.individual (sym name) ∙ one_place g.elements g.ascend (i.individual (individual_name o n)) new part.from there g.from_at
+
+  outside : (name : Iri) (f : ℕ) → IsClassNamed o name f → IsRefutable o x f → IsIn i (Named name) new → ⊥
+  outside name f (c, at, named) refutable h =
+      let low = slice_get_within o.nodes f (Class c) at in
+      let tree = named_tree o name f (c, at, named) in
+      let whole = (holds f low).0 (subst (λ (t : ClassExpression). IsIn i t new) (sym tree) h) in
+      refutable.1 ((part.agrees.named c f part.from x at part.own).0 (subst (λ (t : ClassExpression). IsIn part.whole t part.from) (class_tree o c f at) whole))
+
+  pub refutes : (a : Asked) → IsAbout o a x → (name : Iri) (f : ℕ) → IsClassNamed o name f → IsRefutable o x f → Refutes o a name p new
+  unfolding i
+  refutes a about name f named refutable = record {
+    made = part.made;
+    model = model;
+    within = subst (λ (n : ℕ). new < n) size_same within;
+    inside = inside a x refl about;
+    outside = outside name f named refutable;
+    elements = part.elements;
+    whole = part.whole;
+    listed = part.listed;
+    subject = x;
+    about = about;
+    from = part.from;
+    own = part.own;
+    generated = part.generated;
+  }
+    where
+      size_same : (interpretation_of o.names p).size ≡ p.size
+      size_same = size_of o.names p

@@ -1,0 +1,56 @@
+//! Names and what they name.
+ghost use Rattle.countermodel.specs.Elements.{context_of};
+ghost use Rattle.answers.specs.Explained.{IsAbout, IsClassNamed, IsKnown};
+ghost use Rattle.std.specs.Prelude.{◌≡◌, Contains, MatchOption, Some, map, slice_get, string_bytes};
+
+use crate::asked::Asked;
+use axioms::{ClassId, ExprId, IndId, Ontology};
+use facts::Context;
+
+/// The number of the name.
+fn number_of(names: &[String], name: &str) -> Option<usize>
+    ensures { MatchOption result (Contains (map string_bytes names.now) name.now → ⊥)
+        (λ n. slice_get (map string_bytes names.now) n ≡ Some name.now) }
+{
+    for (n, other) in names.iter().enumerate() {
+        if other.as_str() == name {
+            return Some(n);
+        }
+    }
+    None
+}
+
+/// The class of that name, as an expression.
+pub(crate) fn class_named(ontology: &Ontology, name: &str) -> Option<ExprId>
+    ensures { MatchOption result (Contains ontology.now.names.classes name.now → ⊥) (λ e. IsClassNamed ontology.now name.now e.0) }
+{
+    ontology.bounded();
+    let number = number_of(ontology.classes(), name)?;
+    ontology.class_expr(ClassId(number as u32))
+}
+
+/// The individual of that name.
+fn individual_named(ontology: &Ontology, name: &str) -> Option<IndId>
+    ensures { MatchOption result (Contains ontology.now.names.individuals name.now → ⊥)
+        (λ a. slice_get ontology.now.names.individuals a.0 ≡ Some name.now) }
+{
+    ontology.bounded();
+    let number = number_of(ontology.individuals(), name)?;
+    Some(IndId(number as u32))
+}
+
+/// The context of what is asked about.
+pub(crate) fn subject_named(ontology: &Ontology, asked: Asked<'_>) -> Option<Context>
+    ensures { MatchOption result (IsKnown ontology.now asked.entry → ⊥) (λ x. IsAbout ontology.now asked.entry (context_of x)) }
+{
+    match asked {
+        Asked::Class(name) => {
+            let class = class_named(ontology, name)?;
+            Some(Context::Expr(class))
+        }
+        Asked::Individual(name) => {
+            let individual = individual_named(ontology, name)?;
+            Some(Context::Individual(individual))
+        }
+    }
+}

@@ -1,4 +1,0 @@
-pub mod Placing
-pub mod Spelling
-pub mod Pairs
-pub mod Keeping

@@ -1,3 +1,0 @@
-pub mod Shorter
-pub mod Spans
-pub mod Tables

@@ -1,5 +1,0 @@
-//! Tests of the text of certificates.
-#![tactic(auto)]
-
-#[cfg(test)]
-mod tests;

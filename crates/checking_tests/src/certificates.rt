@@ -1,0 +1,421 @@
+//! The certificate of one subclass axiom, its text cut and changed, and small texts and certificates beside it.
+//!
+//! Two tests make the ontologies, and functions that borrow them look at all the rest.
+
+ghost use Rattle.certificate.specs.HasText.{HasText};
+
+use axioms::{ExprId, IndId, Memory, Ontology, PropId};
+use certificate::{
+    CertFault, Certificate, Claim, Conclusion, Line, LineReader, MakeFault, Rule, Subject,
+    certificate_bytes, one_certificate, one_text, read_certificate, write_certificate,
+};
+use device::BufferSink;
+use profile::read_bytes;
+use std::alloc::{AllocError, Global};
+use std::hash::RandomState;
+use std::process::Abort;
+use std::random::RandomSource;
+use std::test::Fail;
+
+/// A certificate of the ontology of the one axiom SubClassOf(A B).
+const TEXT: &[u8] =
+    b"elcert 1 consistent\nsub e0 e0 K1\nsub e1 e1 K1\nsub e2 e2 K1\nsub e2 e0 K2\nsub e2 e3 K4 a1 3\nsub e3 e3 K1\nsub e3 e0 K2\ndomain 3\nclass e2 1\nclass e3 1 2\nclaim e0 0\nclaim e2 1\nclaim e3 2\nend\n";
+
+/// Lines with no premise, with two and with one, one after another.
+const LINES: &[u8] =
+    b"elcert 1 inconsistent\nsub e0 e0 K1\nedge i0 p0 i1 K11 18446744073709551615 2\nsub i0 e2 K9 1\nend\n";
+
+/// The ontology that the document states.
+fn ontology_of<R: AllocGlobal + RandomSource>(rt: &R, document: &str) -> Result<Ontology, Fail> {
+    Ok(read_bytes(rt.alloc(), document.as_bytes(), RandomState::new(rt)?)?)
+}
+
+/// SubClassOf(A B), of the classes of the numbers 2 and 3.
+fn one_subclass<R: AllocGlobal + RandomSource>(rt: &R) -> Result<Ontology, Fail> {
+    ontology_of(rt, "Ontology(SubClassOf(<x:A> <x:B>))")
+}
+
+/// A class A, properties r and s, individuals a and b, and no axioms.
+fn names<R: AllocGlobal + RandomSource>(rt: &R) -> Result<Ontology, Fail> {
+    ontology_of(
+        rt,
+        "Prefix(:=<x:>) Ontology(
+Declaration(Class(:A)) Declaration(ObjectProperty(:r)) Declaration(ObjectProperty(:s))
+Declaration(NamedIndividual(:a)) Declaration(NamedIndividual(:b)))",
+    )
+}
+
+/// Whether reading the bytes stops there, or where no place is given, whether they are read.
+fn stops_at(alloc: Global, ontology: &Ontology, bytes: &[u8], place: Option<usize>) -> bool {
+    let expected = place.map(|at| CertFault::BadText { at });
+    read_certificate(alloc, ontology, bytes).err() == expected
+}
+
+/// Whether this is the certificate's text, in memory.
+fn has_bytes(alloc: Global, certificate: &Certificate, text: &[u8]) -> bool {
+    match certificate_bytes(alloc, certificate) {
+        Ok(bytes) => bytes.as_slice() == text,
+        Err(_) => false,
+    }
+}
+
+/// Whether this is the certificate's text, in memory and through a sink.
+fn is_text(alloc: Global, ontology: &Ontology, certificate: &Certificate, text: &[u8]) -> bool
+    requires { HasText ontology.now certificate.now }
+{
+    let mut sink = BufferSink::new(alloc);
+    write_certificate(alloc, ontology, certificate, &mut sink).is_ok()
+        && sink.bytes() == text
+        && has_bytes(alloc, certificate, text)
+}
+
+/// Whether the text is read, and written again as it was.
+fn is_kept(alloc: Global, ontology: &Ontology, text: &[u8]) -> bool {
+    match read_certificate(alloc, ontology, text) {
+        Ok(certificate) => is_text(alloc, ontology, &certificate, text),
+        Err(_) => false,
+    }
+}
+
+/// Whether the certificate has so many lines, and the domain and the claims of its interpretation are these.
+fn are_members(certificate: &Certificate, lines: usize, domain: u32, claims: &[Claim]) -> bool {
+    let Some(listed) = certificate.listed() else {
+        return false;
+    };
+    certificate.lines().len() == lines
+        && listed.domain == domain
+        && listed.claims.as_slice() == claims
+}
+
+/// Whether the certificate of the text has these members.
+fn has_members(alloc: Global, ontology: &Ontology) -> bool {
+    let claims = [(0, 0), (2, 1), (3, 2)].map(|(class, element)| Claim {
+        class: ExprId(class),
+        element,
+    });
+    match read_certificate(alloc, ontology, TEXT) {
+        Ok(certificate) => are_members(&certificate, 7, 3, &claims),
+        Err(_) => false,
+    }
+}
+
+/// The text is kept, and has its members.
+fn assert_kept<R: AllocGlobal + Abort>(rt: &R, ontology: &Ontology) {
+    assert!(rt; is_kept(rt.alloc(), ontology, TEXT), "kept");
+    assert!(rt; has_members(rt.alloc(), ontology), "members");
+}
+
+/// The premises of the line that the reader gives next, which take the room, where that is the line.
+fn premises_of_next(
+    reader: &mut LineReader,
+    room: Vec<u64>,
+    expected: &Line,
+) -> Result<Option<Vec<u64>>, Memory> {
+    match reader.next(room)? {
+        Some(line) if line == *expected => Ok(Some(line.premises)),
+        _ => Ok(None),
+    }
+}
+
+/// Whether the reader gives these lines, one after another, and then no more.
+fn gives_lines(alloc: Global, reader: &mut LineReader, lines: &[Line]) -> Result<bool, Memory> {
+    let mut room = Vec::new(alloc);
+    for line in lines {
+        let Some(premises) = premises_of_next(reader, room, line)? else {
+            return Ok(false);
+        };
+        room = premises;
+    }
+    Ok(reader.next(room)?.is_none())
+}
+
+/// Whether a reader of the text gives these lines.
+fn reader_gives(alloc: Global, ontology: &Ontology, text: &[u8], lines: &[Line]) -> bool {
+    match LineReader::new(ontology, text) {
+        Ok(mut reader) => gives_lines(alloc, &mut reader, lines) == Ok(true),
+        Err(_) => false,
+    }
+}
+
+/// Whether a reader gives the lines of the certificate that is read from the text.
+fn gives_all(alloc: Global, ontology: &Ontology, text: &[u8]) -> bool {
+    match read_certificate(alloc, ontology, text) {
+        Ok(certificate) => reader_gives(alloc, ontology, text, certificate.lines()),
+        Err(_) => false,
+    }
+}
+
+/// A reader gives the lines of the text's certificate.
+fn assert_lines<R: AllocGlobal + Abort>(rt: &R, ontology: &Ontology, text: &[u8]) {
+    assert!(rt; gives_all(rt.alloc(), ontology, text));
+}
+
+/// Whether the reader gives so many lines and then, behind them, an interpretation or none, or refuses what stands there.
+fn finishes(
+    alloc: Global,
+    reader: &mut LineReader,
+    lines: usize,
+    expected: Result<bool, CertFault>,
+) -> Result<bool, Memory> {
+    for _ in 0..lines {
+        if reader.next(Vec::new(alloc))?.is_none() {
+            return Ok(false);
+        }
+    }
+    match reader.next(Vec::new(alloc))? {
+        Some(_) => Ok(false),
+        None => Ok(reader.finish(alloc).map(|listed| listed.is_some()) == expected),
+    }
+}
+
+/// The same of a reader of the text.
+fn text_finishes(
+    alloc: Global,
+    ontology: &Ontology,
+    text: &[u8],
+    lines: usize,
+    expected: Result<bool, CertFault>,
+) -> bool {
+    match LineReader::new(ontology, text) {
+        Ok(mut reader) => finishes(alloc, &mut reader, lines, expected) == Ok(true),
+        Err(_) => false,
+    }
+}
+
+/// What stands behind one line names what is not there; behind three stands no interpretation.
+fn assert_refused_behind_lines<R: AllocGlobal + Abort>(rt: &R, ontology: &Ontology) {
+    let text = b"elcert 1 inconsistent\nsub e0 e0 K1\nsub e9 e0 K2\nsub e0 e0 K1\nend\n";
+    let refused = Err(CertFault::BadText { at: 35 });
+    assert!(rt;
+        text_finishes(rt.alloc(), ontology, text, 1, refused),
+        "refused"
+    );
+    assert!(rt;
+        text_finishes(rt.alloc(), ontology, LINES, 3, Ok(false)),
+        "none"
+    );
+}
+
+/// Behind the seven lines of the text an interpretation is listed.
+fn assert_listed_behind_lines<R: AllocGlobal + Abort>(rt: &R, ontology: &Ontology) {
+    assert!(rt; text_finishes(rt.alloc(), ontology, TEXT, 7, Ok(true)));
+}
+
+/// Whether no reader is made for the text.
+fn has_no_reader(ontology: &Ontology, text: &[u8]) -> bool {
+    LineReader::new(ontology, text).err() == Some(CertFault::BadText { at: 0 })
+}
+
+/// Nothing, a text of another version and a first line that is cut have no reader.
+fn assert_no_readers<R: Abort>(rt: &R, ontology: &Ontology) {
+    assert!(rt; has_no_reader(ontology, b""), "nothing");
+    assert!(rt;
+        has_no_reader(ontology, b"elcert 2 consistent\nend\n"),
+        "version 2"
+    );
+    assert!(rt; has_no_reader(ontology, b"elcert 1 consistent"), "cut");
+}
+
+#[test]
+fn laws() {
+    one_certificate();
+    one_text();
+}
+
+/// Whether reading the text, cut there, stops at the start of its last line.
+fn is_cut(alloc: Global, ontology: &Ontology, cut: usize) -> bool {
+    let beginning = TEXT.get(..cut).unwrap_or(TEXT);
+    let last_end = beginning.iter().rposition(|byte| *byte == b'\n');
+    let start = last_end.map_or(0, |at| at + 1);
+    stops_at(alloc, ontology, beginning, Some(start))
+}
+
+/// Each beginning of the text is cut so.
+fn are_cut<R: AllocGlobal + Abort>(rt: &R, ontology: &Ontology) {
+    for cut in 0..TEXT.len() {
+        assert!(rt; is_cut(rt.alloc(), ontology, cut), "cut after {cut}");
+    }
+}
+
+/// From which byte to which a part of the text is replaced, by what, and where reading it stops then, if it does.
+type Change = (usize, usize, &'static str, Option<usize>);
+
+/// Texts of other certificates, then lines and then interpretations that are those of none.
+const CHANGES: &[Change] = &[
+    (169, 170, "0", None),
+    (72, 90, "", None),
+    (88, 89, "5", None),
+    (88, 89, "6", None),
+    (88, 89, "99999999999", None),
+    (88, 89, "18446744073709551615", None),
+    (145, 148, "2", None),
+    (171, 182, "", None),
+    (88, 89, "0", Some(72)),
+    (88, 89, "18446744073709551616", Some(72)),
+    (85, 87, "a2", Some(72)),
+    (85, 87, "a0", Some(72)),
+    (25, 26, "00", Some(20)),
+    (31, 32, "17", Some(20)),
+    (28, 29, "4", Some(20)),
+    (23, 24, "  ", Some(20)),
+    (123, 124, "0", Some(116)),
+    (123, 124, "4294967296", Some(116)),
+    (143, 144, "2", Some(136)),
+    (145, 148, "2 1", Some(136)),
+    (144, 148, "", Some(136)),
+    (180, 181, "3", Some(171)),
+    (182, 186, "", Some(182)),
+    (186, 186, "x", Some(186)),
+];
+
+/// The text with one part of it replaced.
+fn changed(alloc: Global, from: usize, to: usize, part: &str) -> Result<Vec<u8>, AllocError> {
+    let mut text = Vec::from_slice(alloc, TEXT.get(..from).unwrap_or(b""))?;
+    text.extend_from_slice(part.as_bytes())?;
+    text.extend_from_slice(TEXT.get(to..).unwrap_or(b""))?;
+    Ok(text)
+}
+
+/// Whether reading the changed text stops there.
+fn is_changed(alloc: Global, ontology: &Ontology, change: Change) -> bool {
+    let (from, to, part, at) = change;
+    match changed(alloc, from, to, part) {
+        Ok(text) => stops_at(alloc, ontology, &text, at),
+        Err(_) => false,
+    }
+}
+
+/// Each change has reading stop at its place.
+fn are_changed<R: AllocGlobal + Abort>(rt: &R, ontology: &Ontology) {
+    for change in CHANGES {
+        let (from, _, part, _) = *change;
+        assert!(rt;
+            is_changed(rt.alloc(), ontology, *change),
+            "{part} at {from}"
+        );
+    }
+}
+
+/// Texts over the names: lines of individuals, then listed individuals and pairs; and where reading stops, if it does.
+const TEXTS: &[(&str, Option<usize>)] = &[
+    (
+        "elcert 1 inconsistent\nedge i1 p0 e2 K8 1\nedge e2 p1 i0 K16\nend\n",
+        None,
+    ),
+    ("elcert 1 inconsistent\nedge i2 p0 e2 K8 1\nend\n", Some(22)),
+    ("elcert 1 inconsistent\nedge i1 p2 e2 K8 1\nend\n", Some(22)),
+    ("elcert 1 inconsistent\ndomain 1\nend\n", Some(22)),
+    (
+        "elcert 1 consistent\ndomain 2\nsucc p0 1 0 1\nsucc p1 0 0\nind i0 0\nind i1 0\nend\n",
+        None,
+    ),
+    (
+        "elcert 1 consistent\ndomain 2\nsucc p1 0 0\nsucc p0 1 0 1\nind i0 0\nind i1 0\nend\n",
+        Some(41),
+    ),
+    ("elcert 1 consistent\ndomain 2\nind i0 0\nend\n", Some(38)),
+    (
+        "elcert 1 consistent\ndomain 2\nind i0 0\nind i1 2\nend\n",
+        Some(38),
+    ),
+];
+
+/// Reading each of the texts stops there.
+fn are_read<R: AllocGlobal + Abort>(rt: &R, ontology: &Ontology) {
+    for (text, at) in TEXTS {
+        assert!(rt;
+            stops_at(rt.alloc(), ontology, text.as_bytes(), *at),
+            "{text}"
+        );
+    }
+}
+
+/// The line that the expression leads to the individual a by s, by K16.
+fn edge(
+    alloc: Global,
+    expression: u32,
+    axiom: Option<usize>,
+    premise: u64,
+) -> Result<Line, AllocError> {
+    let source = Subject::Expr(ExprId(expression));
+    let target = Subject::Individual(IndId(0));
+    Ok(Line {
+        conclusion: Conclusion::Edge(source, PropId(1), target),
+        rule: Rule::K16,
+        axiom,
+        premises: vec![in alloc; premise]?,
+    })
+}
+
+/// This one line.
+fn one_edge(
+    alloc: Global,
+    expression: u32,
+    axiom: Option<usize>,
+    premise: u64,
+) -> Result<Vec<Line>, AllocError> {
+    let line = edge(alloc, expression, axiom, premise)?;
+    Ok(vec![in alloc; line]?)
+}
+
+/// Whether the certificate of a line that is there has its text.
+fn is_made(alloc: Global, ontology: &Ontology) -> Result<bool, AllocError> {
+    let text = b"elcert 1 inconsistent\nedge e2 p1 i0 K16 7\nend\n";
+    let lines = one_edge(alloc, 2, None, 7)?;
+    match Certificate::new(ontology, lines, None) {
+        Ok(certificate) => Ok(has_bytes(alloc, &certificate, text)),
+        Err(_) => Ok(false),
+    }
+}
+
+/// Whether no certificate is made of the line.
+fn is_not_made(
+    alloc: Global,
+    ontology: &Ontology,
+    expression: u32,
+    axiom: Option<usize>,
+    premise: u64,
+) -> Result<bool, AllocError> {
+    let lines = one_edge(alloc, expression, axiom, premise)?;
+    Ok(Certificate::new(ontology, lines, None).err() == Some(MakeFault::NoText))
+}
+
+/// A certificate is made of a line, and none where a number is out of range.
+fn assert_made<R: AllocGlobal + Abort>(rt: &R, ontology: &Ontology) {
+    let alloc = rt.alloc();
+    assert!(rt; is_made(alloc, ontology) == Ok(true), "made");
+    assert!(rt;
+        is_not_made(alloc, ontology, 3, None, 7) == Ok(true),
+        "expression"
+    );
+    assert!(rt;
+        is_not_made(alloc, ontology, 2, Some(1), 7) == Ok(true),
+        "axiom"
+    );
+    assert!(rt;
+        is_not_made(alloc, ontology, 2, None, 0) == Ok(true),
+        "premise"
+    );
+}
+
+#[test]
+fn certificates_of_one_subclass(rt: HostRuntime) -> Result<(), Fail> {
+    let ontology = one_subclass(&rt)?;
+    assert_kept(&rt, &ontology);
+    assert_lines(&rt, &ontology, TEXT);
+    assert_listed_behind_lines(&rt, &ontology);
+    are_cut(&rt, &ontology);
+    are_changed(&rt, &ontology);
+    Ok(())
+}
+
+#[test]
+fn certificates_over_names(rt: HostRuntime) -> Result<(), Fail> {
+    let ontology = names(&rt)?;
+    assert_lines(&rt, &ontology, LINES);
+    assert_refused_behind_lines(&rt, &ontology);
+    assert_no_readers(&rt, &ontology);
+    are_read(&rt, &ontology);
+    assert_made(&rt, &ontology);
+    Ok(())
+}

@@ -1,0 +1,9 @@
+//! Tests of the texts and of the checker.
+#![tactic(auto)]
+
+#[cfg(test)]
+mod certificates;
+#[cfg(test)]
+mod checks;
+#[cfg(test)]
+mod taxonomies;

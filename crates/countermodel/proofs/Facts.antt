@@ -1,0 +1,97 @@
+-- What facts over numbers say of contexts.
+use Rattle.std.proofs.Common.{◌≡◌, ◌↔◌, ℕ, Bool, true, false, not, ◌&&◌, List, [], Contains, refl, ap, ap₂, sym, subst}
+use Rattle.axioms.specs.Numbered.{Ontology, thing}
+use Rattle.axioms.specs.WellFormed.{IsOntology}
+use Rattle.axioms.specs.declared.ids.ExprId.{ExprId}
+use Rattle.facts.specs.declared.contexts.Context as code
+use Rattle.facts.specs.declared.contexts.Context.TheVariants.{Expr, Individual as Individual2}
+use Rattle.facts.specs.declared.contexts.Fact as code_fact
+use Rattle.facts.specs.declared.contexts.Fact.TheVariants as facts
+use Rattle.normal_forms.specs.declared.forms.Class2.TheVariants as classes
+use Rattle.normal_forms.specs.Forms.{Whole}
+use Rattle.closure.specs.Closure.{Context, Expression, Individual, Fact, In, IsFact}
+use Rattle.closure.specs.Said.{Beginnings, whole, SaysContext, expression, individual, SaysFact, in_context}
+use Rattle.exactness.specs.Listed.{IsSatisfiable}
+use Rattle.engine.specs.Saturated.{SayTheClosure}
+use Rattle.countermodel.specs.Elements.{context_of}
+use Rattle.countermodel.specs.Sets.{IsWithin, holds, admits}
+use Rattle.countermodel.specs.declared.context_set.ContextSet.{ContextSet}
+use Rattle.countermodel.specs.declared.satisfiable.Satisfiable.{Satisfiable}
+use Rattle.countermodel.proofs.Contexts.{context_has_thing, class_within}
+
+and_not : (a b : Bool) → (a && not b) ≡ true → (a ≡ true) × (b ≡ true → ⊥)
+and_not true true h = absurd (cc)
+and_not true false h = (refl, λ k. cc)
+and_not false b h = absurd (cc)
+
+and_not_true : (a b : Bool) → a ≡ true → (b ≡ true → ⊥) → (a && not b) ≡ true
+and_not_true true true h k = absurd (k refl)
+and_not_true true false h k = refl
+and_not_true false b h k = absurd (cc)
+
+-- the context of the code that stands for the one of the definitions
+abbrev pub code_of : Context → code.Context
+code_of (Expression e) = Expr (record { 0 = e })
+code_of (Individual a) = Individual2 (record { 0 = a })
+
+pub code_of-is : (x : Context) → context_of (code_of x) ≡ x
+code_of-is (Expression e) = refl
+code_of-is (Individual a) = refl
+
+says_context : (x : code.Context) → SaysContext x (context_of x)
+says_context (Expr e) = expression refl
+says_context (Individual2 a) = individual refl
+
+context_said : {x : code.Context} {y : Context} → SaysContext x y → y ≡ context_of x
+context_said (expression h) = ap Expression (sym h)
+context_said (individual h) = ap Individual (sym h)
+
+said_context : {x : code.Context} {y : Context} → SaysContext x y → x ≡ code_of y
+said_context (expression h) = ap (λ n. Expr (record { 0 = n })) h
+said_context (individual h) = ap (λ n. Individual2 (record { 0 = n })) h
+
+fact_of_whole : {b : Beginnings} {class : ExprId} {x : code.Context} {g : Fact} → SaysFact b (facts.In (classes.Expr class) x) g → g ≡ In (Whole class.0) (context_of x)
+fact_of_whole (in_context (whole h) s) = ap₂ (λ c y. In (Whole c) y) (sym h) (context_said s)
+
+whole_of_fact : {b : Beginnings} {f : code_fact.Fact} {e : ℕ} {y : Context} → SaysFact b f (In (Whole e) y) → f ≡ facts.In (classes.Expr (record { 0 = e })) (code_of y)
+whole_of_fact (in_context (whole h) s) = ap₂ (λ n z. facts.In (classes.Expr (record { 0 = n })) z) h (said_context s)
+
+module _ (o : Ontology) (b : Beginnings) (list : List code_fact.Fact) (says : SayTheClosure o b list) where
+  -- whole classes in contexts are said as they are
+  pub whole_said : (class : ExprId) (x : Context) → Contains list (facts.In (classes.Expr class) (code_of x)) ↔ IsFact o [] (In (Whole class.0) x)
+  whole_said class x = (
+    λ there.
+        let (g, s, f) = says.each (facts.In (classes.Expr class) (code_of x)) there in
+        subst (λ y. IsFact o [] (In (Whole class.0) y)) (code_of-is x) (subst (IsFact o []) (fact_of_whole s) f),
+    λ f.
+        let (g, there, s) = says.all (In (Whole class.0) x) f in
+        subst (Contains list) (whole_of_fact s) there,
+  )
+
+  -- a set that is marked by the facts of the class holds the contexts with it
+  marks : (s : ContextSet) (class : ExprId) → ((x : code.Context) → (holds s (context_of x) ≡ true) ↔ Contains list (facts.In (classes.Expr class) x)) → (x : Context) → (holds s x ≡ true) ↔ IsFact o [] (In (Whole class.0) x)
+  marks s class m x =
+      let k : (holds s x ≡ true) ↔ Contains list (facts.In (classes.Expr class) (code_of x)) = subst (λ y. (holds s y ≡ true) ↔ Contains list (facts.In (classes.Expr class) (code_of x))) (code_of-is x) (m (code_of x)) in
+      let w = whole_said class x in
+      (λ h. w.0 (k.0 h), λ f. k.1 (w.1 f))
+
+  pub said_within : IsOntology o → (class : ExprId) (x : code.Context) → Contains list (facts.In (classes.Expr class) x) → IsWithin o (context_of x)
+  said_within h class x there =
+      let (g, s, f) = says.each (facts.In (classes.Expr class) x) there in
+      class_within o h (Whole class.0) (context_of x) (subst (IsFact o []) (fact_of_whole s) f)
+
+  pub satisfiable_are : IsOntology o → (s : Satisfiable)
+      → ((x : code.Context) → (holds s.things (context_of x) ≡ true) ↔ Contains list (facts.In (classes.Expr (record { 0 = 0 })) x))
+      → ((x : code.Context) → (holds s.nothings (context_of x) ≡ true) ↔ Contains list (facts.In (classes.Expr (record { 0 = 1 })) x))
+      → (x : Context) → (admits s x ≡ true) ↔ IsSatisfiable o [] x
+  satisfiable_are h s t n x =
+      let things = marks s.things (record { 0 = 0 }) t x in
+      let nothings = marks s.nothings (record { 0 = 1 }) n x in
+      let contexts = context_has_thing o h x in (
+        λ e. (let (a, b) = and_not (holds s.things x) (holds s.nothings x) e in record { context = contexts.1 (things.0 a); without_nothing = λ f. b (nothings.1 f) }),
+        λ is. and_not_true (holds s.things x) (holds s.nothings x) (things.1 (contexts.0 is.context)) (λ e. is.without_nothing (nothings.0 e)),
+      )
+
+-- a satisfiable context is there
+pub satisfiable_within : (o : Ontology) → IsOntology o → (x : Context) → IsSatisfiable o [] x → IsWithin o x
+satisfiable_within o h x is = class_within o h (Whole thing) x ((context_has_thing o h x).0 is.context)

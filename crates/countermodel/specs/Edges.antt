@@ -1,0 +1,34 @@
+-- The pairs that edges give.
+use Rattle.std.specs.Prelude.{◌≡◌, ◌↔◌, ◌⊎◌, List, slice_get, Some}
+use Rattle.std.specs.List.{Contains}
+use Rattle.normal_forms.specs.declared.forms.PropId2.{PropId2}
+use Rattle.normal_forms.specs.declared.forms.PropId2.TheVariants.{Property, Partial}
+use Rattle.normal_forms.specs.Properties.{IsAtOrBelow}
+use Rattle.property_closure.specs.Closed.{Known, Has}
+use Rattle.facts.specs.declared.contexts.Fact.{Fact}
+use Rattle.facts.specs.declared.contexts.Fact.TheVariants.{In, Edge}
+use Rattle.closure.specs.Closure.{Context}
+use Rattle.countermodel.specs.Elements.{context_of}
+use Rattle.countermodel.specs.declared.pair.Pair.{Pair}
+
+-- q is at or above p
+abbrev pub IsSuper : Known → PropId2 → PropId2 → Type 0
+IsSuper k p q = Has k p × IsAtOrBelow k.forms p q
+
+-- the pair q with a property at or above that of p
+abbrev pub IsAboveIn : Known → Pair → Pair → Type 0
+IsAboveIn k p q = IsSuper k (Property p.property) (Property q.property) × (q.source ≡ p.source) × (q.target ≡ p.target)
+
+-- the edge's ends are the elements of the pair, and the pair's property is at or above its own
+abbrev pub IsGivenBy : Known → List Context → Fact → Pair → Type 0
+IsGivenBy k elements (Edge x (Property q) y) p = (slice_get elements p.source ≡ Some (context_of x)) × (slice_get elements p.target ≡ Some (context_of y)) × IsSuper k (Property q) (Property p.property)
+IsGivenBy k elements (Edge x (Partial n) y) p = ⊥
+IsGivenBy k elements (In a x) p = ⊥
+
+-- .. of one of the edges
+abbrev pub IsGiven : Known → List Context → List Fact → Pair → Type 0
+IsGiven k elements facts p = (fact : Fact) × Contains facts fact × IsGivenBy k elements fact p
+
+-- what was there, and these
+abbrev pub AddsPairs : (Pair → Type 0) → List Pair → List Pair → Type 0
+AddsPairs adds old new = (p : Pair) → Contains new p ↔ (Contains old p ⊎ adds p)

@@ -1,0 +1,180 @@
+//! Contexts as elements.
+ghost use Rattle.closure.specs.Closure.{Expression as Expression2, Individual as Individual2};
+ghost use Rattle.exactness.specs.Listed.{AreSatisfiableContexts};
+ghost use Rattle.countermodel.specs.Elements.{context_of, contexts_of};
+ghost use Rattle.countermodel.specs.Listing.{AreBefore, PlacesExpressions, PlacesIndividuals, place_in};
+ghost use Rattle.countermodel.specs.Sets.{admits};
+ghost use Rattle.engine.specs.Saturated.{IsSaturated};
+ghost use Rattle.std.specs.Prelude.{◌≡◌, ◌<◌, ◌≤◌, ◌^◌, ◌↔◌, [], IfOk, IsTrue, MatchOption, OnOk, Some, List, length, slice_get, ℕ};
+
+use crate::satisfiable::Satisfiable;
+use axioms::{ExprId, IndId, Memory, Ontology};
+use engine::Saturation;
+use facts::Context;
+use std::alloc::Global;
+use std::marker::Model;
+
+/// The satisfiable contexts in order: expressions by number, and then individuals. Their places are the elements.
+#[derive(Drop)]
+pub struct Elements {
+    contexts: Vec<Context>,
+    // of each expression how many contexts come before it: its place, if it is a context
+    expressions: Vec<u32>,
+    // .. of each individual
+    individuals: Vec<u32>,
+}
+
+impl Model for Elements {
+    ghost use Rattle.std.specs.Prelude.{List, length, ◌<◌, ◌^◌};
+    ghost use Rattle.closure.specs.Closure.{Context as Context2};
+    ghost use Rattle.countermodel.specs.Elements.{contexts_of};
+    ghost use Rattle.countermodel.specs.Listing.{IsKept};
+
+    ghost Value = { List Context2 };
+
+    ghost view = { λ e. contexts_of e.contexts.items };
+
+    ghost invariant = { λ e. IsKept e };
+}
+
+/// How many contexts there are.
+fn count(contexts: &[Context]) -> Result<u32, Memory>
+    ensures { IfOk result (λ n. n ≡ length contexts.now) }
+{
+    if contexts.len() >= u32::MAX as usize {
+        return Err(Memory);
+    }
+    Ok(contexts.len() as u32)
+}
+
+/// Adds the expressions that are contexts, in order. The list gets the number of contexts before each expression.
+fn list_expressions(
+    contexts: &mut Vec<Context>,
+    places: &mut Vec<u32>,
+    satisfiable: &Satisfiable,
+    expressions: usize,
+) -> Result<(), Memory>
+    requires bounded { expressions ≤ 2 ^ 32 }
+    requires contexts { contexts.old.items ≡ [] }
+    requires places { places.old.items ≡ [] }
+    ensures listed { OnOk result (AreBefore (admits satisfiable.now) (Expression2 expressions) (contexts_of contexts.new.items)) }
+    ensures placed { OnOk result (PlacesExpressions contexts.new.items places.new.items) }
+{
+    for number in 0..expressions {
+        let context = Context::Expr(ExprId(number as u32));
+        places.push(count(contexts)?)?;
+        if satisfiable.contains(context) {
+            contexts.push(context)?;
+        }
+    }
+    Ok(())
+}
+
+/// Adds the individuals that are contexts, in order. The list gets the number of contexts before each individual.
+fn list_individuals(
+    contexts: &mut Vec<Context>,
+    places: &mut Vec<u32>,
+    satisfiable: &Satisfiable,
+    individuals: usize,
+) -> Result<(), Memory>
+    requires bounded { individuals ≤ 2 ^ 32 }
+    requires contexts { AreBefore (admits satisfiable.now) (Individual2 0) (contexts_of contexts.old.items) }
+    requires places { places.old.items ≡ [] }
+    ensures listed { OnOk result (AreBefore (admits satisfiable.now) (Individual2 individuals) (contexts_of contexts.new.items)) }
+    ensures placed { OnOk result (PlacesIndividuals contexts.new.items places.new.items) }
+    ensures kept { OnOk result ((table : List ℕ) → PlacesExpressions contexts.old.items table → PlacesExpressions contexts.new.items table) }
+{
+    for number in 0..individuals {
+        let context = Context::Individual(IndId(number as u32));
+        places.push(count(contexts)?)?;
+        if satisfiable.contains(context) {
+            contexts.push(context)?;
+        }
+    }
+    Ok(())
+}
+
+/// The place that the tables have for the context.
+fn place_of(expressions: &[u32], individuals: &[u32], context: Context) -> Option<u32>
+    ensures { result ≡ place_in expressions.now individuals.now context }
+{
+    let (table, number) = match context {
+        Context::Expr(expression) => (expressions, expression.index()),
+        Context::Individual(individual) => (individuals, individual.index()),
+    };
+    if number < table.len() {
+        Some(table[number])
+    } else {
+        None
+    }
+}
+
+/// Whether the context stands at that place.
+fn stands_at(contexts: &[Context], place: u32, context: Context) -> bool
+    ensures { IsTrue result ↔ (slice_get contexts.now place ≡ Some context) }
+{
+    let place = place as usize;
+    place < contexts.len() && contexts[place] == context
+}
+
+impl Elements {
+    /// The elements of a saturation.
+    ///
+    /// # Errors
+    ///
+    /// `Memory` where memory was refused, or there are 2^32 elements.
+    pub fn of(
+        alloc: Global,
+        ontology: &Ontology,
+        saturation: &Saturation,
+    ) -> Result<Elements, Memory>
+        requires { IsSaturated ontology.now saturation.now }
+        ensures { IfOk result (λ e. AreSatisfiableContexts ontology.now [] e) }
+    {
+        ontology.well_formed();
+        ontology.bounded();
+        let satisfiable = Satisfiable::of(alloc, ontology, saturation)?;
+        let mut contexts = Vec::new(alloc);
+        let mut expressions = Vec::new(alloc);
+        let mut individuals = Vec::new(alloc);
+        let many = ontology.expression_count();
+        list_expressions(&mut contexts, &mut expressions, &satisfiable, many)?;
+        let many = ontology.individuals().len();
+        list_individuals(&mut contexts, &mut individuals, &satisfiable, many)?;
+        count(&contexts)?;
+        Ok(Elements {
+            contexts,
+            expressions,
+            individuals,
+        })
+    }
+
+    /// The contexts, by element.
+    pub fn contexts(&self) -> &[Context]
+        ensures contexts { contexts_of result.now ≡ self.now }
+    {
+        &self.contexts
+    }
+
+    /// How many elements there are, fewer than 2^32.
+    pub fn len(&self) -> u32
+        ensures { result ≡ length self.now }
+    {
+        self.contexts.len() as u32
+    }
+
+    /// The element of the context; `None` where it is not satisfiable.
+    pub fn element(&self, context: Context) -> Option<u32>
+        ensures { MatchOption result ((m : ℕ) → slice_get self.now m ≡ Some (context_of context) → ⊥)
+            (λ m. slice_get self.now m ≡ Some (context_of context)) }
+    {
+        let Some(place) = place_of(&self.expressions, &self.individuals, context) else {
+            return None;
+        };
+        if stands_at(&self.contexts, place, context) {
+            Some(place)
+        } else {
+            None
+        }
+    }
+}

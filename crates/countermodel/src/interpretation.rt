@@ -1,0 +1,46 @@
+//! The members of the interpretation that a closure lists.
+ghost use Rattle.certificate.specs.HasText.{IsListedOf, listed_numbers};
+ghost use Rattle.certificate.specs.View.{listed_of};
+ghost use Rattle.exactness.specs.Listed.{IsConsistent};
+ghost use Rattle.engine.specs.Saturated.{IsSaturated};
+ghost use Rattle.exactness.specs.Acceptance.{IsListedFor};
+ghost use Rattle.std.specs.Prelude.{◌<◌, ◌^◌, [], All, IfOk, Some};
+
+use crate::claims::own_claims;
+use crate::class_rows::class_rows;
+use crate::elements::Elements;
+use crate::individuals::individual_elements;
+use crate::rows::pair_rows;
+use axioms::{Memory, Ontology};
+use certificate::Listed;
+use engine::Saturation;
+use std::alloc::Global;
+
+/// The interpretation that the closure of a consistent ontology lists, with a claim for each satisfiable class.
+///
+/// # Errors
+///
+/// `Memory` where memory was refused.
+pub fn listed(alloc: Global, ontology: &Ontology, saturation: &Saturation) -> Result<Listed, Memory>
+    requires saturated { IsSaturated ontology.now saturation.now }
+    requires consistent { IsConsistent ontology.now [] }
+    ensures listed { IfOk result (λ l. IsListedFor ontology.now (listed_of l)) }
+    // A certificate of it can be written.
+    ensures text { IfOk result (λ l. IsListedOf ontology.now (listed_of l)) }
+    ensures numbers { IfOk result (λ l. All (λ n. n < 2 ^ 32) (listed_numbers (Some (listed_of l)))) }
+{
+    ontology.well_formed();
+    ontology.bounded();
+    let elements = Elements::of(alloc, ontology, saturation)?;
+    let classes = class_rows(alloc, ontology, saturation, &elements)?;
+    let pairs = pair_rows(alloc, ontology, saturation, &elements)?;
+    let individuals = individual_elements(alloc, ontology, &elements)?;
+    let claims = own_claims(alloc, ontology, &elements)?;
+    Ok(Listed {
+        domain: elements.len(),
+        classes,
+        pairs,
+        individuals,
+        claims,
+    })
+}

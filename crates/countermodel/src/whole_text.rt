@@ -1,0 +1,48 @@
+//! The text of the interpretation that a closure lists.
+ghost use Rattle.exactness.specs.Listed.{IsConsistent};
+ghost use Rattle.engine.specs.Saturated.{IsSaturated};
+ghost use Rattle.countermodel.specs.WholeText.{IsTextWithListed};
+ghost use Rattle.std.specs.Prelude.{[], IfOk};
+
+use crate::beginning::begun;
+use crate::claims::own_claims;
+use crate::class_rows::write_class_rows;
+use crate::elements::Elements;
+use crate::individuals::individual_elements;
+use crate::parts::{push_claims, push_individuals};
+use crate::rows::write_pair_rows;
+use axioms::{Memory, Ontology};
+use certificate::LineText;
+use engine::Saturation;
+use std::alloc::Global;
+
+/// The text of the certificate of these lines and of the interpretation that the closure of a consistent ontology lists, with a claim
+/// for each satisfiable class. It is written row by row, of which at most one is kept.
+///
+/// # Errors
+///
+/// `Memory` where memory was refused.
+pub fn text_with_listed(
+    alloc: Global,
+    ontology: &Ontology,
+    saturation: &Saturation,
+    lines: LineText,
+) -> Result<Vec<u8>, Memory>
+    requires saturated { IsSaturated ontology.now saturation.now }
+    requires consistent { IsConsistent ontology.now [] }
+    ensures { IfOk result (λ v. IsTextWithListed ontology.now lines v.items) }
+{
+    ontology.well_formed();
+    ontology.bounded();
+    let elements = Elements::of(alloc, ontology, saturation)?;
+    let domain = elements.len();
+    let mut text = begun(alloc, lines, domain)?;
+    write_class_rows(alloc, ontology, saturation, &elements, &mut text)?;
+    write_pair_rows(alloc, ontology, saturation, &elements, &mut text)?;
+    let individuals = individual_elements(alloc, ontology, &elements)?;
+    push_individuals(&mut text, &individuals)?;
+    let claims = own_claims(alloc, ontology, &elements)?;
+    push_claims(&mut text, &claims)?;
+    text.extend_from_slice(b"end\n")?;
+    Ok(text)
+}

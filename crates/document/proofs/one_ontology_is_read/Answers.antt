@@ -1,5 +1,0 @@
-use Rattle.document.proofs.OneReading.{one_fault_list, one_reading}
-use Rattle.document.proofs.one_ontology_is_read.Goals as goal
-
-pub returns : goal.returns
-returns c = record { ontology = one_reading; faults = one_fault_list }

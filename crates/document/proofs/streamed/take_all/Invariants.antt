@@ -1,9 +1,0 @@
-use Rattle.fs_parser.specs.TreesLeft.{bytes_left}
-use Rattle.document.proofs.OneByOne.{AreTakenSoFar}
-use Rattle.document.proofs.streamed.take_all.Given as goal
-
-abbrev pub invariant-loop-tree : goal.invariant-loop-tree
-invariant-loop-tree l = AreTakenSoFar l.fn.trees l.trees l.fn.reader l.reader
-
-abbrev pub decreases-loop-tree : goal.decreases-loop-tree
-decreases-loop-tree l = bytes_left l.trees

@@ -1,5 +1,0 @@
-//! Tests of documents from bytes to ontologies.
-#![tactic(auto)]
-
-#[cfg(test)]
-mod tests;

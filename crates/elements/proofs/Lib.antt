@@ -1,4 +1,0 @@
-pub mod Contexts
-pub mod Sets
-pub mod Listing
-pub mod Facts

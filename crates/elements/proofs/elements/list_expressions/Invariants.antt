@@ -1,6 +1,0 @@
-use Rattle.elements.specs.Sets.{admits}
-use Rattle.elements.proofs.Listing.{HasListed}
-use Rattle.elements.proofs.elements.list_expressions.Given as goal
-
-abbrev pub invariant-loop-number : goal.invariant-loop-number
-invariant-loop-number l = HasListed (admits l.satisfiable) l.number l.contexts.items l.places.items

@@ -1,5 +1,0 @@
-use Rattle.elements.proofs.Sets.{HasMarked}
-use Rattle.elements.proofs.satisfiable.contexts_with.Given as goal
-
-abbrev pub invariant-loop-fact : goal.invariant-loop-fact
-invariant-loop-fact l = HasMarked l.ontology l.facts l.class l.fact-index l.set

@@ -1,3 +1,0 @@
-pub mod Elements
-pub mod Sets
-pub mod Listing

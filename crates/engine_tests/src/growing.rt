@@ -1,0 +1,409 @@
+//! States that grow: whatever the list of work and the script, the facts at the end are those of one run over all forms.
+ghost use Rattle.work_list.specs.Bag.{IsEmpty};
+
+use crate::lists::{Refusing, Scripted};
+use crate::problems::{
+    ALL_GO_ON, Born, ONE_ENDS, PROBLEMS, Problem, SUBCLASSES_IN_A_CIRCLE, TWO_SUBCLASSES,
+};
+use axioms::Memory;
+use facts::{FactId, Older, StoredFact};
+use normal_forms::{Form, FormList};
+use saturate::{State, Stop};
+use std::alloc::Global;
+use std::hash::RandomState;
+use std::test::Fail;
+use work_list::{ByContext, Fifo, Lifo, WorkList};
+
+/// What is done to a state of a problem.
+#[derive(Clone, Copy)]
+enum Act {
+    /// Adds the next so many forms and contexts of the problem, or those that are left.
+    Extend(usize, usize),
+    /// Serves one fact.
+    Step,
+    /// Runs to the end.
+    Run,
+    /// Runs with one fact fewer than there are in the end.
+    Stop,
+    /// Looks whether so many facts are served.
+    Serves(usize),
+}
+
+/// All that a problem has.
+const ALL: Act = Act::Extend(100, 100);
+
+const AT_ONCE: &[Act] = &[ALL, Act::Stop, Act::Run];
+
+const SCRIPTS: &[&[Act]] = &[
+    AT_ONCE,
+    &[
+        Act::Extend(1, 1),
+        Act::Run,
+        Act::Extend(1, 1),
+        Act::Run,
+        Act::Extend(1, 1),
+        Act::Run,
+        Act::Extend(1, 1),
+        Act::Run,
+        Act::Extend(1, 1),
+        Act::Run,
+        Act::Extend(1, 1),
+        Act::Run,
+    ],
+    &[
+        Act::Extend(0, 3),
+        Act::Step,
+        Act::Step,
+        Act::Extend(2, 0),
+        Act::Step,
+        Act::Stop,
+        Act::Extend(1, 1),
+        Act::Run,
+    ],
+    &[
+        Act::Step,
+        Act::Extend(100, 1),
+        Act::Run,
+        Act::Extend(0, 2),
+        Act::Step,
+        Act::Extend(0, 0),
+        Act::Stop,
+    ],
+    &[Act::Extend(0, 100), Act::Run, Act::Extend(3, 0), Act::Run],
+];
+
+/// How much of a problem a state has by now, and how many calls were refused.
+#[derive(Drop)]
+struct Progress {
+    alloc: Global,
+    forms: usize,
+    roots: usize,
+    refused: u32,
+}
+
+/// So many of the list, from a place on, or those that are left.
+fn next<T>(all: &[T], from: usize, many: usize) -> &[T] {
+    let from = from.min(all.len());
+    let to = from.saturating_add(many).min(all.len());
+    &all[from..to]
+}
+
+/// Adds the next forms and contexts.
+fn extend<W: WorkList>(
+    state: &mut State<W>,
+    problem: &Problem,
+    progress: &mut Progress,
+    forms: usize,
+    roots: usize,
+) -> Result<bool, Stop> {
+    let more = next(problem.forms, progress.forms, forms);
+    let Ok(more) = FormList::of(progress.alloc, more) else {
+        return Err(Stop::Memory);
+    };
+    let added = state.extend(&more, next(problem.roots, progress.roots, roots));
+    if added.is_err() {
+        return Err(Stop::Memory);
+    }
+    progress.forms = progress.forms.saturating_add(forms);
+    progress.roots = progress.roots.saturating_add(roots);
+    Ok(true)
+}
+
+/// Does it, and says whether what was looked at is so.
+fn perform<W: WorkList>(
+    state: &mut State<W>,
+    problem: &Problem,
+    progress: &mut Progress,
+    act: Act,
+) -> Result<bool, Stop> {
+    match act {
+        Act::Extend(forms, roots) => extend(state, problem, progress, forms, roots),
+        Act::Step => state.step(problem.facts).map(|_| true),
+        Act::Run => state.run(problem.facts).map(|_| true),
+        Act::Stop => state.run(problem.facts.saturating_sub(1)).map(|_| true),
+        Act::Serves(facts) => Ok(state.served() == facts),
+    }
+}
+
+/// Does it, once more where it was refused, and says whether what was looked at is so.
+fn tried<W: WorkList>(
+    state: &mut State<W>,
+    problem: &Problem,
+    progress: &mut Progress,
+    act: Act,
+) -> bool {
+    match perform(state, problem, progress, act) {
+        Ok(so) => so,
+        Err(Stop::Limit) => matches!(act, Act::Stop),
+        Err(Stop::Memory) => {
+            progress.refused = progress.refused.saturating_add(1);
+            matches!(
+                perform(state, problem, progress, act),
+                Ok(true) | Err(Stop::Limit)
+            )
+        }
+    }
+}
+
+/// Does all of it, adds what is left and runs to the end.
+fn follows<W: WorkList>(
+    state: &mut State<W>,
+    problem: &Problem,
+    progress: &mut Progress,
+    script: &[Act],
+) -> bool {
+    for act in script {
+        if !tried(state, problem, progress, *act) {
+            return false;
+        }
+    }
+    tried(state, problem, progress, ALL) && tried(state, problem, progress, Act::Run)
+}
+
+/// Whether two older facts gave the fact so.
+fn is_born<W: WorkList>(state: &State<W>, born: &Born) -> bool {
+    let Some(place) = state
+        .facts()
+        .iter()
+        .position(|fact| fact.get() == born.fact)
+    else {
+        return false;
+    };
+    let Ok(number) = u32::try_from(place) else {
+        return false;
+    };
+    match state.born(FactId(number)) {
+        Some(birth) => {
+            birth.condition() == born.condition
+                && birth.form() == Some(born.form)
+                && matches!(birth.older(), Older::Two(_, _))
+        }
+        None => false,
+    }
+}
+
+/// Whether the state has just the forms of the problem.
+fn has_forms<W: WorkList>(state: &State<W>, problem: &Problem) -> bool {
+    let forms = state.normal();
+    for (number, form) in problem.forms.iter().enumerate() {
+        if forms.get(number) != Some(*form) {
+            return false;
+        }
+    }
+    forms.len() == problem.forms.len()
+}
+
+/// Whether the state has the forms and the facts of the problem, all served, and each of these.
+fn has_ended<W: WorkList>(state: &State<W>, problem: &Problem, facts: &[StoredFact]) -> bool {
+    for fact in facts {
+        if !state.facts().iter().any(|known| known.get() == fact.get()) {
+            return false;
+        }
+    }
+    has_forms(state, problem)
+        && state.facts().len() == problem.facts as usize
+        && state.served() == problem.facts as usize
+        && problem
+            .born
+            .as_ref()
+            .is_none_or(|born| is_born(state, born))
+}
+
+/// How many calls were refused, where the script leads to the facts of the problem, and these are among them. A state is made and
+/// dropped here alone, but for that of `fits`.
+fn grows<W: WorkList + Drop>(
+    alloc: Global,
+    seed: RandomState,
+    problem: &Problem,
+    facts: &[StoredFact],
+    script: &[Act],
+    list: W,
+) -> Option<u32>
+    requires { IsEmpty (W.pending list) }
+{
+    let Ok(mut state) = State::new(alloc, seed, list) else {
+        return None;
+    };
+    let mut progress = Progress {
+        alloc,
+        forms: 0,
+        roots: 0,
+        refused: 0,
+    };
+    let right = follows(&mut state, problem, &mut progress, script)
+        && has_ended(&state, problem, facts);
+    drop(state);
+    right.then_some(progress.refused)
+}
+
+/// Whether the script leads there by each list of work.
+fn in_any_order(
+    alloc: Global,
+    seed: RandomState,
+    problem: &Problem,
+    facts: &[StoredFact],
+    script: &[Act],
+) -> bool {
+    let backwards = Scripted::new(alloc, &[2, 0, 1, 5, 3, 0, 7, 1, 1, 4, 0, 9]);
+    grows(alloc, seed, problem, facts, script, Fifo::new(alloc)) == Some(0)
+        && grows(alloc, seed, problem, facts, script, Lifo::new(alloc)) == Some(0)
+        && grows(alloc, seed, problem, facts, script, ByContext::new(alloc)) == Some(0)
+        && grows(alloc, seed, problem, facts, script, backwards) == Some(0)
+}
+
+/// How many facts of the problem may be there from the start, and wait beside the list of work: two for each context, one more for each
+/// reflexive property, and one for each assertion.
+fn most_at_start(problem: &Problem) -> usize {
+    let contexts = problem.roots.len();
+    let mut most = contexts.saturating_mul(2);
+    for form in problem.forms {
+        most = most.saturating_add(match form {
+            Form::N7(_) => contexts,
+            Form::N8(..) | Form::N9(..) => 1,
+            _ => 0,
+        });
+    }
+    most
+}
+
+/// Whether the script leads there whichever one push hands its item back: for each push until none does, of which there are at
+/// least as many as facts that are not there from the start.
+fn with_each_push_refused(
+    alloc: Global,
+    seed: RandomState,
+    problem: &Problem,
+    facts: &[StoredFact],
+    script: &[Act],
+) -> bool {
+    for push in 1..200 {
+        match grows(
+            alloc,
+            seed,
+            problem,
+            facts,
+            script,
+            Refusing::new(alloc, push),
+        ) {
+            Some(1) => {}
+            Some(0) => {
+                let drawn = (problem.facts as usize).saturating_sub(most_at_start(problem));
+                return push as usize > drawn;
+            }
+            _ => return false,
+        }
+    }
+    false
+}
+
+/// Whether every script leads to these facts, by each list of work and with each push refused.
+fn by_each_script(
+    alloc: Global,
+    seed: RandomState,
+    problem: &Problem,
+    facts: &[StoredFact],
+) -> bool {
+    for script in SCRIPTS {
+        if !in_any_order(alloc, seed, problem, facts, script)
+            || !with_each_push_refused(alloc, seed, problem, facts, script)
+        {
+            return false;
+        }
+    }
+    true
+}
+
+/// Adds all of the problem and runs to the end.
+fn run_whole(state: &mut State<Fifo>, alloc: Global, problem: &Problem) -> Result<(), Stop> {
+    let Ok(forms) = FormList::of(alloc, problem.forms) else {
+        return Err(Stop::Memory);
+    };
+    let Ok(()) = state.extend(&forms, problem.roots) else {
+        return Err(Stop::Memory);
+    };
+    state.run(problem.facts)
+}
+
+/// Whether every script leads to the facts of one run over all forms.
+fn fits(alloc: Global, seed: RandomState, problem: &Problem) -> bool {
+    let Ok(mut whole) = State::new(alloc, seed, Fifo::new(alloc)) else {
+        return false;
+    };
+    let right = run_whole(&mut whole, alloc, problem) == Ok(())
+        && by_each_script(alloc, seed, problem, whole.facts());
+    drop(whole);
+    right
+}
+
+#[test]
+fn each_problem_by_each_script(rt: HostRuntime) -> Result<(), Fail> {
+    let seed = RandomState::new(&rt)?;
+    for problem in PROBLEMS {
+        assert!(rt; fits(rt.alloc(), seed, problem), "{}", problem.name);
+    }
+    Ok(())
+}
+
+#[test]
+fn each_problem_of_seconds_by_each_script(rt: HostRuntime) -> Result<(), Fail> {
+    let seed = RandomState::new(&rt)?;
+    for problems in [ALL_GO_ON, ONE_ENDS] {
+        for problem in problems {
+            assert!(rt; fits(rt.alloc(), seed, problem), "{}", problem.name);
+        }
+    }
+    Ok(())
+}
+
+/// The classes of the first addition are run to the end; then those of the second are added, and make no other fact wait again.
+const APART: &[Act] = &[
+    Act::Extend(1, 4),
+    Act::Run,
+    Act::Serves(8),
+    Act::Extend(1, 2),
+    Act::Serves(8),
+    Act::Run,
+    Act::Serves(13),
+];
+
+/// The second addition names a class of the first.
+const TOGETHER: &[Act] = &[
+    Act::Extend(1, 4),
+    Act::Run,
+    Act::Serves(8),
+    Act::Extend(1, 0),
+    Act::Run,
+    Act::Serves(9),
+];
+
+/// The chain comes last: the edge that it begins with waits again, and those by the transitive property that it ends with do not.
+const BEHIND: &[Act] = &[
+    Act::Extend(5, 1),
+    Act::Run,
+    Act::Serves(12),
+    Act::Extend(1, 0),
+    Act::Serves(11),
+    Act::Run,
+    Act::Serves(15),
+];
+
+#[test]
+fn edges_become_seconds(rt: HostRuntime) -> Result<(), Fail> {
+    let seed = RandomState::new(&rt)?;
+    let Some(problem) = ONE_ENDS.first() else {
+        return Ok(());
+    };
+    assert!(rt; in_any_order(rt.alloc(), seed, problem, &[], BEHIND));
+    assert!(rt; with_each_push_refused(rt.alloc(), seed, problem, &[], BEHIND));
+    Ok(())
+}
+
+#[test]
+fn what_waits_again(rt: HostRuntime) -> Result<(), Fail> {
+    let alloc = rt.alloc();
+    let seed = RandomState::new(&rt)?;
+    assert!(rt; in_any_order(alloc, seed, &TWO_SUBCLASSES, &[], APART));
+    assert!(rt; in_any_order(alloc, seed, &SUBCLASSES_IN_A_CIRCLE, &[], TOGETHER));
+    assert!(rt; with_each_push_refused(alloc, seed, &TWO_SUBCLASSES, &[], APART));
+    assert!(rt; with_each_push_refused(alloc, seed, &SUBCLASSES_IN_A_CIRCLE, &[], TOGETHER));
+    Ok(())
+}

@@ -1,0 +1,73 @@
+//! A state with many facts that grows.
+
+use axioms::{ExprId, Memory};
+use facts::Context;
+use normal_forms::{Class2, Form, FormList};
+use saturate::State;
+use std::alloc::Global;
+use std::hash::RandomState;
+use std::test::Fail;
+use work_list::Fifo;
+
+/// The expression behind `owl:Thing`, `owl:Nothing` and so many others.
+fn after(others: u32) -> ExprId {
+    ExprId(others.saturating_add(2))
+}
+
+/// The form that puts the first class of the pair of that number below the second, and both as contexts.
+fn add_pair(forms: &mut FormList, roots: &mut Vec<Context>, pair: u32) -> Result<(), Memory> {
+    let first = after(pair.saturating_mul(2));
+    let second = after(pair.saturating_mul(2).saturating_add(1));
+    forms.push(Form::N1(Class2::Expr(first), Class2::Expr(second)))?;
+    roots.push(Context::Expr(first))?;
+    roots.push(Context::Expr(second))?;
+    Ok(())
+}
+
+/// Adds the pairs of classes of these numbers, each with the first below the second.
+fn extend(state: &mut State<Fifo>, alloc: Global, from: u32, to: u32) -> Result<(), Memory> {
+    let mut forms = FormList::new(alloc);
+    let mut roots = Vec::new(alloc);
+    for pair in from..to {
+        add_pair(&mut forms, &mut roots, pair)?;
+    }
+    state.extend(&forms, &roots)
+}
+
+/// How many facts there are once these pairs are added, and the state has run.
+fn facts_with(state: &mut State<Fifo>, alloc: Global, from: u32, to: u32) -> Option<usize> {
+    let Ok(()) = extend(state, alloc, from, to) else {
+        return None;
+    };
+    let Ok(()) = state.run(1_000_000) else {
+        return None;
+    };
+    Some(state.facts().len())
+}
+
+/// Whether 100,000 pairs lead to as many facts as they should, and 10,000 more to theirs: three facts in the context of each first
+/// class, two in that of each second, and three in those of `owl:Thing` and `owl:Nothing`.
+fn grows(state: &mut State<Fifo>, alloc: Global) -> bool {
+    let ends = [Context::Expr(ExprId::THING), Context::Expr(ExprId::NOTHING)];
+    state.extend(&FormList::new(alloc), &ends).is_ok()
+        && facts_with(state, alloc, 0, 100_000) == Some(500_003)
+        && facts_with(state, alloc, 100_000, 110_000) == Some(550_003)
+        && state.served() == 550_003
+}
+
+/// Whether a state does. It is made and dropped here alone.
+fn a_state_grows(alloc: Global, seed: RandomState) -> bool {
+    let Ok(mut state) = State::new(alloc, seed, Fifo::new(alloc)) else {
+        return false;
+    };
+    let right = grows(&mut state, alloc);
+    drop(state);
+    right
+}
+
+#[test]
+fn hundred_thousand_subclasses(rt: HostRuntime) -> Result<(), Fail> {
+    let seed = RandomState::new(&rt)?;
+    assert!(rt; a_state_grows(rt.alloc(), seed));
+    Ok(())
+}

@@ -1,0 +1,216 @@
+//! The facts of small ontologies, worked out by hand.
+
+use axioms::{ExprId, IndId, Ontology, PropId};
+use engine::{Saturation, Stop, saturated};
+use facts::{Context, Fact, FactId};
+use normal_forms::{Class2, PropId2};
+use profile::read_bytes;
+use std::alloc::Global;
+use std::hash::RandomState;
+use std::test::Fail;
+
+const THING: Class2 = Class2::Expr(ExprId(0));
+
+const NOTHING: Class2 = Class2::Expr(ExprId(1));
+
+const A: Class2 = Class2::Expr(ExprId(2));
+
+const B: Class2 = Class2::Expr(ExprId(3));
+
+/// `ObjectSomeValuesFrom(:r :A)`.
+const SOME_A: Class2 = Class2::Expr(ExprId(4));
+
+/// The classes of the document with an intersection, by the places where their expressions stand first.
+const C: Class2 = Class2::Expr(ExprId(4));
+
+/// `ObjectIntersectionOf(:B :C)`.
+const B_AND_C: Class2 = Class2::Expr(ExprId(5));
+
+const D: Class2 = Class2::Expr(ExprId(6));
+
+const IN_THING: Context = Context::Expr(ExprId(0));
+
+const IN_NOTHING: Context = Context::Expr(ExprId(1));
+
+const IN_A: Context = Context::Expr(ExprId(2));
+
+const IN_B: Context = Context::Expr(ExprId(3));
+
+const FIRST: Context = Context::Individual(IndId(0));
+
+const SECOND: Context = Context::Individual(IndId(1));
+
+const R: PropId2 = PropId2::Property(PropId(0));
+
+/// A document and the facts that it leads to, none of which stands twice.
+#[derive(Drop)]
+struct Row {
+    document: &'static str,
+    facts: &'static [Fact],
+}
+
+const ROWS: &[Row] = &[
+    Row {
+        document: "Ontology(SubClassOf(<x:A> <x:B>))",
+        facts: &[
+            Fact::In(THING, IN_THING),
+            Fact::In(THING, IN_NOTHING),
+            Fact::In(NOTHING, IN_NOTHING),
+            Fact::In(THING, IN_A),
+            Fact::In(A, IN_A),
+            Fact::In(B, IN_A),
+            Fact::In(THING, IN_B),
+            Fact::In(B, IN_B),
+        ],
+    },
+    Row {
+        document: "Prefix(:=<x:>) Ontology(Declaration(Class(:A)) Declaration(Class(:B)) SubClassOf(:A ObjectSomeValuesFrom(:r :A)) ObjectPropertyDomain(:r :B))",
+        facts: &[
+            Fact::In(THING, IN_THING),
+            Fact::In(THING, IN_NOTHING),
+            Fact::In(NOTHING, IN_NOTHING),
+            Fact::In(THING, IN_A),
+            Fact::In(A, IN_A),
+            Fact::In(SOME_A, IN_A),
+            Fact::Edge(IN_A, R, IN_A),
+            Fact::In(B, IN_A),
+            Fact::In(THING, IN_B),
+            Fact::In(B, IN_B),
+        ],
+    },
+    Row {
+        document: "Prefix(:=<x:>) Ontology(Declaration(Class(:A)) Declaration(Class(:B)) ObjectPropertyAssertion(:r :a :b) ClassAssertion(:A :b) SubClassOf(ObjectSomeValuesFrom(:r :A) :B))",
+        facts: &[
+            Fact::In(THING, IN_THING),
+            Fact::In(THING, IN_NOTHING),
+            Fact::In(NOTHING, IN_NOTHING),
+            Fact::In(THING, IN_A),
+            Fact::In(A, IN_A),
+            Fact::In(THING, IN_B),
+            Fact::In(B, IN_B),
+            Fact::In(THING, FIRST),
+            Fact::In(THING, SECOND),
+            Fact::In(A, SECOND),
+            Fact::Edge(FIRST, R, SECOND),
+            Fact::In(SOME_A, FIRST),
+            Fact::In(B, FIRST),
+        ],
+    },
+    Row {
+        document: "Ontology(SubClassOf(<x:A> <x:B>) SubClassOf(<x:A> <x:C>) SubClassOf(ObjectIntersectionOf(<x:B> <x:C>) <x:D>))",
+        facts: &[
+            Fact::In(THING, IN_THING),
+            Fact::In(THING, IN_NOTHING),
+            Fact::In(NOTHING, IN_NOTHING),
+            Fact::In(THING, IN_A),
+            Fact::In(A, IN_A),
+            Fact::In(B, IN_A),
+            Fact::In(C, IN_A),
+            Fact::In(B_AND_C, IN_A),
+            Fact::In(D, IN_A),
+            Fact::In(THING, IN_B),
+            Fact::In(B, IN_B),
+            Fact::In(THING, Context::Expr(ExprId(4))),
+            Fact::In(C, Context::Expr(ExprId(4))),
+            Fact::In(THING, Context::Expr(ExprId(6))),
+            Fact::In(D, Context::Expr(ExprId(6))),
+        ],
+    },
+];
+
+/// Whether the facts are these and no others, where none of these stands twice.
+fn has_exactly(saturation: &Saturation, facts: &[Fact]) -> bool {
+    for fact in facts {
+        if !saturation.facts().iter().any(|known| known.get() == *fact) {
+            return false;
+        }
+    }
+    saturation.facts().len() == facts.len()
+}
+
+/// Whether the ontology leads to these facts and no others.
+fn leads_to(
+    alloc: Global,
+    state: RandomState,
+    ontology: &Ontology,
+    most: u32,
+    facts: &[Fact],
+) -> Result<bool, Stop> {
+    let saturation = saturated(alloc, state, ontology, most)?;
+    let fits = has_exactly(&saturation, facts);
+    drop(saturation);
+    Ok(fits)
+}
+
+/// Whether a start that stops at one fact too few goes on to all of them, which are served.
+fn resumes(saturation: &mut Saturation, facts: u32) -> bool {
+    saturation.served() == 0
+        && !saturation.is_finished()
+        && saturation.resume(facts.saturating_sub(1)) == Err(Stop::Limit)
+        && !saturation.is_finished()
+        && saturation.resume(facts) == Ok(())
+        && saturation.facts().len() == facts as usize
+        && saturation.served() == facts as usize
+        && saturation.is_finished()
+}
+
+/// Whether a saturation of the ontology that stops goes on.
+fn goes_on(alloc: Global, state: RandomState, ontology: &Ontology, facts: u32) -> bool {
+    let Ok(mut saturation) = Saturation::start(alloc, state, ontology) else {
+        return false;
+    };
+    let ends = resumes(&mut saturation, facts);
+    drop(saturation);
+    ends
+}
+
+/// Whether a saturation that let go what only its run needed has these facts, each with what gave it, and may be resumed.
+fn stays(saturation: &mut Saturation, facts: &[Fact]) -> bool {
+    has_exactly(saturation, facts)
+        && saturation.is_finished()
+        && saturation.served() == facts.len()
+        && saturation.born(FactId(0)).is_some()
+        && saturation.born(FactId(100)).is_none()
+        && saturation.resume(1) == Err(Stop::Limit)
+        && saturation.resume(100) == Ok(())
+}
+
+/// Whether what is kept of a saturation that has run is read as that saturation is.
+fn is_kept(alloc: Global, state: RandomState, ontology: &Ontology, facts: &[Fact]) -> bool {
+    let Ok(mut kept) = saturated(alloc, state, ontology, 100) else {
+        return false;
+    };
+    let right = stays(&mut kept, facts);
+    drop(kept);
+    right
+}
+
+/// Whether the ontology leads to these facts and no others, stops where one fewer may be, and goes on then.
+fn saturates(alloc: Global, state: RandomState, ontology: &Ontology, facts: &[Fact]) -> bool {
+    let Ok(count) = u32::try_from(facts.len()) else {
+        return false;
+    };
+    leads_to(alloc, state, ontology, count.saturating_sub(1), facts) == Err(Stop::Limit)
+        && leads_to(alloc, state, ontology, 100, facts) == Ok(true)
+        && goes_on(alloc, state, ontology, count)
+        && is_kept(alloc, state, ontology, facts)
+}
+
+/// Whether the document is read and leads to its facts.
+fn fits(alloc: Global, state: RandomState, row: &Row) -> bool {
+    let Ok(ontology) = read_bytes(alloc, row.document.as_bytes(), state) else {
+        return false;
+    };
+    let right = saturates(alloc, state, &ontology, row.facts);
+    drop(ontology);
+    right
+}
+
+#[test]
+fn facts_of_small_ontologies(rt: HostRuntime) -> Result<(), Fail> {
+    let state = RandomState::new(&rt)?;
+    for row in ROWS {
+        assert!(rt; fits(rt.alloc(), state, row), "{}", row.document);
+    }
+    Ok(())
+}

@@ -1,0 +1,203 @@
+-- Each fact of the closure is derivable, and no fresh name is left: of a beginning of an intersection each operand, of a beginning of a chain a walk.
+use Rattle.std.proofs.Common.{◌≡◌, ℕ, option_map, ◌+◌, ◌<◌, inl, inr, List, [], ◌∷◌, ◌++◌, map, length, slice_get, slice_index, get_or, take, Some, All, Contains, Bool, true, false, ◌==◌, if◌then◌else◌, refl, sym, ap, ◌∙◌, subst, arith, eqb-true}
+use Rattle.std.specs.List.{AllByRecursion}
+use Rattle.std.proofs.lemmas.Option.{slice_get_within, slice_get-map, slice_get-get_or}
+use Rattle.std.proofs.lemmas.List.{take_all}
+use Rattle.std.proofs.lemmas.List.Elements.{All-head, All-tail, All-cons, All-nil, All-push}
+use Rattle.axioms.specs.Numbered.{Ontology, Class, And, SubProperty, nothing}
+use Rattle.axioms.specs.WellFormed.{IsOntology}
+use Rattle.lemmas.proofs.Members.{Contains-from_slice_get}
+use Rattle.lemmas.proofs.Places.{take_push}
+use Rattle.certificate.specs.Certificate.{Subject, Expression, Individual, Conclusion, Sub, Edge}
+use Rattle.cert_check.specs.Lines.{IsWalk}
+use Rattle.certificate.specs.Certificate.{Line}
+use Rattle.certificate.specs.HasText.{IsSubjectOf}
+use Rattle.cert_check.specs.Derivation.{IsDerivation, HasLine}
+use Rattle.normal_forms.specs.Forms.{Class2, Whole, Beginning, Property2, Property, Steps, N1, N2, N3, N4, N5, N6, N7, N8, N9, IsForm, sub_class, equivalent, right_and, left_and, disjoint, right_some, left_some, domain, sub_property, same_property, chain, transitive, reflexive, class_assertion, property_assertion, first_of, first_steps, IsNextInCircle}
+use Rattle.closure.specs.Closure.{Context, Fact, In, IsAtOrBelow, same, step, IsRoot, named, individual, question, IsContextBy, root, target, Gives, in_thing, in_itself, asserted, asserted_edge, subsumed, both, successor, predecessor, unsatisfiable, chained, loop, IsFact, AreFacts, given}
+use Rattle.exactness.specs.Derivable.{IsDerivable, AreDerivable, none, more, subject_of, ClassIsDerivable, WalkIsDerivable, EdgeIsDerivable, FactIsDerivable}
+use Rattle.exactness.proofs.Derivable.{derivation_from_each}
+use Rattle.exactness.proofs.Rules.{derivable_within, k1, k2, k4_sub, k4_same, k5, k6, k7, k8, k9, k10, k11, k12_sub, k12_same, k13_chain, k13_transitive, k14, k15, k16}
+
+-- the expression lies above the subject
+abbrev Below : Ontology → Subject → ℕ → Type 0
+Below o x d = IsDerivable o (Sub x d)
+
+-- ---- beginnings
+
+take_one : (xs : List ℕ) (n : ℕ) → n ≡ 1 → n < length xs → take n xs ≡ slice_index xs 0 ∷ []
+take_one [] n e l = absurd (omega arith)
+take_one (x ∷ xs) n e l = rw e
+
+-- what holds of the three parts of a beginning holds of it
+at_first : {X : Type 0} (P : X → Type 0) (n l : ℕ) (a b c : X) → (n ≡ l → P a) → (n ≡ 1 → P b) → P c → P (if n == l then a else (if n == 1 then b else c))
+at_first {X} P n l a b c f g h = go (n == l) (n == 1) (eqb-true n l) (eqb-true n 1)
+  where
+    go : (s t : Bool) → (s ≡ true → n ≡ l) → (t ≡ true → n ≡ 1) → P (if s then a else (if t then b else c))
+    go true t p q = f (p refl)
+    go false true p q = g (q refl)
+    go false false p q = h
+
+module _ (o : Ontology) (asked : List ℕ) (h : IsOntology o) where
+  -- the operands that a beginning stands for
+  from_beginning : (x : Subject) (ds : List ℕ) (e n : ℕ) → n < length ds → ClassIsDerivable o x (first_of ds e n) → All (Below o x) (take n ds)
+  from_beginning x ds e n l =
+      at_first (λ c. ClassIsDerivable o x c → All (Below o x) (take n ds)) n (length ds) (Whole e) (Whole (slice_index ds 0)) (Beginning (take n ds))
+      (λ k p. absurd (omega arith))
+      (λ k p. rw (take_one ds n k l) (All-cons (Below o x) (slice_index ds 0) [] p (All-nil (Below o x))))
+      (λ p. p)
+
+  to_beginning : (x : Subject) (ds : List ℕ) (e n : ℕ) → IsSubjectOf o x → slice_get o.nodes e ≡ Some (And ds) → 1 < n → All (Below o x) (take n ds) → ClassIsDerivable o x (first_of ds e n)
+  to_beginning x ds e n l node m ps =
+      at_first (ClassIsDerivable o x) n (length ds) (Whole e) (Whole (slice_index ds 0)) (Beginning (take n ds))
+      (λ k. k5 o h x e ds l node (rw (← take_all n ds (omega arith)) ps))
+      (λ k. absurd (omega arith))
+      ps
+
+  next_operand : (x : Subject) (ds : List ℕ) (e n d : ℕ) → IsSubjectOf o x → slice_get o.nodes e ≡ Some (And ds) → 0 < n → slice_get ds n ≡ Some d → ClassIsDerivable o x (first_of ds e n) → Below o x d → ClassIsDerivable o x (first_of ds e (n + 1))
+  next_operand x ds e n d l node m at p q =
+      let k : n < length ds = slice_get_within ds n d at in
+      to_beginning x ds e (n + 1) l node (omega arith)
+      (rw (take_push ds n d at) (All-push (Below o x) (take n ds) d (from_beginning x ds e n k p) q))
+
+  -- ---- walks
+
+  walk_push : (x : Subject) (rs : List ℕ) (y : Subject) (premises : List Conclusion) (r : ℕ) (z : Subject) → IsWalk x rs y premises → IsWalk x (rs ++ r ∷ []) z (premises ++ Edge y r z ∷ [])
+  walk_push x [] y [] r z w = (z, ap (λ v. Edge v r z) (sym w), refl)
+  walk_push x [] y (p ∷ ps) r z w = absurd w
+  walk_push x (q ∷ rs) y [] r z w = absurd w
+  walk_push x (q ∷ rs) y (p ∷ ps) r z w = (w.0, w.1, walk_push w.0 rs y ps r z w.2)
+
+  derivable_push : (cs : List Conclusion) (c : Conclusion) → AreDerivable o cs → IsDerivable o c → AreDerivable o (cs ++ c ∷ [])
+  derivable_push [] c none p = more p none
+  derivable_push (d ∷ cs) c (more q qs) p = more q (derivable_push cs c qs p)
+
+  from_steps : (x y : Subject) (rs : List ℕ) (s : Property2) (n : ℕ) → n < length rs → EdgeIsDerivable o x (first_steps rs s n) y → WalkIsDerivable o x (take n rs) y
+  from_steps x y rs s n l =
+      at_first (λ r. EdgeIsDerivable o x r y → WalkIsDerivable o x (take n rs) y) n (length rs) s (Property (slice_index rs 0)) (Steps (take n rs))
+      (λ k p. absurd (omega arith))
+      (λ k p. rw (take_one rs n k l) (Edge x (slice_index rs 0) y ∷ [], (y, refl, refl), more p none))
+      (λ p. p)
+
+  to_steps : (x y : Subject) (rs : List ℕ) (s n : ℕ) → IsSubjectOf o x → IsSubjectOf o y → Contains o.axioms (SubProperty rs s) → 1 < n → WalkIsDerivable o x (take n rs) y → EdgeIsDerivable o x (first_steps rs (Property s) n) y
+  to_steps x y rs s n i j m k w =
+      at_first (λ r. EdgeIsDerivable o x r y) n (length rs) (Property s) (Property (slice_index rs 0)) (Steps (take n rs))
+      (λ e. (let v : WalkIsDerivable o x rs y = rw (← take_all n rs (omega arith)) w in k13_chain o h x y rs s v.0 m i j (omega arith) v.1 v.2))
+      (λ e. absurd (omega arith))
+      w
+
+  next_step : (x y z : Subject) (rs : List ℕ) (s n r : ℕ) → IsSubjectOf o x → IsSubjectOf o z → Contains o.axioms (SubProperty rs s) → 0 < n → slice_get rs n ≡ Some r → EdgeIsDerivable o x (first_steps rs (Property s) n) y → IsDerivable o (Edge y r z) → EdgeIsDerivable o x (first_steps rs (Property s) (n + 1)) z
+  next_step x y z rs s n r i j m k at p q =
+      let l : n < length rs = slice_get_within rs n r at in
+      let w = from_steps x y rs (Property s) n l p in
+      to_steps x z rs s (n + 1) i j m (omega arith)
+      (rw (take_push rs n r at) (w.0 ++ Edge y r z ∷ [], walk_push x (take n rs) y w.0 r z w.1, derivable_push w.0 (Edge y r z) w.2 q))
+
+  -- nothing at the end of a walk is nothing at its start
+  nothing_back : (x : Subject) (rs : List ℕ) (y : Subject) (premises : List Conclusion) → IsWalk x rs y premises → AreDerivable o premises → Below o y nothing → Below o x nothing
+  nothing_back x [] y [] w ps p = subst (λ z. Below o z nothing) (sym w) p
+  nothing_back x [] y (q ∷ qs) w ps p = absurd w
+  nothing_back x (r ∷ rs) y [] w ps p = absurd w
+  nothing_back x (r ∷ rs) y (q ∷ qs) w (more e ps) p =
+      k11 o h x w.0 r (subst (IsDerivable o) w.1 e) (nothing_back w.0 rs y qs w.2 ps p)
+
+  -- ---- the normal forms
+
+  in_circle : (cs : List ℕ) (c d : ℕ) → IsNextInCircle cs c d → Contains cs c × Contains cs d
+  in_circle cs c d e = (
+    Contains-from_slice_get cs e.0 c e.1,
+    elim e.2 [ inl k ↦ Contains-from_slice_get cs (e.0 + 1) d k | inr k ↦ Contains-from_slice_get cs 0 d k.1 ],
+  )
+
+  by_n1 : {a b : Class2} (x : Subject) → IsForm o asked (N1 a b) → ClassIsDerivable o x a → ClassIsDerivable o x b
+  by_n1 x (sub_class c d m) p = k4_sub o h x c d m p
+  by_n1 x (equivalent cs c d m e) p = let k = in_circle cs c d e in k4_same o h x cs c d m k.0 k.1 p
+  by_n1 x (right_and e ds d occurs node m) p = k6 o h x e ds d node m p
+
+  by_n2 : {a b c : Class2} (x : Subject) → IsSubjectOf o x → IsForm o asked (N2 a b c) → ClassIsDerivable o x a → ClassIsDerivable o x b → ClassIsDerivable o x c
+  by_n2 x l (left_and e ds n d occurs node m at) p q = next_operand x ds e n d l node m at p q
+  by_n2 x l (disjoint cs c d m (i, j, earlier, at_c, at_d)) p q = k7 o h x cs c d m (i, j, (λ e. omega arith), at_c, at_d) p q
+
+  by_n3 : {a : Class2} {r b : ℕ} (x : Subject) → IsForm o asked (N3 a r b) → ClassIsDerivable o x a → IsDerivable o (Edge x r (Expression b))
+  by_n3 x (right_some e r c occurs node) p = k8 o h x e r c node p
+
+  by_n4 : {r : ℕ} {a b : Class2} (x y : Subject) → IsForm o asked (N4 r a b) → IsDerivable o (Edge x r y) → ClassIsDerivable o y a → ClassIsDerivable o x b
+  by_n4 x y (left_some e r c occurs node) p q = k9 o h x y e r c node p q
+  by_n4 x y (domain r c m) p q = k10 o h x y r c m p
+
+  by_n5 : {r s : ℕ} (x y : Subject) → IsForm o asked (N5 r s) → IsDerivable o (Edge x r y) → IsDerivable o (Edge x s y)
+  by_n5 x y (sub_property r s m) p = k12_sub o h x y r s m p
+  by_n5 x y (same_property rs r s m e) p = let k = in_circle rs r s e in k12_same o h x y rs r s m k.0 k.1 p
+
+  by_below : {r s : Property2} (x y : Subject) → IsAtOrBelow o asked r s → EdgeIsDerivable o x r y → EdgeIsDerivable o x s y
+  by_below x y same p = p
+  by_below x y (step s t b form) p = by_n5 x y form (by_below x y b p)
+
+  by_n6 : {r s t : Property2} (x y z : Subject) → IsSubjectOf o x → IsSubjectOf o z → IsForm o asked (N6 r s t) → EdgeIsDerivable o x r y → EdgeIsDerivable o y s z → EdgeIsDerivable o x t z
+  by_n6 x y z i j (chain rs s n r m k at) p q = next_step x y z rs s n r i j m k at p q
+  by_n6 x y z i j (transitive r m) p q = k13_transitive o h x y z r m p q
+
+  by_n7 : {r : ℕ} (x : Subject) → IsSubjectOf o x → IsForm o asked (N7 r) → IsDerivable o (Edge x r x)
+  by_n7 x l (reflexive r m) = k14 o h x r l m
+
+  by_n8 : {i : ℕ} {a : Class2} → IsForm o asked (N8 i a) → IsSubjectOf o (Individual i) × ClassIsDerivable o (Individual i) a
+  by_n8 (class_assertion c a m) = let p = k15 o h c a m in ((derivable_within p).0, p)
+
+  by_n9 : {i r j : ℕ} → IsForm o asked (N9 i r j) → IsDerivable o (Edge (Individual i) r (Individual j))
+  by_n9 (property_assertion r a b m) = k16 o h r a b m
+
+  nothing_behind : (x : Subject) (r : Property2) (y : Subject) → EdgeIsDerivable o x r y → Below o y nothing → Below o x nothing
+  nothing_behind x (Property r) y p q = k11 o h x y r p q
+  nothing_behind x (Steps rs) y p q = nothing_back x rs y p.0 p.1 p.2 q
+
+  -- ---- facts and contexts
+
+  root_within : {x : Context} → IsRoot o asked x → IsSubjectOf o (subject_of x)
+  root_within (named c e node) = slice_get_within o.nodes e (Class c) node
+  root_within (individual a l) = l
+  root_within (question e l m) = l
+
+  context_within : {older : List Fact} {x : Context} → IsContextBy o asked older x → AllByRecursion (FactIsDerivable o) older → IsSubjectOf o (subject_of x)
+  context_within (root r) ps = root_within r
+  context_within (target x r) ps = ps.0.1
+
+  -- derivable facts give derivable facts
+  derivable_by : {older : List Fact} {f : Fact} → Gives o asked older f → AllByRecursion (FactIsDerivable o) older → FactIsDerivable o f
+  derivable_by (in_thing {x = x} c) ps = let l = context_within c ps in (l, k2 o h (subject_of x) l)
+  derivable_by (in_itself {e = e} c) ps = let l = context_within c ps in (l, k1 o h e l)
+  derivable_by (asserted form) ps = by_n8 form
+  derivable_by (asserted_edge form) ps = let p = by_n9 form in ((derivable_within p).0, (derivable_within p).2, p)
+  derivable_by (subsumed {x = x} a form) ps = (ps.0.0, by_n1 (subject_of x) form ps.0.1)
+  derivable_by (both {x = x} a b form) ps = (ps.0.0, by_n2 (subject_of x) ps.0.0 form ps.0.1 ps.1.0.1)
+  derivable_by (successor {x = x} a form) ps = let e = by_n3 (subject_of x) form ps.0.1 in (ps.0.0, (derivable_within e).2, e)
+  derivable_by (predecessor {x = x} r a q y form b) ps = (ps.0.0, by_n4 (subject_of x) (subject_of y) form (by_below (subject_of x) (subject_of y) b ps.0.2) ps.1.0.1)
+  derivable_by (unsatisfiable {x = x} r y) ps = (ps.0.0, nothing_behind (subject_of x) r (subject_of y) ps.0.2 ps.1.0.1)
+  derivable_by (chained {x = x} {z = z} r s p q y form b c) ps =
+      let first = by_below (subject_of x) (subject_of y) b ps.0.2 in
+      let second = by_below (subject_of y) (subject_of z) c ps.1.0.2 in
+      (ps.0.0, ps.1.0.1, by_n6 (subject_of x) (subject_of y) (subject_of z) ps.0.0 ps.1.0.1 form first second)
+  derivable_by (loop {x = x} r form c) ps = let l = context_within c ps in (l, l, by_n7 (subject_of x) l form)
+
+  mutual
+    pub fact_derivable : {f : Fact} → IsFact o asked f → FactIsDerivable o f
+    fact_derivable (given older g fs) = derivable_by g (facts_derivable fs)
+
+    facts_derivable : {fs : List Fact} → AreFacts o asked fs → AllByRecursion (FactIsDerivable o) fs
+    facts_derivable AreFacts.none = tt
+    facts_derivable (AreFacts.more p ps) = (fact_derivable p, facts_derivable ps)
+
+  pub below_derivable : (x : Context) (d : ℕ) → IsFact o asked (In (Whole d) x) → IsDerivable o (Sub (subject_of x) d)
+  below_derivable x d f = (fact_derivable f).1
+
+  all_below : (wanted : List (Context × ℕ)) → All (λ w. IsFact o asked (In (Whole w.1) w.0)) wanted → AreDerivable o (map (λ w. Sub (subject_of w.0) w.1) wanted)
+  all_below [] fs = none
+  all_below (w ∷ wanted) fs =
+      let F : Context × ℕ → Type 0 = λ w. IsFact o asked (In (Whole w.1) w.0) in
+      more (below_derivable w.0 w.1 (All-head F w wanted fs)) (all_below wanted (All-tail F w wanted fs))
+
+  -- any number of facts have one derivation
+  pub each_has_line : (wanted : List (Context × ℕ)) → All (λ w. IsFact o asked (In (Whole w.1) w.0)) wanted → (lines : List Line) × IsDerivation o lines × All (λ w. HasLine lines (Sub (subject_of w.0) w.1)) wanted
+  each_has_line wanted fs =
+      let conclusion : Context × ℕ → Conclusion = λ w. Sub (subject_of w.0) w.1 in
+      let e = derivation_from_each (all_below wanted fs) in
+      (e.0, e.1, λ k d l. e.2 k (conclusion (get_or wanted k d)) (slice_get-map conclusion wanted k ∙ ap (option_map conclusion) (slice_get-get_or wanted k d l)))

@@ -1,0 +1,140 @@
+-- What gave a fact by the form of an expression.
+use Rattle.std.proofs.Common.{◌≡◌, ℕ, ◌<◌, List, [], ◌∷◌, map, length, slice_get, option_map, Option, Some, None, false, Contains, refl, sym, ap, ◌∙◌, subst, arith}
+use Rattle.std.proofs.lemmas.List.{length-map}
+use Rattle.std.proofs.lemmas.Option.{same_Some, none-some}
+use Rattle.lemmas.proofs.Places.{slice_get_there}
+use Rattle.axioms.specs.Numbered.{Ontology}
+use Rattle.axioms.specs.WellFormed.{IsOntology}
+use Rattle.axioms.specs.declared.ids.ExprId.{ExprId}
+use Rattle.certificate.specs.Certificate.{Line}
+use Rattle.engine.specs.Saturated.{Saturated, IsSaturated}
+use Rattle.explain.proofs.Births.{born_by, same_each, each_there, none_named}
+use Rattle.explain.proofs.ByExpression.{IsOfExpression, expression_kind, expression_leads, leads_to}
+use Rattle.explain.proofs.Within.{fact_within, form_said, form_there}
+use Rattle.explain.specs.Older.{rests_on, by_axiom, is_by_axiom, is_axiom}
+use Rattle.explain.specs.Premises.{AreShowingEach, LeadUp, taken}
+use Rattle.explain.specs.Step.{LeadTo, expression_rule}
+use Rattle.facts.specs.Births.{Reason}
+use Rattle.facts.specs.Closure.{Problem, Gives, in_thing, in_itself, by_form, unsatisfiable, loop, Concludes, IsLoop, condition}
+use Rattle.facts.specs.declared.contexts.Context.{Context}
+use Rattle.facts.specs.declared.contexts.Fact.{Fact}
+use Rattle.facts.specs.declared.contexts.Fact.TheVariants.{In, Edge}
+use Rattle.normal_forms.specs.declared.forms.Form.{Form}
+use Rattle.normal_forms.specs.declared.forms.Form.TheVariants.{N1, N2, N3, N4, N5, N6, N7, N8, N9}
+use Rattle.normal_forms.specs.declared.forms.Origin.TheVariants as origins
+use Rattle.normal_forms.specs.Given.{GivenBy}
+use Rattle.normalise.specs.Entries.{form_in, origin_in}
+use Rattle.normalise.specs.declared.entries.Entry.{Entry}
+use Rattle.normalise.specs.Problem.{beginnings_of}
+
+-- the facts give this one by the form, and its line rests on them all
+pub record IsGivenBy (k : Problem) (entries : List Entry) (r : Reason) (form : Form) (older : List Fact) (f : Fact) : Type 0 where
+  pub concludes : Concludes k form older f
+  pub rests : rests_on entries r ≡ r.older
+
+abbrev reason_of : ℕ → List ℕ → Option ℕ → Reason
+reason_of condition older place = record { condition = condition; older = older; form = place }
+
+module _ (k : Problem) (entries : List Entry) (m : ℕ) (by : by_axiom entries (Some m) ≡ false) where
+  concluded_by : (numbers : List ℕ) (older : List Fact) (form : Form) (f : Fact) → IsOfExpression form → Concludes k form older f → IsGivenBy k entries (reason_of (condition form) numbers (Some m)) form older f
+  concluded_by numbers older (N1 a b) f kind c = record { concludes = c; rests = refl }
+  concluded_by numbers older (N2 a b d) f kind c = record { concludes = c; rests = refl }
+  concluded_by numbers older (N3 a r b) f kind c = record { concludes = c; rests = refl }
+  concluded_by numbers older (N4 r a b) f kind c = record { concludes = c; rests = rw by refl }
+  concluded_by numbers older (N5 r s) f kind c = absurd kind
+  concluded_by numbers older (N6 r s t) f kind c = absurd kind
+  concluded_by numbers older (N7 r) f kind c = absurd kind
+  concluded_by numbers older (N8 i a) f kind c = absurd kind
+  concluded_by numbers older (N9 i r j) f kind c = absurd kind
+
+  no_loop : (x : Context) (form : Form) (f : Fact) → IsOfExpression form → IsLoop x form f → ⊥
+  no_loop x (N1 a b) f kind l = l
+  no_loop x (N2 a b d) f kind l = l
+  no_loop x (N3 a r b) f kind l = l
+  no_loop x (N4 r a b) f kind l = l
+  no_loop x (N5 r s) f kind l = kind
+  no_loop x (N6 r s t) f kind l = kind
+  no_loop x (N7 r) f kind l = kind
+  no_loop x (N8 i a) f kind l = kind
+  no_loop x (N9 i r j) f kind l = kind
+
+  same_form : {n : ℕ} {form form' : Form} → Some n ≡ Some m → slice_get k.forms n ≡ Some form' → slice_get k.forms m ≡ Some form → form' ≡ form
+  same_form {n} {form} {form'} e at there = same_Some form' form (sym at ∙ ap (slice_get k.forms) (same_Some n m e) ∙ there)
+
+  given_by : {c : ℕ} {place : Option ℕ} {older : List Fact} {f : Fact} (numbers : List ℕ) (form : Form) → Gives k c place older f → place ≡ Some m → slice_get k.forms m ≡ Some form → IsOfExpression form → IsGivenBy k entries (reason_of c numbers place) form older f
+  given_by numbers form (in_thing by') e there kind = absurd (none-some m e)
+  given_by numbers form (in_itself by') e there kind = absurd (none-some m e)
+  given_by numbers form (unsatisfiable back) e there kind = absurd (none-some m e)
+  given_by {older = older} {f = f} numbers form (by_form n form' at_n c) e there kind =
+      let same = same_form e at_n there in
+      subst (λ (p : Option ℕ). IsGivenBy k entries (reason_of (condition form') numbers p) form older f) (sym e)
+      (subst (λ g. IsGivenBy k entries (reason_of (condition form') numbers (Some m)) g older f) same (concluded_by numbers older form' f (subst IsOfExpression (sym same) kind) c))
+  given_by {f = f} numbers form (loop x n form' at_n is by') e there kind =
+      absurd (no_loop x form f kind (subst (λ g. IsLoop x g f) (same_form e at_n there) is))
+
+-- each edge is led up to the property of the form
+leads_up : (k : Problem) (form : Form) (older : List Fact) (f : Fact) → IsOfExpression form → Concludes k form older f → LeadUp k.forms form older
+leads_up k (N1 a b) older f kind c = none_named k.forms (N1 a b) older refl refl
+leads_up k (N2 a b d) older f kind c = none_named k.forms (N2 a b d) older refl refl
+leads_up k (N3 a r b) older f kind c = none_named k.forms (N3 a r b) older refl refl
+leads_up k (N4 r a b) [] f kind c = tt
+leads_up k (N4 r a b) (g ∷ []) f kind c = absurd c
+leads_up k (N4 r a b) (In _ _ ∷ h ∷ []) f kind c = absurd c
+leads_up k (N4 r a b) (Edge _ _ _ ∷ Edge _ _ _ ∷ []) f kind c = absurd c
+leads_up k (N4 r a b) (Edge x q y ∷ In d z ∷ []) f kind c = (c.0, tt)
+leads_up k (N4 r a b) (g ∷ h ∷ i ∷ more) f kind c = absurd c
+leads_up k (N5 r s) older f kind c = absurd kind
+leads_up k (N6 r s t) older f kind c = absurd kind
+leads_up k (N7 r) older f kind c = absurd kind
+leads_up k (N8 i a) older f kind c = absurd kind
+leads_up k (N9 i r j) older f kind c = absurd kind
+
+-- what is known of a fact that the form of an expression gave
+pub record IsBornByExpression (o : Ontology) (s : Saturated) (r : Reason) (form : Form) (f : Fact) : Type 0 where
+  -- its line rests on all older facts that gave it
+  pub rests : rests_on s.normal.entries r ≡ r.older
+  pub there : (p : ℕ) → Contains r.older p → p < length s.state.facts
+  pub lead_up : (fs : List Fact) → map (slice_get s.state.facts) r.older ≡ map Some fs → LeadUp s.state.problem.forms form fs
+  -- lines that show these lead to it
+  pub lead_to : (lines : List Line) (numbers : List ℕ) → ((fs : List Fact) → map (slice_get s.state.facts) r.older ≡ map Some fs → AreShowingEach (beginnings_of s.normal) lines numbers (taken form fs)) → LeadTo o (beginnings_of s.normal) lines (expression_rule form) None numbers f
+
+is_by_expression : (e : ExprId) (entry : Option Entry) → option_map origin_in entry ≡ Some (origins.Expr e) → is_by_axiom entry ≡ false
+is_by_expression e None h = absurd (none-some (origins.Expr e) h)
+is_by_expression e (Some entry) h = ap is_axiom (same_Some entry.origin (origins.Expr e) h)
+
+module _ (o : Ontology) (s : Saturated) (w : IsOntology o) (saturated : IsSaturated o s) (n : ℕ) (r : Reason) (born : slice_get s.state.births n ≡ Some r) (f : Fact) (there : slice_get s.state.facts n ≡ Some f) where
+  born_at : (m : ℕ) (e : ExprId) (form : Form) → r.form ≡ Some m → option_map origin_in (slice_get s.normal.entries m) ≡ Some (origins.Expr e) → slice_get (map form_in s.normal.entries) m ≡ Some form → IsBornByExpression o s r form f
+  born_at m e form place origin at_entries =
+      let b = beginnings_of s.normal in
+      let at = subst (λ (fs : List Form). slice_get fs m ≡ Some form) (sym saturated.forms) at_entries in
+      let (g, says, given) = form_said o s.normal m form (origins.Expr e) saturated.normal at_entries origin in
+      let gives = subst (λ (asked : List ℕ). GivenBy o asked (origins.Expr e) g) saturated.asked given in
+      let kind = expression_kind o b e form g says gives in
+      let (older, at_older, from) = born_by o s n r f saturated born there in
+      let is = given_by s.state.problem s.normal.entries m (is_by_expression e (slice_get s.normal.entries m) origin) r.older form from place at kind in
+      record {
+        rests = is.rests;
+        there = λ p member. each_there s.state.facts r.older older p at_older member;
+        lead_up = λ fs at_fs. subst (LeadUp s.state.problem.forms form) (same_each older fs (sym at_older ∙ at_fs)) (leads_up s.state.problem form older f kind is.concludes);
+        lead_to = λ lines numbers shown. leads_to o b s.state.problem lines numbers (expression_rule form) f (λ c e. fact_within o s n f c w saturated there e)
+            (expression_leads o b s.state.problem lines numbers e form g says gives older f is.concludes (shown older at_older));
+      }
+
+  module _ (m : ℕ) (e : ExprId) (place : r.form ≡ Some m) (given : (p : ℕ) × (r.form ≡ Some p) × (option_map origin_in (slice_get s.normal.entries p) ≡ Some (origins.Expr e))) where
+    origin : option_map origin_in (slice_get s.normal.entries m) ≡ Some (origins.Expr e)
+    origin =
+        let (p, is, at) = given in
+        subst (λ q. option_map origin_in (slice_get s.normal.entries q) ≡ Some (origins.Expr e)) (same_Some p m (sym is ∙ place)) at
+
+    within : m < length (map form_in s.normal.entries)
+    within = omega (arith, form_there s.normal.entries m (origins.Expr e) origin, length-map s.normal.entries form_in)
+
+    -- .. the form being read from the forms
+    pub born_by_expression : (read : List Form) (form : Form) → read ≡ map form_in s.normal.entries → slice_get read m ≡ Some form → IsBornByExpression o s r form f
+    born_by_expression read form is at = born_at m e form place origin (ap (λ (fs : List Form). slice_get fs m) (sym is) ∙ at)
+
+    pub rests_on_all : rests_on s.normal.entries r ≡ r.older
+    rests_on_all = let (form, at) = slice_get_there (map form_in s.normal.entries) m within in (born_at m e form place origin at).rests
+
+    pub older_there : (p : ℕ) → Contains r.older p → p < length s.state.facts
+    older_there = let (form, at) = slice_get_there (map form_in s.normal.entries) m within in (born_at m e form place origin at).there

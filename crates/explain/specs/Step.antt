@@ -1,0 +1,41 @@
+-- What a line says of a fact, and what leads to it.
+use Rattle.std.specs.Prelude.{◌≡◌, ℕ, List, Option, Some, None}
+use Rattle.axioms.specs.Numbered.{Ontology}
+use Rattle.certificate.specs.Certificate.{Subject, Expression, Individual, Conclusion, Sub, Edge, Line}
+use Rattle.certificate.specs.declared.line.Rule.{Rule}
+use Rattle.certificate.specs.declared.line.Rule.TheVariants.{K5, K6, K8, K9}
+use Rattle.cert_check.specs.Derivation.{IsDerived}
+use Rattle.closure.specs.Said.{Beginnings}
+use Rattle.explain.specs.Shown.{AreShowing}
+use Rattle.facts.specs.declared.contexts.Context as code_context
+use Rattle.facts.specs.declared.contexts.Context.TheVariants as contexts
+use Rattle.facts.specs.declared.contexts.Fact as code
+use Rattle.facts.specs.declared.contexts.Fact.TheVariants as facts
+use Rattle.normal_forms.specs.declared.forms.Class2.TheVariants as classes
+use Rattle.normal_forms.specs.declared.forms.Form.{Form}
+use Rattle.normal_forms.specs.declared.forms.Form.TheVariants.{N1, N2, N3}
+use Rattle.normal_forms.specs.declared.forms.PropId2.TheVariants as properties
+
+-- a context as the subject of lines
+abbrev pub subject_in : code_context.Context → Subject
+subject_in (contexts.Expr e) = Expression e.0
+subject_in (contexts.Individual a) = Individual a.0
+
+-- what a line says of a fact, where the fact is not of a beginning
+abbrev pub said_by : code.Fact → Option Conclusion
+said_by (facts.In (classes.Expr e) x) = Some (Sub (subject_in x) e.0)
+said_by (facts.In (classes.Partial n) x) = None
+said_by (facts.Edge x (properties.Property r) y) = Some (Edge (subject_in x) r.0 (subject_in y))
+said_by (facts.Edge x (properties.Partial n) y) = None
+
+-- the lines of these numbers give the fact: a line by the rule, with the axiom, from them; where it is of a beginning, they show it
+pub record LeadTo (o : Ontology) (b : Beginnings) (lines : List Line) (rule : Rule) (axiom' : Option ℕ) (numbers : List ℕ) (f : code.Fact) : Type 0 where
+  pub line : (c : Conclusion) → said_by f ≡ Some c → IsDerived o lines (record { conclusion = c; rule = rule; axiom' = axiom'; premises = numbers })
+  pub beginning : said_by f ≡ None → AreShowing b lines numbers f
+
+-- the rule for a form that an expression gave
+abbrev pub expression_rule : Form → Rule
+expression_rule (N1 a b) = K6
+expression_rule (N2 a b c) = K5
+expression_rule (N3 a r b) = K8
+expression_rule _ = K9

@@ -1,0 +1,82 @@
+//! The line of a fact.
+ghost use Rattle.axioms.specs.Numbered.{Ontology as Ontology2};
+ghost use Rattle.cert_check.specs.Derivation.{IsDerivation};
+ghost use Rattle.certificate.specs.View.{conclusion_of, subject_of};
+ghost use Rattle.closure.specs.Said.{Beginnings};
+ghost use Rattle.explain.specs.Serving.{IsAmong, Uses};
+ghost use Rattle.explain.specs.Shown.{AreShowing, Lengthens};
+ghost use Rattle.explain.specs.Step.{LeadTo, said_by, subject_in};
+ghost use Rattle.std.specs.Prelude.{◌≡◌, ◌<◌, IfOk, OnOk, Some, length, option_map, slice_get};
+
+use crate::derivation::Derivation;
+use crate::sink::LineSink;
+use axioms::Memory;
+use certificate::{Conclusion, Line, Rule, Subject};
+use engine::Saturation;
+use facts::{Context, Fact, FactId};
+use normal_forms::{Class2, PropId2};
+use std::alloc::Global;
+
+/// The fact of that number.
+pub(crate) fn fact_of(saturation: &Saturation, number: FactId) -> Fact
+    requires { number.0 < length saturation.now.state.facts }
+    ensures { slice_get saturation.now.state.facts number.0 ≡ Some result }
+{
+    saturation.facts()[number.0 as usize].get()
+}
+
+/// The context as the subject of lines.
+fn subject(context: Context) -> Subject
+    ensures { subject_of result ≡ subject_in context }
+{
+    match context {
+        Context::Expr(expression) => Subject::Expr(expression),
+        Context::Individual(individual) => Subject::Individual(individual),
+    }
+}
+
+/// What a line says of the fact, where the fact is not of a beginning.
+pub(crate) fn conclusion(fact: Fact) -> Option<Conclusion>
+    ensures { option_map conclusion_of result ≡ said_by fact }
+{
+    match fact {
+        Fact::In(Class2::Expr(class), context) => Some(Conclusion::Sub(subject(context), class)),
+        Fact::Edge(source, PropId2::Property(property), target) => {
+            Some(Conclusion::Edge(subject(source), property, subject(target)))
+        }
+        _ => None,
+    }
+}
+
+/// Adds the line of a fact, by the rule, with the axiom, from lines of these numbers, and gives its number; where the fact is of a
+/// beginning, these lines show it.
+///
+/// # Errors
+///
+/// `Memory` where memory was refused.
+pub(crate) fn concluded<L: LineSink>(
+    alloc: Global,
+    derivation: &mut Derivation<L>,
+    fact: Fact,
+    rule: Rule,
+    axiom_number: Option<usize>,
+    premises: Vec<u64>,
+) -> Result<Vec<u64>, Memory>
+    ensures longer { OnOk result (Lengthens derivation.old derivation.new) }
+    ensures derivation { OnOk result ((o : Ontology2) (b : Beginnings) → IsDerivation o derivation.old → LeadTo o b derivation.old rule axiom_number premises.items fact → IsDerivation o derivation.new) }
+    ensures shown { IfOk result (λ numbers. (o : Ontology2) (b : Beginnings) → LeadTo o b derivation.old rule axiom_number premises.items fact → AreShowing b derivation.new numbers.items fact) }
+    ensures used { IfOk result (λ numbers. Uses derivation.old derivation.new (IsAmong premises.items) numbers.items) }
+{
+    let Some(conclusion) = conclusion(fact) else {
+        return Ok(premises);
+    };
+    let number = derivation.add(Line {
+        conclusion,
+        rule,
+        axiom: axiom_number,
+        premises,
+    })?;
+    let mut numbers = Vec::new(alloc);
+    numbers.push(number)?;
+    Ok(numbers)
+}

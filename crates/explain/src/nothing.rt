@@ -1,0 +1,73 @@
+//! How owl:Nothing at the end of a walk is carried to its start.
+ghost use Rattle.axioms.specs.Numbered.{nothing};
+ghost use Rattle.axioms.specs.View.{at_number};
+ghost use Rattle.cert_check.specs.Derivation.{IsDerivation};
+ghost use Rattle.certificate.specs.Certificate.{Sub, Subject as Subject2};
+ghost use Rattle.explain.specs.Walks.{LeadsToNothing};
+ghost use Rattle.explain.specs.Serving.{IsAmong, Uses};
+ghost use Rattle.explain.specs.Shown.{Lengthens};
+ghost use Rattle.std.specs.Prelude.{◌≡◌, ◌++◌, ◌∷◌, [], IfOk, OnOk, Some, map};
+
+use crate::derivation::Derivation;
+use crate::sink::LineSink;
+use axioms::{ExprId, Memory, Ontology};
+use certificate::{Conclusion, Line, Rule};
+use std::alloc::Global;
+
+// Adds the line that carries owl:Nothing from the target of an edge to its source, and gives its number.
+fn carried_over<L: LineSink>(
+    alloc: Global,
+    ontology: &Ontology,
+    derivation: &mut Derivation<L>,
+    edge: u64,
+    end: u64,
+) -> Result<u64, Memory>
+    requires derivation { IsDerivation ontology.now derivation.old }
+    requires edge { (x : Subject2) × LeadsToNothing derivation.old (edge ∷ []) end x }
+    ensures derivation { OnOk result (IsDerivation ontology.now derivation.new) }
+    ensures longer { OnOk result (Lengthens derivation.old derivation.new) }
+    ensures shown { IfOk result (λ n. (x : Subject2) → LeadsToNothing derivation.old (edge ∷ []) end x → at_number (map (λ l. l.conclusion) derivation.new) n ≡ Some (Sub x nothing)) }
+    ensures used { IfOk result (λ n. Uses derivation.old derivation.new (IsAmong (edge ∷ end ∷ [])) (n ∷ [])) }
+{
+    ontology.well_formed();
+    let Some(source) = derivation.source(edge) else {
+        unreachable!()
+    };
+    let mut premises = Vec::new(alloc);
+    premises.push(edge)?;
+    premises.push(end)?;
+    let number = derivation.add(Line {
+        conclusion: Conclusion::Sub(source, ExprId::NOTHING),
+        rule: Rule::K11,
+        axiom: None,
+        premises,
+    })?;
+    Ok(number)
+}
+
+/// Adds the lines that carry owl:Nothing from the end of a walk to its start, and gives the number of the last; `end` is the number
+/// of a line that puts the end there.
+///
+/// # Errors
+///
+/// `Memory` where memory was refused.
+pub(crate) fn carried_back<L: LineSink>(
+    alloc: Global,
+    ontology: &Ontology,
+    derivation: &mut Derivation<L>,
+    walk: &[u64],
+    end: u64,
+) -> Result<u64, Memory>
+    requires derivation { IsDerivation ontology.now derivation.old }
+    requires walk { (x : Subject2) × LeadsToNothing derivation.old walk.now end x }
+    ensures derivation { OnOk result (IsDerivation ontology.now derivation.new) }
+    ensures longer { OnOk result (Lengthens derivation.old derivation.new) }
+    ensures shown { IfOk result (λ n. (x : Subject2) → LeadsToNothing derivation.old walk.now end x → at_number (map (λ l. l.conclusion) derivation.new) n ≡ Some (Sub x nothing)) }
+    ensures used { IfOk result (λ n. Uses derivation.old derivation.new (IsAmong (walk.now ++ end ∷ [])) (n ∷ [])) }
+{
+    let mut number = end;
+    for k in (0..walk.len()).rev() {
+        number = carried_over(alloc, ontology, derivation, walk[k], number)?;
+    }
+    Ok(number)
+}

@@ -1,0 +1,40 @@
+//! Which older facts the line of a fact rests on.
+ghost use Rattle.explain.specs.Older.{by_axiom, rests_on};
+ghost use Rattle.facts.specs.Births.{numbers_of, reason};
+ghost use Rattle.std.specs.Prelude.{◌≡◌, take};
+
+use facts::{Birth, Older};
+use normal_forms::Origin;
+use normalise::Normal;
+
+// Whether an axiom gave the form of that number.
+fn is_by_axiom(normal: &Normal, form: Option<u32>) -> bool
+    ensures { result ≡ by_axiom normal.now.entries form }
+{
+    match form {
+        Some(form) => matches!(normal.origin(form as usize), Some(Origin::Axiom(_))),
+        None => false,
+    }
+}
+
+// The first alone.
+fn first_alone(older: Older) -> Older
+    ensures { numbers_of result ≡ take 1 (numbers_of older) }
+{
+    match older {
+        Older::None => Older::None,
+        Older::One(first) => Older::One(first),
+        Older::Two(first, _) => Older::One(first),
+    }
+}
+
+/// The older facts that the line of a fact with this birth rests on.
+pub fn rests_on(normal: &Normal, birth: &Birth) -> Older
+    ensures { numbers_of result ≡ rests_on normal.now.entries (reason birth.now) }
+{
+    match birth.condition() {
+        1 | 10 => Older::None,
+        7 if is_by_axiom(normal, birth.form()) => first_alone(birth.older()),
+        _ => birth.older(),
+    }
+}

@@ -1,0 +1,60 @@
+//! Marks on the lines that a line rests on.
+ghost use Rattle.certificate.specs.View.{lines_of};
+ghost use Rattle.std.specs.Prelude.{◌↔◌, ◌<◌, ◌≤◌, ◌≡◌, ◌⊎◌, All, Contains, IfOk, length, suc, ℕ};
+ghost use Rattle.explain.specs.Resting.{ArePremisesBefore, IsMarked, MarksRests};
+
+use axioms::Memory;
+use certificate::Line;
+use std::alloc::Global;
+
+// Marks the line at the place, counted from 0.
+fn mark(marks: &mut [bool], place: usize)
+    requires { place < length marks.old }
+    ensures long { length marks.new ≡ length marks.old }
+    ensures exact { (n : ℕ) → IsMarked marks.new n ↔ (IsMarked marks.old n ⊎ (n ≡ place)) }
+{
+    marks[place] = true;
+}
+
+// Marks the lines of these numbers, counted from 1.
+fn mark_each(numbers: &[u64], marks: &mut [bool])
+    requires { All (λ n. (0 < n) × (n ≤ length marks.old)) numbers.now }
+    ensures long { length marks.new ≡ length marks.old }
+    ensures exact { (n : ℕ) → IsMarked marks.new n ↔ (IsMarked marks.old n ⊎ Contains numbers.now (suc n)) }
+{
+    for number in numbers {
+        mark(marks, (*number - 1) as usize);
+    }
+}
+
+// Marks what marked lines rest on, from the last to the first.
+fn mark_premises(lines: &[Line], marks: &mut [bool])
+    requires before { ArePremisesBefore (lines_of lines.now) }
+    requires within { length marks.old ≤ length lines.now }
+    ensures long { length marks.new ≡ length marks.old }
+    ensures exact { (goal : ℕ) → ((n : ℕ) → IsMarked marks.old n ↔ (suc n ≡ goal)) → MarksRests (lines_of lines.now) goal marks.new }
+{
+    for place in (0..marks.len()).rev() {
+        if marks[place] {
+            mark_each(&lines[place].premises, marks);
+        }
+    }
+}
+
+/// Of each line up to the goal, which is counted from 1, whether the goal rests on it.
+///
+/// # Errors
+///
+/// `Memory` where memory was refused.
+pub(crate) fn rests(alloc: Global, lines: &[Line], goal: usize) -> Result<Vec<bool>, Memory>
+    requires before { ArePremisesBefore (lines_of lines.now) }
+    requires counted { 0 < goal }
+    requires there { goal ≤ length lines.now }
+    ensures long { IfOk result (λ v. length v.items ≡ goal) }
+    ensures exact { IfOk result (λ v. MarksRests (lines_of lines.now) goal v.items) }
+{
+    let mut marks = vec![in alloc; false; goal]?;
+    marks[goal - 1] = true;
+    mark_premises(lines, &mut marks);
+    Ok(marks)
+}

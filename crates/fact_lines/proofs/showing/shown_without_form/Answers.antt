@@ -1,4 +1,0 @@
-use Rattle.fact_lines.proofs.showing.shown_without_form.Goals as goal
-
-pub returns-clause-used : goal.returns-clause-used
-returns-clause-used g c = c.in_ok-numbers-2.ensures.used c.args.shown.now

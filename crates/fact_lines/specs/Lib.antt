@@ -1,9 +1,0 @@
-pub mod Shown
-pub mod Older
-pub mod Premises
-pub mod Step
-pub mod Lifted
-pub mod Serving
-pub mod AxiomRule
-pub mod ContextRule
-pub mod Walks

@@ -1,7 +1,0 @@
-use Rattle.std.proofs.Common.{ap, ◌∙◌}
-use Rattle.fact_table.specs.Hashes.{hash_of, mixed_of}
-use Rattle.fact_table.proofs.seeds.hash.Goals as goal
-
-pub returns : goal.returns
-unfolding hash_of
-returns c = c.mixed.ensures ∙ ap (λ s. mixed_of s c.args.seeds.now.third) c.sum.ensures

@@ -1,0 +1,121 @@
+-- Where facts are found by their hashes: in slots, which hold one more than the place of a fact, or 0 where they are free. The facts
+-- of contexts with one number share slots, since they are sought one after the other.
+use Rattle.std.specs.Prelude.{◌≡◌, ℕ, suc, ◌-◌, ◌%◌, ◌^◌, ◌<◌, ◌≤◌, List, length, slice_index, slice_get, Some, bit_and}
+use Rattle.axioms.specs.WellFormed.{AreDistinct}
+use Rattle.facts.specs.declared.contexts.Context.{Context}
+use Rattle.facts.specs.declared.contexts.Context.TheVariants as contexts
+use Rattle.facts.specs.declared.contexts.Fact.{Fact}
+use Rattle.facts.specs.declared.contexts.Fact.TheVariants as facts
+use Rattle.facts.specs.Hashes.{hash_of}
+use Rattle.facts.specs.declared.seeds.Seeds.{Seeds}
+use Rattle.facts.specs.declared.slots.Found.{Found}
+use Rattle.facts.specs.declared.slots.Found.TheVariants.{At, Free}
+use Rattle.facts.specs.declared.slots.Slots.{Slots}
+use Rattle.facts.specs.declared.slots.Slots.TheVariants.{Few, Several, Many}
+use Rattle.facts.specs.declared.slots.TheConstants.{FEW, SEVERAL}
+
+-- the bucket of the fact, of so many
+unfoldable pub bucket_of : Seeds → ℕ → Fact → ℕ
+bucket_of seeds count fact = bit_and (hash_of seeds fact) (count - 1)
+
+-- the number of the context: an expression and an individual may have the same
+abbrev pub number_of : Context → ℕ
+number_of (contexts.Expr e) = e.0
+number_of (contexts.Individual a) = a.0
+
+-- the number of the context that the fact is of, an edge of its source
+abbrev pub home_of : Fact → ℕ
+home_of (facts.In c x) = number_of x
+home_of (facts.Edge x p y) = number_of x
+
+-- how many buckets slots of that size have
+abbrev pub count_of : ℕ → ℕ
+count_of size = 2 ^ (size % 64)
+
+-- what the slots hold
+abbrev pub numbers_of : Slots → List ℕ
+numbers_of (Few numbers) = numbers
+numbers_of (Several numbers) = numbers.value
+numbers_of (Many size used numbers) = numbers.value.items
+
+-- how many buckets there are, of few facts or several one
+abbrev pub buckets_of : Slots → ℕ
+buckets_of (Few numbers) = 1
+buckets_of (Several numbers) = 1
+buckets_of (Many size used numbers) = count_of size
+
+-- the number is in a slot from the bucket on, and none before it is free
+pub record Stands (slots : List ℕ) (bucket number : ℕ) : Type 0 where
+  pub slot : ℕ
+  pub from : bucket ≤ slot
+  pub holds : slice_index slots slot ≡ number
+  pub no_gap : (i : ℕ) → bucket ≤ i → i < slot → slice_index slots i ≡ 0 → ⊥
+
+-- the slot is free, as none before it from the bucket on
+pub record IsFirstFree (slots : List ℕ) (bucket slot : ℕ) : Type 0 where
+  pub from : bucket ≤ slot
+  pub within : slot ≤ length slots
+  pub free : slice_index slots slot ≡ 0
+  pub no_gap : (i : ℕ) → bucket ≤ i → i < slot → slice_index slots i ≡ 0 → ⊥
+
+-- what holds of the place that a search comes to ..
+abbrev pub IfAt : Found → (ℕ → Type 0) → Type 0
+IfAt (At place) P = P place
+IfAt (Free slot) P = Unit {0}
+
+-- .. and of the free slot
+abbrev pub IfFree : Found → (ℕ → Type 0) → Type 0
+IfFree (At place) P = Unit {0}
+IfFree (Free slot) P = P slot
+
+-- the fact that is at the place is found in the slots
+abbrev pub Holds : Seeds → Slots → Fact → ℕ → Type 0
+Holds seeds table fact place = Stands (numbers_of table) (bucket_of seeds (buckets_of table) fact) (suc place)
+
+-- there are as many slots as buckets, or more
+abbrev pub HasSlots : Slots → Type 0
+HasSlots table = buckets_of table ≤ length (numbers_of table)
+
+-- there is room for one number more: of few or several the last slot is free
+abbrev pub HasRoom : Slots → Type 0
+HasRoom (Few numbers) = slice_index numbers (FEW - 1) ≡ 0
+HasRoom (Several numbers) = slice_index numbers.value (SEVERAL - 1) ≡ 0
+HasRoom (Many size used numbers) = Unit {0}
+
+-- the slot is one of the few or the several, or one of many or the next behind them
+abbrev pub CanHold : Slots → ℕ → Type 0
+CanHold (Few numbers) slot = slot < FEW
+CanHold (Several numbers) slot = slot < SEVERAL
+CanHold (Many size used numbers) slot = slot ≤ length numbers.value.items
+
+-- .. in those of its home
+pub record IsFound (seeds : Seeds) (homes : List Slots) (fact : Fact) (place : ℕ) : Type 0 where
+  pub table : Slots
+  pub at : slice_get homes (home_of fact) ≡ Some table
+  pub holds : Holds seeds table fact place
+
+abbrev pub AreFound : Seeds → List Fact → List Slots → Type 0
+AreFound seeds facts homes = (place : ℕ) (fact : Fact) → slice_get facts place ≡ Some fact → IsFound seeds homes fact place
+
+abbrev pub HaveSlots : List Slots → Type 0
+HaveSlots homes = (n : ℕ) (table : Slots) → slice_get homes n ≡ Some table → HasSlots table
+
+-- the slot is free among those of that home, and can hold a number
+pub record IsFreeAt (homes : List Slots) (home slot : ℕ) : Type 0 where
+  pub table : Slots
+  pub at : slice_get homes home ≡ Some table
+  pub within : CanHold table slot
+  pub free : slice_index (numbers_of table) slot ≡ 0
+
+-- the slot is the first that is free for the fact
+pub record IsFreeFor (seeds : Seeds) (homes : List Slots) (fact : Fact) (slot : ℕ) : Type 0 where
+  pub table : Slots
+  pub at : slice_get homes (home_of fact) ≡ Some table
+  pub free : IsFirstFree (numbers_of table) (bucket_of seeds (buckets_of table) fact) slot
+
+-- what holds of a table
+pub record IsTable (seeds : Seeds) (facts : List Fact) (homes : List Slots) : Type 0 where
+  pub few : length facts < 2 ^ 32
+  pub distinct : AreDistinct facts
+  pub slots : HaveSlots homes
+  pub found : AreFound seeds facts homes

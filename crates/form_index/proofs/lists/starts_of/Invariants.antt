@@ -1,5 +1,0 @@
-use Rattle.form_index.proofs.Dividing.{AreStartsTo}
-use Rattle.form_index.proofs.lists.starts_of.Given as goal
-
-abbrev pub invariant-loop-place : goal.invariant-loop-place
-invariant-loop-place l = AreStartsTo l.starts.items l.pairs l.place

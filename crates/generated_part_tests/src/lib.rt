@@ -1,5 +1,0 @@
-//! Tests of generated parts.
-#![tactic(auto)]
-
-#[cfg(test)]
-mod tests;

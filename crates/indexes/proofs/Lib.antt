@@ -1,0 +1,7 @@
+pub mod Tables
+pub mod Places
+pub mod Adding
+pub mod Parts
+pub mod Dividing
+pub mod Pairing
+pub mod Listing

@@ -1,0 +1,17 @@
+-- Lists of forms by key.
+use Rattle.std.proofs.Common.{List, Option}
+use Rattle.normal_forms.specs.declared.forms.Form.{Form}
+use Rattle.indexes.specs.declared.keys.Key.{Key}
+use Rattle.indexes.specs.declared.keys.Key.TheVariants.{Whole, Partial}
+use Rattle.indexes.specs.declared.key_lists.KeyLists.{KeyLists}
+use Rattle.indexes.specs.declared.key_pairs.KeyPairs.{KeyPairs}
+use Rattle.indexes.specs.Lists.{AreLists}
+use Rattle.indexes.specs.Pairs.{ArePairsOf}
+use Rattle.indexes.specs.Listed.{ListsForms}
+
+-- the lists of the pairs of forms
+pub lists_of_pairs : (key : Form → Option Key) (forms : List Form) (pairs : KeyPairs) (lists : KeyLists) → ArePairsOf key forms pairs
+    → AreLists pairs.wholes.items lists.wholes.starts.items lists.wholes.numbers.items
+    → AreLists pairs.partials.items lists.partials.starts.items lists.partials.numbers.items → ListsForms key forms lists
+lists_of_pairs key forms pairs lists are wholes partials (Whole k) n = (λ c. (are.exact (Whole k) n).0 ((wholes k n).0 c), λ w. (wholes k n).1 ((are.exact (Whole k) n).1 w))
+lists_of_pairs key forms pairs lists are wholes partials (Partial k) n = (λ c. (are.exact (Partial k) n).0 ((partials k n).0 c), λ w. (partials k n).1 ((are.exact (Partial k) n).1 w))

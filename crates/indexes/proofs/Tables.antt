@@ -1,0 +1,154 @@
+-- Lists by number, as they grow.
+use Rattle.std.proofs.Common.{◌≡◌, ℕ, zero, suc, ◌+◌, ◌<◌, ◌≤◌, inl, inr, ⊎_elim, List, [], ◌∷◌, ◌++◌, length, get_or, set, Contains, refl, sym, ap, ◌∙◌, subst, arith}
+use Rattle.std.proofs.lemmas.Bool.{cases_eq}
+use Rattle.std.proofs.lemmas.List.{get_or_past, get_or_append_left, get_or-set_same, get_or-set_other, length_push}
+use Rattle.std.proofs.lemmas.List.Elements.{Contains-append_left, Contains-push, Contains-push_cases}
+use Rattle.std.proofs.Math.Seq.{get_or-append_seam}
+use Rattle.indexes.specs.Tables.{at, by_key, list_of, Adds, IsSame, IsTable, PutsLast}
+
+pub same_longer : (t : List (List ℕ)) → IsSame t (t ++ [] ∷ [])
+same_longer [] zero = refl
+same_longer [] (suc k) = refl
+same_longer (x ∷ t) zero = refl
+same_longer (x ∷ t) (suc k) = same_longer t k
+
+-- the list of a key, by what stands for it
+pub at_by_key : (numbers : List ℕ) (lists : List (List ℕ)) (key : ℕ) → at (by_key numbers lists) key ≡ list_of lists (get_or numbers key 0)
+at_by_key [] lists zero = refl
+at_by_key [] lists (suc key) = refl
+at_by_key (n ∷ numbers) lists zero = refl
+at_by_key (n ∷ numbers) lists (suc key) = at_by_key numbers lists key
+
+pub by_key_push : (numbers : List ℕ) (lists : List (List ℕ)) → by_key (numbers ++ 0 ∷ []) lists ≡ by_key numbers lists ++ [] ∷ []
+by_key_push [] lists = refl
+by_key_push (n ∷ numbers) lists = ap (λ (rest : List (List ℕ)). list_of lists n ∷ rest) (by_key_push numbers lists)
+
+-- a key more for which nothing stands changes nothing for any key
+pub none_more : (numbers : List ℕ) (key : ℕ) → get_or (numbers ++ 0 ∷ []) key 0 ≡ get_or numbers key 0
+none_more [] zero = refl
+none_more [] (suc key) = refl
+none_more (n ∷ numbers) zero = refl
+none_more (n ∷ numbers) (suc key) = none_more numbers key
+
+pub table_empty : IsTable [] []
+table_empty = record {
+  within = λ key. omega (arith, get_or_past {X = ℕ} [] key 0 (omega arith));
+  apart = λ key other ne same. get_or_past {X = ℕ} [] key 0 (omega arith);
+}
+
+pub table_grown : (numbers : List ℕ) (lists : List (List ℕ)) → IsTable numbers lists → IsTable (numbers ++ 0 ∷ []) lists
+table_grown numbers lists table = record {
+  within = λ key. rw (none_more numbers key) (table.within key);
+  apart = λ key other ne same. none_more numbers key ∙ table.apart key other ne (sym (none_more numbers key) ∙ same ∙ none_more numbers other);
+}
+
+-- a list for a key that had none
+pub table_begun : (numbers : List ℕ) (lists : List (List ℕ)) (key : ℕ) (new : List ℕ) → IsTable numbers lists → key < length numbers →
+    IsTable (set numbers key (length lists + 1)) (lists ++ new ∷ [])
+table_begun numbers lists key new table low = record {
+  within = λ k. elim (cases_eq k key) [
+    | inl e ↦ omega (arith, here, ap (λ i. get_or (set numbers key (length lists + 1)) i 0) e, length_push lists new)
+    | inr ne ↦ omega (arith, there k ne, table.within k, length_push lists new)
+  ];
+  apart = λ k other ne same. elim (cases_eq k key) [
+    | inl e ↦ elim (cases_eq other key) [
+      | inl f ↦ absurd (ne (e ∙ sym f))
+      | inr nf ↦ absurd (omega (arith, here, ap (λ i. get_or (set numbers key (length lists + 1)) i 0) e, there other nf, table.within other, same))
+    ]
+    | inr nk ↦ elim (cases_eq other key) [
+      | inl f ↦ absurd (omega (arith, here, ap (λ i. get_or (set numbers key (length lists + 1)) i 0) f, there k nk, table.within k, same))
+      | inr nf ↦ there k nk ∙ table.apart k other ne (sym (there k nk) ∙ same ∙ there other nf)
+    ]
+  ];
+}
+  where
+    here : get_or (set numbers key (length lists + 1)) key 0 ≡ length lists + 1
+    here = get_or-set_same numbers key (length lists + 1) 0 low
+
+    there : (k : ℕ) → (k ≡ key → ⊥) → get_or (set numbers key (length lists + 1)) k 0 ≡ get_or numbers k 0
+    there k ne = get_or-set_other numbers key k (length lists + 1) 0 ne
+
+-- the list that one more than its place stands for
+pub list_of_next : (lists : List (List ℕ)) (n place : ℕ) → n ≡ place + 1 → list_of lists n ≡ at lists place
+list_of_next lists zero place e = absurd (omega (arith, e))
+list_of_next lists (suc m) place e =
+    let same : m ≡ place = omega (arith, e) in
+    ap (λ i. get_or lists i []) same
+
+-- what stands for a list stands for it when there are more
+pub list_of_more : (lists : List (List ℕ)) (new : List ℕ) (n : ℕ) → n ≤ length lists → list_of (lists ++ new ∷ []) n ≡ list_of lists n
+list_of_more lists new zero low = refl
+list_of_more lists new (suc place) low = get_or_append_left lists (new ∷ []) [] place (omega arith)
+
+pub puts_begun : (numbers : List ℕ) (lists : List (List ℕ)) (key number : ℕ) → IsTable numbers lists → key < length numbers → get_or numbers key 0 ≡ 0 →
+    PutsLast (by_key numbers lists) (by_key (set numbers key (length lists + 1)) (lists ++ (number ∷ []) ∷ [])) key number
+puts_begun numbers lists key number table low empty k = elim (cases_eq k key) [
+  | inl e ↦ inr (
+    e,
+    at_by_key (set numbers key (length lists + 1)) (lists ++ (number ∷ []) ∷ []) k
+        ∙ list_of_next (lists ++ (number ∷ []) ∷ []) (get_or (set numbers key (length lists + 1)) k 0) (length lists) (ap (λ i. get_or (set numbers key (length lists + 1)) i 0) e ∙ get_or-set_same numbers key (length lists + 1) 0 low)
+        ∙ get_or-append_seam lists (number ∷ []) [] []
+        ∙ sym (ap (λ (l : List ℕ). l ++ number ∷ []) (at_by_key numbers lists k ∙ ap (list_of lists) (ap (λ i. get_or numbers i 0) e ∙ empty))),
+  )
+  | inr ne ↦ inl (
+    ne,
+    at_by_key (set numbers key (length lists + 1)) (lists ++ (number ∷ []) ∷ []) k
+        ∙ ap (list_of (lists ++ (number ∷ []) ∷ [])) (get_or-set_other numbers key k (length lists + 1) 0 ne)
+        ∙ list_of_more lists (number ∷ []) (get_or numbers k 0) (table.within k)
+        ∙ sym (at_by_key numbers lists k),
+  )
+]
+
+-- a list with another list at one place
+pub list_of_set : (lists : List (List ℕ)) (place : ℕ) (new : List ℕ) (n : ℕ) → (n ≡ place + 1 → ⊥) → list_of (set lists place new) n ≡ list_of lists n
+list_of_set lists place new zero ne = refl
+list_of_set lists place new (suc m) ne = get_or-set_other lists place m new [] (λ e. ne (omega (arith, e)))
+
+pub table_set : (numbers : List ℕ) (lists more : List (List ℕ)) → IsTable numbers lists → length more ≡ length lists → IsTable numbers more
+table_set numbers lists more table long = record {
+  within = λ key. omega (arith, long, table.within key);
+  apart = λ key other ne same. table.apart key other ne same;
+}
+
+pub puts_set : (numbers : List ℕ) (lists : List (List ℕ)) (key place number : ℕ) → IsTable numbers lists → get_or numbers key 0 ≡ place + 1 →
+    PutsLast (by_key numbers lists) (by_key numbers (set lists place (at lists place ++ number ∷ []))) key number
+puts_set numbers lists key place number table is k = elim (cases_eq k key) [
+  | inl e ↦
+      let stands : get_or numbers k 0 ≡ place + 1 = ap (λ i. get_or numbers i 0) e ∙ is in
+      inr (
+        e,
+        at_by_key numbers (set lists place (at lists place ++ number ∷ [])) k
+            ∙ list_of_next (set lists place (at lists place ++ number ∷ [])) (get_or numbers k 0) place stands
+            ∙ get_or-set_same lists place (at lists place ++ number ∷ []) [] (omega (arith, table.within key, is))
+            ∙ sym (ap (λ (l : List ℕ). l ++ number ∷ []) (at_by_key numbers lists k ∙ list_of_next lists (get_or numbers k 0) place stands)),
+      )
+  | inr ne ↦ inl (
+    ne,
+    at_by_key numbers (set lists place (at lists place ++ number ∷ [])) k
+        ∙ list_of_set lists place (at lists place ++ number ∷ []) (get_or numbers k 0)
+        (λ same. absurd (omega (arith, same, table.apart k key ne (same ∙ sym is))))
+        ∙ sym (at_by_key numbers lists k),
+  )
+]
+
+-- one number more at the end of one list, after lists stayed the same
+pub put_last : (old mid new : List (List ℕ)) (key number : ℕ) → IsSame old mid → PutsLast mid new key number → PutsLast old new key number
+put_last old mid new key number same puts k = ⊎_elim
+    (λ w. inl (w.0, w.1 ∙ same k))
+    (λ w. inr (w.0, w.1 ∙ ap (λ (l : List ℕ). l ++ number ∷ []) (same k)))
+    (puts k)
+
+pub put_adds : (old mid new : List (List ℕ)) (key number : ℕ) → IsSame old mid → PutsLast mid new key number → Adds old new key number
+put_adds old mid new key number same puts k n = ⊎_elim
+    (λ (w : (k ≡ key → ⊥) × (at new k ≡ at old k)). (
+      λ c. inl (rw w.1 at c),
+      λ v. rw w.1 (⊎_elim (λ (c : Contains (at old k) n). c) (λ (e : (k ≡ key) × (n ≡ number)). absurd (w.0 e.0)) v),
+    ))
+    (λ (w : (k ≡ key) × (at new k ≡ at old k ++ number ∷ [])). (
+      λ c. ⊎_elim (λ v. inl v) (λ e. inr (w.0, sym e)) (Contains-push_cases (at old k) number n (rw w.1 at c)),
+      λ v. rw w.1 (⊎_elim
+          (λ (c : Contains (at old k) n). Contains-append_left (at old k) (number ∷ []) n c)
+          (λ (e : (k ≡ key) × (n ≡ number)). subst (λ (i : ℕ). Contains (at old k ++ number ∷ []) i) (sym e.1) (Contains-push (at old k) number))
+          v),
+    ))
+    (put_last old mid new key number same puts k)

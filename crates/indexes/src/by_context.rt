@@ -1,0 +1,71 @@
+//! Lists of numbers by context.
+ghost use Rattle.std.specs.Prelude.{◌≡◌, [], OnOk, OnErr, false, true};
+ghost use Rattle.indexes.specs.Contexts.{at_context, AddsAt, EndsAt, IsLast, IsSameAt, PutsLastAt};
+
+use crate::table::Table;
+use facts::Context;
+use std::alloc::{AllocError, Global};
+
+/// A list for each context.
+#[derive(Drop)]
+pub struct ByContext {
+    pub expressions: Table,
+    pub individuals: Table,
+}
+
+/// Whether the number is the last of the list.
+fn is_last(list: &[u32], number: u32) -> bool
+    ensures yes { result ≡ true → IsLast list.now number }
+    ensures no { result ≡ false → IsLast list.now number → ⊥ }
+{
+    list.ends_with(&[number])
+}
+
+impl ByContext {
+    /// No list has a number.
+    pub fn new(alloc: Global) -> Self
+        ensures expressions { result.expressions ≡ [] }
+        ensures individuals { result.individuals ≡ [] }
+    {
+        ByContext {
+            expressions: Table::new(alloc),
+            individuals: Table::new(alloc),
+        }
+    }
+
+    /// The list of a context.
+    pub fn of(&self, context: Context) -> &[u32]
+        ensures { result.now ≡ at_context self.now context }
+    {
+        match context {
+            Context::Expr(e) => self.expressions.of(e.0 as usize),
+            Context::Individual(a) => self.individuals.of(a.0 as usize),
+        }
+    }
+
+    /// Puts a number at the end of the list of a context. Fails where memory is refused; then each list is what it was.
+    fn put(&mut self, context: Context, number: u32) -> Result<(), AllocError>
+        ensures ok { OnOk result (AddsAt self.old self.new context number) }
+        ensures last { OnOk result (PutsLastAt self.old self.new context number) }
+        ensures err { OnErr result (IsSameAt self.old self.new) }
+    {
+        match context {
+            Context::Expr(e) => self.expressions.add(e.0 as usize, number)?,
+            Context::Individual(a) => self.individuals.add(a.0 as usize, number)?,
+        }
+        Ok(())
+    }
+
+    /// Adds a number at the end of the list of a context, unless it is the last there. Fails where memory is refused; then each
+    /// list is what it was.
+    pub fn add(&mut self, context: Context, number: u32) -> Result<(), AllocError>
+        ensures ok { OnOk result (AddsAt self.old self.new context number) }
+        ensures last { OnOk result (EndsAt self.old self.new context number) }
+        ensures err { OnErr result (IsSameAt self.old self.new) }
+    {
+        if is_last(self.of(context), number) {
+            return Ok(());
+        }
+        self.put(context, number)
+    }
+}

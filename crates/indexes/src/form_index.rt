@@ -1,0 +1,56 @@
+//! Lists of forms by key.
+ghost use Rattle.std.specs.Prelude.{◌≡◌, ◌≤◌, IfOk, [], length};
+ghost use Rattle.indexes.specs.Listed.{IsFormIndex};
+
+use crate::key_lists::KeyLists;
+use crate::roles::Role;
+use normal_forms::FormList;
+use std::alloc::{AllocError, Global};
+
+/// The numbers of forms, by key.
+#[derive(Drop)]
+pub(crate) struct FormIndex {
+    pub kinds: KeyLists,
+    pub alone: KeyLists,
+    pub first: KeyLists,
+    pub second: KeyLists,
+    pub fillers: KeyLists,
+    pub chains: KeyLists,
+    pub ends: KeyLists,
+    pub plain: KeyLists,
+}
+
+impl FormIndex {
+    /// Lists nothing.
+    pub fn new(alloc: Global) -> Self
+        ensures { IsFormIndex [] result }
+    {
+        FormIndex {
+            kinds: KeyLists::new(alloc),
+            alone: KeyLists::new(alloc),
+            first: KeyLists::new(alloc),
+            second: KeyLists::new(alloc),
+            fillers: KeyLists::new(alloc),
+            chains: KeyLists::new(alloc),
+            ends: KeyLists::new(alloc),
+            plain: KeyLists::new(alloc),
+        }
+    }
+
+    /// Lists all of the forms. Fails where memory is refused.
+    pub fn of(alloc: Global, forms: &FormList) -> Result<Self, AllocError>
+        requires { length forms.now ≤ u32.MAX }
+        ensures { IfOk result (λ index. IsFormIndex forms.now index) }
+    {
+        Ok(FormIndex {
+            kinds: KeyLists::from_forms(alloc, Role::Kind, forms)?,
+            alone: KeyLists::from_forms(alloc, Role::Alone, forms)?,
+            first: KeyLists::from_forms(alloc, Role::First, forms)?,
+            second: KeyLists::from_forms(alloc, Role::Second, forms)?,
+            fillers: KeyLists::from_forms(alloc, Role::Filler, forms)?,
+            chains: KeyLists::from_forms(alloc, Role::Chain, forms)?,
+            ends: KeyLists::from_forms(alloc, Role::End, forms)?,
+            plain: KeyLists::from_forms(alloc, Role::Plain, forms)?,
+        })
+    }
+}

@@ -1,0 +1,108 @@
+//! The index.
+ghost use Rattle.std.specs.Prelude.{◌≡◌, OnOk};
+ghost use Rattle.indexes.specs.Contexts.{at_context, IsEmptyIndex};
+ghost use Rattle.indexes.specs.Indexed.{MayList, Lists};
+
+use crate::by_context::ByContext;
+use facts::{Context, Fact};
+use std::alloc::{AllocError, Global};
+
+/// The numbers of facts, by context: classes in it, edges from it, edges into it, those of the edges from it that are seconds, and
+/// those of the classes in it that are fillers.
+#[derive(Drop)]
+pub struct Index {
+    classes: ByContext,
+    from: ByContext,
+    into: ByContext,
+    seconds: ByContext,
+    fillers: ByContext,
+}
+
+impl Index {
+    /// Lists nothing.
+    pub fn new(alloc: Global) -> Self
+        ensures { IsEmptyIndex result }
+    {
+        Index {
+            classes: ByContext::new(alloc),
+            from: ByContext::new(alloc),
+            into: ByContext::new(alloc),
+            seconds: ByContext::new(alloc),
+            fillers: ByContext::new(alloc),
+        }
+    }
+
+    /// Facts that put a class into the context.
+    pub fn classes_in(&self, context: Context) -> &[u32]
+        ensures { result.now ≡ at_context self.now.classes context }
+    {
+        self.classes.of(context)
+    }
+
+    /// Edges from the context.
+    pub fn edges_from(&self, context: Context) -> &[u32]
+        ensures { result.now ≡ at_context self.now.from context }
+    {
+        self.from.of(context)
+    }
+
+    /// Edges into the context.
+    pub fn edges_into(&self, context: Context) -> &[u32]
+        ensures { result.now ≡ at_context self.now.into context }
+    {
+        self.into.of(context)
+    }
+
+    /// Those edges from the context that were added as seconds.
+    pub fn seconds_from(&self, context: Context) -> &[u32]
+        ensures { result.now ≡ at_context self.now.seconds context }
+    {
+        self.seconds.of(context)
+    }
+
+    /// Those facts that put a class into the context that were added as fillers.
+    pub fn fillers_in(&self, context: Context) -> &[u32]
+        ensures { result.now ≡ at_context self.now.fillers context }
+    {
+        self.fillers.of(context)
+    }
+
+    /// Makes room for the classes in so many expressions more at once, where memory is to be had; else room is made as they come.
+    pub fn expect(&mut self, expressions: usize)
+        ensures { self.new ≡ self.old }
+    {
+        if self.classes.expressions.reserve(expressions).is_ok() {
+            return;
+        }
+    }
+
+    /// Lists a fact, once where it was the last to be listed; an edge among the seconds too, where it is one, and a class among the
+    /// fillers. Where memory is refused it may be listed in part.
+    pub fn add(
+        &mut self,
+        number: u32,
+        fact: Fact,
+        is_second: bool,
+        is_filler: bool,
+    ) -> Result<(), AllocError>
+        ensures may { MayList self.old self.new number fact is_second is_filler }
+        ensures ok { OnOk result (Lists self.new number fact is_second is_filler) }
+    {
+        match fact {
+            Fact::In(_, x) => {
+                self.classes.add(x, number)?;
+                if is_filler {
+                    self.fillers.add(x, number)?;
+                }
+            }
+            Fact::Edge(x, _, y) => {
+                self.from.add(x, number)?;
+                self.into.add(y, number)?;
+                if is_second {
+                    self.seconds.add(x, number)?;
+                }
+            }
+        }
+        Ok(())
+    }
+}

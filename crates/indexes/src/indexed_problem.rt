@@ -1,0 +1,171 @@
+//! A problem whose forms are found by key.
+ghost use Rattle.std.specs.Prelude.{◌≡◌, ◌↔◌, ◌++◌, [], ℕ, Contains, IfOk, slice_get};
+ghost use Rattle.indexes.specs.declared.keys.Key.TheVariants as keys;
+ghost use Rattle.indexes.specs.Named.{class_key, property_key, by_kind, by_alone, by_first, by_second, by_filler, by_chain, by_end, by_plain};
+ghost use Rattle.indexes.specs.Under.{IsUnder};
+
+use crate::form_index::FormIndex;
+use crate::keys::Key;
+use crate::named::{key_of_class, key_of_property};
+use facts::Context;
+use normal_forms::{Class2, Form, FormList, PropId2};
+use std::alloc::{AllocError, Global};
+use std::marker::Model;
+
+/// Normal forms, found by their classes and properties, and the contexts that are there from the start.
+#[derive(Drop)]
+pub struct IndexedProblem {
+    alloc: Global,
+    forms: FormList,
+    roots: Vec<Context>,
+    index: FormIndex,
+}
+
+impl Model for IndexedProblem {
+    ghost use Rattle.facts.specs.Closure.{Problem};
+    ghost use Rattle.indexes.specs.Listed.{IsFormIndex};
+
+    ghost Value = { Problem };
+
+    ghost view = { λ p. record { forms = p.forms; roots = p.roots.items } };
+
+    ghost invariant = { λ p. IsFormIndex p.forms p.index };
+}
+
+/// The contexts of the first list, and then those of the second.
+fn joined(alloc: Global, first: &[Context], second: &[Context]) -> Result<Vec<Context>, AllocError>
+    ensures { IfOk result (λ all. all.items ≡ first.now ++ second.now) }
+{
+    let mut all = Vec::new(alloc);
+    all.extend_from_slice(first)?;
+    all.extend_from_slice(second)?;
+    Ok(all)
+}
+
+impl IndexedProblem {
+    /// No forms and no contexts.
+    pub fn empty(alloc: Global) -> Self
+        ensures forms { result.forms ≡ [] }
+        ensures roots { result.roots ≡ [] }
+    {
+        IndexedProblem {
+            alloc,
+            forms: FormList::new(alloc),
+            roots: Vec::new(alloc),
+            index: FormIndex::new(alloc),
+        }
+    }
+
+    /// The problem with these forms and contexts behind its own; the problem itself stays. Fails where memory is refused, and where
+    /// there would be 2^32 forms.
+    pub fn grown(&self, forms: &FormList, roots: &[Context]) -> Result<Self, AllocError>
+        ensures forms { IfOk result (λ p. p.forms ≡ self.now.forms ++ forms.now) }
+        ensures roots { IfOk result (λ p. p.roots ≡ self.now.roots ++ roots.now) }
+    {
+        let forms = self.forms.joined(forms)?;
+        let roots = joined(self.alloc, &self.roots, roots)?;
+        IndexedProblem::new(self.alloc, forms, roots)
+    }
+
+    /// The problem of these forms, of which there are fewer than 2^32, and roots. Fails where memory is refused.
+    pub fn new(alloc: Global, forms: FormList, roots: Vec<Context>) -> Result<Self, AllocError>
+        ensures forms { IfOk result (λ p. p.forms ≡ forms) }
+        ensures roots { IfOk result (λ p. p.roots ≡ roots.items) }
+    {
+        if forms.len() > u32::MAX as usize {
+            return Err(AllocError);
+        }
+        let index = FormIndex::of(alloc, &forms)?;
+        Ok(IndexedProblem {
+            alloc,
+            forms,
+            roots,
+            index,
+        })
+    }
+
+    /// The forms.
+    pub fn forms(&self) -> &FormList
+        ensures { result.now ≡ self.now.forms }
+    {
+        &self.forms
+    }
+
+    /// The form of that number, if there is one.
+    #[inline(always)]
+    pub fn form(&self, number: u32) -> Option<Form>
+        ensures { result ≡ slice_get self.now.forms number }
+    {
+        self.forms.get(number as usize)
+    }
+
+    /// The contexts that are there from the start.
+    pub fn roots(&self) -> &[Context]
+        ensures { result.now ≡ self.now.roots }
+    {
+        &self.roots
+    }
+
+    /// The forms that give a fact from none.
+    pub fn given(&self) -> &[u32]
+        ensures { (n : ℕ) → Contains result.now n ↔ IsUnder by_kind self.now.forms (keys.Whole 0) n }
+    {
+        self.index.kinds.of(Key::Whole(0))
+    }
+
+    /// The forms that make a property reflexive.
+    pub fn reflexive(&self) -> &[u32]
+        ensures { (n : ℕ) → Contains result.now n ↔ IsUnder by_kind self.now.forms (keys.Whole 1) n }
+    {
+        self.index.kinds.of(Key::Whole(1))
+    }
+
+    /// The forms that need that class alone.
+    pub fn alone(&self, class: Class2) -> &[u32]
+        ensures { (n : ℕ) → Contains result.now n ↔ IsUnder by_alone self.now.forms (class_key class) n }
+    {
+        self.index.alone.of(key_of_class(class))
+    }
+
+    /// The intersections of that first class.
+    pub fn first(&self, class: Class2) -> &[u32]
+        ensures { (n : ℕ) → Contains result.now n ↔ IsUnder by_first self.now.forms (class_key class) n }
+    {
+        self.index.first.of(key_of_class(class))
+    }
+
+    /// The intersections of that second class.
+    pub fn second(&self, class: Class2) -> &[u32]
+        ensures { (n : ℕ) → Contains result.now n ↔ IsUnder by_second self.now.forms (class_key class) n }
+    {
+        self.index.second.of(key_of_class(class))
+    }
+
+    /// The restrictions that need that class at the target of an edge.
+    pub fn with_filler(&self, class: Class2) -> &[u32]
+        ensures { (n : ℕ) → Contains result.now n ↔ IsUnder by_filler self.now.forms (class_key class) n }
+    {
+        self.index.fillers.of(key_of_class(class))
+    }
+
+    /// The chains that begin with that property.
+    pub fn chains_from(&self, property: PropId2) -> &[u32]
+        ensures { (n : ℕ) → Contains result.now n ↔ IsUnder by_chain self.now.forms (property_key property) n }
+    {
+        self.index.chains.of(key_of_property(property))
+    }
+
+    /// The chains that end with that property.
+    pub fn chains_to(&self, property: PropId2) -> &[u32]
+        ensures { (n : ℕ) → Contains result.now n ↔ IsUnder by_end self.now.forms (property_key property) n }
+    {
+        self.index.ends.of(key_of_property(property))
+    }
+
+    /// The forms that put that property below another, and no chain.
+    pub fn plain_from(&self, property: PropId2) -> &[u32]
+        ensures { (n : ℕ) → Contains result.now n ↔ IsUnder by_plain self.now.forms (property_key property) n }
+    {
+        self.index.plain.of(key_of_property(property))
+    }
+}

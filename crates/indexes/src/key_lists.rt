@@ -1,0 +1,52 @@
+//! Lists of the numbers of forms, by keys of two kinds.
+ghost use Rattle.std.specs.Prelude.{◌≡◌, ◌≤◌, IfOk, length};
+ghost use Rattle.indexes.specs.Listed.{at_key, ListsForms, ListsNothing};
+ghost use Rattle.indexes.specs.Roles.{key_by};
+
+use crate::key_pairs::KeyPairs;
+use crate::keys::Key;
+use crate::lists::Lists;
+use crate::roles::Role;
+use normal_forms::FormList;
+use std::alloc::{AllocError, Global};
+
+/// A list for each key.
+#[derive(Drop)]
+pub(crate) struct KeyLists {
+    pub wholes: Lists,
+    pub partials: Lists,
+}
+
+impl KeyLists {
+    /// No list has a number.
+    pub fn new(alloc: Global) -> Self
+        ensures { ListsNothing result }
+    {
+        KeyLists {
+            wholes: Lists::new(alloc),
+            partials: Lists::new(alloc),
+        }
+    }
+
+    /// Lists the forms by the key that each has in that role. Fails where memory is refused.
+    pub fn from_forms(alloc: Global, role: Role, forms: &FormList) -> Result<Self, AllocError>
+        requires { length forms.now ≤ u32.MAX }
+        ensures { IfOk result (λ lists. ListsForms (key_by role) forms.now lists) }
+    {
+        let KeyPairs { wholes, partials } = KeyPairs::of(alloc, role, forms)?;
+        Ok(KeyLists {
+            wholes: Lists::from_pairs(alloc, wholes)?,
+            partials: Lists::from_pairs(alloc, partials)?,
+        })
+    }
+
+    /// The list of the key.
+    pub fn of(&self, key: Key) -> &[u32]
+        ensures { result.now ≡ at_key self.now key }
+    {
+        match key {
+            Key::Whole(number) => self.wholes.of(number),
+            Key::Partial(number) => self.partials.of(number),
+        }
+    }
+}

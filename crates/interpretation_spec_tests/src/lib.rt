@@ -1,7 +1,0 @@
-//! Tests of rows and interpretations.
-#![tactic(auto)]
-
-#[cfg(test)]
-mod lengths;
-#[cfg(test)]
-mod tests;

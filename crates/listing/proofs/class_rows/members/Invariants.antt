@@ -1,5 +1,0 @@
-use Rattle.listing.proofs.Members.{HasPut}
-use Rattle.listing.proofs.class_rows.members.Given as goal
-
-abbrev pub invariant-loop-fact : goal.invariant-loop-fact
-invariant-loop-fact l = HasPut l.ontology l.elements l.facts l.fact-index l.lists

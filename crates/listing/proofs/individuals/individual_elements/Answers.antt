@@ -1,8 +1,0 @@
-use Rattle.std.proofs.Common.{arith}
-use Rattle.listing.proofs.FirstIndividuals.{individual_there}
-use Rattle.listing.proofs.individuals.individual_elements.Goals as goal
-
-pub unreachable-requires : goal.unreachable-requires
-unreachable-requires c =
-    let there = individual_there c.args.ontology.now c.args.elements.now c.requires.elements c.requires.consistent c.loop-number.number (omega (arith, c.individuals-number-end.ensures.count, c.loop-number-test.true)) in
-    c.in_default.ensures there.0 there.1

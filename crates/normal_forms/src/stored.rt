@@ -1,0 +1,157 @@
+//! Normal forms as they are kept.
+ghost use Rattle.normal_forms.specs.Stored.{class_from, form_of, form_from, property_from};
+ghost use Rattle.std.specs.Prelude.{◌≡◌};
+
+use crate::forms::{Class2, Form, PropId2};
+use axioms::{ExprId, IndId, PropId};
+
+/// Which of the nine normal forms it is.
+#[derive(Clone, Copy, Debug, PartialEq, Eq)]
+pub enum Kind {
+    N1,
+    N2,
+    N3,
+    N4,
+    N5,
+    N6,
+    N7,
+    N8,
+    N9,
+}
+
+/// A normal form in 16 bytes: up to three numbers, in the order in which the form names them, and of each whether it is that of a fresh
+/// name.
+#[derive(Clone, Copy, Debug)]
+pub struct StoredForm {
+    kind: Kind,
+    first_is_partial: bool,
+    second_is_partial: bool,
+    third_is_partial: bool,
+    first: u32,
+    second: u32,
+    third: u32,
+}
+
+const _: () = prove!(size_of::<StoredForm>() == 16);
+
+/// Whether the class is a partial one, and its number.
+#[inline(always)]
+fn class_parts(class: Class2) -> (bool, u32)
+    ensures { class_from result.0 result.1 ≡ class }
+{
+    match class {
+        Class2::Expr(ExprId(number)) => (false, number),
+        Class2::Partial(number) => (true, number),
+    }
+}
+
+/// Whether the property is a partial one, and its number.
+#[inline(always)]
+fn property_parts(property: PropId2) -> (bool, u32)
+    ensures { property_from result.0 result.1 ≡ property }
+{
+    match property {
+        PropId2::Property(PropId(number)) => (false, number),
+        PropId2::Partial(number) => (true, number),
+    }
+}
+
+/// The class of that kind and number.
+#[inline(always)]
+fn class_from(is_partial: bool, number: u32) -> Class2
+    ensures { result ≡ class_from is_partial number }
+{
+    if is_partial {
+        Class2::Partial(number)
+    } else {
+        Class2::Expr(ExprId(number))
+    }
+}
+
+/// The property of that kind and number.
+#[inline(always)]
+fn property_from(is_partial: bool, number: u32) -> PropId2
+    ensures { result ≡ property_from is_partial number }
+{
+    if is_partial {
+        PropId2::Partial(number)
+    } else {
+        PropId2::Property(PropId(number))
+    }
+}
+
+/// Numbers that none is said to be partial of, for what a form does not name.
+const NONE: (bool, u32) = (false, 0);
+
+impl StoredForm {
+    /// The form of that kind that names these, each with whether it is partial.
+    #[inline(always)]
+    fn of(kind: Kind, first: (bool, u32), second: (bool, u32), third: (bool, u32)) -> StoredForm
+        ensures { form_of result ≡ form_from kind first.0 first.1 second.0 second.1 third.0 third.1 }
+    {
+        StoredForm {
+            kind,
+            first_is_partial: first.0,
+            second_is_partial: second.0,
+            third_is_partial: third.0,
+            first: first.1,
+            second: second.1,
+            third: third.1,
+        }
+    }
+
+    /// The form, to be kept.
+    pub fn new(form: Form) -> StoredForm
+        ensures { form_of result ≡ form }
+    {
+        match form {
+            Form::N1(a, b) => StoredForm::of(Kind::N1, class_parts(a), class_parts(b), NONE),
+            Form::N2(a, b, c) => {
+                StoredForm::of(Kind::N2, class_parts(a), class_parts(b), class_parts(c))
+            }
+            Form::N3(a, r, b) => {
+                StoredForm::of(Kind::N3, class_parts(a), (false, r.0), (false, b.0))
+            }
+            Form::N4(r, a, b) => {
+                StoredForm::of(Kind::N4, (false, r.0), class_parts(a), class_parts(b))
+            }
+            Form::N5(r, s) => StoredForm::of(Kind::N5, (false, r.0), (false, s.0), NONE),
+            Form::N6(r, s, t) => StoredForm::of(
+                Kind::N6,
+                property_parts(r),
+                property_parts(s),
+                property_parts(t),
+            ),
+            Form::N7(r) => StoredForm::of(Kind::N7, (false, r.0), NONE, NONE),
+            Form::N8(a, b) => StoredForm::of(Kind::N8, (false, a.0), class_parts(b), NONE),
+            Form::N9(a, r, b) => {
+                StoredForm::of(Kind::N9, (false, a.0), (false, r.0), (false, b.0))
+            }
+        }
+    }
+
+    /// The form.
+    pub fn get(&self) -> Form
+        ensures { result ≡ form_of self.now }
+    {
+        let (first, second, third) = (self.first, self.second, self.third);
+        let first_class = class_from(self.first_is_partial, first);
+        let second_class = class_from(self.second_is_partial, second);
+        let third_class = class_from(self.third_is_partial, third);
+        match self.kind {
+            Kind::N1 => Form::N1(first_class, second_class),
+            Kind::N2 => Form::N2(first_class, second_class, third_class),
+            Kind::N3 => Form::N3(first_class, PropId(second), ExprId(third)),
+            Kind::N4 => Form::N4(PropId(first), second_class, third_class),
+            Kind::N5 => Form::N5(PropId(first), PropId(second)),
+            Kind::N6 => Form::N6(
+                property_from(self.first_is_partial, first),
+                property_from(self.second_is_partial, second),
+                property_from(self.third_is_partial, third),
+            ),
+            Kind::N7 => Form::N7(PropId(first)),
+            Kind::N8 => Form::N8(IndId(first), second_class),
+            Kind::N9 => Form::N9(IndId(first), PropId(second), IndId(third)),
+        }
+    }
+}

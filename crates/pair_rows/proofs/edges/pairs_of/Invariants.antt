@@ -1,7 +1,0 @@
-use Rattle.std.proofs.Common.{◌↔◌, Contains, take}
-use Rattle.pair_rows.specs.declared.pair.Pair.{Pair}
-use Rattle.pair_rows.specs.Edges.{IsGiven}
-use Rattle.pair_rows.proofs.edges.pairs_of.Given as goal
-
-abbrev pub invariant-loop-fact : goal.invariant-loop-fact
-invariant-loop-fact l = (p : Pair) → Contains l.pairs.items p ↔ IsGiven l.closure l.elements (take l.fact-index l.facts) p

@@ -1,4 +1,0 @@
-pub mod Rows
-pub mod Pairs
-pub mod Edges
-pub mod RowTexts

@@ -1,5 +1,0 @@
-use Rattle.problem.specs.Roots.{AddsThose, IsNamedBelow}
-use Rattle.problem.proofs.starting.push_classes.Given as goal
-
-abbrev pub invariant-loop-number : goal.invariant-loop-number
-invariant-loop-number l = AddsThose (IsNamedBelow l.ontology l.number) l.initial.roots.items l.roots.items

@@ -1,5 +1,0 @@
-use Rattle.problem.specs.Roots.{AddsThose, IsIndividualBelow}
-use Rattle.problem.proofs.starting.push_individuals.Given as goal
-
-abbrev pub invariant-loop-number : goal.invariant-loop-number
-invariant-loop-number l = AddsThose (IsIndividualBelow l.number) l.initial.roots.items l.roots.items

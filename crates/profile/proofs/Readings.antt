@@ -1,0 +1,65 @@
+-- What a document reads as, from what its parts are.
+use Rattle.std.proofs.Common.{◌≡◌, ℕ, ◌++◌, ◌≤◌, List, length, Some, None, Option, Result, Ok, Err, IfOk, IfErr, sym, ap, ◌∙◌, subst, arith}
+use Rattle.std.proofs.lemmas.List.{append-nil}
+use Rattle.std.specs.Io.KnownBytes.{Consumes, IsAtEnd}
+use Rattle.std.specs.Str.{IsUtf8}
+use Rattle.axioms.specs.Numbered.{Ontology}
+use Rattle.fs_lexer.specs.Spelling.{Token, Spells}
+use Rattle.fs_parser.specs.Document.{Document, IsDocument}
+use Rattle.fs_parser.specs.Faults.{IsPlaced}
+use Rattle.fs_parser.specs.State as parser
+use Rattle.fs_parser.specs.declared.fault.ParseFault.{ParseFault}
+use Rattle.fs_parser.specs.declared.fault.ParseFault.TheVariants as parsing
+use Rattle.profile.specs.declared.fault.DocumentFault.{DocumentFault}
+use Rattle.profile.specs.declared.fault.DocumentFault.TheVariants as faults
+use Rattle.profile.specs.Documents.{ReadsAs}
+use Rattle.profile.specs.Faults.{AreNoDocument, Refuses, RefusesKnown, of_parsing}
+use Rattle.profile.proofs.Bounds.{axioms_take_bytes}
+
+module _ (text : List ℕ) (tokens : List Token) (utf8 : IsUtf8 text) (spelled : Spells text tokens) where
+  -- tokens that are no document
+  no_document :
+      (f : ParseFault) → parser.IsRefusal f → (parser.IsRefusal f → (d : Document) → IsDocument d tokens → ⊥) → IsPlaced tokens f → AreNoDocument text f
+  no_document f refusal none placed =
+      record { refusal = refusal; utf8 = utf8; tokens = tokens; spelled = spelled; none = none refusal; placed = placed }
+
+  pub parse_fault : (f : ParseFault) → (parser.IsRefusal f → (d : Document) → IsDocument d tokens → ⊥) → IsPlaced tokens f → Refuses (of_parsing f) text
+  parse_fault (parsing.Unexpected at) none placed = no_document (parsing.Unexpected at) tt none placed
+  parse_fault (parsing.UnexpectedEnd at) none placed = no_document (parsing.UnexpectedEnd at) tt none placed
+  parse_fault (parsing.UnknownPrefix at) none placed = no_document (parsing.UnknownPrefix at) tt none placed
+  parse_fault (parsing.PrefixTwice at) none placed = no_document (parsing.PrefixTwice at) tt none placed
+  parse_fault (parsing.StandardPrefixChanged at) none placed = no_document (parsing.StandardPrefixChanged at) tt none placed
+  parse_fault (parsing.TooDeep at) none placed = no_document (parsing.TooDeep at) tt none placed
+  parse_fault parsing.Memory none placed = tt
+
+-- a document has room for its axioms
+pub axioms_fit : (r : Result Ontology DocumentFault) (text bytes : List ℕ) → text ≡ bytes → IfOk r (ReadsAs text) → IfOk r (λ o. length o.axioms ≤ length bytes)
+axioms_fit (Err e) text bytes same h = tt
+axioms_fit (Ok o) text bytes same h = omega (arith, axioms_take_bytes text o h, ap length same)
+
+-- ---- all the bytes of a source
+
+not_read : (xs : List ℕ) (most : ℕ) (e : DocumentFault) → Refuses e xs → length xs ≤ most → RefusesKnown (Some xs) most e
+not_read xs most (faults.NotUtf8 at) h fit = (h, fit)
+not_read xs most (faults.Lex f) h fit = (h, fit)
+not_read xs most (faults.Parse f) h fit = (h, fit)
+not_read xs most (faults.Faults found) h fit = (h, fit)
+not_read xs most faults.TooManyNames h fit = (h, fit)
+not_read xs most faults.Memory h fit = tt
+not_read xs most faults.TooLarge h fit = absurd h
+not_read xs most faults.Io h fit = absurd h
+
+known_refused :
+    (left rest : Option (List ℕ)) (bytes : List ℕ) (most : ℕ) (e : DocumentFault) → Consumes left rest bytes → IsAtEnd rest → Refuses e bytes → length bytes ≤ most → RefusesKnown left most e
+known_refused None rest bytes most e all end h fit = tt
+known_refused (Some xs) None bytes most e all end h fit = absurd all
+known_refused (Some xs) (Some ys) bytes most e all end h fit =
+    let same : bytes ≡ xs = sym (all ∙ ap (λ zs. bytes ++ zs) end ∙ append-nil bytes) in
+    let P : List ℕ → Type 0 = Refuses e in not_read xs most e (subst P same h) (omega (arith, ap length same, fit))
+
+pub answer_refused :
+    (r : Result Ontology DocumentFault) (left rest : Option (List ℕ)) (bytes text : List ℕ) (most : ℕ) → Consumes left rest bytes → IsAtEnd rest → length bytes ≤ most → text ≡ bytes →
+    IfErr r (λ e. Refuses e text) → IfErr r (RefusesKnown left most)
+answer_refused (Ok o) left rest bytes text most all end fit same h = tt
+answer_refused (Err e) left rest bytes text most all end fit same h =
+    let P : List ℕ → Type 0 = Refuses e in known_refused left rest bytes most e all end (subst P same h) fit

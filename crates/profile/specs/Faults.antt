@@ -1,0 +1,95 @@
+-- What a fault says of a document.
+use Rattle.std.specs.Prelude.{◌≡◌, List, [], ℕ, ◌<◌, ◌≤◌, length, Option, Some, None}
+use Rattle.std.specs.Str.{IsUtf8, IsValidUpTo}
+use Rattle.axioms.specs.Numbered.{Ontology}
+use Rattle.fs_lexer.specs.Faults as lexer
+use Rattle.fs_lexer.specs.Spelling.{Token, Spells}
+use Rattle.fs_lexer.specs.declared.token.LexFault.{LexFault}
+use Rattle.fs_lexer.specs.declared.token.LexFault.TheVariants as lexing
+use Rattle.fs_parser.specs.Document.{Document, IsDocument}
+use Rattle.fs_parser.specs.Faults as parser
+use Rattle.fs_parser.specs.State as parser_state
+use Rattle.fs_parser.specs.declared.fault.ParseFault.{ParseFault}
+use Rattle.fs_parser.specs.declared.fault.ParseFault.TheVariants as parsing
+use Rattle.profile.specs.Reading.{HaveTooManyNames}
+use Rattle.profile.specs.declared.acceptance.Refusal.{Refusal}
+use Rattle.profile.specs.declared.acceptance.Refusal.TheVariants as refusing
+use Rattle.shapes.specs.Faults.{document_faults}
+use Rattle.shapes.specs.View.{faults_of}
+use Rattle.shapes.specs.declared.fault.Fault.{Fault}
+use Rattle.shapes.specs.declared.version.Version.TheVariants.{One}
+use Rattle.profile.specs.Statements.{statements}
+use Rattle.profile.specs.declared.fault.DocumentFault.{DocumentFault}
+use Rattle.profile.specs.declared.fault.DocumentFault.TheVariants.{NotUtf8, TooLarge, Io, Lex, Parse, Faults, TooManyNames, Memory}
+use Rattle.profile.specs.Documents.{AreTextOf, ReadsAs}
+
+-- the faults of the parts as faults of the whole: a refused growth is one thing everywhere
+abbrev pub of_lexing : LexFault → DocumentFault
+of_lexing lexing.Memory = Memory
+of_lexing fault = Lex fault
+
+abbrev pub of_parsing : ParseFault → DocumentFault
+of_parsing parsing.Memory = Memory
+of_parsing fault = Parse fault
+
+abbrev pub of_refusal : Refusal → DocumentFault
+of_refusal (refusing.Faults found) = Faults found
+of_refusal refusing.TooManyNames = TooManyNames
+of_refusal refusing.Memory = Memory
+
+-- the bytes read as no ontology
+abbrev pub ReadAsNone : List ℕ → Type 0
+ReadAsNone bytes = (o : Ontology) → ReadsAs bytes o → ⊥
+
+-- the bytes are a text that spells no tokens, and what the fault says of its place holds
+pub record SpellNoTokens (bytes : List ℕ) (fault : LexFault) : Type 0 where
+  pub refusal : lexer.IsRefusal fault
+  pub utf8 : IsUtf8 bytes
+  pub none : (tokens : List Token) → Spells bytes tokens → ⊥
+  pub placed : lexer.IsPlaced bytes fault
+
+-- the bytes are a text whose tokens are no document, and what the fault says of its place holds
+pub record AreNoDocument (bytes : List ℕ) (fault : ParseFault) : Type 0 where
+  pub refusal : parser_state.IsRefusal fault
+  pub utf8 : IsUtf8 bytes
+  pub tokens : List Token
+  pub spelled : Spells bytes tokens
+  pub none : (document : Document) → IsDocument document tokens → ⊥
+  pub placed : parser.IsPlaced tokens fault
+
+-- the bytes are the text of a document, and these are all its faults, in the order of the text
+pub record HaveFaults (bytes : List ℕ) (found : List Fault) : Type 0 where
+  pub document : Document
+  pub text : AreTextOf bytes document
+  pub all : document_faults One document.trees ≡ faults_of found
+  pub some : ¬ (found ≡ [])
+
+-- the bytes are the text of a document without faults, whose statements have of a kind more names than there may be
+pub record StateTooManyNames (bytes : List ℕ) : Type 0 where
+  pub document : Document
+  pub text : AreTextOf bytes document
+  pub faultless : document_faults One document.trees ≡ []
+  pub many : HaveTooManyNames (statements One document.trees)
+
+-- what the fault says of the bytes
+abbrev pub Refuses : DocumentFault → List ℕ → Type 0
+Refuses (NotUtf8 at) bytes = ¬ IsUtf8 bytes × IsValidUpTo bytes at
+Refuses (Lex fault) bytes = SpellNoTokens bytes fault
+Refuses (Parse fault) bytes = AreNoDocument bytes fault
+Refuses (Faults found) bytes = HaveFaults bytes found.items
+Refuses TooManyNames bytes = StateTooManyNames bytes
+Refuses Memory bytes = Unit {0}
+Refuses TooLarge bytes = ⊥
+Refuses Io bytes = ⊥
+
+-- what an answer says of the bytes of a source that tells them, where at most so many are allowed
+abbrev pub ReadsKnown : Option (List ℕ) → ℕ → Ontology → Type 0
+ReadsKnown None most o = Unit {0}
+ReadsKnown (Some bytes) most o = ReadsAs bytes o × (length bytes ≤ most)
+
+abbrev pub RefusesKnown : Option (List ℕ) → ℕ → DocumentFault → Type 0
+RefusesKnown None most e = Unit {0}
+RefusesKnown (Some bytes) most TooLarge = most < length bytes
+RefusesKnown (Some bytes) most Io = Unit {0}
+RefusesKnown (Some bytes) most Memory = Unit {0}
+RefusesKnown (Some bytes) most e = Refuses e bytes × (length bytes ≤ most)

@@ -1,0 +1,125 @@
+//! From bytes to an ontology.
+ghost use Rattle.device.specs.Device.{HasFailed, LosesFront};
+ghost use Rattle.profile.specs.Documents.{AreTextOf, IsTaken, ReadsAs};
+ghost use Rattle.profile.specs.Faults.{ReadsKnown, Refuses, RefusesKnown};
+ghost use Rattle.std.specs.Io.KnownBytes.{IsAtEnd};
+ghost use Rattle.fs_parser.specs.View.{document_of};
+ghost use Rattle.std.specs.Prelude.{◌≡◌, ◌≤◌, IfErr, IfOk, IsErrOf, OnOk, length};
+
+use crate::acceptance::accept;
+use crate::fault::DocumentFault;
+use crate::streamed::streamed;
+use axioms::Ontology;
+use device::{ReadFault, Source, read_all};
+use fs_lexer::tokens;
+use fs_parser::{Document, forms};
+use program::Limits;
+use shapes::Version;
+use std::alloc::Global;
+use std::hash::RandomState;
+use std::str;
+
+/// The document that a text is, by the list of its tokens, which are gone when its trees are there.
+fn listed_document<'a>(alloc: Global, text: &'a str) -> Result<Document<'a>, DocumentFault>
+    ensures written { IfOk result (λ d. AreTextOf text.now (document_of d)) }
+    ensures refused { IfErr result (λ e. Refuses e text.now) }
+{
+    let tokens = match tokens(alloc, text) {
+        Ok(tokens) => tokens,
+        Err(fault) => return Err(DocumentFault::from(fault)),
+    };
+    match forms(alloc, &tokens) {
+        Ok(document) => Ok(document),
+        Err(fault) => Err(DocumentFault::from(fault)),
+    }
+}
+
+/// The ontology that a text reads as, by the document with all its trees.
+fn listed_text(alloc: Global, text: &str, state: RandomState) -> Result<Ontology, DocumentFault>
+    ensures read { IfOk result (ReadsAs text.now) }
+    ensures taken { IfOk result IsTaken }
+    ensures refused { IfErr result (λ e. Refuses e text.now) }
+{
+    let document = match listed_document(alloc, text) {
+        Ok(document) => document,
+        Err(fault) => return Err(fault),
+    };
+    match accept(alloc, &document, Version::One, state) {
+        Ok(ontology) => {
+            ontology.well_formed();
+            Ok(ontology)
+        }
+        Err(refusal) => Err(DocumentFault::from(refusal)),
+    }
+}
+
+/// The ontology that a text reads as. Its trees are read one by one; the lists of all tokens and of all trees are made only where
+/// it is no document, for the fault.
+fn read_text(alloc: Global, text: &str, state: RandomState) -> Result<Ontology, DocumentFault>
+    ensures read { IfOk result (ReadsAs text.now) }
+    ensures taken { IfOk result IsTaken }
+    ensures refused { IfErr result (λ e. Refuses e text.now) }
+{
+    match streamed(alloc, text, state) {
+        Some(answer) => answer,
+        None => listed_text(alloc, text, state),
+    }
+}
+
+/// The ontology that the bytes of a document read as.
+///
+/// # Errors
+///
+/// `NotUtf8`, `Lex` or `Parse` where the bytes are no document; `Faults`, with every one in the order of the text, where the
+/// document is not of the profile; `TooManyNames` where it is, and has of a kind more than 1,000,000 names; `Memory` where
+/// memory was refused before the answer was there.
+pub fn read_bytes(
+    alloc: Global,
+    bytes: &[u8],
+    state: RandomState,
+) -> Result<Ontology, DocumentFault>
+    ensures read { IfOk result (ReadsAs bytes.now) }
+    ensures taken { IfOk result IsTaken }
+    ensures axioms { IfOk result (λ o. length o.axioms ≤ length bytes.now) }
+    ensures refused { IfErr result (λ e. Refuses e bytes.now) }
+{
+    match str::from_utf8(bytes) {
+        Ok(text) => read_text(alloc, text, state),
+        Err(error) => Err(DocumentFault::NotUtf8 {
+            at: error.valid_up_to(),
+        }),
+    }
+}
+
+/// The ontology of the document that the source gives, within the limit of bytes.
+///
+/// What was read of the source by then is lost where the answer is a fault.
+///
+/// # Errors
+///
+/// `TooLarge` where there are more bytes than the limit, `Io` where the source failed in this call, and those of `read_bytes`.
+pub fn read_document<S: Source>(
+    alloc: Global,
+    source: &mut S,
+    limits: &Limits,
+    state: RandomState,
+) -> Result<Ontology, DocumentFault>
+    // The source's bytes read as this ontology; or they are refused, or too many, or the source failed in this call.
+    ensures read { IfOk result (ReadsKnown (S.left source.old) limits.now.max_bytes) }
+    ensures taken { IfOk result IsTaken }
+    ensures axioms { IfOk result (λ o. length o.axioms ≤ limits.now.max_bytes) }
+    ensures refused { IfErr result (RefusesKnown (S.left source.old) limits.now.max_bytes) }
+    // What was read of the source, and whether a read failed.
+    ensures end { OnOk result (IsAtEnd (S.left source.new)) }
+    ensures lost { LosesFront (S.left source.old) (S.left source.new) (S.most source.old) (S.most source.new) }
+    ensures unfailed { ¬ IsErrOf result DocumentFault.Io → S.failures source.new ≡ S.failures source.old }
+    ensures failed { IsErrOf result DocumentFault.Io → HasFailed (S.failures source.old) (S.failures source.new) }
+{
+    let most = limits.max_bytes as usize;
+    match read_all(alloc, source, most) {
+        Ok(bytes) => read_bytes(alloc, &bytes, state),
+        Err(ReadFault::TooLarge) => Err(DocumentFault::TooLarge),
+        Err(ReadFault::Failed) => Err(DocumentFault::Io),
+        Err(ReadFault::Memory) => Err(DocumentFault::Memory),
+    }
+}

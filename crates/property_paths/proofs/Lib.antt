@@ -1,4 +1,0 @@
-pub mod Places
-pub mod Telling
-pub mod Searching
-pub mod Walking

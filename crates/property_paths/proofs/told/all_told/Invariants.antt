@@ -1,9 +1,0 @@
-use Rattle.std.proofs.Common.{◌≡◌, length}
-use Rattle.property_paths.proofs.Telling.{AreToldBefore}
-use Rattle.property_paths.proofs.told.all_told.Given as goal
-
-abbrev pub invariant-loop-number : goal.invariant-loop-number
-invariant-loop-number l = record {
-  long : length l.told ≡ l.properties;
-  exact : AreToldBefore l.number l.forms l.told;
-}

@@ -1,6 +1,0 @@
-use Rattle.std.proofs.Common.{ℕ, ◌<◌}
-use Rattle.property_paths.specs.Search.{StandsAt}
-use Rattle.property_paths.proofs.walk.place_of.Given as goal
-
-abbrev pub invariant-loop-place : goal.invariant-loop-place
-invariant-loop-place l = (k : ℕ) → k < l.place → StandsAt l.reached l.property k → ⊥

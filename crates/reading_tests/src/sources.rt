@@ -1,0 +1,157 @@
+//! The document of one subclass axiom, and documents that are refused.
+
+use axioms::{Axiom, ExprId, OWL_NOTHING, OWL_THING, Ontology};
+use device::{Failed, SliceSource, Source};
+use profile::{
+    DocumentFault, Limits, MOST_BYTES, MOST_FACTS, axioms_take_bytes, one_ontology_is_read,
+    read_bytes, read_document, refused_bytes_read_as_none,
+};
+use std::hash::RandomState;
+use std::process::Abort;
+use std::random::RandomSource;
+use std::test::Fail;
+
+const ONE_SUBCLASS: &[u8] = b"Ontology(SubClassOf(<x:A> <x:B>))";
+
+/// The ontology has the classes A and B, and the one axiom is SubClassOf(A B).
+fn assert_one_subclass<R: Abort>(rt: &R, ontology: &Ontology) {
+    for (number, iri) in [OWL_THING, OWL_NOTHING, "x:A", "x:B"].iter().enumerate() {
+        assert_eq!(rt;
+            ontology.classes().get(number).map(String::as_str),
+            Some(*iri)
+        );
+    }
+    assert_eq!(rt; ontology.classes().len(), 4);
+    assert_eq!(rt;
+        ontology.axioms(),
+        [Axiom::SubClass(ExprId(2), ExprId(3))].as_slice()
+    );
+}
+
+/// What reading the bytes of a document gives, where so many are allowed.
+fn read_within<R: AllocGlobal + RandomSource>(
+    rt: &R,
+    bytes: &[u8],
+    max_bytes: u64,
+) -> Result<Result<Ontology, DocumentFault>, Fail> {
+    let limits = Limits::new(max_bytes, 1).ok_or("limits")?;
+    let mut source = SliceSource::new(bytes);
+    Ok(read_document(rt.alloc(), &mut source, &limits, RandomState::new(rt)?))
+}
+
+/// Whether reading the bytes of a document gives the fault that is printed so.
+fn is_refused<R: AllocGlobal + RandomSource>(
+    rt: &R,
+    bytes: &[u8],
+    max_bytes: u64,
+    printed: &str,
+) -> Result<bool, Fail> {
+    match read_within(rt, bytes, max_bytes)? {
+        Ok(_) => Ok(false),
+        Err(fault) => Ok(format!(in rt.alloc(); "{fault}")?.as_str() == printed),
+    }
+}
+
+/// A source that gives at most seven bytes a read, and fails after some reads.
+#[derive(Drop)]
+struct FailingSource<'a> {
+    inner: SliceSource<'a>,
+    reads: usize,
+    failures: u64,
+}
+
+impl<'a> Source for FailingSource<'a> {
+    ghost use Rattle.std.specs.Prelude.{Some, length};
+
+    ghost left = { λ s. Some s.inner };
+
+    ghost failures = { λ s. s.failures };
+
+    ghost most = { λ s. length s.inner };
+
+    fn read(&mut self, buffer: &mut [u8]) -> Result<usize, Failed> {
+        let n = buffer.len().min(7);
+        if self.reads > 0 {
+            if let Ok(n) = self.inner.read(&mut buffer[..n]) {
+                self.reads -= 1;
+                return Ok(n);
+            }
+        }
+        self.failures = self.failures.saturating_add(1);
+        Err(Failed)
+    }
+}
+
+#[test]
+fn one_subclass(rt: HostRuntime) -> Result<(), Fail> {
+    let ontology = read_bytes(rt.alloc(), ONE_SUBCLASS, RandomState::new(&rt)?)?;
+    assert_one_subclass(&rt, &ontology);
+    Ok(())
+}
+
+#[test]
+fn one_subclass_of_a_source(rt: HostRuntime) -> Result<(), Fail> {
+    let ontology = read_within(&rt, ONE_SUBCLASS, 33)??;
+    assert_one_subclass(&rt, &ontology);
+    Ok(())
+}
+
+#[test]
+fn refused_documents(rt: HostRuntime) -> Result<(), Fail> {
+    assert!(rt; is_refused(&rt, b"Ontology(\xff", 10, "U1 at byte 9")?);
+    assert!(rt; is_refused(&rt, ONE_SUBCLASS, 32, "U2")?);
+    assert!(rt;
+        is_refused(
+            &rt,
+            b"Ontology(SubClassOf(<x:A> owl:real))",
+            36,
+            "F5 at byte 26"
+        )?
+    );
+    assert!(rt; is_refused(&rt, b"", 1, "P2 at byte 0")?);
+    Ok(())
+}
+
+/// The 33 bytes take five reads of seven, and one more that finds their end.
+#[test]
+fn a_read_that_fails_is_told(rt: HostRuntime) -> Result<(), Fail> {
+    let limits = Limits::new(33, 1).ok_or("limits")?;
+    for reads in 0..7 {
+        let mut source = FailingSource {
+            inner: SliceSource::new(ONE_SUBCLASS),
+            reads,
+            failures: 0,
+        };
+        let read = read_document(rt.alloc(), &mut source, &limits, RandomState::new(&rt)?);
+        let failed = matches!(&read, Err(DocumentFault::Io));
+        assert!(rt;
+            failed == (reads < 6) && read.is_ok() == (reads == 6),
+            "after {reads} reads"
+        );
+        assert!(rt;
+            (source.failures == 1) == (reads < 6),
+            "after {reads} reads"
+        );
+    }
+    Ok(())
+}
+
+#[test]
+fn every_fault_is_printed(rt: HostRuntime) -> Result<(), Fail> {
+    assert!(rt;
+        is_refused(
+            &rt,
+            b"Ontology(SubClassOf(<x:A> owl:real) SubClassOf(<x:A> ObjectUnionOf(<x:A> <x:B>)))",
+            81,
+            "F5 at byte 26\nF1 at byte 53: ObjectUnionOf"
+        )?
+    );
+    Ok(())
+}
+
+#[test]
+fn laws() {
+    one_ontology_is_read();
+    refused_bytes_read_as_none();
+    axioms_take_bytes();
+}

@@ -1,5 +1,0 @@
-//! Tests of explanations.
-#![tactic(auto)]
-
-#[cfg(test)]
-mod tests;

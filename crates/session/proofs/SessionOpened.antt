@@ -1,0 +1,28 @@
+-- What is said of a session that was opened.
+use Rattle.std.proofs.Common.{◌≡◌, ℕ, List, Option, Some, None, Result, Ok, Err, IfOk, IfErr, OnOk, sym, subst}
+use Rattle.std.specs.Prelude.{IsErrOf}
+use Rattle.axioms.specs.Numbered.{Ontology}
+use Rattle.profile.specs.Faults.{RefusesKnown}
+use Rattle.profile.specs.declared.fault.DocumentFault.{DocumentFault}
+use Rattle.profile.specs.declared.fault.DocumentFault.TheVariants.{Io, Memory}
+use Rattle.session.specs.Opened.{Opened}
+
+-- what holds of the ontology holds of that of its session
+pub of_ontology : {E : Type 0} (P : Ontology → Type 0) (o : Ontology) (r : Result Opened E) → P o → IfOk r (λ s. s.ontology ≡ o) → IfOk r (λ s. P s.ontology)
+of_ontology P o (Ok s) holds same = subst P (sym same) holds
+of_ontology P o (Err e) holds same = tt
+
+-- a session that is not made for want of memory refuses nothing of the document
+pub for_memory : (left : Option (List ℕ)) (most : ℕ) (r : Result Opened DocumentFault) → IfErr r (λ e. e ≡ Memory) → IfErr r (RefusesKnown left most)
+for_memory left most (Ok s) is = tt
+for_memory None most (Err e) is = tt
+for_memory (Some bytes) most (Err e) is = let P : DocumentFault → Type 0 = λ f. RefusesKnown (Some bytes) most f in subst P (sym is) tt
+
+pub on_ok : {A E : Type 0} (r : Result A E) (X : Type 0) → X → OnOk r X
+on_ok (Ok a) X x = x
+on_ok (Err e) X x = tt
+
+-- .. and is not told as a failure of its source
+pub not_io : (r : Result Opened DocumentFault) → IfErr r (λ e. e ≡ Memory) → IsErrOf r Io → ⊥
+not_io (Ok s) is told = cc
+not_io (Err e) is told = let same : e ≡ Memory = is in cc

@@ -1,0 +1,28 @@
+-- What explanations can be written, and what a session does not answer.
+use Rattle.std.specs.Prelude.{ℕ, List}
+use Rattle.std.specs.List.{All}
+use Rattle.axioms.specs.Expression.{Iri}
+use Rattle.axioms.specs.Numbered.{Ontology}
+use Rattle.axioms.specs.declared.terms.Kind.{Kind}
+use Rattle.certificate.specs.HasText.{IsLineOf}
+use Rattle.certificate.specs.View.{lines_of}
+use Rattle.engine.specs.Saturated.{HasMoreFactsThan}
+use Rattle.interpretation_spec.specs.Numbered.{IsMadeFor}
+use Rattle.session.specs.declared.question_fault.QuestionFault.{QuestionFault}
+use Rattle.session.specs.declared.question_fault.QuestionFault.TheVariants.{Document, Limit, UnknownName, Memory}
+use Rattle.answers.specs.declared.explanation.Explanation.{Explanation}
+use Rattle.answers.specs.declared.explanation.Explanation.TheVariants.{Yes, No, Contradictory}
+use Rattle.session.specs.Asking.{IsFirstUnknown}
+
+-- its lines speak of what the ontology has, or its interpretation was made for the names of the ontology
+abbrev pub HasText : Ontology → Explanation → Type 0
+HasText o (Yes lines) = All (IsLineOf o) (lines_of lines.items)
+HasText o (No i x) = IsMadeFor o.names i
+HasText o (Contradictory lines) = All (IsLineOf o) (lines_of lines.items)
+
+-- what a fault says of an ontology that was read, and of the names in the question
+abbrev pub IsUnanswered : Ontology → (most_facts : ℕ) → (names : List (Kind × Iri)) → QuestionFault → Type 0
+IsUnanswered o facts names (UnknownName name) = IsFirstUnknown o names name.now
+IsUnanswered o facts names Memory = Unit {0}
+IsUnanswered o facts names (Document fault) = ⊥
+IsUnanswered o facts names Limit = HasMoreFactsThan o facts

@@ -1,0 +1,89 @@
+//! Explanations as texts.
+ghost use Rattle.certificate.specs.HasText.{IsLineOf};
+ghost use Rattle.certificate.specs.View.{lines_of};
+ghost use Rattle.answer_texts.specs.Proof.{proof_text};
+ghost use Rattle.session.specs.Answered.{graph_text, lines_text, shown_text};
+ghost use Rattle.session.specs.Texts.{HasText};
+ghost use Rattle.std.specs.Prelude.{◌≡◌, ◌++◌, All, IfOk};
+
+use crate::form::Form;
+use answer_texts::{proof_bytes, proof_graph_bytes, refutation_bytes, refutation_graph_bytes};
+use answers::Explanation;
+use axioms::{Memory, Ontology};
+use certificate::Line;
+use std::alloc::Global;
+
+/// The answer, and behind it the lines of a derivation.
+fn answer_and_lines(
+    alloc: Global,
+    ontology: &Ontology,
+    answer: &[u8],
+    lines: &[Line],
+) -> Result<Vec<u8>, Memory>
+    requires { All (IsLineOf ontology.now) (lines_of lines.now) }
+    ensures { IfOk result (λ v. v.items ≡ answer.now ++ proof_text ontology.now (lines_of lines.now)) }
+{
+    let mut out = Vec::new(alloc);
+    let proof = proof_bytes(alloc, ontology, lines)?;
+    out.extend_from_slice(answer)?;
+    out.extend_from_slice(&proof)?;
+    Ok(out)
+}
+
+/// The explanation as lines.
+fn as_lines(
+    alloc: Global,
+    ontology: &Ontology,
+    explanation: &Explanation,
+) -> Result<Vec<u8>, Memory>
+    requires { HasText ontology.now explanation.now }
+    ensures { IfOk result (λ v. v.items ≡ lines_text ontology.now explanation.now) }
+{
+    match explanation {
+        Explanation::Yes(lines) => answer_and_lines(alloc, ontology, b"yes\n", lines),
+        Explanation::No(interpretation, element) => {
+            refutation_bytes(alloc, ontology, interpretation, *element)
+        }
+        Explanation::Contradictory(lines) => {
+            answer_and_lines(alloc, ontology, b"contradictory\n", lines)
+        }
+    }
+}
+
+/// The explanation as a graph.
+fn as_graph(
+    alloc: Global,
+    ontology: &Ontology,
+    explanation: &Explanation,
+) -> Result<Vec<u8>, Memory>
+    requires { HasText ontology.now explanation.now }
+    ensures { IfOk result (λ v. v.items ≡ graph_text ontology.now explanation.now) }
+{
+    match explanation {
+        Explanation::Yes(lines) => proof_graph_bytes(alloc, ontology, lines),
+        Explanation::No(interpretation, element) => {
+            refutation_graph_bytes(alloc, ontology, interpretation, *element)
+        }
+        Explanation::Contradictory(lines) => proof_graph_bytes(alloc, ontology, lines),
+    }
+}
+
+/// The explanation in that form.
+///
+/// # Errors
+///
+/// `Memory` where memory was refused.
+pub(crate) fn shown(
+    alloc: Global,
+    ontology: &Ontology,
+    explanation: &Explanation,
+    form: Form,
+) -> Result<Vec<u8>, Memory>
+    requires { HasText ontology.now explanation.now }
+    ensures { IfOk result (λ v. v.items ≡ shown_text ontology.now form explanation.now) }
+{
+    match form {
+        Form::Lines => as_lines(alloc, ontology, explanation),
+        Form::Graph => as_graph(alloc, ontology, explanation),
+    }
+}

@@ -1,5 +1,0 @@
-//! Tests of sessions over documents.
-#![tactic(auto)]
-
-#[cfg(test)]
-mod sessions;

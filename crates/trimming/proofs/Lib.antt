@@ -1,3 +1,0 @@
-pub mod Before
-pub mod HandedOn
-pub mod Renumbering

@@ -1,6 +1,0 @@
-use Rattle.certificate.specs.View.{lines_of}
-use Rattle.trimming.proofs.HandedOn.{AreHandedOn}
-use Rattle.trimming.proofs.marking.mark_premises.Given as goal
-
-abbrev pub invariant-loop-place : goal.invariant-loop-place
-invariant-loop-place l = AreHandedOn (lines_of l.lines) l.fn.marks l.marks l.place
