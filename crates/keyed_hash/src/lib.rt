@@ -4,6 +4,7 @@
 
 mod hasher;
 mod numbers;
+mod slots;
 mod state;
 
 pub use hasher::KeyedHasher;
