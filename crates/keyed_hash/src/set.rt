@@ -2,7 +2,7 @@
 ghost use Rattle.keyed_hash.specs.Numbered.{AreFound, hash_of, insert_key, passes_at, room_in};
 ghost use Rattle.keyed_hash.specs.Slots.{HasSlots, Leads};
 ghost use Rattle.std.specs.List.{list_any, AllZip};
-ghost use Rattle.std.specs.Prelude.{◌≡◌, ◌<◌, ◌^◌, ℕ, true, false, not, [], ◌∷◌, ◌++◌, length, option_copied, slice_get, vec_capacity, IfNone, IfOk, IfSome, OnErr, OnOk, Some};
+ghost use Rattle.std.specs.Prelude.{◌≡◌, ◌+◌, ◌<◌, ◌^◌, ℕ, true, false, not, [], ◌∷◌, ◌++◌, length, if◌then◌else◌, option_copied, slice_get, vec_capacity, IfNone, IfOk, IfSome, OnErr, OnOk, Some};
 
 use crate::key::Key;
 use crate::slots::Slots;
@@ -196,6 +196,7 @@ impl<T: Eq + Hash + Drop> NumberedSet<T> {
         ensures keys { IfOk result (λ r. self.new.keys ≡ insert_key T.eq self.old.keys member) }
         ensures stored { IfOk result (λ r. (k : T) × (slice_get self.new.keys r.0 ≡ Some k) × (T.eq member k ≡ true)) }
         ensures added { IfOk result (λ r. r.1 ≡ not (list_any (T.eq member) self.old.keys)) }
+        ensures count { IfOk result (λ r. length self.new.keys ≡ length self.old.keys + (if r.1 then 1 else 0)) }
         ensures err { OnErr result (self.new.keys ≡ self.old.keys) }
     {
         let hash = hash_of(&self.state, &member);
