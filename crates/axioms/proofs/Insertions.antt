@@ -1,10 +1,9 @@
 -- What a look-up and an insertion in a numbered set give, by a view of its keys.
-use Rattle.std.proofs.Common.{◌≡◌, ℕ, zero, suc, Bool, true, false, inl, inr, List, ◌||◌, [], ◌∷◌, ◌++◌, if◌then◌else◌, map, position, slice_get, Some, Contains, String, string_bytes, bytes_eq, refl, sym, ap, ap₂, ◌∙◌, subst, arith, nat_eq}
+use Rattle.std.proofs.Common.{◌≡◌, ℕ, zero, suc, Bool, true, false, inl, inr, List, ◌||◌, [], ◌∷◌, ◌++◌, if◌then◌else◌, map, slice_get, Some, Contains, String, string_bytes, bytes_eq, refl, sym, ap, ap₂, ◌∙◌, subst, arith, nat_eq}
 use Rattle.std.proofs.lemmas.Bool.{true≢false, both_ways, or_left, or_right}
 use Rattle.std.proofs.lemmas.Bool.Decides.{Decides-eqb, Decides-like, Decides-and}
 use Rattle.std.proofs.lemmas.List.{map-append, length-map}
-use Rattle.std.proofs.lemmas.List.Quantifiers.{position-Some}
-use Rattle.std.proofs.lemmas.Option.{none-some, same_Some, slice_get-get_or}
+use Rattle.std.proofs.lemmas.Option.{none-some, same_Some}
 use Rattle.std.proofs.lemmas.Slice.Eq.{bytes_eq-Decides}
 use Rattle.std.specs.Bool.{Decides}
 use Rattle.std.specs.Cmp.Lexicographic.{pointwise}
@@ -13,7 +12,7 @@ use Rattle.std.specs.String.{string_eq}
 use Rattle.std.specs.declared.alloc.Global.{Global}
 use Rattle.lemmas.proofs.Mapped.{slice_get_map}
 use Rattle.lemmas.proofs.Places.{slice_get_push_cases}
-use Rattle.indexmap.specs.IndexSet.{insert_key}
+use Rattle.keyed_hash.specs.Numbered.{insert_key}
 use Rattle.axioms.specs.Growth.{Numbers}
 use Rattle.axioms.specs.Numbered.{Class, And, Exists}
 use Rattle.axioms.specs.View.{node_of}
@@ -28,9 +27,8 @@ module _ {K X : Type 0} (test : K → Bool) (view : K → X) (x : X) (says : (k 
   at_place ks n k at passes = slice_get_map view ks n k at ∙ ap Some ((says k).0 passes)
 
   -- the place that is found has x
-  pub placed : (ks : List K) (n : ℕ) → position test ks ≡ Some n → slice_get (map view ks) n ≡ Some x
-  placed [] n h = cc
-  placed (d ∷ ks) n h = let p = position-Some test (d ∷ ks) n d h in at_place (d ∷ ks) n _ (slice_get-get_or (d ∷ ks) n d p.0) p.1
+  pub placed : (ks : List K) (n : ℕ) → (k : K) × (slice_get ks n ≡ Some k) × (test k ≡ true) → slice_get (map view ks) n ≡ Some x
+  placed ks n found = at_place ks n found.0 found.1 found.2
 
   passes_there : (ks : List K) → Contains (map view ks) x → list_any test ks ≡ true
   passes_there [] h = absurd (omega (arith, h.1))
@@ -68,7 +66,7 @@ module _ {K X : Type 0} (eq : K → K → Bool) (view : K → X) (same : (a b : 
 text_test : (bytes : List ℕ) (k : String Global) → Decides (bytes_eq bytes (string_bytes k)) (string_bytes k ≡ bytes)
 text_test bytes k = Decides-like (bytes_eq bytes (string_bytes k)) sym sym (bytes_eq-Decides bytes (string_bytes k))
 
-pub text_placed : (bytes : List ℕ) (ks : List (String Global)) (n : ℕ) → position (λ k. bytes_eq bytes (string_bytes k)) ks ≡ Some n → slice_get (map string_bytes ks) n ≡ Some bytes
+pub text_placed : (bytes : List ℕ) (ks : List (String Global)) (n : ℕ) → (k : String Global) × (slice_get ks n ≡ Some k) × (bytes_eq bytes (string_bytes k) ≡ true) → slice_get (map string_bytes ks) n ≡ Some bytes
 text_placed bytes = placed (λ k. bytes_eq bytes (string_bytes k)) string_bytes bytes (text_test bytes)
 
 pub text_absent : (bytes : List ℕ) (ks : List (String Global)) → list_any (λ k. bytes_eq bytes (string_bytes k)) ks ≡ false → Contains (map string_bytes ks) bytes → ⊥

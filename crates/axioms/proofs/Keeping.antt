@@ -75,20 +75,10 @@ empty_kept inside classes properties individuals nodes axioms table =
     let is = same_ontology (kept_ontology inside) empty_ontology classes (ap (map string_bytes) properties) (ap (map string_bytes) individuals) nodes (ap (map axiom_of) axioms) in
     kept_as inside empty_ontology is empty_is_ontology empty_is_bounded (empty_table _ table)
 
--- a name that was not there has the next number
-pub next_number : {X : Type 0} (old : List X) (x : X) (new : List X) (n : ℕ) → Numbers old x new n → (Contains old x → ⊥) → (n ≡ length old) × (new ≡ old ++ x ∷ [])
-next_number old x new n (inl (at, same)) absent = absurd (absent (Contains-from_slice_get old n x at))
-next_number old x new n (inr (apart, at, longer)) absent = (at, longer)
-
--- a class that was not there, and its expression
-pub class_grown : (o : Ontology) → IsOntology o → (iri : List ℕ) → (Contains o.names.classes iri → ⊥) → (classes : List (List ℕ)) (nodes : List Node) (n place : ℕ)
-    → Numbers o.names.classes iri classes n → Numbers o.nodes (Class n) nodes place
-    → (n ≡ length o.names.classes) × (place ≡ length o.nodes) × (record o { names = record o.names { classes = classes }; nodes = nodes } ≡ with_class o iri)
-class_grown o whole iri absent classes nodes n place named stated =
-    let a = next_number o.names.classes iri classes n named absent in
-    let fresh : Contains o.nodes (Class n) → ⊥ = λ there. new_class_node o whole (subst (λ m. Contains o.nodes (Class m)) a.0 there) in
-    let b = next_number o.nodes (Class n) nodes place stated fresh in
-    (a.0, b.0, same_ontology _ (with_class o iri) a.1 refl refl (b.1 ∙ ap (λ m. o.nodes ++ Class m ∷ []) a.0) refl)
+-- a class and its expression, put behind the others
+pub class_pushed : (o : Ontology) (iri : List ℕ) (classes : List (List ℕ)) (nodes : List Node) (n : ℕ) → classes ≡ o.names.classes ++ iri ∷ [] → nodes ≡ o.nodes ++ Class n ∷ [] → n ≡ length o.names.classes
+    → record o { names = record o.names { classes = classes }; nodes = nodes } ≡ with_class o iri
+class_pushed o iri classes nodes n named stated at = same_ontology _ (with_class o iri) named refl refl (stated ∙ ap (λ m. o.nodes ++ Class m ∷ []) at) refl
 
 -- an ontology with one more class is bounded where there was room for it
 pub bounded_with_class : (o : Ontology) (iri : List ℕ) → IsBounded o → length o.names.classes < most_names → length o.nodes < 2 ^ 32 → IsBounded (with_class o iri)

@@ -6,25 +6,24 @@ use crate::ids::ExprId;
 use crate::ontology::Ontology;
 use crate::terms::{Axiom, Expr};
 use device::Memory;
-use indexmap::IndexSet;
-use keyed_hash::KeyedState;
+use keyed_hash::NumberedSet;
 
 // The same texts.
 fn copied_names(
-    names: &IndexSet<String, KeyedState>,
-) -> Result<IndexSet<String, KeyedState>, Memory>
+    names: &NumberedSet<String>,
+) -> Result<NumberedSet<String>, Memory>
     ensures { IfOk result (λ s. map string_bytes s.keys ≡ map string_bytes names.now.keys) }
 {
-    Ok(names.clone()?)
+    Ok(names.copy()?)
 }
 
 // The same expressions.
 fn copied_expressions(
-    expressions: &IndexSet<Expr, KeyedState>,
-) -> Result<IndexSet<Expr, KeyedState>, Memory>
+    expressions: &NumberedSet<Expr>,
+) -> Result<NumberedSet<Expr>, Memory>
     ensures { IfOk result (λ s. map node_of s.keys ≡ map node_of expressions.now.keys) }
 {
-    Ok(expressions.clone()?)
+    Ok(expressions.copy()?)
 }
 
 // The same axioms.
@@ -44,16 +43,16 @@ fn copied_places(places: &Vec<ExprId>) -> Result<Vec<ExprId>, Memory>
 /// The names of an ontology.
 #[derive(Drop)]
 struct Names {
-    classes: IndexSet<String, KeyedState>,
-    properties: IndexSet<String, KeyedState>,
-    individuals: IndexSet<String, KeyedState>,
+    classes: NumberedSet<String>,
+    properties: NumberedSet<String>,
+    individuals: NumberedSet<String>,
 }
 
 // The same names of each kind.
 fn copied_signature(
-    classes: &IndexSet<String, KeyedState>,
-    properties: &IndexSet<String, KeyedState>,
-    individuals: &IndexSet<String, KeyedState>,
+    classes: &NumberedSet<String>,
+    properties: &NumberedSet<String>,
+    individuals: &NumberedSet<String>,
 ) -> Result<Names, Memory>
     ensures classes { IfOk result (λ n. map string_bytes n.classes.keys ≡ map string_bytes classes.now.keys) }
     ensures properties { IfOk result (λ n. map string_bytes n.properties.keys ≡ map string_bytes properties.now.keys) }
@@ -69,14 +68,14 @@ fn copied_signature(
 /// The expressions and axioms of an ontology.
 #[derive(Drop)]
 struct Terms {
-    expressions: IndexSet<Expr, KeyedState>,
+    expressions: NumberedSet<Expr>,
     class_expressions: Vec<ExprId>,
     axioms: Vec<Axiom>,
 }
 
 // The same expressions and axioms.
 fn copied_terms(
-    expressions: &IndexSet<Expr, KeyedState>,
+    expressions: &NumberedSet<Expr>,
     class_expressions: &Vec<ExprId>,
     axioms: &Vec<Axiom>,
 ) -> Result<Terms, Memory>

@@ -12,8 +12,7 @@ use crate::ids::{ClassId, ExprId, IndId, PropId};
 use crate::ontology::Ontology;
 use crate::terms::{Axiom, Expr};
 use device::Memory;
-use indexmap::IndexSet;
-use keyed_hash::KeyedState;
+use keyed_hash::{KeyedState, NumberedSet};
 use std::alloc::{AllocError, Global};
 
 /// The IRI of `owl:Thing` (OWL 2 Structural Specification, section 5.1).
@@ -35,7 +34,7 @@ pub const MOST_AXIOMS: usize = 4_294_967_295;
 // The number of the name; a new one goes last.
 fn number_of(
     alloc: Global,
-    names: &mut IndexSet<String, KeyedState>,
+    names: &mut NumberedSet<String>,
     iri: &str,
 ) -> Result<u32, BuildFault>
     requires { length names.old.keys ≤ most_names }
@@ -44,25 +43,25 @@ fn number_of(
     ensures err { OnErr result (names.new.keys ≡ names.old.keys) }
     ensures full { (result ≡ Err faults.TooManyNames) ↔ IsFull (map string_bytes names.old.keys) iri.now }
 {
-    if let Some(number) = names.get_index_of(iri) {
-        return Ok(number as u32);
+    if let Some(number) = names.find(iri) {
+        return Ok(number);
     }
     if names.len() >= MOST_NAMES {
         return Err(BuildFault::TooManyNames);
     }
     let text = String::from_str(alloc, iri)?;
-    let (number, _) = names.insert_full(text)?;
-    Ok(number as u32)
+    let (number, _) = names.insert(text)?;
+    Ok(number)
 }
 
 // The classes of the standard, in their order.
 fn standard_classes(
     alloc: Global,
     state: KeyedState,
-) -> Result<IndexSet<String, KeyedState>, Memory>
+) -> Result<NumberedSet<String>, Memory>
     ensures { IfOk result (λ s. map string_bytes s.keys ≡ owl_thing ∷ owl_nothing ∷ []) }
 {
-    let mut classes = IndexSet::with_hasher(alloc, state);
+    let mut classes = NumberedSet::new(alloc, state);
     classes.insert(String::from_str(alloc, OWL_THING)?)?;
     classes.insert(String::from_str(alloc, OWL_NOTHING)?)?;
     Ok(classes)
@@ -72,10 +71,10 @@ fn standard_classes(
 fn standard_expressions(
     alloc: Global,
     state: KeyedState,
-) -> Result<IndexSet<Expr, KeyedState>, Memory>
+) -> Result<NumberedSet<Expr>, Memory>
     ensures { IfOk result (λ s. map node_of s.keys ≡ Class 0 ∷ Class 1 ∷ []) }
 {
-    let mut expressions = IndexSet::with_hasher(alloc, state);
+    let mut expressions = NumberedSet::new(alloc, state);
     expressions.insert(Expr::Class(ClassId::THING))?;
     expressions.insert(Expr::Class(ClassId::NOTHING))?;
     Ok(expressions)
@@ -92,8 +91,8 @@ impl Ontology {
         Ok(Ontology {
             alloc,
             classes,
-            properties: IndexSet::with_hasher(alloc, state),
-            individuals: IndexSet::with_hasher(alloc, state),
+            properties: NumberedSet::new(alloc, state),
+            individuals: NumberedSet::new(alloc, state),
             expressions,
             class_expressions,
             axioms: Vec::new(alloc),
@@ -126,8 +125,8 @@ impl Ontology {
         ensures err { OnErr result (self.new ≡ self.old) }
         ensures full { (result ≡ Err faults.TooManyNames) ↔ IsFull self.old.names.classes iri.now }
     {
-        if let Some(number) = self.classes.get_index_of(iri) {
-            return Ok((ClassId(number as u32), self.class_expressions[number]));
+        if let Some(number) = self.classes.find(iri) {
+            return Ok((ClassId(number), self.class_expressions[number as usize]));
         }
         if self.classes.len() >= MOST_NAMES {
             return Err(BuildFault::TooManyNames);
@@ -148,13 +147,12 @@ impl Ontology {
         if self.expressions.len() >= MOST_EXPRESSIONS {
             return Err(Memory);
         }
-        self.expressions.reserve(1)?;
+        self.expressions.reserve()?;
         self.class_expressions.reserve(1)?;
-        let (number, _) = self.classes.insert_full(text)?;
-        let class = ClassId(number as u32);
-        let (place, _) = self.expressions.insert_full(Expr::Class(class)).unwrap();
-        let expr = ExprId(place as u32);
-        self.class_expressions.push(expr).unwrap();
+        self.classes.reserve()?;
+        let class = ClassId(self.classes.push(text));
+        let expr = ExprId(self.expressions.push(Expr::Class(class)));
+        self.class_expressions.push_reserved(expr);
         Ok((class, expr))
     }
 
@@ -168,8 +166,8 @@ impl Ontology {
         if self.expressions.len() >= MOST_EXPRESSIONS {
             return Err(Memory);
         }
-        let (number, _) = self.expressions.insert_full(expr)?;
-        Ok(ExprId(number as u32))
+        let (number, _) = self.expressions.insert(expr)?;
+        Ok(ExprId(number))
     }
 
     // Adds the axiom at the end, where it has a number.

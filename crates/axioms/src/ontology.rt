@@ -9,8 +9,7 @@ ghost use Rattle.axioms.specs.WellFormed.{IsOntology};
 
 use crate::ids::{ClassId, ExprId};
 use crate::terms::{Axiom, Expr, Kind};
-use indexmap::IndexSet;
-use keyed_hash::KeyedState;
+use keyed_hash::NumberedSet;
 use std::alloc::Global;
 use std::marker::Model;
 
@@ -18,10 +17,10 @@ use std::marker::Model;
 #[derive(Drop)]
 pub struct Ontology {
     pub(crate) alloc: Global,
-    pub(crate) classes: IndexSet<String, KeyedState>,
-    pub(crate) properties: IndexSet<String, KeyedState>,
-    pub(crate) individuals: IndexSet<String, KeyedState>,
-    pub(crate) expressions: IndexSet<Expr, KeyedState>,
+    pub(crate) classes: NumberedSet<String>,
+    pub(crate) properties: NumberedSet<String>,
+    pub(crate) individuals: NumberedSet<String>,
+    pub(crate) expressions: NumberedSet<Expr>,
     // the expression of each class, by the number of the class
     pub(crate) class_expressions: Vec<ExprId>,
     pub(crate) axioms: Vec<Axiom>,
@@ -39,7 +38,7 @@ impl Model for Ontology {
 }
 
 // Whether the IRI is one of the names.
-fn is_named(names: &IndexSet<String, KeyedState>, iri: &str) -> bool
+fn is_named(names: &NumberedSet<String>, iri: &str) -> bool
     ensures { result ≡ list_any (bytes_eq iri.now) (map string_bytes names.now.keys) }
 {
     names.contains(iri)
@@ -76,7 +75,7 @@ impl Ontology {
         // Every ontology is well formed.
         ensures valid { IsOntology self.now }
     {
-        self.expressions.get_index(id.index())
+        self.expressions.get(id.index())
     }
 
     /// Whether the IRI is a name of that kind.

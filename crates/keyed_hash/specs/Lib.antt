@@ -1,2 +1,4 @@
 pub mod Keyed
 pub mod States
+pub mod Slots
+pub mod Numbered

@@ -3,7 +3,7 @@ use Rattle.std.proofs.Common.{◌≡◌, ℕ, Bool, true, ◌&&◌, List, [], �
 use Rattle.std.specs.Bool.{Decides}
 use Rattle.std.proofs.lemmas.Bool.{true≢false}
 use Rattle.std.proofs.lemmas.Bool.Decides.{Decides-eqb, Decides-like, Decides-and}
-use Rattle.indexmap.specs.IndexSet.{insert_key}
+use Rattle.keyed_hash.specs.Numbered.{insert_key}
 use Rattle.axioms.specs.Growth.{Numbers}
 use Rattle.axioms.proofs.Insertions.{inserted}
 use Rattle.normalise.specs.contracts.start.StartPartialEq.TheImpl.{ghosts}

@@ -8,7 +8,7 @@ use crate::member::Member;
 use crate::spans::{Span, place};
 use crate::start::Start;
 use axioms::Memory;
-use indexmap::IndexSet;
+use keyed_hash::{KeyedState, NumberedSet};
 use std::alloc::Global;
 use std::hash::RandomState;
 use std::marker::Model;
@@ -17,7 +17,7 @@ use std::marker::Model;
 /// beginnings of a list take no more room than the list.
 #[derive(Drop)]
 pub struct Beginnings<T: Member> {
-    table: IndexSet<(Start, u32), RandomState>,
+    table: NumberedSet<(Start, u32)>,
     // where each stands among the members
     spans: Vec<Span>,
     members: Vec<T>,
@@ -63,7 +63,7 @@ impl<T: Member> Beginnings<T> {
         ensures { result ≡ [] }
     {
         Beginnings {
-            table: IndexSet::with_hasher(alloc, state),
+            table: NumberedSet::new(alloc, KeyedState::new(&state)),
             spans: Vec::new(alloc),
             members: Vec::new(alloc),
         }
@@ -103,13 +103,13 @@ impl<T: Member> Beginnings<T> {
         self.spans.reserve(1)?;
         self.members.reserve(list.len())?;
         let before = span_of(&self.spans, shorter);
-        let (number, is_new) = self.table.insert_full(key_of(shorter, list))?;
+        let (number, is_new) = self.table.insert(key_of(shorter, list))?;
         if !is_new {
-            return Ok(number as u32);
+            return Ok(number);
         }
         let span = place(&mut self.members, before, list);
         self.spans.push_reserved(span);
-        Ok(number as u32)
+        Ok(number)
     }
 
     /// The same lists.
@@ -120,7 +120,7 @@ impl<T: Member> Beginnings<T> {
     pub fn copy(&self, alloc: Global) -> Result<Beginnings<T>, Memory>
         ensures { IfOk result (λ b. b ≡ self.now) }
     {
-        let table = self.table.clone()?;
+        let table = self.table.copy()?;
         let mut spans = Vec::new(alloc);
         spans.extend_from_slice(&self.spans)?;
         let mut members = Vec::new(alloc);

@@ -13,8 +13,8 @@ ghost use Rattle.shapes.specs.Writes.{name_writes, writes, writes_of};
 use crate::equality::same_tree;
 use axioms::Memory;
 use fs_parser::{Iri, Tree};
-use indexmap::IndexSet;
-use std::hash::{Hash, Hasher, RandomState};
+use keyed_hash::NumberedSet;
+use std::hash::{Hash, Hasher};
 
 /// An operand, which equals another where their trees are equal.
 #[derive(Drop)]
@@ -102,12 +102,12 @@ fn feed_each<H: Hasher>(trees: &[Tree<'_>], state: &mut H)
 
 /// Whether the tree equals none that is in the table, which it then is put into.
 pub(crate) fn is_new<'t, 'a>(
-    seen: &mut IndexSet<Operand<'t, 'a>, RandomState>,
+    seen: &mut NumberedSet<Operand<'t, 'a>>,
     tree: &'t Tree<'a>,
 ) -> Result<bool, Memory>
     ensures new { IfOk result (λ new. new ≡ not (list_any (same_tree (tree_of tree.now)) (operand_trees seen.old.keys))) }
     ensures seen { OnOk result ((t : trees.Tree) → list_any (same_tree t) (operand_trees seen.new.keys) ≡ (list_any (same_tree t) (operand_trees seen.old.keys) || same_tree t (tree_of tree.now))) }
 {
-    let (_, new) = seen.insert_full(Operand { tree })?;
+    let (_, new) = seen.insert(Operand { tree })?;
     Ok(new)
 }

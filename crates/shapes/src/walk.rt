@@ -22,7 +22,7 @@ use crate::statement::{Statement, axiom_in};
 use crate::version::Version;
 use axioms::{Memory, Ontology};
 use fs_parser::{Iri, Tree};
-use indexmap::IndexSet;
+use keyed_hash::{KeyedState, NumberedSet};
 use std::alloc::Global;
 use std::hash::RandomState;
 
@@ -271,7 +271,7 @@ fn distinct_faults(
 ) -> Result<(), Memory>
     ensures { OnOk result (faults_of found.new.items ≡ faults_of found.old.items ++ faults_inside context.now.version (names_of context.now) false [] (Many true operand) (trees_of (drop in_front trees.now))) }
 {
-    let mut seen = IndexSet::with_hasher(context.alloc, context.state);
+    let mut seen = NumberedSet::new(context.alloc, KeyedState::new(&context.state));
     for index in in_front..trees.len() {
         let tree = &trees[index];
         if is_new(&mut seen, tree)? {

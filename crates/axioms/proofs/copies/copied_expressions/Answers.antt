@@ -3,4 +3,4 @@ use Rattle.axioms.proofs.Clones.{same_views}
 use Rattle.axioms.proofs.copies.copied_expressions.Goals as goal
 
 pub returns : goal.returns
-returns c = same_views node_of c.args.expressions.now.keys c.in_ok-clone.field-0.keys c.in_ok-clone.ensures.cases
+returns c = same_views node_of c.args.expressions.now.keys c.in_ok-copy.field-0.keys c.in_ok-copy.ensures

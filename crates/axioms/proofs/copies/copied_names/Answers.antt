@@ -3,4 +3,4 @@ use Rattle.axioms.proofs.Clones.{same_views}
 use Rattle.axioms.proofs.copies.copied_names.Goals as goal
 
 pub returns : goal.returns
-returns c = same_views string_bytes c.args.names.now.keys c.in_ok-clone.field-0.keys c.in_ok-clone.ensures.cases
+returns c = same_views string_bytes c.args.names.now.keys c.in_ok-copy.field-0.keys c.in_ok-copy.ensures

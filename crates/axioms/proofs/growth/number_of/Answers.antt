@@ -1,4 +1,4 @@
-use Rattle.std.proofs.Common.{◌≡◌, inl, string_bytes, refl, sym, arith}
+use Rattle.std.proofs.Common.{◌≡◌, inl, string_bytes, refl, arith}
 use Rattle.std.specs.String.{string_eq}
 use Rattle.std.proofs.lemmas.List.{length-map}
 use Rattle.lemmas.proofs.Members.{Contains-from_slice_get}
@@ -6,16 +6,16 @@ use Rattle.axioms.proofs.Insertions.{text_placed, text_absent, inserted, same_te
 use Rattle.axioms.proofs.growth.number_of.Goals as goal
 
 pub returns-in-Some-clause-ok : goal.returns-in-Some-clause-ok
-returns-in-Some-clause-ok c = inl (text_placed c.args.iri.now c.args.names.now.keys c.in-Some.number (sym c.in-Some.ensures.index), refl)
+returns-in-Some-clause-ok c = inl (text_placed c.args.iri.now c.args.names.now.keys c.in-Some.number c.in-Some.ensures.found, refl)
 
 pub returns-in-Some-clause-full : goal.returns-in-Some-clause-full
 returns-in-Some-clause-full c =
-    let at = text_placed c.args.iri.now c.args.names.now.keys c.in-Some.number (sym c.in-Some.ensures.index) in
+    let at = text_placed c.args.iri.now c.args.names.now.keys c.in-Some.number c.in-Some.ensures.found in
     (λ h. cc, λ full. absurd (full.0 (Contains-from_slice_get _ c.in-Some.number c.args.iri.now at)))
 
 pub returns-then-len-ge-MOST_NAMES-clause-full : goal.returns-then-len-ge-MOST_NAMES-clause-full
 returns-then-len-ge-MOST_NAMES-clause-full c =
-    (λ h. (text_absent c.args.iri.now c.args.names.now.keys (sym c.in_default.ensures.found), omega (arith, length-map c.args.names.now.keys string_bytes)), λ full. refl)
+    (λ h. (text_absent c.args.iri.now c.args.names.now.keys c.in_default.ensures.absent, omega (arith, length-map c.args.names.now.keys string_bytes)), λ full. refl)
 
 pub returns-clause-ok : goal.returns-clause-ok
 returns-clause-ok c =

@@ -3,4 +3,4 @@ use Rattle.axioms.proofs.ontology.Ontology.empty.Goals as goal
 
 pub invariant_of-result : goal.invariant_of-result
 invariant_of-result c =
-    empty_kept _ c.in_ok-classes.ensures c.with_hasher.ensures.empty c.with_hasher-2.ensures.empty c.in_ok-expressions.ensures c.new.ensures.items c.in_ok-class_expressions.ensures.items
+    empty_kept _ c.in_ok-classes.ensures c.new.ensures c.new-2.ensures c.in_ok-expressions.ensures c.new-3.ensures.items c.in_ok-class_expressions.ensures.items

@@ -11,7 +11,7 @@ use Rattle.axioms.proofs.Insertions.{inserted, same_expr}
 use Rattle.axioms.proofs.ontology.Ontology.expression.Goals as goal
 use Rattle.axioms.proofs.ontology.Ontology.expression.Goals.{In_ok-number}
 
-numbers : (c : In_ok-number) → Numbers (map node_of c.self.inside.expressions.keys) (node_of c.args.expr) (map node_of c.insert_full.new.self.keys) c.in_ok-number.number
+numbers : (c : In_ok-number) → Numbers (map node_of c.self.inside.expressions.keys) (node_of c.args.expr) (map node_of c.insert.new.self.keys) c.in_ok-number.number
 numbers c = inserted ghosts.eq node_of same_expr c.args.expr c.self.inside.expressions.keys _ c.in_ok-number.number c.in_ok-number.ensures.keys c.in_ok-number.ensures.stored
 
 pub invariant_of-self-2 : goal.invariant_of-self-2
