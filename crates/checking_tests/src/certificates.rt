@@ -4,15 +4,14 @@
 
 ghost use Rattle.certificate.specs.HasText.{HasText};
 
+use crate::documents::ontology_of;
 use axioms::{ExprId, IndId, Memory, Ontology, PropId};
 use certificate::{
     CertFault, Certificate, Claim, Conclusion, Line, LineReader, MakeFault, Rule, Subject,
     certificate_bytes, one_certificate, one_text, read_certificate, write_certificate,
 };
 use device::BufferSink;
-use profile::read_bytes;
 use std::alloc::{AllocError, Global};
-use std::hash::RandomState;
 use std::process::Abort;
 use std::random::RandomSource;
 use std::test::Fail;
@@ -24,11 +23,6 @@ const TEXT: &[u8] =
 /// Lines with no premise, with two and with one, one after another.
 const LINES: &[u8] =
     b"elcert 1 inconsistent\nsub e0 e0 K1\nedge i0 p0 i1 K11 18446744073709551615 2\nsub i0 e2 K9 1\nend\n";
-
-/// The ontology that the document states.
-fn ontology_of<R: AllocGlobal + RandomSource>(rt: &R, document: &str) -> Result<Ontology, Fail> {
-    Ok(read_bytes(rt.alloc(), document.as_bytes(), RandomState::new(rt)?)?)
-}
 
 /// SubClassOf(A B), of the classes of the numbers 2 and 3.
 fn one_subclass<R: AllocGlobal + RandomSource>(rt: &R) -> Result<Ontology, Fail> {
@@ -87,14 +81,26 @@ fn are_members(certificate: &Certificate, lines: usize, domain: u32, claims: &[C
         && listed.claims.as_slice() == claims
 }
 
+/// The claims of the text.
+const CLAIMS: &[Claim] = &[
+    Claim {
+        class: ExprId(0),
+        element: 0,
+    },
+    Claim {
+        class: ExprId(2),
+        element: 1,
+    },
+    Claim {
+        class: ExprId(3),
+        element: 2,
+    },
+];
+
 /// Whether the certificate of the text has these members.
 fn has_members(alloc: Global, ontology: &Ontology) -> bool {
-    let claims = [(0, 0), (2, 1), (3, 2)].map(|(class, element)| Claim {
-        class: ExprId(class),
-        element,
-    });
     match read_certificate(alloc, ontology, TEXT) {
-        Ok(certificate) => are_members(&certificate, 7, 3, &claims),
+        Ok(certificate) => are_members(&certificate, 7, 3, CLAIMS),
         Err(_) => false,
     }
 }

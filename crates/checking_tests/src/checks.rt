@@ -4,11 +4,11 @@ mod models;
 mod ontologies;
 mod rules;
 
+use crate::documents::ontology_of;
 use axioms::{ClassId, IndId, Ontology};
 use cert_check::{Reason, Verdict, check, check_owned, soundness, worked_certificates};
 use ontologies::{
-    CIRCLE_AND_NOTHING_DOCUMENT, CONTRADICTION_DOCUMENT, ONE_MEMBER_DOCUMENT,
-    ONE_SUBCLASS_DOCUMENT, ontology_of,
+    CIRCLE_AND_NOTHING_DOCUMENT, CONTRADICTION_DOCUMENT, ONE_MEMBER_DOCUMENT, ONE_SUBCLASS_DOCUMENT,
 };
 use std::alloc::{AllocError, Global};
 use std::process::Abort;

@@ -6,4 +6,6 @@ mod certificates;
 #[cfg(test)]
 mod checks;
 #[cfg(test)]
+mod documents;
+#[cfg(test)]
 mod taxonomies;

@@ -5,13 +5,12 @@ ghost use Rattle.std.specs.Prelude.{◌<◌, ◌≡◌, IfOk, length, true, ℕ}
 ghost use Rattle.taxonomy.specs.Outcome.{IsMadeFor};
 ghost use Rattle.taxonomy.specs.Relation.{IsPreorder, IsSquare, is_listed, lies_below};
 
+use crate::documents::ontology_of;
 use axioms::{Memory, Ontology};
 use device::BufferSink;
 use interpretation_spec::Row;
 use number_sets::PackedLists;
-use profile::read_bytes;
 use std::alloc::Global;
-use std::hash::RandomState;
 use std::process::Abort;
 use std::random::RandomSource;
 use std::test::Fail;
@@ -19,11 +18,6 @@ use taxonomy::{
     Outcome, Relation, Taxonomy, instances_bytes, reduce, taxonomy_bytes, texts_of_relations,
     write_instances, write_taxonomy,
 };
-
-/// The ontology that the document states.
-fn ontology_of<R: AllocGlobal + RandomSource>(rt: &R, document: &str) -> Result<Ontology, Fail> {
-    Ok(read_bytes(rt.alloc(), document.as_bytes(), RandomState::new(rt)?)?)
-}
 
 /// What the pairs give to `k`, of numbers below `n`.
 fn list_of(alloc: Global, pairs: &[(u32, u32)], n: usize, k: u32) -> Result<Vec<u32>, Memory>
@@ -285,92 +279,88 @@ const EQUAL_SUPERCLASSES: &str =
 const BARE_TYPES: &str =
     "elinst 1 consistent\n<x:a> : <x:A> , <x:C>\n<x:b> : <http://www.w3.org/2002/07/owl#Nothing>\n<x:c>\n";
 
-/// The taxonomy has this text, where each class lies below what the pairs give it, and there are no instances.
-fn assert_taxonomy<R: AllocGlobal + Abort + RandomSource>(
+/// The same of the ontology that the document states.
+fn is_taxonomy_of<R: AllocGlobal + RandomSource>(
     rt: &R,
     document: &str,
     below: &[(u32, u32)],
     text: &str,
-) -> Result<(), Fail> {
+) -> Result<bool, Fail> {
     let ontology = ontology_of(rt, document)?;
-    let is_told = is_taxonomy(rt.alloc(), &ontology, below, text)?;
-    assert!(rt; is_told);
-    Ok(())
+    is_taxonomy(rt.alloc(), &ontology, below, text)
 }
 
-#[test]
-fn empty_ontology(rt: HostRuntime) -> Result<(), Fail> {
-    assert_taxonomy(&rt, "Ontology()", &[], EMPTY)
-}
-
-#[test]
-fn one_subclass(rt: HostRuntime) -> Result<(), Fail> {
-    assert_taxonomy(
-        &rt,
+/// What the row shows, the declared classes, what each lies below, and the taxonomy.
+const TAXONOMIES: &[(&str, &str, &[(u32, u32)], &str)] = &[
+    ("empty_ontology", "Ontology()", &[], EMPTY),
+    (
+        "one_subclass",
         "Ontology(Declaration(Class(<x:A>)) Declaration(Class(<x:B>)))",
         &[(2, 3)],
         ONE_SUBCLASS,
-    )
-}
-
-#[test]
-fn two_spellings_in_a_cycle(rt: HostRuntime) -> Result<(), Fail> {
-    assert_taxonomy(
-        &rt,
+    ),
+    (
+        "two_spellings_in_a_cycle",
         "Ontology(Declaration(Class(<x:A>)) Declaration(Class(<x:B>)))",
         &[(2, 3), (3, 2)],
         CYCLE,
-    )
-}
-
-#[test]
-fn unsatisfiable_class(rt: HostRuntime) -> Result<(), Fail> {
-    let below = [(2, 1), (2, 3), (2, 4)];
-    assert_taxonomy(
-        &rt,
+    ),
+    (
+        "unsatisfiable_class",
         "Ontology(Declaration(Class(<x:A>)) Declaration(Class(<x:B>)) Declaration(Class(<x:C>)))",
-        &below,
+        &[(2, 1), (2, 3), (2, 4)],
         UNSATISFIABLE_CLASS,
-    )
-}
-
-#[test]
-fn class_equal_to_top(rt: HostRuntime) -> Result<(), Fail> {
-    assert_taxonomy(
-        &rt,
+    ),
+    (
+        "class_equal_to_top",
         "Ontology(Declaration(Class(<x:A>)))",
         &[(0, 2)],
         EQUAL_TO_TOP,
-    )
-}
+    ),
+    (
+        "two_direct_superclasses",
+        "Ontology(Declaration(Class(<x:d>)) Declaration(Class(<x:c>)) Declaration(Class(<x:b>)) Declaration(Class(<x:a>)))",
+        &[(5, 4), (5, 3), (5, 2), (4, 2), (3, 2)],
+        TWO_SUPERCLASSES,
+    ),
+    (
+        "equal_superclasses_of_equal_classes",
+        "Ontology(Declaration(Class(<x:e>)) Declaration(Class(<x:d>)) Declaration(Class(<x:c>)) Declaration(Class(<x:b>)) Declaration(Class(<x:a>)))",
+        &[
+            (2, 3),
+            (2, 4),
+            (2, 5),
+            (2, 6),
+            (3, 2),
+            (3, 4),
+            (3, 5),
+            (3, 6),
+            (4, 5),
+            (5, 4),
+        ],
+        EQUAL_SUPERCLASSES,
+    ),
+    (
+        "superclass_that_stands_twice",
+        "Ontology(Declaration(Class(<x:A>)) Declaration(Class(<x:B>)))",
+        &[(2, 3), (2, 3), (2, 2), (3, 0)],
+        ONE_SUBCLASS,
+    ),
+];
 
 #[test]
-fn two_direct_superclasses(rt: HostRuntime) -> Result<(), Fail> {
-    let below = [(5, 4), (5, 3), (5, 2), (4, 2), (3, 2)];
-    assert_taxonomy(
-        &rt,
-        "Ontology(Declaration(Class(<x:d>)) Declaration(Class(<x:c>)) Declaration(Class(<x:b>)) Declaration(Class(<x:a>)))",
-        &below,
-        TWO_SUPERCLASSES,
-    )
-}
-
-/// The instances have this text, where A lies below B, and the pairs give each individual its types.
-fn assert_instances<R: AllocGlobal + Abort + RandomSource>(
-    rt: &R,
-    types: &[(u32, u32)],
-    text: &str,
-) -> Result<(), Fail> {
-    let ontology = ontology_of(
-        rt,
-        "Prefix(:=<x:>) Ontology(
-Declaration(Class(:A)) Declaration(Class(:B)) Declaration(Class(:C))
-Declaration(NamedIndividual(:a)) Declaration(NamedIndividual(:b)) Declaration(NamedIndividual(:c)))",
-    )?;
-    let is_told = is_instances(rt.alloc(), &ontology, types, text)?;
-    assert!(rt; is_told);
+fn taxonomies(rt: HostRuntime) -> Result<(), Fail> {
+    for row in TAXONOMIES {
+        let (case, document, below, text) = *row;
+        assert!(rt; is_taxonomy_of(&rt, document, below, text)?, "{case}");
+    }
     Ok(())
 }
+
+/// Three classes and three individuals.
+const INDIVIDUALS: &str = "Prefix(:=<x:>) Ontology(
+Declaration(Class(:A)) Declaration(Class(:B)) Declaration(Class(:C))
+Declaration(NamedIndividual(:a)) Declaration(NamedIndividual(:b)) Declaration(NamedIndividual(:c)))";
 
 /// Whether these are the types of the individuals, where A lies below B.
 fn is_instances(
@@ -383,13 +373,38 @@ fn is_instances(
     is_instances_text(alloc, ontology, &outcome, text)
 }
 
-#[test]
-fn individuals_and_domain(rt: HostRuntime) -> Result<(), Fail> {
-    assert_instances(
-        &rt,
+/// What the row shows, the types of each individual, and the instances, where A lies below B.
+const INSTANCES: &[(&str, &[(u32, u32)], &str)] = &[
+    (
+        "individuals_and_domain",
         &[(0, 0), (0, 2), (0, 3), (0, 4), (1, 0), (2, 0)],
         TYPES,
-    )
+    ),
+    (
+        "types_in_any_order",
+        &[(0, 4), (0, 3), (0, 2), (0, 0), (0, 4), (1, 0), (2, 0)],
+        TYPES,
+    ),
+    (
+        "types_without_what_is_above",
+        &[(0, 2), (0, 4), (1, 1), (1, 3)],
+        BARE_TYPES,
+    ),
+];
+
+/// Each row has its text.
+fn assert_instances<R: AllocGlobal + Abort>(rt: &R, ontology: &Ontology) -> Result<(), Fail> {
+    for row in INSTANCES {
+        let (case, types, text) = *row;
+        assert!(rt; is_instances(rt.alloc(), ontology, types, text)?, "{case}");
+    }
+    Ok(())
+}
+
+#[test]
+fn instances(rt: HostRuntime) -> Result<(), Fail> {
+    let ontology = ontology_of(&rt, INDIVIDUALS)?;
+    assert_instances(&rt, &ontology)
 }
 
 /// The outcome of a contradiction.
@@ -418,8 +433,9 @@ fn contradiction_without_individual(rt: HostRuntime) -> Result<(), Fail> {
         &ontology,
         "eltax 1 inconsistent\n",
         "elinst 1 inconsistent\n",
-    )?;
-    assert!(rt; is_told);
+    );
+    drop(ontology);
+    assert!(rt; is_told?);
     Ok(())
 }
 
@@ -441,81 +457,66 @@ fn taxonomy_of_rows(alloc: Global) -> Result<Taxonomy, Memory> {
     reduced(alloc, &relation)
 }
 
+/// Whether the first two classes are the same, below the third.
+fn has_two_below_one(taxonomy: &Taxonomy) -> bool {
+    taxonomy.len() == 3
+        && taxonomy.is_same(0, 1)
+        && !taxonomy.is_same(0, 2)
+        && !taxonomy.is_same(2, 3)
+        && taxonomy.is_strictly_above(2, 0)
+        && !taxonomy.is_strictly_above(0, 2)
+}
+
 #[test]
 fn classes_of_rows(rt: HostRuntime) -> Result<(), Fail> {
     let taxonomy = taxonomy_of_rows(rt.alloc())?;
-    assert!(rt; taxonomy.len() == 3);
-    assert!(rt; taxonomy.is_same(0, 1) && !taxonomy.is_same(0, 2) && !taxonomy.is_same(2, 3));
-    assert!(rt; taxonomy.is_strictly_above(2, 0) && !taxonomy.is_strictly_above(0, 2));
+    let right = has_two_below_one(&taxonomy);
+    drop(taxonomy);
+    assert!(rt; right);
     Ok(())
 }
 
-#[test]
-fn equal_superclasses_of_equal_classes(rt: HostRuntime) -> Result<(), Fail> {
-    let below = [
-        (2, 3),
-        (2, 4),
-        (2, 5),
-        (2, 6),
-        (3, 2),
-        (3, 4),
-        (3, 5),
-        (3, 6),
-        (4, 5),
-        (5, 4),
-    ];
-    assert_taxonomy(
-        &rt,
-        "Ontology(Declaration(Class(<x:e>)) Declaration(Class(<x:d>)) Declaration(Class(<x:c>)) Declaration(Class(<x:b>)) Declaration(Class(<x:a>)))",
-        &below,
-        EQUAL_SUPERCLASSES,
-    )
+/// The relation of four classes of which the third has owl:Nothing above it, and the fourth the third.
+fn relation_of_lists(alloc: Global) -> Result<Relation, Memory> {
+    let lists = class_lists(alloc, &[(2, 1), (3, 2), (3, 9)], 4)?;
+    Relation::of_superclasses(alloc, &lists)
 }
 
-#[test]
-fn superclass_that_stands_twice(rt: HostRuntime) -> Result<(), Fail> {
-    assert_taxonomy(
-        &rt,
-        "Ontology(Declaration(Class(<x:A>)) Declaration(Class(<x:B>)))",
-        &[(2, 3), (2, 3), (2, 2), (3, 0)],
-        ONE_SUBCLASS,
-    )
-}
-
-#[test]
-fn types_in_any_order(rt: HostRuntime) -> Result<(), Fail> {
-    assert_instances(
-        &rt,
-        &[(0, 4), (0, 3), (0, 2), (0, 0), (0, 4), (1, 0), (2, 0)],
-        TYPES,
-    )
-}
-
-#[test]
-fn types_without_what_is_above(rt: HostRuntime) -> Result<(), Fail> {
-    assert_instances(&rt, &[(0, 2), (0, 4), (1, 1), (1, 3)], BARE_TYPES)
+/// Whether each class lies below what its list has, and below all where that has owl:Nothing.
+fn has_lists(relation: &Relation) -> bool {
+    relation.len() == 4
+        && relation.lies_below(2, 3)
+        && relation.lies_below(1, 3)
+        && relation.lies_below(3, 2)
+        && !relation.lies_below(3, 1)
+        && !relation.lies_below(0, 3)
+        && !relation.lies_below(3, 9)
 }
 
 #[test]
 fn lists_of_superclasses(rt: HostRuntime) -> Result<(), Fail> {
-    let lists = class_lists(rt.alloc(), &[(2, 1), (3, 2), (3, 9)], 4)?;
-    let relation = Relation::of_superclasses(rt.alloc(), &lists)?;
-    assert!(rt; relation.len() == 4);
-    assert!(rt;
-        relation.lies_below(2, 3) && relation.lies_below(1, 3) && relation.lies_below(3, 2)
-    );
-    assert!(rt;
-        !relation.lies_below(3, 1) && !relation.lies_below(0, 3) && !relation.lies_below(3, 9)
-    );
+    let relation = relation_of_lists(rt.alloc())?;
+    let right = has_lists(&relation);
+    drop(relation);
+    assert!(rt; right);
     Ok(())
+}
+
+/// Whether the last two classes are the same, below owl:Thing.
+fn has_a_cycle(taxonomy: &Taxonomy) -> bool {
+    taxonomy.len() == 4
+        && taxonomy.is_same(2, 3)
+        && !taxonomy.is_same(0, 2)
+        && taxonomy.is_strictly_above(2, 0)
+        && !taxonomy.is_strictly_above(2, 3)
 }
 
 #[test]
 fn classes_of_a_cycle(rt: HostRuntime) -> Result<(), Fail> {
     let taxonomy = taxonomy_of(rt.alloc(), &[(2, 3), (3, 2)], 4)?;
-    assert!(rt; taxonomy.len() == 4);
-    assert!(rt; taxonomy.is_same(2, 3) && !taxonomy.is_same(0, 2));
-    assert!(rt; taxonomy.is_strictly_above(2, 0) && !taxonomy.is_strictly_above(2, 3));
+    let right = has_a_cycle(&taxonomy);
+    drop(taxonomy);
+    assert!(rt; right);
     Ok(())
 }
 

@@ -116,7 +116,7 @@ fn check<R: AllocGlobal + RandomSource>(
 ) -> Result<Run, Fail> {
     let mut files = files_with(rt.alloc(), document)?;
     put_texts(&mut files, texts)?;
-    run_of(rt, &CHECK, &mut files)
+    run_of(rt, CHECK, &mut files)
 }
 
 /// Whether these are the texts, whatever the certificate.
@@ -150,8 +150,8 @@ fn gives<R: AllocGlobal + RandomSource>(
     counts: &str,
 ) -> Result<bool, Fail> {
     let mut files = files_with(rt.alloc(), document)?;
-    let run = run_of(rt, &CLASSIFY, &mut files)?;
-    let check = run_of(rt, &CHECK, &mut files)?;
+    let run = run_of(rt, CLASSIFY, &mut files)?;
+    let check = run_of(rt, CHECK, &mut files)?;
     let texts = texts_in(rt.alloc(), &files)?;
     Ok(
         run.status == 0
@@ -184,13 +184,6 @@ fn status<R: AllocGlobal + RandomSource>(
     Ok(run.status)
 }
 
-/// The words that classify within a limit.
-fn limited<'a>(option: &'a str, number: &'a str) -> [&'a str; 8] {
-    [
-        "elc", "classify", "doc", "tax", "inst", "cert", option, number,
-    ]
-}
-
 /// A run on a document alone, where nothing can be written.
 fn alone<R: AllocGlobal + RandomSource>(
     rt: &R,
@@ -202,9 +195,9 @@ fn alone<R: AllocGlobal + RandomSource>(
     run_of(rt, words, &mut files)
 }
 
-const CLASSIFY: [&str; 6] = ["elc", "classify", "doc", "tax", "inst", "cert"];
+const CLASSIFY: &[&str] = &["elc", "classify", "doc", "tax", "inst", "cert"];
 
-const CHECK: [&str; 6] = ["elc", "check", "doc", "tax", "inst", "cert"];
+const CHECK: &[&str] = &["elc", "check", "doc", "tax", "inst", "cert"];
 
 const ONE: &str =
     "eltax 1 consistent\n<http://www.w3.org/2002/07/owl#Thing>\n<x:A> < <x:B>\n<x:B> < <http://www.w3.org/2002/07/owl#Thing>\nbottom <http://www.w3.org/2002/07/owl#Nothing>\n";
@@ -213,32 +206,97 @@ const NO_INSTANCES: &str = "elinst 1 consistent\n";
 
 const ONE_DOCUMENT: &[u8] = b"Ontology(SubClassOf(<x:A> <x:B>))";
 
+/// The words that classify within a limit.
+const THREE_FACTS: &[&str] = &[
+    "elc",
+    "classify",
+    "doc",
+    "tax",
+    "inst",
+    "cert",
+    "--max-facts",
+    "3",
+];
+
+const TWO_FACTS: &[&str] = &[
+    "elc",
+    "classify",
+    "doc",
+    "tax",
+    "inst",
+    "cert",
+    "--max-facts",
+    "2",
+];
+
 #[test]
 fn limit_of_facts(rt: HostRuntime) -> Result<(), Fail> {
-    let (enough, less) = (limited("--max-facts", "3"), limited("--max-facts", "2"));
-    assert!(rt; status(&rt, &enough, b"Ontology()")? == 0);
+    assert!(rt; status(&rt, THREE_FACTS, b"Ontology()")? == 0);
     let told = "limit: more than 2 facts\n";
-    assert!(rt; refuses(&rt, &less, b"Ontology()", 5, told)?);
+    assert!(rt; refuses(&rt, TWO_FACTS, b"Ontology()", 5, told)?);
     Ok(())
 }
+
+const ALL_BYTES: &[&str] = &[
+    "elc",
+    "classify",
+    "doc",
+    "tax",
+    "inst",
+    "cert",
+    "--max-bytes",
+    "33",
+];
+
+const LESS_BYTES: &[&str] = &[
+    "elc",
+    "classify",
+    "doc",
+    "tax",
+    "inst",
+    "cert",
+    "--max-bytes",
+    "32",
+];
 
 #[test]
 fn limit_of_bytes(rt: HostRuntime) -> Result<(), Fail> {
-    let (enough, less) = (limited("--max-bytes", "33"), limited("--max-bytes", "32"));
-    assert!(rt; status(&rt, &enough, ONE_DOCUMENT)? == 0);
+    assert!(rt; status(&rt, ALL_BYTES, ONE_DOCUMENT)? == 0);
     let told = "limit: more than 32 bytes\n";
-    assert!(rt; refuses(&rt, &less, ONE_DOCUMENT, 5, told)?);
+    assert!(rt; refuses(&rt, LESS_BYTES, ONE_DOCUMENT, 5, told)?);
     Ok(())
 }
 
+/// Words that are refused, whatever the document.
+const REFUSED_WORDS: &[&[&str]] = &[
+    &[
+        "elc",
+        "classify",
+        "doc",
+        "tax",
+        "inst",
+        "cert",
+        "--max-facts",
+        "0",
+    ],
+    &[
+        "elc",
+        "classify",
+        "doc",
+        "tax",
+        "inst",
+        "cert",
+        "--max-bytes",
+        "268435457",
+    ],
+    &["elc", "classify", "doc", "tax", "inst", "cert", "more"],
+];
+
 #[test]
 fn refused_words(rt: HostRuntime) -> Result<(), Fail> {
-    let none = limited("--max-facts", "0");
-    assert!(rt; status(&rt, &none, b"Ontology()")? == 2);
-    let more = limited("--max-bytes", "268435457");
-    assert!(rt; status(&rt, &more, b"Ontology()")? == 2);
-    let words = ["elc", "classify", "doc", "tax", "inst", "cert", "more"];
-    assert!(rt; status(&rt, &words, b"Ontology()")? == 2);
+    for words in REFUSED_WORDS {
+        assert!(rt; status(&rt, *words, b"Ontology()")? == 2);
+    }
     Ok(())
 }
 
@@ -251,9 +309,9 @@ fn rejected_texts(rt: HostRuntime) -> Result<(), Fail> {
 
 #[test]
 fn files_that_are_missing(rt: HostRuntime) -> Result<(), Fail> {
-    let unread = alone(&rt, &CHECK, ONE_DOCUMENT)?;
+    let unread = alone(&rt, CHECK, ONE_DOCUMENT)?;
     assert!(rt; is_run(&unread, 6, "", "cannot read tax\n"));
-    let unwritten = alone(&rt, &CLASSIFY, ONE_DOCUMENT)?;
+    let unwritten = alone(&rt, CLASSIFY, ONE_DOCUMENT)?;
     assert!(rt; is_run(&unwritten, 6, "", "cannot write tax\n"));
     Ok(())
 }

@@ -4,6 +4,7 @@ use device::{
     BufferSink, Failed, ReadFault, ReaderSource, Sink, SliceSource, Source, WriterSink, read_all,
     write_all,
 };
+use std::alloc::Global;
 use std::test::Fail;
 
 /// A source that gives at most one byte a read.
@@ -112,21 +113,28 @@ fn slow(text: &[u8]) -> SlowSource<'_> {
     }
 }
 
-#[test]
-fn reads_up_to_the_limit(rt: HostRuntime) -> Result<(), Fail> {
-    let text = b"SubClassOf";
-    for (limit, fits) in [(0, false), (9, false), (10, true), (11, true)] {
-        let whole = read_all(rt.alloc(), &mut SliceSource::new(text), limit);
-        let bytes = read_all(rt.alloc(), &mut slow(text), limit);
-        if fits {
-            assert!(rt; whole?.as_slice() == text.as_slice(), "at {limit}");
-            assert!(rt; bytes?.as_slice() == text.as_slice(), "at {limit}");
-        } else {
-            assert!(rt; whole.err() == Some(ReadFault::TooLarge), "at {limit}");
-            assert!(rt; bytes.err() == Some(ReadFault::TooLarge), "at {limit}");
-        }
+const TEXT: &[u8] = b"SubClassOf";
+
+/// Whether the text is read from the source where it fits, and is told to be too large where it does not.
+fn reads<S: Source>(alloc: Global, source: &mut S, limit: usize, fits: bool) -> bool {
+    match read_all(alloc, source, limit) {
+        Ok(bytes) => fits && bytes.as_slice() == TEXT,
+        Err(fault) => !fits && fault == ReadFault::TooLarge,
     }
-    Ok(())
+}
+
+/// Limits, and whether the text fits into each.
+const LIMITS: &[(usize, bool)] = &[(0, false), (9, false), (10, true), (11, true)];
+
+#[test]
+fn reads_up_to_the_limit(rt: HostRuntime) {
+    for row in LIMITS {
+        let (limit, fits) = *row;
+        let whole = reads(rt.alloc(), &mut SliceSource::new(TEXT), limit, fits);
+        let slowly = reads(rt.alloc(), &mut slow(TEXT), limit, fits);
+        assert!(rt; whole, "at {limit}");
+        assert!(rt; slowly, "slowly at {limit}");
+    }
 }
 
 #[test]
@@ -190,17 +198,24 @@ fn a_write_that_fails_leaves_a_beginning(rt: HostRuntime) -> Result<(), Fail> {
     Ok(())
 }
 
+/// Whether the source gives `abc`, which then the sink takes.
+fn hands_on<S: Source, T: Sink>(alloc: Global, source: &mut S, sink: &mut T) -> bool {
+    match read_all(alloc, source, 3) {
+        Ok(bytes) => bytes.as_slice() == b"abc".as_slice() && write_all(sink, &bytes).is_ok(),
+        Err(_) => false,
+    }
+}
+
 #[test]
-fn adapters_hand_bytes_on(rt: HostRuntime) -> Result<(), Fail> {
+fn adapters_hand_bytes_on(rt: HostRuntime) {
     let mut source = ReaderSource::new(b"abc".as_slice());
-    let bytes = read_all(rt.alloc(), &mut source, 3)?;
-    assert!(rt; bytes.as_slice() == b"abc".as_slice());
     let mut sink = WriterSink::new(Vec::new(rt.alloc()));
-    write_all(&mut sink, &bytes)?;
+    let handed_on = hands_on(rt.alloc(), &mut source, &mut sink);
+    drop(sink);
+    assert!(rt; handed_on);
     let mut full = [0; 2];
     let mut short = WriterSink::new(full.as_mut_slice());
     assert!(rt; write_all(&mut short, b"abc") == Err(Failed));
-    Ok(())
 }
 
 #[test]

@@ -2,12 +2,14 @@
 
 use device::{Failed, ReadFault, read_all, write_all};
 use std::fs;
+use std::process::Abort;
 use std::test::Fail;
 use system_files::{Files, MemoryFiles, SystemFiles};
 
 const PATH: &str = "system_files_test.txt";
 
-const ABSENT: &str = "system_files_absent/file.txt";
+/// A path into a folder that is absent, and that of a folder.
+const NO_FILES: &[&str] = &["system_files_absent/file.txt", "."];
 
 /// What the file at the path holds, if it can be read.
 fn read<R: AllocGlobal, F: Files>(
@@ -19,42 +21,56 @@ fn read<R: AllocGlobal, F: Files>(
     Ok(read_all(rt.alloc(), &mut source, 100))
 }
 
-#[test]
-fn a_file_is_written_and_read_back(rt: HostRuntime) -> Result<(), Fail> {
-    let mut files = SystemFiles::new(&rt);
-    for text in ["consistent classes 4\n".as_bytes(), b"short\n"] {
+const TEXTS: &[&[u8]] = &[b"consistent classes 4\n", b"short\n"];
+
+/// A file that is written is read back, also where it is written again.
+fn write_and_read_back<R: AllocGlobal + Abort, F: Files>(
+    rt: &R,
+    files: &mut F,
+) -> Result<(), Fail> {
+    for text in TEXTS {
         let mut sink = files.writer(PATH)?;
-        write_all(&mut sink, text)?;
+        write_all(&mut sink, *text)?;
         files.close(sink);
-        let bytes = read(&rt, &files, PATH)??;
-        assert!(rt; bytes.as_slice() == text);
+        let bytes = read(rt, files, PATH)??;
+        assert!(rt; bytes.as_slice() == *text);
     }
-    fs::remove_file(&rt, PATH)?;
     Ok(())
 }
 
-#[test]
-fn a_file_is_made_at_its_first_write(rt: HostRuntime) -> Result<(), Fail> {
+/// A file is made at its first write, and not before.
+fn write_nothing<R: AllocGlobal + Abort, F: Files>(rt: &R, files: &mut F) -> Result<(), Fail> {
     let path = "system_files_unmade.txt";
-    let mut files = SystemFiles::new(&rt);
     let sink = files.writer(path)?;
     files.close(sink);
-    assert!(rt; read(&rt, &files, path)?.err() == Some(ReadFault::Failed));
+    assert!(rt; read(rt, files, path)?.err() == Some(ReadFault::Failed));
     Ok(())
 }
 
-#[test]
-fn what_can_not_be_opened_fails(rt: HostRuntime) -> Result<(), Fail> {
-    let mut files = SystemFiles::new(&rt);
-    for path in [ABSENT, "."] {
+/// What can not be opened fails.
+fn open_what_is_no_file<R: AllocGlobal + Abort, F: Files>(
+    rt: &R,
+    files: &mut F,
+) -> Result<(), Fail> {
+    for path in NO_FILES {
         assert!(rt;
-            read(&rt, &files, path)?.err() == Some(ReadFault::Failed),
+            read(rt, files, *path)?.err() == Some(ReadFault::Failed),
             "{path}"
         );
-        let written = write_all(&mut files.writer(path)?, b"text");
+        let written = write_all(&mut files.writer(*path)?, b"text");
         assert!(rt; written == Err(Failed), "{path}");
     }
     Ok(())
+}
+
+/// One test for all: that these are the system's files is what its proof takes long for.
+#[test]
+fn files_of_the_system(rt: HostRuntime) -> Result<(), Fail> {
+    let mut files = SystemFiles::new(&rt);
+    write_and_read_back(&rt, &mut files)?;
+    fs::remove_file(&rt, PATH)?;
+    write_nothing(&rt, &mut files)?;
+    open_what_is_no_file(&rt, &mut files)
 }
 
 #[test]

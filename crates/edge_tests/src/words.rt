@@ -11,22 +11,34 @@ const PATHS: Paths<'static> = Paths {
     certificate: "a.cert",
 };
 
+/// Words of `classify`, and the limits that they give.
+const CLASSIFY: &[(&[&str], u64, u64)] = &[
+    (
+        &["elc", "classify", "a.ofn", "a.tax", "a.inst", "a.cert"],
+        100_000_000,
+        268_435_456,
+    ),
+    (
+        &[
+            "elc",
+            "classify",
+            "--max-facts",
+            "9",
+            "a.ofn",
+            "a.tax",
+            "a.inst",
+            "a.cert",
+            "--max-bytes=1000",
+        ],
+        9,
+        1000,
+    ),
+];
+
 #[test]
 fn classify_with_and_without_options(rt: HostRuntime) -> Result<(), Fail> {
-    let plain = ["elc", "classify", "a.ofn", "a.tax", "a.inst", "a.cert"];
-    let bounded = [
-        "elc",
-        "classify",
-        "--max-facts",
-        "9",
-        "a.ofn",
-        "a.tax",
-        "a.inst",
-        "a.cert",
-        "--max-bytes=1000",
-    ];
-    let words: [(&[&str], u64, u64); 2] = [(&plain, 100_000_000, 268_435_456), (&bounded, 9, 1000)];
-    for (words, max_facts, max_bytes) in words {
+    for row in CLASSIFY {
+        let (words, max_facts, max_bytes) = *row;
         let wanted = Task::Classify {
             paths: PATHS,
             max_facts,
@@ -37,21 +49,31 @@ fn classify_with_and_without_options(rt: HostRuntime) -> Result<(), Fail> {
     Ok(())
 }
 
+/// Words of `check`, and the limit that they give.
+const CHECK: &[(&[&str], u64)] = &[
+    (
+        &["elc", "check", "a.ofn", "a.tax", "a.inst", "a.cert"],
+        268_435_456,
+    ),
+    (
+        &[
+            "elc",
+            "check",
+            "a.ofn",
+            "a.tax",
+            "a.inst",
+            "a.cert",
+            "--max-bytes",
+            "268435456",
+        ],
+        268_435_456,
+    ),
+];
+
 #[test]
 fn check_with_and_without_its_option(rt: HostRuntime) -> Result<(), Fail> {
-    let plain = ["elc", "check", "a.ofn", "a.tax", "a.inst", "a.cert"];
-    let bounded = [
-        "elc",
-        "check",
-        "a.ofn",
-        "a.tax",
-        "a.inst",
-        "a.cert",
-        "--max-bytes",
-        "268435456",
-    ];
-    let words: [(&[&str], u64); 2] = [(&plain, 268_435_456), (&bounded, 268_435_456)];
-    for (words, max_bytes) in words {
+    for row in CHECK {
+        let (words, max_bytes) = *row;
         let wanted = Task::Check {
             paths: PATHS,
             max_bytes,
@@ -61,20 +83,32 @@ fn check_with_and_without_its_option(rt: HostRuntime) -> Result<(), Fail> {
     Ok(())
 }
 
+/// Words of `instances`, and the limits that they give.
+const INSTANCES: &[(&[&str], u64, u64)] = &[
+    (
+        &["elc", "instances", "a.ofn", "x:A"],
+        100_000_000,
+        268_435_456,
+    ),
+    (
+        &[
+            "elc",
+            "instances",
+            "a.ofn",
+            "--max-bytes=1000",
+            "x:A",
+            "--max-facts",
+            "9",
+        ],
+        9,
+        1000,
+    ),
+];
+
 #[test]
 fn instances_with_and_without_options(rt: HostRuntime) -> Result<(), Fail> {
-    let plain = ["elc", "instances", "a.ofn", "x:A"];
-    let bounded = [
-        "elc",
-        "instances",
-        "a.ofn",
-        "--max-bytes=1000",
-        "x:A",
-        "--max-facts",
-        "9",
-    ];
-    let words: [(&[&str], u64, u64); 2] = [(&plain, 100_000_000, 268_435_456), (&bounded, 9, 1000)];
-    for (words, max_facts, max_bytes) in words {
+    for row in INSTANCES {
+        let (words, max_facts, max_bytes) = *row;
         let wanted = Task::Instances {
             document: "a.ofn",
             class: "x:A",
@@ -101,49 +135,61 @@ fn asked(individual: bool, dot: bool) -> Task<'static> {
     }
 }
 
+/// Words of `explain`, whether they ask of an individual, and whether for a graph.
+const EXPLAIN: &[(&[&str], bool, bool)] = &[
+    (&["elc", "explain", "a.ofn", "x:A", "x:B"], false, false),
+    (
+        &["elc", "explain", "--individual", "a.ofn", "x:A", "x:B"],
+        true,
+        false,
+    ),
+    (
+        &["elc", "explain", "a.ofn", "x:A", "--dot", "x:B"],
+        false,
+        true,
+    ),
+    (
+        &[
+            "elc",
+            "explain",
+            "a.ofn",
+            "x:A",
+            "x:B",
+            "--dot",
+            "--individual",
+        ],
+        true,
+        true,
+    ),
+];
+
 #[test]
 fn explain_with_and_without_flags(rt: HostRuntime) -> Result<(), Fail> {
-    let plain = ["elc", "explain", "a.ofn", "x:A", "x:B"];
-    let individual = ["elc", "explain", "--individual", "a.ofn", "x:A", "x:B"];
-    let dot = ["elc", "explain", "a.ofn", "x:A", "--dot", "x:B"];
-    let both = [
-        "elc",
-        "explain",
-        "a.ofn",
-        "x:A",
-        "x:B",
-        "--dot",
-        "--individual",
-    ];
-    let words: [(&[&str], bool, bool); 4] = [
-        (&plain, false, false),
-        (&individual, true, false),
-        (&dot, false, true),
-        (&both, true, true),
-    ];
-    for (words, individual, dot) in words {
+    for row in EXPLAIN {
+        let (words, individual, dot) = *row;
         assert!(rt; task(rt.alloc(), words)? == asked(individual, dot));
     }
     Ok(())
 }
 
+const EXPLAIN_WITHIN: &[&str] = &[
+    "elc",
+    "explain",
+    "--max-facts=9",
+    "a.ofn",
+    "x:A",
+    "x:B",
+    "--max-bytes",
+    "1000",
+];
+
 #[test]
 fn explain_with_limits(rt: HostRuntime) -> Result<(), Fail> {
-    let words = [
-        "elc",
-        "explain",
-        "--max-facts=9",
-        "a.ofn",
-        "x:A",
-        "x:B",
-        "--max-bytes",
-        "1000",
-    ];
     let Task::Explain {
         max_facts,
         max_bytes,
         ..
-    } = task(rt.alloc(), &words)?
+    } = task(rt.alloc(), EXPLAIN_WITHIN)?
     else {
         return Err(Fail::from("another task"));
     };
@@ -161,67 +207,71 @@ fn is_refused(alloc: Global, line: &str) -> Result<bool, AllocError> {
     })
 }
 
+const REFUSED: &[&str] = &[
+    "elc",
+    "elc --help",
+    "elc help",
+    "elc check --help",
+    "elc clasify a b c d",
+    "elc classify a b c",
+    "elc classify a b c d e",
+    "elc classify a b c d --max-facts",
+    "elc classify a b c d --max-facts 0",
+    "elc classify a b c d --max-facts 100000001",
+    "elc classify a b c d --max-facts -1",
+    "elc classify a b c d --max-facts many",
+    "elc classify a b c d --max-facts 1 --max-facts 1",
+    "elc classify a b c d --max-bytes 0",
+    "elc classify a b c d --max-bytes 268435457",
+    "elc classify a b c d --max-bytes 18446744073709551617",
+    "elc classify a b c d --max-bytes 1 --max-bytes=2",
+    "elc classify a b c d --most 1",
+    "elc check a b c",
+    "elc check a b c d e",
+    "elc check a b c d --max-facts 1",
+    "elc check a b c d --max-bytes 0",
+    "elc check a b c d --max-bytes 2 --max-bytes 2",
+    "elc instances a",
+    "elc instances a b c",
+    "elc instances a b --dot",
+    "elc instances a b --max-facts 0",
+    "elc instances a b --max-bytes 268435457",
+    "elc explain a b",
+    "elc explain a b --individual",
+    "elc explain a b c d",
+    "elc explain a b c --dot --dot",
+    "elc explain a b c --individual=true",
+    "elc explain a b c --max-facts 100000001",
+    "elc explain a b c --max-bytes 0",
+    "elc explain --help",
+];
+
 #[test]
 fn lines_that_are_refused(rt: HostRuntime) -> Result<(), Fail> {
-    for line in [
-        "elc",
-        "elc --help",
-        "elc help",
-        "elc check --help",
-        "elc clasify a b c d",
-        "elc classify a b c",
-        "elc classify a b c d e",
-        "elc classify a b c d --max-facts",
-        "elc classify a b c d --max-facts 0",
-        "elc classify a b c d --max-facts 100000001",
-        "elc classify a b c d --max-facts -1",
-        "elc classify a b c d --max-facts many",
-        "elc classify a b c d --max-facts 1 --max-facts 1",
-        "elc classify a b c d --max-bytes 0",
-        "elc classify a b c d --max-bytes 268435457",
-        "elc classify a b c d --max-bytes 18446744073709551617",
-        "elc classify a b c d --max-bytes 1 --max-bytes=2",
-        "elc classify a b c d --most 1",
-        "elc check a b c",
-        "elc check a b c d e",
-        "elc check a b c d --max-facts 1",
-        "elc check a b c d --max-bytes 0",
-        "elc check a b c d --max-bytes 2 --max-bytes 2",
-        "elc instances a",
-        "elc instances a b c",
-        "elc instances a b --dot",
-        "elc instances a b --max-facts 0",
-        "elc instances a b --max-bytes 268435457",
-        "elc explain a b",
-        "elc explain a b --individual",
-        "elc explain a b c d",
-        "elc explain a b c --dot --dot",
-        "elc explain a b c --individual=true",
-        "elc explain a b c --max-facts 100000001",
-        "elc explain a b c --max-bytes 0",
-        "elc explain --help",
-    ] {
+    for line in REFUSED {
         assert!(rt; is_refused(rt.alloc(), line)?, "{line}");
     }
     Ok(())
 }
 
+const TAKEN: &[&str] = &[
+    "elc classify a b c d --max-facts 1 --max-bytes 1",
+    "elc classify a b c d --max-facts 100000000 --max-bytes 268435456",
+    "elc check a b c d --max-bytes 1",
+    "elc instances a b --max-facts 100000000 --max-bytes 1",
+    "elc explain a b c --max-facts 1 --max-bytes 268435456",
+];
+
 #[test]
 fn a_number_at_either_end_is_taken(rt: HostRuntime) -> Result<(), Fail> {
-    for line in [
-        "elc classify a b c d --max-facts 1 --max-bytes 1",
-        "elc classify a b c d --max-facts 100000000 --max-bytes 268435456",
-        "elc check a b c d --max-bytes 1",
-        "elc instances a b --max-facts 100000000 --max-bytes 1",
-        "elc explain a b c --max-facts 1 --max-bytes 268435456",
-    ] {
+    for line in TAKEN {
         assert!(rt; !is_refused(rt.alloc(), line)?, "{line}");
     }
     Ok(())
 }
 
 /// The examples that help ends in.
-const EXAMPLES: [&str; 5] = [
+const EXAMPLES: &[&str] = &[
     "elc classify food.ofn food.tax food.inst food.cert",
     "elc check food.ofn food.tax food.inst food.cert",
     "elc instances food.ofn http://example.org/Pizza",
@@ -229,9 +279,11 @@ const EXAMPLES: [&str; 5] = [
     "elc explain food.ofn http://example.org/margherita http://example.org/Pizza --individual",
 ];
 
+const HELP: &[&str] = &["elc", "--help"];
+
 #[test]
 fn help_has_examples_that_are_taken(rt: HostRuntime) -> Result<(), Fail> {
-    let Err(LineFault::Line(help)) = task(rt.alloc(), &["elc", "--help"]) else {
+    let Err(LineFault::Line(help)) = task(rt.alloc(), HELP) else {
         return Err(Fail::from("no help"));
     };
     let text = format!(in rt.alloc(); "{help}")?;

@@ -30,9 +30,13 @@ fn is_taken(alloc: Global, n: usize, number: usize) -> Result<bool, Memory> {
     Ok(row.put(number) && row.contains(number) && row.count() == 1)
 }
 
+/// Numbers, and whether each is below 70.
+const NUMBERS: &[(usize, bool)] = &[(0, true), (63, true), (64, true), (69, true), (70, false)];
+
 #[test]
 fn numbers_in_range(rt: HostRuntime) -> Result<(), Fail> {
-    for (number, in_range) in [(0, true), (63, true), (64, true), (69, true), (70, false)] {
+    for row in NUMBERS {
+        let (number, in_range) = *row;
         assert!(rt; is_taken(rt.alloc(), 70, number)? == in_range, "{number}");
     }
     Ok(())
@@ -99,13 +103,17 @@ fn builder<R: AllocGlobal + RandomSource>(rt: &R) -> Result<Builder, Fail> {
     Ok(Builder::new(rt.alloc(), RandomState::new(rt)?)?)
 }
 
+/// A name of each kind.
+const NAMES: &[(Kind, &str)] = &[
+    (Kind::Class, "x:A"),
+    (Kind::Property, "x:r"),
+    (Kind::Individual, "x:a"),
+];
+
 /// Declares the class A, of number 2, the property r and the individual a.
 fn declare_names(builder: &mut Builder) -> Result<(), BuildFault> {
-    for (kind, iri) in [
-        (Kind::Class, "x:A"),
-        (Kind::Property, "x:r"),
-        (Kind::Individual, "x:a"),
-    ] {
+    for row in NAMES {
+        let (kind, iri) = *row;
         builder.declare(kind, iri)?;
     }
     Ok(())

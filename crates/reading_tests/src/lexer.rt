@@ -1,5 +1,8 @@
+//! Texts and their tokens, each as its kind, its place and its text.
+
 use fs_lexer::{Kind, LexFault, Token, texts_have_one_fault, texts_spell_one_list, tokens};
 use std::alloc::{AllocError, Global};
+use std::process::Abort;
 
 /// The tokens, each as its kind, its place and its text, or the fault.
 fn shown(alloc: Global, text: &str) -> Result<String, AllocError> {
@@ -24,89 +27,49 @@ fn is_shown(alloc: Global, text: &str, expected: &str) -> Result<bool, AllocErro
     Ok(found.as_str() == expected)
 }
 
-#[test]
-fn every_kind(rt: HostRuntime) {
-    let text = "Prefix(:=<x:a#b>) #c\n\"a\\\"b\\\\\"@en-1^^x:A _:b.c 12 a-b:";
-    assert!(rt;
-        is_shown(
-            rt.alloc(),
-            text,
-            "Keyword@0 Prefix Opening@6 ( PrefixName@7 : Equals@8 = FullIri@9 <x:a#b> Closing@16 ) Quoted@21 \"a\\\"b\\\\\" LanguageTag@29 @en-1 Carets@34 ^^ ShortName@36 x:A NodeLabel@40 _:b.c Integer@46 12 PrefixName@49 a-b: "
-        ) == Ok(true)
-    );
-}
-
-#[test]
-fn hash_in_iri_and_comment_at_end(rt: HostRuntime) {
-    assert!(rt;
-        is_shown(
-            rt.alloc(),
-            "Ontology(SubClassOf(<x:A#b> <x:B>)) # end",
-            "Keyword@0 Ontology Opening@8 ( Keyword@9 SubClassOf Opening@19 ( FullIri@20 <x:A#b> FullIri@28 <x:B> Closing@33 ) Closing@34 ) "
-        ) == Ok(true)
-    );
-}
-
-#[test]
-fn names_may_touch_signs(rt: HostRuntime) {
-    assert!(rt;
-        is_shown(
-            rt.alloc(),
-            "SubClassOf(<x:A><x:B>)",
-            "Keyword@0 SubClassOf Opening@10 ( FullIri@11 <x:A> FullIri@16 <x:B> Closing@21 ) "
-        ) == Ok(true)
-    );
-}
-
-#[test]
-fn nothing_to_read(rt: HostRuntime) {
-    assert!(rt; is_shown(rt.alloc(), "", "") == Ok(true));
-    assert!(rt; is_shown(rt.alloc(), " \t\r\n", "") == Ok(true));
-    assert!(rt; is_shown(rt.alloc(), "# \"", "") == Ok(true));
-}
-
-#[test]
-fn faults_and_their_places(rt: HostRuntime) {
+/// Whole documents and parts of them, each with its tokens or its fault.
+const DOCUMENTS: &[(&str, &str)] = &[
+    // Every kind of token.
+    (
+        "Prefix(:=<x:a#b>) #c\n\"a\\\"b\\\\\"@en-1^^x:A _:b.c 12 a-b:",
+        "Keyword@0 Prefix Opening@6 ( PrefixName@7 : Equals@8 = FullIri@9 <x:a#b> Closing@16 ) Quoted@21 \"a\\\"b\\\\\" LanguageTag@29 @en-1 Carets@34 ^^ ShortName@36 x:A NodeLabel@40 _:b.c Integer@46 12 PrefixName@49 a-b: ",
+    ),
+    // A hash in an IRI, and a comment at the end.
+    (
+        "Ontology(SubClassOf(<x:A#b> <x:B>)) # end",
+        "Keyword@0 Ontology Opening@8 ( Keyword@9 SubClassOf Opening@19 ( FullIri@20 <x:A#b> FullIri@28 <x:B> Closing@33 ) Closing@34 ) ",
+    ),
+    // Names may touch signs.
+    (
+        "SubClassOf(<x:A><x:B>)",
+        "Keyword@0 SubClassOf Opening@10 ( FullIri@11 <x:A> FullIri@16 <x:B> Closing@21 ) ",
+    ),
+    // Nothing to read.
+    ("", ""),
+    (" \t\r\n", ""),
+    ("# \"", ""),
     // Characters that begin nothing, a byte order mark among them.
-    assert!(rt; is_shown(rt.alloc(), "a ^b", "X1 at byte 2") == Ok(true));
-    assert!(rt; is_shown(rt.alloc(), "\u{feff}Ontology()", "X1 at byte 0") == Ok(true));
-    assert!(rt; is_shown(rt.alloc(), "\"a\"@1", "X1 at byte 3") == Ok(true));
-    assert!(rt; is_shown(rt.alloc(), "\"a\"@en_US", "X1 at byte 3") == Ok(true));
+    ("a ^b", "X1 at byte 2"),
+    ("\u{feff}Ontology()", "X1 at byte 0"),
+    ("\"a\"@1", "X1 at byte 3"),
+    ("\"a\"@en_US", "X1 at byte 3"),
     // Strings and IRIs that do not end.
-    assert!(rt; is_shown(rt.alloc(), "Ontology(Annotation(<x:l> \"a", "X2 at byte 26") == Ok(true));
-    assert!(rt; is_shown(rt.alloc(), "a \"b\\c\"", "X2 at byte 2") == Ok(true));
-    assert!(rt; is_shown(rt.alloc(), "Ontology(<x:", "X3 at byte 9") == Ok(true));
-    assert!(rt; is_shown(rt.alloc(), " <a b>", "X3 at byte 1") == Ok(true));
-    assert!(rt; is_shown(rt.alloc(), "<>", "X3 at byte 0") == Ok(true));
+    ("Ontology(Annotation(<x:l> \"a", "X2 at byte 26"),
+    ("a \"b\\c\"", "X2 at byte 2"),
+    ("Ontology(<x:", "X3 at byte 9"),
+    (" <a b>", "X3 at byte 1"),
+    ("<>", "X3 at byte 0"),
     // Runs of word characters that are no word.
-    assert!(rt; is_shown(rt.alloc(), "(a1)", "X4 at byte 1") == Ok(true));
-    assert!(rt; is_shown(rt.alloc(), "a:b.", "X4 at byte 0") == Ok(true));
-}
-
-#[test]
-fn touching_words(rt: HostRuntime) {
-    assert!(rt;
-        is_shown(
-            rt.alloc(),
-            "Ontology(SubClassOf(owl:Thing:A <x:B>))",
-            "X4 at byte 20"
-        ) == Ok(true)
-    );
-}
-
-#[test]
-fn cut_documents(rt: HostRuntime) {
-    assert!(rt; is_shown(rt.alloc(), "Ontology(SubClassOf(<", "X3 at byte 20") == Ok(true));
-    assert!(rt; is_shown(rt.alloc(), "Ontology(SubClassOf(<x:A", "X3 at byte 20") == Ok(true));
-    assert!(rt; is_shown(rt.alloc(), "Ontology(SubClassOf(<x:A> <", "X3 at byte 26") == Ok(true));
-    assert!(rt;
-        is_shown(
-            rt.alloc(),
-            "Ontology(SubClassOf(<x:A> <x:B",
-            "X3 at byte 26"
-        ) == Ok(true)
-    );
-}
+    ("(a1)", "X4 at byte 1"),
+    ("a:b.", "X4 at byte 0"),
+    // Words that touch.
+    ("Ontology(SubClassOf(owl:Thing:A <x:B>))", "X4 at byte 20"),
+    // Documents that are cut.
+    ("Ontology(SubClassOf(<", "X3 at byte 20"),
+    ("Ontology(SubClassOf(<x:A", "X3 at byte 20"),
+    ("Ontology(SubClassOf(<x:A> <", "X3 at byte 26"),
+    ("Ontology(SubClassOf(<x:A> <x:B", "X3 at byte 26"),
+];
 
 #[test]
 fn kinds_and_faults_compare(rt: HostRuntime) {
@@ -117,7 +80,7 @@ fn kinds_and_faults_compare(rt: HostRuntime) {
 }
 
 /// Texts, each with its tokens or its fault.
-const TEXTS: [(&str, &str); 84] = [
+const TEXTS: &[(&str, &str)] = &[
     ("", ""),
     (" \t\r\n", ""),
     ("#", ""),
@@ -207,11 +170,22 @@ const TEXTS: [(&str, &str); 84] = [
     ("a\0", "X1 at byte 1"),
 ];
 
-#[test]
-fn table_of_texts(rt: HostRuntime) {
-    for (text, expected) in &TEXTS {
+/// Each of the texts is shown so.
+fn assert_shown<R: AllocGlobal + Abort>(rt: &R, rows: &[(&str, &str)]) {
+    for row in rows {
+        let (text, expected) = *row;
         assert!(rt; is_shown(rt.alloc(), text, expected) == Ok(true), "{text}");
     }
+}
+
+#[test]
+fn documents(rt: HostRuntime) {
+    assert_shown(&rt, DOCUMENTS);
+}
+
+#[test]
+fn table_of_texts(rt: HostRuntime) {
+    assert_shown(&rt, TEXTS);
 }
 
 #[test]

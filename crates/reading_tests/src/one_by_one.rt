@@ -73,7 +73,7 @@ fn shown(alloc: Global, text: &str, state: RandomState) -> Shown {
 }
 
 /// What stands in a document with the prefix `:` for `x:`, from byte 24 on, and what is shown of it.
-const ROWS: [(&str, &str); 6] = [
+const ROWS: &[(&str, &str)] = &[
     ("", "[2, 0, 0, 2, 0]"),
     (
         ":o :v Annotation(:p \"x\") SubClassOf(:A :B) ClassAssertion(:B :a)",
@@ -92,10 +92,11 @@ const ROWS: [(&str, &str); 6] = [
 #[test]
 fn trees_one_by_one(rt: HostRuntime) -> Result<(), Fail> {
     let state = random(&rt)?;
-    for (inside, expected) in &ROWS {
+    for row in ROWS {
+        let (inside, expected) = *row;
         let text = format!(in rt.alloc(); "Prefix(:=<x:>) Ontology({inside})")?;
         let found = shown(rt.alloc(), text.as_str(), state)?;
-        assert!(rt; found.as_str() == *expected, "{inside}: {found}");
+        assert!(rt; found.as_str() == expected, "{inside}: {found}");
     }
     Ok(())
 }

@@ -1,3 +1,5 @@
+//! Texts and the trees of the documents that they are.
+
 use fs_lexer::{LexFault, Token, tokens};
 use fs_parser::{Document, Iri, ParseFault, Tree, forms, tokens_are_one_document};
 use std::alloc::{AllocError, Global};
@@ -75,7 +77,7 @@ fn is_shown(alloc: Global, text: &str, expected: &str) -> Result<bool, AllocErro
 }
 
 /// Documents, each with its name and what it is.
-const ROWS: [(&str, &str, &str); 11] = [
+const ROWS: &[(&str, &str, &str)] = &[
     ("empty_ontology", "Ontology()", ""),
     (
         "one_subclass",
@@ -122,7 +124,7 @@ const ROWS: [(&str, &str, &str); 11] = [
 ];
 
 /// Texts, each with what it is.
-const TEXTS: [(&str, &str); 95] = [
+const TEXTS: &[(&str, &str)] = &[
     // What ends too early stands where its last token ends.
     (" # Ontology()\n", "P2 at byte 0"),
     ("Ontology", "P2 at byte 8"),
@@ -269,7 +271,7 @@ const TEXTS: [(&str, &str); 95] = [
 
 /// Texts behind 64 open parentheses of `Ontology( .. )`, which end at byte 73, each with what the whole is. One more
 /// parenthesis that fits is one too many.
-const IN_GROUPS: [(&str, &str); 9] = [
+const IN_GROUPS: &[(&str, &str)] = &[
     ("", "P2 at byte 73"),
     ("(", "P6 at byte 73"),
     ("K(", "P6 at byte 74"),
@@ -283,7 +285,8 @@ const IN_GROUPS: [(&str, &str); 9] = [
 
 #[test]
 fn rows(rt: HostRuntime) {
-    for (name, text, expected) in &ROWS {
+    for row in ROWS {
+        let (name, text, expected) = *row;
         assert!(rt; is_shown(rt.alloc(), text, expected) == Ok(true), "{name}");
     }
 }
@@ -299,10 +302,12 @@ fn is_shown_in_groups(alloc: Global, inside: &str, expected: &str) -> Result<boo
 
 #[test]
 fn table_of_texts(rt: HostRuntime) {
-    for (text, expected) in &TEXTS {
+    for row in TEXTS {
+        let (text, expected) = *row;
         assert!(rt; is_shown(rt.alloc(), text, expected) == Ok(true), "{text}");
     }
-    for (inside, expected) in &IN_GROUPS {
+    for row in IN_GROUPS {
+        let (inside, expected) = *row;
         assert!(rt;
             is_shown_in_groups(rt.alloc(), inside, expected) == Ok(true),
             "{inside}"
@@ -324,44 +329,52 @@ fn places_of_trees(rt: HostRuntime) {
     assert!(rt; found);
 }
 
-/// The document of one subclass axiom, cut after so many bytes.
-fn is_cut(
-    alloc: Global,
-    text: &str,
-    first: usize,
-    last: usize,
-    expected: &str,
-) -> Result<bool, AllocError> {
+const ONE_SUBCLASS: &str = "Ontology(SubClassOf(<x:A> <x:B>))";
+
+/// Whether the document of one subclass axiom is that, cut after each number of bytes from the first to the last.
+fn is_cut(alloc: Global, first: usize, last: usize, expected: &str) -> Result<bool, AllocError> {
     let mut fits = true;
     for k in first..last.saturating_add(1) {
-        if let Some(cut) = text.get(..k) {
+        if let Some(cut) = ONE_SUBCLASS.get(..k) {
             fits = fits && is_shown(alloc, cut, expected)?;
         }
     }
     Ok(fits)
 }
 
+/// The same of a cut inside of the document, behind a token.
+fn is_cut_behind_a_token(alloc: Global, k: usize) -> Result<bool, AllocError> {
+    let expected = format!(in alloc; "P2 at byte {k}")?;
+    is_cut(alloc, k, k, expected.as_str())
+}
+
+/// The least and the greatest number of bytes that are left, and what the document is then.
+const CUTS: &[(usize, usize, &str)] = &[
+    (0, 0, "P2 at byte 0"),
+    (1, 7, "P1 at byte 0"),
+    (21, 24, "X3 at byte 20"),
+    (25, 26, "P2 at byte 25"),
+    (27, 30, "X3 at byte 26"),
+    (31, 31, "P2 at byte 31"),
+    (32, 32, "P2 at byte 32"),
+];
+
 #[test]
 fn cut_documents(rt: HostRuntime) -> Result<(), Fail> {
-    let text = "Ontology(SubClassOf(<x:A> <x:B>))";
-    let alloc = rt.alloc();
-    assert!(rt; is_cut(alloc, text, 0, 0, "P2 at byte 0")?);
-    assert!(rt; is_cut(alloc, text, 1, 7, "P1 at byte 0")?);
-    for k in 8..21 {
-        let expected = format!(in alloc; "P2 at byte {k}")?;
-        assert!(rt; is_cut(alloc, text, k, k, expected.as_str())?);
+    for row in CUTS {
+        let (first, last, expected) = *row;
+        assert!(rt; is_cut(rt.alloc(), first, last, expected)?, "{expected}");
     }
-    assert!(rt; is_cut(alloc, text, 21, 24, "X3 at byte 20")?);
-    assert!(rt; is_cut(alloc, text, 25, 26, "P2 at byte 25")?);
-    assert!(rt; is_cut(alloc, text, 27, 30, "X3 at byte 26")?);
-    assert!(rt; is_cut(alloc, text, 31, 31, "P2 at byte 31")?);
-    assert!(rt; is_cut(alloc, text, 32, 32, "P2 at byte 32")?);
+    for k in 8..21 {
+        assert!(rt; is_cut_behind_a_token(rt.alloc(), k)?, "{k}");
+    }
     Ok(())
 }
 
-/// A chain of so many class expressions, each inside of the one before it.
-fn deep(alloc: Global, levels: usize) -> Result<String, AllocError> {
-    let mut text = String::from_str(alloc, "Ontology(SubClassOf(<x:A> ")?;
+/// A chain of so many class expressions, each inside of the one before it, in a document that begins so.
+fn deep(alloc: Global, front: &str, levels: usize) -> Result<String, AllocError> {
+    let mut text = String::from_str(alloc, front)?;
+    text.push_str("Ontology(SubClassOf(<x:A> ")?;
     for _ in 0..levels {
         text.push_str("ObjectSomeValuesFrom(<x:r> ")?;
     }
@@ -373,20 +386,28 @@ fn deep(alloc: Global, levels: usize) -> Result<String, AllocError> {
     Ok(text)
 }
 
+/// Whether a document with 63 levels is read.
+fn is_deepest_read(alloc: Global) -> Result<bool, AllocError> {
+    let text = deep(alloc, "", 63)?;
+    match tokens(alloc, text.as_str()) {
+        Ok(tokens) => Ok(forms(alloc, tokens.as_slice()).is_ok()),
+        Err(_) => Ok(false),
+    }
+}
+
+/// Whether one with 64 that begins so is that.
+fn is_deeper(alloc: Global, front: &str, expected: &str) -> Result<bool, AllocError> {
+    let text = deep(alloc, front, 64)?;
+    is_shown(alloc, text.as_str(), expected)
+}
+
 #[test]
 fn deepest_expression(rt: HostRuntime) -> Result<(), Fail> {
     let alloc = rt.alloc();
-    let text = deep(alloc, 63)?;
-    assert!(rt; tokens(alloc, text.as_str()).is_ok());
-    if let Ok(tokens) = tokens(alloc, text.as_str()) {
-        assert!(rt; forms(alloc, tokens.as_slice()).is_ok());
-    }
-    let deeper = deep(alloc, 64)?;
-    assert!(rt; is_shown(alloc, deeper.as_str(), "P6 at byte 1747")?);
+    assert!(rt; is_deepest_read(alloc)?);
+    assert!(rt; is_deeper(alloc, "", "P6 at byte 1747")?);
     // A declaration closes its parenthesis.
-    let mut declared = String::from_str(alloc, "Prefix(:=<x:>)")?;
-    declared.push_str(deeper.as_str())?;
-    assert!(rt; is_shown(alloc, declared.as_str(), "P6 at byte 1761")?);
+    assert!(rt; is_deeper(alloc, "Prefix(:=<x:>)", "P6 at byte 1761")?);
     Ok(())
 }
 

@@ -1,3 +1,5 @@
+//! Statements and expressions by the prefixes of a document.
+
 use crate::parser::push_tree;
 use fs_lexer::{Token, tokens};
 use fs_parser::{ParseFault, Prefixes, expression, forms, statements, tokens_are_one_document};
@@ -83,7 +85,7 @@ fn is_expression(
 }
 
 /// Statements, each with what they are.
-const STATEMENTS: [(&str, &str); 11] = [
+const STATEMENTS: &[(&str, &str)] = &[
     ("", ""),
     ("SubClassOf(:A :B)", "SubClassOf(<x:A> <x:B> ) "),
     ("SubClassOf(:A :B) <x:C>", "SubClassOf(<x:A> <x:B> ) <x:C> "),
@@ -98,7 +100,7 @@ const STATEMENTS: [(&str, &str); 11] = [
 ];
 
 /// Expressions, each with what it is.
-const EXPRESSIONS: [(&str, &str); 14] = [
+const EXPRESSIONS: &[(&str, &str)] = &[
     ("", "P2 at byte 0"),
     (":A", "<x:A> "),
     (":A :B", "P1 at byte 3"),
@@ -125,13 +127,15 @@ fn prefixes_of_an_opened_document(rt: HostRuntime) {
     assert!(rt; prefixes.is_some());
     if let Some(prefixes) = prefixes {
         prefixes.stand_for_one();
-        for (text, expected) in &STATEMENTS {
+        for row in STATEMENTS {
+            let (text, expected) = *row;
             assert!(rt;
                 are_statements(alloc, &prefixes, text, expected) == Ok(true),
                 "{text}"
             );
         }
-        for (text, expected) in &EXPRESSIONS {
+        for row in EXPRESSIONS {
+            let (text, expected) = *row;
             assert!(rt;
                 is_expression(alloc, &prefixes, text, expected) == Ok(true),
                 "{text}"

@@ -1,3 +1,5 @@
+//! Documents that are read token by token, and trees one by one.
+
 use crate::parser::push_tree;
 use fs_lexer::{next_token, only_separators};
 use fs_parser::{Stopped, TreeReader, streamed_forms};
@@ -21,7 +23,7 @@ fn is_shown(alloc: Global, text: &str, expected: &str) -> Result<bool, AllocErro
 }
 
 /// Texts, each with the trees of the document that it is, if any.
-const TEXTS: [(&str, &str); 8] = [
+const TEXTS: &[(&str, &str)] = &[
     ("Ontology(<x:o>)", "<x:o> "),
     (
         "Prefix(:=<x:>) # a comment\nOntology(SubClassOf(:A owl:Thing) (\"a\"@en 1)) # end",
@@ -37,7 +39,8 @@ const TEXTS: [(&str, &str); 8] = [
 
 #[test]
 fn documents_token_by_token(rt: HostRuntime) {
-    for (text, expected) in &TEXTS {
+    for row in TEXTS {
+        let (text, expected) = *row;
         assert!(rt; is_shown(rt.alloc(), text, expected) == Ok(true), "{text}");
     }
 }
@@ -65,7 +68,7 @@ fn shown_one_by_one(alloc: Global, text: &str) -> Result<String, AllocError> {
 }
 
 /// Texts, each with the trees that are read of it, and how they end.
-const TREES: [(&str, &str); 7] = [
+const TREES: &[(&str, &str)] = &[
     ("Ontology()", "end"),
     (
         "Prefix(:=<x:>) Ontology(:o SubClassOf(:A (:B 1))) # end",
@@ -87,9 +90,10 @@ const TREES: [(&str, &str); 7] = [
 
 #[test]
 fn trees_one_by_one(rt: HostRuntime) -> Result<(), Fail> {
-    for (text, expected) in &TREES {
+    for row in TREES {
+        let (text, expected) = *row;
         let found = shown_one_by_one(rt.alloc(), text)?;
-        assert!(rt; found.as_str() == *expected, "{text}: {found}");
+        assert!(rt; found.as_str() == expected, "{text}: {found}");
     }
     Ok(())
 }

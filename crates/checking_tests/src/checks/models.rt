@@ -1,7 +1,7 @@
 //! Listed interpretations in which an axiom holds, or does not: one axiom of each shape, over the elements 0, 1 and 2.
 
-use super::ontologies::ontology_of;
 use super::{ONE_SUBCLASS, axiom_fails, claim_missing, has_verdict, with_lines};
+use crate::documents::ontology_of;
 use axioms::Ontology;
 use cert_check::Verdict;
 use std::alloc::Global;

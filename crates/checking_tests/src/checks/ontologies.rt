@@ -1,18 +1,9 @@
 //! Small ontologies, read from documents, with their numbers worked out by hand.
 
+use crate::documents::ontology_of;
 use axioms::Ontology;
-use profile::read_bytes;
-use std::hash::RandomState;
 use std::random::RandomSource;
 use std::test::Fail;
-
-/// The ontology that the document states.
-pub(super) fn ontology_of<R: AllocGlobal + RandomSource>(
-    rt: &R,
-    document: &str,
-) -> Result<Ontology, Fail> {
-    Ok(read_bytes(rt.alloc(), document.as_bytes(), RandomState::new(rt)?)?)
-}
 
 /// SubClassOf(A B), of the classes of the numbers 2 and 3.
 pub(super) const ONE_SUBCLASS_DOCUMENT: &str = "Ontology(SubClassOf(<x:A> <x:B>))";

@@ -214,12 +214,14 @@ fn reasons(rt: HostRuntime) -> Result<(), Fail> {
     Ok(())
 }
 
+const WITHOUT_CLASS: &[&str] = &["elc", "explain", "doc", "x:A"];
+
+const UNKNOWN_FLAG: &[&str] = &["elc", "instances", "doc", "x:A", "--individual"];
+
 #[test]
 fn words_without_a_question(rt: HostRuntime) -> Result<(), Fail> {
-    let without_class = ["elc", "explain", "doc", "x:A"];
-    assert!(rt; status(&rt, &without_class, SUBCLASS.as_bytes())? == 2);
-    let unknown_flag = ["elc", "instances", "doc", "x:A", "--individual"];
-    assert!(rt; status(&rt, &unknown_flag, SUBCLASS.as_bytes())? == 2);
+    assert!(rt; status(&rt, WITHOUT_CLASS, SUBCLASS.as_bytes())? == 2);
+    assert!(rt; status(&rt, UNKNOWN_FLAG, SUBCLASS.as_bytes())? == 2);
     Ok(())
 }
 
@@ -242,21 +244,24 @@ fn runs_from_to<R: AllocGlobal + RandomSource>(
     Ok(run.status == 0 && run.err.is_empty() && text.starts_with(first) && is_last)
 }
 
+const ITSELF: &[&str] = &["elc", "explain", "doc", "x:A", "x:A"];
+
 #[test]
 fn a_contradiction(rt: HostRuntime) -> Result<(), Fail> {
-    let words = ["elc", "explain", "doc", "x:A", "x:A"];
     let last =
         " sub <http://www.w3.org/2002/07/owl#Thing> <http://www.w3.org/2002/07/owl#Nothing> ";
-    let is_shown = runs_from_to(&rt, &words, CONTRADICTION, "contradictory\n", last)?;
+    let is_shown = runs_from_to(&rt, ITSELF, CONTRADICTION, "contradictory\n", last)?;
     assert!(rt; is_shown);
     Ok(())
 }
 
+const DERIVATION: &[&str] = &["elc", "explain", "doc", "x:A", "x:B", "--dot"];
+
+const REFUTATION: &[&str] = &["elc", "explain", "--dot", "doc", "x:B", "x:A"];
+
 #[test]
 fn graphs(rt: HostRuntime) -> Result<(), Fail> {
-    let yes = ["elc", "explain", "doc", "x:A", "x:B", "--dot"];
-    assert!(rt; runs_from_to(&rt, &yes, SUBCLASS, "digraph derivation {\n", "}")?);
-    let no = ["elc", "explain", "--dot", "doc", "x:B", "x:A"];
-    assert!(rt; runs_from_to(&rt, &no, REFLEXIVE, "digraph refutation {\n", "}")?);
+    assert!(rt; runs_from_to(&rt, DERIVATION, SUBCLASS, "digraph derivation {\n", "}")?);
+    assert!(rt; runs_from_to(&rt, REFUTATION, REFLEXIVE, "digraph refutation {\n", "}")?);
     Ok(())
 }

@@ -55,21 +55,24 @@ fn is_checked_to<R: AllocGlobal + RandomSource>(
     files.put("tax", taxonomy.as_bytes())?;
     files.put("inst", instances.as_bytes())?;
     files.put("cert", certificate.as_bytes())?;
-    let run = run_of(rt, &CHECK, &mut files)?;
+    let run = run_of(rt, CHECK, &mut files)?;
     let is_accepted = is_accepted(rt, document, (taxonomy, instances), certificate)?;
     Ok(is_run(&run, status, printed, "") && is_accepted == (status == 0))
 }
 
+/// A line that ends the derivation, and the status and what is printed with it.
+const CONTRADICTING_LINES: &[(&str, u8, &str)] = &[
+    ("sub i0 e1 K7 a1 1 2\n", 0, "accepted\n"),
+    ("", 1, "rejected: C7\n"),
+    ("sub i0 e1 K7 a1 2 1\n", 0, "accepted\n"),
+    ("sub i0 e1 K7 a1 1 1\n", 1, "rejected: C2 line 3\n"),
+];
+
 #[test]
 fn contradiction_by_individual(rt: HostRuntime) -> Result<(), Fail> {
     let texts = ("eltax 1 inconsistent\n", "elinst 1 inconsistent\n");
-    let rows = [
-        ("sub i0 e1 K7 a1 1 2\n", 0, "accepted\n"),
-        ("", 1, "rejected: C7\n"),
-        ("sub i0 e1 K7 a1 2 1\n", 0, "accepted\n"),
-        ("sub i0 e1 K7 a1 1 1\n", 1, "rejected: C2 line 3\n"),
-    ];
-    for (line, status, printed) in rows {
+    for row in CONTRADICTING_LINES {
+        let (line, status, printed) = *row;
         let certificate = format!(in rt.alloc();
             "elcert 1 inconsistent\nsub i0 e2 K15 a2\nsub i0 e3 K15 a3\n{line}end\n"
         )?;
@@ -82,17 +85,21 @@ fn contradiction_by_individual(rt: HostRuntime) -> Result<(), Fail> {
     Ok(())
 }
 
+const TOP: &str = "sub i0 e0 K2\n";
+
+/// A line that ends the derivation, what is listed, and the status and what is printed with them.
+const MEMBER_ROWS: &[(&str, &str, u8, &str)] = &[
+    (TOP, "class e2 1 2\nind i0 2\n", 0, "accepted\n"),
+    (TOP, "class e2 1 2\nind i0 1\n", 0, "accepted\n"),
+    ("", "class e2 1 2\nind i0 2\n", 1, "rejected: C6 <x:a>\n"),
+    (TOP, "class e2 1\nind i0 2\n", 1, "rejected: C3 axiom 1\n"),
+];
+
 #[test]
 fn a_member_and_changed_certificates(rt: HostRuntime) -> Result<(), Fail> {
-    let top = "sub i0 e0 K2\n";
-    let rows = [
-        (top, "class e2 1 2\nind i0 2\n", 0, "accepted\n"),
-        (top, "class e2 1 2\nind i0 1\n", 0, "accepted\n"),
-        ("", "class e2 1 2\nind i0 2\n", 1, "rejected: C6 <x:a>\n"),
-        (top, "class e2 1\nind i0 2\n", 1, "rejected: C3 axiom 1\n"),
-    ];
     let texts = (MEMBER_TAXONOMY, MEMBER_INSTANCES);
-    for (line, listed, status, printed) in rows {
+    for row in MEMBER_ROWS {
+        let (line, listed, status, printed) = *row;
         let certificate = format!(in rt.alloc();
             "{MEMBER_LINES}{line}domain 3\n{listed}claim e0 0\nclaim e2 1\nend\n"
         )?;
@@ -129,26 +136,29 @@ fn changed(alloc: Global, text: &str, old: &str, new: &str) -> Result<String, Fa
     Ok(format!(in alloc; "{front}{new}{back}")?)
 }
 
+/// A part of that certificate, what stands in its place, and the status and what is printed then.
+const CHANGES: &[(&str, &str, u8, &str)] = &[
+    ("end\n", "end\n", 0, "accepted\n"),
+    ("claim e2 1", "claim e2 0", 1, "rejected: C5 <x:A>\n"),
+    ("sub e2 e3 K4 a1 3\n", "", 1, "rejected: C5 <x:A>\n"),
+    ("K4 a1 3", "K4 a1 5", 1, "rejected: C2 line 5\n"),
+    ("class e3 1 2", "class e3 2", 1, "rejected: C3 axiom 1\n"),
+    ("claim e3 2\n", "", 1, "rejected: C4 <x:B>\n"),
+    // cut after 130 bytes, and after 182
+    (
+        " e2 1\nclass e3 1 2\nclaim e0 0\nclaim e2 1\nclaim e3 2\nend\n",
+        "",
+        1,
+        "rejected: C1 at byte 125\n",
+    ),
+    ("end\n", "", 1, "rejected: C1 at byte 182\n"),
+    ("claim e3 2", "claim e3 3", 1, "rejected: C1 at byte 171\n"),
+];
+
 #[test]
 fn certificate_of_one_subclass(rt: HostRuntime) -> Result<(), Fail> {
-    let rows = [
-        ("end\n", "end\n", 0, "accepted\n"),
-        ("claim e2 1", "claim e2 0", 1, "rejected: C5 <x:A>\n"),
-        ("sub e2 e3 K4 a1 3\n", "", 1, "rejected: C5 <x:A>\n"),
-        ("K4 a1 3", "K4 a1 5", 1, "rejected: C2 line 5\n"),
-        ("class e3 1 2", "class e3 2", 1, "rejected: C3 axiom 1\n"),
-        ("claim e3 2\n", "", 1, "rejected: C4 <x:B>\n"),
-        // cut after 130 bytes, and after 182
-        (
-            " e2 1\nclass e3 1 2\nclaim e0 0\nclaim e2 1\nclaim e3 2\nend\n",
-            "",
-            1,
-            "rejected: C1 at byte 125\n",
-        ),
-        ("end\n", "", 1, "rejected: C1 at byte 182\n"),
-        ("claim e3 2", "claim e3 3", 1, "rejected: C1 at byte 171\n"),
-    ];
-    for (old, new, status, printed) in rows {
+    for row in CHANGES {
+        let (old, new, status, printed) = *row;
         let certificate = changed(rt.alloc(), ONE_CERTIFICATE, old, new)?;
         let certificate = certificate.as_str();
         assert!(rt;

@@ -334,7 +334,7 @@ fn is_run_stopped<R: AllocGlobal + RandomSource>(
     calls: usize,
 ) -> Result<bool, Fail> {
     let files = files_with(rt.alloc(), ONE_DOCUMENT)?;
-    let (run, texts) = run_failing(rt, &CLASSIFY, files, path, calls)?;
+    let (run, texts) = run_failing(rt, CLASSIFY, files, path, calls)?;
     Ok(is_run(&run, 6, "", told) && are_cut(&texts, whole, place, calls))
 }
 
@@ -348,22 +348,34 @@ fn is_checking_run_stopped<R: AllocGlobal + RandomSource>(
 ) -> Result<bool, Fail> {
     let mut files = files_with(rt.alloc(), ONE_DOCUMENT)?;
     put_texts(&mut files, texts)?;
-    let (run, _texts) = run_failing(rt, &CHECK, files, path, reads)?;
+    let (run, _texts) = run_failing(rt, CHECK, files, path, reads)?;
     Ok(is_run(&run, 6, "", told))
 }
+
+/// How many bytes the text of the sink at the place has.
+fn length_at(texts: &Texts, place: usize) -> usize {
+    match place {
+        1 => texts.taxonomy.len(),
+        2 => texts.instances.len(),
+        _ => texts.certificate.len(),
+    }
+}
+
+/// The place of each sink, the path of its file, and what is told where it fails.
+const SINKS: &[(usize, &str, &str)] = &[
+    (1, "tax", "cannot write tax\n"),
+    (2, "inst", "cannot write inst\n"),
+    (3, "cert", "cannot write cert\n"),
+];
 
 /// Fails each sink after each number of bytes that is less than its text.
 fn fail_each_write<R: AllocGlobal + Abort + RandomSource>(
     rt: &R,
     whole: &Texts,
 ) -> Result<(), Fail> {
-    let sinks = [
-        (1, "tax", "cannot write tax\n", whole.taxonomy.len()),
-        (2, "inst", "cannot write inst\n", whole.instances.len()),
-        (3, "cert", "cannot write cert\n", whole.certificate.len()),
-    ];
-    for (place, path, told, length) in sinks {
-        for bytes in 0..length {
+    for row in SINKS {
+        let (place, path, told) = *row;
+        for bytes in 0..length_at(whole, place) {
             assert!(rt; is_stopped(rt, whole, place, bytes)?, "{path} at {bytes}");
             assert!(rt;
                 is_run_stopped(rt, whole, place, path, told, bytes)?,
@@ -385,20 +397,33 @@ fn is_check_stopped<R: AllocGlobal + RandomSource>(
     Ok(answer == Err(place) && unread == [place < 2, place < 3, place < 4])
 }
 
+/// How many bytes the source of a check at the place has.
+fn source_length(texts: &Texts, place: usize) -> usize {
+    match place {
+        1 => ONE_DOCUMENT.len(),
+        2 => texts.taxonomy.len(),
+        3 => texts.instances.len(),
+        _ => texts.certificate.len(),
+    }
+}
+
+/// The place of each source of a check, the path of its file, and what is told where it fails.
+const SOURCES: &[(usize, &str, &str)] = &[
+    (1, "doc", "cannot read doc\n"),
+    (2, "tax", "cannot read tax\n"),
+    (3, "inst", "cannot read inst\n"),
+    (4, "cert", "cannot read cert\n"),
+];
+
 /// Fails each source of a check at each of its reads.
 fn fail_each_read<R: AllocGlobal + Abort + RandomSource>(
     rt: &R,
     texts: &Texts,
 ) -> Result<(), Fail> {
-    let sources = [
-        (1, "doc", "cannot read doc\n", ONE_DOCUMENT.len()),
-        (2, "tax", "cannot read tax\n", texts.taxonomy.len()),
-        (3, "inst", "cannot read inst\n", texts.instances.len()),
-        (4, "cert", "cannot read cert\n", texts.certificate.len()),
-    ];
-    for (place, path, told, length) in sources {
+    for row in SOURCES {
+        let (place, path, told) = *row;
         // One read more, at the end, gives nothing.
-        for reads in 0..=length.div_ceil(7) {
+        for reads in 0..=source_length(texts, place).div_ceil(7) {
             assert!(rt;
                 is_check_stopped(rt, texts, place, reads)?,
                 "{path} at {reads}"

@@ -8,79 +8,82 @@ fn is_told_by_both<R: AllocGlobal + RandomSource>(
     document: &[u8],
     told: &str,
 ) -> Result<bool, Fail> {
-    let is_refused = refuses(rt, &CLASSIFY, document, 3, told)?;
-    let check = alone(rt, &CHECK, document)?;
+    let is_refused = refuses(rt, CLASSIFY, document, 3, told)?;
+    let check = alone(rt, CHECK, document)?;
     Ok(is_refused && is_run(&check, 3, "", told))
 }
 
+/// What the row shows, the document, and what is told of it.
+const REFUSED: &[(&str, &[u8], &str)] = &[
+    (
+        "refused_construct",
+        b"Ontology(SubClassOf(ObjectUnionOf(<x:A> <x:B>) <x:C>))",
+        "F1 at byte 20: ObjectUnionOf\n",
+    ),
+    ("truncated_document", b"Ontology(", "P2 at byte 9\n"),
+    ("document of no bytes", b"", "P2 at byte 0\n"),
+    (
+        "repeated_operand",
+        b"Prefix(:=<x:>) Ontology(EquivalentClasses(:A :A))",
+        "F4 at byte 45\n",
+    ),
+    (
+        "touching_words",
+        b"Ontology(SubClassOf(owl:Thing:A <x:B>))",
+        "X4 at byte 20\n",
+    ),
+    (
+        "unknown_prefix",
+        b"Ontology(SubClassOf(q:A <x:B>))",
+        "P3 at byte 20\n",
+    ),
+    (
+        "every_fault_listed",
+        b"Ontology(HasKey(<x:A> (<x:p>) ()) SubClassOf(_:b <x:B>) Frobnicate() )",
+        "F1 at byte 9: HasKey\nF6 at byte 45\nF2 at byte 56: Frobnicate\n",
+    ),
+    ("not_utf8", b"Ontology(\xff", "U1 at byte 9\n"),
+    (
+        "unknown_keyword",
+        b"Ontology(Frobnicate())",
+        "F2 at byte 9: Frobnicate\n",
+    ),
+    (
+        "one_operand",
+        b"Ontology(SubClassOf(<x:A>))",
+        "F3 at byte 9\n",
+    ),
+    (
+        "reserved_name",
+        b"Ontology(SubClassOf(<x:A> owl:real))",
+        "F5 at byte 26\n",
+    ),
+    (
+        "anonymous_individual",
+        b"Ontology(SubClassOf(_:b <x:B>))",
+        "F6 at byte 20\n",
+    ),
+    (
+        "two_faults_of_an_axiom",
+        b"Ontology(SubClassOf(owl:real ObjectUnionOf(<x:A> <x:B>)))",
+        "F5 at byte 20\nF1 at byte 29: ObjectUnionOf\n",
+    ),
+    (
+        "repeated_full_iri",
+        b"Ontology(EquivalentClasses(<x:A> <x:A>))",
+        "F4 at byte 33\n",
+    ),
+    (
+        "unclosed_ontology",
+        b"Ontology(SubClassOf(<x:A> <x:B>)",
+        "P2 at byte 32\n",
+    ),
+];
+
 #[test]
 fn refused_documents(rt: HostRuntime) -> Result<(), Fail> {
-    let refused: [(&str, &[u8], &str); 15] = [
-        (
-            "refused_construct",
-            b"Ontology(SubClassOf(ObjectUnionOf(<x:A> <x:B>) <x:C>))",
-            "F1 at byte 20: ObjectUnionOf\n",
-        ),
-        ("truncated_document", b"Ontology(", "P2 at byte 9\n"),
-        ("document of no bytes", b"", "P2 at byte 0\n"),
-        (
-            "repeated_operand",
-            b"Prefix(:=<x:>) Ontology(EquivalentClasses(:A :A))",
-            "F4 at byte 45\n",
-        ),
-        (
-            "touching_words",
-            b"Ontology(SubClassOf(owl:Thing:A <x:B>))",
-            "X4 at byte 20\n",
-        ),
-        (
-            "unknown_prefix",
-            b"Ontology(SubClassOf(q:A <x:B>))",
-            "P3 at byte 20\n",
-        ),
-        (
-            "every_fault_listed",
-            b"Ontology(HasKey(<x:A> (<x:p>) ()) SubClassOf(_:b <x:B>) Frobnicate() )",
-            "F1 at byte 9: HasKey\nF6 at byte 45\nF2 at byte 56: Frobnicate\n",
-        ),
-        ("not_utf8", b"Ontology(\xff", "U1 at byte 9\n"),
-        (
-            "unknown_keyword",
-            b"Ontology(Frobnicate())",
-            "F2 at byte 9: Frobnicate\n",
-        ),
-        (
-            "one_operand",
-            b"Ontology(SubClassOf(<x:A>))",
-            "F3 at byte 9\n",
-        ),
-        (
-            "reserved_name",
-            b"Ontology(SubClassOf(<x:A> owl:real))",
-            "F5 at byte 26\n",
-        ),
-        (
-            "anonymous_individual",
-            b"Ontology(SubClassOf(_:b <x:B>))",
-            "F6 at byte 20\n",
-        ),
-        (
-            "two_faults_of_an_axiom",
-            b"Ontology(SubClassOf(owl:real ObjectUnionOf(<x:A> <x:B>)))",
-            "F5 at byte 20\nF1 at byte 29: ObjectUnionOf\n",
-        ),
-        (
-            "repeated_full_iri",
-            b"Ontology(EquivalentClasses(<x:A> <x:A>))",
-            "F4 at byte 33\n",
-        ),
-        (
-            "unclosed_ontology",
-            b"Ontology(SubClassOf(<x:A> <x:B>)",
-            "P2 at byte 32\n",
-        ),
-    ];
-    for (name, document, told) in refused {
+    for row in REFUSED {
+        let (name, document, told) = *row;
         assert!(rt; is_told_by_both(&rt, document, told)?, "{name}");
     }
     Ok(())
@@ -103,21 +106,23 @@ fn deep(alloc: Global, levels: usize) -> Result<String, AllocError> {
 #[test]
 fn deepest_expression(rt: HostRuntime) -> Result<(), Fail> {
     let deepest = deep(rt.alloc(), 63)?;
-    assert!(rt; status(&rt, &CLASSIFY, deepest.as_bytes())? == 0);
+    assert!(rt; status(&rt, CLASSIFY, deepest.as_bytes())? == 0);
     let deeper = deep(rt.alloc(), 64)?;
     assert!(rt; is_told_by_both(&rt, deeper.as_bytes(), "P6 at byte 1747\n")?);
     Ok(())
 }
 
+/// Documents of one subclass axiom and what states no axiom.
+const WITHOUT_AXIOMS: &[&str] = &[
+    "Ontology(Declaration(ObjectProperty(<x:p>)) SubClassOf(<x:A> <x:B>))",
+    "Ontology(Declaration(Class(<x:A>)) SubClassOf(<x:A> <x:B>))",
+    "Ontology(<x:o> SubClassOf(Annotation(rdfs:label \"l\") <x:A> <x:B>))",
+];
+
 #[test]
 fn what_states_no_axiom(rt: HostRuntime) -> Result<(), Fail> {
-    let documents = [
-        "Ontology(Declaration(ObjectProperty(<x:p>)) SubClassOf(<x:A> <x:B>))",
-        "Ontology(Declaration(Class(<x:A>)) SubClassOf(<x:A> <x:B>))",
-        "Ontology(<x:o> SubClassOf(Annotation(rdfs:label \"l\") <x:A> <x:B>))",
-    ];
     let counts = "consistent classes 4 individuals 0 facts 8\n";
-    for document in documents {
+    for document in WITHOUT_AXIOMS {
         assert!(rt;
             gives(&rt, document.as_bytes(), ONE, NO_INSTANCES, counts)?,
             "{document}"

@@ -1,0 +1,15 @@
+//! Ontologies that documents state.
+
+use axioms::Ontology;
+use profile::read_bytes;
+use std::hash::RandomState;
+use std::random::RandomSource;
+use std::test::Fail;
+
+/// The ontology that the document states.
+pub(crate) fn ontology_of<R: AllocGlobal + RandomSource>(
+    rt: &R,
+    document: &str,
+) -> Result<Ontology, Fail> {
+    Ok(read_bytes(rt.alloc(), document.as_bytes(), RandomState::new(rt)?)?)
+}
