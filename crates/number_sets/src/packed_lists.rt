@@ -7,11 +7,17 @@ use std::marker::Model;
 
 /// Lists, of numbers where nothing else is said, read by their own numbers from 0. They stand one behind the other in one piece
 /// of memory.
-#[derive(Drop)]
 pub struct PackedLists<T = u32> {
     // where each list ends
     ends: Vec<usize>,
     items: Vec<T>,
+}
+
+// A value is let go by one call, where each way out would else let each field go.
+impl<T: Drop> Drop for PackedLists<T> {
+    fn drop(self) {
+        let PackedLists { ends: _, items: _ } = self;
+    }
 }
 
 impl<T> Model for PackedLists<T> {
