@@ -17,10 +17,16 @@ pub enum Forms {
 }
 
 /// Normal forms in order, 16 bytes for each. Once they are shared, copies of the list have the same piece of memory.
-#[derive(Drop)]
 pub struct FormList {
     alloc: Global,
     forms: Forms,
+}
+
+// A value is let go by one call, where each way out would else let each field go.
+impl Drop for FormList {
+    fn drop(self) {
+        let FormList { alloc: _, forms: _ } = self;
+    }
 }
 
 impl Model for FormList {
