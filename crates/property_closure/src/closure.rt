@@ -13,13 +13,24 @@ use std::marker::Model;
 
 /// Which properties lie below which, which are reflexive and which chains they begin, by normal forms. Contracts see how many
 /// properties and how many beginnings of chains it has, and its forms of properties.
-#[derive(Drop)]
 pub struct PropertyClosure {
     alloc: Global,
     // each property, by its number, and each beginning of chains: what is above it where no form puts anything there
     properties: Vec<PropId2>,
     partials: Vec<PropId2>,
     related: Related,
+}
+
+// A value is let go by one call, where each way out would else let each field go.
+impl Drop for PropertyClosure {
+    fn drop(self) {
+        let PropertyClosure {
+            alloc: _,
+            properties: _,
+            partials: _,
+            related: _,
+        } = self;
+    }
 }
 
 impl Model for PropertyClosure {

@@ -8,10 +8,16 @@ use number_sets::{EpochSet, PackedLists};
 use std::alloc::Global;
 
 /// The numbers found so far, in order, and the same as a set.
-#[derive(Drop)]
 pub(crate) struct Search {
     pub found: Vec<u32>,
     pub seen: EpochSet,
+}
+
+// A value is let go by one call, where each way out would else let each field go.
+impl Drop for Search {
+    fn drop(self) {
+        let Search { found: _, seen: _ } = self;
+    }
 }
 
 impl Search {
