@@ -41,6 +41,17 @@ fn mark_premises(lines: &[Line], marks: &mut [bool])
     }
 }
 
+// Marks for the lines up to the goal, which is counted from 1: the goal alone is marked.
+fn on_goal(alloc: Global, goal: usize) -> Result<Vec<bool>, Memory>
+    requires { 0 < goal }
+    ensures long { IfOk result (λ v. length v.items ≡ goal) }
+    ensures exact { IfOk result (λ v. (n : ℕ) → IsMarked v.items n ↔ (suc n ≡ goal)) }
+{
+    let mut marks = vec![in alloc; false; goal]?;
+    mark(&mut marks, goal - 1);
+    Ok(marks)
+}
+
 /// Of each line up to the goal, which is counted from 1, whether the goal rests on it.
 ///
 /// # Errors
@@ -53,8 +64,7 @@ pub(crate) fn rests(alloc: Global, lines: &[Line], goal: usize) -> Result<Vec<bo
     ensures long { IfOk result (λ v. length v.items ≡ goal) }
     ensures exact { IfOk result (λ v. MarksRests (lines_of lines.now) goal v.items) }
 {
-    let mut marks = vec![in alloc; false; goal]?;
-    marks[goal - 1] = true;
+    let mut marks = on_goal(alloc, goal)?;
     mark_premises(lines, &mut marks);
     Ok(marks)
 }

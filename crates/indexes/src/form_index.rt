@@ -8,7 +8,6 @@ use normal_forms::FormList;
 use std::alloc::{AllocError, Global};
 
 /// The numbers of forms, by key.
-#[derive(Drop)]
 pub(crate) struct FormIndex {
     pub kinds: KeyLists,
     pub alone: KeyLists,
@@ -18,6 +17,22 @@ pub(crate) struct FormIndex {
     pub chains: KeyLists,
     pub ends: KeyLists,
     pub plain: KeyLists,
+}
+
+// A value is let go by one call, where each way out would else let each field go.
+impl Drop for FormIndex {
+    fn drop(self) {
+        let FormIndex {
+            kinds: _,
+            alone: _,
+            first: _,
+            second: _,
+            fillers: _,
+            chains: _,
+            ends: _,
+            plain: _,
+        } = self;
+    }
 }
 
 impl FormIndex {

@@ -9,13 +9,25 @@ use std::alloc::{AllocError, Global};
 
 /// The numbers of facts, by context: classes in it, edges from it, edges into it, those of the edges from it that are seconds, and
 /// those of the classes in it that are fillers.
-#[derive(Drop)]
 pub struct Index {
     classes: ByContext,
     from: ByContext,
     into: ByContext,
     seconds: ByContext,
     fillers: ByContext,
+}
+
+// A value is let go by one call, where each way out would else let each field go.
+impl Drop for Index {
+    fn drop(self) {
+        let Index {
+            classes: _,
+            from: _,
+            into: _,
+            seconds: _,
+            fillers: _,
+        } = self;
+    }
 }
 
 impl Index {

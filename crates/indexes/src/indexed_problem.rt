@@ -13,12 +13,23 @@ use std::alloc::{AllocError, Global};
 use std::marker::Model;
 
 /// Normal forms, found by their classes and properties, and the contexts that are there from the start.
-#[derive(Drop)]
 pub struct IndexedProblem {
     alloc: Global,
     forms: FormList,
     roots: Vec<Context>,
     index: FormIndex,
+}
+
+// A value is let go by one call, where each way out would else let each field go.
+impl Drop for IndexedProblem {
+    fn drop(self) {
+        let IndexedProblem {
+            alloc: _,
+            forms: _,
+            roots: _,
+            index: _,
+        } = self;
+    }
 }
 
 impl Model for IndexedProblem {

@@ -11,10 +11,19 @@ use normal_forms::FormList;
 use std::alloc::{AllocError, Global};
 
 /// A list for each key.
-#[derive(Drop)]
 pub(crate) struct KeyLists {
     pub wholes: Lists,
     pub partials: Lists,
+}
+
+// A value is let go by one call, where each way out would else let each field go.
+impl Drop for KeyLists {
+    fn drop(self) {
+        let KeyLists {
+            wholes: _,
+            partials: _,
+        } = self;
+    }
 }
 
 impl KeyLists {

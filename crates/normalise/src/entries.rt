@@ -16,11 +16,20 @@ pub struct Entry {
 }
 
 /// Forms, each with what gave it. The forms alone are a list too.
-#[derive(Drop)]
 pub(crate) struct Entries {
     forms: FormList,
     // as many
     origins: Vec<StoredOrigin>,
+}
+
+// A value is let go by one call, where each way out would else let each field go.
+impl Drop for Entries {
+    fn drop(self) {
+        let Entries {
+            forms: _,
+            origins: _,
+        } = self;
+    }
 }
 
 impl Model for Entries {

@@ -83,20 +83,18 @@ impl Normal {
         })
     }
 
-    // Adds it. The forms go behind the others, for which room is made before anything changes.
+    // Adds it.
     fn join(&mut self, more: More) -> Result<(), Memory>
         ensures ok { OnOk result (self.new ≡ joined self.old more) }
         ensures err { OnErr result (self.new ≡ self.old) }
     {
-        self.made.entries.join(&more.made.entries)?;
         let More {
             made,
             asked,
             right,
             left,
         } = more;
-        self.made.operands = made.operands;
-        self.made.steps = made.steps;
+        self.made.join(made)?;
         self.asked = asked;
         self.right = right;
         self.left = left;

@@ -1,5 +1,5 @@
 //! A list of forms that grows, with its tables of beginnings.
-ghost use Rattle.std.specs.Prelude.{◌≡◌, [], IfOk, OnOk};
+ghost use Rattle.std.specs.Prelude.{◌≡◌, ◌++◌, [], IfOk, OnErr, OnOk};
 ghost use Rattle.normal_forms.specs.Forms.{Form as Formed};
 ghost use Rattle.normalise.specs.View.{Adds, IsOne, Says};
 
@@ -11,11 +11,21 @@ use std::alloc::Global;
 use std::hash::RandomState;
 
 /// Forms, each with what gave it, and the lists that their fresh names stand for.
-#[derive(Drop)]
 pub(crate) struct Made {
     pub(crate) entries: Entries,
     pub(crate) operands: Beginnings<ExprId>,
     pub(crate) steps: Beginnings<PropId>,
+}
+
+// A value is let go by one call, where each way out would else let each field go.
+impl Drop for Made {
+    fn drop(self) {
+        let Made {
+            entries: _,
+            operands: _,
+            steps: _,
+        } = self;
+    }
 }
 
 impl Made {
@@ -75,6 +85,24 @@ impl Made {
             operands,
             steps,
         }
+    }
+
+    // Adds the forms behind the others, for which room is made before anything changes, and takes their fresh names.
+    pub(crate) fn join(&mut self, more: Made) -> Result<(), Memory>
+        ensures entries { OnOk result (self.new.entries ≡ self.old.entries ++ more.entries) }
+        ensures operands { OnOk result (self.new.operands ≡ more.operands) }
+        ensures steps { OnOk result (self.new.steps ≡ more.steps) }
+        ensures err { OnErr result (self.new ≡ self.old) }
+    {
+        self.entries.join(&more.entries)?;
+        let Made {
+            entries: _,
+            operands,
+            steps,
+        } = more;
+        self.operands = operands;
+        self.steps = steps;
+        Ok(())
     }
 
     // Adds a form.

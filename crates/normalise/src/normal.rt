@@ -11,7 +11,6 @@ use std::hash::RandomState;
 use std::marker::Model;
 
 /// The normal forms of an ontology and of expressions that are asked about, each with what gave it.
-#[derive(Drop)]
 pub struct Normal {
     pub(crate) alloc: Global,
     pub(crate) made: Made,
@@ -19,6 +18,19 @@ pub struct Normal {
     // of each expression, whether it occurs right, and left
     pub(crate) right: Vec<bool>,
     pub(crate) left: Vec<bool>,
+}
+
+// A value is let go by one call, where each way out would else let each field go.
+impl Drop for Normal {
+    fn drop(self) {
+        let Normal {
+            alloc: _,
+            made: _,
+            asked: _,
+            right: _,
+            left: _,
+        } = self;
+    }
 }
 
 impl Model for Normal {

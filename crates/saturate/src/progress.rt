@@ -23,9 +23,15 @@ enum Stage<W: WorkList> {
 }
 
 /// A state, which may let go what only a run needs once it has run to its end.
-#[derive(Drop)]
 pub struct Progress<W: WorkList> {
     stage: Stage<W>,
+}
+
+// A value is let go by one call, where each way out would else let each field go.
+impl<W: WorkList + Drop> Drop for Progress<W> {
+    fn drop(self) {
+        let Progress { stage: _ } = self;
+    }
 }
 
 impl<W: WorkList> Model for Progress<W> {

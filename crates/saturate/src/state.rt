@@ -25,13 +25,25 @@ use std::marker::Model;
 use work_list::WorkList;
 
 /// The facts so far, some of them served.
-#[derive(Drop)]
 pub struct State<W: WorkList> {
     alloc: Global,
     ground: Ground,
     facts: KnownFacts,
     pub(crate) queue: Queue<W>,
     pub(crate) index: Index,
+}
+
+// A value is let go by one call, where each way out would else let each field go.
+impl<W: WorkList + Drop> Drop for State<W> {
+    fn drop(self) {
+        let State {
+            alloc: _,
+            ground: _,
+            facts: _,
+            queue: _,
+            index: _,
+        } = self;
+    }
 }
 
 impl<W: WorkList> Model for State<W> {
@@ -159,11 +171,11 @@ impl<W: WorkList> State<W> {
     {
         self.well_formed();
         let State {
+            alloc: _,
             ground,
             facts,
             queue,
             index,
-            ..
         } = self;
         drop(queue);
         drop(index);
