@@ -4,4 +4,6 @@
 #[cfg(test)]
 mod hashers;
 #[cfg(test)]
+mod sets;
+#[cfg(test)]
 mod tests;
