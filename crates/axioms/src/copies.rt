@@ -9,18 +9,14 @@ use device::Memory;
 use keyed_hash::NumberedSet;
 
 // The same texts.
-fn copied_names(
-    names: &NumberedSet<String>,
-) -> Result<NumberedSet<String>, Memory>
+fn copied_names(names: &NumberedSet<String>) -> Result<NumberedSet<String>, Memory>
     ensures { IfOk result (λ s. map string_bytes s.keys ≡ map string_bytes names.now.keys) }
 {
     Ok(names.copy()?)
 }
 
 // The same expressions.
-fn copied_expressions(
-    expressions: &NumberedSet<Expr>,
-) -> Result<NumberedSet<Expr>, Memory>
+fn copied_expressions(expressions: &NumberedSet<Expr>) -> Result<NumberedSet<Expr>, Memory>
     ensures { IfOk result (λ s. map node_of s.keys ≡ map node_of expressions.now.keys) }
 {
     Ok(expressions.copy()?)

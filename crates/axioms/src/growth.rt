@@ -32,11 +32,7 @@ pub const MOST_EXPRESSIONS: usize = 4_294_967_296;
 pub const MOST_AXIOMS: usize = 4_294_967_295;
 
 // The number of the name; a new one goes last.
-fn number_of(
-    alloc: Global,
-    names: &mut NumberedSet<String>,
-    iri: &str,
-) -> Result<u32, BuildFault>
+fn number_of(alloc: Global, names: &mut NumberedSet<String>, iri: &str) -> Result<u32, BuildFault>
     requires { length names.old.keys ≤ most_names }
     ensures few { length names.new.keys ≤ most_names }
     ensures ok { IfOk result (λ n. Numbers (map string_bytes names.old.keys) iri.now (map string_bytes names.new.keys) n) }
@@ -55,10 +51,7 @@ fn number_of(
 }
 
 // The classes of the standard, in their order.
-fn standard_classes(
-    alloc: Global,
-    state: KeyedState,
-) -> Result<NumberedSet<String>, Memory>
+fn standard_classes(alloc: Global, state: KeyedState) -> Result<NumberedSet<String>, Memory>
     ensures { IfOk result (λ s. map string_bytes s.keys ≡ owl_thing ∷ owl_nothing ∷ []) }
 {
     let mut classes = NumberedSet::new(alloc, state);
@@ -68,10 +61,7 @@ fn standard_classes(
 }
 
 // Their expressions.
-fn standard_expressions(
-    alloc: Global,
-    state: KeyedState,
-) -> Result<NumberedSet<Expr>, Memory>
+fn standard_expressions(alloc: Global, state: KeyedState) -> Result<NumberedSet<Expr>, Memory>
     ensures { IfOk result (λ s. map node_of s.keys ≡ Class 0 ∷ Class 1 ∷ []) }
 {
     let mut expressions = NumberedSet::new(alloc, state);
