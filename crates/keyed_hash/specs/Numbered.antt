@@ -1,4 +1,4 @@
--- Members in order, each once, with their places as their numbers.
+-- Members in order, with their places as their numbers.
 use Rattle.std.specs.Prelude.{◌≡◌, ℕ, ◌-◌, ◌/◌, ◌^◌, Bool, false, List, [], ◌∷◌, ◌++◌, if◌then◌else◌, fold, min, slice_get, Some, None}
 use Rattle.std.specs.declared.option.Option.{Option}
 use Rattle.std.specs.Hash.{HashWrites}

@@ -1,4 +1,4 @@
-//! Tests of names and meaning: hashers, ontologies and interpretations.
+//! Tests of names and meaning: hashers, sets of numbered members, ontologies and interpretations.
 #![tactic(auto)]
 
 #[cfg(test)]
@@ -9,3 +9,5 @@ mod interpretations;
 mod lengths;
 #[cfg(test)]
 mod ontologies;
+#[cfg(test)]
+mod sets;

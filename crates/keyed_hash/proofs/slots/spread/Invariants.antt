@@ -1,4 +1,4 @@
-use Rattle.std.proofs.Common.{◌≡◌, ℕ, ◌<◌, ◌≤◌, length}
+use Rattle.std.proofs.Common.{ℕ, ◌<◌, ◌≤◌, length}
 use Rattle.keyed_hash.specs.Slots.{slot_at, StandsIn}
 use Rattle.keyed_hash.proofs.slots.spread.Given as goal
 
