@@ -2,38 +2,16 @@
 ghost use Rattle.certificate.specs.HasText.{IsListedOf};
 ghost use Rattle.certificate.specs.View.{listed_of};
 ghost use Rattle.interpretation_spec.specs.Numbered.{IsMadeFor};
-ghost use Rattle.std.specs.Prelude.{IfSome};
 
+use crate::documents::{listed_in, ontology_of};
 use answer_texts::refutation_bytes;
 use axioms::Ontology;
-use cert_check::interpretation_of;
 use certificate::{Listed, read_certificate};
 use generated_part::{generated, listed_part};
 use interpretation_spec::Interpretation;
-use profile::read_bytes;
 use std::alloc::Global;
-use std::hash::RandomState;
-use std::random::RandomSource;
 use std::rt::HostRuntime;
 use std::test::Fail;
-
-/// The ontology that the document states.
-fn ontology_of<R: AllocGlobal + RandomSource>(rt: &R, document: &str) -> Result<Ontology, Fail> {
-    Ok(read_bytes(rt.alloc(), document.as_bytes(), RandomState::new(rt)?)?)
-}
-
-/// The interpretation that the certificate lists.
-fn listed_in(alloc: Global, ontology: &Ontology, certificate: &[u8]) -> Option<Interpretation>
-    ensures { IfSome result (IsMadeFor ontology.now.names) }
-{
-    let Ok(certificate) = read_certificate(alloc, ontology, certificate) else {
-        return None;
-    };
-    match certificate.listed() {
-        Some(listed) => interpretation_of(alloc, ontology, listed).ok(),
-        None => None,
-    }
-}
 
 /// Whether the part that is reached from the element is written so.
 fn is_part_written(

@@ -33,16 +33,18 @@ const IRREGULAR_HIERARCHY: &str =
 /// A is the class 2, B is 3.
 const ONE_SUBCLASS: &str = "Ontology(SubClassOf(<x:A> <x:B>))";
 
-/// Whether the elements are owl:Thing and the classes 2, 3, 5 and 7, in this order.
+/// owl:Thing and the classes 2, 3, 5 and 7.
+const CONTEXTS: &[Context] = &[
+    Context::Expr(ExprId(0)),
+    Context::Expr(ExprId(2)),
+    Context::Expr(ExprId(3)),
+    Context::Expr(ExprId(5)),
+    Context::Expr(ExprId(7)),
+];
+
+/// Whether the elements are owl:Thing and those classes, in this order.
 fn are_four_classes_and_thing(elements: &Elements) -> bool {
-    let contexts = [
-        Context::Expr(ExprId(0)),
-        Context::Expr(ExprId(2)),
-        Context::Expr(ExprId(3)),
-        Context::Expr(ExprId(5)),
-        Context::Expr(ExprId(7)),
-    ];
-    elements.contexts() == contexts.as_slice()
+    elements.contexts() == CONTEXTS
         && elements.len() == 5
         && elements.element(Context::Expr(ExprId(5))) == Some(3)
         && elements.element(Context::Expr(ExprId(1))).is_none()
@@ -100,12 +102,14 @@ fn is_class(row: Option<&ClassRow>, class: u32, elements: &[u32]) -> bool {
     row.is_some_and(|row| row.class == ExprId(class) && row.elements.as_slice() == elements)
 }
 
+/// Classes and their elements.
+const OWN: &[(u32, u32)] = &[(0, 0), (2, 1), (3, 2), (5, 3), (7, 4)];
+
 /// Whether each class is claimed at its own element.
 fn are_own_claims(claims: &[Claim]) -> bool {
-    let own = [(0, 0), (2, 1), (3, 2), (5, 3), (7, 4)];
-    claims.len() == own.len()
-        && claims.iter().zip(own).all(|(claim, (class, element))| claim.class == ExprId(class)
-            && claim.element == element)
+    claims.len() == OWN.len()
+        && claims.iter().zip(OWN).all(|(claim, (class, element))| claim.class == ExprId(*class)
+            && claim.element == *element)
 }
 
 /// Whether E alone is in two of the named classes, its own and D.
@@ -232,17 +236,20 @@ fn is_so<R: AllocGlobal + RandomSource>(
     Ok(answer_for(rt.alloc(), state, &ontology, asked))
 }
 
+/// Documents, and what is asked of each.
+const ROWS: &[(&str, Asked)] = &[
+    (CHAIN_INTO_A_DEFINITION, Asked::ElementsAndPairs),
+    (IRREGULAR_HIERARCHY, Asked::ElementsAndPairs),
+    (CHAIN_INTO_A_DEFINITION, Asked::Listing),
+    (CHAIN_INTO_A_DEFINITION, Asked::Text),
+    (ONE_SUBCLASS, Asked::Model),
+    (ONE_SUBCLASS, Asked::OneForm),
+];
+
 #[test]
 fn reads_what_worked_documents_list(rt: HostRuntime) -> Result<(), Fail> {
-    let rows = [
-        (CHAIN_INTO_A_DEFINITION, Asked::ElementsAndPairs),
-        (IRREGULAR_HIERARCHY, Asked::ElementsAndPairs),
-        (CHAIN_INTO_A_DEFINITION, Asked::Listing),
-        (CHAIN_INTO_A_DEFINITION, Asked::Text),
-        (ONE_SUBCLASS, Asked::Model),
-        (ONE_SUBCLASS, Asked::OneForm),
-    ];
-    for (document, asked) in rows {
+    for row in ROWS {
+        let (document, asked) = *row;
         assert!(rt; is_so(&rt, document, asked)?, "{document}");
     }
     Ok(())

@@ -10,15 +10,16 @@ use std::test::Fail;
 const DOCUMENT: &str =
     "Prefix(:=<x:>) Ontology(Declaration(Class(:b)) Declaration(Class(:C)) Declaration(Class(:a)))";
 
+const MARKS: &[bool] = &[false, false, true, false, true];
+
 /// Whether of the classes `x:b`, `x:C` and `x:a` the first and the last come in byte order.
 fn are_in_order(alloc: Global, ontology: &Ontology) -> bool {
     ontology.well_formed();
     let names = ontology.classes();
-    let marks = [false, false, true, false, true];
-    if names.len() != marks.len() {
+    if names.len() != MARKS.len() {
         return false;
     }
-    match names_in_order(alloc, names, &marks) {
+    match names_in_order(alloc, names, MARKS) {
         Ok(found) => found.as_slice() == ["x:a", "x:b"].as_slice(),
         Err(_) => false,
     }

@@ -7,27 +7,20 @@ ghost use Rattle.certificate.specs.View.{line_of, lines_of};
 ghost use Rattle.interpretation_spec.specs.Numbered.{IsMadeFor};
 ghost use Rattle.std.specs.Prelude.{[], ◌∷◌, ◌++◌, ◌≡◌, IfOk, None, OnOk, Some};
 
+use crate::documents::{listed_in, ontology_of};
 use answer_texts::{
     proof_bytes, proof_graph_bytes, refutation_bytes, refutation_graph_bytes, write_proof,
     write_proof_graph, write_refutation, write_refutation_graph,
 };
 use axioms::{ExprId, Memory, Ontology};
-use cert_check::interpretation_of;
 use certificate::{Certificate, Conclusion, Line, Rule, Subject, read_certificate};
 use device::BufferSink;
 use explain::trimmed;
 use interpretation_spec::Interpretation;
-use profile::read_bytes;
 use std::alloc::Global;
-use std::hash::RandomState;
 use std::random::RandomSource;
 use std::rt::HostRuntime;
 use std::test::Fail;
-
-/// The ontology that the document states.
-fn ontology_of<R: AllocGlobal + RandomSource>(rt: &R, document: &str) -> Result<Ontology, Fail> {
-    Ok(read_bytes(rt.alloc(), document.as_bytes(), RandomState::new(rt)?)?)
-}
 
 /// A line without an axiom and without premises.
 fn by_rule(alloc: Global, sub: u32, sup: u32, rule: Rule) -> Line
@@ -195,17 +188,6 @@ fn what_is_left_is_written(rt: HostRuntime) -> Result<(), Fail> {
     Ok(())
 }
 
-/// The interpretation that the certificate lists.
-fn listed_in(alloc: Global, ontology: &Ontology, certificate: &[u8]) -> Result<Interpretation, Fail>
-    ensures { IfOk result (IsMadeFor ontology.now.names) }
-{
-    let certificate = read_certificate(alloc, ontology, certificate)?;
-    match certificate.listed() {
-        Some(listed) => Ok(interpretation_of(alloc, ontology, listed)?),
-        None => Err(Fail::from("nothing is listed")),
-    }
-}
-
 /// The text and the graph, in memory and through a sink.
 fn is_written(
     alloc: Global,
@@ -238,8 +220,10 @@ fn is_listed_written(
     text: &[u8],
     graph: &[u8],
 ) -> Result<bool, Fail> {
-    let interpretation = listed_in(alloc, ontology, certificate)?;
-    is_written(alloc, ontology, &interpretation, text, graph)
+    match listed_in(alloc, ontology, certificate) {
+        Some(interpretation) => is_written(alloc, ontology, &interpretation, text, graph),
+        None => Ok(false),
+    }
 }
 
 /// Whether the lines of the certificate are written so.

@@ -1,4 +1,4 @@
-//! The texts of small ontologies.
+//! The taxonomies and instances of small ontologies, as texts, and relations and their reductions.
 ghost use Rattle.std.specs.Bool.{OnTrue};
 ghost use Rattle.std.specs.List.{All};
 ghost use Rattle.std.specs.Prelude.{◌<◌, ◌≡◌, IfOk, length, true, ℕ};

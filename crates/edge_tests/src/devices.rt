@@ -145,57 +145,74 @@ fn reads_more_than_one_buffer(rt: HostRuntime) -> Result<(), Fail> {
     Ok(())
 }
 
+/// What reading `abc` gives where the source fails after so many reads, and how often it has failed.
+fn read_after(alloc: Global, calls: usize) -> (Result<Vec<u8>, ReadFault>, u64) {
+    let mut source = FailingSource {
+        inner: slow(b"abc"),
+        calls,
+        failures: 0,
+    };
+    let read = read_all(alloc, &mut source, 3);
+    (read, source.failures)
+}
+
+/// Whether the text is not read, and the source has failed once.
+fn fails_after(alloc: Global, calls: usize) -> bool {
+    let (read, failures) = read_after(alloc, calls);
+    read.err() == Some(ReadFault::Failed) && failures == 1
+}
+
 #[test]
 fn a_read_that_fails_is_told(rt: HostRuntime) -> Result<(), Fail> {
     for calls in 0..4 {
-        let mut source = FailingSource {
-            inner: slow(b"abc"),
-            calls,
-            failures: 0,
-        };
-        let read = read_all(rt.alloc(), &mut source, 3);
-        assert!(rt;
-            read.err() == Some(ReadFault::Failed),
-            "after {calls} reads"
-        );
-        assert!(rt; source.failures == 1);
+        assert!(rt; fails_after(rt.alloc(), calls), "after {calls} reads");
     }
-    let mut source = FailingSource {
-        inner: slow(b"abc"),
-        calls: 4,
-        failures: 0,
-    };
-    assert!(rt; read_all(rt.alloc(), &mut source, 3)?.as_slice() == b"abc".as_slice());
+    let (read, _failures) = read_after(rt.alloc(), 4);
+    assert!(rt; read?.as_slice() == b"abc".as_slice());
     Ok(())
 }
 
+/// Writes a text, nothing, and another text.
+fn write_parts<S: Sink>(sink: &mut S) -> Result<(), Failed> {
+    write_all(sink, b"consistent")?;
+    write_all(sink, b"")?;
+    write_all(sink, b" classes")
+}
+
 #[test]
-fn each_byte_is_written_once(rt: HostRuntime) -> Result<(), Fail> {
+fn each_byte_is_written_once(rt: HostRuntime) {
     let mut sink = SlowSink {
         inner: BufferSink::new(rt.alloc()),
     };
-    write_all(&mut sink, b"consistent")?;
-    write_all(&mut sink, b"")?;
-    write_all(&mut sink, b" classes")?;
-    assert!(rt; sink.inner.bytes() == b"consistent classes".as_slice());
-    Ok(())
+    let written = write_parts(&mut sink);
+    let right = written.is_ok() && sink.inner.bytes() == b"consistent classes".as_slice();
+    drop(sink);
+    assert!(rt; right);
 }
 
+/// Whether a sink that fails after so many writes has taken that, and failed once.
+fn leaves(alloc: Global, calls: usize, taken: &[u8]) -> bool {
+    let mut sink = FailingSink {
+        inner: SlowSink {
+            inner: BufferSink::new(alloc),
+        },
+        calls,
+        failures: 0,
+    };
+    write_all(&mut sink, b"abc") == Err(Failed)
+        && sink.inner.inner.bytes() == taken
+        && sink.failures == 1
+}
+
+/// After how many writes a sink fails, and what it has taken then.
+const TAKEN: &[(usize, &[u8])] = &[(0, b""), (1, b"a"), (2, b"ab")];
+
 #[test]
-fn a_write_that_fails_leaves_a_beginning(rt: HostRuntime) -> Result<(), Fail> {
-    for (calls, taken) in [(0, "".as_bytes()), (1, b"a"), (2, b"ab")] {
-        let mut sink = FailingSink {
-            inner: SlowSink {
-                inner: BufferSink::new(rt.alloc()),
-            },
-            calls,
-            failures: 0,
-        };
-        assert!(rt; write_all(&mut sink, b"abc") == Err(Failed));
-        assert!(rt; sink.inner.inner.bytes() == taken, "after {calls} writes");
-        assert!(rt; sink.failures == 1);
+fn a_write_that_fails_leaves_a_beginning(rt: HostRuntime) {
+    for row in TAKEN {
+        let (calls, taken) = *row;
+        assert!(rt; leaves(rt.alloc(), calls, taken), "after {calls} writes");
     }
-    Ok(())
 }
 
 /// Whether the source gives `abc`, which then the sink takes.

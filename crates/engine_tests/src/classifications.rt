@@ -33,39 +33,50 @@ fn facts<R: AllocGlobal + RandomSource>(
 
 const ONE_SUBCLASS: &str = "Ontology(SubClassOf(<x:A> <x:B>))";
 
+/// Documents, and how many facts they lead to.
+const COUNTED: &[(&str, u64)] = &[
+    ("Ontology()", 3),
+    (ONE_SUBCLASS, 8),
+    (
+        "Ontology(SubClassOf(<x:A> <x:B>) SubClassOf(<x:A> <x:B>))",
+        8,
+    ),
+    ("Ontology(SubClassOf(<x:A> <x:A>))", 5),
+    (
+        "Ontology(SubClassOf(<x:A> <x:B>) SubClassOf(<x:B> <x:A>))",
+        9,
+    ),
+    (
+        "Ontology(SubClassOf(owl:Thing <x:A>) SubClassOf(<x:B> <x:B>))",
+        10,
+    ),
+    ("Ontology(SubClassOf(<x:A> owl:Nothing))", 6),
+    (
+        "Prefix(:=<x:>) Ontology(SubClassOf(:A :B) SubClassOf(:A :C) SubClassOf(:B :D) SubClassOf(:C :D))",
+        16,
+    ),
+];
+
 #[test]
 fn counts_facts(rt: HostRuntime) -> Result<(), Fail> {
-    let rows = [
-        ("Ontology()", 3),
-        (ONE_SUBCLASS, 8),
-        (
-            "Ontology(SubClassOf(<x:A> <x:B>) SubClassOf(<x:A> <x:B>))",
-            8,
-        ),
-        ("Ontology(SubClassOf(<x:A> <x:A>))", 5),
-        (
-            "Ontology(SubClassOf(<x:A> <x:B>) SubClassOf(<x:B> <x:A>))",
-            9,
-        ),
-        (
-            "Ontology(SubClassOf(owl:Thing <x:A>) SubClassOf(<x:B> <x:B>))",
-            10,
-        ),
-        ("Ontology(SubClassOf(<x:A> owl:Nothing))", 6),
-        (
-            "Prefix(:=<x:>) Ontology(SubClassOf(:A :B) SubClassOf(:A :C) SubClassOf(:B :D) SubClassOf(:C :D))",
-            16,
-        ),
-    ];
-    for (document, expected) in rows {
+    for row in COUNTED {
+        let (document, expected) = *row;
         assert!(rt; facts(&rt, document, 1000)? == Ok(expected), "{document}");
     }
     Ok(())
 }
 
+/// A limit of facts, and how many there are of one subclass axiom within it.
+const LIMITS: &[(u32, Result<u64, Stop>)] = &[
+    (8, Ok(8)),
+    (7, Err(Stop::Limit)),
+    (0, Err(Stop::Limit)),
+];
+
 #[test]
 fn stops_at_the_limit_of_facts(rt: HostRuntime) -> Result<(), Fail> {
-    for (limit, expected) in [(8, Ok(8)), (7, Err(Stop::Limit)), (0, Err(Stop::Limit))] {
+    for row in LIMITS {
+        let (limit, expected) = *row;
         assert!(rt; facts(&rt, ONE_SUBCLASS, limit)? == expected, "{limit}");
     }
     Ok(())

@@ -2,6 +2,7 @@
 
 use axioms::{ExprId, IndId, PropId};
 use normal_forms::{Class2, Form, FormList, Origin, PropId2, StoredOrigin};
+use std::alloc::{AllocError, Global};
 use std::mem::size_of;
 use std::test::Fail;
 
@@ -36,41 +37,68 @@ fn has(list: &FormList, forms: &[Form]) -> bool {
     list.len() == forms.len() && list.get(forms.len()).is_none()
 }
 
+/// Whether each form of the list is given back at its place.
+fn gives_each(list: &FormList) -> bool {
+    for number in 0..list.len() {
+        if list.get(number) != Some(list.at(number)) {
+            return false;
+        }
+    }
+    has(list, FORMS)
+}
+
 #[test]
 fn each_form_is_given_back(rt: HostRuntime) -> Result<(), Fail> {
     let list = FormList::of(rt.alloc(), FORMS)?;
-    assert!(rt; has(&list, FORMS));
+    let gives_each = gives_each(&list);
+    drop(list);
+    assert!(rt; gives_each);
     assert!(rt; has(&FormList::new(rt.alloc()), &[]));
-    for number in 0..list.len() {
-        assert!(rt; list.get(number) == Some(list.at(number)), "{number}");
-    }
     Ok(())
+}
+
+/// Whether a copy of the first four has a form more that it is pushed, and they have not.
+fn grows_alone(first: &FormList) -> Result<bool, AllocError> {
+    let mut longer = first.copy()?;
+    longer.push(FORMS[4])?;
+    Ok(has(first, &FORMS[..4]) && has(&longer, &FORMS[..5]))
+}
+
+/// Whether the list and more forms are joined to these.
+fn are_joined(list: &FormList, more: &FormList, forms: &[Form]) -> Result<bool, AllocError> {
+    let joined = list.joined(more)?;
+    Ok(has(&joined, forms))
+}
+
+/// Whether the first four are joined to the others, and behind none.
+fn are_joined_to_all(alloc: Global, first: &FormList) -> Result<bool, AllocError> {
+    let rest = FormList::of(alloc, &FORMS[4..])?;
+    Ok(are_joined(first, &rest, FORMS)? && are_joined(&FormList::new(alloc), first, &FORMS[..4])?)
 }
 
 #[test]
 fn a_form_more_is_in_no_copy(rt: HostRuntime) -> Result<(), Fail> {
-    let (first, rest) = FORMS.split_at(4);
-    let shared = FormList::of(rt.alloc(), first)?.share();
-    let mut longer = shared.copy()?;
-    longer.push(FORMS[4])?;
-    assert!(rt; has(&shared, first));
-    assert!(rt; has(&longer, &FORMS[..5]));
-    let rest = FormList::of(rt.alloc(), rest)?;
-    assert!(rt; has(&shared.joined(&rest)?, FORMS));
-    assert!(rt; has(&FormList::new(rt.alloc()).joined(&shared)?, first));
+    let first = FormList::of(rt.alloc(), &FORMS[..4])?.share();
+    let grows_alone = grows_alone(&first);
+    let are_joined = are_joined_to_all(rt.alloc(), &first);
+    drop(first);
+    assert!(rt; grows_alone?, "the copy grows alone");
+    assert!(rt; are_joined?, "joined");
     Ok(())
 }
+
+const ORIGINS: &[Origin] = &[
+    Origin::Axiom(0),
+    Origin::Axiom(4_294_967_295),
+    Origin::Expr(ExprId(7)),
+];
 
 #[test]
 fn origins_in_eight_bytes(rt: HostRuntime) -> Result<(), Fail> {
     assert!(rt; size_of::<StoredOrigin>() == 8);
-    for origin in [
-        Origin::Axiom(0),
-        Origin::Axiom(4_294_967_295),
-        Origin::Expr(ExprId(7)),
-    ] {
-        let kept = StoredOrigin::new(origin).map(|kept| kept.get());
-        assert!(rt; kept == Some(origin));
+    for origin in ORIGINS {
+        let kept = StoredOrigin::new(*origin).map(|kept| kept.get());
+        assert!(rt; kept == Some(*origin));
     }
     assert!(rt; StoredOrigin::new(Origin::Axiom(4_294_967_296)).is_none());
     Ok(())

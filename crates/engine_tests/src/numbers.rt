@@ -15,17 +15,24 @@ fn counted(alloc: Global, many: u32) -> Result<NumberList, AllocError> {
     Ok(list)
 }
 
+/// Whether the list has the numbers from 0 on, so many of them, and another in place of the second then.
+fn is_counted(list: &mut NumberList, many: u32) -> bool {
+    let right = list.len() == many as usize && list.as_slice().iter().copied().eq(0..many);
+    if many < 2 || list.len() < 2 {
+        return right;
+    }
+    list.set(1, 7);
+    right && list.as_slice()[..2] == [0, 7]
+}
+
 #[test]
 fn short_and_long_lists(rt: HostRuntime) -> Result<(), Fail> {
     assert!(rt; size_of::<NumberList>() == 16);
     for many in [0, 1, 2, 3, 4, 6, 7, 100] {
         let mut list = counted(rt.alloc(), many)?;
-        assert!(rt; list.len() == many as usize, "{many}");
-        assert!(rt; list.as_slice().iter().copied().eq(0..many), "{many}");
-        if many > 1 {
-            list.set(1, 7);
-            assert!(rt; list.as_slice()[..2] == [0, 7], "{many}");
-        }
+        let is_counted = is_counted(&mut list, many);
+        drop(list);
+        assert!(rt; is_counted, "{many}");
     }
     Ok(())
 }
@@ -42,18 +49,37 @@ fn numbers_come_back(rt: HostRuntime) -> Result<(), Fail> {
     Ok(())
 }
 
-#[test]
-fn each_key_has_its_list(rt: HostRuntime) -> Result<(), Fail> {
-    let mut table = Table::new(rt.alloc());
-    table.reserve(2)?;
-    for (key, number) in [(3, 1), (0, 2), (3, 4), (3, 8), (3, 16)] {
+/// Keys, and a number that is added to the list of each.
+const ADDED: &[(usize, u32)] = &[(3, 1), (0, 2), (3, 4), (3, 8), (3, 16)];
+
+/// Adds the numbers, with room for more keys before and behind them.
+fn add_all(table: &mut Table, before: usize, behind: usize) -> Result<(), AllocError> {
+    table.reserve(before)?;
+    for row in ADDED {
+        let (key, number) = *row;
         table.add(key, number)?;
     }
-    assert!(rt; table.of(3) == [1, 4, 8, 16].as_slice());
-    assert!(rt; table.of(0) == [2].as_slice());
-    assert!(rt; table.of(1).is_empty());
-    assert!(rt; table.of(4).is_empty());
-    table.reserve(100)?;
-    assert!(rt; table.of(3) == [1, 4, 8, 16].as_slice());
+    table.reserve(behind)
+}
+
+/// Whether each key has its list.
+fn has_lists(table: &Table) -> bool {
+    table.of(3) == [1, 4, 8, 16].as_slice()
+        && table.of(0) == [2].as_slice()
+        && table.of(1).is_empty()
+        && table.of(4).is_empty()
+}
+
+/// Whether each key has its list, with so much more room behind them.
+fn keeps_lists(alloc: Global, behind: usize) -> Result<bool, AllocError> {
+    let mut table = Table::new(alloc);
+    add_all(&mut table, 2, behind)?;
+    Ok(has_lists(&table))
+}
+
+#[test]
+fn each_key_has_its_list(rt: HostRuntime) -> Result<(), Fail> {
+    assert!(rt; keeps_lists(rt.alloc(), 0)?);
+    assert!(rt; keeps_lists(rt.alloc(), 100)?, "with more room");
     Ok(())
 }

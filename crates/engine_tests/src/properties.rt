@@ -15,29 +15,32 @@ const T: PropId2 = PropId2::Property(PropId(2));
 
 const U: PropId2 = PropId2::Property(PropId(3));
 
+/// The first beginning of a chain.
+const BEGINNING: PropId2 = PropId2::Partial(0);
+
 /// `SubObjectPropertyOf(r s) EquivalentObjectProperties(s t u)`, in a circle.
-fn circle(alloc: Global) -> Result<PropertyClosure, Memory> {
-    let forms = [
-        Form::N5(PropId(0), PropId(1)),
-        Form::N5(PropId(1), PropId(2)),
-        Form::N5(PropId(2), PropId(3)),
-        Form::N5(PropId(3), PropId(1)),
-    ];
-    close(alloc, 4, 0, &forms)
-}
+const CIRCLE: &[Form] = &[
+    Form::N5(PropId(0), PropId(1)),
+    Form::N5(PropId(1), PropId(2)),
+    Form::N5(PropId(2), PropId(3)),
+    Form::N5(PropId(3), PropId(1)),
+];
+
+const ALL: &[PropId2] = &[R, S, T, U];
+
+const OTHERS: &[PropId2] = &[S, T, U];
 
 /// Whether r is below all, and each of the others below the others.
 fn is_circle(closure: &PropertyClosure) -> bool {
-    let others = [S, T, U];
-    closure.supers(R) == [R, S, T, U].as_slice()
-        && closure.supers(S) == others.as_slice()
-        && closure.supers(T) == others.as_slice()
-        && closure.supers(U) == others.as_slice()
+    closure.supers(R) == ALL
+        && closure.supers(S) == OTHERS
+        && closure.supers(T) == OTHERS
+        && closure.supers(U) == OTHERS
 }
 
 #[test]
 fn equivalences_in_a_circle(rt: HostRuntime) -> Result<(), Fail> {
-    let closure = circle(rt.alloc())?;
+    let closure = close(rt.alloc(), 4, 0, CIRCLE)?;
     let right = is_circle(&closure);
     drop(closure);
     assert!(rt; right);
@@ -45,15 +48,12 @@ fn equivalences_in_a_circle(rt: HostRuntime) -> Result<(), Fail> {
 }
 
 /// `ReflexiveObjectProperty(s) SubObjectPropertyOf(s t) SubObjectPropertyOf(t u) SubObjectPropertyOf(r s)`.
-fn hierarchy(alloc: Global) -> Result<PropertyClosure, Memory> {
-    let forms = [
-        Form::N7(PropId(1)),
-        Form::N5(PropId(1), PropId(2)),
-        Form::N5(PropId(2), PropId(3)),
-        Form::N5(PropId(0), PropId(1)),
-    ];
-    close(alloc, 4, 0, &forms)
-}
+const HIERARCHY: &[Form] = &[
+    Form::N7(PropId(1)),
+    Form::N5(PropId(1), PropId(2)),
+    Form::N5(PropId(2), PropId(3)),
+    Form::N5(PropId(0), PropId(1)),
+];
 
 /// Whether all but r are reflexive.
 fn is_hierarchy(closure: &PropertyClosure) -> bool {
@@ -65,7 +65,7 @@ fn is_hierarchy(closure: &PropertyClosure) -> bool {
 
 #[test]
 fn reflexivity_through_a_hierarchy(rt: HostRuntime) -> Result<(), Fail> {
-    let closure = hierarchy(rt.alloc())?;
+    let closure = close(rt.alloc(), 4, 0, HIERARCHY)?;
     let right = is_hierarchy(&closure);
     drop(closure);
     assert!(rt; right);
@@ -73,20 +73,15 @@ fn reflexivity_through_a_hierarchy(rt: HostRuntime) -> Result<(), Fail> {
 }
 
 /// `SubObjectPropertyOf(ObjectPropertyChain(r s t) u)`, by the beginning `r s`.
-fn long_chain(alloc: Global) -> Result<PropertyClosure, Memory> {
-    let beginning = PropId2::Partial(0);
-    let forms = [Form::N6(R, S, beginning), Form::N6(beginning, T, U)];
-    close(alloc, 4, 1, &forms)
-}
+const LONG_CHAIN: &[Form] = &[Form::N6(R, S, BEGINNING), Form::N6(BEGINNING, T, U)];
 
 /// Whether r begins the beginning, and that the chain.
 fn is_long_chain(closure: &PropertyClosure) -> bool {
-    let beginning = PropId2::Partial(0);
-    closure.chains_from(R) == [(S, beginning)].as_slice()
-        && closure.chains_from(beginning) == [(T, U)].as_slice()
+    closure.chains_from(R) == [(S, BEGINNING)].as_slice()
+        && closure.chains_from(BEGINNING) == [(T, U)].as_slice()
         && closure.chains_from(S).is_empty()
-        && closure.supers(beginning) == [beginning].as_slice()
-        && !closure.is_reflexive(beginning)
+        && closure.supers(BEGINNING) == [BEGINNING].as_slice()
+        && !closure.is_reflexive(BEGINNING)
 }
 
 /// Whether nothing is known of it.
@@ -96,7 +91,7 @@ fn is_out_of_range(closure: &PropertyClosure, id: PropId2) -> bool {
 
 #[test]
 fn chain_of_three_and_what_is_out_of_range(rt: HostRuntime) -> Result<(), Fail> {
-    let closure = long_chain(rt.alloc())?;
+    let closure = close(rt.alloc(), 4, 1, LONG_CHAIN)?;
     let chain = is_long_chain(&closure);
     let property = is_out_of_range(&closure, PropId2::Property(PropId(4)));
     let beginning = is_out_of_range(&closure, PropId2::Partial(1));
@@ -108,22 +103,21 @@ fn chain_of_three_and_what_is_out_of_range(rt: HostRuntime) -> Result<(), Fail> 
 }
 
 /// `TransitiveObjectProperty(r)` and chains that begin with r, one of them twice.
-fn many_chains(alloc: Global) -> Result<PropertyClosure, Memory> {
-    let forms = [
-        Form::N6(R, S, PropId2::Partial(0)),
-        Form::N6(R, T, U),
-        Form::N6(R, S, U),
-        Form::N6(R, T, U),
-        Form::N6(R, R, R),
-    ];
-    close(alloc, 4, 1, &forms)
-}
+const MANY_CHAINS: &[Form] = &[
+    Form::N6(R, S, BEGINNING),
+    Form::N6(R, T, U),
+    Form::N6(R, S, U),
+    Form::N6(R, T, U),
+    Form::N6(R, R, R),
+];
+
+/// The ends of those chains.
+const ENDS: &[(PropId2, PropId2)] = &[(R, R), (S, U), (S, BEGINNING), (T, U)];
 
 #[test]
 fn chains_ascend_and_none_stands_twice(rt: HostRuntime) -> Result<(), Fail> {
-    let closure = many_chains(rt.alloc())?;
-    let chains = [(R, R), (S, U), (S, PropId2::Partial(0)), (T, U)];
-    let right = closure.chains_from(R) == chains.as_slice();
+    let closure = close(rt.alloc(), 4, 1, MANY_CHAINS)?;
+    let right = closure.chains_from(R) == ENDS;
     drop(closure);
     assert!(rt; right);
     Ok(())
@@ -140,12 +134,11 @@ fn grown(alloc: Global) -> Result<PropertyClosure, Memory> {
 
 /// Whether s is above r and reflexive, and u and the beginning are only above themselves.
 fn has_grown(closure: &PropertyClosure) -> bool {
-    let beginning = PropId2::Partial(0);
     closure.supers(R) == [R, S].as_slice()
         && closure.is_reflexive(S)
         && closure.supers(U) == [U].as_slice()
         && !closure.is_reflexive(U)
-        && closure.supers(beginning) == [beginning].as_slice()
+        && closure.supers(BEGINNING) == [BEGINNING].as_slice()
 }
 
 #[test]

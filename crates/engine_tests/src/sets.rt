@@ -11,44 +11,69 @@ fn is_taken(alloc: Global, n: usize, number: usize) -> Result<bool, AllocError> 
     Ok(set.put(number) && set.contains(number))
 }
 
+/// Whether numbers can be put into the set of numbers below `n` just where they are below it.
+fn takes_what_is_below(alloc: Global, n: usize) -> Result<bool, AllocError> {
+    Ok(
+        EpochSet::new(alloc, n)?.len() == n
+            && is_taken(alloc, n, 0)? == (n > 0)
+            && is_taken(alloc, n, 62)? == (n > 62)
+            && is_taken(alloc, n, 63)? == (n > 63)
+            && is_taken(alloc, n, 64)? == (n > 64)
+            && !is_taken(alloc, n, n)?,
+    )
+}
+
 #[test]
 fn numbers_in_range(rt: HostRuntime) -> Result<(), Fail> {
     for n in [0, 1, 63, 64, 65] {
-        assert!(rt; EpochSet::new(rt.alloc(), n)?.len() == n, "{n}");
-        assert!(rt; is_taken(rt.alloc(), n, 0)? == (n > 0), "{n}");
-        assert!(rt; is_taken(rt.alloc(), n, 62)? == (n > 62), "{n}");
-        assert!(rt; is_taken(rt.alloc(), n, 63)? == (n > 63), "{n}");
-        assert!(rt; is_taken(rt.alloc(), n, 64)? == (n > 64), "{n}");
-        assert!(rt; !is_taken(rt.alloc(), n, n)?, "{n}");
+        assert!(rt; takes_what_is_below(rt.alloc(), n)?, "{n}");
     }
     Ok(())
+}
+
+/// Whether the set of numbers below 65 takes two of them, and no others are in it.
+fn takes_two(set: &mut EpochSet) -> bool {
+    set.put(0)
+        && set.put(64)
+        && !set.put(65)
+        && set.contains(0)
+        && set.contains(64)
+        && !set.contains(1)
+        && !set.contains(65)
 }
 
 #[test]
 fn other_numbers_stay_out(rt: HostRuntime) -> Result<(), Fail> {
     let mut set = EpochSet::new(rt.alloc(), 65)?;
-    assert!(rt; set.put(0));
-    assert!(rt; set.put(64));
-    assert!(rt; !set.put(65));
-    assert!(rt; set.contains(0));
-    assert!(rt; set.contains(64));
-    assert!(rt; !set.contains(1));
-    assert!(rt; !set.contains(65));
+    let takes_two = takes_two(&mut set);
+    drop(set);
+    assert!(rt; takes_two);
     Ok(())
+}
+
+/// Whether the number is put into the empty set, which is emptied again.
+fn is_put_and_gone(set: &mut EpochSet, number: usize) -> bool {
+    let is_put = !set.contains(number) && set.put(number) && set.contains(number);
+    set.clear();
+    is_put && !set.contains(number)
+}
+
+/// Whether so many numbers are put into the set, one after another, each into the empty one.
+fn goes_through(set: &mut EpochSet, epochs: usize) -> bool {
+    for epoch in 0..epochs {
+        if !is_put_and_gone(set, epoch % 65) {
+            return false;
+        }
+    }
+    set.len() == 65
 }
 
 #[test]
 fn many_epochs(rt: HostRuntime) -> Result<(), Fail> {
     let mut set = EpochSet::new(rt.alloc(), 65)?;
-    for epoch in 0..1000 {
-        let number = epoch % 65;
-        assert!(rt; !set.contains(number), "{epoch}");
-        assert!(rt; set.put(number), "{epoch}");
-        assert!(rt; set.contains(number), "{epoch}");
-        set.clear();
-        assert!(rt; !set.contains(number), "{epoch}");
-    }
-    assert!(rt; set.len() == 65);
+    let goes_through = goes_through(&mut set, 1000);
+    drop(set);
+    assert!(rt; goes_through);
     Ok(())
 }
 
@@ -63,66 +88,104 @@ fn three_lists(alloc: Global) -> Result<PackedLists, AllocError>
     Ok(lists)
 }
 
+/// Whether the lists are these, and there is none behind them.
+fn are_lists(lists: &PackedLists, expected: &[&[u32]]) -> bool {
+    for (number, list) in expected.iter().enumerate() {
+        if lists.at(number) != *list {
+            return false;
+        }
+    }
+    lists.len() == expected.len() && lists.at(expected.len()).is_empty()
+}
+
+const THREE: &[&[u32]] = &[&[5, 7], &[], &[5]];
+
 #[test]
 fn lists_by_number(rt: HostRuntime) -> Result<(), Fail> {
     let lists = three_lists(rt.alloc())?;
-    assert!(rt; lists.len() == 3);
-    assert!(rt; lists.at(0) == [5, 7].as_slice());
-    assert!(rt; lists.at(1).is_empty());
-    assert!(rt; lists.at(2) == [5].as_slice());
-    assert!(rt; lists.at(3).is_empty());
+    let are_three = are_lists(&lists, THREE);
+    drop(lists);
+    assert!(rt; are_three);
     Ok(())
+}
+
+/// Whether the lists have these lengths.
+fn have_lengths(lists: &PackedLists, lengths: &[usize]) -> bool {
+    for (number, length) in lengths.iter().enumerate() {
+        if lists.len_at(number) != *length {
+            return false;
+        }
+    }
+    true
 }
 
 #[test]
 fn lengths_by_number(rt: HostRuntime) -> Result<(), Fail> {
     let lists = three_lists(rt.alloc())?;
-    for (number, length) in [(0, 2), (1, 0), (2, 1), (3, 0)] {
-        assert!(rt; lists.len_at(number) == length, "{number}");
-    }
+    let have_lengths = have_lengths(&lists, &[2, 0, 1, 0]);
+    drop(lists);
+    assert!(rt; have_lengths);
     Ok(())
 }
 
 #[test]
-fn no_lists(rt: HostRuntime) -> Result<(), Fail> {
-    let lists: PackedLists = PackedLists::new(rt.alloc());
-    assert!(rt; lists.len() == 0);
-    assert!(rt; lists.at(0).is_empty());
-    Ok(())
+fn no_lists(rt: HostRuntime) {
+    assert!(rt; are_lists(&PackedLists::new(rt.alloc()), &[]));
+}
+
+/// The numbers of the three lists in which each number below 8 stands.
+const TURNED: &[&[u32]] = &[&[], &[], &[], &[], &[], &[0, 2], &[], &[0]];
+
+/// Whether the three lists, turned around below the bound, are those below it.
+fn are_turned(alloc: Global, bound: usize) -> Result<bool, AllocError> {
+    let lists = three_lists(alloc)?;
+    let turned = turned(alloc, &lists, bound)?;
+    Ok(
+        are_lists(&turned, &TURNED[..bound.min(TURNED.len())])
+            && turned.at(bound.saturating_add(1)).is_empty(),
+    )
 }
 
 #[test]
 fn lists_turned_around(rt: HostRuntime) -> Result<(), Fail> {
-    let lists = three_lists(rt.alloc())?;
-    let turned = turned(rt.alloc(), &lists, 8)?;
-    assert!(rt; turned.len() == 8);
-    assert!(rt; turned.at(0).is_empty());
-    assert!(rt; turned.at(5) == [0, 2].as_slice());
-    assert!(rt; turned.at(6).is_empty());
-    assert!(rt; turned.at(7) == [0].as_slice());
+    assert!(rt; are_turned(rt.alloc(), 8)?);
     Ok(())
 }
 
 #[test]
 fn numbers_past_the_bound_left_out(rt: HostRuntime) -> Result<(), Fail> {
-    let lists = three_lists(rt.alloc())?;
-    let turned = turned(rt.alloc(), &lists, 6)?;
-    assert!(rt; turned.len() == 6);
-    assert!(rt; turned.at(5) == [0, 2].as_slice());
-    assert!(rt; turned.at(7).is_empty());
+    assert!(rt; are_turned(rt.alloc(), 6)?);
     Ok(())
+}
+
+/// Adds to two lists, of which the second is not there.
+fn push_three(lists: &mut OpenLists<(u32, bool)>) -> Result<(), AllocError> {
+    lists.push(1, (5, true))?;
+    lists.push(2, (6, true))?;
+    lists.push(1, (4, false))
+}
+
+const GROWN: &[(u32, bool)] = &[(5, true), (4, false)];
+
+/// Whether the second of two lists has grown.
+fn has_grown(lists: &OpenLists<(u32, bool)>) -> bool {
+    lists.len() == 2 && lists.at(0).is_empty() && lists.at(1) == GROWN && lists.at(2).is_empty()
+}
+
+/// Whether it is packed so.
+fn is_packed(alloc: Global, lists: &OpenLists<(u32, bool)>) -> Result<bool, AllocError> {
+    Ok(lists.packed(alloc)?.at(1) == GROWN)
 }
 
 #[test]
 fn lists_that_grow(rt: HostRuntime) -> Result<(), Fail> {
     let mut lists: OpenLists<(u32, bool)> = OpenLists::new(rt.alloc(), 2)?;
-    lists.push(1, (5, true))?;
-    lists.push(2, (6, true))?;
-    lists.push(1, (4, false))?;
-    assert!(rt; lists.len() == 2);
-    assert!(rt; lists.at(0).is_empty());
-    assert!(rt; lists.at(1) == [(5, true), (4, false)].as_slice());
-    assert!(rt; lists.at(2).is_empty());
-    assert!(rt; lists.packed(rt.alloc())?.at(1) == [(5, true), (4, false)].as_slice());
+    let pushed = push_three(&mut lists);
+    let has_grown = has_grown(&lists);
+    let is_packed = is_packed(rt.alloc(), &lists);
+    drop(lists);
+    pushed?;
+    assert!(rt; has_grown);
+    assert!(rt; is_packed?);
     Ok(())
 }

@@ -1,7 +1,7 @@
 use Rattle.std.proofs.Common.{Option, subst, sym, IfSome}
 use Rattle.certificate.specs.Certificate.{Listed}
 use Rattle.certificate.specs.HasText.{IsListedOf}
-use Rattle.answers_tests.proofs.generated_parts.listed_in.Goals as goal
+use Rattle.answers_tests.proofs.documents.listed_in.Goals as goal
 
 pub interpretation_of-requires : goal.interpretation_of-requires
 interpretation_of-requires c =

@@ -1,0 +1,38 @@
+//! Ontologies that documents state, and interpretations that certificates list.
+ghost use Rattle.interpretation_spec.specs.Numbered.{IsMadeFor};
+ghost use Rattle.std.specs.Prelude.{IfSome};
+
+use axioms::Ontology;
+use cert_check::interpretation_of;
+use certificate::read_certificate;
+use interpretation_spec::Interpretation;
+use profile::read_bytes;
+use std::alloc::Global;
+use std::hash::RandomState;
+use std::random::RandomSource;
+use std::test::Fail;
+
+/// The ontology that the document states.
+pub(crate) fn ontology_of<R: AllocGlobal + RandomSource>(
+    rt: &R,
+    document: &str,
+) -> Result<Ontology, Fail> {
+    Ok(read_bytes(rt.alloc(), document.as_bytes(), RandomState::new(rt)?)?)
+}
+
+/// The interpretation that the certificate lists.
+pub(crate) fn listed_in(
+    alloc: Global,
+    ontology: &Ontology,
+    certificate: &[u8],
+) -> Option<Interpretation>
+    ensures { IfSome result (IsMadeFor ontology.now.names) }
+{
+    let Ok(certificate) = read_certificate(alloc, ontology, certificate) else {
+        return None;
+    };
+    match certificate.listed() {
+        Some(listed) => interpretation_of(alloc, ontology, listed).ok(),
+        None => None,
+    }
+}
