@@ -1,5 +1,4 @@
 pub mod Facts
-pub mod LeanStates
-pub mod Runs
+pub mod Least
 pub mod Said
 pub mod Disjoint

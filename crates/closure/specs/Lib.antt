@@ -1,4 +1,3 @@
 pub mod Closure
-pub mod Run
 pub mod Theorems
 pub mod Said

@@ -1,27 +1,13 @@
-//! The closure of the normal forms, and runs that reach it.
+//! The closure of the normal forms.
 #![tactic(auto)]
 
 ghost use Rattle.closure.specs.Said.{NumbersSayTheClosure};
-ghost use Rattle.closure.specs.Theorems.{OrderOfDisjointClassesDoesNotMatter};
-ghost use Rattle.closure.specs.Theorems.{ClosureIsClosed, ClosureIsLeast, FinishedIsClosure, StepsServe, OrderDoesNotMatter};
-ghost use Rattle.closure.specs.Theorems.{LeanFinishedIsClosure, LeanFinishedIsState, LeanOrderDoesNotMatter, StatesAreLean, StartIsLean, AddingStaysLean, ServingStaysLean, AddedIsBorn, BirthsStay};
+ghost use Rattle.closure.specs.Theorems.{ClosureIsClosed, ClosureIsLeast, OrderOfDisjointClassesDoesNotMatter};
 
-/// What the closure is, and that runs in any order reach it.
-pub fn closure_and_runs()
+/// What the closure is: the least set of facts that has what its facts give.
+pub fn closure_is_least()
     ensures closed { ClosureIsClosed }
     ensures least { ClosureIsLeast }
-    ensures finished { FinishedIsClosure }
-    ensures steps { StepsServe }
-    ensures order { OrderDoesNotMatter }
-    ensures lean_finished { LeanFinishedIsClosure }
-    ensures lean_state { LeanFinishedIsState }
-    ensures lean_order { LeanOrderDoesNotMatter }
-    ensures states { StatesAreLean }
-    ensures start { StartIsLean }
-    ensures adding { AddingStaysLean }
-    ensures serving { ServingStaysLean }
-    ensures born { AddedIsBorn }
-    ensures births { BirthsStay }
 {}
 
 /// Where the forms and roots over numbers are those of the ontology, the facts over numbers say exactly the facts of the closure.

@@ -8,9 +8,10 @@ ghost use Rattle.normalise.specs.Entries.{form_in};
 ghost use Rattle.normalise.specs.Growing.{IsNormalFor};
 ghost use Rattle.normalise.specs.Problem.{beginnings_of};
 ghost use Rattle.inference.specs.Closed.{IsClosureOf};
+ghost use Rattle.saturate.specs.Run.{IsRun, IsRunUntil};
 ghost use Rattle.saturate.specs.State.{Extends};
 ghost use Rattle.inference.specs.declared.known_facts.Stop.TheVariants as stops;
-ghost use Rattle.std.specs.Prelude.{◌≡◌, ◌≤◌, ◌↔◌, Err, IfNone, IfOk, IfSome, IsTrue, OnOk, Some, [], length, map, slice_get, take};
+ghost use Rattle.std.specs.Prelude.{◌≡◌, ◌≤◌, ◌↔◌, Err, IfNone, OnErr, IfOk, IfSome, IsTrue, OnOk, Some, [], length, map, slice_get, take};
 
 use axioms::{Memory, Ontology};
 use facts::{Birth, FactId, StoredFact};
@@ -60,21 +61,28 @@ impl Saturation {
         })
     }
 
-    /// Serves all facts that are pending, and those that come of them, as long as there are at most `max_facts`.
+    /// Serves all facts that are pending, and those that come of them, as long as there are at most `max_facts`. Where none is
+    /// pending, that takes no memory.
     ///
     /// # Errors
     ///
     /// `Limit` where the closure has more facts than `max_facts`, and `Memory` where memory was refused. After either the facts
     /// that are not served are still pending, and it may be called again.
     pub fn resume(&mut self, max_facts: u32) -> Result<(), Stop>
-        // The forms are the same, and each fact stays at its place, with what gave it.
+        // The forms are the same, and each fact stays at its place, with what gave it, and is served if it was.
         ensures normal { self.new.normal ≡ self.old.normal }
         ensures extends { Extends self.old.state self.new.state }
+        // It is a run; or one that was given up, whose last facts are pending.
+        ensures whole { OnOk result (IsRun self.old.state self.new.state) }
+        ensures until { OnErr result (IsRunUntil self.old.state self.new.state) }
         ensures sound { (o : Ontology2) → IsSound o self.old → IsSound o self.new }
         ensures finished { OnOk result (IsFinished self.new) }
         ensures saturated { OnOk result ((o : Ontology2) → IsSound o self.old → IsSaturated o self.new) }
         ensures within { OnOk result (length self.new.state.facts ≤ max_facts) }
         ensures limit { result ≡ Err stops.Limit → (o : Ontology2) → IsSound o self.old → HasMoreFactsThan o max_facts }
+        ensures most { length self.old.state.facts ≤ max_facts → length self.new.state.facts ≤ max_facts }
+        // With nothing pending nothing changes, and memory is not refused.
+        ensures idle { IsFinished self.old → (self.new ≡ self.old) × ¬ (result ≡ Err stops.Memory) }
     {
         self.state.run(max_facts)
     }

@@ -12,10 +12,10 @@ use Rattle.inference.specs.Derived.{AreDistinct, HasMoreFactsThan}
 use Rattle.inference.specs.Working.{IsClosure}
 use Rattle.inference.proofs.Lists.{slice_get-from_Contains}
 
-Contains-first : {X : Type 0} (x : X) (xs : List X) → Contains (x ∷ xs) x
+pub Contains-first : {X : Type 0} (x : X) (xs : List X) → Contains (x ∷ xs) x
 Contains-first x xs = (0, omega arith, refl)
 
-Contains-tail : {X : Type 0} (y : X) (xs : List X) (x : X) → Contains xs x → Contains (y ∷ xs) x
+pub Contains-tail : {X : Type 0} (y : X) (xs : List X) (x : X) → Contains xs x → Contains (y ∷ xs) x
 Contains-tail y xs x h = Contains-append_right (y ∷ []) xs x h
 
 -- the places of facts in another list
@@ -37,7 +37,7 @@ place_of (x ∷ xs) ys h zero p g =
 place_of (x ∷ xs) ys h (suc k) p g = place_of xs ys (λ y j. h y (Contains-tail x xs y j)) k p g
 
 -- different numbers below n are at most n
-length-le_from_below : (xs : List ℕ) (n : ℕ) → ((i j x : ℕ) → slice_get xs i ≡ Some x → slice_get xs j ≡ Some x → i ≡ j) → ((k d : ℕ) → slice_get xs k ≡ Some d → d < n) → length xs ≤ n
+pub length-le_from_below : (xs : List ℕ) (n : ℕ) → ((i j x : ℕ) → slice_get xs i ≡ Some x → slice_get xs j ≡ Some x → i ≡ j) → ((k d : ℕ) → slice_get xs k ≡ Some d → d < n) → length xs ≤ n
 length-le_from_below xs n apart within =
     length-le_from_distinct_below xs n
     (IsDistinct-from_apart eqb xs (λ i j d l k. ne_eqb (get_or xs i d) (get_or xs j d) (λ e. absurd (different i j d l k e))))

@@ -21,7 +21,7 @@ use Rattle.inference.specs.Working.{IsCompleteButSpared, IsServed, AreSpared, En
 use Rattle.inference.proofs.Lists.{Contains-from_slice_get}
 use Rattle.inference.proofs.Growth.{there_still}
 use Rattle.inference.proofs.Sparing.{spared_still}
-use Rattle.saturate.specs.State.{IsState}
+use Rattle.saturate.specs.State.{IsUnderWay}
 use Rattle.saturate.specs.Listed.{ListsFacts, ListsServed}
 use Rattle.saturate.specs.Queued.{Queued, option_list}
 use Rattle.indexes.specs.declared.index.Index.{Index}
@@ -273,7 +273,7 @@ module _ (k : Problem) (forms : List Form) (roots : List Context) {j : Problem} 
   pub derived_then : {d : Derived} → IsDerived k d → IsDerived j d
   derived_then {d} s = subst (λ (i : Problem). IsDerived i d) (sym same) (derived_more k forms roots s)
 
-  pub extended : {most : ℕ} {old new : Derived} {q r : Queued} → IsState k old q → HasBegun j most old new → r.queued ≤ length new.facts → KeepsServed j.forms forms old.facts q.served r.served → IsState j new r
+  pub extended : {most : ℕ} {old new : Derived} {q r : Queued} → IsUnderWay k old q → HasBegun j most old new → r.queued ≤ length new.facts → KeepsServed j.forms forms old.facts q.served r.served → IsUnderWay j new r
   extended {most} {old} {new} {q} {r} s begun queued keeps = record {
     derived = begun.grows.derived;
     queued = queued;

@@ -8,3 +8,4 @@ pub mod Asking
 pub mod Extending
 pub mod Naming
 pub mod Flagging
+pub mod Runs

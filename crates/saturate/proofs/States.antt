@@ -8,8 +8,8 @@ use Rattle.facts.specs.Closure.{Problem, IsFact, AreFacts, given, none, more, in
 use Rattle.facts.proofs.Premises.{no_three}
 use Rattle.inference.specs.Derived.{Derived, IsDerived, Grows, HasMoreFactsThan}
 use Rattle.saturate.specs.Queued.{Queued}
-use Rattle.inference.specs.Working.{IsServed, IsClosure, Drawn, DrawnButSpared, MeetEachOther}
-use Rattle.saturate.specs.State.{IsState}
+use Rattle.inference.specs.Working.{IsServed, IsClosure, IsCompleteButSpared, Drawn, DrawnButSpared, MeetEachOther}
+use Rattle.saturate.specs.State.{IsUnderWay}
 use Rattle.inference.proofs.Lists.{one_value, slice_get_there, Contains-from_slice_get}
 use Rattle.inference.proofs.Growth.{sound}
 use Rattle.inference.proofs.Sparing.{all_drawn, but_spared_still}
@@ -22,7 +22,7 @@ was_there {old = old} t n f low at =
     before.1 ∙ ap Some (one_value _ before.0 f (t.facts n before.0 before.1) at)
 
 -- facts are added
-pub grown : {k : Problem} {most : ℕ} {old new : Derived} {q r : Queued} → IsState k old q → Grows k most old new → r.queued ≤ length old.facts → r.served ≡ q.served → IsState k new r
+pub grown : {k : Problem} {most : ℕ} {old new : Derived} {q r : Queued} → IsUnderWay k old q → Grows k most old new → r.queued ≤ length old.facts → r.served ≡ q.served → IsUnderWay k new r
 grown {k} {old = old} {new = new} {q = q} {r = r} s t low same = record {
   derived = t.derived;
   queued = omega (arith, low, t.longer);
@@ -38,7 +38,7 @@ grown {k} {old = old} {new = new} {q = q} {r = r} s t low same = record {
     were (f ∷ fs) all = ((all.0.0, subst (λ (ns : List ℕ). Contains ns all.0.0) same all.0.1, was_there t all.0.0 f (within all.0.0 all.0.1) all.0.2), were fs all.1)
 
 -- a fact is served, since what it gives with others is there
-module _ {k : Problem} {most : ℕ} {old new : Derived} {q : Queued} (s : IsState k old q) (t : Grows k most old new) (n : ℕ) (f : Fact) (at : slice_get old.facts n ≡ Some f)
+module _ {k : Problem} {most : ℕ} {old new : Derived} {q : Queued} (s : IsUnderWay k old q) (t : Grows k most old new) (n : ℕ) (f : Fact) (at : slice_get old.facts n ≡ Some f)
     (alone : Drawn k (f ∷ []) new.facts)
     (met : (m : ℕ) → Contains (q.served ++ n ∷ []) m → (g : Fact) → slice_get old.facts m ≡ Some g → MeetEachOther k f g new) where
   within : (m : ℕ) → Contains (q.served ++ n ∷ []) m → m < length old.facts
@@ -67,7 +67,7 @@ module _ {k : Problem} {most : ℕ} {old new : Derived} {q : Queued} (s : IsStat
       (cases g all.0)
   complete (g ∷ h ∷ i ∷ rest) all = λ c form new gives. absurd (no_three gives)
 
-  pub one_served : {r : Queued} → r.queued ≤ length old.facts → r.served ≡ q.served ++ n ∷ [] → IsState k new r
+  pub one_served : {r : Queued} → r.queued ≤ length old.facts → r.served ≡ q.served ++ n ∷ [] → IsUnderWay k new r
   one_served {r} low same = record {
     derived = t.derived;
     queued = omega (arith, low, t.longer);
@@ -76,33 +76,33 @@ module _ {k : Problem} {most : ℕ} {old new : Derived} {q : Queued} (s : IsStat
   }
 
 -- where all are served the facts are the closure
-module _ {k : Problem} {d : Derived} {q : Queued} (s : IsState k d q) (all : (n : ℕ) → n < length d.facts → Contains q.served n) where
-  served : (f : Fact) → Contains d.facts f → IsServed d.facts q.served f
+module _ {k : Problem} {d : Derived} (ns : List ℕ) (derived : IsDerived k d) (complete_until : IsCompleteButSpared k d ns) (all : (n : ℕ) → n < length d.facts → Contains ns n) where
+  served : (f : Fact) → Contains d.facts f → IsServed d.facts ns f
   served f c = (c.0, all c.0 c.1, slice_get-get_or d.facts c.0 f c.1 ∙ ap Some c.2)
 
   -- what two give is there: what they are spared is given by others
   pairs : (f g : Fact) → Contains d.facts f → Contains d.facts g → DrawnButSpared k (f ∷ g ∷ []) d
-  pairs f g c e = s.complete (f ∷ g ∷ []) (served f c, (served g e, tt))
+  pairs f g c e = complete_until (f ∷ g ∷ []) (served f c, (served g e, tt))
 
-  there : (f : Fact) → IsServed d.facts q.served f → Contains d.facts f
+  there : (f : Fact) → IsServed d.facts ns f → Contains d.facts f
   there f w = Contains-from_slice_get d.facts w.0 f w.2
 
-  all_there : (older : List Fact) → AllByRecursion (IsServed d.facts q.served) older → Drawn k older d.facts
-  all_there [] all c form f gives = ⊎_elim (λ w. w) (λ w. absurd w) (s.complete [] tt c form f gives)
-  all_there (g ∷ []) all c form f gives = ⊎_elim (λ w. w) (λ w. absurd w) (s.complete (g ∷ []) all c form f gives)
-  all_there (g ∷ h ∷ []) all c form f gives = all_joined s.derived pairs g h (there g all.0) (there h all.1.0) c form f gives
+  all_there : (older : List Fact) → AllByRecursion (IsServed d.facts ns) older → Drawn k older d.facts
+  all_there [] all c form f gives = ⊎_elim (λ w. w) (λ w. absurd w) (complete_until [] tt c form f gives)
+  all_there (g ∷ []) all c form f gives = ⊎_elim (λ w. w) (λ w. absurd w) (complete_until (g ∷ []) all c form f gives)
+  all_there (g ∷ h ∷ []) all c form f gives = all_joined derived pairs g h (there g all.0) (there h all.1.0) c form f gives
   all_there (g ∷ h ∷ i ∷ rest) all c form f gives = absurd (no_three gives)
 
   mutual
     whole : (f : Fact) → IsFact k f → Contains d.facts f
     whole f (given condition form older gives fs) = all_there older (whole_all older fs) condition form f gives
 
-    whole_all : (facts : List Fact) → AreFacts k facts → AllByRecursion (IsServed d.facts q.served) facts
+    whole_all : (facts : List Fact) → AreFacts k facts → AllByRecursion (IsServed d.facts ns) facts
     whole_all _ none = tt
     whole_all _ (more {f = f} {facts = fs} p ps) = (served f (whole f p), whole_all fs ps)
 
   pub finished : IsClosure k d.facts
-  finished f = (λ c. sound s.derived c.0 f (slice_get-get_or d.facts c.0 f c.1 ∙ ap Some c.2), whole f)
+  finished f = (λ c. sound derived c.0 f (slice_get-get_or d.facts c.0 f c.1 ∙ ap Some c.2), whole f)
 
 -- there are no forms, no contexts and no facts
 module _ {k : Problem} (forms : k.forms ≡ []) (roots : k.roots ≡ []) where
@@ -119,7 +119,7 @@ module _ {k : Problem} (forms : k.forms ≡ []) (roots : k.roots ≡ []) where
   nothing_given facts c o f (unsatisfiable back) = absurd back
   nothing_given facts c o f (loop x n form at l there) = absurd (nowhere k.forms forms n form at)
 
-  pub begun : {d : Derived} {q : Queued} → d.facts ≡ [] → d.births ≡ [] → q.queued ≡ 0 → q.served ≡ [] → IsState k d q
+  pub begun : {d : Derived} {q : Queued} → d.facts ≡ [] → d.births ≡ [] → q.queued ≡ 0 → q.served ≡ [] → IsUnderWay k d q
   begun {d} {q} facts births zero empty = record {
     derived = record {
       distinct = λ m n f a b. absurd (nowhere d.facts facts m f a);

@@ -223,6 +223,13 @@ just_taken {queued = queued} {served = served} taken x q all =
       none = λ e. absurd (none-some x (sym e ∙ at));
     }
 
+-- a number waits beside the list, or in it, so not all that were queued were served
+pub one_waits_beside : {bag : Bag} {start end queued served : ℕ} {taken : List ℕ} → IsQueue bag start end queued taken served → start < end → length (take served taken) < queued
+one_waits_beside {served = served} {taken = taken} q low = simp length-take (omega (arith, q.tally, low))
+
+pub one_waits : {bag : Bag} {start end queued served : ℕ} {taken : List ℕ} → IsQueue bag start end queued taken served → (bag.total ≡ 0 → ⊥) → length (take served taken) < queued
+one_waits {bag = bag} {served = served} {taken = taken} q some = simp length-take (⊎_elim (λ w. absurd (some w.1)) (λ w. omega (arith, q.tally, w.1)) (eqb_tells bag.total 0))
+
 -- what was served was queued
 pub few_served : {bag : Bag} {start end queued served : ℕ} {taken : List ℕ} → IsQueue bag start end queued taken served → length (take served taken) ≤ queued
 few_served {queued = queued} {served = served} {taken = taken} q = simp length-take (omega (arith, q.tally))

@@ -1,5 +1,6 @@
 pub mod Queued
 pub mod State
+pub mod Run
 pub mod Listed
 pub mod Served
 pub mod Asked

@@ -2,9 +2,22 @@
 use Rattle.std.specs.Prelude.{◌≡◌, ℕ, ◌+◌, ◌-◌, ◌<◌, ◌≤◌, ◌⊎◌, List, [], ◌∷◌, ◌++◌, length, slice_get, Option, Some, None}
 use Rattle.std.specs.List.{Contains}
 use Rattle.axioms.specs.WellFormed.{AreDistinct}
+use Rattle.facts.specs.declared.contexts.Context.{Context}
+use Rattle.facts.specs.declared.contexts.Context.TheVariants.{Expr, Individual}
+use Rattle.facts.specs.declared.contexts.Fact.{Fact}
+use Rattle.facts.specs.declared.contexts.Fact.TheVariants.{In, Edge}
 use Rattle.indexes.specs.Contexts.{IsLast}
 use Rattle.work_list.specs.declared.item.Item.{Item}
 use Rattle.work_list.specs.Bag.{Bag}
+
+-- the number of the context that a fact is of, as its source or that of a class in it
+abbrev pub number_of_context : Context → ℕ
+number_of_context (Expr e) = e.0
+number_of_context (Individual i) = i.0
+
+abbrev pub context_number : Fact → ℕ
+context_number (In a x) = number_of_context x
+context_number (Edge x r y) = number_of_context x
 
 -- so many numbers were queued; those that were served, in order; and the one in hand, that has its turn next
 pub record Queued : Type 0 where

@@ -19,18 +19,19 @@ pub record Seen : Type 0 where
 abbrev pub nothing_seen : Seen
 nothing_seen = record { problem = record { forms = []; roots = [] }; facts = []; births = []; served = [] }
 
--- facts with reasons, and what served facts give is there, but for what they are spared
-pub record IsState (k : Problem) (d : Derived) (q : Queued) : Type 0 where
+-- what a state keeps: facts with reasons, of which some are queued; and what served facts give is there, but for what they are spared
+pub record IsUnderWay (k : Problem) (d : Derived) (q : Queued) : Type 0 where
   pub derived : IsDerived k d
   pub queued : q.queued ≤ length d.facts
   pub within : (n : ℕ) → Contains q.served n → n < length d.facts
   pub complete : IsCompleteButSpared k d q.served
 
--- facts and what gave them are kept
+-- facts, what gave them, and those that were served are kept, each at its place
 pub record Extends (old new : Seen) : Type 0 where
   pub problem : new.problem ≡ old.problem
   pub facts : Keeps old.facts new.facts
   pub births : Keeps old.births new.births
+  pub served : Keeps old.served new.served
 
 -- each fact is there once, with a reason in older ones
 abbrev pub AreBorn : Seen → Type 0

@@ -4,7 +4,7 @@ ghost use Rattle.facts.specs.Births.{IsBirth, reason};
 ghost use Rattle.facts.specs.declared.contexts.Fact.{Fact as Fact2};
 ghost use Rattle.inference.specs.Closed.{IsClosureOf};
 ghost use Rattle.inference.specs.Derived.{HasMoreFactsThan};
-ghost use Rattle.saturate.specs.State.{AreBorn};
+ghost use Rattle.saturate.specs.Run.{IsRun, IsRunUntil, IsState};
 ghost use Rattle.inference.specs.Working.{IsClosure};
 
 use crate::ground::Ground;
@@ -80,9 +80,9 @@ impl Kept {
         self.facts.len()
     }
 
-    /// Each fact is there once, born of older ones, and they are the closure. All are served.
+    /// It is a state. The facts are the closure, and all are served.
     pub fn well_formed(&self)
-        ensures born { AreBorn self.now }
+        ensures state { IsState self.now }
         ensures closure { IsClosure self.now.problem self.now.facts }
         ensures served { length self.now.served ≡ length self.now.facts }
     {
@@ -95,12 +95,15 @@ impl Kept {
     ///
     /// `Limit` where there are more than so many facts.
     pub fn run(&self, max_facts: u32) -> Result<(), Stop>
-        ensures born { AreBorn self.now }
+        ensures state { IsState self.now }
         ensures done { IsClosure self.now.problem self.now.facts }
         ensures served { length self.now.served ≡ length self.now.facts }
         ensures within { OnOk result (length self.now.facts ≤ max_facts) }
         ensures few { OnOk result (HasMoreFactsThan self.now.problem max_facts → ⊥) }
         ensures limit { result ≡ Err Stop.Limit → HasMoreFactsThan self.now.problem max_facts }
+        ensures no_memory { ¬ (result ≡ Err Stop.Memory) }
+        ensures whole { IsRun self.now self.now }
+        ensures until { IsRunUntil self.now self.now }
     {
         self.well_formed();
         if self.served() > max_facts as usize {

@@ -6,11 +6,13 @@ mod counts;
 mod extension;
 mod ground;
 mod kept;
+mod laws;
 mod listed_facts;
 mod progress;
 mod queue;
 mod state;
 
 pub use inference::Stop;
+pub use laws::states_and_runs;
 pub use progress::Progress;
 pub use state::State;

@@ -1,10 +1,11 @@
 //! A saturation under way, or ended.
-ghost use Rattle.std.specs.Prelude.{◌≡◌, ◌≤◌, Err, IfNone, IfSome, OnOk, Some, length, slice_get, take};
+ghost use Rattle.std.specs.Prelude.{◌≡◌, ◌≤◌, Err, OnErr, IfNone, IfSome, OnOk, Some, length, slice_get, take};
 ghost use Rattle.facts.specs.Births.{IsBirth, reason};
 ghost use Rattle.facts.specs.declared.contexts.Fact.{Fact as Fact2};
 ghost use Rattle.inference.specs.Closed.{IsClosureOf};
 ghost use Rattle.inference.specs.Derived.{HasMoreFactsThan};
-ghost use Rattle.saturate.specs.State.{AreBorn, Extends};
+ghost use Rattle.saturate.specs.Run.{IsRun, IsRunUntil, IsState};
+ghost use Rattle.saturate.specs.State.{Extends};
 ghost use Rattle.inference.specs.Working.{IsClosure};
 
 use crate::kept::Kept;
@@ -95,9 +96,9 @@ impl<W: WorkList> Progress<W> {
         }
     }
 
-    /// Each fact is there once, born of older ones; and where all are served, they are the closure.
+    /// At any time it is a state; and where all facts are served, they are the closure.
     pub fn well_formed(&self)
-        ensures born { AreBorn self.now }
+        ensures state { IsState self.now }
         ensures closure { length self.now.served ≡ length self.now.facts → IsClosure self.now.problem self.now.facts }
     {
         match &self.stage {
@@ -106,19 +107,23 @@ impl<W: WorkList> Progress<W> {
         }
     }
 
-    /// Serves all facts that are pending, and those that come of them.
+    /// Serves all facts that are pending, and those that come of them. Where none is pending, that takes no memory.
     ///
     /// # Errors
     ///
     /// As for `State::run`; it may be called again.
     pub fn run(&mut self, max_facts: u32) -> Result<(), Stop>
         ensures extends { Extends self.old self.new }
-        ensures born { AreBorn self.new }
+        ensures state { IsState self.new }
+        ensures whole { OnOk result (IsRun self.old self.new) }
+        ensures until { OnErr result (IsRunUntil self.old self.new) }
         ensures done { OnOk result (IsClosure self.new.problem self.new.facts) }
         ensures served { OnOk result (length self.new.served ≡ length self.new.facts) }
         ensures within { OnOk result (length self.new.facts ≤ max_facts) }
         ensures few { OnOk result (HasMoreFactsThan self.new.problem max_facts → ⊥) }
         ensures limit { result ≡ Err Stop.Limit → HasMoreFactsThan self.old.problem max_facts }
+        ensures most { length self.old.facts ≤ max_facts → length self.new.facts ≤ max_facts }
+        ensures idle { length self.old.served ≡ length self.old.facts → (self.new ≡ self.old) × ¬ (result ≡ Err Stop.Memory) }
     {
         match &mut self.stage {
             Stage::Growing(state) => state.run(max_facts),

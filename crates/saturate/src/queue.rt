@@ -1,7 +1,7 @@
 //! Whose turn it is.
 ghost use Rattle.std.specs.Prelude.{◌≡◌, ◌<◌, ◌≤◌, ◌^◌, ◌+◌, ◌++◌, [], ℕ, None, Some, length, take, Contains, OnOk, OnErr, IfOk};
 ghost use Rattle.saturate.specs.Flagged.{asked, is_flagged, kept};
-ghost use Rattle.saturate.specs.Queued.{with_one_more, option_list, HasTurn, IsServedOnce, IsWithoutHand, IsWithoutLast};
+ghost use Rattle.saturate.specs.Queued.{context_number, with_one_more, option_list, HasTurn, IsServedOnce, IsWithoutHand, IsWithoutLast};
 ghost use Rattle.work_list.specs.Bag.{IsEmpty};
 
 use axioms::Memory;
@@ -35,7 +35,9 @@ impl<W: WorkList> Model for Queue<W> {
 }
 
 /// The number of a fact's context. An expression and an individual may have the same one, and their facts come together then.
-fn context_of(fact: &StoredFact) -> u32 {
+fn context_of(fact: &StoredFact) -> u32
+    ensures { result ≡ context_number fact.now }
+{
     match fact.get() {
         Fact::In(_, x) | Fact::Edge(x, _, _) => match x {
             Context::Expr(id) => id.0,
@@ -171,8 +173,9 @@ impl<W: WorkList> Queue<W> {
         self.served
     }
 
-    /// Where as many numbers were served as were queued, each of them was.
+    /// No number was served twice; and where as many were served as were queued, each of them was.
     pub fn all_served(&self)
+        ensures once { IsServedOnce self.now }
         ensures few { length self.now.served ≤ self.now.queued }
         ensures all { self.now.queued ≤ length self.now.served → (n : ℕ) → n < self.now.queued → Contains self.now.served n }
     {
@@ -188,6 +191,7 @@ impl<W: WorkList> Queue<W> {
         ensures served { self.new.served ≡ self.old.served }
         ensures hand { self.new.hand ≡ self.old.hand }
         ensures ok { OnOk result (self.new.queued ≡ length facts.now) }
+        ensures err { OnErr result (self.old.queued < length facts.now) }
     {
         while (self.queued() as usize) < facts.len() {
             self.wait(context_of(&facts[self.queued() as usize]))?;
@@ -217,6 +221,7 @@ impl<W: WorkList> Queue<W> {
         ensures served { self.new.served ≡ self.old.served }
         ensures ok { OnOk result (HasTurn self.old.queued self.old.served self.new.hand) }
         ensures err { OnErr result (self.new.hand ≡ None) }
+        ensures some { OnErr result (length self.old.served < self.old.queued) }
     {
         if self.list.len() == 0 {
             if self.start < self.end {
@@ -264,8 +269,11 @@ impl<W: WorkList> Queue<W> {
         ensures served { self.new.served ≡ self.old.served }
         ensures hand { IfOk result (λ hand. hand ≡ self.new.hand) }
         ensures ok { OnOk result (HasTurn (length facts.now) self.old.served self.new.hand) }
+        ensures once { OnOk result (IsServedOnce self.new) }
+        ensures some { OnErr result (length self.old.served < length facts.now) }
         ensures kept { (n : ℕ) → self.old.hand ≡ Some n → self.new.hand ≡ Some n }
     {
+        self.all_served();
         if let Some(hand) = self.hand() {
             return Ok(Some(hand));
         }

@@ -3,8 +3,9 @@ ghost use Rattle.std.specs.Prelude.{OnErr, ◌≡◌, ◌↔◌, ◌<◌, ◌≤
 ghost use Rattle.facts.specs.Births.{IsBirth, reason};
 ghost use Rattle.inference.specs.Derived.{HasMoreFactsThan};
 ghost use Rattle.facts.specs.declared.contexts.Fact.{Fact as Fact2};
-ghost use Rattle.saturate.specs.State.{AreBorn, Extends, nothing_seen};
+ghost use Rattle.saturate.specs.State.{Extends, nothing_seen};
 ghost use Rattle.saturate.specs.Growing.{HasGrown, KeepsServed};
+ghost use Rattle.saturate.specs.Run.{IsLeft, IsRun, IsRunUntil, IsState, IsStep};
 ghost use Rattle.inference.specs.Closed.{IsClosureOf};
 ghost use Rattle.inference.specs.Working.{IsClosure};
 ghost use Rattle.work_list.specs.Bag.{IsEmpty};
@@ -47,14 +48,14 @@ impl<W: WorkList + Drop> Drop for State<W> {
 }
 
 impl<W: WorkList> Model for State<W> {
-    ghost use Rattle.saturate.specs.State.{Seen, IsState};
+    ghost use Rattle.saturate.specs.State.{Seen, IsUnderWay};
     ghost use Rattle.saturate.specs.Listed.{ListsServed};
 
     ghost Value = { Seen };
 
     ghost view = { λ s. record { problem = s.ground; facts = s.facts.facts; births = s.facts.births; served = s.queue.served } };
 
-    ghost invariant = { λ s. IsState s.ground s.facts s.queue × ListsServed s.ground s.facts s.queue s.index };
+    ghost invariant = { λ s. IsUnderWay s.ground s.facts s.queue × ListsServed s.ground s.facts s.queue s.index };
 }
 
 impl<W: WorkList> State<W> {
@@ -67,7 +68,8 @@ impl<W: WorkList> State<W> {
     where
         W: Drop,
         requires { IsEmpty (W.pending list) }
-        ensures { IfOk result (λ s. s ≡ nothing_seen) }
+        ensures nothing { IfOk result (λ s. s ≡ nothing_seen) }
+        ensures state { IfOk result IsState }
     {
         let ground = Ground::empty(alloc)?;
         Ok(State {
@@ -88,9 +90,10 @@ impl<W: WorkList> State<W> {
     pub fn extend(&mut self, forms: &FormList, roots: &[Context]) -> Result<(), Memory>
         ensures grown { OnOk result (HasGrown forms.now roots.now self.old self.new) }
         ensures served { OnOk result (KeepsServed self.new.problem.forms forms.now self.old.facts self.old.served self.new.served) }
-        ensures born { AreBorn self.new }
+        ensures state { IsState self.new }
         ensures err { OnErr result (self.new ≡ self.old) }
     {
+        self.well_formed();
         let ground = self.ground.grown(self.alloc, forms, roots)?;
         match restart(
             self.alloc,
@@ -102,6 +105,7 @@ impl<W: WorkList> State<W> {
         ) {
             Ok(()) => {
                 self.ground = ground;
+                self.well_formed();
                 Ok(())
             }
             Err(error) => {
@@ -152,9 +156,10 @@ impl<W: WorkList> State<W> {
         self.queue.served()
     }
 
-    /// Each fact is there once, born of older ones; and where all are served, they are the closure.
+    /// At any time it is a state: each fact is there once, born of older ones, and what served facts give is there or spared; and
+    /// where all are served, they are the closure.
     pub fn well_formed(&self)
-        ensures born { AreBorn self.now }
+        ensures state { IsState self.now }
         ensures closure { length self.now.served ≡ length self.now.facts → IsClosure self.now.problem self.now.facts }
     {
         self.queue.all_served();
@@ -187,23 +192,26 @@ impl<W: WorkList> State<W> {
         }
     }
 
-    /// Serves a fact that is pending, or answers `false` where there is none.
+    /// Serves one fact that is pending, or answers `false` where there is none; that takes no memory.
     ///
     /// # Errors
     ///
-    /// After either the fact in hand is still pending, and conclusions that were drawn stay.
+    /// Only where a fact is pending. After either the fact in hand is still pending, and conclusions that were drawn stay.
     pub fn step(&mut self, max_facts: u32) -> Result<bool, Stop>
         ensures extends { Extends self.old self.new }
-        ensures born { AreBorn self.new }
+        ensures state { IsState self.new }
+        ensures step { result ≡ Ok true → IsStep self.old self.new }
         ensures yes { result ≡ Ok true → length self.new.served ≡ length self.old.served + 1 }
-        ensures err { OnErr result (self.new.served ≡ self.old.served) }
+        ensures err { OnErr result (IsLeft self.old self.new) }
         ensures was_pending { result ≡ Ok true → length self.old.served < length self.old.facts }
+        ensures some { OnErr result (length self.old.served < length self.old.facts) }
         ensures within { length self.old.facts ≤ max_facts → length self.new.facts ≤ max_facts }
         ensures no { result ≡ Ok false → self.new ≡ self.old }
         ensures pending { IfOk result (λ more. (more ≡ false) ↔ (length self.old.served ≡ length self.old.facts)) }
         ensures done { result ≡ Ok false → IsClosure self.new.problem self.new.facts }
         ensures limit { result ≡ Err Stop.Limit → HasMoreFactsThan self.old.problem max_facts }
     {
+        self.well_formed();
         let Some(hand) = self.queue.turn(self.facts.as_slice())? else {
             return Ok(false);
         };
@@ -225,20 +233,27 @@ impl<W: WorkList> State<W> {
         Ok(true)
     }
 
-    /// Serves all facts that are pending, and those that come of them.
+    /// Serves all facts that are pending, and those that come of them. Where none is pending, that takes no memory.
     ///
     /// # Errors
     ///
-    /// As for `step`; it may be called again.
+    /// As for `step`; and `Limit` where there are more than `max_facts` facts already. It may be called again.
     pub fn run(&mut self, max_facts: u32) -> Result<(), Stop>
         ensures extends { Extends self.old self.new }
-        ensures born { AreBorn self.new }
+        ensures state { IsState self.new }
+        // It is a run; or one that was given up, whose last facts are pending.
+        ensures whole { OnOk result (IsRun self.old self.new) }
+        ensures until { OnErr result (IsRunUntil self.old self.new) }
         ensures done { OnOk result (IsClosure self.new.problem self.new.facts) }
         ensures served { OnOk result (length self.new.served ≡ length self.new.facts) }
         ensures within { OnOk result (length self.new.facts ≤ max_facts) }
         ensures few { OnOk result (HasMoreFactsThan self.new.problem max_facts → ⊥) }
         ensures limit { result ≡ Err Stop.Limit → HasMoreFactsThan self.old.problem max_facts }
+        ensures most { length self.old.facts ≤ max_facts → length self.new.facts ≤ max_facts }
+        // With nothing pending nothing changes, and memory is not refused.
+        ensures idle { length self.old.served ≡ length self.old.facts → (self.new ≡ self.old) × ¬ (result ≡ Err Stop.Memory) }
     {
+        self.well_formed();
         if self.facts.len() > max_facts as usize {
             return Err(Stop::Limit);
         }

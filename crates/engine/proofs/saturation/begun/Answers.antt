@@ -5,10 +5,10 @@ use Rattle.engine.proofs.saturation.begun.Goals as goal
 pub returns-in-Ok-clause-problem : goal.returns-in-Ok-clause-problem
 returns-in-Ok-clause-problem c =
     grown_into c.args.ontology.now c.args.normal.now c.in_ok-begun.begun c.extend.new.self c.forms.result.now c.deref.result.now c.requires.normal c.requires.asked
-    (rw c.deref.ensures.value c.in_ok-roots.ensures) c.in_ok-begun.ensures c.forms.ensures c.in-Ok.ensures.grown
+    (rw c.deref.ensures.value c.in_ok-roots.ensures) c.in_ok-begun.ensures.nothing c.forms.ensures c.in-Ok.ensures.grown
 
 pub returns-in-Ok-clause-forms : goal.returns-in-Ok-clause-forms
-returns-in-Ok-clause-forms c = grown_forms c.in_ok-begun.begun c.extend.new.self c.forms.result.now c.deref.result.now c.in_ok-begun.ensures c.in-Ok.ensures.grown ∙ c.forms.ensures
+returns-in-Ok-clause-forms c = grown_forms c.in_ok-begun.begun c.extend.new.self c.forms.result.now c.deref.result.now c.in_ok-begun.ensures.nothing c.in-Ok.ensures.grown ∙ c.forms.ensures
 
 pub returns-in-Ok-clause-served : goal.returns-in-Ok-clause-served
-returns-in-Ok-clause-served c = nothing_served c.in_ok-begun.begun c.extend.new.self _ c.forms.result.now c.in_ok-begun.ensures c.in-Ok.ensures.served
+returns-in-Ok-clause-served c = nothing_served c.in_ok-begun.begun c.extend.new.self _ c.forms.result.now c.in_ok-begun.ensures.nothing c.in-Ok.ensures.served

@@ -1,6 +1,10 @@
-use Rattle.std.proofs.Common.{ℕ, List, ◌++◌, subst, sym}
+use Rattle.std.proofs.Common.{◌≡◌, ℕ, List, [], ◌++◌, subst, sym}
+use Rattle.std.proofs.lemmas.Option.{none-some}
+use Rattle.axioms.specs.WellFormed.{AreDistinct}
 use Rattle.saturate.specs.Listed.{ListsFacts}
 use Rattle.saturate.specs.Queued.{option_list}
+use Rattle.saturate.specs.State.{IsUnderWay}
+use Rattle.saturate.proofs.Runs.{seen_state}
 use Rattle.saturate.proofs.States.{begun}
 use Rattle.saturate.proofs.Listing.{nothing_listed}
 use Rattle.saturate.proofs.state.State.new.Goals as goal
@@ -10,3 +14,6 @@ invariant_of-result g c = (
   begun c.in_ok-ground.ensures.forms c.in_ok-ground.ensures.roots c.new.ensures.facts c.new.ensures.births c.new-2.ensures.queued c.new-2.ensures.served,
   subst (λ (ns : List ℕ). ListsFacts c.in_ok-ground.ground c.new.result ns (c.new-2.result.served ++ option_list c.new-2.result.hand) c.new-3.result) (sym c.new-2.ensures.served) (nothing_listed c.in_ok-ground.ground c.new.result _ c.new-3.result c.new-3.ensures),
 )
+
+pub returns-clause-state : goal.returns-clause-state
+returns-clause-state g c = seen_state {q = c.new-2.result} (begun c.in_ok-ground.ensures.forms c.in_ok-ground.ensures.roots c.new.ensures.facts c.new.ensures.births c.new-2.ensures.queued c.new-2.ensures.served) (subst AreDistinct (sym c.new-2.ensures.served) (λ i j x a b. absurd (none-some x a)))

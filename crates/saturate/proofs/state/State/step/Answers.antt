@@ -1,19 +1,22 @@
-use Rattle.std.proofs.Common.{◌≡◌, ◌++◌, length, Some, [], ◌∷◌, false, refl, sym, ap, subst, ◌∙◌, arith}
-use Rattle.std.proofs.lemmas.Option.{none-some}
+use Rattle.std.proofs.Common.{◌≡◌, ℕ, List, ◌++◌, length, Contains, Some, [], ◌∷◌, ◌≤◌, false, refl, sym, ap, subst, ◌∙◌, arith}
+use Rattle.std.proofs.lemmas.Option.{none-some, slice_get_within}
 use Rattle.facts.specs.Closure.{Problem}
 use Rattle.inference.specs.Derived.{Grows}
 use Rattle.inference.specs.Visited.{IsNotCarried}
 use Rattle.inference.specs.Working.{Drawn, IsSparedAsSecond}
-use Rattle.saturate.specs.State.{IsState}
+use Rattle.axioms.specs.WellFormed.{AreDistinct}
+use Rattle.saturate.specs.Run.{IsLeft, IsStep}
+use Rattle.saturate.specs.State.{IsUnderWay}
 use Rattle.saturate.specs.Listed.{ListsServed}
 use Rattle.inference.specs.Met.{AllListedAreMet}
 use Rattle.inference.proofs.Growth.{grows_same}
+use Rattle.saturate.proofs.Runs.{in_any_refusal, left, one_step}
 use Rattle.saturate.proofs.States.{grown, one_served, finished}
 use Rattle.saturate.proofs.Listing.{turned, may, listed, still_listed, all_within, all_met, in_most, finish_listed}
 use Rattle.saturate.proofs.state.State.step.Goals as goal
-use Rattle.saturate.proofs.state.State.step.Goals.{After-turn, After-add}
+use Rattle.saturate.proofs.state.State.step.Goals.{After-turn, After-add, After-serve, After-finish}
 
-kept : (g : _) (c : After-turn g) → IsState c.self.inside.ground c.self.inside.facts c.turn.new.self × ListsServed c.self.inside.ground c.self.inside.facts c.turn.new.self c.self.inside.index
+kept : (g : _) (c : After-turn g) → IsUnderWay c.self.inside.ground c.self.inside.facts c.turn.new.self × ListsServed c.self.inside.ground c.self.inside.facts c.turn.new.self c.self.inside.index
 kept g c = (
   grown {most = 0} c.self.invariant.0 (grows_same c.self.invariant.0.derived) (omega (arith, c.turn.ensures.queued, ap length c.as_slice.ensures.value)) c.turn.ensures.served,
   turned c.self.inside.queue c.turn.new.self c.self.invariant.1 c.turn.ensures.served c.turn.ensures.kept,
@@ -28,7 +31,7 @@ invariant_of-self-in_default g c = kept g (goal.at.invariant_of-self-in_default 
 pub returns-in_default-clause-done : goal.returns-in_default-clause-done
 returns-in_default-clause-done g c = λ _.
     let all = c.in_ok-hand.ensures.ok.none (sym c.in_ok-hand.ensures.hand ∙ c.in_default.is) in
-    finished c.self.invariant.0 (λ n low. all.1 n (omega (arith, low, ap length c.as_slice.ensures.value)))
+    finished c.self.inside.queue.served c.self.invariant.0.derived c.self.invariant.0.complete (λ n low. all.1 n (omega (arith, low, ap length c.as_slice.ensures.value)))
 
 handed : (g : _) (c : After-add g) → c.turn.new.self.hand ≡ Some c.in-Some.hand
 handed g c = sym c.in_ok-hand.ensures.hand ∙ c.in-Some.is
@@ -62,21 +65,70 @@ invariant_of-self-in_err-serve g c =
 pub finish-requires : goal.finish-requires
 finish-requires g c = λ none. none-some c.in-Some.hand (sym none ∙ handed g (goal.at.finish-requires g c).After-add)
 
+-- .. with the number in hand served
+served_now : (g : _) (c : After-finish g) → c.turn.new.self.hand ≡ Some c.in-Some.hand → c.finish.new.self.served ≡ c.turn.new.self.served ++ c.in-Some.hand ∷ []
+served_now g c handed = c.finish.ensures.served ∙ in_most c.turn.new.self.served c.turn.new.self.hand c.in-Some.hand handed
+
+grows : (g : _) (c : After-finish g) → Grows c.self.inside.ground c.args.max_facts c.self.inside.facts c.serve.new.facts
+grows g c = subst (λ (k : Problem). Grows k c.args.max_facts c.self.inside.facts c.serve.new.facts) c.problem-problem.ensures c.serve.ensures.grows
+
+module _ (g : _) (c : After-finish g) (s : IsUnderWay c.self.inside.ground c.self.inside.facts c.turn.new.self) (indexed_then : ListsServed c.self.inside.ground c.self.inside.facts c.turn.new.self c.add.new.self)
+    (handed_then : c.turn.new.self.hand ≡ Some c.in-Some.hand) (spared_then : c.stands_second-is_second.result ≡ false → IsSparedAsSecond c.self.inside.ground c.self.inside.facts c.get-fact.result)
+    (uncarried_then : c.is_filler-is_filler.result ≡ false → IsNotCarried c.self.inside.ground c.get-fact.result) where
+  under_way : IsUnderWay c.self.inside.ground c.serve.new.facts c.finish.new.self
+  under_way =
+      let f = c.get-fact.result in
+      let new = c.serve.new.facts in
+      let alone = subst (λ (k : Problem). Drawn k (f ∷ []) new.facts) c.problem-problem.ensures c.in_ok-serve.ensures.alone in
+      let met = subst (λ (k : Problem). AllListedAreMet k f c.self.inside.facts.facts c.add.new.self new) c.problem-problem.ensures c.in_ok-serve.ensures.met in
+      let whole = listed indexed_then c.get-fact.ensures c.in-Ok.ensures.ok spared_then uncarried_then in
+      one_served s (grows g c) c.in-Some.hand f c.get-fact.ensures alone
+          (λ m t h at. all_met whole (grows g c) m t f h met at)
+          (omega (arith, c.finish.ensures.queued, c.turn.ensures.queued, ap length c.as_slice.ensures.value))
+          (served_now g c handed_then)
+
+  stepped : IsStep c.args.self.now (record { problem = c.self.inside.ground; facts = c.serve.new.facts.facts; births = c.serve.new.facts.births; served = c.finish.new.self.served })
+  stepped =
+      let old = c.self.inside.queue.served in
+      let was : c.turn.new.self.served ≡ old = c.turn.ensures.served in
+      let served : c.finish.new.self.served ≡ old ++ c.in-Some.hand ∷ [] = subst (λ (ns : List ℕ). c.finish.new.self.served ≡ ns ++ c.in-Some.hand ∷ []) was (served_now g c handed_then) in
+      let fresh = λ (there : Contains old c.in-Some.hand). c.in_ok-hand.ensures.once.fresh c.in-Some.hand handed_then (subst (λ (ns : List ℕ). Contains ns c.in-Some.hand) (sym was) there) in
+      let once : AreDistinct old = (rw (← c.self.view_is) at c.well_formed-2.ensures.state).once in
+      rw (← c.self.view_is) (one_step c.in-Some.hand old (grows g c) under_way once served (slice_get_within c.self.inside.facts.facts c.in-Some.hand c.get-fact.result c.get-fact.ensures) fresh)
+
 pub invariant_of-self-2 : goal.invariant_of-self-2
 invariant_of-self-2 g c =
     let d = goal.at.invariant_of-self-2 g c in
-    let s = (kept g d.After-turn).0 in
-    let n = c.in-Some.hand in
-    let f = c.get-fact.result in
-    let new = c.serve.new.facts in
-    let grows = subst (λ (k : Problem). Grows k c.args.max_facts c.self.inside.facts new) c.problem-problem.ensures c.serve.ensures.grows in
-    let alone = subst (λ (k : Problem). Drawn k (f ∷ []) new.facts) c.problem-problem.ensures c.in_ok-serve.ensures.alone in
-    let met = subst (λ (k : Problem). AllListedAreMet k f c.self.inside.facts.facts c.add.new.self new) c.problem-problem.ensures c.in_ok-serve.ensures.met in
-    let served : c.finish.new.self.served ≡ c.turn.new.self.served ++ n ∷ [] = c.finish.ensures.served ∙ in_most c.turn.new.self.served c.turn.new.self.hand n (handed g d.After-add) in
-    let whole = listed (indexed g d.After-add) c.get-fact.ensures c.in-Ok.ensures.ok (spared g d.After-add) (uncarried g d.After-add) in (
-      one_served s grows n f c.get-fact.ensures alone
-          (λ m t h at. all_met whole grows m t f h met at)
-          (omega (arith, c.finish.ensures.queued, c.turn.ensures.queued, ap length c.as_slice.ensures.value))
-          served,
-      finish_listed c.turn.new.self c.finish.new.self (indexed g d.After-add) (handed g d.After-add) c.get-fact.ensures c.in-Ok.ensures.ok (spared g d.After-add) (uncarried g d.After-add) grows s.within served,
+    let s = (kept g d.After-turn).0 in (
+      under_way g d.After-finish s (indexed g d.After-add) (handed g d.After-add) (spared g d.After-add) (uncarried g d.After-add),
+      finish_listed c.turn.new.self c.finish.new.self (indexed g d.After-add) (handed g d.After-add) c.get-fact.ensures c.in-Ok.ensures.ok (spared g d.After-add) (uncarried g d.After-add) (grows g d.After-finish) s.within (served_now g d.After-finish (handed g d.After-add)),
     )
+
+pub returns-clause-extends : goal.returns-clause-extends
+returns-clause-extends g c =
+    let d = goal.at.returns-clause-extends g c in
+    (stepped g d.After-finish (kept g d.After-turn).0 (indexed g d.After-add) (handed g d.After-add) (spared g d.After-add) (uncarried g d.After-add)).extends
+
+pub returns-clause-state : goal.returns-clause-state
+returns-clause-state g c =
+    let d = goal.at.returns-clause-state g c in
+    (stepped g d.After-finish (kept g d.After-turn).0 (indexed g d.After-add) (handed g d.After-add) (spared g d.After-add) (uncarried g d.After-add)).state
+
+pub returns-clause-step : goal.returns-clause-step
+returns-clause-step g c =
+    let d = goal.at.returns-clause-step g c in
+    λ _. stepped g d.After-finish (kept g d.After-turn).0 (indexed g d.After-add) (handed g d.After-add) (spared g d.After-add) (uncarried g d.After-add)
+
+-- ---- nothing is served
+
+unserved : (g : _) (c : After-serve g) → IsLeft c.args.self.now (record { problem = c.self.inside.ground; facts = c.serve.new.facts.facts; births = c.serve.new.facts.births; served = c.turn.new.self.served })
+unserved g c =
+    let added = subst (λ (k : Problem). Grows k c.args.max_facts c.self.inside.facts c.serve.new.facts) c.problem-problem.ensures c.serve.ensures.grows in
+    let once : AreDistinct c.self.inside.queue.served = (rw (← c.self.view_is) at c.well_formed-2.ensures.state).once in
+    rw (← c.self.view_is) (left c.turn.new.self c.self.invariant.0 once added (omega (arith, c.turn.ensures.queued, ap length c.as_slice.ensures.value)) c.turn.ensures.served)
+
+pub returns-in_err-serve-clause-state : goal.returns-in_err-serve-clause-state
+returns-in_err-serve-clause-state g c = (unserved g (goal.at.returns-in_err-serve-clause-state g c).After-serve).state
+
+pub returns-in_err-serve-clause-err : goal.returns-in_err-serve-clause-err
+returns-in_err-serve-clause-err g c = in_any_refusal c.from_residual-in_err-serve.result (unserved g (goal.at.returns-in_err-serve-clause-err g c).After-serve)

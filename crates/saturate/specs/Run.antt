@@ -1,0 +1,75 @@
+-- Runs: facts are served one after the other, whichever of those that wait is next.
+use Rattle.std.specs.Prelude.{◌≡◌, ◌↔◌, ℕ, zero, suc, ◌+◌, ◌<◌, List, [], ◌∷◌, ◌++◌, length}
+use Rattle.std.specs.List.{Contains}
+use Rattle.axioms.specs.WellFormed.{AreDistinct}
+use Rattle.facts.specs.declared.contexts.Fact.{Fact}
+use Rattle.inference.specs.Working.{IsCompleteButSpared, IsClosure}
+use Rattle.saturate.specs.State.{Seen, AreBorn, Extends}
+
+-- a state at any time: facts of the closure, each once and born of older ones, some of them served, each once; and what served facts
+-- give, or no fact is needed for, is there, or a chain is spared it: the conclusion that is owed comes by the older two edges that gave
+-- its second
+pub record IsState (s : Seen) : Type 0 where
+  pub born : AreBorn s
+  pub within : (n : ℕ) → Contains s.served n → n < length s.facts
+  pub once : AreDistinct s.served
+  pub complete : IsCompleteButSpared s.problem (record { facts = s.facts; births = s.births }) s.served
+
+-- the fact of that number is there, and was not served
+pub record IsPending (s : Seen) (n : ℕ) : Type 0 where
+  pub there : n < length s.facts
+  pub unserved : ¬ Contains s.served n
+
+-- one pending fact is served, whichever it is; others may come, as pending
+pub record IsStep (old new : Seen) : Type 0 where
+  pub number : ℕ
+  pub was_pending : IsPending old number
+  pub extends : Extends old new
+  pub served : new.served ≡ old.served ++ number ∷ []
+  pub state : IsState new
+
+-- so many steps lead from one state to another
+pub data AreSteps : ℕ → Seen → Seen → Type 0 where
+  none : {s : Seen} → AreSteps zero s s
+  more : {steps : ℕ} {s u : Seen} (t : Seen) → AreSteps steps s t → IsStep t u → AreSteps (suc steps) s u
+
+-- a run: some number of steps
+pub record IsRun (old new : Seen) : Type 0 where
+  pub steps : ℕ
+  pub are : AreSteps steps old new
+
+-- no fact is served, and others may have come, as pending
+pub record IsLeft (old new : Seen) : Type 0 where
+  pub extends : Extends old new
+  pub served : new.served ≡ old.served
+  pub state : IsState new
+
+-- a run that was given up in the step behind its last: some conclusions may have been drawn in that one
+pub record IsRunUntil (old new : Seen) : Type 0 where
+  pub last : Seen
+  pub run : IsRun old last
+  pub left : IsLeft last new
+
+-- as many facts were served as there are
+abbrev pub IsFinished : Seen → Type 0
+IsFinished s = length s.served ≡ length s.facts
+
+-- ---- laws
+
+-- where nothing is pending, the facts are the closure, though conclusions were spared
+abbrev pub FinishedIsClosure : Type 0
+FinishedIsClosure = (s : Seen) → IsState s → IsFinished s → IsClosure s.problem s.facts
+
+-- each step serves one fact: a run from nothing served to the end has as many steps as the closure has facts
+abbrev pub StepsServe : Type 0
+StepsServe = (s t : Seen) (run : IsRun s t) → length t.served ≡ length s.served + run.steps
+
+-- a run keeps what was there, and what was served
+abbrev pub RunsExtend : Type 0
+RunsExtend = (s t : Seen) → IsRun s t → Extends s t
+
+-- any two runs over the same forms and roots end with the same facts
+abbrev pub OrderDoesNotMatter : Type 0
+OrderDoesNotMatter =
+    (s t s' t' : Seen) → s.problem ≡ s'.problem → IsState s → IsRun s t → IsFinished t → IsState s' → IsRun s' t' → IsFinished t' →
+    (f : Fact) → Contains t.facts f ↔ Contains t'.facts f
