@@ -17,7 +17,7 @@ use Rattle.normal_forms.specs.declared.forms.Origin.{Origin}
 use Rattle.normal_forms.specs.Forms.{Class2, Property2, Form, Beginning, Steps, N1, N2, N3, N4, N6, N8}
 use Rattle.normalise.specs.declared.entries.Entry.{Entry}
 use Rattle.normalise.specs.declared.made.Made.{Made}
-use Rattle.normalise.specs.View.{Lists, SaysClass, SaysProperty, Says, Keeps, Lengthens, IsAt, Listed, Adds, IsOne, From, Below}
+use Rattle.normalise.specs.View.{Lists, SaysClass, SaysProperty, Says, Keeps, Lengthens, IsAt, Listed, HasClass, HasProperty, Adds, IsOne, From, Below}
 
 -- ---- lists that grow
 
@@ -116,19 +116,36 @@ at_within entries t u n o g (f, at, says) = slice_get_within entries n _ at
 pub listed_more : (s t : Made) → Keeps s.entries t.entries → Keeps s.operands t.operands → Keeps s.steps t.steps → (n : ℕ) (o : Origin) (g : Form) → Listed s n o g → Listed t n o g
 listed_more s t k l m n o g (f, at, says) = (f, k n _ at, says_more _ _ _ _ l m f g says)
 
--- lists of fresh names alone grow
-pub adds_tables : (s t : Made) → t.entries ≡ s.entries → Lengthens s.operands t.operands → Lengthens s.steps t.steps → (G : Origin → Form → Type 0) → ((o : Origin) (g : Form) → G o g → ⊥) → Adds s t G
-adds_tables s t e k l G none = record {
-  entries = keeps_same _ _ e;
-  operands = k;
-  steps = l;
-  each = λ n low high. absurd (omega (arith, ap length e));
+pub adds_none : (s : Made) (G : Origin → Form → Type 0) → ((o : Origin) (g : Form) → G o g → ⊥) → Adds s s G
+adds_none s G none = record {
+  entries = λ n x g. g;
+  operands = lengthens_same s.operands s.operands refl;
+  steps = lengthens_same s.steps s.steps refl;
+  each = λ n low high. absurd (omega arith);
   all = λ o g h. absurd (none o g h);
-  once = λ m n o g low _ h _. absurd (omega (arith, low, at_within t.entries t.operands t.steps m o g h, ap length e));
+  once = λ m n o g low _ h _. absurd (omega (arith, low, at_within s.entries s.operands s.steps m o g h));
+  classes = λ n ds g. inl g;
+  properties = λ n rs g. inl g;
 }
 
-pub adds_none : (s : Made) (G : Origin → Form → Type 0) → ((o : Origin) (g : Form) → G o g → ⊥) → Adds s s G
-adds_none s G none = adds_tables s s refl (lengthens_same s.operands s.operands refl) (lengthens_same s.steps s.steps refl) G none
+-- names alone are made before, for beginnings that the forms have last
+pub adds_behind_names : (s u t : Made) (G : Origin → Form → Type 0) → u.entries ≡ s.entries → Lengthens s.operands u.operands → Lengthens s.steps u.steps
+    → ((n : ℕ) (ds : List ℕ) → slice_get u.operands n ≡ Some ds → (slice_get s.operands n ≡ Some ds) ⊎ HasClass G ds)
+    → ((n : ℕ) (rs : List ℕ) → slice_get u.steps n ≡ Some rs → (slice_get s.steps n ≡ Some rs) ⊎ HasProperty G rs)
+    → Adds u t G → Adds s t G
+adds_behind_names s u t G e k l classes properties a = record {
+  entries = λ n x g. a.entries n x (keeps_same s.entries u.entries e n x g);
+  operands = lengthens_both _ _ _ k a.operands;
+  steps = lengthens_both _ _ _ l a.steps;
+  each = λ n low high. a.each n (omega (arith, low, long)) high;
+  all = λ o g h. (let x = a.all o g h in (x.0, omega (arith, x.1, long), x.2));
+  once = λ m n o g lm ln. a.once m n o g (omega (arith, lm, long)) (omega (arith, ln, long));
+  classes = λ n ds g. elim (a.classes n ds g) [ inl h ↦ classes n ds h | inr h ↦ inr h ];
+  properties = λ n rs g. elim (a.properties n rs g) [ inl h ↦ properties n rs h | inr h ↦ inr h ];
+}
+  where
+    long : length u.entries ≡ length s.entries
+    long = ap length e
 
 pub adds_one : (s t : Made) (f : code_form.Form) (p : Origin) (g : Form) → t.entries ≡ s.entries ++ record { form = f; origin = p } ∷ [] → t.operands ≡ s.operands → t.steps ≡ s.steps → Says s.operands s.steps f g → Adds s t (IsOne p g)
 adds_one s t f p g e b c says = record {
@@ -142,6 +159,8 @@ adds_one s t f p g e b c says = record {
     (let P : Origin → Type 0 = λ q. Listed t (length s.entries) q h in let Q : Form → Type 0 = λ k. Listed t (length s.entries) p k in subst P (sym is.0) (subst Q (sym is.1) here)),
   );
   once = λ m n o h low low' x y. omega (arith, low, low', long, at_within t.entries t.operands t.steps m o h x, at_within t.entries t.operands t.steps n o h y);
+  classes = λ n ds h. inl (ap (λ zs. slice_get zs n) (sym b) ∙ h);
+  properties = λ n rs h. inl (ap (λ zs. slice_get zs n) (sym c) ∙ h);
 }
   where
     long : length t.entries ≡ length s.entries + 1
@@ -158,6 +177,8 @@ adds_same G H to from a = record {
   each = λ n low high. let e = a.each n low high in (e.0, (e.1.0, e.1.1, to e.0 e.1.0 e.1.2));
   all = λ o g h. a.all o g (from o g h);
   once = a.once;
+  classes = λ n ds g. elim (a.classes n ds g) [ inl h ↦ inl h | inr h ↦ inr (h.0, h.1, h.2, to h.0 _ h.3) ];
+  properties = λ n rs g. elim (a.properties n rs g) [ inl h ↦ inl h | inr h ↦ inr (h.0, h.1, h.2, to h.0 _ h.3) ];
 }
 
 -- two steps that give nothing in common
@@ -184,6 +205,14 @@ adds_both {s} {t} {u} G H apart a b = record {
       | inl y ↦ absurd (apart o g (early n ln y o g hn).1 (given m x o g hm))
       | inr y ↦ b.once m n o g x y hm hn
     ]
+  ];
+  classes = λ n ds g. elim (b.classes n ds g) [
+    | inl h ↦ elim (a.classes n ds h) [ inl i ↦ inl i | inr i ↦ inr (i.0, i.1, i.2, inl i.3) ]
+    | inr h ↦ inr (h.0, h.1, h.2, inr h.3)
+  ];
+  properties = λ n rs g. elim (b.properties n rs g) [
+    | inl h ↦ elim (a.properties n rs h) [ inl i ↦ inl i | inr i ↦ inr (i.0, i.1, i.2, inl i.3) ]
+    | inr h ↦ inr (h.0, h.1, h.2, inr h.3)
   ];
 }
   where
@@ -244,6 +273,8 @@ adds_behind xs s t G none a = record {
   once = λ m n o g lm ln (f, at, says) (f', at', says').
       (let same : m - length xs ≡ n - length xs = a.once (m - length xs) (n - length xs) o g (omega (arith, first)) (omega (arith, first)) (f, sym (behind xs t.entries m lm) ∙ at, says) (f', sym (behind xs t.entries n ln) ∙ at', says') in
       omega (arith, lm, ln));
+  classes = a.classes;
+  properties = a.properties;
 }
   where
     first : length s.entries ≡ 0

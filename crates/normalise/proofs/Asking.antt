@@ -13,6 +13,7 @@ use Rattle.normal_forms.specs.declared.forms.Origin.{Origin}
 use Rattle.normal_forms.specs.declared.forms.Origin.TheVariants as origins
 use Rattle.normal_forms.specs.Forms.{Form}
 use Rattle.normal_forms.specs.Given.{GivenBy}
+use Rattle.normalise.proofs.FreshNames.{no_chains}
 use Rattle.normalise.specs.Growing.{Grows, IsNormalFor}
 
 -- it is none of those before k, nor that at k
@@ -46,6 +47,8 @@ nothing_normal = record {
   once = λ m n by g h _. absurd (none-some _ h.1);
   operands = λ m n x g _. absurd (none-some x g);
   steps = λ m n x g _. absurd (none-some x g);
+  intersections = λ n ds g. absurd (none-some ds g);
+  chains = no_chains;
   right = (refl, λ e l. absurd (omega arith));
   left = (refl, λ e l. absurd (omega arith));
 }

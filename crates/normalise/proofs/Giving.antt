@@ -6,6 +6,7 @@ use Rattle.std.proofs.lemmas.Bool.{cases_eq}
 use Rattle.std.proofs.lemmas.Option.{none-some, same_Some, slice_get_within}
 use Rattle.std.proofs.Math.Seq.{take-append_seam}
 use Rattle.lemmas.proofs.Choices.{one_value}
+use Rattle.lemmas.proofs.Places.{slice_get_push_cases}
 use Rattle.axioms.specs.Growth.{Numbers}
 use Rattle.axioms.specs.Numbered.{Axiom, Node, Class, And, Exists, SubProperty}
 use Rattle.axioms.specs.WellFormed.{AreDistinct}
@@ -22,9 +23,9 @@ use Rattle.normal_forms.specs.declared.forms.Origin.TheVariants as origins
 use Rattle.normal_forms.specs.Forms.{Class2, Property2, Form, Whole, Beginning, Property, Steps, N1, N2, N3, N4, N5, N6, first_of, first_steps}
 use Rattle.normal_forms.specs.Given.{AndGives, AxiomGives, ChainGives, CircleGives, LeftGives, PairGives, RightGives, disjoint, subsumed}
 use Rattle.normalise.specs.declared.made.Made.{Made}
-use Rattle.normalise.specs.View.{Lists, SaysClass, SaysProperty, Says, StartsClass, StartsProperty, class_number, property_number, Keeps, Adds, IsOne, From}
-use Rattle.normalise.specs.Steps.{BelowOperand, ChainStep, ExpressedAt, MoreOperands, MoreSteps, OperandStep, SideGives, StatedAt, Within}
-use Rattle.normalise.proofs.Adding.{lengthens_same, lengthens_numbered, numbered_there, says_class_more, says_property_more, adds_tables, adds_none, adds_same, adds_both, from_same}
+use Rattle.normalise.specs.View.{Lists, SaysClass, SaysProperty, Says, StartsClass, StartsProperty, class_number, property_number, Keeps, HasClass, HasProperty, Adds, IsOne, From}
+use Rattle.normalise.specs.Steps.{BelowOperand, ChainStep, ExpressedAt, MoreOperands, MoreSteps, Names, OperandStep, SideGives, StatedAt, Within}
+use Rattle.normalise.proofs.Adding.{lengthens_same, lengthens_numbered, numbered_there, says_class_more, says_property_more, adds_behind_names, adds_none, adds_same, adds_both, from_same}
 
 -- a step that gives one form
 pub from_one : {s t : Made} (p : Origin) (f : Form) (F : Form → Type 0) → F f → ((g : Form) → F g → g ≡ f) → Adds s t (IsOne p f) → Adds s t (From p F)
@@ -80,7 +81,7 @@ operand_once ds e one m n g (d, gd, i) (d', gd', i') = at_one_place ds one m n d
 
 -- ---- beginnings
 
-take_long : (k : ℕ) (ds : List ℕ) → k ≤ length ds → length (take k ds) ≡ k
+pub take_long : (k : ℕ) (ds : List ℕ) → k ≤ length ds → length (take k ds) ≡ k
 take_long zero ds l = refl
 take_long (suc k) [] l = absurd (omega arith)
 take_long (suc k) (d ∷ ds) l = ap suc (take_long k ds (omega arith))
@@ -92,13 +93,13 @@ begins (suc k) [] c p l e = absurd (omega arith)
 begins (suc zero) (d ∷ ds) c p l e = (refl, cc)
 begins (suc (suc k)) ds c p l e = absurd (omega (arith, take_long (suc (suc k)) ds (omega arith), ap length e))
 
-first_whole : (ds : List ℕ) (e n : ℕ) → n ≡ length ds → first_of ds e n ≡ Whole e
+pub first_whole : (ds : List ℕ) (e n : ℕ) → n ≡ length ds → first_of ds e n ≡ Whole e
 first_whole ds e n i = grind (arith, nat_tests)
 
-first_one : (ds : List ℕ) (e n : ℕ) → n ≡ 1 → n < length ds → first_of ds e n ≡ Whole (slice_index ds 0)
+pub first_one : (ds : List ℕ) (e n : ℕ) → n ≡ 1 → n < length ds → first_of ds e n ≡ Whole (slice_index ds 0)
 first_one ds e n i l = grind (arith, nat_tests)
 
-first_more : (ds : List ℕ) (e n : ℕ) → 2 ≤ n → n < length ds → first_of ds e n ≡ Beginning (take n ds)
+pub first_more : (ds : List ℕ) (e n : ℕ) → 2 ≤ n → n < length ds → first_of ds e n ≡ Beginning (take n ds)
 first_more ds e n i l = grind (arith, nat_tests)
 
 steps_whole : (ds : List ℕ) (s : Property2) (n : ℕ) → n ≡ length ds → first_steps ds s n ≡ s
@@ -107,7 +108,7 @@ steps_whole ds s n i = grind (arith, nat_tests)
 steps_one : (ds : List ℕ) (s : Property2) (n : ℕ) → n ≡ 1 → n < length ds → first_steps ds s n ≡ Property (slice_index ds 0)
 steps_one ds s n i l = grind (arith, nat_tests)
 
-steps_more : (ds : List ℕ) (s : Property2) (n : ℕ) → 2 ≤ n → n < length ds → first_steps ds s n ≡ Steps (take n ds)
+pub steps_more : (ds : List ℕ) (s : Property2) (n : ℕ) → 2 ≤ n → n < length ds → first_steps ds s n ≡ Steps (take n ds)
 steps_more ds s n i l = grind (arith, nat_tests)
 
 -- beginnings of different lengths are different
@@ -184,26 +185,39 @@ pub shorter_property : (t : Lists) (q : code_property.PropId2) (rs : List ℕ) (
 shorter_property t (properties.Property e) rs k p l h = let b = begins k rs e.0 p l h in omega (arith, b.0, take_long (k + 1) rs (omega arith))
 shorter_property t (properties.Partial n) rs k p l h = h.0 ∙ ap Some (sym (take_less rs k l))
 
+some_name : (old new : Lists) (list : List ℕ) (k n : ℕ) → k + 1 < length list → Numbers old (take (k + 1) list) new n → Names old new list k
+some_name old new list k n l numbers = record { some = λ _. (n, numbers); all = λ e. absurd (omega arith) }
+
+no_name : (old : Lists) (list : List ℕ) (k : ℕ) → k + 1 ≡ length list → Names old old list k
+no_name old list k e = record { some = λ l. absurd (omega arith); all = λ _. refl }
+
+-- a list with a number was there, or is the beginning that got it
+named_cases : (old new : Lists) (list : List ℕ) (k : ℕ) → k < length list → Names old new list k → (n : ℕ) (xs : List ℕ) → slice_get new n ≡ Some xs → (slice_get old n ≡ Some xs) ⊎ ((k + 1 < length list) × (xs ≡ take (k + 1) list))
+named_cases old new list k within names n xs g = elim (cases_eq (k + 1) (length list)) [
+  | inl e ↦ inl (ap (λ ys. slice_get ys n) (sym (names.all e)) ∙ g)
+  | inr ne ↦ (let l : k + 1 < length list = omega arith in let m = names.some l in elim m.1 [
+    | inl h ↦ inl (ap (λ ys. slice_get ys n) (sym h.1) ∙ g)
+    | inr h ↦ elim (slice_get_push_cases old (take (k + 1) list) n xs (ap (λ ys. slice_get ys n) (sym h.2) ∙ g)) [ inl i ↦ inl i | inr i ↦ inr (l, sym i.1) ]
+  ])
+]
+
 pub more_numbered : (s t : Made) (ds : List ℕ) (e k n : ℕ) → 0 < k → k + 1 < length ds → t.entries ≡ s.entries → t.steps ≡ s.steps → Numbers s.operands (take (k + 1) ds) t.operands n → MoreOperands s t ds e k (classes.Partial n)
 more_numbered s t ds e k n p l es ss numbers =
     let there = numbered_there s.operands (take (k + 1) ds) t.operands n numbers in
     let many : 2 ≤ length (take (k + 1) ds) = omega (arith, take_long (k + 1) ds (omega arith)) in
-    record { entries = es; steps = ss; operands = lengthens_numbered _ _ _ n numbers; starts = λ _. (there, many); says = (take (k + 1) ds, there, first_more ds e (k + 1) (omega arith) l) }
+    record { entries = es; steps = ss; operands = lengthens_numbered _ _ _ n numbers; names = some_name s.operands t.operands ds k n l numbers; starts = λ _. (there, many); says = (take (k + 1) ds, there, first_more ds e (k + 1) (omega arith) l) }
 
 pub more_whole : (s : Made) (ds : List ℕ) (k : ℕ) (e : ExprId) → k + 1 ≡ length ds → MoreOperands s s ds e.0 k (classes.Expr e)
-more_whole s ds k e l = record { entries = refl; steps = refl; operands = lengthens_same _ _ refl; starts = λ h. absurd (omega arith); says = first_whole ds e.0 (k + 1) l }
+more_whole s ds k e l = record { entries = refl; steps = refl; operands = lengthens_same _ _ refl; names = no_name s.operands ds k l; starts = λ h. absurd (omega arith); says = first_whole ds e.0 (k + 1) l }
 
 pub steps_numbered : (s t : Made) (rs : List ℕ) (whole k n : ℕ) → 0 < k → k + 1 < length rs → t.entries ≡ s.entries → t.operands ≡ s.operands → Numbers s.steps (take (k + 1) rs) t.steps n → MoreSteps s t rs whole k (properties.Partial n)
 steps_numbered s t ds whole k n p l es ss numbers =
     let there = numbered_there s.steps (take (k + 1) ds) t.steps n numbers in
     let many : 2 ≤ length (take (k + 1) ds) = omega (arith, take_long (k + 1) ds (omega arith)) in
-    record { entries = es; operands = ss; steps = lengthens_numbered _ _ _ n numbers; starts = λ _. (there, many); says = (take (k + 1) ds, there, steps_more ds (Property whole) (k + 1) (omega arith) l) }
+    record { entries = es; operands = ss; steps = lengthens_numbered _ _ _ n numbers; names = some_name s.steps t.steps ds k n l numbers; starts = λ _. (there, many); says = (take (k + 1) ds, there, steps_more ds (Property whole) (k + 1) (omega arith) l) }
 
 pub steps_whole_say : (s : Made) (rs : List ℕ) (k : ℕ) (p : PropId) → k + 1 ≡ length rs → MoreSteps s s rs p.0 k (properties.Property p)
-steps_whole_say s rs k p l = record { entries = refl; operands = refl; steps = lengthens_same _ _ refl; starts = λ h. absurd (omega arith); says = steps_whole rs (Property p.0) (k + 1) l }
-
-none_then : {s u t : Made} (G : Origin → Form → Type 0) → Adds s u (λ o g. ⊥) → Adds u t G → Adds s t G
-none_then G a b = adds_same (λ o g. ⊥ ⊎ G o g) G (λ o g h. elim h [ inl x ↦ absurd x | inr y ↦ y ]) (λ o g h. inr h) (adds_both (λ o g. ⊥) G (λ o g h _. h) a b)
+steps_whole_say s rs k p l = record { entries = refl; operands = refl; steps = lengthens_same _ _ refl; names = no_name s.steps rs k l; starts = λ h. absurd (omega arith); says = steps_whole rs (Property p.0) (k + 1) l }
 
 starts_class_more : (t u : Lists) → Keeps t u → (c : code_class.Class2) (ds : List ℕ) → StartsClass t c ds → StartsClass u c ds
 starts_class_more t u k (classes.Expr e) ds h = h
@@ -216,7 +230,7 @@ starts_property_more t u k (properties.Partial n) rs h = (k n rs h.0, h.1)
 pub operand_step : (s u t : Made) (ds : List ℕ) (e k : ℕ) (origin : Origin) (shorter c : code_class.Class2) (x : ExprId) → 0 < k → StartsClass s.operands shorter (take k ds) → slice_get ds k ≡ Some x.0 → MoreOperands s u ds e k c → ((g : Form) → Says u.operands u.steps (forms.N2 shorter (classes.Expr x) c) g → Adds u t (IsOne origin g)) → OperandStep s t ds e k origin c
 operand_step s u t ds e k origin shorter c x pos st gd more adds = record {
   starts = λ l. starts_class_more u.operands t.operands one.operands.keeps c (take (k + 1) ds) (more.starts l);
-  adds = from_one origin form (AndGives ds e k) (x.0, pos, gd, refl) only (none_then (IsOne origin form) (adds_tables s u more.entries more.operands (lengthens_same s.steps u.steps more.steps) (λ o g. ⊥) (λ o g h. h)) one);
+  adds = from_one origin form (AndGives ds e k) (x.0, pos, gd, refl) only (adds_behind_names s u t (IsOne origin form) more.entries more.operands (lengthens_same s.steps u.steps more.steps) classes (λ n rs g. inl (ap (λ ys. slice_get ys n) (sym more.steps) ∙ g)) one);
 }
   where
     form : Form
@@ -225,13 +239,26 @@ operand_step s u t ds e k origin shorter c x pos st gd more adds = record {
     one : Adds u t (IsOne origin form)
     one = adds form (first_of ds e k, Whole x.0, first_of ds e (k + 1), says_class_more s.operands u.operands more.operands.keeps shorter _ (starts_say s.operands shorter ds e k pos (slice_get_within ds k x.0 gd) st), refl, more.says, refl)
 
+    within : k < length ds
+    within = slice_get_within ds k x.0 gd
+
+    classes : (n : ℕ) (list : List ℕ) → slice_get u.operands n ≡ Some list → (slice_get s.operands n ≡ Some list) ⊎ HasClass (IsOne origin form) list
+    classes n list g = elim (named_cases s.operands u.operands ds k within more.names n list g) [
+      | inl h ↦ inl h
+      | inr h ↦ inr (origin, first_of ds e k, Whole x.0, (refl, ap (N2 (first_of ds e k) (Whole x.0)) (ap Beginning h.1 ∙ sym (first_more ds e (k + 1) (omega arith) h.0))))
+    ]
+
     only : (g : Form) → AndGives ds e k g → g ≡ form
     only g (d, _, gd', i) = i ∙ ap (λ y. N2 (first_of ds e k) (Whole y) (first_of ds e (k + 1))) (one_value _ d x.0 gd' gd)
 
-pub chain_step : (s u t : Made) (rs : List ℕ) (whole k : ℕ) (origin : Origin) (shorter q : code_property.PropId2) (x : PropId) → 0 < k → StartsProperty s.steps shorter (take k rs) → slice_get rs k ≡ Some x.0 → MoreSteps s u rs whole k q → ((g : Form) → Says u.operands u.steps (forms.N6 shorter (properties.Property x) q) g → Adds u t (IsOne origin g)) → ChainStep s t rs whole k origin q
-chain_step s u t rs whole k origin shorter q x pos st gd more adds = record {
+pub chain_step : (s u t : Made) (rs : List ℕ) (whole k : ℕ) (origin : Origin) (shorter q : code_property.PropId2) (x : PropId) → 0 < k → StartsProperty s.steps shorter (take k rs) → slice_get rs k ≡ Some x.0 → MoreSteps s u rs whole k q → ((g : Form) → Says u.operands u.steps (forms.N6 shorter (properties.Property x) q) g → Adds u t (IsOne origin g)) → t.steps ≡ u.steps → ChainStep s t rs whole k origin q
+chain_step s u t rs whole k origin shorter q x pos st gd more adds same = record {
+  names = record {
+    some = λ l. (let m = more.names.some l in (m.0, subst (λ ys. Numbers s.steps (take (k + 1) rs) ys m.0) (sym same) m.1));
+    all = λ e. same ∙ more.names.all e;
+  };
   starts = λ l. starts_property_more u.steps t.steps one.steps.keeps q (take (k + 1) rs) (more.starts l);
-  adds = from_one origin form (ChainGives rs whole k) (x.0, pos, gd, refl) only (none_then (IsOne origin form) (adds_tables s u more.entries (lengthens_same s.operands u.operands more.operands) more.steps (λ o g. ⊥) (λ o g h. h)) one);
+  adds = from_one origin form (ChainGives rs whole k) (x.0, pos, gd, refl) only (adds_behind_names s u t (IsOne origin form) more.entries (lengthens_same s.operands u.operands more.operands) more.steps (λ n ds g. inl (ap (λ ys. slice_get ys n) (sym more.operands) ∙ g)) properties one);
 }
   where
     form : Form
@@ -239,6 +266,15 @@ chain_step s u t rs whole k origin shorter q x pos st gd more adds = record {
 
     one : Adds u t (IsOne origin form)
     one = adds form (first_steps rs (Property whole) k, Property x.0, first_steps rs (Property whole) (k + 1), says_property_more s.steps u.steps more.steps.keeps shorter _ (steps_say s.steps shorter rs (Property whole) k pos (slice_get_within rs k x.0 gd) st), refl, more.says, refl)
+
+    within : k < length rs
+    within = slice_get_within rs k x.0 gd
+
+    properties : (n : ℕ) (list : List ℕ) → slice_get u.steps n ≡ Some list → (slice_get s.steps n ≡ Some list) ⊎ HasProperty (IsOne origin form) list
+    properties n list g = elim (named_cases s.steps u.steps rs k within more.names n list g) [
+      | inl h ↦ inl h
+      | inr h ↦ inr (origin, first_steps rs (Property whole) k, Property x.0, (refl, ap (N6 (first_steps rs (Property whole) k) (Property x.0)) (ap Steps h.1 ∙ sym (steps_more rs (Property whole) (k + 1) (omega arith) h.0))))
+    ]
 
     only : (g : Form) → ChainGives rs whole k g → g ≡ form
     only g (d, _, gd', i) = i ∙ ap (λ y. N6 (first_steps rs (Property whole) k) (Property y) (first_steps rs (Property whole) (k + 1))) (one_value _ d x.0 gd' gd)

@@ -1,5 +1,5 @@
 -- The forms of an ontology that has grown are the old ones and those of what is new.
-use Rattle.std.proofs.Common.{◌≡◌, ◌++◌, ℕ, zero, suc, ◌+◌, ◌<◌, ◌⊎◌, inl, inr, Bool, true, false, List, [], ◌∷◌, length, slice_get, Some, Contains, refl, sym, ap, ◌∙◌, subst, arith, add-one}
+use Rattle.std.proofs.Common.{◌≡◌, ◌++◌, ℕ, zero, suc, ◌+◌, ◌<◌, ◌⊎◌, inl, inr, Bool, true, false, List, [], ◌∷◌, length, take, slice_get, Some, Contains, refl, sym, ap, ◌∙◌, subst, arith, add-one}
 use Rattle.std.proofs.lemmas.Bool.{cases_order}
 use Rattle.std.proofs.lemmas.Option.{none-some, slice_get_within}
 use Rattle.lemmas.proofs.Choices.{one_value}
@@ -21,7 +21,9 @@ use Rattle.normalise.specs.Marks.{IsMarked, MarksOccurring}
 use Rattle.normalise.specs.Steps.{ExpressedTo, StatedFrom}
 use Rattle.normalise.specs.View.{Adds, Keeps, Lengthens}
 use Rattle.normalise.proofs.Adding.{adds_behind, adds_both, adds_same, before}
+use Rattle.normalise.proofs.FreshNames.{begins_given, chains_given, expressions_name_none, given_begins, kept_front}
 use Rattle.normalise.proofs.Giving.{sides_apart}
+use Rattle.normalise.specs.Named.{NameChains}
 
 number_at : (xs : List Axiom) (n : ℕ) → at_number xs (n + 1) ≡ slice_get xs n
 number_at xs n = rw add-one refl
@@ -153,33 +155,45 @@ normal_adds o v h = record {
   each = λ n low high. h.each n high;
   all = λ by g k. (let e = h.all by g k in (e.0, omega arith, e.1));
   once = λ m n by g _ _. h.once m n by g;
+  classes = λ n ds g. inr (begins_given o v.asked ds (h.intersections n ds g));
+  properties = λ n rs g. inr (chains_given o v.asked v.steps h.chains n rs g);
 }
 
 none_distinct : {X : Type 0} (m n : ℕ) (x : X) → slice_get [] m ≡ Some x → slice_get [] n ≡ Some x → m ≡ n
 none_distinct m n x g h = absurd (none-some x g)
 
-adds_normal : (o : Ontology) (v : Listing) → Adds no_forms (made_of v) (GivenBy o v.asked) → MarksOccurring AtRight o v.asked v.right → MarksOccurring AtLeft o v.asked v.left → IsNormalFor o v
+adds_normal : (o : Ontology) (v : Listing) → Adds no_forms (made_of v) (GivenBy o v.asked) → NameChains o.axioms v.steps → MarksOccurring AtRight o v.asked v.right → MarksOccurring AtLeft o v.asked v.left → IsNormalFor o v
 unfolding no_forms made_of
-adds_normal o v a r l = record {
+adds_normal o v a c r l = record {
   each = λ n high. a.each n (omega arith) high;
   all = λ by g h. (let e = a.all by g h in (e.0, e.2));
   once = λ m n by g. a.once m n by g (omega arith) (omega arith);
   operands = a.operands.distinct none_distinct;
   steps = a.steps.distinct none_distinct;
+  intersections = λ n ds g. elim (a.classes n ds g) [ inl h ↦ absurd (none-some ds h) | inr h ↦ given_begins o v.asked ds h ];
+  chains = c;
   right = r;
   left = l;
 }
 
 -- the forms of before, and behind them those of u, which were made of s without forms
 pub grown_normal : (o p : Ontology) (v : Listing) (asked : List ℕ) (right left : List Bool) (from : ℕ) → Grows o p from → ((e : ℕ) → Contains v.asked e → Contains asked e) → (fr fl : List Bool) → MarksOccurring AtRight p asked right → MarksOccurring AtLeft p asked left → FreshTo right v.right fr (length right) → FreshTo left v.left fl (length left)
-    → (m : ℕ) → m ≡ length p.axioms → (s t u : Made) → s.entries ≡ [] → s.operands ≡ v.operands → s.steps ≡ v.steps → Adds s t (StatedFrom p.axioms from m) → Adds t u (ExpressedTo p.nodes fr fl (length fr)) → IsNormalFor o v
+    → (m : ℕ) → m ≡ length p.axioms → (s t u : Made) → s.entries ≡ [] → s.operands ≡ v.operands → s.steps ≡ v.steps → Adds s t (StatedFrom p.axioms from m) → (NameChains (take from p.axioms) s.steps → NameChains p.axioms t.steps) → Adds t u (ExpressedTo p.nodes fr fl (length fr)) → IsNormalFor o v
     → IsNormalFor p (record { entries = v.entries ++ u.entries; operands = u.operands; steps = u.steps; asked = asked; right = right; left = left })
 unfolding made_of
-grown_normal o p v asked right left from w more fr fl R' L' FR FL m em s t u none eo es a b n =
+grown_normal o p v asked right left from w more fr fl R' L' FR FL m em s t u none eo es a c b n =
     let P : List (List ℕ) → Type 0 = λ x. Adds no_forms (record { entries = v.entries; operands = x; steps = v.steps }) (GivenBy o v.asked) in
     let Q : List (List ℕ) → Type 0 = λ x. Adds no_forms (record { entries = v.entries; operands = s.operands; steps = x }) (GivenBy o v.asked) in
     adds_normal p (record { entries = v.entries ++ u.entries; operands = u.operands; steps = u.steps; asked = asked; right = right; left = left })
-    (grown_adds o p v.asked asked from w more v.right right v.left left fr fl n.right R' n.left L' FR FL m em s t u v.entries none (subst Q (sym es) (subst P (sym eo) (normal_adds o v n))) a b) R' L'
+    (grown_adds o p v.asked asked from w more v.right right v.left left fr fl n.right R' n.left L' FR FL m em s t u v.entries none (subst Q (sym es) (subst P (sym eo) (normal_adds o v n))) a b) named R' L'
+  where
+    kept : take from p.axioms ≡ o.axioms
+    kept = ap (λ k. take k p.axioms) w.new_from ∙ kept_front o.axioms p.axioms w.axioms
+
+    named : NameChains p.axioms u.steps
+    named =
+        subst (NameChains p.axioms) (sym (expressions_name_none t u p.nodes fr fl (length fr) b))
+        (c (subst (NameChains (take from p.axioms)) (sym es) (subst (λ xs. NameChains xs v.steps) (sym kept) n.chains)))
 
 pub grown_kept : (v : Listing) (asked : List ℕ) (right left : List Bool) (s t u : Made) → s.entries ≡ [] → s.operands ≡ v.operands → s.steps ≡ v.steps → (G H : Origin → Form → Type 0) → Adds s t G → Adds t u H
     → Grown v (record { entries = v.entries ++ u.entries; operands = u.operands; steps = u.steps; asked = asked; right = right; left = left })

@@ -1,6 +1,7 @@
 pub mod Marking
 pub mod Adding
 pub mod Giving
+pub mod FreshNames
 pub mod Pairing
 pub mod Differing
 pub mod Occurrences

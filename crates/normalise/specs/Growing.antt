@@ -1,5 +1,5 @@
 -- Normal forms of an ontology, which may grow at its end.
-use Rattle.std.specs.Prelude.{◌≡◌, ℕ, ◌↔◌, ◌<◌, Bool, List, length, map}
+use Rattle.std.specs.Prelude.{◌≡◌, ℕ, ◌↔◌, ◌<◌, Bool, List, length, map, slice_get, Some}
 use Rattle.std.specs.List.{All}
 use Rattle.axioms.specs.Numbered.{Ontology}
 use Rattle.axioms.specs.WellFormed.{AreDistinct, IsOntology}
@@ -11,6 +11,7 @@ use Rattle.normal_forms.specs.Properties.{IsPropertyFormOf}
 use Rattle.normalise.specs.Entries.{form_in}
 use Rattle.normalise.specs.Listing.{Listing}
 use Rattle.normalise.specs.Marks.{IsMarked, MarksOccurring}
+use Rattle.normalise.specs.Named.{BeginsIntersection, NameChains}
 use Rattle.normalise.specs.View.{IsAt, Keeps}
 
 -- the n-th form is g, of that origin
@@ -18,13 +19,16 @@ abbrev pub Has : Listing → ℕ → Origin → Form → Type 0
 Has v n by g = IsAt v.entries v.operands v.steps n by g
 
 -- the forms are those of the ontology and of what is asked about: each is given by its origin, all that is given is there, once;
--- no two fresh names stand for one list; and the marks are on what occurs
+-- no two fresh names stand for one list; each stands for the beginning of an intersection or of a chain, those of chains in the
+-- order of their first places; and the marks are on what occurs
 pub record IsNormalFor (o : Ontology) (v : Listing) : Type 0 where
   pub each : (n : ℕ) → n < length v.entries → (by : Origin) × ((g : Form) × Has v n by g × GivenBy o v.asked by g)
   pub all : (by : Origin) (g : Form) → GivenBy o v.asked by g → (n : ℕ) × Has v n by g
   pub once : (m n : ℕ) (by : Origin) (g : Form) → Has v m by g → Has v n by g → m ≡ n
   pub operands : AreDistinct v.operands
   pub steps : AreDistinct v.steps
+  pub intersections : (n : ℕ) (ds : List ℕ) → slice_get v.operands n ≡ Some ds → BeginsIntersection o v.asked ds
+  pub chains : NameChains o.axioms v.steps
   pub right : MarksOccurring AtRight o v.asked v.right
   pub left : MarksOccurring AtLeft o v.asked v.left
 

@@ -2,6 +2,7 @@ pub mod Entries
 pub mod Listing
 pub mod Marks
 pub mod View
+pub mod Named
 pub mod Steps
 pub mod Growing
 pub mod Joining

@@ -1,6 +1,7 @@
 -- What single steps of the code give.
-use Rattle.std.specs.Prelude.{◌≡◌, ℕ, ◌+◌, ◌<◌, ◌≤◌, ◌⊎◌, Bool, true, List, length, take, slice_get, Some}
+use Rattle.std.specs.Prelude.{◌≡◌, ℕ, ◌+◌, ◌<◌, ◌≤◌, ◌⊎◌, Bool, true, List, ◌++◌, length, take, slice_get, Some}
 use Rattle.axioms.specs.Numbered.{Axiom, Node, Class, And, Exists, EquivalentClasses, DisjointClasses, EquivalentProperties}
+use Rattle.axioms.specs.Growth.{Numbers}
 use Rattle.axioms.specs.WellFormed.{AreDistinct}
 use Rattle.axioms.specs.declared.ids.ExprId.{ExprId}
 use Rattle.normal_forms.specs.declared.forms.Class2 as code_class
@@ -11,7 +12,8 @@ use Rattle.normal_forms.specs.Forms.{Form, Whole, Property, N1, first_of, first_
 use Rattle.normal_forms.specs.Given.{AndGives, AxiomGives, ChainGives, LeftGives, RightGives}
 use Rattle.normalise.specs.declared.made.Made.{Made}
 use Rattle.normalise.specs.Marks.{IsMarked}
-use Rattle.normalise.specs.View.{Adds, From, Lengthens, SaysClass, SaysProperty, StartsClass, StartsProperty}
+use Rattle.normalise.specs.Named.{AreNumberedByFirstPlace, beginnings_below, beginnings_of}
+use Rattle.normalise.specs.View.{Adds, From, Lengthens, Lists, SaysClass, SaysProperty, StartsClass, StartsProperty}
 
 abbrev pub BelowOperand : List ℕ → ℕ → ℕ → Form → Type 0
 BelowOperand ds e n g = (d : ℕ) × (slice_get ds n ≡ Some d) × (g ≡ N1 (Whole e) (Whole d))
@@ -28,11 +30,26 @@ PartsDiffer (Class c) = Unit {0}
 PartsDiffer (And ds) = AreDistinct ds
 PartsDiffer (Exists r c) = Unit {0}
 
+-- the first k + 1 members have a number among the lists, where they are not all
+pub record Names (old new : Lists) (list : List ℕ) (k : ℕ) : Type 0 where
+  pub some : k + 1 < length list → (n : ℕ) × Numbers old (take (k + 1) list) new n
+  pub all : k + 1 ≡ length list → new ≡ old
+
+-- where the old lists are numbered by places, the new ones are by these places and the further ones behind them
+abbrev pub NumbersBehind : Lists → Lists → Lists → Type 0
+NumbersBehind old further new = (places : Lists) → AreNumberedByFirstPlace places old → AreNumberedByFirstPlace (places ++ further) new
+
+-- .. by the beginnings of a list with at most k members
+pub record NamesTo (old new : Lists) (list : List ℕ) (k : ℕ) : Type 0 where
+  pub some : k < length list → NumbersBehind old (beginnings_below (k + 1) list) new
+  pub all : length list ≤ k → NumbersBehind old (beginnings_of list) new
+
 -- c is the class of the first k + 1 operands; t is s with that in its lists
 pub record MoreOperands (s t : Made) (ds : List ℕ) (e k : ℕ) (c : code_class.Class2) : Type 0 where
   pub entries : t.entries ≡ s.entries
   pub steps : t.steps ≡ s.steps
   pub operands : Lengthens s.operands t.operands
+  pub names : Names s.operands t.operands ds k
   pub starts : k + 1 < length ds → StartsClass t.operands c (take (k + 1) ds)
   pub says : SaysClass t.operands c (first_of ds e (k + 1))
 
@@ -46,10 +63,12 @@ pub record MoreSteps (s t : Made) (rs : List ℕ) (whole k : ℕ) (q : code_prop
   pub entries : t.entries ≡ s.entries
   pub operands : t.operands ≡ s.operands
   pub steps : Lengthens s.steps t.steps
+  pub names : Names s.steps t.steps rs k
   pub starts : k + 1 < length rs → StartsProperty t.steps q (take (k + 1) rs)
   pub says : SaysProperty t.steps q (first_steps rs (Property whole) (k + 1))
 
 pub record ChainStep (s t : Made) (rs : List ℕ) (whole k : ℕ) (origin : Origin) (q : code_property.PropId2) : Type 0 where
+  pub names : Names s.steps t.steps rs k
   pub starts : k + 1 < length rs → StartsProperty t.steps q (take (k + 1) rs)
   pub adds : Adds s t (From origin (ChainGives rs whole k))
 

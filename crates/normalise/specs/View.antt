@@ -1,5 +1,5 @@
 -- The code's forms as those of the definitions: a fresh name stands for the list that has its number.
-use Rattle.std.specs.Prelude.{◌≡◌, ℕ, ◌<◌, ◌≤◌, List, [], ◌∷◌, length, slice_get, Some, None}
+use Rattle.std.specs.Prelude.{◌≡◌, ℕ, ◌<◌, ◌≤◌, ◌⊎◌, List, [], ◌∷◌, length, slice_get, Some, None}
 use Rattle.std.specs.declared.option.Option.{Option}
 use Rattle.axioms.specs.WellFormed.{AreDistinct}
 use Rattle.normal_forms.specs.declared.forms.Class2 as code_class
@@ -55,7 +55,15 @@ pub record Lengthens {X : Type 0} (xs ys : List X) : Type 0 where
 abbrev pub Listed : Made → ℕ → Origin → Form → Type 0
 Listed s n o g = IsAt s.entries s.operands s.steps n o g
 
--- t is s with more forms: those that G has, and no others, each once
+-- one of the forms has the beginning last
+abbrev pub HasClass : (Origin → Form → Type 0) → List ℕ → Type 0
+HasClass G ds = (o : Origin) × (a : Class2) × (b : Class2) × G o (N2 a b (Beginning ds))
+
+abbrev pub HasProperty : (Origin → Form → Type 0) → List ℕ → Type 0
+HasProperty G rs = (o : Origin) × (p : Property2) × (q : Property2) × G o (N6 p q (Steps rs))
+
+-- t is s with more forms: those that G has, and no others, each once; and with more fresh names, each of what one of these forms
+-- has last
 pub record Adds (s t : Made) (G : Origin → Form → Type 0) : Type 0 where
   pub entries : Keeps s.entries t.entries
   pub operands : Lengthens s.operands t.operands
@@ -63,6 +71,8 @@ pub record Adds (s t : Made) (G : Origin → Form → Type 0) : Type 0 where
   pub each : (n : ℕ) → length s.entries ≤ n → n < length t.entries → (o : Origin) × ((g : Form) × Listed t n o g × G o g)
   pub all : (o : Origin) (g : Form) → G o g → (n : ℕ) × (length s.entries ≤ n) × Listed t n o g
   pub once : (m n : ℕ) (o : Origin) (g : Form) → length s.entries ≤ m → length s.entries ≤ n → Listed t m o g → Listed t n o g → m ≡ n
+  pub classes : (n : ℕ) (ds : List ℕ) → slice_get t.operands n ≡ Some ds → (slice_get s.operands n ≡ Some ds) ⊎ HasClass G ds
+  pub properties : (n : ℕ) (rs : List ℕ) → slice_get t.steps n ≡ Some rs → (slice_get s.steps n ≡ Some rs) ⊎ HasProperty G rs
 
 -- a form alone
 abbrev pub IsOne : Origin → Form → Origin → Form → Type 0

@@ -1,12 +1,13 @@
 //! The forms of axioms.
-ghost use Rattle.std.specs.Prelude.{◌≡◌, ℕ, ◌+◌, ◌<◌, ◌≤◌, OnOk, length, map, slice_get, Some};
+ghost use Rattle.std.specs.Prelude.{◌≡◌, ℕ, ◌+◌, ◌<◌, ◌≤◌, OnOk, length, map, slice_get, Some, take};
 ghost use Rattle.axioms.specs.Numbered.{Axiom as Stated, SubProperty};
 ghost use Rattle.axioms.specs.View.{axiom_of, expr_numbers, prop_numbers};
 ghost use Rattle.axioms.specs.WellFormed.{AreDistinct};
 ghost use Rattle.normal_forms.specs.declared.forms.Origin.TheVariants as origins;
 ghost use Rattle.normal_forms.specs.Forms.{N5};
 ghost use Rattle.normal_forms.specs.Given.{AxiomGives, ChainGives, CircleGives, PairGives, subsumed};
-ghost use Rattle.normalise.specs.Steps.{OperandsDiffer, StatedFrom};
+ghost use Rattle.normalise.specs.Named.{NameChains, beginnings_of, chain_beginnings};
+ghost use Rattle.normalise.specs.Steps.{NumbersBehind, OperandsDiffer, StatedFrom};
 ghost use Rattle.normalise.specs.View.{Adds, From};
 
 use crate::lists::{expr_at, next_in_circle, prop_at};
@@ -101,7 +102,8 @@ impl Made {
         whole: PropId,
         origin: Origin,
     ) -> Result<(), Memory>
-        ensures { OnOk result (Adds self.old self.new (From origin (AxiomGives (SubProperty (prop_numbers steps.now) whole.0)))) }
+        ensures forms { OnOk result (Adds self.old self.new (From origin (AxiomGives (SubProperty (prop_numbers steps.now) whole.0)))) }
+        ensures names { OnOk result (NumbersBehind self.old.steps (beginnings_of (prop_numbers steps.now)) self.new.steps) }
     {
         if steps.len() == 1 {
             self.add(Form::N5(prop_at(steps, 0), whole), origin)?;
@@ -114,7 +116,8 @@ impl Made {
     // What the axiom gives by itself.
     fn state(&mut self, axiom: &Axiom, origin: Origin) -> Result<(), Memory>
         requires { OperandsDiffer (axiom_of «axiom».now) }
-        ensures { OnOk result (Adds self.old self.new (From origin (AxiomGives (axiom_of «axiom».now)))) }
+        ensures forms { OnOk result (Adds self.old self.new (From origin (AxiomGives (axiom_of «axiom».now)))) }
+        ensures names { OnOk result (NumbersBehind self.old.steps (chain_beginnings (axiom_of «axiom».now)) self.new.steps) }
     {
         match axiom {
             Axiom::SubClass(sub, sup) => {
@@ -147,7 +150,8 @@ impl Made {
     pub(crate) fn state_all(&mut self, axioms: &[Axiom], from: usize) -> Result<(), Memory>
         requires within { from ≤ length axioms.now }
         requires distinct { (n : ℕ) (a : Stated) → slice_get (map axiom_of axioms.now) n ≡ Some a → OperandsDiffer a }
-        ensures { OnOk result (Adds self.old self.new (StatedFrom (map axiom_of axioms.now) from (length axioms.now))) }
+        ensures forms { OnOk result (Adds self.old self.new (StatedFrom (map axiom_of axioms.now) from (length axioms.now))) }
+        ensures names { OnOk result (NameChains (take from (map axiom_of axioms.now)) self.old.steps → NameChains (map axiom_of axioms.now) self.new.steps) }
     {
         for k in from..axioms.len() {
             self.state(&axioms[k], Origin::Axiom(k + 1))?;

@@ -107,7 +107,8 @@ impl Made {
 
     // Adds a form.
     pub(crate) fn add(&mut self, form: Form, origin: Origin) -> Result<(), Memory>
-        ensures { OnOk result ((g : Formed) → Says self.old.operands self.old.steps form g → Adds self.old self.new (IsOne origin g)) }
+        ensures forms { OnOk result ((g : Formed) → Says self.old.operands self.old.steps form g → Adds self.old self.new (IsOne origin g)) }
+        ensures steps { OnOk result (self.new.steps ≡ self.old.steps) }
     {
         self.entries.push(Entry { form, origin })?;
         Ok(())

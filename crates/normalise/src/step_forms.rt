@@ -2,7 +2,8 @@
 ghost use Rattle.std.specs.Prelude.{◌≡◌, ℕ, ◌+◌, ◌<◌, IfOk, OnOk, length, take};
 ghost use Rattle.axioms.specs.View.{expr_numbers, prop_numbers};
 ghost use Rattle.normal_forms.specs.Given.{AndGives, ChainGives};
-ghost use Rattle.normalise.specs.Steps.{ChainStep, MoreOperands, MoreSteps, OperandStep};
+ghost use Rattle.normalise.specs.Named.{beginnings_of};
+ghost use Rattle.normalise.specs.Steps.{ChainStep, MoreOperands, MoreSteps, NumbersBehind, OperandStep};
 ghost use Rattle.normalise.specs.View.{Adds, From, StartsClass, StartsProperty, class_number, property_number};
 
 use crate::lists::{expr_at, prop_at};
@@ -141,7 +142,8 @@ impl Made {
         whole: PropId,
         origin: Origin,
     ) -> Result<(), Memory>
-        ensures { OnOk result (Adds self.old self.new (From origin (λ g. (n : ℕ) × ChainGives (prop_numbers steps.now) whole.0 n g))) }
+        ensures forms { OnOk result (Adds self.old self.new (From origin (λ g. (n : ℕ) × ChainGives (prop_numbers steps.now) whole.0 n g))) }
+        ensures names { OnOk result (NumbersBehind self.old.steps (beginnings_of (prop_numbers steps.now)) self.new.steps) }
     {
         if steps.is_empty() {
             return Ok(());

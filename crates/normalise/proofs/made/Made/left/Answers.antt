@@ -14,4 +14,4 @@ returns-in_ok-left_and-in-And c =
 pub returns-in_ok-add-in-Some : goal.returns-in_ok-add-in-Some
 returns-in_ok-add-in-Some c =
     subst (λ a. Adds c.args.self.now c.add.new.self (From c.args.origin (LeftGives c.args.whole.0 (node_of a)))) (sym c.in-Some.is)
-    (c.in_ok-add-in-Some.ensures (N4 c.in-Some.prop.0 (Whole c.in-Some.filler.0) (Whole c.args.whole.0)) (Whole c.in-Some.filler.0, Whole c.args.whole.0, refl, refl, refl))
+    (c.in_ok-add-in-Some.ensures.forms (N4 c.in-Some.prop.0 (Whole c.in-Some.filler.0) (Whole c.args.whole.0)) (Whole c.in-Some.filler.0, Whole c.args.whole.0, refl, refl, refl))

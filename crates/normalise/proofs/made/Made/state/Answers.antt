@@ -6,49 +6,77 @@ use Rattle.normalise.specs.View.{Adds, From}
 use Rattle.normal_forms.specs.Forms.{Whole, Property, N1, N4, N6, N7, N8, N9}
 use Rattle.normal_forms.specs.Given.{AxiomGives}
 use Rattle.axioms.specs.Numbered.{thing}
+use Rattle.normalise.proofs.FreshNames.{NamesNone, names_none}
 use Rattle.normalise.proofs.made.Made.state.Goals as goal
 
-pub returns-in_ok-add-in-SubClass : goal.returns-in_ok-add-in-SubClass
-returns-in_ok-add-in-SubClass c =
+pub returns-in_ok-add-in-SubClass-clause-forms : goal.returns-in_ok-add-in-SubClass-clause-forms
+returns-in_ok-add-in-SubClass-clause-forms c =
     subst (λ a. Adds c.args.self.now c.add.new.self (From c.args.origin (AxiomGives (axiom_of a)))) (sym c.in-SubClass.is)
-    (c.in_ok-add-in-SubClass.ensures (N1 (Whole c.in-SubClass.sub.0) (Whole c.in-SubClass.sup.0)) (Whole c.in-SubClass.sub.0, Whole c.in-SubClass.sup.0, refl, refl, refl))
+    (c.in_ok-add-in-SubClass.ensures.forms (N1 (Whole c.in-SubClass.sub.0) (Whole c.in-SubClass.sup.0)) (Whole c.in-SubClass.sub.0, Whole c.in-SubClass.sup.0, refl, refl, refl))
 
-pub returns-in_ok-circle-in-EquivalentClasses : goal.returns-in_ok-circle-in-EquivalentClasses
-returns-in_ok-circle-in-EquivalentClasses c =
+pub returns-in_ok-circle-in-EquivalentClasses-clause-forms : goal.returns-in_ok-circle-in-EquivalentClasses-clause-forms
+returns-in_ok-circle-in-EquivalentClasses-clause-forms c =
     subst (λ a. Adds c.args.self.now c.circle.new.self (From c.args.origin (AxiomGives (axiom_of a)))) (sym c.in-EquivalentClasses.is)
     (subst (λ xs. Adds c.args.self.now c.circle.new.self (From c.args.origin (λ g. (n : ℕ) × CircleGives subsumed (expr_numbers xs) n g))) c.deref.ensures.value c.in_ok-circle-in-EquivalentClasses.ensures)
 
-pub returns-in_ok-disjoint-in-DisjointClasses : goal.returns-in_ok-disjoint-in-DisjointClasses
-returns-in_ok-disjoint-in-DisjointClasses c =
+pub returns-in_ok-disjoint-in-DisjointClasses-clause-forms : goal.returns-in_ok-disjoint-in-DisjointClasses-clause-forms
+returns-in_ok-disjoint-in-DisjointClasses-clause-forms c =
     subst (λ a. Adds c.args.self.now c.disjoint.new.self (From c.args.origin (AxiomGives (axiom_of a)))) (sym c.in-DisjointClasses.is)
     (subst (λ xs. Adds c.args.self.now c.disjoint.new.self (From c.args.origin (λ g. (m : ℕ) × ((n : ℕ) × PairGives (expr_numbers xs) m n g)))) c.deref-in-DisjointClasses.ensures.value c.in_ok-disjoint-in-DisjointClasses.ensures)
 
-pub returns-in_ok-property_circle-in-EquivalentProperties : goal.returns-in_ok-property_circle-in-EquivalentProperties
-returns-in_ok-property_circle-in-EquivalentProperties c =
+pub returns-in_ok-property_circle-in-EquivalentProperties-clause-forms : goal.returns-in_ok-property_circle-in-EquivalentProperties-clause-forms
+returns-in_ok-property_circle-in-EquivalentProperties-clause-forms c =
     subst (λ a. Adds c.args.self.now c.property_circle.new.self (From c.args.origin (AxiomGives (axiom_of a)))) (sym c.in-EquivalentProperties.is)
     (subst (λ xs. Adds c.args.self.now c.property_circle.new.self (From c.args.origin (λ g. (n : ℕ) × CircleGives N5 (prop_numbers xs) n g))) c.deref-in-EquivalentProperties.ensures.value c.in_ok-property_circle-in-EquivalentProperties.ensures)
 
-pub returns-in_ok-add-in-Domain : goal.returns-in_ok-add-in-Domain
-returns-in_ok-add-in-Domain c =
+pub returns-in_ok-add-in-Domain-clause-forms : goal.returns-in_ok-add-in-Domain-clause-forms
+returns-in_ok-add-in-Domain-clause-forms c =
     subst (λ a. Adds c.args.self.now c.add-in-Domain.new.self (From c.args.origin (AxiomGives (axiom_of a)))) (sym c.in-Domain.is)
-    (c.in_ok-add-in-Domain.ensures (N4 c.in-Domain.prop.0 (Whole thing) (Whole c.in-Domain.class.0)) (Whole thing, Whole c.in-Domain.class.0, refl, refl, refl))
+    (c.in_ok-add-in-Domain.ensures.forms (N4 c.in-Domain.prop.0 (Whole thing) (Whole c.in-Domain.class.0)) (Whole thing, Whole c.in-Domain.class.0, refl, refl, refl))
 
-pub returns-in_ok-add-in-Transitive : goal.returns-in_ok-add-in-Transitive
-returns-in_ok-add-in-Transitive c =
+pub returns-in_ok-add-in-Transitive-clause-forms : goal.returns-in_ok-add-in-Transitive-clause-forms
+returns-in_ok-add-in-Transitive-clause-forms c =
     subst (λ a. Adds c.args.self.now c.add-in-Transitive.new.self (From c.args.origin (AxiomGives (axiom_of a)))) (sym c.in-Transitive.is)
-    (c.in_ok-add-in-Transitive.ensures (N6 (Property c.in-Transitive.prop.0) (Property c.in-Transitive.prop.0) (Property c.in-Transitive.prop.0)) (Property c.in-Transitive.prop.0, Property c.in-Transitive.prop.0, Property c.in-Transitive.prop.0, refl, refl, refl, refl))
+    (c.in_ok-add-in-Transitive.ensures.forms (N6 (Property c.in-Transitive.prop.0) (Property c.in-Transitive.prop.0) (Property c.in-Transitive.prop.0)) (Property c.in-Transitive.prop.0, Property c.in-Transitive.prop.0, Property c.in-Transitive.prop.0, refl, refl, refl, refl))
 
-pub returns-in_ok-add-in-Reflexive : goal.returns-in_ok-add-in-Reflexive
-returns-in_ok-add-in-Reflexive c =
+pub returns-in_ok-add-in-Reflexive-clause-forms : goal.returns-in_ok-add-in-Reflexive-clause-forms
+returns-in_ok-add-in-Reflexive-clause-forms c =
     subst (λ a. Adds c.args.self.now c.add-in-Reflexive.new.self (From c.args.origin (AxiomGives (axiom_of a)))) (sym c.in-Reflexive.is)
-    (c.in_ok-add-in-Reflexive.ensures (N7 c.in-Reflexive.prop.0) refl)
+    (c.in_ok-add-in-Reflexive.ensures.forms (N7 c.in-Reflexive.prop.0) refl)
 
-pub returns-in_ok-add-in-ClassAssertion : goal.returns-in_ok-add-in-ClassAssertion
-returns-in_ok-add-in-ClassAssertion c =
+pub returns-in_ok-add-in-ClassAssertion-clause-forms : goal.returns-in_ok-add-in-ClassAssertion-clause-forms
+returns-in_ok-add-in-ClassAssertion-clause-forms c =
     subst (λ a. Adds c.args.self.now c.add-in-ClassAssertion.new.self (From c.args.origin (AxiomGives (axiom_of a)))) (sym c.in-ClassAssertion.is)
-    (c.in_ok-add-in-ClassAssertion.ensures (N8 c.in-ClassAssertion.individual.0 (Whole c.in-ClassAssertion.class.0)) (Whole c.in-ClassAssertion.class.0, refl, refl))
+    (c.in_ok-add-in-ClassAssertion.ensures.forms (N8 c.in-ClassAssertion.individual.0 (Whole c.in-ClassAssertion.class.0)) (Whole c.in-ClassAssertion.class.0, refl, refl))
 
-pub returns-in_ok-add-in-PropertyAssertion : goal.returns-in_ok-add-in-PropertyAssertion
-returns-in_ok-add-in-PropertyAssertion c =
+pub returns-in_ok-add-in-PropertyAssertion-clause-forms : goal.returns-in_ok-add-in-PropertyAssertion-clause-forms
+returns-in_ok-add-in-PropertyAssertion-clause-forms c =
     subst (λ a. Adds c.args.self.now c.add-in-PropertyAssertion.new.self (From c.args.origin (AxiomGives (axiom_of a)))) (sym c.in-PropertyAssertion.is)
-    (c.in_ok-add-in-PropertyAssertion.ensures (N9 c.in-PropertyAssertion.source.0 c.in-PropertyAssertion.prop.0 c.in-PropertyAssertion.target.0) refl)
+    (c.in_ok-add-in-PropertyAssertion.ensures.forms (N9 c.in-PropertyAssertion.source.0 c.in-PropertyAssertion.prop.0 c.in-PropertyAssertion.target.0) refl)
+
+pub returns-in_ok-add-in-SubClass-clause-names : goal.returns-in_ok-add-in-SubClass-clause-names
+returns-in_ok-add-in-SubClass-clause-names c = names_none c.args.self.now c.add.new.self c.args.origin (axiom_of c.args.«axiom».now) (subst (λ a. NamesNone (axiom_of a)) (sym c.in-SubClass.is) tt) (returns-in_ok-add-in-SubClass-clause-forms c)
+
+pub returns-in_ok-circle-in-EquivalentClasses-clause-names : goal.returns-in_ok-circle-in-EquivalentClasses-clause-names
+returns-in_ok-circle-in-EquivalentClasses-clause-names c = names_none c.args.self.now c.circle.new.self c.args.origin (axiom_of c.args.«axiom».now) (subst (λ a. NamesNone (axiom_of a)) (sym c.in-EquivalentClasses.is) tt) (returns-in_ok-circle-in-EquivalentClasses-clause-forms c)
+
+pub returns-in_ok-disjoint-in-DisjointClasses-clause-names : goal.returns-in_ok-disjoint-in-DisjointClasses-clause-names
+returns-in_ok-disjoint-in-DisjointClasses-clause-names c = names_none c.args.self.now c.disjoint.new.self c.args.origin (axiom_of c.args.«axiom».now) (subst (λ a. NamesNone (axiom_of a)) (sym c.in-DisjointClasses.is) tt) (returns-in_ok-disjoint-in-DisjointClasses-clause-forms c)
+
+pub returns-in_ok-property_circle-in-EquivalentProperties-clause-names : goal.returns-in_ok-property_circle-in-EquivalentProperties-clause-names
+returns-in_ok-property_circle-in-EquivalentProperties-clause-names c = names_none c.args.self.now c.property_circle.new.self c.args.origin (axiom_of c.args.«axiom».now) (subst (λ a. NamesNone (axiom_of a)) (sym c.in-EquivalentProperties.is) tt) (returns-in_ok-property_circle-in-EquivalentProperties-clause-forms c)
+
+pub returns-in_ok-add-in-Domain-clause-names : goal.returns-in_ok-add-in-Domain-clause-names
+returns-in_ok-add-in-Domain-clause-names c = names_none c.args.self.now c.add-in-Domain.new.self c.args.origin (axiom_of c.args.«axiom».now) (subst (λ a. NamesNone (axiom_of a)) (sym c.in-Domain.is) tt) (returns-in_ok-add-in-Domain-clause-forms c)
+
+pub returns-in_ok-add-in-Transitive-clause-names : goal.returns-in_ok-add-in-Transitive-clause-names
+returns-in_ok-add-in-Transitive-clause-names c = names_none c.args.self.now c.add-in-Transitive.new.self c.args.origin (axiom_of c.args.«axiom».now) (subst (λ a. NamesNone (axiom_of a)) (sym c.in-Transitive.is) tt) (returns-in_ok-add-in-Transitive-clause-forms c)
+
+pub returns-in_ok-add-in-Reflexive-clause-names : goal.returns-in_ok-add-in-Reflexive-clause-names
+returns-in_ok-add-in-Reflexive-clause-names c = names_none c.args.self.now c.add-in-Reflexive.new.self c.args.origin (axiom_of c.args.«axiom».now) (subst (λ a. NamesNone (axiom_of a)) (sym c.in-Reflexive.is) tt) (returns-in_ok-add-in-Reflexive-clause-forms c)
+
+pub returns-in_ok-add-in-ClassAssertion-clause-names : goal.returns-in_ok-add-in-ClassAssertion-clause-names
+returns-in_ok-add-in-ClassAssertion-clause-names c = names_none c.args.self.now c.add-in-ClassAssertion.new.self c.args.origin (axiom_of c.args.«axiom».now) (subst (λ a. NamesNone (axiom_of a)) (sym c.in-ClassAssertion.is) tt) (returns-in_ok-add-in-ClassAssertion-clause-forms c)
+
+pub returns-in_ok-add-in-PropertyAssertion-clause-names : goal.returns-in_ok-add-in-PropertyAssertion-clause-names
+returns-in_ok-add-in-PropertyAssertion-clause-names c = names_none c.args.self.now c.add-in-PropertyAssertion.new.self c.args.origin (axiom_of c.args.«axiom».now) (subst (λ a. NamesNone (axiom_of a)) (sym c.in-PropertyAssertion.is) tt) (returns-in_ok-add-in-PropertyAssertion-clause-forms c)

@@ -1,9 +1,10 @@
-use Rattle.std.proofs.Common.{length, sym, ap, ◌∙◌, subst}
+use Rattle.std.proofs.Common.{length, take, sym, ap, ◌∙◌, subst}
 use Rattle.std.proofs.lemmas.List.{length-map}
 use Rattle.axioms.specs.View.{axiom_of, expr_numbers}
 use Rattle.normal_forms.specs.Occurring.{AtLeft, AtRight}
 use Rattle.normalise.specs.Listing.{Listing}
 use Rattle.normalise.specs.Marks.{MarksOccurring}
+use Rattle.normalise.specs.Named.{NameChains}
 use Rattle.normalise.specs.Steps.{StatedFrom}
 use Rattle.normalise.specs.View.{Adds}
 use Rattle.normalise.proofs.Differing.{all_differ}
@@ -18,7 +19,7 @@ pub returns-clause-kept : goal.returns-clause-kept
 returns-clause-kept c =
     grown_kept c.args.self.now _ _ _ c.in_ok-made.made c.state_all.new.self c.express_all.new.self
     c.in_ok-made.ensures.entries (c.in_ok-made.ensures.operands ∙ ap (λ (v : Listing). v.operands) c.self.view_is) (c.in_ok-made.ensures.steps ∙ ap (λ (v : Listing). v.steps) c.self.view_is)
-    _ _ c.in_ok-state_all.ensures c.in_ok-express_all.ensures
+    _ _ c.in_ok-state_all.ensures.forms c.in_ok-express_all.ensures
 
 pub returns-clause-forms : goal.returns-clause-forms
 returns-clause-forms c = λ o n w more.
@@ -33,6 +34,7 @@ returns-clause-forms c = λ o n w more.
     many (sym (length-map c.axioms.result.now axiom_of) ∙ ap length c.axioms.ensures)
     c.in_ok-made.made c.state_all.new.self c.express_all.new.self
     c.in_ok-made.ensures.entries (c.in_ok-made.ensures.operands ∙ ap (λ (v : Listing). v.operands) c.self.view_is) (c.in_ok-made.ensures.steps ∙ ap (λ (v : Listing). v.steps) c.self.view_is)
-    (subst (λ xs. Adds c.in_ok-made.made c.state_all.new.self (StatedFrom xs c.args.from many)) c.axioms.ensures c.in_ok-state_all.ensures)
+    (subst (λ xs. Adds c.in_ok-made.made c.state_all.new.self (StatedFrom xs c.args.from many)) c.axioms.ensures c.in_ok-state_all.ensures.forms)
+    (subst (λ xs. NameChains (take c.args.from xs) c.in_ok-made.made.steps → NameChains xs c.state_all.new.self.steps) c.axioms.ensures c.in_ok-state_all.ensures.names)
     (express_at _ _ p.nodes _ _ _ _ c.deref-7.ensures.value c.deref-8.ensures.value c.in_ok-express_all.ensures)
     n
