@@ -4,7 +4,7 @@ ghost use Rattle.profile.specs.Documents.{AreTextOf, IsTaken, ReadsAs};
 ghost use Rattle.profile.specs.Faults.{ReadsKnown, Refuses, RefusesKnown};
 ghost use Rattle.std.specs.Io.KnownBytes.{IsAtEnd};
 ghost use Rattle.fs_parser.specs.View.{document_of};
-ghost use Rattle.std.specs.Prelude.{◌≡◌, ◌≤◌, IfErr, IfOk, IsErrOf, OnOk, length};
+ghost use Rattle.std.specs.Prelude.{◌≡◌, ◌+◌, ◌<◌, ◌≤◌, IfErr, IfOk, IsErrOf, OnOk, length};
 
 use crate::acceptance::accept;
 use crate::fault::DocumentFault;
@@ -109,6 +109,8 @@ pub fn read_document<S: Source>(
     ensures taken { IfOk result IsTaken }
     ensures axioms { IfOk result (λ o. length o.axioms ≤ limits.now.max_bytes) }
     ensures refused { IfErr result (RefusesKnown (S.left source.old) limits.now.max_bytes) }
+    // Of a source that does not tell its bytes, too: it gave more than the limit.
+    ensures beyond { IsErrOf result DocumentFault.TooLarge → S.most source.new + limits.now.max_bytes < S.most source.old }
     // What was read of the source, and whether a read failed.
     ensures end { OnOk result (IsAtEnd (S.left source.new)) }
     ensures lost { LosesFront (S.left source.old) (S.left source.new) (S.most source.old) (S.most source.new) }
