@@ -76,6 +76,20 @@ const MEMBERS: &[Members] = &[
         wanted: Wanted::Limit,
     },
     Members {
+        case: "the limit is told before a name",
+        document: INDIVIDUALS,
+        class: "x:Z",
+        facts: 16,
+        wanted: Wanted::Limit,
+    },
+    Members {
+        case: "a name, where the limit is not passed",
+        document: INDIVIDUALS,
+        class: "x:Z",
+        facts: 17,
+        wanted: Wanted::UnknownName("x:Z"),
+    },
+    Members {
         case: "no document",
         document: "Ontology(",
         class: "x:B",
@@ -177,8 +191,26 @@ const WHYS: &[Why] = &[
         asked: Asked::Class("x:A"),
         class: "x:B",
         form: Form::Lines,
-        facts: 1,
+        facts: 7,
         wanted: Wanted::Limit,
+    },
+    Why {
+        case: "the limit is told before a name",
+        document: SUBCLASS,
+        asked: Asked::Individual("x:A"),
+        class: "x:Z",
+        form: Form::Graph,
+        facts: 7,
+        wanted: Wanted::Limit,
+    },
+    Why {
+        case: "a name, where the limit is not passed",
+        document: SUBCLASS,
+        asked: Asked::Individual("x:A"),
+        class: "x:Z",
+        form: Form::Graph,
+        facts: 8,
+        wanted: Wanted::UnknownName("x:A"),
     },
 ];
 

@@ -14,14 +14,14 @@ use Rattle.answers.specs.declared.asked.Asked.{Asked}
 read_as_file : (file left : Option (List ℕ)) (most : ℕ) (o : Ontology) → Keeps file left → IsReadAs most left o → IsReadAs most file o
 read_as_file file left most o kept is = record { reads = reads_file file left most o kept is.reads; taken = is.taken }
 
-pub instances_of_file : (file left : Option (List ℕ)) (most : ℕ) (class text : List ℕ) → Keeps file left → AnswersInstances most left class text → AnswersInstances most file class text
-instances_of_file file left most class text kept is = (is.0, read_as_file file left most is.0 kept is.1, is.2)
+pub instances_of_file : (file left : Option (List ℕ)) (most facts : ℕ) (class text : List ℕ) → Keeps file left → AnswersInstances most facts left class text → AnswersInstances most facts file class text
+instances_of_file file left most facts class text kept is = (is.0, read_as_file file left most is.0 kept is.1, is.2, is.3)
 
-pub why_of_file : (file left : Option (List ℕ)) (most : ℕ) (asked : Asked) (class : List ℕ) (form : Form) (text : List ℕ) → Keeps file left → AnswersWhy most left asked class form text → AnswersWhy most file asked class form text
-why_of_file file left most asked class form text kept is = (is.0, read_as_file file left most is.0 kept is.1, is.2)
+pub why_of_file : (file left : Option (List ℕ)) (most facts : ℕ) (asked : Asked) (class : List ℕ) (form : Form) (text : List ℕ) → Keeps file left → AnswersWhy most facts left asked class form text → AnswersWhy most facts file asked class form text
+why_of_file file left most facts asked class form text kept is = (is.0, read_as_file file left most is.0 kept is.1, is.2, is.3)
 
 pub question_fault_of_file : (file left : Option (List ℕ)) (most facts : ℕ) (names : List (Kind × Iri)) (fault : QuestionFault) → Keeps file left → IsFaultOf most facts left names fault → IsFaultOf most facts file names fault
 question_fault_of_file file left most facts names (Document fault) kept is = refuses_file file left most fault kept is
 question_fault_of_file file left most facts names Limit kept is = (is.0, read_as_file file left most is.0 kept is.1, is.2)
-question_fault_of_file file left most facts names (UnknownName name) kept is = (is.0, read_as_file file left most is.0 kept is.1, is.2)
+question_fault_of_file file left most facts names (UnknownName name) kept is = (is.0, read_as_file file left most is.0 kept is.1, is.2, is.3)
 question_fault_of_file file left most facts names Memory kept is = (is.0, read_as_file file left most is.0 kept is.1)

@@ -111,7 +111,7 @@ IsCheckRun paths bytes content old new status =
 -- a run of `instances`: the individuals of the class are printed; or a fault is told
 abbrev pub IsInstancesRun : (path class : List ℕ) → (facts bytes : ℕ) → Content → (old new : Output) → (status : ℕ) → Type 0
 IsInstancesRun path class facts bytes content old new status =
-    ((text : List ℕ) × AnswersInstances bytes (content path) class text × IsAnswered old new text statuses.Done status)
+    ((text : List ℕ) × AnswersInstances bytes facts (content path) class text × IsAnswered old new text statuses.Done status)
     ⊎ ((fault : QuestionFault) × asking.IsFaultOf bytes facts (content path) (class_name class ∷ []) fault × (new.out ≡ old.out) × IsTold old.err new.err (IsQuestionText path bytes facts fault) (question_status fault) status)
 
 -- what a question asks about
@@ -125,7 +125,7 @@ form_of q = if q.dot then Graph else Lines
 -- a run of `explain`: why the subject is in the class, or is not, is printed; or a fault is told
 abbrev pub IsExplainRun : Question → (facts bytes : ℕ) → Content → (old new : Output) → (status : ℕ) → Type 0
 IsExplainRun q facts bytes content old new status =
-    ((text : List ℕ) × AnswersWhy bytes (content q.document.now) (asked_by q) q.class.now (form_of q) text × IsAnswered old new text statuses.Done status)
+    ((text : List ℕ) × AnswersWhy bytes facts (content q.document.now) (asked_by q) q.class.now (form_of q) text × IsAnswered old new text statuses.Done status)
     ⊎ ((fault : QuestionFault) × asking.IsFaultOf bytes facts (content q.document.now) (subject_name (asked_by q) ∷ class_name q.class.now ∷ []) fault × (new.out ≡ old.out)
     × IsTold old.err new.err (IsQuestionText q.document.now bytes facts fault) (question_status fault) status)
 

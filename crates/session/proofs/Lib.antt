@@ -1,3 +1,4 @@
 pub mod Outcomes
 pub mod SessionOpened
 pub mod Finding
+pub mod Counting

@@ -23,6 +23,7 @@ use Rattle.answers.specs.declared.asked.Asked.{Asked}
 use Rattle.answers.specs.declared.explanation.Explanation.{Explanation}
 use Rattle.answers.specs.declared.explanation.Explanation.TheVariants.{Yes, No, Contradictory}
 use Rattle.session.specs.Asking.{IsFirstUnknown}
+use Rattle.session.specs.Counted.{HasNoMoreFactsThan}
 use Rattle.session.specs.Devices.{SourceState, IsReadToItsEnd, IsReadUntil}
 
 -- the document, of at most so many bytes, reads as the ontology
@@ -44,9 +45,9 @@ pub record ListsMembers (o : Ontology) (class : Iri) (text : List ℕ) : Type 0 
   pub those : AreThose o.names.individuals (λ name. BelongsTo o name class) names
   pub lines : text ≡ name_lines names
 
--- .. of the ontology that the document reads as
-abbrev pub AnswersInstances : (most_bytes : ℕ) → (document : Option (List ℕ)) → (class : Iri) → (text : List ℕ) → Type 0
-AnswersInstances bytes document class text = (o : Ontology) × IsReadAs bytes document o × ListsMembers o class text
+-- .. of the ontology that the document reads as, whose closure has at most so many facts
+abbrev pub AnswersInstances : (most_bytes most_facts : ℕ) → (document : Option (List ℕ)) → (class : Iri) → (text : List ℕ) → Type 0
+AnswersInstances bytes facts document class text = (o : Ontology) × IsReadAs bytes document o × HasNoMoreFactsThan o facts × ListsMembers o class text
 
 -- ---- why something follows, or why not
 
@@ -75,17 +76,18 @@ pub record ShowsWhy (o : Ontology) (asked : Asked) (class : Iri) (form : Form) (
   pub explains : Explains o asked class explanation
   pub shown : text ≡ shown_text o form explanation
 
--- .. of the ontology that the document reads as
-abbrev pub AnswersWhy : (most_bytes : ℕ) → (document : Option (List ℕ)) → Asked → (class : Iri) → Form → (text : List ℕ) → Type 0
-AnswersWhy bytes document asked class form text = (o : Ontology) × IsReadAs bytes document o × ShowsWhy o asked class form text
+-- .. of the ontology that the document reads as, whose closure has at most so many facts
+abbrev pub AnswersWhy : (most_bytes most_facts : ℕ) → (document : Option (List ℕ)) → Asked → (class : Iri) → Form → (text : List ℕ) → Type 0
+AnswersWhy bytes facts document asked class form text = (o : Ontology) × IsReadAs bytes document o × HasNoMoreFactsThan o facts × ShowsWhy o asked class form text
 
 -- ---- faults
 
--- the document reads as an ontology, and the name is the first of these, each of its kind, that the ontology lacks
-abbrev pub LacksName : (most_bytes : ℕ) → (document : Option (List ℕ)) → (names : List (Kind × Iri)) → Iri → Type 0
-LacksName bytes document names name = (o : Ontology) × IsReadAs bytes document o × IsFirstUnknown o names name
+-- the document reads as an ontology whose closure has at most so many facts, and the name is the first of these, each of its kind,
+-- that the ontology lacks
+abbrev pub LacksName : (most_bytes most_facts : ℕ) → (document : Option (List ℕ)) → (names : List (Kind × Iri)) → Iri → Type 0
+LacksName bytes facts document names name = (o : Ontology) × IsReadAs bytes document o × HasNoMoreFactsThan o facts × IsFirstUnknown o names name
 
--- .. whose closure has more facts
+-- the document reads as an ontology whose closure has more facts
 abbrev pub IsBeyondLimit : (most_bytes most_facts : ℕ) → (document : Option (List ℕ)) → Type 0
 IsBeyondLimit bytes facts document = (o : Ontology) × IsReadAs bytes document o × HasMoreFactsThan o facts
 
@@ -93,7 +95,7 @@ IsBeyondLimit bytes facts document = (o : Ontology) × IsReadAs bytes document o
 abbrev pub IsFaultOf : (most_bytes most_facts : ℕ) → (document : Option (List ℕ)) → (names : List (Kind × Iri)) → QuestionFault → Type 0
 IsFaultOf bytes facts document names (Document fault) = RefusesKnown document bytes fault
 IsFaultOf bytes facts document names Limit = IsBeyondLimit bytes facts document
-IsFaultOf bytes facts document names (UnknownName name) = LacksName bytes document names name.now
+IsFaultOf bytes facts document names (UnknownName name) = LacksName bytes facts document names name.now
 IsFaultOf bytes facts document names Memory = (o : Ontology) × IsReadAs bytes document o
 
 -- what was read of the document: all of it, where it was read as an ontology; otherwise some of it; and the fault of a source

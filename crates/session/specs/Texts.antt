@@ -13,6 +13,7 @@ use Rattle.session.specs.declared.question_fault.QuestionFault.TheVariants.{Docu
 use Rattle.answers.specs.declared.explanation.Explanation.{Explanation}
 use Rattle.answers.specs.declared.explanation.Explanation.TheVariants.{Yes, No, Contradictory}
 use Rattle.session.specs.Asking.{IsFirstUnknown}
+use Rattle.session.specs.Counted.{HasNoMoreFactsThan}
 
 -- its lines speak of what the ontology has, or its interpretation was made for the names of the ontology
 abbrev pub HasText : Ontology → Explanation → Type 0
@@ -20,9 +21,10 @@ HasText o (Yes lines) = All (IsLineOf o) (lines_of lines.items)
 HasText o (No i x) = IsMadeFor o.names i
 HasText o (Contradictory lines) = All (IsLineOf o) (lines_of lines.items)
 
--- what a fault says of an ontology that was read, and of the names in the question
+-- what a fault says of an ontology that was read, and of the names in the question: the closure has more facts, or it does not and
+-- a name is told
 abbrev pub IsUnanswered : Ontology → (most_facts : ℕ) → (names : List (Kind × Iri)) → QuestionFault → Type 0
-IsUnanswered o facts names (UnknownName name) = IsFirstUnknown o names name.now
+IsUnanswered o facts names (UnknownName name) = HasNoMoreFactsThan o facts × IsFirstUnknown o names name.now
 IsUnanswered o facts names Memory = Unit {0}
 IsUnanswered o facts names (Document fault) = ⊥
 IsUnanswered o facts names Limit = HasMoreFactsThan o facts

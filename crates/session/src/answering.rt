@@ -1,6 +1,7 @@
 //! The answers to questions about a document.
 ghost use Rattle.engine.specs.Saturated.{IsFinished};
 ghost use Rattle.session.specs.Answered.{AnswersInstances, AnswersWhy, IsFaultOf, IsRead, ListsMembers, ShowsWhy};
+ghost use Rattle.session.specs.Counted.{HasNoMoreFactsThan};
 ghost use Rattle.session.specs.Texts.{IsUnanswered};
 ghost use Rattle.session.specs.Asking.{class_name, subject_name};
 ghost use Rattle.session.specs.Devices.{source_state};
@@ -27,7 +28,7 @@ fn members<'n>(
 ) -> Result<Vec<u8>, QuestionFault<'n>>
     requires { IsFinished session.now.saturation }
     ensures answered { IfOk result (λ v. ListsMembers session.now.ontology class.now v.items) }
-    ensures fault { (most : ℕ) → IfErr result (IsUnanswered session.now.ontology most (class_name class.now ∷ [])) }
+    ensures fault { (most : ℕ) → HasNoMoreFactsThan session.now.ontology most → IfErr result (IsUnanswered session.now.ontology most (class_name class.now ∷ [])) }
 {
     let names = match session.instances(class) {
         Ok(names) => names,
@@ -48,7 +49,7 @@ fn members_at_end<'n>(
     class: &'n str,
     max_facts: u32,
 ) -> Result<Vec<u8>, QuestionFault<'n>>
-    ensures answered { IfOk result (λ v. ListsMembers session.old.ontology class.now v.items) }
+    ensures answered { IfOk result (λ v. HasNoMoreFactsThan session.old.ontology max_facts × ListsMembers session.old.ontology class.now v.items) }
     ensures fault { IfErr result (IsUnanswered session.old.ontology max_facts (class_name class.now ∷ [])) }
 {
     match run_to_end(session, max_facts) {
@@ -67,7 +68,7 @@ fn why<'n>(
 ) -> Result<Vec<u8>, QuestionFault<'n>>
     requires { IsFinished session.now.saturation }
     ensures answered { IfOk result (λ v. ShowsWhy session.now.ontology asked.entry class.now form v.items) }
-    ensures fault { (most : ℕ) → IfErr result (IsUnanswered session.now.ontology most (subject_name asked.entry ∷ class_name class.now ∷ [])) }
+    ensures fault { (most : ℕ) → HasNoMoreFactsThan session.now.ontology most → IfErr result (IsUnanswered session.now.ontology most (subject_name asked.entry ∷ class_name class.now ∷ [])) }
 {
     let explanation = match session.explain(asked, class) {
         Ok(explanation) => explanation,
@@ -90,7 +91,7 @@ fn why_at_end<'n>(
     form: Form,
     max_facts: u32,
 ) -> Result<Vec<u8>, QuestionFault<'n>>
-    ensures answered { IfOk result (λ v. ShowsWhy session.old.ontology asked.entry class.now form v.items) }
+    ensures answered { IfOk result (λ v. HasNoMoreFactsThan session.old.ontology max_facts × ShowsWhy session.old.ontology asked.entry class.now form v.items) }
     ensures fault { IfErr result (IsUnanswered session.old.ontology max_facts (subject_name asked.entry ∷ class_name class.now ∷ [])) }
 {
     match run_to_end(session, max_facts) {
@@ -104,7 +105,7 @@ fn why_at_end<'n>(
 ///
 /// # Errors
 ///
-/// `Document` where the document is not read as an ontology; `Limit` where its closure has more facts than the limit;
+/// `Document` where the document is not read as an ontology; `Limit` where its closure has more facts than the limit; else
 /// `UnknownName` where it has no class of that name; `Memory` where memory was refused.
 pub fn instances_text<'n, S: Source>(
     alloc: Global,
@@ -114,7 +115,7 @@ pub fn instances_text<'n, S: Source>(
     state: RandomState,
 ) -> Result<Vec<u8>, QuestionFault<'n>>
     // The text answers the question, or the fault says why there is none; and what was read of the document.
-    ensures answered { IfOk result (λ v. AnswersInstances limits.now.max_bytes (S.left source.old) class.now v.items) }
+    ensures answered { IfOk result (λ v. AnswersInstances limits.now.max_bytes limits.now.max_facts (S.left source.old) class.now v.items) }
     ensures fault { IfErr result (IsFaultOf limits.now.max_bytes limits.now.max_facts (S.left source.old) (class_name class.now ∷ [])) }
     ensures read { IsRead result (source_state S.Source source.old) (source_state S.Source source.new) }
 {
@@ -137,7 +138,7 @@ pub fn instances_text<'n, S: Source>(
 ///
 /// # Errors
 ///
-/// `Document` where the document is not read as an ontology; `Limit` where its closure has more facts than the limit;
+/// `Document` where the document is not read as an ontology; `Limit` where its closure has more facts than the limit; else
 /// `UnknownName` where it has no class or individual of one of the names; `Memory` where memory was refused.
 pub fn explanation_text<'n, S: Source>(
     alloc: Global,
@@ -149,7 +150,7 @@ pub fn explanation_text<'n, S: Source>(
     state: RandomState,
 ) -> Result<Vec<u8>, QuestionFault<'n>>
     // The text answers the question, or the fault says why there is none; and what was read of the document.
-    ensures answered { IfOk result (λ v. AnswersWhy limits.now.max_bytes (S.left source.old) asked.entry class.now form v.items) }
+    ensures answered { IfOk result (λ v. AnswersWhy limits.now.max_bytes limits.now.max_facts (S.left source.old) asked.entry class.now form v.items) }
     ensures fault { IfErr result (IsFaultOf limits.now.max_bytes limits.now.max_facts (S.left source.old) (subject_name asked.entry ∷ class_name class.now ∷ [])) }
     ensures read { IsRead result (source_state S.Source source.old) (source_state S.Source source.new) }
 {

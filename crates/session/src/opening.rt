@@ -1,5 +1,6 @@
 //! Sessions that are run to their end.
 ghost use Rattle.engine.specs.Saturated.{IsFinished};
+ghost use Rattle.session.specs.Counted.{HasNoMoreFactsThan};
 ghost use Rattle.session.specs.Texts.{IsUnanswered};
 ghost use Rattle.std.specs.Prelude.{◌≡◌, [], IfErr, OnOk};
 
@@ -15,6 +16,7 @@ use engine::Stop;
 pub(crate) fn run_to_end<'n>(session: &mut Session, max_facts: u32) -> Result<(), QuestionFault<'n>>
     ensures ontology { session.new.ontology ≡ session.old.ontology }
     ensures finished { OnOk result (IsFinished session.new.saturation) }
+    ensures few { OnOk result (HasNoMoreFactsThan session.new.ontology max_facts) }
     ensures fault { IfErr result (IsUnanswered session.old.ontology max_facts []) }
 {
     match session.resume(max_facts) {

@@ -21,10 +21,11 @@ returns-in-Ok-text g c =
     let text = c.in-Ok-text.text.items in
     let q = c.args.question.now in
     let most = c.args.limits.now.max_bytes in
+    let facts = c.args.limits.now.max_facts in
     let file = g.F.Files.content c.args.files.now q.document.now in
-    let is = why_of_file _ _ most c.asked.result q.class.now c.form_of.result text c.in-Ok.ensures.left c.in-Ok-text.ensures.answered in
-    let OfAsked : Asked → Type 0 = λ asked. AnswersWhy most file asked q.class.now c.form_of.result text in
-    let OfForm : Form → Type 0 = λ form. AnswersWhy most file (asked_by q) q.class.now form text in
+    let is = why_of_file _ _ most facts c.asked.result q.class.now c.form_of.result text c.in-Ok.ensures.left c.in-Ok-text.ensures.answered in
+    let OfAsked : Asked → Type 0 = λ asked. AnswersWhy most facts file asked q.class.now c.form_of.result text in
+    let OfForm : Form → Type 0 = λ form. AnswersWhy most facts file (asked_by q) q.class.now form text in
     let old : Output = record { out = (g.O.Sink.taken c.args.out.now, g.O.Sink.failures c.args.out.now); err = (g.E.Sink.taken c.args.err.now, g.E.Sink.failures c.args.err.now) } in
     let new : Output = record { out = (g.O.Sink.taken c.print_bytes.new.sink, g.O.Sink.failures c.print_bytes.new.sink); err = old.err } in
     inl (text, subst OfForm c.form_of.ensures (subst OfAsked c.asked.ensures is), answered_bytes old new c.deref.result.now text statuses.Done c.print_bytes.result c.deref.ensures.value c.print_bytes.ensures refl)

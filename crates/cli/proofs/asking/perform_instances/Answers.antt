@@ -18,7 +18,7 @@ returns-in-Ok-instances_text g c =
     let class = c.args.class.now in
     let old : Output = record { out = (g.O.Sink.taken c.args.out.now, g.O.Sink.failures c.args.out.now); err = (g.E.Sink.taken c.args.err.now, g.E.Sink.failures c.args.err.now) } in
     let new : Output = record { out = (g.O.Sink.taken c.print_bytes.new.sink, g.O.Sink.failures c.print_bytes.new.sink); err = old.err } in
-    inl (text, instances_of_file _ _ c.args.limits.now.max_bytes class text c.in-Ok.ensures.left c.in-Ok-instances_text.ensures.answered, answered_bytes old new c.deref.result.now text statuses.Done c.print_bytes.result c.deref.ensures.value c.print_bytes.ensures refl)
+    inl (text, instances_of_file _ _ c.args.limits.now.max_bytes c.args.limits.now.max_facts class text c.in-Ok.ensures.left c.in-Ok-instances_text.ensures.answered, answered_bytes old new c.deref.result.now text statuses.Done c.print_bytes.result c.deref.ensures.value c.print_bytes.ensures refl)
 
 pub returns : goal.returns
 returns g c =
