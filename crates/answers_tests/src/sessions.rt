@@ -1,4 +1,5 @@
 //! Sessions over documents worked out by hand: what they answer before they are run, and when they are.
+ghost use Rattle.engine.specs.Saturated.{IsSound};
 
 use device::{BufferSink, SliceSource};
 use session::{AskFault, Limits, Session, Stop, Summary, TextFault};
@@ -109,7 +110,7 @@ fn is_unfinished(session: &Session, row: &Row) -> bool {
 
 /// Whether the facts are counted, the questions answered, and a name that is not there told.
 fn is_ended(session: &Session, row: &Row) -> bool {
-    session.facts() == row.facts as usize
+    facts_of_the_closure(session) == row.facts as usize
         && session.served() == row.facts as usize
         && answers(session, row)
         && refuses(session, "x:Z", AskFault::UnknownName("x:Z"))
@@ -120,6 +121,14 @@ fn is_run(session: &mut Session, row: &Row) -> bool {
     let stopped = session.resume(row.facts / 2) == Err(Stop::Limit);
     let unfinished = is_unfinished(session, row);
     stopped && unfinished && session.resume(row.facts) == Ok(())
+}
+
+/// Of any session it can be cited that its facts are facts of the closure of its ontology, here in a contract.
+fn facts_of_the_closure(session: &Session) -> usize
+    ensures { IsSound session.now.ontology session.now.saturation }
+{
+    session.well_formed();
+    session.facts()
 }
 
 /// Whether the session, of which nothing was run, answers as the row says.

@@ -2,7 +2,7 @@
 ghost use Rattle.device.specs.Device.{HasFailed, LosesFront};
 ghost use Rattle.profile.specs.Documents.{IsTaken};
 ghost use Rattle.profile.specs.Faults.{ReadsKnown, RefusesKnown};
-ghost use Rattle.engine.specs.Saturated.{HasMoreFactsThan, IsFinished, IsSaturated};
+ghost use Rattle.engine.specs.Saturated.{HasMoreFactsThan, IsFinished, IsSaturated, IsSound};
 ghost use Rattle.saturate.specs.Run.{IsRun, IsRunUntil};
 ghost use Rattle.saturate.specs.State.{Extends};
 ghost use Rattle.inference.specs.declared.known_facts.Stop.TheVariants as stops;
@@ -109,6 +109,14 @@ impl Session {
         ensures idle { IsFinished self.old.saturation → (self.new ≡ self.old) × ¬ (result ≡ Err stops.Memory) }
     {
         self.saturation.resume(max_facts)
+    }
+
+    /// Its facts are facts of the closure of its ontology, each once; and where nothing is pending, they are the closure.
+    pub fn well_formed(&self)
+        ensures sound { IsSound self.now.ontology self.now.saturation }
+        ensures saturated { IsFinished self.now.saturation → IsSaturated self.now.ontology self.now.saturation }
+    {
+        self.saturation.is_finished();
     }
 
     /// How many facts there are. After a `resume` that ended with `Ok` they are those of the closure.
