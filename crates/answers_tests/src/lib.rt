@@ -2,6 +2,8 @@
 #![tactic(auto)]
 
 #[cfg(test)]
+mod derivations;
+#[cfg(test)]
 mod documents;
 #[cfg(test)]
 mod explanations;
@@ -13,6 +15,8 @@ mod listings;
 mod names;
 #[cfg(test)]
 mod questions_asked;
+#[cfg(test)]
+mod session_explanations;
 #[cfg(test)]
 mod sessions;
 #[cfg(test)]

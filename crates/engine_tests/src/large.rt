@@ -1,4 +1,4 @@
-//! A state with many facts that grows.
+//! States with many facts: one that grows, and one that has its axioms at once.
 
 use axioms::{ExprId, Memory};
 use facts::Context;
@@ -7,7 +7,7 @@ use saturate::State;
 use std::alloc::Global;
 use std::hash::RandomState;
 use std::test::Fail;
-use work_list::Fifo;
+use work_list::{ByContext, Fifo, WorkList};
 
 /// The expression behind `owl:Thing`, `owl:Nothing` and so many others.
 fn after(others: u32) -> ExprId {
@@ -25,7 +25,12 @@ fn add_pair(forms: &mut FormList, roots: &mut Vec<Context>, pair: u32) -> Result
 }
 
 /// Adds the pairs of classes of these numbers, each with the first below the second.
-fn extend(state: &mut State<Fifo>, alloc: Global, from: u32, to: u32) -> Result<(), Memory> {
+fn extend<W: WorkList>(
+    state: &mut State<W>,
+    alloc: Global,
+    from: u32,
+    to: u32,
+) -> Result<(), Memory> {
     let mut forms = FormList::new(alloc);
     let mut roots = Vec::new(alloc);
     for pair in from..to {
@@ -35,21 +40,31 @@ fn extend(state: &mut State<Fifo>, alloc: Global, from: u32, to: u32) -> Result<
 }
 
 /// How many facts there are once these pairs are added, and the state has run.
-fn facts_with(state: &mut State<Fifo>, alloc: Global, from: u32, to: u32) -> Option<usize> {
+fn facts_with<W: WorkList>(
+    state: &mut State<W>,
+    alloc: Global,
+    from: u32,
+    to: u32,
+) -> Option<usize> {
     let Ok(()) = extend(state, alloc, from, to) else {
         return None;
     };
-    let Ok(()) = state.run(1_000_000) else {
+    let Ok(()) = state.run(2_000_000) else {
         return None;
     };
     Some(state.facts().len())
 }
 
+/// Adds `owl:Thing` and `owl:Nothing` as contexts.
+fn add_ends<W: WorkList>(state: &mut State<W>, alloc: Global) -> Result<(), Memory> {
+    let ends = [Context::Expr(ExprId::THING), Context::Expr(ExprId::NOTHING)];
+    state.extend(&FormList::new(alloc), &ends)
+}
+
 /// Whether 100,000 pairs lead to as many facts as they should, and 10,000 more to theirs: three facts in the context of each first
 /// class, two in that of each second, and three in those of `owl:Thing` and `owl:Nothing`.
 fn grows(state: &mut State<Fifo>, alloc: Global) -> bool {
-    let ends = [Context::Expr(ExprId::THING), Context::Expr(ExprId::NOTHING)];
-    state.extend(&FormList::new(alloc), &ends).is_ok()
+    add_ends(state, alloc).is_ok()
         && facts_with(state, alloc, 0, 100_000) == Some(500_003)
         && facts_with(state, alloc, 100_000, 110_000) == Some(550_003)
         && state.served() == 550_003
@@ -69,5 +84,29 @@ fn a_state_grows(alloc: Global, seed: RandomState) -> bool {
 fn hundred_thousand_subclasses(rt: HostRuntime) -> Result<(), Fail> {
     let seed = RandomState::new(&rt)?;
     assert!(rt; a_state_grows(rt.alloc(), seed));
+    Ok(())
+}
+
+/// Whether 200,000 pairs lead to as many facts as they should.
+fn has_a_million(state: &mut State<ByContext>, alloc: Global) -> bool {
+    add_ends(state, alloc).is_ok()
+        && facts_with(state, alloc, 0, 200_000) == Some(1_000_003)
+        && state.served() == 1_000_003
+}
+
+/// Whether a state does. It is made and dropped here alone.
+fn a_state_has_a_million(alloc: Global, seed: RandomState) -> bool {
+    let Ok(mut state) = State::new(alloc, seed, ByContext::new(alloc)) else {
+        return false;
+    };
+    let right = has_a_million(&mut state, alloc);
+    drop(state);
+    right
+}
+
+#[test]
+fn two_hundred_thousand_subclasses(rt: HostRuntime) -> Result<(), Fail> {
+    let seed = RandomState::new(&rt)?;
+    assert!(rt; a_state_has_a_million(rt.alloc(), seed));
     Ok(())
 }

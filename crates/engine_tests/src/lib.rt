@@ -32,4 +32,6 @@ mod seconds;
 #[cfg(test)]
 mod sets;
 #[cfg(test)]
+mod steps;
+#[cfg(test)]
 mod stored_facts;

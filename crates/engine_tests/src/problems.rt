@@ -121,6 +121,29 @@ pub(crate) const PROBLEMS: &[Problem] = &[
             form: 4,
         }),
     },
+    // r then s below r, s then r below s, A below some r B, B below some s C, D as some r C.
+    Problem {
+        name: "irregular_hierarchy",
+        forms: &[
+            Form::N6(EDGES_R, EDGES_S, EDGES_R),
+            Form::N6(EDGES_S, EDGES_R, EDGES_S),
+            Form::N1(C2, C4),
+            Form::N3(C4, R, ExprId(3)),
+            Form::N1(C3, C6),
+            Form::N3(C6, S, ExprId(5)),
+            Form::N1(C7, C8),
+            Form::N1(C8, C7),
+            Form::N3(C8, R, ExprId(5)),
+            Form::N4(R, C5, C8),
+        ],
+        roots: &[IN0, IN1, IN2, IN3, IN5, IN7],
+        facts: 20,
+        born: Some(Born {
+            fact: Fact::Edge(IN2, EDGES_R, IN5),
+            condition: 9,
+            form: 0,
+        }),
+    },
     // r is reflexive and below s, B is some s A.
     Problem {
         name: "reflexive_through_the_hierarchy",

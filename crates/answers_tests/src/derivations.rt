@@ -1,0 +1,191 @@
+//! The lines of worked closures, as values and as text.
+ghost use Rattle.engine.specs.Saturated.{IsSaturated};
+
+use axioms::{ExprId, IndId, Ontology};
+use certificate::{Conclusion, Line, LineText, Rule, Subject, read_certificate};
+use classification::is_consistent;
+use engine::{Saturation, saturated};
+use explain::{contradiction, contradiction_text, line_text, lines};
+use profile::read_bytes;
+use std::alloc::Global;
+use std::hash::RandomState;
+use std::random::RandomSource;
+use std::test::Fail;
+
+/// The classes A and B are the expressions 2 and 3.
+const ONE_SUBCLASS: &str = "Ontology(SubClassOf(<x:A> <x:B>))";
+
+/// The individual a is in A, in which nothing is.
+const INDIVIDUAL_OF_NOTHING: &str =
+    "Prefix(:=<x:>) Ontology(SubClassOf(:A owl:Nothing) ClassAssertion(:A :a))";
+
+/// Which classes lie below which by one subclass axiom.
+const BELOW: &[(u32, u32)] = &[
+    (0, 0),
+    (1, 0),
+    (1, 1),
+    (2, 0),
+    (2, 2),
+    (2, 3),
+    (3, 0),
+    (3, 3),
+];
+
+/// Whether a line says that the one class lies below the other.
+fn is_said(lines: &[Line], below: u32, above: u32) -> bool {
+    let said = Conclusion::Sub(Subject::Expr(ExprId(below)), ExprId(above));
+    lines.iter().any(|line| line.conclusion == said)
+}
+
+/// Whether the lines say which classes lie below which by one subclass axiom, and no more.
+fn say_one_subclass(lines: &[Line]) -> bool {
+    for row in BELOW {
+        let (below, above) = *row;
+        if !is_said(lines, below, above) {
+            return false;
+        }
+    }
+    lines.len() == BELOW.len()
+}
+
+/// Whether there are such lines.
+fn has_lines(alloc: Global, ontology: &Ontology, saturation: &Saturation) -> bool
+    requires { IsSaturated ontology.now saturation.now }
+{
+    match lines(alloc, ontology, saturation) {
+        Ok(lines) => say_one_subclass(&lines),
+        Err(_) => false,
+    }
+}
+
+/// Whether the text, read as that of a certificate of its lines alone, has such lines.
+fn reads_as_lines(alloc: Global, ontology: &Ontology, text: &LineText) -> bool {
+    let Ok(bytes) = text.alone(alloc) else {
+        return false;
+    };
+    match read_certificate(alloc, ontology, &bytes) {
+        Ok(certificate) => say_one_subclass(certificate.lines()),
+        Err(_) => false,
+    }
+}
+
+/// Whether there is a text of such lines.
+fn has_text(alloc: Global, ontology: &Ontology, saturation: &Saturation) -> bool
+    requires { IsSaturated ontology.now saturation.now }
+{
+    match line_text(alloc, ontology, saturation) {
+        Ok(text) => text.len() == BELOW.len() && reads_as_lines(alloc, ontology, &text),
+        Err(_) => false,
+    }
+}
+
+/// Whether it is the line that puts the individual into the class by the rule, from the axiom and the premises.
+fn is_step(line: &Line, class: u32, rule: Rule, axiom: usize, premises: &[u64]) -> bool {
+    line.conclusion == Conclusion::Sub(Subject::Individual(IndId(0)), ExprId(class))
+        && line.rule == rule
+        && line.axiom == Some(axiom)
+        && line.premises.as_slice() == premises
+}
+
+/// Whether a is in A by its assertion, and so in `owl:Nothing` by the other axiom.
+fn are_two_steps(lines: &[Line]) -> bool {
+    lines.len() == 2
+        && is_step(&lines[0], 2, Rule::K15, 2, &[])
+        && is_step(&lines[1], 1, Rule::K4, 1, &[1])
+}
+
+/// Whether these lines are the contradiction.
+fn has_contradiction(alloc: Global, ontology: &Ontology, saturation: &Saturation) -> bool
+    requires { IsSaturated ontology.now saturation.now }
+{
+    if is_consistent(ontology, saturation) {
+        return false;
+    }
+    match contradiction(alloc, ontology, saturation) {
+        Ok(lines) => are_two_steps(&lines),
+        Err(_) => false,
+    }
+}
+
+/// The certificate of the contradiction.
+const TWO_STEPS: &[u8] = b"elcert 1 inconsistent\nsub i0 e2 K15 a2\nsub i0 e1 K4 a1 1\nend\n";
+
+/// Whether the text is that of the certificate.
+fn is_two_steps(alloc: Global, text: &LineText) -> bool {
+    match text.alone(alloc) {
+        Ok(bytes) => bytes.as_slice() == TWO_STEPS,
+        Err(_) => false,
+    }
+}
+
+/// Whether the text of the contradiction is that of the certificate.
+fn has_contradiction_text(alloc: Global, ontology: &Ontology, saturation: &Saturation) -> bool
+    requires { IsSaturated ontology.now saturation.now }
+{
+    if is_consistent(ontology, saturation) {
+        return false;
+    }
+    match contradiction_text(alloc, ontology, saturation) {
+        Ok(text) => is_two_steps(alloc, &text),
+        Err(_) => false,
+    }
+}
+
+/// What is asked of a saturation: whether it is what was worked out for its document.
+#[derive(Clone, Copy)]
+enum Asked {
+    Lines,
+    Text,
+    Contradiction,
+    ContradictionText,
+}
+
+/// The answer.
+fn answer(alloc: Global, ontology: &Ontology, saturation: &Saturation, asked: Asked) -> bool
+    requires { IsSaturated ontology.now saturation.now }
+{
+    match asked {
+        Asked::Lines => has_lines(alloc, ontology, saturation),
+        Asked::Text => has_text(alloc, ontology, saturation),
+        Asked::Contradiction => has_contradiction(alloc, ontology, saturation),
+        Asked::ContradictionText => has_contradiction_text(alloc, ontology, saturation),
+    }
+}
+
+/// The answer for the saturation of an ontology. Here alone a saturation is alive.
+fn answer_for(alloc: Global, state: RandomState, ontology: &Ontology, asked: Asked) -> bool {
+    let Ok(saturation) = saturated(alloc, state, ontology, 100) else {
+        return false;
+    };
+    let right = answer(alloc, ontology, &saturation, asked);
+    drop(saturation);
+    right
+}
+
+/// The answer for the ontology of the document.
+fn is_so<R: AllocGlobal + RandomSource>(
+    rt: &R,
+    document: &str,
+    asked: Asked,
+) -> Result<bool, Fail> {
+    let state = RandomState::new(rt)?;
+    let ontology = read_bytes(rt.alloc(), document.as_bytes(), state)?;
+    Ok(answer_for(rt.alloc(), state, &ontology, asked))
+}
+
+/// Documents, and what is asked of each.
+const ROWS: &[(&str, Asked)] = &[
+    (ONE_SUBCLASS, Asked::Lines),
+    (ONE_SUBCLASS, Asked::Text),
+    (INDIVIDUAL_OF_NOTHING, Asked::Contradiction),
+    (INDIVIDUAL_OF_NOTHING, Asked::ContradictionText),
+];
+
+#[test]
+fn lines_of_worked_documents(rt: HostRuntime) -> Result<(), Fail> {
+    for row in ROWS {
+        let (document, asked) = *row;
+        assert!(rt; is_so(&rt, document, asked)?, "{document}");
+    }
+    Ok(())
+}
