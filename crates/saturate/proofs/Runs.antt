@@ -107,9 +107,9 @@ each_served served size once within long n low = ⊎_elim (λ c. c) (λ not. abs
     too_many : (Contains served n → ⊥) → ⊥
     too_many not =
         let few : length (served ++ n ∷ []) ≤ size =
-            length-le_from_below (served ++ n ∷ []) size
-            (λ i j x a b. AreDistinct-push served n once not i j x a b)
-            (λ i x at. ⊎_elim (within x) (λ e. subst (λ (m : ℕ). m < size) e low) (Contains-push_cases served n x (Contains-from_slice_get (served ++ n ∷ []) i x at))) in
+        length-le_from_below (served ++ n ∷ []) size
+        (λ i j x a b. AreDistinct-push served n once not i j x a b)
+        (λ i x at. ⊎_elim (within x) (λ e. subst (λ (m : ℕ). m < size) e low) (Contains-push_cases served n x (Contains-from_slice_get (served ++ n ∷ []) i x at))) in
         omega (arith, few, long, length-append served (n ∷ []))
 
 pub finished_is_closure : (s : Seen) → IsState s → IsFinished s → IsClosure s.problem s.facts

@@ -83,9 +83,9 @@ module _ (g : _) (c : After-finish g) (s : IsUnderWay c.self.inside.ground c.sel
       let met = subst (λ (k : Problem). AllListedAreMet k f c.self.inside.facts.facts c.add.new.self new) c.problem-problem.ensures c.in_ok-serve.ensures.met in
       let whole = listed indexed_then c.get-fact.ensures c.in-Ok.ensures.ok spared_then uncarried_then in
       one_served s (grows g c) c.in-Some.hand f c.get-fact.ensures alone
-          (λ m t h at. all_met whole (grows g c) m t f h met at)
-          (omega (arith, c.finish.ensures.queued, c.turn.ensures.queued, ap length c.as_slice.ensures.value))
-          (served_now g c handed_then)
+      (λ m t h at. all_met whole (grows g c) m t f h met at)
+      (omega (arith, c.finish.ensures.queued, c.turn.ensures.queued, ap length c.as_slice.ensures.value))
+      (served_now g c handed_then)
 
   stepped : IsStep c.args.self.now (record { problem = c.self.inside.ground; facts = c.serve.new.facts.facts; births = c.serve.new.facts.births; served = c.finish.new.self.served })
   stepped =
