@@ -1,8 +1,9 @@
 -- What stands at the place of a fault.
-use Rattle.std.proofs.Common.{◌≡◌, ℕ, zero, suc, ◌+◌, ◌-◌, ◌≤◌, List, [], ◌∷◌, ◌++◌, Bool, true, false, Option, Some, None, length, get_or, take, drop, refl, sym, ap, ◌∙◌, subst, ◌⊎◌, inl, inr, arith, nat_lt, append_assoc}
+use Rattle.std.proofs.Common.{◌≡◌, ℕ, zero, suc, ◌+◌, ◌-◌, ◌≤◌, List, [], ◌∷◌, ◌++◌, Bool, true, false, Option, Some, None, Result, Ok, Err, IfErr, length, get_or, take, drop, refl, sym, ap, ◌∙◌, subst, ◌⊎◌, inl, inr, arith, nat_lt, append_assoc}
 use Rattle.std.specs.List.{Contains, slice_get}
 use Rattle.std.specs.Prelude.{codes}
 use Rattle.std.specs.Option.{IfSome, IfNone}
+use Rattle.std.proofs.lemmas.List.{append-nil}
 use Rattle.std.proofs.lemmas.List.Elements.{Contains-append_right, Contains-append_cases}
 use Rattle.std.proofs.lemmas.Option.{none-some, same_Some}
 use Rattle.lemmas.proofs.Members.{Contains-first, Contains-later}
@@ -13,13 +14,13 @@ use Rattle.fs_lexer.specs.declared.token.Kind.{Kind}
 use Rattle.fs_lexer.specs.declared.token.Kind.TheVariants.{Opening, Closing, Equals, Carets, FullIri, Quoted, LanguageTag, Keyword, Integer, PrefixName, ShortName, NodeLabel}
 use Rattle.fs_lexer.specs.Views.{token_of}
 use Rattle.fs_parser.specs.Document.{AreDeclarations}
-use Rattle.fs_parser.specs.Faults.{IsStart, end_of, last_place, opens, closes, opened, closed, IsTooMany, BeginsDeclaration, IsPlaced}
+use Rattle.fs_parser.specs.Faults.{IsStart, end_of, last_place, opens, closes, opened, closed, IsTooMany, IsUnended, BeginsDeclaration, IsPlaced}
 use Rattle.fs_parser.specs.Front.{BeginsWith, IsTaken}
 use Rattle.fs_parser.specs.Laws.{TokensEndInText}
-use Rattle.fs_parser.specs.Machine.{Pending, Nothing, Word, Text, Typed, Frame, State, if_named, enter_if, enter, leave, plain, behind_text, behind_word, step_at, step}
+use Rattle.fs_parser.specs.Machine.{Pending, Nothing, Word, Text, Typed, Frame, State, ends, ends_at, finish_at, finish_before, if_named, enter_if, enter, leave, plain, behind_text, behind_word, step_at, step}
 use Rattle.fs_parser.specs.Name.{Prefixes, standard_prefixes, IsNameOf, IsShort}
 use Rattle.fs_parser.specs.Said.{IsEnd, IsSaid, IsSaidOfTrees, IsSaidOfToken, IsSaidOfName, IsSaidOfIri, IsPlain}
-use Rattle.fs_parser.specs.State.{frames_of, name_of_code}
+use Rattle.fs_parser.specs.State.{Fails, Gives, frames_of, name_of_code}
 use Rattle.fs_parser.specs.Tree.{Tree, Name, PlainLiteral, TypedLiteral}
 use Rattle.fs_parser.specs.View.{tokens_of, iri_of}
 use Rattle.fs_parser.specs.declared.fault.ParseFault.{ParseFault}
@@ -182,36 +183,37 @@ end_at_last (u ∷ v ∷ ts) t e =
 
 -- ---- faults of the parts as faults of the whole
 
-pub plain_later : (here : ℕ) (before rest all : List Token) (e : ParseFault) → all ≡ before ++ rest → IsPlain here rest e → IsPlain here all e
-plain_later here before rest all faults.Memory same s = tt
-plain_later here before rest all (faults.Unexpected at) same s = subst (IsStart at) (sym same) (start_behind at before rest s)
-plain_later here before rest all (faults.UnexpectedEnd at) same s = s
-plain_later here before rest all (faults.UnknownPrefix at) same s = absurd s
-plain_later here before rest all (faults.PrefixTwice at) same s = absurd s
-plain_later here before rest all (faults.StandardPrefixChanged at) same s = absurd s
-plain_later here before rest all (faults.TooDeep at) same s = absurd s
+abbrev pub IsEnded : ParseFault → Type 0
+IsEnded (faults.UnexpectedEnd at) = Unit {0}
+IsEnded _ = ⊥
 
-pub plain_trees : (limit here : ℕ) (known : Prefixes) (tokens : List Token) (e : ParseFault) → IsPlain here tokens e → IsSaidOfTrees limit here known tokens e
-plain_trees limit here known tokens faults.Memory s = tt
-plain_trees limit here known tokens (faults.Unexpected at) s = s
-plain_trees limit here known tokens (faults.UnexpectedEnd at) s = s
-plain_trees limit here known tokens (faults.UnknownPrefix at) s = absurd s
-plain_trees limit here known tokens (faults.PrefixTwice at) s = absurd s
-plain_trees limit here known tokens (faults.StandardPrefixChanged at) s = absurd s
-plain_trees limit here known tokens (faults.TooDeep at) s = absurd s
+all_before : (before rest all : List Token) → all ≡ before ++ rest → rest ≡ [] → all ≡ before
+all_before before rest all same none = same ∙ ap (λ (z : List Token). before ++ z) none ∙ append-nil before
+
+-- the tokens end where no more of them is closed than was opened
+pub plain_trees : (limit here : ℕ) (known : Prefixes) (before rest all : List Token) (e : ParseFault) → all ≡ before ++ rest → (IsEnded e → closed before ≤ opened before) → IsPlain here rest e → IsSaidOfTrees limit here known all e
+plain_trees limit here known before rest all faults.Memory same unended s = tt
+plain_trees limit here known before rest all (faults.Unexpected at) same unended s = subst (IsStart at) (sym same) (start_behind at before rest s)
+plain_trees limit here known before rest all (faults.UnexpectedEnd at) same unended s = (s.0, subst (λ ts. closed ts ≤ opened ts) (sym (all_before before rest all same s.1)) (unended tt))
+plain_trees limit here known before rest all (faults.UnknownPrefix at) same unended s = absurd s
+plain_trees limit here known before rest all (faults.PrefixTwice at) same unended s = absurd s
+plain_trees limit here known before rest all (faults.StandardPrefixChanged at) same unended s = absurd s
+plain_trees limit here known before rest all (faults.TooDeep at) same unended s = absurd s
 
 -- the faults behind some of the tokens
-pub plain_said : (here : ℕ) (declared : Prefixes) (before rest all : List Token) (e : ParseFault) → all ≡ before ++ rest → IsPlain here rest e → IsSaid here declared all e
-plain_said here declared before rest all e same s = go e (plain_later here before rest all e same s)
-  where
-    go : (e : ParseFault) → IsPlain here all e → IsSaid here declared all e
-    go faults.Memory s = tt
-    go (faults.Unexpected at) s = s
-    go (faults.UnexpectedEnd at) s = s
-    go (faults.UnknownPrefix at) s = absurd s
-    go (faults.PrefixTwice at) s = absurd s
-    go (faults.StandardPrefixChanged at) s = absurd s
-    go (faults.TooDeep at) s = absurd s
+pub plain_said : (here : ℕ) (declared : Prefixes) (before rest all : List Token) (e : ParseFault) → all ≡ before ++ rest → IsUnended before → IsPlain here rest e → IsSaid here declared all e
+plain_said here declared before rest all faults.Memory same unended s = tt
+plain_said here declared before rest all (faults.Unexpected at) same unended s = subst (IsStart at) (sym same) (start_behind at before rest s)
+plain_said here declared before rest all (faults.UnexpectedEnd at) same unended s = (s.0, subst IsUnended (sym (all_before before rest all same s.1)) unended)
+plain_said here declared before rest all (faults.UnknownPrefix at) same unended s = absurd s
+plain_said here declared before rest all (faults.PrefixTwice at) same unended s = absurd s
+plain_said here declared before rest all (faults.StandardPrefixChanged at) same unended s = absurd s
+plain_said here declared before rest all (faults.TooDeep at) same unended s = absurd s
+
+-- behind the first parenthesis of a declaration, as far as it goes
+pub open_behind : (t u : Token) (more : List Token) → t.kind ≡ Keyword → u.kind ≡ Opening → closed more ≡ 0 → IsUnended (t ∷ u ∷ more)
+open_behind t u more k o none =
+    let a : closes t.kind ≡ 0 = ap closes k in let b : closes u.kind ≡ 0 = ap closes o in let c : opens u.kind ≡ 1 = ap opens o in inl (omega arith)
 
 no_short : (prefixes : Prefixes) (t : Token) (r : Option code_iri.Iri) → t.kind ≡ ShortName → IfNone r ((iri : List ℕ) → IsNameOf prefixes t iri → ⊥) → name_of_code r ≡ None
     → (iri : List ℕ) → IsShort prefixes t.text iri → ⊥
@@ -244,15 +246,54 @@ token_trees limit here prefixes all ts d fs r e l none h = go e
     go (faults.TooDeep at) s =
         record { before = h.before; parenthesis = t; after = rest; tokens_are = same; place = s.0; kind = s.1; full = omega (arith, h.open_there, frames_length fs, s.2) }
 
+-- trees that end are finished
+ended_finished : (frames : List Frame) (done : List Tree) (pending : Pending) (kind : Kind) → ends_at frames pending kind ≡ true → finish_at frames done pending ≡ None → ⊥
+ended_finished [] done Nothing kind ends none = cc
+ended_finished [] done (Text at text) kind ends none = cc
+ended_finished [] done (Word at keyword) kind ends none = cc
+ended_finished [] done (Typed at text) kind ends none = cc
+ended_finished (f ∷ frames) done pending kind ends none = cc
+
 -- the trees end at a token behind those that were read
-pub end_trees : (limit here : ℕ) (prefixes : Prefixes) (all : List Token) (ts : List lexer.Token) (n : ℕ) (e : ParseFault) → 1 ≤ length ts → IsReadTo all (tokens_of ts) n
-    → IsPlain here (tokens_of (take (length ts - 1) (drop 1 ts))) e → IsSaidOfTrees limit here prefixes all e
-end_trees limit here prefixes all [] n e l h s = absurd (omega arith)
-end_trees limit here prefixes all (t ∷ ts) n e l h s =
-    let rest = tokens_of (take (length (t ∷ ts) - 1) ts) in
-    let same : all ≡ (h.before ++ token_of t ∷ []) ++ rest =
-    h.tokens_are ∙ ap (λ (z : List Token). h.before ++ z) (tokens_front (t ∷ ts) t l) ∙ sym (append_assoc h.before (token_of t ∷ []) rest) in
-    plain_trees limit here prefixes all e (plain_later here (h.before ++ token_of t ∷ []) rest all e same s)
+pub end_trees : {X : Type 0} (view : X → List Tree) (r : Result X ParseFault) (limit here : ℕ) (prefixes : Prefixes) (all : List Token) (ts : List lexer.Token) (d : lexer.Token) (s : State) → 1 ≤ length ts → IsReadTo all (tokens_of ts) (length s.frames)
+    → ends s (token_of (get_or ts 0 d)) ≡ true → Gives view r (finish_before (tokens_of (take (length ts - 1) (drop 1 ts))) s)
+    → IfErr r (IsPlain here (tokens_of (take (length ts - 1) (drop 1 ts)))) → IfErr r (IsSaidOfTrees limit here prefixes all)
+end_trees view (Ok x) limit here prefixes all ts d s l h ends given said = tt
+end_trees view (Err e) limit here prefixes all ts d s l h ends given said =
+    plain_trees limit here prefixes (h.before ++ t ∷ []) rest all e same (λ is. absurd (finished e is given said)) said
+  where
+    t : Token
+    t = token_of (get_or ts 0 d)
+
+    rest : List Token
+    rest = tokens_of (take (length ts - 1) (drop 1 ts))
+
+    same : all ≡ (h.before ++ t ∷ []) ++ rest
+    same = h.tokens_are ∙ ap (λ (z : List Token). h.before ++ z) (tokens_front ts d l) ∙ sym (append_assoc h.before (t ∷ []) rest)
+
+    finished : (e : ParseFault) → IsEnded e → Fails e (finish_before rest s) → IsPlain here rest e → ⊥
+    finished (faults.UnexpectedEnd at) is given said = ended_finished s.frames s.done s.pending t.kind ends (ap (λ (z : List Token). finish_before z s) (sym said.1) ∙ given)
+    finished faults.Memory is given said = is
+    finished (faults.Unexpected at) is given said = is
+    finished (faults.UnknownPrefix at) is given said = is
+    finished (faults.PrefixTwice at) is given said = is
+    finished (faults.StandardPrefixChanged at) is given said = is
+    finished (faults.TooDeep at) is given said = is
+
+-- where all is read, no more is closed than was opened
+pub balanced : (all : List Token) (ts : List lexer.Token) (n : ℕ) → IsReadTo all (tokens_of ts) n → length ts ≡ 0 → closed all ≤ opened all
+balanced all [] n h none = subst (λ us. closed us ≤ opened us) (sym (all_before h.before [] all h.tokens_are refl)) (omega (arith, h.open_there))
+balanced all (t ∷ ts) n h none = absurd (omega arith)
+
+-- an end that is told where no token is left
+pub end_plain : (here : ℕ) (rest : List Token) (e : ParseFault) → rest ≡ [] → IsEnd here e → IsPlain here rest e
+end_plain here rest faults.Memory none s = tt
+end_plain here rest (faults.UnexpectedEnd at) none s = (s, none)
+end_plain here rest (faults.Unexpected at) none s = absurd s
+end_plain here rest (faults.UnknownPrefix at) none s = absurd s
+end_plain here rest (faults.PrefixTwice at) none s = absurd s
+end_plain here rest (faults.StandardPrefixChanged at) none s = absurd s
+end_plain here rest (faults.TooDeep at) none s = absurd s
 
 -- ---- declarations, and what stands behind them
 
@@ -277,7 +318,7 @@ pub iri_said : (here : ℕ) (declared : Prefixes) (all : List Token) (t u v w x 
     → (t.kind ≡ Keyword) × (t.text ≡ codes "Prefix") → u.kind ≡ Opening → (v.kind ≡ PrefixName) × (v.text ≡ prefix ++ codes ":") → w.kind ≡ Equals → x.kind ≡ FullIri
     → IsSaidOfIri prefix v.at x e → IsSaid here declared all e
 iri_said here declared all t u v w x more prefix faults.Memory same f o n q k s = tt
-iri_said here declared all t u v w x more prefix (faults.Unexpected at) same f o n q k s = starts_there (t ∷ u ∷ v ∷ w ∷ []) x more all at same s
+iri_said here declared all t u v w x more prefix (faults.Unexpected at) same f o n q k s = starts_there (t ∷ u ∷ v ∷ w ∷ []) x more all at same s.0
 iri_said here declared all t u v w x more prefix (faults.UnexpectedEnd at) same f o n q k s = absurd s
 iri_said here declared all t u v w x more prefix (faults.UnknownPrefix at) same f o n q k s = absurd s
 iri_said here declared all t u v w x more prefix (faults.PrefixTwice at) same f o n q k s = absurd s
@@ -290,7 +331,9 @@ pub trees_said : (here : ℕ) (declared : Prefixes) (all : List Token) (t u : To
     → (t.kind ≡ Keyword) × (t.text ≡ codes "Ontology") → u.kind ≡ Opening → IsSaidOfTrees 64 here (standard_prefixes ++ declared) inside e → IsSaid here declared all e
 trees_said here declared all t u inside faults.Memory same f o s = tt
 trees_said here declared all t u inside (faults.Unexpected at) same f o s = subst (IsStart at) (sym same) (start_behind at (t ∷ u ∷ []) inside s)
-trees_said here declared all t u inside (faults.UnexpectedEnd at) same f o s = s
+trees_said here declared all t u inside (faults.UnexpectedEnd at) same f o s =
+    let a : closes t.kind ≡ 0 = ap closes f.0 in let b : closes u.kind ≡ 0 = ap closes o in let c : opens u.kind ≡ 1 = ap opens o in
+    (s.0, subst IsUnended (sym same) (inl (omega (arith, s.1))))
 trees_said here declared all t u inside (faults.PrefixTwice at) same f o s = absurd s
 trees_said here declared all t u inside (faults.StandardPrefixChanged at) same f o s = absurd s
 trees_said here declared all t u inside (faults.UnknownPrefix at) same f o s =
@@ -348,21 +391,21 @@ placed_there ts i here ds e h k s = go e (subst (λ (x : List Token). IsSaid her
     go : (e : ParseFault) → IsSaid here ds rest e → IsPlaced (tokens_of ts) e
     go faults.Memory s = tt
     go (faults.Unexpected at) s = start_dropped at i (tokens_of ts) s
-    go (faults.UnexpectedEnd at) s = sym s ∙ k
+    go (faults.UnexpectedEnd at) s = (sym s.0 ∙ k, record { declared = ds; rest = rest; declarations = h.1; allowed = h.2; holds = s.1 })
     go (faults.UnknownPrefix at) s = record { declared = ds; rest = rest; declarations = h.1; allowed = h.2; holds = s }
     go (faults.PrefixTwice at) s = record { declared = ds; rest = rest; declarations = h.1; allowed = h.2; holds = s }
     go (faults.StandardPrefixChanged at) s = record { declared = ds; rest = rest; declarations = h.1; allowed = h.2; holds = s }
     go (faults.TooDeep at) s = too_many_behind 65 at ds (tokens_of ts) rest h.1 s
 
 -- the tokens end before the trees do
-pub end_said : (limit here : ℕ) (known : Prefixes) (tokens : List Token) (e : ParseFault) → IsEnd here e → IsSaidOfTrees limit here known tokens e
-end_said limit here known tokens faults.Memory s = tt
-end_said limit here known tokens (faults.Unexpected at) s = absurd s
-end_said limit here known tokens (faults.UnexpectedEnd at) s = s
-end_said limit here known tokens (faults.UnknownPrefix at) s = absurd s
-end_said limit here known tokens (faults.PrefixTwice at) s = absurd s
-end_said limit here known tokens (faults.StandardPrefixChanged at) s = absurd s
-end_said limit here known tokens (faults.TooDeep at) s = absurd s
+pub end_said : (limit here : ℕ) (known : Prefixes) (tokens : List Token) (e : ParseFault) → closed tokens ≤ opened tokens → IsEnd here e → IsSaidOfTrees limit here known tokens e
+end_said limit here known tokens faults.Memory unended s = tt
+end_said limit here known tokens (faults.Unexpected at) unended s = absurd s
+end_said limit here known tokens (faults.UnexpectedEnd at) unended s = (s, unended)
+end_said limit here known tokens (faults.UnknownPrefix at) unended s = absurd s
+end_said limit here known tokens (faults.PrefixTwice at) unended s = absurd s
+end_said limit here known tokens (faults.StandardPrefixChanged at) unended s = absurd s
+end_said limit here known tokens (faults.TooDeep at) unended s = absurd s
 
 -- the next token begins where it stands
 pub token_starts : (all : List Token) (ts : List lexer.Token) (d : lexer.Token) (n : ℕ) → 1 ≤ length ts → IsReadTo all (tokens_of ts) n → IsStart (get_or ts 0 d).at all

@@ -1,5 +1,5 @@
 -- What a refusal of tokens says of the tokens.
-use Rattle.std.specs.Prelude.{◌≡◌, ℕ, ◌+◌, ◌-◌, ◌^◌, ◌≤◌, List, [], ◌∷◌, ◌++◌, codes, length, min}
+use Rattle.std.specs.Prelude.{◌≡◌, ℕ, ◌+◌, ◌-◌, ◌^◌, ◌<◌, ◌≤◌, ◌⊎◌, List, [], ◌∷◌, ◌++◌, codes, length, min}
 use Rattle.std.specs.List.{Contains}
 use Rattle.fs_lexer.specs.declared.token.Kind.{Kind}
 use Rattle.fs_lexer.specs.declared.token.Kind.TheVariants.{Opening, Closing, Equals, FullIri, Keyword, PrefixName, ShortName}
@@ -111,10 +111,14 @@ pub record IsBehind (tokens : List Token) (Holds : Prefixes → List Token → T
   pub allowed : AreAllowed standard_prefixes declared
   pub holds : Holds declared rest
 
+-- at their end a parenthesis is open; or they are none, or one alone
+abbrev pub IsUnended : List Token → Type 0
+IsUnended tokens = (closed tokens < opened tokens) ⊎ (length tokens ≤ 1)
+
 -- what each fault says of the tokens
 abbrev pub IsPlaced : List Token → ParseFault → Type 0
 IsPlaced tokens (Unexpected at) = IsStart at tokens
-IsPlaced tokens (UnexpectedEnd at) = at ≡ last_place tokens
+IsPlaced tokens (UnexpectedEnd at) = (at ≡ last_place tokens) × IsBehind tokens (λ declared. IsUnended)
 IsPlaced tokens (UnknownPrefix at) = IsBehind tokens (IsUndeclared at)
 IsPlaced tokens (PrefixTwice at) = IsBehind tokens (IsTwice at)
 IsPlaced tokens (StandardPrefixChanged at) = IsBehind tokens (λ declared. IsChanged at)

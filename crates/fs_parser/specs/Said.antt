@@ -1,17 +1,17 @@
 -- What a fault says of a part of a document's tokens, which end `here`.
-use Rattle.std.specs.Prelude.{◌≡◌, ℕ, ◌≤◌, List, ◌++◌, Option, None, codes}
+use Rattle.std.specs.Prelude.{◌≡◌, ℕ, ◌≤◌, List, [], ◌++◌, Option, None, codes}
 use Rattle.fs_lexer.specs.declared.token.Kind.TheVariants.{Opening, ShortName}
 use Rattle.fs_lexer.specs.Spelling.{Token}
 use Rattle.fs_parser.specs.declared.fault.ParseFault.{ParseFault}
 use Rattle.fs_parser.specs.declared.fault.ParseFault.TheVariants.{Unexpected, UnexpectedEnd, UnknownPrefix, PrefixTwice, StandardPrefixChanged, TooDeep, Memory}
-use Rattle.fs_parser.specs.Faults.{IsStart, IsTooMany, IsUnknown, IsUndeclared, IsTwice, IsChanged}
+use Rattle.fs_parser.specs.Faults.{IsStart, IsTooMany, IsUnended, IsUnknown, IsUndeclared, IsTwice, IsChanged, opened, closed}
 use Rattle.fs_parser.specs.Front.{IsTaken, IsChangedTo}
 use Rattle.fs_parser.specs.Name.{Prefixes, IsBracketed}
 
--- a fault that says no more than its place: a token of these begins there, or it is where they end
+-- a fault that says no more than its place: a token of these begins there, or it is where they end and there are none
 abbrev pub IsPlain : ℕ → List Token → ParseFault → Type 0
 IsPlain here tokens (Unexpected at) = IsStart at tokens
-IsPlain here tokens (UnexpectedEnd at) = here ≡ at
+IsPlain here tokens (UnexpectedEnd at) = (here ≡ at) × (tokens ≡ [])
 IsPlain here tokens Memory = Unit {0}
 IsPlain here tokens _ = ⊥
 
@@ -39,6 +39,7 @@ IsSaidOfName declared t e = IsPlainAt t.at e
 -- .. of the IRI, where the prefix has this name, at this place
 abbrev pub IsSaidOfIri : List ℕ → ℕ → Token → ParseFault → Type 0
 IsSaidOfIri prefix place t (StandardPrefixChanged at) = (place ≡ at) × (iri : List ℕ) × IsBracketed iri t.text × IsChangedTo prefix iri
+IsSaidOfIri prefix place t (Unexpected at) = (t.at ≡ at) × ((iri : List ℕ) → IsBracketed iri t.text → ⊥)
 IsSaidOfIri prefix place t e = IsPlainAt t.at e
 
 -- .. of an open parenthesis at this place, where so many are open
@@ -52,10 +53,11 @@ IsSaidOfToken limit open' name t (UnknownPrefix at) = (t.at ≡ at) × (t.kind �
 IsSaidOfToken limit open' name t (TooDeep at) = (t.at ≡ at) × (t.kind ≡ Opening) × (limit ≤ open')
 IsSaidOfToken limit open' name t e = IsPlainAt t.at e
 
--- .. of trees
+-- .. of trees. No more parentheses are closed than were opened where the end is told
 abbrev pub IsSaidOfTrees : ℕ → ℕ → Prefixes → List Token → ParseFault → Type 0
 IsSaidOfTrees limit here known tokens (UnknownPrefix at) = IsUnknown known at tokens
 IsSaidOfTrees limit here known tokens (TooDeep at) = IsTooMany limit at tokens
+IsSaidOfTrees limit here known tokens (UnexpectedEnd at) = (here ≡ at) × (closed tokens ≤ opened tokens)
 IsSaidOfTrees limit here known tokens e = IsPlain here tokens e
 
 -- .. of a declaration or the ontology, behind these declarations
@@ -64,4 +66,5 @@ IsSaid here declared tokens (UnknownPrefix at) = IsUndeclared at declared tokens
 IsSaid here declared tokens (PrefixTwice at) = IsTwice at declared tokens
 IsSaid here declared tokens (StandardPrefixChanged at) = IsChanged at tokens
 IsSaid here declared tokens (TooDeep at) = IsTooMany 65 at tokens
+IsSaid here declared tokens (UnexpectedEnd at) = (here ≡ at) × IsUnended tokens
 IsSaid here declared tokens e = IsPlain here tokens e

@@ -2,7 +2,9 @@
 
 ghost use Rattle.std.specs.Prelude.{◌≡◌, ℕ, Some, None, length, map};
 ghost use Rattle.std.specs.Result.{IfErr, IfOk, OnOk};
+ghost use Rattle.fs_lexer.specs.declared.token.Kind.TheVariants.{ShortName};
 ghost use Rattle.fs_lexer.specs.Views.{token_of};
+ghost use Rattle.fs_parser.specs.declared.fault.ParseFault.TheVariants as faults;
 ghost use Rattle.fs_parser.specs.Machine as machine;
 ghost use Rattle.fs_parser.specs.Machine.{add, enter, leave, plain, behind_text, begins_second, step, ends, finish, finish_before, only_one};
 ghost use Rattle.fs_parser.specs.Name.{StandForOne};
@@ -133,6 +135,7 @@ fn close(alloc: Global, state: &mut State<'_>, here: usize) -> Result<(), ParseF
 fn unnamed(token: &Token<'_>) -> ParseFault
     ensures given { Fails {Y = machine.State} result None }
     ensures said { (limit open' : ℕ) → IsSaidOfToken limit open' None (token_of token.now) result }
+    ensures short { token.now.kind ≡ ShortName → result ≡ faults.UnknownPrefix token.now.at }
 {
     match token.kind {
         Kind::ShortName => ParseFault::UnknownPrefix { at: token.at },

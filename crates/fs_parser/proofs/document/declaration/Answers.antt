@@ -1,11 +1,12 @@
-use Rattle.std.proofs.Common.{◌≡◌, ◌∷◌, [], List, ap, ◌∙◌}
+use Rattle.std.proofs.Common.{◌≡◌, ◌∷◌, [], List, ap, ◌∙◌, refl, inr, arith}
 use Rattle.std.proofs.lemmas.Result.{err_from_is_err_and}
 use Rattle.fs_lexer.specs.Spelling.{Token}
 use Rattle.fs_lexer.specs.Views.{token_of}
+use Rattle.fs_parser.specs.Faults.{closes}
 use Rattle.fs_parser.specs.Known.{known_of}
 use Rattle.fs_parser.specs.View.{tokens_of, prefixes_of_code}
 use Rattle.fs_parser.proofs.Documents.{allowed_from, declared_iri}
-use Rattle.fs_parser.proofs.Faults.{plain_said, name_said, iri_said}
+use Rattle.fs_parser.proofs.Faults.{plain_said, name_said, iri_said, open_behind}
 use Rattle.fs_parser.proofs.document.declaration.Goals as goal
 
 pub returns-in_err-iri-clause-refused : goal.returns-in_err-iri-clause-refused
@@ -32,7 +33,7 @@ returns-in_err-_opening-clause-said c =
     let t : Token = c.in_ok-rest.ensures.found.token in
     let e : tokens_of c.args.tokens.now ≡ t ∷ tokens_of c.in_ok-rest.rest.now = c.in_ok-rest.ensures.found.tokens_are in
     rw (p.1, p.2) (plain_said c.args.here (prefixes_of_code c.args.known.now.declared.items) (t ∷ []) (tokens_of c.in_ok-rest.rest.now) (tokens_of c.args.tokens.now)
-    c.in_err-_opening.field-0.0 e c.in_err-_opening.ensures.said)
+    c.in_err-_opening.field-0.0 e (inr (omega arith)) c.in_err-_opening.ensures.said)
 
 pub returns-in_err-name_token-clause-said : goal.returns-in_err-name_token-clause-said
 returns-in_err-name_token-clause-said c =
@@ -41,7 +42,7 @@ returns-in_err-name_token-clause-said c =
     let u : Token = token_of c.in_ok-_opening._opening in
     let e : tokens_of c.args.tokens.now ≡ t ∷ u ∷ tokens_of c.in_ok-_opening.rest.now = c.in_ok-rest.ensures.found.tokens_are ∙ ap (λ (z : List Token). t ∷ z) c.in_ok-_opening.ensures.found in
     rw (p.1, p.2) (plain_said c.args.here (prefixes_of_code c.args.known.now.declared.items) (t ∷ u ∷ []) (tokens_of c.in_ok-_opening.rest.now) (tokens_of c.args.tokens.now)
-    c.in_err-name_token.field-0.0 e c.in_err-name_token.ensures.said)
+    c.in_err-name_token.field-0.0 e (open_behind t u [] c.in_ok-rest.ensures.found.kind c.in_ok-_opening.ensures.kind refl) c.in_err-name_token.ensures.said)
 
 pub returns-in_err-name-clause-said : goal.returns-in_err-name-clause-said
 returns-in_err-name-clause-said c =
@@ -62,7 +63,7 @@ returns-in_err-_equals-clause-said c =
     let v : Token = token_of c.in_ok-name_token.name_token in
     let e : tokens_of c.args.tokens.now ≡ t ∷ u ∷ v ∷ tokens_of c.in_ok-name_token.rest.now = c.in_ok-rest.ensures.found.tokens_are ∙ ap (λ (z : List Token). t ∷ z) (c.in_ok-_opening.ensures.found ∙ ap (λ (z : List Token). u ∷ z) c.in_ok-name_token.ensures.found) in
     rw (p.1, p.2) (plain_said c.args.here (prefixes_of_code c.args.known.now.declared.items) (t ∷ u ∷ v ∷ []) (tokens_of c.in_ok-name_token.rest.now) (tokens_of c.args.tokens.now)
-    c.in_err-_equals.field-0.0 e c.in_err-_equals.ensures.said)
+    c.in_err-_equals.field-0.0 e (open_behind t u (v ∷ []) c.in_ok-rest.ensures.found.kind c.in_ok-_opening.ensures.kind (let a : closes v.kind ≡ 0 = ap closes c.in_ok-name_token.ensures.kind in omega arith)) c.in_err-_equals.ensures.said)
 
 pub returns-in_err-iri_token-clause-said : goal.returns-in_err-iri_token-clause-said
 returns-in_err-iri_token-clause-said c =
@@ -73,7 +74,7 @@ returns-in_err-iri_token-clause-said c =
     let w : Token = token_of c.in_ok-_equals._equals in
     let e : tokens_of c.args.tokens.now ≡ t ∷ u ∷ v ∷ w ∷ tokens_of c.in_ok-_equals.rest.now = c.in_ok-rest.ensures.found.tokens_are ∙ ap (λ (z : List Token). t ∷ z) (c.in_ok-_opening.ensures.found ∙ ap (λ (z : List Token). u ∷ z) (c.in_ok-name_token.ensures.found ∙ ap (λ (z : List Token). v ∷ z) c.in_ok-_equals.ensures.found)) in
     rw (p.1, p.2) (plain_said c.args.here (prefixes_of_code c.args.known.now.declared.items) (t ∷ u ∷ v ∷ w ∷ []) (tokens_of c.in_ok-_equals.rest.now) (tokens_of c.args.tokens.now)
-    c.in_err-iri_token.field-0.0 e c.in_err-iri_token.ensures.said)
+    c.in_err-iri_token.field-0.0 e (open_behind t u (v ∷ w ∷ []) c.in_ok-rest.ensures.found.kind c.in_ok-_opening.ensures.kind (let a : closes v.kind ≡ 0 = ap closes c.in_ok-name_token.ensures.kind in let b : closes w.kind ≡ 0 = ap closes c.in_ok-_equals.ensures.kind in omega arith)) c.in_err-iri_token.ensures.said)
 
 pub returns-in_err-iri-clause-said : goal.returns-in_err-iri-clause-said
 returns-in_err-iri-clause-said c =
@@ -99,4 +100,10 @@ returns-in_err-_closing-clause-said c =
     let x : Token = token_of c.in_ok-iri_token.iri_token in
     let e : tokens_of c.args.tokens.now ≡ t ∷ u ∷ v ∷ w ∷ x ∷ tokens_of c.in_ok-iri_token.rest.now = c.in_ok-rest.ensures.found.tokens_are ∙ ap (λ (z : List Token). t ∷ z) (c.in_ok-_opening.ensures.found ∙ ap (λ (z : List Token). u ∷ z) (c.in_ok-name_token.ensures.found ∙ ap (λ (z : List Token). v ∷ z) (c.in_ok-_equals.ensures.found ∙ ap (λ (z : List Token). w ∷ z) c.in_ok-iri_token.ensures.found))) in
     rw (p.1, p.2) (plain_said c.args.here (prefixes_of_code c.args.known.now.declared.items) (t ∷ u ∷ v ∷ w ∷ x ∷ []) (tokens_of c.in_ok-iri_token.rest.now) (tokens_of c.args.tokens.now)
-    c.in_err-_closing.field-0.0 e c.in_err-_closing.ensures.said)
+    c.in_err-_closing.field-0.0 e (open_behind t u (v ∷ w ∷ x ∷ []) c.in_ok-rest.ensures.found.kind c.in_ok-_opening.ensures.kind (let a : closes v.kind ≡ 0 = ap closes c.in_ok-name_token.ensures.kind in let b : closes w.kind ≡ 0 = ap closes c.in_ok-_equals.ensures.kind in let d : closes x.kind ≡ 0 = ap closes c.in_ok-iri_token.ensures.kind in omega arith)) c.in_err-_closing.ensures.said)
+
+pub returns-in_err-rest-clause-said : goal.returns-in_err-rest-clause-said
+returns-in_err-rest-clause-said c =
+    let p = err_from_is_err_and c.from_residual.result c.from_residual.ensures.1 in
+    rw (p.1, p.2) (plain_said c.args.here (prefixes_of_code c.args.known.now.declared.items) [] (tokens_of c.args.tokens.now) (tokens_of c.args.tokens.now)
+    c.in_err-rest.field-0.0 refl (inr (omega arith)) c.in_err-rest.ensures.said)

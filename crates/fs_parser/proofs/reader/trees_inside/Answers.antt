@@ -1,13 +1,11 @@
-use Rattle.std.proofs.Common.{◌-◌, length, take, drop, map, sym, ◌∙◌, arith}
+use Rattle.std.proofs.Common.{map, refl, sym, ◌∙◌, arith}
 use Rattle.std.proofs.lemmas.Result.{err_from_is_err_and}
 use Rattle.fs_parser.specs.Known.{known_of}
-use Rattle.fs_parser.specs.Said.{IsPlain, IsSaidOfTrees}
 use Rattle.fs_parser.specs.View.{tree_of, tokens_of}
-use Rattle.fs_parser.specs.State.{state_of, frames_of}
+use Rattle.fs_parser.specs.State.{state_of}
 use Rattle.fs_parser.proofs.Run.{inside, start}
 use Rattle.fs_parser.proofs.Inside.{found_by, only_by}
-use Rattle.fs_parser.proofs.Faults.{reads_on, token_trees, end_trees}
-use Rattle.std.proofs.lemmas.Result.{IfErr-weaker}
+use Rattle.fs_parser.proofs.Faults.{balanced, reads_on, token_trees, end_trees}
 use Rattle.fs_parser.proofs.Steps.{loop_goes_on, loop_stops, loop_ends, loop_none}
 use Rattle.fs_parser.proofs.reader.trees_inside.Goals as goal
 
@@ -59,7 +57,8 @@ returns-in_err-take-clause-said c =
 
 pub returns-then-is_ended_by-clause-said : goal.returns-then-is_ended_by-clause-said
 returns-then-is_ended_by-clause-said c =
-    let all = tokens_of c.args.tokens.now in
-    let ts = c.loop-rest.rest.now in
-    IfErr-weaker c.end_before.result (IsPlain c.args.here (tokens_of (take (length ts - 1) (drop 1 ts)))) (IsSaidOfTrees c.args.limit c.args.here (known_of c.args.known.now) all)
-    (λ e s. end_trees c.args.limit c.args.here (known_of c.args.known.now) all ts (length (frames_of c.loop-rest.state.frames.items)) e c.in-len1-up.len_at_least c.loop-rest.invariant.1 s) c.end_before.ensures.said
+    end_trees (λ v. map tree_of v.items) c.end_before.result c.args.limit c.args.here (known_of c.args.known.now) (tokens_of c.args.tokens.now) c.loop-rest.rest.now _ (state_of c.loop-rest.state)
+    c.in-len1-up.len_at_least c.loop-rest.invariant.1 (sym c.is_ended_by.ensures ∙ c.if-is_ended_by.true) c.end_before.ensures.given c.end_before.ensures.said
+
+pub returns-clause-said : goal.returns-clause-said
+returns-clause-said c = (refl, balanced (tokens_of c.args.tokens.now) c.loop-rest.rest.now _ c.loop-rest.invariant.1 (omega arith))

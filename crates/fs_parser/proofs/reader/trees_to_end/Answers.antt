@@ -5,7 +5,7 @@ use Rattle.fs_parser.specs.View.{tree_of, tokens_of}
 use Rattle.fs_parser.specs.State.{state_of}
 use Rattle.fs_parser.proofs.Run.{run, start}
 use Rattle.fs_parser.proofs.ToEnd.{trees_found, trees_only, run_goes_on, trees_stop, run_ends}
-use Rattle.fs_parser.proofs.Faults.{reads_on, token_trees, end_said}
+use Rattle.fs_parser.proofs.Faults.{balanced, reads_on, token_trees, end_said}
 use Rattle.std.proofs.lemmas.Result.{IfErr-weaker}
 use Rattle.fs_parser.proofs.reader.trees_to_end.Goals as goal
 
@@ -50,4 +50,4 @@ returns-clause-only c =
 
 pub returns-clause-said : goal.returns-clause-said
 returns-clause-said c =
-    IfErr-weaker c.end.result _ _ (λ e s. end_said c.args.limit c.args.here (known_of c.args.known.now) (tokens_of c.args.tokens.now) e s) c.end.ensures.said
+    IfErr-weaker c.end.result _ _ (λ e s. end_said c.args.limit c.args.here (known_of c.args.known.now) (tokens_of c.args.tokens.now) e (balanced (tokens_of c.args.tokens.now) c.loop-rest.rest.now _ c.loop-rest.invariant.1 (omega arith)) s) c.end.ensures.said
