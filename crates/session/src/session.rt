@@ -7,7 +7,7 @@ ghost use Rattle.saturate.specs.Run.{IsRun, IsRunUntil};
 ghost use Rattle.saturate.specs.State.{Extends};
 ghost use Rattle.inference.specs.declared.known_facts.Stop.TheVariants as stops;
 ghost use Rattle.std.specs.Io.KnownBytes.{IsAtEnd};
-ghost use Rattle.std.specs.Prelude.{◌≡◌, ◌≤◌, [], Err, IfErr, IfOk, IsErrOf, OnErr, OnOk, length};
+ghost use Rattle.std.specs.Prelude.{◌≡◌, ◌+◌, ◌<◌, ◌≤◌, [], Err, IfErr, IfOk, IsErrOf, OnErr, OnOk, length};
 
 use axioms::Ontology;
 use device::Source;
@@ -75,6 +75,8 @@ impl Session {
         ensures axioms { IfOk result (λ s. length s.ontology.axioms ≤ limits.now.max_bytes) }
         ensures unserved { IfOk result (λ s. s.saturation.state.served ≡ []) }
         ensures refused { IfErr result (RefusesKnown (S.left source.old) limits.now.max_bytes) }
+        // Of a source that does not tell its bytes, too: it gave more than the limit.
+        ensures beyond { IsErrOf result DocumentFault.TooLarge → S.most source.new + limits.now.max_bytes < S.most source.old }
         // What was read of the source, and whether a read failed.
         ensures end { OnOk result (IsAtEnd (S.left source.new)) }
         ensures lost { LosesFront (S.left source.old) (S.left source.new) (S.most source.old) (S.most source.new) }
