@@ -13,6 +13,10 @@ mod superclasses;
 mod theory;
 mod verdict;
 
+pub use certificate::{
+    CertFault, Certificate, Conclusion, Line, Listed, MakeFault, Rule, Subject, read_certificate,
+    write_certificate,
+};
 pub use checker::{check, check_owned};
 pub use listing::interpretation_of;
 pub use theory::{soundness, worked_certificates};

@@ -12,6 +12,7 @@ mod progress;
 mod queue;
 mod state;
 
+pub use facts::{Birth, Context, Fact, FactId, Older, StoredFact};
 pub use inference::Stop;
 pub use laws::states_and_runs;
 pub use progress::Progress;
