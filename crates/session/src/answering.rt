@@ -5,7 +5,9 @@ ghost use Rattle.session.specs.Counted.{HasNoMoreFactsThan};
 ghost use Rattle.session.specs.Texts.{IsUnanswered};
 ghost use Rattle.session.specs.Asking.{class_name, subject_name};
 ghost use Rattle.session.specs.Devices.{source_state};
-ghost use Rattle.std.specs.Prelude.{[], ◌∷◌, IfErr, IfOk, ℕ};
+ghost use Rattle.profile.specs.declared.fault.DocumentFault.TheVariants as document_faults;
+ghost use Rattle.session.specs.declared.question_fault.QuestionFault.TheVariants as question_faults;
+ghost use Rattle.std.specs.Prelude.{[], ◌∷◌, ◌+◌, ◌<◌, IfErr, IfOk, IsErrOf, ℕ};
 
 use crate::fault::AskFault;
 use crate::form::Form;
@@ -117,6 +119,8 @@ pub fn instances_text<'n, S: Source>(
     // The text answers the question, or the fault says why there is none; and what was read of the document.
     ensures answered { IfOk result (λ v. AnswersInstances limits.now.max_bytes limits.now.max_facts (S.left source.old) class.now v.items) }
     ensures fault { IfErr result (IsFaultOf limits.now.max_bytes limits.now.max_facts (S.left source.old) (class_name class.now ∷ [])) }
+    // Of a source that does not tell its bytes, too: it gave more than the limit.
+    ensures beyond { IsErrOf result (question_faults.Document document_faults.TooLarge) → S.most source.new + limits.now.max_bytes < S.most source.old }
     ensures read { IsRead result (source_state S.Source source.old) (source_state S.Source source.new) }
 {
     // There are at most 100,000,000 facts.
@@ -152,6 +156,8 @@ pub fn explanation_text<'n, S: Source>(
     // The text answers the question, or the fault says why there is none; and what was read of the document.
     ensures answered { IfOk result (λ v. AnswersWhy limits.now.max_bytes limits.now.max_facts (S.left source.old) asked.entry class.now form v.items) }
     ensures fault { IfErr result (IsFaultOf limits.now.max_bytes limits.now.max_facts (S.left source.old) (subject_name asked.entry ∷ class_name class.now ∷ [])) }
+    // Of a source that does not tell its bytes, too: it gave more than the limit.
+    ensures beyond { IsErrOf result (question_faults.Document document_faults.TooLarge) → S.most source.new + limits.now.max_bytes < S.most source.old }
     ensures read { IsRead result (source_state S.Source source.old) (source_state S.Source source.new) }
 {
     // There are at most 100,000,000 facts.

@@ -3,7 +3,7 @@ use Rattle.axioms.specs.Numbered.{Ontology}
 use Rattle.profile.specs.Documents.{IsTaken}
 use Rattle.profile.specs.Faults.{ReadsKnown}
 use Rattle.std.specs.Io.KnownBytes.{IsAtEnd}
-use Rattle.session.proofs.SessionOpened.{of_ontology, for_memory, not_io, on_ok}
+use Rattle.session.proofs.SessionOpened.{of_ontology, for_memory, not_io, not_too_large, on_ok}
 use Rattle.session.proofs.session.Session.open.Goals as goal
 
 pub returns-in-Ok-clause-read : goal.returns-in-Ok-clause-read
@@ -27,3 +27,6 @@ returns-in-Ok-clause-end g c = on_ok c.begun.result (IsAtEnd (g.S.Source.left c.
 
 pub returns-in-Ok-clause-failed : goal.returns-in-Ok-clause-failed
 returns-in-Ok-clause-failed g c = λ told. absurd (not_io c.begun.result c.begun.ensures.memory told)
+
+pub returns-in-Ok-clause-beyond : goal.returns-in-Ok-clause-beyond
+returns-in-Ok-clause-beyond g c = λ told. absurd (not_too_large c.begun.result c.begun.ensures.memory told)
