@@ -1,9 +1,19 @@
 -- What files hold, by their paths, and what becomes of that where they are written.
-use Rattle.std.specs.Prelude.{◌≡◌, ℕ, List, [], ◌∷◌, Bool, true, false, Option, Some, None}
+use Rattle.std.specs.Prelude.{◌≡◌, ℕ, List, [], ◌∷◌, Bool, true, false, Option, Some, None, IsSome, length, if◌then◌else◌}
 
 -- the bytes of the file at a path: `None` where there is none, or where they are not known
 abbrev pub Content : Type 0
 Content = List ℕ → Option (List ℕ)
+
+-- there is a file that holds this, as far as it is known
+abbrev pub IsThere : Bool → Option (List ℕ) → Type 0
+IsThere true held = IsSome held
+IsThere false held = Unit {0}
+
+-- it is known that there is no file
+abbrev pub IsMissing : Bool → Option (List ℕ) → Type 0
+IsMissing true held = held ≡ None
+IsMissing false held = ⊥
 
 -- what a new sink has taken, where files are known or not
 abbrev pub nothing_taken : Bool → Option (List ℕ)
@@ -27,3 +37,20 @@ pub record IsClosed (old new : Content) (path : List ℕ) (taken : Option (List 
 pub record IsPut (old new : Content) (path bytes : List ℕ) : Type 0 where
   pub put : new path ≡ Some bytes
   pub others : (other : List ℕ) → ¬ (other ≡ path) → new other ≡ old other
+
+-- ---- what the laws of files rest on
+
+pub not_false : {P : Type 0} → true ≡ false → P
+not_false bad = absurd (cc)
+
+pub not_true : {P : Type 0} → false ≡ true → P
+not_true bad = absurd (cc)
+
+none_taken : (bytes : List ℕ) → length bytes ≡ 0 → HasTakenSome (Some bytes) → ⊥
+none_taken [] none some = some
+none_taken (b ∷ bs) none some = absurd (cc)
+
+-- a sink that takes nothing, and so has no bytes, has taken nothing
+pub shut_is_untaken : (shut : Bool) (bytes : List ℕ) → (if shut then length bytes else 0) ≡ 0 → shut ≡ true → ¬ HasTakenSome (Some bytes)
+shut_is_untaken true bytes none is some = none_taken bytes none some
+shut_is_untaken false bytes none is some = absurd (cc)

@@ -1,10 +1,20 @@
 //! The trait of what makes sources and sinks for paths.
-ghost use Rattle.std.specs.Prelude.{◌≡◌, ℕ, List, Bool, true, Option, IfOk, OnOk};
+ghost use Rattle.std.specs.Prelude.{◌≡◌, ◌<◌, ℕ, List, Bool, true, false, Option, IfOk, IsErrOf, OnOk};
 ghost use Rattle.std.specs.Io.KnownBytes.{Keeps};
-ghost use Rattle.system_files.specs.Contents.{IsClosed, nothing_taken};
+ghost use Rattle.device.specs.Device.{HasFailed};
+ghost use Rattle.system_files.specs.Contents.{HasTakenSome, IsClosed, IsMissing, IsThere, nothing_taken};
 
 use axioms::Memory;
 use device::{Sink, Source};
+
+/// Why there is no source of a file.
+#[derive(Clone, Copy, Debug, PartialEq, Eq)]
+pub enum OpenFault {
+    /// It is known that there is no file at the path.
+    Missing,
+    /// A growth of memory was refused.
+    Memory,
+}
 
 /// Makes sources and sinks for the files at paths. A file is opened at its first read, and made at its first write; it
 /// holds what was written once its sink is closed.
@@ -24,8 +34,27 @@ pub trait Files {
     /// Whether there is a place for a file at the path. A sink needs one where it is closed.
     ghost has_place: { Self → List ℕ → Bool };
 
-    /// A source of the bytes of the file at the path, which fails where there is none.
-    fn reader(&self, path: &str) -> Result<Self::In, Memory>
+    /// Whether it is known that no file can be written.
+    ghost is_locked: { Self → Bool };
+
+    /// Whether a sink takes nothing, as one that was made while the files were locked.
+    ghost is_shut: { Self.Out → Bool };
+
+    /// How many writes of the sinks that were closed have failed, counted to 2^64 - 1.
+    ghost failed_writes: { Self → ℕ };
+
+    /// Whether a read can fail of a file that is there.
+    ghost reads_fail: { Bool };
+
+    /// A source of the bytes of the file at the path. Where it is not known whether there is one, and there is none, the
+    /// source fails.
+    ///
+    /// # Errors
+    ///
+    /// `Missing` where it is known that there is no file, and `Memory` where memory was refused.
+    fn reader(&self, path: &str) -> Result<Self::In, OpenFault>
+        ensures there { OnOk result (IsThere (is_known self.now) (content self.now path.now)) }
+        ensures missing { IsErrOf result OpenFault.Missing → IsMissing (is_known self.now) (content self.now path.now) }
         ensures left { IfOk result (λ source. Keeps (content self.now path.now) (Self.In.left source)) }
         ensures failures { IfOk result (λ source. Self.In.failures source ≡ 0) };
 
@@ -35,15 +64,27 @@ pub trait Files {
         ensures taken { IfOk result (λ sink. Self.Out.taken sink ≡ nothing_taken (is_known self.old)) }
         ensures failures { IfOk result (λ sink. Self.Out.failures sink ≡ 0) }
         ensures path { IfOk result (λ sink. Self.Out.path sink ≡ path.now) }
+        ensures shut { IfOk result (λ sink. is_shut sink ≡ is_locked self.old) }
         ensures place { OnOk result (has_place self.new path.now ≡ true) }
         ensures places { (other : List ℕ) → has_place self.old other ≡ true → has_place self.new other ≡ true }
         ensures kept { (other : List ℕ) → content self.new other ≡ content self.old other }
-        ensures known { is_known self.new ≡ is_known self.old };
+        ensures known { is_known self.new ≡ is_known self.old }
+        ensures locked { is_locked self.new ≡ is_locked self.old }
+        ensures unfailed { failed_writes self.new ≡ failed_writes self.old };
 
-    /// Ends the writing of a file: it holds what its sink has taken.
+    /// Ends the writing of a file: it holds what its sink has taken. The writes that failed are counted.
     fn close(&mut self, sink: Self::Out)
         requires { has_place self.old (Self.Out.path sink) ≡ true }
         ensures closed { IsClosed (content self.old) (content self.new) (Self.Out.path sink) (Self.Out.taken sink) }
         ensures places { (other : List ℕ) → has_place self.old other ≡ true → has_place self.new other ≡ true }
-        ensures known { is_known self.new ≡ is_known self.old };
+        ensures known { is_known self.new ≡ is_known self.old }
+        ensures locked { is_locked self.new ≡ is_locked self.old }
+        ensures unfailed { Self.Out.failures sink ≡ 0 → failed_writes self.new ≡ failed_writes self.old }
+        ensures failed { 0 < Self.Out.failures sink → HasFailed (failed_writes self.old) (failed_writes self.new) };
+
+    /// A sink that takes nothing has taken nothing.
+    ghost untaken: { (sink : Self.Out) → is_shut sink ≡ true → ¬ HasTakenSome (Self.Out.taken sink) };
+
+    /// Where no read fails of a file that is there, no source has failed.
+    ghost unfailing: { reads_fail ≡ false → (source : Self.In) → Self.In.failures source ≡ 0 };
 }

@@ -1,10 +1,10 @@
 //! Files in memory.
-ghost use Rattle.std.specs.Prelude.{◌≡◌, ◌≤◌, ℕ, List, true, OnOk, OnErr, find, option_map, position, vec_len};
+ghost use Rattle.std.specs.Prelude.{◌≡◌, ◌≤◌, ℕ, List, true, OnOk, OnErr, find, option_map, position, vec_len, length, if◌then◌else◌};
 ghost use Rattle.std.specs.Option.{option_copied};
 ghost use Rattle.system_files.specs.Contents.{IsPut};
 ghost use Rattle.system_files.specs.Stored.{file_at, has_place_at, is_at};
 
-use crate::files::Files;
+use crate::files::{Files, OpenFault};
 use axioms::Memory;
 use device::{Failed, Sink, Source};
 use std::alloc::Global;
@@ -22,6 +22,7 @@ pub struct MemoryFiles {
     alloc: Global,
     files: Vec<MemoryFile>,
     is_locked: bool,
+    failed_writes: u64,
 }
 
 /// The number of the first place of the path.
@@ -49,23 +50,27 @@ fn bytes_of(file: &MemoryFile) -> Option<&[u8]>
 }
 
 impl MemoryFiles {
-    ghost use Rattle.std.specs.Prelude.{◌≡◌, None, Some, IfOk, OnOk, OnErr, option_map};
+    ghost use Rattle.std.specs.Prelude.{◌≡◌, None, Some, IfOk, OnOk, OnErr, option_map, true, false};
     ghost use Rattle.system_files.specs.Contents.{IsPut};
 
     /// No files, which are not locked.
     pub fn new(alloc: Global) -> Self
-        ensures { (path : List ℕ) → ⟦<MemoryFiles as Files>⟧.content result path ≡ None }
+        ensures empty { (path : List ℕ) → ⟦<MemoryFiles as Files>⟧.content result path ≡ None }
+        ensures unlocked { ⟦<MemoryFiles as Files>⟧.is_locked result ≡ false }
+        ensures unfailed { ⟦<MemoryFiles as Files>⟧.failed_writes result ≡ 0 }
     {
         MemoryFiles {
             alloc,
             files: Vec::new(alloc),
             is_locked: false,
+            failed_writes: 0,
         }
     }
 
-    /// From now on no file can be written.
+    /// From now on no file can be written: each sink that is made takes nothing.
     pub fn lock(&mut self)
-        ensures { (path : List ℕ) → ⟦<MemoryFiles as Files>⟧.content self.new path ≡ ⟦<MemoryFiles as Files>⟧.content self.old path }
+        ensures locked { ⟦<MemoryFiles as Files>⟧.is_locked self.new ≡ true }
+        ensures kept { (path : List ℕ) → ⟦<MemoryFiles as Files>⟧.content self.new path ≡ ⟦<MemoryFiles as Files>⟧.content self.old path }
     {
         self.is_locked = true;
     }
@@ -85,6 +90,8 @@ impl MemoryFiles {
         ensures place { OnOk result (has_place_at self.new.files.items path.now ≡ true) }
         ensures places { (other : List ℕ) → has_place_at self.old.files.items other ≡ true → has_place_at self.new.files.items other ≡ true }
         ensures kept { (other : List ℕ) → file_at self.new.files.items other ≡ file_at self.old.files.items other }
+        ensures locked { self.new.is_locked ≡ self.old.is_locked }
+        ensures unfailed { self.new.failed_writes ≡ self.old.failed_writes }
     {
         if place_of(&self.files, path).is_some() {
             return Ok(());
@@ -99,6 +106,8 @@ impl MemoryFiles {
         requires { has_place_at self.old.files.items path.now ≡ true }
         ensures put { IsPut (file_at self.old.files.items) (file_at self.new.files.items) path.now bytes.items }
         ensures places { (other : List ℕ) → has_place_at self.old.files.items other ≡ true → has_place_at self.new.files.items other ≡ true }
+        ensures locked { self.new.is_locked ≡ self.old.is_locked }
+        ensures unfailed { self.new.failed_writes ≡ self.old.failed_writes }
     {
         match place_of(&self.files, path) {
             Some(place) => {
@@ -113,6 +122,7 @@ impl MemoryFiles {
     pub fn put(&mut self, path: &str, bytes: &[u8]) -> Result<(), Memory>
         ensures put { OnOk result (IsPut (⟦<MemoryFiles as Files>⟧.content self.old) (⟦<MemoryFiles as Files>⟧.content self.new) path.now bytes.now) }
         ensures kept { OnErr result ((other : List ℕ) → ⟦<MemoryFiles as Files>⟧.content self.new other ≡ ⟦<MemoryFiles as Files>⟧.content self.old other) }
+        ensures locked { ⟦<MemoryFiles as Files>⟧.is_locked self.new ≡ ⟦<MemoryFiles as Files>⟧.is_locked self.old }
     {
         let bytes = bytes.to_vec(self.alloc)?;
         self.add_place(path)?;
@@ -122,7 +132,8 @@ impl MemoryFiles {
 }
 
 impl Files for MemoryFiles {
-    ghost use Rattle.std.specs.Prelude.{true};
+    ghost use Rattle.std.specs.Prelude.{true, false, refl};
+    ghost use Rattle.system_files.specs.Contents.{shut_is_untaken};
     ghost use Rattle.system_files.specs.Stored.{file_at, has_place_at};
 
     type In = MemorySource;
@@ -135,18 +146,26 @@ impl Files for MemoryFiles {
 
     ghost has_place = { λ f path. has_place_at f.files.items path };
 
-    fn reader(&self, path: &str) -> Result<MemorySource, Memory> {
-        let source = match self.bytes(path) {
-            Some(bytes) => Some(OwnedSource {
-                bytes: bytes.to_vec(self.alloc)?,
-                at: 0,
-            }),
-            None => None,
+    ghost is_locked = { λ f. f.is_locked };
+
+    ghost is_shut = { λ s. s.is_locked };
+
+    ghost failed_writes = { λ f. f.failed_writes };
+
+    ghost reads_fail = { false };
+
+    ghost untaken = { λ sink shut. shut_is_untaken sink.is_locked sink.bytes.items sink.untaken shut };
+
+    ghost unfailing = { λ _ _. refl };
+
+    fn reader(&self, path: &str) -> Result<MemorySource, OpenFault> {
+        let Some(bytes) = self.bytes(path) else {
+            return Err(OpenFault::Missing);
         };
-        Ok(MemorySource {
-            source,
-            failures: 0,
-        })
+        match bytes.to_vec(self.alloc) {
+            Ok(bytes) => Ok(MemorySource { bytes, at: 0 }),
+            Err(_) => Err(OpenFault::Memory),
+        }
     }
 
     fn writer(&mut self, path: &str) -> Result<MemorySink, Memory> {
@@ -161,6 +180,7 @@ impl Files for MemoryFiles {
     }
 
     fn close(&mut self, sink: MemorySink) {
+        self.failed_writes = self.failed_writes.saturating_add(sink.failures);
         if sink.bytes.is_empty() {
             return;
         }
@@ -169,15 +189,15 @@ impl Files for MemoryFiles {
     }
 }
 
-/// A source of bytes of its own, which never fails.
+/// A source of a file in memory, which has bytes of its own and never fails.
 #[derive(Drop)]
-struct OwnedSource {
+pub struct MemorySource {
     bytes: Vec<u8>,
     at: usize,
     ghost within: { at ≤ vec_len bytes },
 }
 
-impl Source for OwnedSource {
+impl Source for MemorySource {
     ghost use Rattle.std.specs.Prelude.{Some, drop, length};
 
     ghost left = { λ s. Some (drop s.at s.bytes.items) };
@@ -195,41 +215,14 @@ impl Source for OwnedSource {
     }
 }
 
-/// A source of a file in memory, which fails where there is none.
-#[derive(Drop)]
-pub struct MemorySource {
-    source: Option<OwnedSource>,
-    failures: u64,
-}
-
-impl Source for MemorySource {
-    ghost use Rattle.std.specs.Prelude.{Some, drop, length, option_map};
-    ghost use Rattle.std.specs.Option.{option_map_or};
-
-    ghost left = { λ s. option_map (λ o. drop o.at o.bytes.items) s.source };
-
-    ghost failures = { λ s. s.failures };
-
-    ghost most = { λ s. option_map_or (λ o. length (drop o.at o.bytes.items)) s.source 0 };
-
-    fn read(&mut self, buffer: &mut [u8]) -> Result<usize, Failed> {
-        if let Some(source) = &mut self.source {
-            if let Ok(n) = source.read(buffer) {
-                return Ok(n);
-            }
-        }
-        self.failures = self.failures.saturating_add(1);
-        Err(Failed)
-    }
-}
-
-/// A sink of a file in memory, which fails where the files are locked or memory was refused.
+/// A sink of a file in memory, which fails where the files were locked as it was made, or memory was refused.
 #[derive(Drop)]
 pub struct MemorySink {
     path: String,
     bytes: Vec<u8>,
     is_locked: bool,
     failures: u64,
+    ghost untaken: { (if is_locked then length bytes.items else 0) ≡ 0 },
 }
 
 impl Sink for MemorySink {

@@ -1,7 +1,7 @@
 //! The files of the system.
 ghost use Rattle.std.specs.Prelude.{◌≡◌, ◌≤◌, IfOk, length, string_bytes};
 
-use crate::files::Files;
+use crate::files::{Files, OpenFault};
 use axioms::Memory;
 use device::{Failed, ReaderSource, Sink};
 use std::io::{Read, Write};
@@ -11,6 +11,7 @@ use std::{fs, io, rt};
 #[derive(Drop)]
 pub struct SystemFiles<'r, R: rt::Files + AllocGlobal> {
     runtime: &'r R,
+    failed_writes: u64,
 }
 
 impl<'r, R: rt::Files + AllocGlobal> SystemFiles<'r, R> {
@@ -20,7 +21,10 @@ impl<'r, R: rt::Files + AllocGlobal> SystemFiles<'r, R> {
     pub fn new(runtime: &'r R) -> Self
         ensures { result.runtime.now ≡ runtime.now }
     {
-        SystemFiles { runtime }
+        SystemFiles {
+            runtime,
+            failed_writes: 0,
+        }
     }
 
     fn owned(&self, path: &str) -> Result<String, Memory>
@@ -32,6 +36,7 @@ impl<'r, R: rt::Files + AllocGlobal> SystemFiles<'r, R> {
 
 impl<'r, R: rt::Files + AllocGlobal> Files for SystemFiles<'r, R> {
     ghost use Rattle.std.specs.Prelude.{None, true, false};
+    ghost use Rattle.system_files.specs.Contents.{not_false, not_true};
 
     type In = ReaderSource<FileReader<'r, R>>;
 
@@ -43,10 +48,25 @@ impl<'r, R: rt::Files + AllocGlobal> Files for SystemFiles<'r, R> {
 
     ghost has_place = { λ _ _. true };
 
-    fn reader(&self, path: &str) -> Result<Self::In, Memory> {
+    ghost is_locked = { λ _. false };
+
+    ghost is_shut = { λ _. false };
+
+    ghost failed_writes = { λ f. f.failed_writes };
+
+    ghost reads_fail = { true };
+
+    ghost untaken = { λ _ shut. not_true shut };
+
+    ghost unfailing = { λ bad _. not_false bad };
+
+    fn reader(&self, path: &str) -> Result<Self::In, OpenFault> {
+        let Ok(path) = self.owned(path) else {
+            return Err(OpenFault::Memory);
+        };
         let file = FileReader {
             runtime: self.runtime,
-            path: self.owned(path)?,
+            path,
             file: None,
         };
         Ok(ReaderSource::new(file))
@@ -62,6 +82,7 @@ impl<'r, R: rt::Files + AllocGlobal> Files for SystemFiles<'r, R> {
     }
 
     fn close(&mut self, sink: Self::Out) {
+        self.failed_writes = self.failed_writes.saturating_add(sink.failures);
         drop(sink);
     }
 }

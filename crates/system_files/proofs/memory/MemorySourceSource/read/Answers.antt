@@ -1,7 +1,7 @@
 use Rattle.std.proofs.Common.{◌≡◌, ◌∙◌, ◌-◌, ap, length, take, drop, min}
 use Rattle.std.proofs.lemmas.List.{take_rest}
 use Rattle.system_files.proofs.Rests.{reads_on}
-use Rattle.system_files.proofs.memory.OwnedSourceSource.read.Goals as goal
+use Rattle.system_files.proofs.memory.MemorySourceSource.read.Goals as goal
 
 pub returns-clause-ok : goal.returns-clause-ok
 returns-clause-ok c =
