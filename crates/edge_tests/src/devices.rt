@@ -1,10 +1,13 @@
 //! Whole texts through devices that are slow or that fail.
+ghost use Rattle.std.specs.Prelude.{◌≤◌, IfOk};
 
 use device::{
     BufferSink, Failed, ReadFault, ReaderSource, Sink, SliceSource, Source, WriterSink, read_all,
     write_all,
 };
 use std::alloc::Global;
+use std::io;
+use std::io::{ErrorKind, Read, Write};
 use std::test::Fail;
 
 /// A source that gives at most one byte a read.
@@ -241,4 +244,93 @@ fn a_buffer_hands_its_bytes_back(rt: HostRuntime) -> Result<(), Fail> {
     write_all(&mut sink, b"abc")?;
     assert!(rt; sink.into_bytes().as_slice() == b"abc".as_slice());
     Ok(())
+}
+
+/// A reader and a writer that fails at its first call, and gives or takes one byte at each later one. It counts its calls.
+#[derive(Drop)]
+struct FailsOnce<'a> {
+    calls: &'a mut usize,
+    kind: ErrorKind,
+}
+
+impl<'a> FailsOnce<'a> {
+    /// Counts the call, and answers for it.
+    fn called(&mut self, room: usize) -> io::Result<usize>
+        ensures { IfOk result (λ n. n ≤ room) }
+    {
+        *self.calls = self.calls.saturating_add(1);
+        if *self.calls == 1 {
+            return Err(io::Error::from(self.kind));
+        }
+        Ok(room.min(1))
+    }
+}
+
+impl<'a> Read for FailsOnce<'a> {
+    fn read(&mut self, buffer: &mut [u8]) -> io::Result<usize> {
+        self.called(buffer.len())
+    }
+}
+
+impl<'a> Write for FailsOnce<'a> {
+    fn write(&mut self, piece: &[u8]) -> io::Result<usize> {
+        self.called(piece.len())
+    }
+
+    fn flush(&mut self) -> io::Result<()> {
+        Ok(())
+    }
+}
+
+/// Errors that some readers and writers try again after, and others.
+const KINDS: &[ErrorKind] = &[
+    ErrorKind::Interrupted,
+    ErrorKind::WouldBlock,
+    ErrorKind::TimedOut,
+    ErrorKind::Other,
+];
+
+/// Whether reading fails at the first call of a reader that would answer the next, and how often that was called.
+fn reads_once(alloc: Global, kind: ErrorKind, calls: &mut usize) -> bool {
+    let mut source = ReaderSource::new(FailsOnce { calls, kind });
+    read_all(alloc, &mut source, 100).err() == Some(ReadFault::Failed)
+}
+
+#[test]
+fn a_failed_read_is_not_tried_again(rt: HostRuntime) {
+    for kind in KINDS {
+        let mut calls = 0;
+        let failed = reads_once(rt.alloc(), *kind, &mut calls);
+        assert!(rt; failed && calls == 1, "{kind:?}: {calls} calls");
+    }
+}
+
+/// Whether writing fails at the first call of a writer that would answer the next.
+fn writes_once(kind: ErrorKind, calls: &mut usize) -> bool {
+    let mut sink = WriterSink::new(FailsOnce { calls, kind });
+    write_all(&mut sink, b"abc") == Err(Failed)
+}
+
+#[test]
+fn a_failed_write_is_not_tried_again(rt: HostRuntime) {
+    for kind in KINDS {
+        let mut calls = 0;
+        let failed = writes_once(*kind, &mut calls);
+        assert!(rt; failed && calls == 1, "{kind:?}: {calls} calls");
+    }
+}
+
+/// A reader and a writer that failed answer the next call, which is another.
+#[test]
+fn a_later_call_is_answered(rt: HostRuntime) {
+    let mut calls = 0;
+    let mut source = ReaderSource::new(FailsOnce {
+        calls: &mut calls,
+        kind: ErrorKind::Interrupted,
+    });
+    let mut buffer = [0; 4];
+    let first = source.read(&mut buffer);
+    let second = source.read(&mut buffer);
+    drop(source);
+    assert!(rt; first == Err(Failed) && second == Ok(1) && calls == 2);
 }
