@@ -293,3 +293,32 @@ fn help_has_examples_that_are_taken(rt: HostRuntime) -> Result<(), Fail> {
     }
     Ok(())
 }
+
+/// What is told of the words.
+fn told(alloc: Global, line: &str) -> Result<String, Fail> {
+    let words: Vec<&str> = line.split(' ').collect(alloc)?;
+    match task(alloc, &words) {
+        Err(LineFault::Line(error)) => Ok(format!(in alloc; "{error}")?),
+        Err(LineFault::Memory) => Err(Fail::from("no memory")),
+        Ok(_) => Err(Fail::from("a task")),
+    }
+}
+
+/// Words that are refused, and what is told of them.
+const TOLD: &[(&str, &str)] = &[
+    ("elc", "Usage: elc <COMMAND>"),
+    ("elc clasify a b c d", "unrecognized subcommand 'clasify'"),
+    ("elc check a b c", "<CERT>"),
+    ("elc classify a b c d e", "unexpected argument 'e'"),
+    ("elc classify a b c d --max-facts 0", "'0' for '--max-facts"),
+];
+
+#[test]
+fn what_is_told_of_wrong_words(rt: HostRuntime) -> Result<(), Fail> {
+    for row in TOLD {
+        let (line, part) = *row;
+        let text = told(rt.alloc(), line)?;
+        assert!(rt; text.as_str().contains(part), "{line}: {text}");
+    }
+    Ok(())
+}
