@@ -4,6 +4,7 @@ use Rattle.clap.specs.Words.{Row, Text}
 use Rattle.std.specs.Prelude.{List, codes}
 use Rattle.system_files.specs.Contents.{Content}
 use Rattle.cli.specs.Performed.{IsCheckRun, IsClassifyRun, IsExplainRun, IsInstancesRun, IsPerformed, max_bytes_of, max_facts_of}
+use Rattle.cli.specs.Files.{Store}
 use Rattle.cli.specs.Printed.{Output}
 use Rattle.command_line.specs.CommandLine.{IsNumber, IsTaskOf, most_bytes, most_facts}
 use Rattle.command_line.specs.declared.tasks.Paths.{Paths}
@@ -49,26 +50,26 @@ asked_limits words task bytes facts of same_bytes same_facts =
 pub same_limits : (found task : Task) (bytes facts max_bytes max_facts : ℕ) → found ≡ task → bytes ≡ max_bytes_of found → facts ≡ max_facts_of found → (max_bytes ≡ bytes) × (max_facts ≡ facts) → (max_bytes ≡ max_bytes_of task) × (max_facts ≡ max_facts_of task)
 same_limits found task bytes facts max_bytes max_facts is same_bytes same_facts these = (these.0 ∙ same_bytes ∙ ap max_bytes_of is, these.1 ∙ same_facts ∙ ap max_facts_of is)
 
-pub classified : (words : List Text) (known : Bool) (content content' : Content) (old new : Output) (status : ℕ) (paths : Paths) (facts bytes max_facts max_bytes : ℕ) → IsTaskOf words (Classify paths facts bytes) → (max_bytes ≡ bytes) × (max_facts ≡ facts) → IsClassifyRun paths max_facts max_bytes known content content' old new status → IsPerformed words known content content' old new status
-classified words known content content' old new status paths facts bytes max_facts max_bytes of these run =
-    let P : ℕ → Type 0 = λ b. IsClassifyRun paths max_facts b known content content' old new status in
-    let Q : ℕ → Type 0 = λ f. IsClassifyRun paths f bytes known content content' old new status in
+pub classified : (words : List Text) (s : Store) (content content' : Content) (old new : Output) (status : ℕ) (paths : Paths) (facts bytes max_facts max_bytes : ℕ) → IsTaskOf words (Classify paths facts bytes) → (max_bytes ≡ bytes) × (max_facts ≡ facts) → IsClassifyRun paths max_facts max_bytes s content content' old new status → IsPerformed words s content content' old new status
+classified words s content content' old new status paths facts bytes max_facts max_bytes of these run =
+    let P : ℕ → Type 0 = λ b. IsClassifyRun paths max_facts b s content content' old new status in
+    let Q : ℕ → Type 0 = λ f. IsClassifyRun paths f bytes s content content' old new status in
     inl (Classify paths facts bytes, of, subst Q these.1 (subst P these.0 run))
 
-pub checked : (words : List Text) (known : Bool) (content content' : Content) (old new : Output) (status : ℕ) (paths : Paths) (bytes max_bytes : ℕ) → IsTaskOf words (Check paths bytes) → max_bytes ≡ bytes → IsCheckRun paths max_bytes content old new status → IsPerformed words known content content' old new status
-checked words known content content' old new status paths bytes max_bytes of same run =
-    let P : ℕ → Type 0 = λ b. IsCheckRun paths b content old new status in
+pub checked : (words : List Text) (s : Store) (content content' : Content) (old new : Output) (status : ℕ) (paths : Paths) (bytes max_bytes : ℕ) → IsTaskOf words (Check paths bytes) → max_bytes ≡ bytes → IsCheckRun paths max_bytes s content old new status → IsPerformed words s content content' old new status
+checked words s content content' old new status paths bytes max_bytes of same run =
+    let P : ℕ → Type 0 = λ b. IsCheckRun paths b s content old new status in
     inl (Check paths bytes, of, subst P same run)
 
 -- a run within limits is one within the numbers that the words ask for
-pub instances_within : (path class : List ℕ) (content : Content) (old new : Output) (status : ℕ) (facts bytes max_facts max_bytes : ℕ) → (max_bytes ≡ bytes) × (max_facts ≡ facts) → IsInstancesRun path class max_facts max_bytes content old new status → IsInstancesRun path class facts bytes content old new status
-instances_within path class content old new status facts bytes max_facts max_bytes these run =
-    let P : ℕ → Type 0 = λ b. IsInstancesRun path class max_facts b content old new status in
-    let Q : ℕ → Type 0 = λ f. IsInstancesRun path class f bytes content old new status in
+pub instances_within : (path class : List ℕ) (s : Store) (content : Content) (old new : Output) (status : ℕ) (facts bytes max_facts max_bytes : ℕ) → (max_bytes ≡ bytes) × (max_facts ≡ facts) → IsInstancesRun path class max_facts max_bytes s content old new status → IsInstancesRun path class facts bytes s content old new status
+instances_within path class s content old new status facts bytes max_facts max_bytes these run =
+    let P : ℕ → Type 0 = λ b. IsInstancesRun path class max_facts b s content old new status in
+    let Q : ℕ → Type 0 = λ f. IsInstancesRun path class f bytes s content old new status in
     subst Q these.1 (subst P these.0 run)
 
-pub explain_within : (question : Question) (content : Content) (old new : Output) (status : ℕ) (facts bytes max_facts max_bytes : ℕ) → (max_bytes ≡ bytes) × (max_facts ≡ facts) → IsExplainRun question max_facts max_bytes content old new status → IsExplainRun question facts bytes content old new status
-explain_within question content old new status facts bytes max_facts max_bytes these run =
-    let P : ℕ → Type 0 = λ b. IsExplainRun question max_facts b content old new status in
-    let Q : ℕ → Type 0 = λ f. IsExplainRun question f bytes content old new status in
+pub explain_within : (question : Question) (s : Store) (content : Content) (old new : Output) (status : ℕ) (facts bytes max_facts max_bytes : ℕ) → (max_bytes ≡ bytes) × (max_facts ≡ facts) → IsExplainRun question max_facts max_bytes s content old new status → IsExplainRun question facts bytes s content old new status
+explain_within question s content old new status facts bytes max_facts max_bytes these run =
+    let P : ℕ → Type 0 = λ b. IsExplainRun question max_facts b s content old new status in
+    let Q : ℕ → Type 0 = λ f. IsExplainRun question f bytes s content old new status in
     subst Q these.1 (subst P these.0 run)

@@ -1,14 +1,15 @@
 -- What files hold where a classification ended with a fault.
-use Rattle.std.proofs.Common.{◌≡◌, ℕ, List, Bool, Option, subst}
+use Rattle.std.proofs.Common.{◌≡◌, ℕ, List, Bool, Option, Result, Ok, Err, subst}
 use Rattle.std.specs.Io.KnownBytes.{Keeps}
 use Rattle.command_line.specs.declared.tasks.Paths.{Paths}
-use Rattle.cli.proofs.Kept.{classified_file}
+use Rattle.cli.proofs.Kept.{classified_file, fault_of_file}
 use Rattle.cli.proofs.SomeTexts.{acceptable_are_some}
-use Rattle.cli.proofs.Stored.{AreNew, AreSinksClosed, nothing_stored, texts_held_until}
-use Rattle.cli.specs.Performed.{AreLeft}
-use Rattle.cli.specs.Writing.{IsUnwritten, Sinks}
+use Rattle.cli.proofs.Stored.{AreNew, AreSinksClosed, nothing_stored, texts_held, texts_held_until}
+use Rattle.cli.specs.Performed.{AreLeft, IsClassifyAnswer}
+use Rattle.cli.specs.Writing.{IsClassification, IsUnwritten, Sinks}
 use Rattle.cli.specs.declared.fault.ClassifyFault.{ClassifyFault}
 use Rattle.cli.specs.declared.fault.ClassifyFault.TheVariants.{Document, Memory, Limit, Io}
+use Rattle.classification.specs.declared.classification.Summary.{Summary}
 use Rattle.system_files.specs.Contents.{Content, IsClosed}
 
 -- a sink that is closed is that of the path
@@ -24,3 +25,11 @@ files_left paths facts bytes known content content' left old new (Io n) kept fre
     let texts = unwritten.1 in
     let is = classified_file (content paths.document.now) left bytes facts summary texts kept unwritten.2 in
     (summary, texts, is, λ apart. texts_held_until n known paths old new texts content content' (acceptable_are_some is.ontology texts is.acceptable) fresh unwritten.3 closed apart)
+
+-- .. and where it ended with any answer
+pub classify_answer : (paths : Paths) (facts bytes : ℕ) (known : Bool) (content content' : Content) (left : Option (List ℕ)) (old new : Sinks) (answer : Result Summary ClassifyFault) → Keeps (content paths.document.now) left → AreNew known old → IsClassification bytes facts left old new answer → AreSinksClosed paths new content content' → IsClassifyAnswer paths facts bytes known content content' answer
+classify_answer paths facts bytes known content content' left old new (Ok summary) kept fresh is closed =
+    let made = classified_file (content paths.document.now) left bytes facts summary is.0 kept is.1 in
+    (is.0, made, λ apart. texts_held known paths old new is.0 content content' (acceptable_are_some made.ontology is.0 made.acceptable) fresh is.2 closed apart)
+classify_answer paths facts bytes known content content' left old new (Err fault) kept fresh is closed =
+    (fault_of_file (content paths.document.now) left bytes facts fault kept is.0, files_left paths facts bytes known content content' left old new fault kept fresh is.1 closed)

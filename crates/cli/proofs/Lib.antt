@@ -1,6 +1,8 @@
 pub mod Kept
 pub mod Questions
 pub mod Telling
+pub mod Pieces
+pub mod Blamed
 pub mod Outcomes
 pub mod Stored
 pub mod SomeTexts

@@ -1,5 +1,6 @@
 -- What is answered of a source's bytes is answered of those of its file.
-use Rattle.std.proofs.Common.{ℕ, List, Option}
+use Rattle.std.proofs.Common.{ℕ, List, Option, Result, Ok, Err, IfOk, IfErr}
+use Rattle.std.specs.Global.{Vec}
 use Rattle.std.specs.Io.KnownBytes.{Keeps}
 use Rattle.axioms.specs.Expression.{Iri}
 use Rattle.axioms.specs.Numbered.{Ontology}
@@ -25,3 +26,17 @@ question_fault_of_file file left most facts names (Document fault) kept is = ref
 question_fault_of_file file left most facts names Limit kept is = (is.0, read_as_file file left most is.0 kept is.1, is.2)
 question_fault_of_file file left most facts names (UnknownName name) kept is = (is.0, read_as_file file left most is.0 kept is.1, is.2, is.3)
 question_fault_of_file file left most facts names Memory kept is = (is.0, read_as_file file left most is.0 kept is.1)
+
+-- ---- .. of whole answers
+
+pub instances_in_file : (answer : Result (Vec ℕ) QuestionFault) (file left : Option (List ℕ)) (most : ℕ) (class : List ℕ) → Keeps file left → IfOk answer (λ v. AnswersInstances most left class v.items) → IfOk answer (λ v. AnswersInstances most file class v.items)
+instances_in_file (Ok v) file left most class kept is = instances_of_file file left most class v.items kept is
+instances_in_file (Err fault) file left most class kept is = tt
+
+pub why_in_file : (answer : Result (Vec ℕ) QuestionFault) (file left : Option (List ℕ)) (most : ℕ) (asked : Asked) (class : List ℕ) (form : Form) → Keeps file left → IfOk answer (λ v. AnswersWhy most left asked class form v.items) → IfOk answer (λ v. AnswersWhy most file asked class form v.items)
+why_in_file (Ok v) file left most asked class form kept is = why_of_file file left most asked class form v.items kept is
+why_in_file (Err fault) file left most asked class form kept is = tt
+
+pub fault_in_file : (answer : Result (Vec ℕ) QuestionFault) (file left : Option (List ℕ)) (most facts : ℕ) (names : List (Kind × Iri)) → Keeps file left → IfErr answer (IsFaultOf most facts left names) → IfErr answer (IsFaultOf most facts file names)
+fault_in_file (Ok v) file left most facts names kept is = tt
+fault_in_file (Err fault) file left most facts names kept is = question_fault_of_file file left most facts names fault kept is

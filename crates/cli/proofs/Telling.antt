@@ -1,7 +1,7 @@
 -- From a message that was told to what is said on the two outputs.
 use Rattle.std.proofs.Common.{◌≡◌, ℕ, List, inl, inr, subst, Result, Ok, Err, IfOk, string_bytes}
 use Rattle.cli.specs.Devices.{Device}
-use Rattle.cli.specs.Printed.{Output, IsPrinted, IsTold, IsAnswered, IsToldMessage, IsAnsweredMessage}
+use Rattle.cli.specs.Printed.{IsPrinted, IsTold, IsToldMessage}
 use Rattle.program.specs.declared.status.Status.{Status}
 use Rattle.cli.specs.declared.printing.Message.{Message}
 
@@ -12,23 +12,9 @@ told old new (Ok m) IsText status answered is said =
     inl (string_bytes m.text, is.0, subst P is.1 said)
 told old new (Err e) IsText status answered is said = inr said
 
--- a message with this text and status is the answer
-pub answered : {E : Type 0} (old new : Output) (message : Result Message E) (text : List ℕ) (status : Status) (given : ℕ) → IfOk message (λ m. (string_bytes m.text ≡ text) × (m.status ≡ status)) → IsAnsweredMessage old new message given → IsAnswered old new text status given
-answered old new (Ok m) text status given is said =
-    let P : List ℕ → Type 0 = λ t. IsPrinted old.out new.out t m.status given in
-    let Q : Status → Type 0 = λ s. IsPrinted old.out new.out text s given in
-    inl (subst Q is.1 (subst P is.0 said.0), said.1)
-answered old new (Err e) text status given is said = inr (said.0, said.1)
-
 -- a message with this status is told
 pub told_status : {E : Type 0} (old new : Device) (message : Result Message E) (status : Status) (answered : ℕ) → IfOk message (λ m. m.status ≡ status) → IsToldMessage old new message answered → IsTold old new (λ text. Unit {0}) status answered
 told_status old new (Ok m) status answered is said =
     let P : Status → Type 0 = λ s. IsPrinted old new (string_bytes m.text) s answered in
     inl (string_bytes m.text, tt, subst P is said)
 told_status old new (Err e) status answered is said = inr said
-
--- bytes that are printed are the answer
-pub answered_bytes : (old new : Output) (given text : List ℕ) (status : Status) (answered : ℕ) → given ≡ text → IsPrinted old.out new.out given status answered → new.err ≡ old.err → IsAnswered old new text status answered
-answered_bytes old new given text status answered same printed kept =
-    let P : List ℕ → Type 0 = λ t. IsPrinted old.out new.out t status answered in
-    inl (subst P same printed, kept)

@@ -49,15 +49,9 @@ abbrev pub IsToldMessage : {E : Type 0} → (old new : Device) → Result Messag
 IsToldMessage old new (Ok message) answered = IsPrinted old new (string_bytes message.text) message.status answered
 IsToldMessage old new (Err error) answered = IsPrinted old new out_of_memory statuses.Memory answered
 
--- the message goes to standard output; or, where there was none, standard error says that there is no memory
-abbrev pub IsAnsweredMessage : {E : Type 0} → (old new : Output) → Result Message E → (answered : ℕ) → Type 0
-IsAnsweredMessage old new (Ok message) answered = IsPrinted old.out new.out (string_bytes message.text) message.status answered × (new.err ≡ old.err)
-IsAnsweredMessage old new (Err error) answered = (new.out ≡ old.out) × IsPrinted old.err new.err out_of_memory statuses.Memory answered
-
--- the answer goes to standard output; or there is no memory for it, and standard error says so
+-- the answer goes to standard output, and standard error says nothing
 abbrev pub IsAnswered : (old new : Output) → (text : List ℕ) → (status : Status) → (answered : ℕ) → Type 0
-IsAnswered old new text status answered =
-    (IsPrinted old.out new.out text status answered × (new.err ≡ old.err)) ⊎ ((new.out ≡ old.out) × IsPrinted old.err new.err out_of_memory statuses.Memory answered)
+IsAnswered old new text status answered = IsPrinted old.out new.out text status answered × (new.err ≡ old.err)
 
 -- a text of this kind goes to standard error; or there is no memory for it, and standard error says so
 abbrev pub IsTold : (old new : Device) → (List ℕ → Type 0) → (status : Status) → (answered : ℕ) → Type 0
@@ -81,9 +75,12 @@ reason_text o NoContradiction = codes "C7"
 reason_text o (TaxonomyDiffers at) = codes "C8 at byte " ++ decimal at
 reason_text o (InstancesDiffer at) = codes "C9 at byte " ++ decimal at
 
+abbrev pub rejected_text : (reason : List ℕ) → List ℕ
+rejected_text reason = codes "rejected: " ++ (reason ++ codes "\n")
+
 abbrev pub verdict_text : Ontology → Verdict → List ℕ
 verdict_text o Accepted = codes "accepted\n"
-verdict_text o (Rejected reason) = codes "rejected: " ++ (reason_text o reason ++ codes "\n")
+verdict_text o (Rejected reason) = rejected_text (reason_text o reason)
 
 abbrev pub verdict_status : Verdict → Status
 verdict_status Accepted = statuses.Done

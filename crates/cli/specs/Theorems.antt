@@ -11,6 +11,7 @@ use Rattle.cli.specs.Checked.{IsCheckAnswer}
 use Rattle.clap.specs.Words.{Text, takes}
 use Rattle.command_line.specs.CommandLine.{IsTaskOf, elc_app}
 use Rattle.command_line.specs.declared.tasks.Task.TheVariants.{Check, Classify}
+use Rattle.cli.specs.Files.{Store}
 use Rattle.cli.specs.Performed.{AreApart, IsPerformed}
 use Rattle.cli.specs.Printed.{Output, IsAnswered, IsCheckText, IsTold, check_status}
 use Rattle.cli.specs.Writing.{Texts, IsClassification, IsClassified, AreWritten, Sinks}
@@ -99,8 +100,8 @@ IsAcceptedRun most document old new status =
 -- `accepted`. The words of both are taken by clap's function of the program's commands
 abbrev pub WrittenFilesAreAccepted : Type 0
 WrittenFilesAreAccepted =
-    (written checked : List Text) (paths paths' : Paths) (facts bytes most : ℕ) (content content' content'' : Content) (old new old' new' : Output) (status : ℕ) (document : List ℕ) →
+    (written checked : List Text) (paths paths' : Paths) (facts bytes most : ℕ) (s s' : Store) (content content' content'' : Content) (old new old' new' : Output) (status : ℕ) (document : List ℕ) →
     IsTaskOf written (Classify paths facts bytes) → IsTaskOf checked (Check paths' most) → takes elc_app checked ≡ true →
-    AreSamePaths paths paths' → AreApart paths → IsDocumentApart paths → content paths.document.now ≡ Some document →
-    IsPerformed written true content content' old new (code_of statuses.Done) → IsPerformed checked true content' content'' old' new' status →
+    AreSamePaths paths paths' → AreApart paths → IsDocumentApart paths → s.is_known ≡ true → content paths.document.now ≡ Some document →
+    IsPerformed written s content content' old new (code_of statuses.Done) → IsPerformed checked s' content' content'' old' new' status →
     IsAcceptedRun most document old' new' status

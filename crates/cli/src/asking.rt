@@ -1,18 +1,58 @@
 //! Runs that answer a question about a document.
-ghost use Rattle.cli.specs.Performed.{IsExplainRun, IsInstancesRun, asked_by, form_of as form_in};
+ghost use Rattle.cli.specs.Files.{AsksFile, store};
+ghost use Rattle.cli.specs.Performed.{IsExplainRun, IsInstancesRun, IsQuestionTold, asked_by, form_of as form_in};
 ghost use Rattle.cli.specs.Printed.{outputs};
-ghost use Rattle.std.specs.Prelude.{◌≡◌};
+ghost use Rattle.session.specs.Answered.{AnswersInstances, AnswersWhy, IsFaultOf};
+ghost use Rattle.session.specs.Asking.{class_name, subject_name};
+ghost use Rattle.std.specs.Prelude.{◌≡◌, [], ◌∷◌, IfErr, IfOk};
 
-use crate::printing::{print_bytes, question_message, tell, tell_out_of_memory};
+use crate::opening::document_of;
+use crate::printing::{print_bytes, question_message, tell};
 use answers::Asked;
 use command_line::Question;
 use device::Sink;
 use profile::Limits;
 use program::Status;
-use session::{Form, explanation_text, instances_text};
+use session::{Form, QuestionFault, explanation_text, instances_text};
 use std::alloc::Global;
 use std::hash::RandomState;
 use system_files::Files;
+
+/// Prints the answer, or why there is none to a question about the document at the path.
+fn tell_answer<O: Sink, E: Sink>(
+    alloc: Global,
+    answer: Result<Vec<u8>, QuestionFault<'_>>,
+    path: &str,
+    limits: &Limits,
+    out: &mut O,
+    err: &mut E,
+) -> u8
+    ensures { IsQuestionTold path.now limits.now.max_facts limits.now.max_bytes answer.entry (outputs O.Sink E.Sink out.old err.old) (outputs O.Sink E.Sink out.new err.new) result }
+{
+    match answer {
+        Ok(text) => print_bytes(out, &text, Status::Done),
+        Err(fault) => tell(err, question_message(alloc, &fault, path, limits)),
+    }
+}
+
+/// The individuals that belong to the class of that name, by the document at the path.
+fn instances_in<'n, F: Files>(
+    alloc: Global,
+    path: &str,
+    class: &'n str,
+    limits: &Limits,
+    files: &F,
+    state: RandomState,
+) -> Result<Vec<u8>, QuestionFault<'n>>
+    ensures answered { IfOk result (λ v. AnswersInstances limits.now.max_bytes (F.content files.now path.now) class.now v.items) }
+    ensures fault { IfErr result (IsFaultOf limits.now.max_bytes limits.now.max_facts (F.content files.now path.now) (class_name class.now ∷ [])) }
+    ensures blames { AsksFile F.reads_fail (F.is_known files.now) (F.content files.now path.now) result }
+{
+    match document_of(files, path) {
+        Ok(mut document) => instances_text(alloc, &mut document, class, limits, state),
+        Err(fault) => Err(QuestionFault::Document(fault)),
+    }
+}
 
 /// Prints the individuals that belong to the class of that name.
 pub(crate) fn perform_instances<F: Files, O: Sink, E: Sink>(
@@ -25,15 +65,10 @@ pub(crate) fn perform_instances<F: Files, O: Sink, E: Sink>(
     err: &mut E,
     state: RandomState,
 ) -> u8
-    ensures { IsInstancesRun path.now class.now limits.now.max_facts limits.now.max_bytes (F.content files.now) (outputs O.Sink E.Sink out.old err.old) (outputs O.Sink E.Sink out.new err.new) result }
+    ensures { IsInstancesRun path.now class.now limits.now.max_facts limits.now.max_bytes (store F.Files files.now files.now) (F.content files.now) (outputs O.Sink E.Sink out.old err.old) (outputs O.Sink E.Sink out.new err.new) result }
 {
-    let Ok(mut document) = files.reader(path) else {
-        return tell_out_of_memory(err);
-    };
-    match instances_text(alloc, &mut document, class, limits, state) {
-        Ok(names) => print_bytes(out, &names, Status::Done),
-        Err(fault) => tell(err, question_message(alloc, &fault, path, limits)),
-    }
+    let answer = instances_in(alloc, path, class, limits, files, state);
+    tell_answer(alloc, answer, path, limits, out, err)
 }
 
 /// What the question asks about.
@@ -58,6 +93,33 @@ fn form_of(question: &Question<'_>) -> Form
     }
 }
 
+/// Why the subject is in the class, or why it is not, by the question's document.
+fn explanation_in<'n, F: Files>(
+    alloc: Global,
+    question: &Question<'n>,
+    limits: &Limits,
+    files: &F,
+    state: RandomState,
+) -> Result<Vec<u8>, QuestionFault<'n>>
+    ensures answered { IfOk result (λ v. AnswersWhy limits.now.max_bytes (F.content files.now question.now.document.now) (asked_by question.now) question.now.class.now (form_in question.now) v.items) }
+    ensures fault { IfErr result (IsFaultOf limits.now.max_bytes limits.now.max_facts (F.content files.now question.now.document.now) (subject_name (asked_by question.now) ∷ class_name question.now.class.now ∷ [])) }
+    ensures blames { AsksFile F.reads_fail (F.is_known files.now) (F.content files.now question.now.document.now) result }
+{
+    let mut document = match document_of(files, question.document) {
+        Ok(document) => document,
+        Err(fault) => return Err(QuestionFault::Document(fault)),
+    };
+    explanation_text(
+        alloc,
+        &mut document,
+        asked(question),
+        question.class,
+        form_of(question),
+        limits,
+        state,
+    )
+}
+
 /// Prints why the subject is in the class, or why it is not.
 pub(crate) fn perform_explain<F: Files, O: Sink, E: Sink>(
     alloc: Global,
@@ -68,25 +130,8 @@ pub(crate) fn perform_explain<F: Files, O: Sink, E: Sink>(
     err: &mut E,
     state: RandomState,
 ) -> u8
-    ensures { IsExplainRun question.now limits.now.max_facts limits.now.max_bytes (F.content files.now) (outputs O.Sink E.Sink out.old err.old) (outputs O.Sink E.Sink out.new err.new) result }
+    ensures { IsExplainRun question.now limits.now.max_facts limits.now.max_bytes (store F.Files files.now files.now) (F.content files.now) (outputs O.Sink E.Sink out.old err.old) (outputs O.Sink E.Sink out.new err.new) result }
 {
-    let Ok(mut document) = files.reader(question.document) else {
-        return tell_out_of_memory(err);
-    };
-    let text = explanation_text(
-        alloc,
-        &mut document,
-        asked(question),
-        question.class,
-        form_of(question),
-        limits,
-        state,
-    );
-    match text {
-        Ok(text) => print_bytes(out, &text, Status::Done),
-        Err(fault) => tell(
-            err,
-            question_message(alloc, &fault, question.document, limits),
-        ),
-    }
+    let answer = explanation_in(alloc, question, limits, files, state);
+    tell_answer(alloc, answer, question.document, limits, out, err)
 }

@@ -1,15 +1,20 @@
 //! The check of a document's texts.
 ghost use Rattle.cli.specs.Checked.{AreKnown, AreTextsRead, IsCheckAnswer, IsChecked, IsCheckFault, IsTextRead, Reads, text_states};
 ghost use Rattle.cli.specs.Devices.{source_state};
-ghost use Rattle.std.specs.Prelude.{IfErr, IfOk};
+ghost use Rattle.cli.specs.Files.{AreTextsThere, BlamesText, ChecksFiles, IsTextUnread};
+ghost use Rattle.std.specs.Prelude.{IfErr, IfOk, OnOk};
+ghost use Rattle.system_files.specs.Contents.{IsThere};
 
 use crate::fault::CheckFault;
+use crate::opening::ontology_of;
 use axioms::Ontology;
 use cert_check::{Verdict, check_owned};
+use command_line::Paths;
 use device::{ReadFault, Source, read_all};
 use profile::{Limits, read_document};
 use std::alloc::Global;
 use std::hash::RandomState;
+use system_files::{Files, OpenFault};
 
 /// All the bytes of the source of that number.
 fn bytes_of<S: Source>(alloc: Global, source: &mut S, number: usize) -> Result<Vec<u8>, CheckFault>
@@ -62,7 +67,7 @@ fn texts_of<T: Source, I: Source, C: Source>(
 }
 
 /// The ontology of the document, and the verdict on its texts.
-pub(crate) fn checked<D: Source, T: Source, I: Source, C: Source>(
+fn checked<D: Source, T: Source, I: Source, C: Source>(
     alloc: Global,
     document: &mut D,
     taxonomy: &mut T,
@@ -129,5 +134,81 @@ pub fn check_document<D: Source, T: Source, I: Source, C: Source>(
     ) {
         Ok((_ontology, verdict)) => Ok(verdict),
         Err(fault) => Err(fault),
+    }
+}
+
+/// All the bytes of the file at the path, which is the text of that number.
+fn file_bytes<F: Files>(
+    alloc: Global,
+    files: &F,
+    path: &str,
+    number: usize,
+) -> Result<Vec<u8>, CheckFault>
+    ensures known { IfOk result (λ v. AreKnown (F.content files.now path.now) v.items) }
+    ensures there { OnOk result (IsThere (F.is_known files.now) (F.content files.now path.now)) }
+    ensures fault { IfErr result (IsTextUnread number F.reads_fail (F.is_known files.now) (F.content files.now path.now)) }
+{
+    match files.reader(path) {
+        Ok(mut source) => bytes_of(alloc, &mut source, number),
+        Err(OpenFault::Missing) => Err(CheckFault::Io(number)),
+        Err(OpenFault::Memory) => Err(CheckFault::Memory),
+    }
+}
+
+/// All the bytes of the files of the three texts, in their order.
+fn texts_in<F: Files>(alloc: Global, files: &F, paths: &Paths<'_>) -> Result<TextBytes, CheckFault>
+    ensures taxonomy { IfOk result (λ t. AreKnown (F.content files.now paths.now.taxonomy.now) t.taxonomy.items) }
+    ensures instances { IfOk result (λ t. AreKnown (F.content files.now paths.now.instances.now) t.instances.items) }
+    ensures certificate { IfOk result (λ t. AreKnown (F.content files.now paths.now.certificate.now) t.certificate.items) }
+    ensures there { OnOk result (AreTextsThere (F.is_known files.now) (F.content files.now) paths.now) }
+    ensures fault { IfErr result (BlamesText F.reads_fail (F.is_known files.now) (F.content files.now) paths.now) }
+{
+    let taxonomy = match file_bytes(alloc, files, paths.taxonomy, 2) {
+        Ok(taxonomy) => taxonomy,
+        Err(fault) => return Err(fault),
+    };
+    let instances = match file_bytes(alloc, files, paths.instances, 3) {
+        Ok(instances) => instances,
+        Err(fault) => return Err(fault),
+    };
+    match file_bytes(alloc, files, paths.certificate, 4) {
+        Ok(certificate) => Ok(TextBytes {
+            taxonomy,
+            instances,
+            certificate,
+        }),
+        Err(fault) => Err(fault),
+    }
+}
+
+/// The ontology of the document in a file, and the verdict on its texts in three more.
+pub(crate) fn checked_files<F: Files>(
+    alloc: Global,
+    paths: &Paths<'_>,
+    limits: &Limits,
+    files: &F,
+    state: RandomState,
+) -> Result<(Ontology, Verdict), CheckFault>
+    ensures checked { IfOk result (λ p. IsChecked limits.now.max_bytes (F.content files.now paths.now.document.now) (F.content files.now paths.now.taxonomy.now) (F.content files.now paths.now.instances.now) (F.content files.now paths.now.certificate.now) p.0 p.1) }
+    ensures fault { IfErr result (IsCheckFault limits.now.max_bytes (F.content files.now paths.now.document.now)) }
+    ensures blames { ChecksFiles F.reads_fail (F.is_known files.now) (F.content files.now) paths.now result }
+{
+    let ontology = match ontology_of(alloc, files, paths.document, limits, state) {
+        Ok(ontology) => ontology,
+        Err(fault) => return Err(CheckFault::Document(fault)),
+    };
+    ontology.well_formed();
+    let texts = match texts_in(alloc, files, paths) {
+        Ok(texts) => texts,
+        Err(fault) => return Err(fault),
+    };
+    let TextBytes {
+        taxonomy,
+        instances,
+        certificate,
+    } = texts;
+    match check_owned(alloc, &ontology, &taxonomy, &instances, certificate) {
+        Ok(verdict) => Ok((ontology, verdict)),
+        Err(_) => Err(CheckFault::Memory),
     }
 }

@@ -7,8 +7,10 @@ mod asking;
 mod checking;
 mod classifying;
 mod fault;
+mod opening;
 mod printing;
 mod run;
+mod starting;
 
 pub use axioms::Ontology;
 pub use cert_check::{Reason, Verdict};
@@ -19,6 +21,7 @@ pub use command_line::{LineFault, Paths, Question, Task, task};
 pub use fault::{CheckFault, ClassifyFault};
 pub use profile::{DocumentFault, Limits, read_document};
 pub use run::perform;
+pub use starting::start;
 pub use system_files::Files;
 
 /// Every document of the profile is classified: where its bytes are within the limit and read as an ontology,

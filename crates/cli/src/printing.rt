@@ -1,15 +1,18 @@
 //! What the program prints, and its statuses.
-ghost use Rattle.cli.specs.Devices.{seen};
-ghost use Rattle.cli.specs.Printed.{IsPrinted, IsToldMessage, IsAnsweredMessage, IsDocumentText, IsClassifyText, IsCheckText, IsQuestionText, classify_status, check_status, question_status, name_at, outputs, reason_text as text_of_reason, summary_text, verdict_text, verdict_status, written_path as path_written, read_path as path_read, out_of_memory};
+ghost use Rattle.cli.specs.Devices.{FailsIn, Takes, seen};
+ghost use Rattle.cli.specs.Printed.{IsPrinted, IsToldMessage, IsDocumentText, IsClassifyText, IsCheckText, IsQuestionText, classify_status, check_status, question_status, name_at, consistency as word_of, reason_text as text_of_reason, rejected_text, summary_text, verdict_text, verdict_status, written_path as path_written, read_path as path_read, out_of_memory};
 ghost use Rattle.profile.specs.Printed.{status_of};
-ghost use Rattle.std.specs.Prelude.{◌≡◌, IfOk, Ok, map, string_bytes};
+ghost use Rattle.std.specs.Fmt.{decimal};
+ghost use Rattle.std.specs.List.{flat_map};
+ghost use Rattle.std.specs.Prelude.{◌≡◌, ◌++◌, IfOk, OnOk, OnErr, Ok, codes, map, string_bytes};
 
 use crate::fault::{CheckFault, ClassifyFault};
 use axioms::Ontology;
 use cert_check::{Reason, Verdict};
 use classification::Summary;
 use command_line::Paths;
-use device::{Sink, write_all};
+use device::{Failed, Sink, write_all};
+use itoa::Buffer;
 use profile::{DocumentFault, Limits};
 use program::Status;
 use session::QuestionFault;
@@ -39,6 +42,29 @@ pub(crate) fn print<W: Sink>(sink: &mut W, text: &str, status: Status) -> u8
     print_bytes(sink, text.as_bytes(), status)
 }
 
+/// Writes the pieces, one behind the other.
+fn write_pieces<W: Sink>(sink: &mut W, pieces: &[&[u8]]) -> Result<(), Failed>
+    ensures whole { OnOk result (Takes (seen W.Sink sink.old) (seen W.Sink sink.new) (flat_map (λ p. p.now) pieces.entry.now)) }
+    ensures begun { OnErr result (FailsIn (seen W.Sink sink.old) (seen W.Sink sink.new) (flat_map (λ p. p.now) pieces.entry.now)) }
+{
+    for piece in pieces {
+        if let Err(fault) = write_all(sink, *piece) {
+            return Err(fault);
+        }
+    }
+    Ok(())
+}
+
+/// Prints the pieces, one behind the other, and gives the status; where the sink fails, that of a file.
+fn print_pieces<W: Sink>(sink: &mut W, pieces: &[&[u8]], status: Status) -> u8
+    ensures { IsPrinted (seen W.Sink sink.old) (seen W.Sink sink.new) (flat_map (λ p. p.now) pieces.entry.now) status result }
+{
+    match write_pieces(sink, pieces) {
+        Ok(()) => status.code(),
+        Err(_) => Status::File.code(),
+    }
+}
+
 /// Tells that there is no memory.
 pub(crate) fn tell_out_of_memory<E: Sink>(err: &mut E) -> u8
     ensures { IsPrinted (seen E.Sink err.old) (seen E.Sink err.new) out_of_memory Status.Memory result }
@@ -52,20 +78,6 @@ pub(crate) fn tell<E: Sink>(err: &mut E, message: Result<Message, AllocError>) -
 {
     match message {
         Ok(message) => print(err, message.text.as_str(), message.status),
-        Err(_) => tell_out_of_memory(err),
-    }
-}
-
-/// Prints the message to `out`; where there was no memory for it, tells that.
-pub(crate) fn answer<O: Sink, E: Sink>(
-    out: &mut O,
-    err: &mut E,
-    message: Result<Message, AllocError>,
-) -> u8
-    ensures { IsAnsweredMessage (outputs O.Sink E.Sink out.old err.old) (outputs O.Sink E.Sink out.new err.new) message result }
-{
-    match message {
-        Ok(message) => print(out, message.text.as_str(), message.status),
         Err(_) => tell_out_of_memory(err),
     }
 }
@@ -212,22 +224,35 @@ pub(crate) fn question_message(
     }
 }
 
-/// The line of counts.
-pub(crate) fn summary_message(alloc: Global, summary: &Summary) -> Result<Message, AllocError>
-    ensures { IfOk result (λ m. (string_bytes m.text ≡ summary_text summary.now) × (m.status ≡ Status.Done)) }
+/// The word that says whether the axioms have an interpretation.
+fn consistency(consistent: bool) -> &'static str
+    ensures { result.now ≡ word_of consistent }
 {
-    let answer = if summary.consistent {
+    if consistent {
         "consistent"
     } else {
         "inconsistent"
-    };
-    let classes = summary.classes;
-    let individuals = summary.individuals;
-    let facts = summary.facts;
-    message_of(
-        format!(in alloc; "{answer} classes {classes} individuals {individuals} facts {facts}\n"),
-        Status::Done,
-    )
+    }
+}
+
+/// Prints the line of counts. It needs no memory.
+pub(crate) fn print_summary<O: Sink>(out: &mut O, summary: &Summary) -> u8
+    ensures { IsPrinted (seen O.Sink out.old) (seen O.Sink out.new) (summary_text summary.now) Status.Done result }
+{
+    let mut classes = Buffer::new();
+    let mut individuals = Buffer::new();
+    let mut facts = Buffer::new();
+    let pieces = [
+        consistency(summary.consistent).as_bytes(),
+        b" classes ".as_slice(),
+        classes.format(summary.classes).as_bytes(),
+        b" individuals ".as_slice(),
+        individuals.format(summary.individuals).as_bytes(),
+        b" facts ".as_slice(),
+        facts.format(summary.facts).as_bytes(),
+        b"\n".as_slice(),
+    ];
+    print_pieces(out, &pieces, Status::Done)
 }
 
 /// The name of that number, or nothing where there is none.
@@ -240,46 +265,67 @@ fn name_of(names: &[String], number: usize) -> &str
     }
 }
 
-/// The reason as it is printed.
-fn reason_text(alloc: Global, ontology: &Ontology, reason: &Reason) -> Result<String, AllocError>
-    ensures { IfOk result (λ text. string_bytes text ≡ text_of_reason ontology.now reason.now) }
+/// Prints that the texts are rejected by a reason of a word and a number.
+fn print_numbered<O: Sink>(out: &mut O, word: &str, number: usize) -> u8
+    ensures { IsPrinted (seen O.Sink out.old) (seen O.Sink out.new) (rejected_text (word.now ++ decimal number)) Status.Rejected result }
+{
+    let mut buffer = Buffer::new();
+    let pieces = [
+        b"rejected: ".as_slice(),
+        word.as_bytes(),
+        buffer.format(number).as_bytes(),
+        b"\n".as_slice(),
+    ];
+    print_pieces(out, &pieces, Status::Rejected)
+}
+
+/// .. by a reason of a word and a name.
+fn print_named<O: Sink>(out: &mut O, word: &str, name: &str) -> u8
+    ensures { IsPrinted (seen O.Sink out.old) (seen O.Sink out.new) (rejected_text (word.now ++ (name.now ++ codes ">"))) Status.Rejected result }
+{
+    let pieces = [
+        b"rejected: ".as_slice(),
+        word.as_bytes(),
+        name.as_bytes(),
+        b">\n".as_slice(),
+    ];
+    print_pieces(out, &pieces, Status::Rejected)
+}
+
+/// .. by this reason.
+fn print_reason<O: Sink>(out: &mut O, ontology: &Ontology, reason: &Reason) -> u8
+    ensures { IsPrinted (seen O.Sink out.old) (seen O.Sink out.new) (rejected_text (text_of_reason ontology.now reason.now)) Status.Rejected result }
 {
     match reason {
-        Reason::BadText { at } => format!(in alloc; "C1 at byte {at}"),
-        Reason::BadLine { number } => format!(in alloc; "C2 line {number}"),
-        Reason::AxiomFails { axiom } => format!(in alloc; "C3 axiom {axiom}"),
+        Reason::BadText { at } => print_numbered(out, "C1 at byte ", *at),
+        Reason::BadLine { number } => print_numbered(out, "C2 line ", *number),
+        Reason::AxiomFails { axiom } => print_numbered(out, "C3 axiom ", *axiom),
         Reason::ClaimMissing { class } => {
-            let name = name_of(ontology.classes(), class.index());
-            format!(in alloc; "C4 <{name}>")
+            print_named(out, "C4 <", name_of(ontology.classes(), class.index()))
         }
         Reason::ClaimDisagrees { class } => {
-            let name = name_of(ontology.classes(), class.index());
-            format!(in alloc; "C5 <{name}>")
+            print_named(out, "C5 <", name_of(ontology.classes(), class.index()))
         }
         Reason::IndividualDisagrees { individual } => {
-            let name = name_of(ontology.individuals(), individual.index());
-            format!(in alloc; "C6 <{name}>")
+            print_named(
+                out,
+                "C6 <",
+                name_of(ontology.individuals(), individual.index()),
+            )
         }
-        Reason::NoContradiction => String::from_str(alloc, "C7"),
-        Reason::TaxonomyDiffers { at } => format!(in alloc; "C8 at byte {at}"),
-        Reason::InstancesDiffer { at } => format!(in alloc; "C9 at byte {at}"),
+        Reason::NoContradiction => print(out, "rejected: C7\n", Status::Rejected),
+        Reason::TaxonomyDiffers { at } => print_numbered(out, "C8 at byte ", *at),
+        Reason::InstancesDiffer { at } => print_numbered(out, "C9 at byte ", *at),
     }
 }
 
-/// The line of a verdict.
-pub(crate) fn verdict_message(
-    alloc: Global,
-    ontology: &Ontology,
-    verdict: &Verdict,
-) -> Result<Message, AllocError>
-    ensures { IfOk result (λ m. (string_bytes m.text ≡ verdict_text ontology.now verdict.now) × (m.status ≡ verdict_status verdict.now)) }
+/// Prints the line of a verdict. It needs no memory.
+pub(crate) fn print_verdict<O: Sink>(out: &mut O, ontology: &Ontology, verdict: &Verdict) -> u8
+    ensures { IsPrinted (seen O.Sink out.old) (seen O.Sink out.new) (verdict_text ontology.now verdict.now) (verdict_status verdict.now) result }
 {
     match verdict {
-        Verdict::Accepted => message_of(String::from_str(alloc, "accepted\n"), Status::Done),
-        Verdict::Rejected(reason) => {
-            let reason = reason_text(alloc, ontology, reason)?;
-            message_of(format!(in alloc; "rejected: {reason}\n"), Status::Rejected)
-        }
+        Verdict::Accepted => print(out, "accepted\n", Status::Done),
+        Verdict::Rejected(reason) => print_reason(out, ontology, reason),
     }
 }
 

@@ -1,22 +1,26 @@
 //! A whole run of the program.
 ghost use Rattle.cli.specs.Devices.{seen};
-ghost use Rattle.cli.specs.Performed.{AskForNoClassification, Classifies, IsCheckRun, Performs, max_bytes_of, max_facts_of};
+ghost use Rattle.cli.specs.Files.{store};
+ghost use Rattle.cli.specs.Performed.{AskForNoClassification, IsCheckRun, IsCheckTold, IsClassifyMade, IsClassifyRun, IsClassifyTold, Performs, max_bytes_of, max_facts_of};
 ghost use Rattle.cli.specs.Printed.{IsLineTold, outputs};
 ghost use Rattle.cli.specs.Stored.{HasFresh};
-ghost use Rattle.std.specs.Io.KnownBytes.{Keeps};
 ghost use Rattle.std.specs.Prelude.{◌≡◌, ℕ, List, IfOk, map};
 
 use crate::asking::{perform_explain, perform_instances};
-use crate::checking::checked;
+use crate::checking::checked_files;
 use crate::classifying::classify_document;
+use crate::fault::{CheckFault, ClassifyFault};
+use crate::opening::document_of;
 use crate::printing::{
-    answer, check_message, classify_message, summary_message, tell, tell_out_of_memory,
-    usage_message, verdict_message,
+    check_message, classify_message, print_summary, print_verdict, tell, tell_out_of_memory,
+    usage_message,
 };
-use axioms::Memory;
+use axioms::{Memory, Ontology};
+use cert_check::Verdict;
+use classification::Summary;
 use command_line::{LineFault, Paths, Task, task};
 use device::Sink;
-use profile::{Limits, MOST_FACTS};
+use profile::{DocumentFault, Limits, MOST_FACTS};
 use std::alloc::Global;
 use std::hash::RandomState;
 use system_files::Files;
@@ -32,8 +36,10 @@ struct TextSinks<S: Drop> {
 /// Sinks of the files of the three texts, which have taken nothing. The files hold what they did.
 fn sinks_of<F: Files>(files: &mut F, paths: &Paths<'_>) -> Result<TextSinks<F::Out>, Memory>
     ensures fresh { IfOk result (λ s. HasFresh F.Out.Sink (F.is_known files.old) paths.now (F.has_place files.new) s.taxonomy s.instances s.certificate) }
+    ensures working { IfOk result (λ s. (F.Out.Sink.failures s.taxonomy ≡ 0) × (F.Out.Sink.failures s.instances ≡ 0) × (F.Out.Sink.failures s.certificate ≡ 0)) }
     ensures kept { (path : List ℕ) → F.content files.new path ≡ F.content files.old path }
     ensures known { F.is_known files.new ≡ F.is_known files.old }
+    ensures unfailed { F.failed_writes files.new ≡ F.failed_writes files.old }
 {
     let taxonomy = files.writer(paths.taxonomy)?;
     let instances = files.writer(paths.instances)?;
@@ -45,51 +51,22 @@ fn sinks_of<F: Files>(files: &mut F, paths: &Paths<'_>) -> Result<TextSinks<F::O
     })
 }
 
-/// The sources of the document and of the three texts.
-#[derive(Drop)]
-struct AllSources<S: Drop> {
-    document: S,
-    taxonomy: S,
-    instances: S,
-    certificate: S,
-}
-
-/// Sources of the files of the document and of the three texts.
-fn sources_of<F: Files>(files: &F, paths: &Paths<'_>) -> Result<AllSources<F::In>, Memory>
-    ensures document { IfOk result (λ s. Keeps (F.content files.now paths.now.document.now) (F.In.Source.left s.document)) }
-    ensures taxonomy { IfOk result (λ s. Keeps (F.content files.now paths.now.taxonomy.now) (F.In.Source.left s.taxonomy)) }
-    ensures instances { IfOk result (λ s. Keeps (F.content files.now paths.now.instances.now) (F.In.Source.left s.instances)) }
-    ensures certificate { IfOk result (λ s. Keeps (F.content files.now paths.now.certificate.now) (F.In.Source.left s.certificate)) }
-{
-    let document = files.reader(paths.document)?;
-    let taxonomy = files.reader(paths.taxonomy)?;
-    let instances = files.reader(paths.instances)?;
-    let certificate = files.reader(paths.certificate)?;
-    Ok(AllSources {
-        document,
-        taxonomy,
-        instances,
-        certificate,
-    })
-}
-
-/// Classifies the document, writes its texts, and prints the counts.
-fn perform_classify<F: Files, O: Sink, E: Sink>(
+/// Classifies the document, and writes its texts into their files.
+fn classified_files<F: Files>(
     alloc: Global,
     paths: &Paths<'_>,
     limits: &Limits,
     files: &mut F,
-    out: &mut O,
-    err: &mut E,
     state: RandomState,
-) -> u8
-    ensures run { Classifies F.Files O.Sink E.Sink paths.now limits.now (files.old, out.old, err.old) (files.new, out.new, err.new) result }
+) -> Result<Summary, ClassifyFault>
+    ensures { IsClassifyMade paths.now limits.now.max_facts limits.now.max_bytes (store F.Files files.old files.new) (F.content files.old) (F.content files.new) result }
 {
-    let Ok(mut document) = files.reader(paths.document) else {
-        return tell_out_of_memory(err);
+    let mut document = match document_of(files, paths.document) {
+        Ok(document) => document,
+        Err(fault) => return Err(ClassifyFault::Document(fault)),
     };
     let Ok(mut sinks) = sinks_of(files, paths) else {
-        return tell_out_of_memory(err);
+        return Err(ClassifyFault::Document(DocumentFault::Memory));
     };
     let classified = classify_document(
         alloc,
@@ -103,9 +80,56 @@ fn perform_classify<F: Files, O: Sink, E: Sink>(
     files.close(sinks.taxonomy);
     files.close(sinks.instances);
     files.close(sinks.certificate);
-    match classified {
-        Ok(summary) => answer(out, err, summary_message(alloc, &summary)),
+    classified
+}
+
+/// Prints the counts, or why the document is not classified.
+fn tell_classified<O: Sink, E: Sink>(
+    alloc: Global,
+    answer: Result<Summary, ClassifyFault>,
+    paths: &Paths<'_>,
+    limits: &Limits,
+    out: &mut O,
+    err: &mut E,
+) -> u8
+    ensures { IsClassifyTold paths.now limits.now.max_facts limits.now.max_bytes answer (outputs O.Sink E.Sink out.old err.old) (outputs O.Sink E.Sink out.new err.new) result }
+{
+    match answer {
+        Ok(summary) => print_summary(out, &summary),
         Err(fault) => tell(err, classify_message(alloc, &fault, paths, limits)),
+    }
+}
+
+/// Classifies the document, writes its texts, and prints the counts.
+fn perform_classify<F: Files, O: Sink, E: Sink>(
+    alloc: Global,
+    paths: &Paths<'_>,
+    limits: &Limits,
+    files: &mut F,
+    out: &mut O,
+    err: &mut E,
+    state: RandomState,
+) -> u8
+    ensures { IsClassifyRun paths.now limits.now.max_facts limits.now.max_bytes (store F.Files files.old files.new) (F.content files.old) (F.content files.new) (outputs O.Sink E.Sink out.old err.old) (outputs O.Sink E.Sink out.new err.new) result }
+{
+    let answer = classified_files(alloc, paths, limits, files, state);
+    tell_classified(alloc, answer, paths, limits, out, err)
+}
+
+/// Prints the verdict, or why there is none.
+fn tell_checked<O: Sink, E: Sink>(
+    alloc: Global,
+    answer: Result<(Ontology, Verdict), CheckFault>,
+    paths: &Paths<'_>,
+    limits: &Limits,
+    out: &mut O,
+    err: &mut E,
+) -> u8
+    ensures { IsCheckTold paths.now limits.now.max_bytes answer (outputs O.Sink E.Sink out.old err.old) (outputs O.Sink E.Sink out.new err.new) result }
+{
+    match answer {
+        Ok((ontology, verdict)) => print_verdict(out, &ontology, &verdict),
+        Err(fault) => tell(err, check_message(alloc, &fault, paths, limits)),
     }
 }
 
@@ -119,24 +143,10 @@ fn perform_check<F: Files, O: Sink, E: Sink>(
     err: &mut E,
     state: RandomState,
 ) -> u8
-    ensures { IsCheckRun paths.now limits.now.max_bytes (F.content files.now) (outputs O.Sink E.Sink out.old err.old) (outputs O.Sink E.Sink out.new err.new) result }
+    ensures { IsCheckRun paths.now limits.now.max_bytes (store F.Files files.now files.now) (F.content files.now) (outputs O.Sink E.Sink out.old err.old) (outputs O.Sink E.Sink out.new err.new) result }
 {
-    let Ok(mut sources) = sources_of(files, paths) else {
-        return tell_out_of_memory(err);
-    };
-    let checked = checked(
-        alloc,
-        &mut sources.document,
-        &mut sources.taxonomy,
-        &mut sources.instances,
-        &mut sources.certificate,
-        limits,
-        state,
-    );
-    match checked {
-        Ok((ontology, verdict)) => answer(out, err, verdict_message(alloc, &ontology, &verdict)),
-        Err(fault) => tell(err, check_message(alloc, &fault, paths, limits)),
-    }
+    let answer = checked_files(alloc, paths, limits, files, state);
+    tell_checked(alloc, answer, paths, limits, out, err)
 }
 
 /// Tells of words that ask for nothing that the program does.

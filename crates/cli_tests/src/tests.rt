@@ -5,6 +5,7 @@ mod checking;
 mod failing;
 mod hierarchies;
 mod refusals;
+mod starting;
 mod worked;
 
 use axioms::Memory;

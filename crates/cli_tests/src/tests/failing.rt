@@ -7,7 +7,7 @@ use cli::{
 };
 use device::{Failed, Sink, SliceSource, Source};
 use std::process::Abort;
-use system_files::{MemorySink, MemorySource};
+use system_files::{MemorySink, MemorySource, OpenFault};
 
 /// A source that gives at most seven bytes a read, and fails after some reads.
 #[derive(Drop)]
@@ -127,6 +127,7 @@ struct FailingFiles {
     inner: MemoryFiles,
     path: &'static str,
     calls: usize,
+    failed_writes: u64,
 }
 
 impl FailingFiles {
@@ -141,6 +142,9 @@ impl FailingFiles {
 }
 
 impl Files for FailingFiles {
+    ghost use Rattle.std.specs.Prelude.{false, true};
+    ghost use Rattle.system_files.specs.Contents.{not_false, not_true};
+
     type In = FailingFileSource;
 
     type Out = FailingFileSink;
@@ -151,13 +155,28 @@ impl Files for FailingFiles {
 
     ghost has_place = { λ f. ⟦<MemoryFiles as Files>⟧.has_place f.inner };
 
-    fn reader(&self, path: &str) -> Result<Self::In, Memory> {
+    ghost is_locked = { λ _. false };
+
+    ghost is_shut = { λ _. false };
+
+    ghost failed_writes = { λ f. f.failed_writes };
+
+    ghost reads_fail = { true };
+
+    ghost untaken = { λ _ shut. not_true shut };
+
+    ghost unfailing = { λ bad _. not_false bad };
+
+    fn reader(&self, path: &str) -> Result<Self::In, OpenFault> {
         let reads = self.calls_of(path);
-        Ok(FailingFileSource {
-            inner: self.inner.reader(path)?,
-            reads,
-            failures: 0,
-        })
+        match self.inner.reader(path) {
+            Ok(inner) => Ok(FailingFileSource {
+                inner,
+                reads,
+                failures: 0,
+            }),
+            Err(fault) => Err(fault),
+        }
     }
 
     fn writer(&mut self, path: &str) -> Result<Self::Out, Memory> {
@@ -170,7 +189,10 @@ impl Files for FailingFiles {
     }
 
     fn close(&mut self, sink: Self::Out) {
-        let FailingFileSink { inner, .. } = sink;
+        let FailingFileSink {
+            inner, failures, ..
+        } = sink;
+        self.failed_writes = self.failed_writes.saturating_add(failures);
         self.inner.close(inner);
     }
 }
@@ -288,7 +310,12 @@ fn run_failing<R: AllocGlobal + RandomSource>(
     path: &'static str,
     calls: usize,
 ) -> Result<(Run, Texts), Fail> {
-    let mut files = FailingFiles { inner, path, calls };
+    let mut files = FailingFiles {
+        inner,
+        path,
+        calls,
+        failed_writes: 0,
+    };
     let run = run_of(rt, words, &mut files)?;
     let texts = texts_in(rt.alloc(), &files.inner)?;
     Ok((run, texts))

@@ -20,7 +20,7 @@ returns-in-Classify-clause-performed g c =
     let these = same_limits c.in-Ok.task task c.max_bytes.result c.max_facts.result limits.max_bytes limits.max_facts t.is c.max_bytes.ensures c.max_facts.ensures c.in-Some.ensures.these in
     let old : Output = record { out = (g.O.Sink.taken c.args.out.now, g.O.Sink.failures c.args.out.now); err = (g.E.Sink.taken c.args.err.now, g.E.Sink.failures c.args.err.now) } in
     let new : Output = record { out = (g.O.Sink.taken c.perform_classify.new.out, g.O.Sink.failures c.perform_classify.new.out); err = (g.E.Sink.taken c.perform_classify.new.err, g.E.Sink.failures c.perform_classify.new.err) } in
-    classified words (g.F.Files.is_known c.args.files.now) (g.F.Files.content c.args.files.now) (g.F.Files.content c.perform_classify.new.files) old new c.perform_classify.result t.paths t.max_facts t.max_bytes limits.max_facts limits.max_bytes of these c.perform_classify.ensures.run
+    classified words _ (g.F.Files.content c.args.files.now) (g.F.Files.content c.perform_classify.new.files) old new c.perform_classify.result t.paths t.max_facts t.max_bytes limits.max_facts limits.max_bytes of these c.perform_classify.ensures
 
 pub returns-in-Classify-clause-untouched : goal.returns-in-Classify-clause-untouched
 returns-in-Classify-clause-untouched g c none =
@@ -38,7 +38,7 @@ returns-in-Check-clause-performed g c =
     let these = same_limits c.in-Ok.task task c.max_bytes.result c.max_facts.result limits.max_bytes limits.max_facts t.is c.max_bytes.ensures c.max_facts.ensures c.in-Some.ensures.these in
     let old : Output = record { out = (g.O.Sink.taken c.args.out.now, g.O.Sink.failures c.args.out.now); err = (g.E.Sink.taken c.args.err.now, g.E.Sink.failures c.args.err.now) } in
     let new : Output = record { out = (g.O.Sink.taken c.perform_check.new.out, g.O.Sink.failures c.perform_check.new.out); err = (g.E.Sink.taken c.perform_check.new.err, g.E.Sink.failures c.perform_check.new.err) } in
-    checked words (g.F.Files.is_known c.args.files.now) (g.F.Files.content c.args.files.now) (g.F.Files.content c.args.files.now) old new c.perform_check.result t.paths t.max_bytes limits.max_bytes of these.0 c.perform_check.ensures
+    checked words _ (g.F.Files.content c.args.files.now) (g.F.Files.content c.args.files.now) old new c.perform_check.result t.paths t.max_bytes limits.max_bytes of these.0 c.perform_check.ensures
 
 pub returns-in-Instances-clause-performed : goal.returns-in-Instances-clause-performed
 returns-in-Instances-clause-performed g c =
@@ -50,7 +50,7 @@ returns-in-Instances-clause-performed g c =
     let these = same_limits c.in-Ok.task task c.max_bytes.result c.max_facts.result limits.max_bytes limits.max_facts t.is c.max_bytes.ensures c.max_facts.ensures c.in-Some.ensures.these in
     let old : Output = record { out = (g.O.Sink.taken c.args.out.now, g.O.Sink.failures c.args.out.now); err = (g.E.Sink.taken c.args.err.now, g.E.Sink.failures c.args.err.now) } in
     let new : Output = record { out = (g.O.Sink.taken c.perform_instances.new.out, g.O.Sink.failures c.perform_instances.new.out); err = (g.E.Sink.taken c.perform_instances.new.err, g.E.Sink.failures c.perform_instances.new.err) } in
-    inl (task, of, instances_within t.document.now t.class.now (g.F.Files.content c.args.files.now) old new c.perform_instances.result t.max_facts t.max_bytes limits.max_facts limits.max_bytes these c.perform_instances.ensures)
+    inl (task, of, instances_within t.document.now t.class.now _ (g.F.Files.content c.args.files.now) old new c.perform_instances.result t.max_facts t.max_bytes limits.max_facts limits.max_bytes these c.perform_instances.ensures)
 
 pub returns-in-Explain-clause-performed : goal.returns-in-Explain-clause-performed
 returns-in-Explain-clause-performed g c =
@@ -62,4 +62,4 @@ returns-in-Explain-clause-performed g c =
     let these = same_limits c.in-Ok.task task c.max_bytes.result c.max_facts.result limits.max_bytes limits.max_facts t.is c.max_bytes.ensures c.max_facts.ensures c.in-Some.ensures.these in
     let old : Output = record { out = (g.O.Sink.taken c.args.out.now, g.O.Sink.failures c.args.out.now); err = (g.E.Sink.taken c.args.err.now, g.E.Sink.failures c.args.err.now) } in
     let new : Output = record { out = (g.O.Sink.taken c.perform_explain.new.out, g.O.Sink.failures c.perform_explain.new.out); err = (g.E.Sink.taken c.perform_explain.new.err, g.E.Sink.failures c.perform_explain.new.err) } in
-    inl (task, of, explain_within t.question (g.F.Files.content c.args.files.now) old new c.perform_explain.result t.max_facts t.max_bytes limits.max_facts limits.max_bytes these c.perform_explain.ensures)
+    inl (task, of, explain_within t.question _ (g.F.Files.content c.args.files.now) old new c.perform_explain.result t.max_facts t.max_bytes limits.max_facts limits.max_bytes these c.perform_explain.ensures)

@@ -1,0 +1,152 @@
+-- Which files the answers of calls blame.
+use Rattle.std.proofs.Common.{◌≡◌, ◌∙◌, ◌<◌, ◌≤◌, ◌-◌, ◌^◌, ℕ, zero, suc, List, Bool, false, Option, Some, None, Result, Ok, Err, refl, sym, ap, subst, inl, inr, arith}
+use Rattle.cli.specs.Devices.{Device, FailsIn, IsReadUntil, SourceState, Takes}
+use Rattle.cli.specs.Files.{AsksFile, BlamesFile, ClassifiesFile, IsUnopened, IsUnreadable, NoWriteFails, SomeWriteFails, Store}
+use Rattle.cli.specs.Writing.{AreWritten, AreWrittenUntil, IsClassification, IsDocumentRead, Sinks, Texts}
+use Rattle.cli.specs.declared.fault.ClassifyFault.{ClassifyFault}
+use Rattle.cli.specs.declared.fault.ClassifyFault.TheVariants as classifying
+use Rattle.classification.specs.declared.classification.Summary.{Summary}
+use Rattle.device.specs.Device.{HasFailed}
+use Rattle.profile.specs.Faults.{RefusesKnown}
+use Rattle.profile.specs.declared.fault.DocumentFault.{DocumentFault}
+use Rattle.profile.specs.declared.fault.DocumentFault.TheVariants as reading
+use Rattle.session.specs.Answered as asked_of
+use Rattle.session.specs.Devices as asked
+use Rattle.session.specs.declared.question_fault.QuestionFault.{QuestionFault}
+use Rattle.session.specs.declared.question_fault.QuestionFault.TheVariants as asking
+use Rattle.system_files.specs.Contents.{IsMissing, IsThere}
+
+-- ---- reading
+
+-- counts that are both 0 tell of no failure
+unfailed : (old new : ℕ) → old ≡ 0 → new ≡ 0 → HasFailed old new → ⊥
+unfailed old new none none' (inl rose) = absurd (omega (arith, none, none', rose))
+unfailed old new none none' (inr last) = let bad : 0 ≡ 2 ^ 64 - 1 = sym none' ∙ last in absurd (cc)
+
+-- a source that failed is one that can fail
+pub unreadable : (fails known : Bool) (held : Option (List ℕ)) (old new : ℕ) → (fails ≡ false → old ≡ 0) → (fails ≡ false → new ≡ 0) → HasFailed old new → IsUnreadable fails known held
+unreadable fails known held old new none none' failed is = absurd (unfailed old new (none is) (none' is) failed)
+
+-- a document that is not opened is refused
+pub unopened_is_refused : (known : Bool) (held : Option (List ℕ)) (most : ℕ) (fault : DocumentFault) → IsUnopened known held fault → RefusesKnown held most fault
+unopened_is_refused known None most fault is = tt
+unopened_is_refused known (Some bytes) most reading.Io is = tt
+unopened_is_refused known (Some bytes) most reading.Memory is = tt
+unopened_is_refused known (Some bytes) most reading.TooLarge is = absurd is
+unopened_is_refused known (Some bytes) most reading.TooManyNames is = absurd is
+unopened_is_refused known (Some bytes) most (reading.NotUtf8 at) is = absurd is
+unopened_is_refused known (Some bytes) most (reading.Lex fault) is = absurd is
+unopened_is_refused known (Some bytes) most (reading.Parse fault) is = absurd is
+unopened_is_refused known (Some bytes) most (reading.Faults found) is = absurd is
+
+-- .. and its file is to blame
+pub unopened_is_blamed : (fails known : Bool) (held : Option (List ℕ)) (fault : DocumentFault) → IsUnopened known held fault → BlamesFile fails known held fault
+unopened_is_blamed fails known held reading.Io is = λ e. is
+unopened_is_blamed fails known held reading.Memory is = tt
+unopened_is_blamed fails known held reading.TooLarge is = absurd is
+unopened_is_blamed fails known held reading.TooManyNames is = absurd is
+unopened_is_blamed fails known held (reading.NotUtf8 at) is = absurd is
+unopened_is_blamed fails known held (reading.Lex fault) is = absurd is
+unopened_is_blamed fails known held (reading.Parse fault) is = absurd is
+unopened_is_blamed fails known held (reading.Faults found) is = absurd is
+
+-- ---- questions
+
+pub asks_file : {X : Type 0} (fails known : Bool) (held : Option (List ℕ)) (answer : Result X QuestionFault) (old new : asked.SourceState) → IsThere known held → (fails ≡ false → old.failures ≡ 0) → (fails ≡ false → new.failures ≡ 0) → asked_of.IsRead answer old new → AsksFile fails known held answer
+asks_file fails known held (Ok x) old new there none none' is = there
+asks_file fails known held (Err (asking.Document reading.Io)) old new there none none' is = unreadable fails known held old.failures new.failures none none' is.failed
+asks_file fails known held (Err (asking.Document reading.Memory)) old new there none none' is = tt
+asks_file fails known held (Err (asking.Document reading.TooLarge)) old new there none none' is = there
+asks_file fails known held (Err (asking.Document reading.TooManyNames)) old new there none none' is = there
+asks_file fails known held (Err (asking.Document (reading.NotUtf8 at))) old new there none none' is = there
+asks_file fails known held (Err (asking.Document (reading.Lex fault))) old new there none none' is = there
+asks_file fails known held (Err (asking.Document (reading.Parse fault))) old new there none none' is = there
+asks_file fails known held (Err (asking.Document (reading.Faults found))) old new there none none' is = there
+asks_file fails known held (Err asking.Limit) old new there none none' is = there
+asks_file fails known held (Err (asking.UnknownName name)) old new there none none' is = there
+asks_file fails known held (Err asking.Memory) old new there none none' is = there
+
+-- ---- writes that failed
+
+-- how many writes had failed, before a sink was closed that failed so often and behind that
+pub record IsCounted (before behind failures : ℕ) : Type 0 where
+  pub unfailed : failures ≡ 0 → behind ≡ before
+  pub failed : 0 < failures → HasFailed before behind
+
+-- .. of three sinks, one after the other
+pub record AreCounted (sinks : Sinks) (before behind : ℕ) : Type 0 where
+  pub first : ℕ
+  pub second : ℕ
+  pub third : ℕ
+  pub same : first ≡ before
+  pub taxonomy : IsCounted first second sinks.taxonomy.1
+  pub instances : IsCounted second third sinks.instances.1
+  pub certificate : IsCounted third behind sinks.certificate.1
+
+-- the three had not failed
+pub record AreWorking (sinks : Sinks) : Type 0 where
+  pub taxonomy : sinks.taxonomy.1 ≡ 0
+  pub instances : sinks.instances.1 ≡ 0
+  pub certificate : sinks.certificate.1 ≡ 0
+
+none : (sinks : Sinks) (before behind : ℕ) → AreCounted sinks before behind → AreWorking sinks → behind ≡ before
+none sinks before behind counted working =
+    counted.certificate.unfailed working.certificate ∙ counted.instances.unfailed working.instances ∙ counted.taxonomy.unfailed working.taxonomy ∙ counted.same
+
+untouched : (old new : Sinks) → AreWorking old → new ≡ old → AreWorking new
+untouched old new working same = let P : Sinks → Type 0 = AreWorking in subst P (sym same) working
+
+more : (old new : ℕ) → old ≡ 0 → HasFailed old new → 0 < new
+more old new none (inl rose) = omega (arith, none, rose)
+more old new none (inr last) = omega (arith, last)
+
+some : (old new : Device) (text : List ℕ) → old.1 ≡ 0 → FailsIn old new text → 0 < new.1
+some old new text working fails = more old.1 new.1 working fails.1
+
+written_none : (old new : Sinks) (texts : Texts) (before behind : ℕ) → AreWorking old → AreCounted new before behind → AreWritten old new texts → behind ≡ before
+written_none old new texts before behind working counted written =
+    none new before behind counted (record { taxonomy = written.0.1 ∙ working.taxonomy; instances = written.1.1 ∙ working.instances; certificate = written.2.1 ∙ working.certificate })
+
+same_device : (old new : Device) → new ≡ old → old.1 ≡ 0 → new.1 ≡ 0
+same_device old new same none = ap (λ (d : Device). d.1) same ∙ none
+
+fails_from : (a b before behind : ℕ) → a ≡ before → behind ≡ b → HasFailed a b → HasFailed before behind
+fails_from a b before behind first last failed =
+    let P : ℕ → Type 0 = λ n. HasFailed n behind in
+    let Q : ℕ → Type 0 = λ n. HasFailed a n in
+    subst P first (subst Q (sym last) failed)
+
+written_some : (n : ℕ) (old new : Sinks) (texts : Texts) (before behind : ℕ) → AreWorking old → AreCounted new before behind → AreWrittenUntil n old new texts → HasFailed before behind
+written_some zero old new texts before behind working counted written = absurd written
+written_some (suc zero) old new texts before behind working counted written =
+    fails_from _ _ before behind counted.same
+    (counted.certificate.unfailed (same_device old.certificate new.certificate written.2 working.certificate) ∙ counted.instances.unfailed (same_device old.instances new.instances written.1 working.instances))
+    (counted.taxonomy.failed (some old.taxonomy new.taxonomy texts.taxonomy working.taxonomy written.0))
+written_some (suc (suc zero)) old new texts before behind working counted written =
+    fails_from _ _ before behind (counted.taxonomy.unfailed (written.0.1 ∙ working.taxonomy) ∙ counted.same)
+    (counted.certificate.unfailed (same_device old.certificate new.certificate written.2 working.certificate))
+    (counted.instances.failed (some old.instances new.instances texts.instances working.instances written.1))
+written_some (suc (suc (suc zero))) old new texts before behind working counted written =
+    fails_from _ _ before behind (counted.instances.unfailed (written.1.1 ∙ working.instances) ∙ counted.taxonomy.unfailed (written.0.1 ∙ working.taxonomy) ∙ counted.same) refl
+    (counted.certificate.failed (some old.certificate new.certificate texts.certificate working.certificate written.2))
+written_some (suc (suc (suc (suc n)))) old new texts before behind working counted written = absurd written
+
+-- ---- classifications
+
+read_blamed : (fails known : Bool) (held : Option (List ℕ)) (fault : DocumentFault) (old new : SourceState) → IsThere known held → (fails ≡ false → old.failures ≡ 0) → (fails ≡ false → new.failures ≡ 0) → IsReadUntil fault old new → BlamesFile fails known held fault
+read_blamed fails known held reading.Io old new there none none' is = unreadable fails known held old.failures new.failures none none' is.failed
+read_blamed fails known held reading.Memory old new there none none' is = tt
+read_blamed fails known held reading.TooLarge old new there none none' is = there
+read_blamed fails known held reading.TooManyNames old new there none none' is = there
+read_blamed fails known held (reading.NotUtf8 at) old new there none none' is = there
+read_blamed fails known held (reading.Lex fault) old new there none none' is = there
+read_blamed fails known held (reading.Parse fault) old new there none none' is = there
+read_blamed fails known held (reading.Faults found) old new there none none' is = there
+
+pub classifies_file : (s : Store) (facts bytes : ℕ) (held left : Option (List ℕ)) (answer : Result Summary ClassifyFault) (source source' : SourceState) (old new : Sinks) → IsThere s.is_known held → (s.reads_fail ≡ false → source.failures ≡ 0) → (s.reads_fail ≡ false → source'.failures ≡ 0) → AreWorking old → AreCounted new s.failed_before s.failed_behind → IsDocumentRead answer source source' → IsClassification bytes facts left old new answer → ClassifiesFile s held answer
+classifies_file s facts bytes held left (Ok summary) source source' old new there unfailed unfailed' working counted read is = (there, written_none old new is.0 _ _ working counted is.2)
+classifies_file s facts bytes held left (Err (classifying.Document fault)) source source' old new there unfailed unfailed' working counted read is =
+    (read_blamed s.reads_fail s.is_known held fault source source' there unfailed unfailed' read, none new _ _ counted (untouched old new working is.1))
+classifies_file s facts bytes held left (Err classifying.Memory) source source' old new there unfailed unfailed' working counted read is = (there, none new _ _ counted (untouched old new working is.1))
+classifies_file s facts bytes held left (Err classifying.Limit) source source' old new there unfailed unfailed' working counted read is = (there, none new _ _ counted (untouched old new working is.1))
+classifies_file s facts bytes held left (Err (classifying.Io n)) source source' old new there unfailed unfailed' working counted read is = (there, written_some n old new is.1.1 _ _ working counted is.1.3)

@@ -1,0 +1,48 @@
+use Rattle.std.proofs.Common.{[], ◌∷◌, IfErr, IfOk, subst}
+use Rattle.answers.specs.declared.asked.Asked.{Asked}
+use Rattle.cli.proofs.Blamed.{asks_file, unopened_is_blamed, unopened_is_refused}
+use Rattle.cli.proofs.Questions.{fault_in_file, why_in_file}
+use Rattle.cli.specs.Performed.{asked_by}
+use Rattle.session.specs.Answered.{AnswersWhy, IsFaultOf}
+use Rattle.session.specs.Asking.{class_name, subject_name}
+use Rattle.session.specs.Devices.{SourceState}
+use Rattle.session.specs.declared.form.Form.{Form}
+use Rattle.cli.proofs.asking.explanation_in.Goals as goal
+
+pub returns-clause-answered : goal.returns-clause-answered
+returns-clause-answered g c =
+    let q = c.args.question.now in
+    let most = c.args.limits.now.max_bytes in
+    let file = g.F.Files.content c.args.files.now q.document.now in
+    let r = c.explanation_text.result in
+    let is = why_in_file r _ _ most c.asked.result q.class.now c.form_of.result c.in-Ok.ensures.left c.explanation_text.ensures.answered in
+    let OfAsked : Asked → Type 0 = λ asked. IfOk r (λ v. AnswersWhy most file asked q.class.now c.form_of.result v.items) in
+    let OfForm : Form → Type 0 = λ form. IfOk r (λ v. AnswersWhy most file (asked_by q) q.class.now form v.items) in
+    subst OfForm c.form_of.ensures (subst OfAsked c.asked.ensures is)
+
+pub returns-clause-fault : goal.returns-clause-fault
+returns-clause-fault g c =
+    let q = c.args.question.now in
+    let limits = c.args.limits.now in
+    let file = g.F.Files.content c.args.files.now q.document.now in
+    let r = c.explanation_text.result in
+    let is = fault_in_file r _ _ limits.max_bytes limits.max_facts (subject_name c.asked.result ∷ class_name q.class.now ∷ []) c.in-Ok.ensures.left c.explanation_text.ensures.fault in
+    let OfAsked : Asked → Type 0 = λ asked. IfErr r (IsFaultOf limits.max_bytes limits.max_facts file (subject_name asked ∷ class_name q.class.now ∷ [])) in
+    subst OfAsked c.asked.ensures is
+
+pub returns-clause-blames : goal.returns-clause-blames
+returns-clause-blames g c =
+    let source = g.F.In.Source in
+    let files = g.F.Files in
+    let before = c.in-Ok.document in
+    let after = c.explanation_text.new.source in
+    let old : SourceState = record { left = source.left before; most = source.most before; failures = source.failures before } in
+    let new : SourceState = record { left = source.left after; most = source.most after; failures = source.failures after } in
+    asks_file files.reads_fail (files.is_known c.args.files.now) (files.content c.args.files.now c.args.question.now.document.now) c.explanation_text.result old new c.in-Ok.ensures.there
+    (λ e. g.met.F.Files.unfailing e before) (λ e. g.met.F.Files.unfailing e after) c.explanation_text.ensures.read
+
+pub returns-in-Err-clause-fault : goal.returns-in-Err-clause-fault
+returns-in-Err-clause-fault g c = unopened_is_refused (g.F.Files.is_known c.args.files.now) _ c.args.limits.now.max_bytes c.in-Err.fault c.in-Err.ensures.fault
+
+pub returns-in-Err-clause-blames : goal.returns-in-Err-clause-blames
+returns-in-Err-clause-blames g c = unopened_is_blamed g.F.Files.reads_fail (g.F.Files.is_known c.args.files.now) _ c.in-Err.fault c.in-Err.ensures.fault

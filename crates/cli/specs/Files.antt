@@ -1,0 +1,99 @@
+-- What is seen of the files of a run, and which of them the answers of its calls blame.
+use Rattle.std.specs.Prelude.{◌≡◌, ◌≤◌, ℕ, List, Bool, false, Option, Result, Ok, Err}
+use Rattle.command_line.specs.declared.tasks.Paths.{Paths}
+use Rattle.cli.specs.Printed.{read_path}
+use Rattle.cli.specs.declared.fault.CheckFault.{CheckFault}
+use Rattle.cli.specs.declared.fault.CheckFault.TheVariants as checking
+use Rattle.cli.specs.declared.fault.ClassifyFault.{ClassifyFault}
+use Rattle.cli.specs.declared.fault.ClassifyFault.TheVariants as classifying
+use Rattle.device.specs.Device.{HasFailed}
+use Rattle.profile.specs.declared.fault.DocumentFault.{DocumentFault}
+use Rattle.profile.specs.declared.fault.DocumentFault.TheVariants.{Io, Memory}
+use Rattle.session.specs.declared.question_fault.QuestionFault.{QuestionFault}
+use Rattle.session.specs.declared.question_fault.QuestionFault.TheVariants as asking
+use Rattle.system_files.specs.Contents.{Content, IsMissing, IsThere}
+use Rattle.system_files.specs.declared.files.Files.{Ghosts}
+
+-- whether it is known what the files hold, whether a read can fail of one that is there, and how many writes had failed before
+-- the run and behind it
+pub record Store : Type 0 where
+  pub is_known : Bool
+  pub reads_fail : Bool
+  pub failed_before : ℕ
+  pub failed_behind : ℕ
+
+-- .. as the words of their trait tell it
+abbrev pub store : {F In Out : Type 0} → Ghosts F In Out → (old new : F) → Store
+store F old new = record { is_known = F.is_known old; reads_fail = F.reads_fail; failed_before = F.failed_writes old; failed_behind = F.failed_writes new }
+
+-- no write failed in the run
+abbrev pub NoWriteFails : Store → Type 0
+NoWriteFails s = s.failed_behind ≡ s.failed_before
+
+-- .. or one did
+abbrev pub SomeWriteFails : Store → Type 0
+SomeWriteFails s = HasFailed s.failed_before s.failed_behind
+
+-- ---- reading
+
+-- a read failed of the file that holds this: where no read fails of a file that is there, it is missing
+abbrev pub IsUnreadable : (fails known : Bool) → Option (List ℕ) → Type 0
+IsUnreadable fails known held = fails ≡ false → IsMissing known held
+
+-- why there is no source of a document: its file is missing, or memory was refused
+abbrev pub IsUnopened : (known : Bool) → Option (List ℕ) → DocumentFault → Type 0
+IsUnopened known held Io = IsMissing known held
+IsUnopened known held Memory = Unit {0}
+IsUnopened known held fault = ⊥
+
+-- what a fault of a document says of its file: that it was not read only where a read failed, and all else of a file that is there
+abbrev pub BlamesFile : (fails known : Bool) → Option (List ℕ) → DocumentFault → Type 0
+BlamesFile fails known held Io = IsUnreadable fails known held
+BlamesFile fails known held Memory = Unit {0}
+BlamesFile fails known held fault = IsThere known held
+
+-- .. and where there is none, the file is there
+abbrev pub ReadsFile : {X : Type 0} → (fails known : Bool) → Option (List ℕ) → Result X DocumentFault → Type 0
+ReadsFile fails known held (Ok x) = IsThere known held
+ReadsFile fails known held (Err fault) = BlamesFile fails known held fault
+
+-- ---- the answers of the calls
+
+-- what an answer of a classification says of the document's file, and of the writes that failed
+abbrev pub ClassifiesFile : {X : Type 0} → Store → Option (List ℕ) → Result X ClassifyFault → Type 0
+ClassifiesFile s held (Ok x) = IsThere s.is_known held × NoWriteFails s
+ClassifiesFile s held (Err (classifying.Document fault)) = BlamesFile s.reads_fail s.is_known held fault × NoWriteFails s
+ClassifiesFile s held (Err classifying.Memory) = IsThere s.is_known held × NoWriteFails s
+ClassifiesFile s held (Err classifying.Limit) = IsThere s.is_known held × NoWriteFails s
+ClassifiesFile s held (Err (classifying.Io n)) = IsThere s.is_known held × SomeWriteFails s
+
+-- what an answer of a question says of the document's file
+abbrev pub AsksFile : {X : Type 0} → (fails known : Bool) → Option (List ℕ) → Result X QuestionFault → Type 0
+AsksFile fails known held (Ok x) = IsThere known held
+AsksFile fails known held (Err (asking.Document fault)) = BlamesFile fails known held fault
+AsksFile fails known held (Err fault) = IsThere known held
+
+-- the files of the three texts are there
+pub record AreTextsThere (known : Bool) (content : Content) (paths : Paths) : Type 0 where
+  pub taxonomy : IsThere known (content paths.taxonomy.now)
+  pub instances : IsThere known (content paths.instances.now)
+  pub certificate : IsThere known (content paths.certificate.now)
+
+-- what a fault says of the file of the text of that number: that it was not read only where a read failed
+abbrev pub IsTextUnread : (number : ℕ) → (fails known : Bool) → Option (List ℕ) → CheckFault → Type 0
+IsTextUnread number fails known held (checking.Document fault) = ⊥
+IsTextUnread number fails known held checking.Memory = Unit {0}
+IsTextUnread number fails known held (checking.Io n) = (n ≡ number) × IsUnreadable fails known held
+
+-- .. and of the files of the three
+abbrev pub BlamesText : (fails known : Bool) → Content → Paths → CheckFault → Type 0
+BlamesText fails known content paths (checking.Document fault) = ⊥
+BlamesText fails known content paths checking.Memory = Unit {0}
+BlamesText fails known content paths (checking.Io n) = (2 ≤ n) × (n ≤ 4) × IsUnreadable fails known (content (read_path paths n))
+
+-- what an answer of a check says of the four files
+abbrev pub ChecksFiles : {X : Type 0} → (fails known : Bool) → Content → Paths → Result X CheckFault → Type 0
+ChecksFiles fails known content paths (Ok x) = IsThere known (content paths.document.now) × AreTextsThere known content paths
+ChecksFiles fails known content paths (Err (checking.Document fault)) = BlamesFile fails known (content paths.document.now) fault
+ChecksFiles fails known content paths (Err checking.Memory) = IsThere known (content paths.document.now)
+ChecksFiles fails known content paths (Err (checking.Io n)) = IsThere known (content paths.document.now) × IsUnreadable fails known (content (read_path paths n))
