@@ -29,13 +29,13 @@ question_fault_of_file file left most facts names Memory kept is = (is.0, read_a
 
 -- ---- .. of whole answers
 
-pub instances_in_file : (answer : Result (Vec ℕ) QuestionFault) (file left : Option (List ℕ)) (most : ℕ) (class : List ℕ) → Keeps file left → IfOk answer (λ v. AnswersInstances most left class v.items) → IfOk answer (λ v. AnswersInstances most file class v.items)
-instances_in_file (Ok v) file left most class kept is = instances_of_file file left most class v.items kept is
-instances_in_file (Err fault) file left most class kept is = tt
+pub instances_in_file : (answer : Result (Vec ℕ) QuestionFault) (file left : Option (List ℕ)) (most facts : ℕ) (class : List ℕ) → Keeps file left → IfOk answer (λ v. AnswersInstances most facts left class v.items) → IfOk answer (λ v. AnswersInstances most facts file class v.items)
+instances_in_file (Ok v) file left most facts class kept is = instances_of_file file left most facts class v.items kept is
+instances_in_file (Err fault) file left most facts class kept is = tt
 
-pub why_in_file : (answer : Result (Vec ℕ) QuestionFault) (file left : Option (List ℕ)) (most : ℕ) (asked : Asked) (class : List ℕ) (form : Form) → Keeps file left → IfOk answer (λ v. AnswersWhy most left asked class form v.items) → IfOk answer (λ v. AnswersWhy most file asked class form v.items)
-why_in_file (Ok v) file left most asked class form kept is = why_of_file file left most asked class form v.items kept is
-why_in_file (Err fault) file left most asked class form kept is = tt
+pub why_in_file : (answer : Result (Vec ℕ) QuestionFault) (file left : Option (List ℕ)) (most facts : ℕ) (asked : Asked) (class : List ℕ) (form : Form) → Keeps file left → IfOk answer (λ v. AnswersWhy most facts left asked class form v.items) → IfOk answer (λ v. AnswersWhy most facts file asked class form v.items)
+why_in_file (Ok v) file left most facts asked class form kept is = why_of_file file left most facts asked class form v.items kept is
+why_in_file (Err fault) file left most facts asked class form kept is = tt
 
 pub fault_in_file : (answer : Result (Vec ℕ) QuestionFault) (file left : Option (List ℕ)) (most facts : ℕ) (names : List (Kind × Iri)) → Keeps file left → IfErr answer (IsFaultOf most facts left names) → IfErr answer (IsFaultOf most facts file names)
 fault_in_file (Ok v) file left most facts names kept is = tt

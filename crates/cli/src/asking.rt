@@ -44,7 +44,7 @@ fn instances_in<'n, F: Files>(
     files: &F,
     state: RandomState,
 ) -> Result<Vec<u8>, QuestionFault<'n>>
-    ensures answered { IfOk result (λ v. AnswersInstances limits.now.max_bytes (F.content files.now path.now) class.now v.items) }
+    ensures answered { IfOk result (λ v. AnswersInstances limits.now.max_bytes limits.now.max_facts (F.content files.now path.now) class.now v.items) }
     ensures fault { IfErr result (IsFaultOf limits.now.max_bytes limits.now.max_facts (F.content files.now path.now) (class_name class.now ∷ [])) }
     ensures blames { AsksFile F.reads_fail (F.is_known files.now) (F.content files.now path.now) result }
 {
@@ -101,7 +101,7 @@ fn explanation_in<'n, F: Files>(
     files: &F,
     state: RandomState,
 ) -> Result<Vec<u8>, QuestionFault<'n>>
-    ensures answered { IfOk result (λ v. AnswersWhy limits.now.max_bytes (F.content files.now question.now.document.now) (asked_by question.now) question.now.class.now (form_in question.now) v.items) }
+    ensures answered { IfOk result (λ v. AnswersWhy limits.now.max_bytes limits.now.max_facts (F.content files.now question.now.document.now) (asked_by question.now) question.now.class.now (form_in question.now) v.items) }
     ensures fault { IfErr result (IsFaultOf limits.now.max_bytes limits.now.max_facts (F.content files.now question.now.document.now) (subject_name (asked_by question.now) ∷ class_name question.now.class.now ∷ [])) }
     ensures blames { AsksFile F.reads_fail (F.is_known files.now) (F.content files.now question.now.document.now) result }
 {

@@ -21,6 +21,7 @@ pub use command_line::{LineFault, Paths, Question, Task, task};
 pub use fault::{CheckFault, ClassifyFault};
 pub use profile::{DocumentFault, Limits, read_document};
 pub use run::perform;
+pub use session::{AskFault, Asked, Explanation, QuestionFault, Session, Stop, TextFault};
 pub use starting::start;
 pub use system_files::Files;
 

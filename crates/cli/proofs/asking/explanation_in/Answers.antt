@@ -13,11 +13,12 @@ pub returns-clause-answered : goal.returns-clause-answered
 returns-clause-answered g c =
     let q = c.args.question.now in
     let most = c.args.limits.now.max_bytes in
+    let facts = c.args.limits.now.max_facts in
     let file = g.F.Files.content c.args.files.now q.document.now in
     let r = c.explanation_text.result in
-    let is = why_in_file r _ _ most c.asked.result q.class.now c.form_of.result c.in-Ok.ensures.left c.explanation_text.ensures.answered in
-    let OfAsked : Asked → Type 0 = λ asked. IfOk r (λ v. AnswersWhy most file asked q.class.now c.form_of.result v.items) in
-    let OfForm : Form → Type 0 = λ form. IfOk r (λ v. AnswersWhy most file (asked_by q) q.class.now form v.items) in
+    let is = why_in_file r _ _ most facts c.asked.result q.class.now c.form_of.result c.in-Ok.ensures.left c.explanation_text.ensures.answered in
+    let OfAsked : Asked → Type 0 = λ asked. IfOk r (λ v. AnswersWhy most facts file asked q.class.now c.form_of.result v.items) in
+    let OfForm : Form → Type 0 = λ form. IfOk r (λ v. AnswersWhy most facts file (asked_by q) q.class.now form v.items) in
     subst OfForm c.form_of.ensures (subst OfAsked c.asked.ensures is)
 
 pub returns-clause-fault : goal.returns-clause-fault
