@@ -1,5 +1,5 @@
 -- How many facts a session that has run to its end shows the closure to have.
-use Rattle.std.proofs.Common.{◌≤◌, ℕ, length, Result, Ok, Err, IfOk, OnOk}
+use Rattle.std.proofs.Common.{◌≤◌, ℕ, length, Result, Ok, Err, IfOk}
 use Rattle.axioms.specs.Numbered.{Ontology}
 use Rattle.classification.proofs.Counting.{has_facts}
 use Rattle.engine.specs.Saturated.{Saturated, IsSaturated}
