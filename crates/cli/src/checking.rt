@@ -2,7 +2,9 @@
 ghost use Rattle.cli.specs.Checked.{AreKnown, AreTextsRead, IsCheckAnswer, IsChecked, IsCheckFault, IsTextRead, Reads, text_states};
 ghost use Rattle.cli.specs.Devices.{source_state};
 ghost use Rattle.cli.specs.Files.{AreTextsThere, BlamesText, ChecksFiles, IsTextUnread};
-ghost use Rattle.std.specs.Prelude.{IfErr, IfOk, OnOk};
+ghost use Rattle.cli.specs.declared.fault.CheckFault.TheVariants as faults;
+ghost use Rattle.profile.specs.declared.fault.DocumentFault.TheVariants as document_faults;
+ghost use Rattle.std.specs.Prelude.{◌+◌, ◌<◌, IfErr, IfOk, IsErrOf, OnOk};
 ghost use Rattle.system_files.specs.Contents.{IsThere};
 
 use crate::fault::CheckFault;
@@ -78,6 +80,7 @@ fn checked<D: Source, T: Source, I: Source, C: Source>(
 ) -> Result<(Ontology, Verdict), CheckFault>
     ensures checked { IfOk result (λ p. IsChecked limits.now.max_bytes (D.left document.old) (T.left taxonomy.old) (I.left instances.old) (C.left certificate.old) p.0 p.1) }
     ensures fault { IfErr result (IsCheckFault limits.now.max_bytes (D.left document.old)) }
+    ensures beyond { IsErrOf result (faults.Document document_faults.TooLarge) → D.most document.new + limits.now.max_bytes < D.most document.old }
     ensures read { Reads D.Source T.Source I.Source C.Source (document.old, taxonomy.old, instances.old, certificate.old) (document.new, taxonomy.new, instances.new, certificate.new) result }
 {
     let ontology = match read_document(alloc, document, limits, state) {
@@ -119,6 +122,8 @@ pub fn check_document<D: Source, T: Source, I: Source, C: Source>(
     // The document reads as an ontology, and the verdict is on that ontology and the three texts; or a fault of the
     // document is one.
     ensures answered { IsCheckAnswer limits.now.max_bytes (D.left document.old) (T.left taxonomy.old) (I.left instances.old) (C.left certificate.old) result }
+    // Of a source that does not tell its bytes, too: it gave more than the limit.
+    ensures beyond { IsErrOf result (faults.Document document_faults.TooLarge) → D.most document.new + limits.now.max_bytes < D.most document.old }
     // After a verdict each source was read to its end, and none failed. A fault names a source only where it failed: those
     // before it were read to their ends, and those behind it are not touched.
     ensures read { Reads D.Source T.Source I.Source C.Source (document.old, taxonomy.old, instances.old, certificate.old) (document.new, taxonomy.new, instances.new, certificate.new) result }

@@ -1,7 +1,9 @@
 //! Classification of a document.
 ghost use Rattle.cli.specs.Devices.{source_state};
 ghost use Rattle.cli.specs.Writing.{AreWrittenAsFar, Classifies, IsBeforeWriting, IsClassified, IsDocumentRead, IsFaultOf, all_seen, texts_of};
-ghost use Rattle.std.specs.Prelude.{◌≡◌, IfErr, IfOk};
+ghost use Rattle.cli.specs.declared.fault.ClassifyFault.TheVariants as faults;
+ghost use Rattle.profile.specs.declared.fault.DocumentFault.TheVariants as document_faults;
+ghost use Rattle.std.specs.Prelude.{◌≡◌, ◌+◌, ◌<◌, IfErr, IfOk, IsErrOf};
 
 use crate::fault::ClassifyFault;
 use classification::{Classification, Stop, Summary, classify};
@@ -20,6 +22,7 @@ fn classified<S: Source>(
     ensures classified { IfOk result (λ c. IsClassified limits.now.max_bytes limits.now.max_facts (S.left source.old) c.summary (texts_of c)) }
     ensures fault { IfErr result (IsFaultOf limits.now.max_bytes limits.now.max_facts (S.left source.old)) }
     ensures before { IfErr result IsBeforeWriting }
+    ensures beyond { IsErrOf result (faults.Document document_faults.TooLarge) → S.most source.new + limits.now.max_bytes < S.most source.old }
     ensures read { IsDocumentRead result (source_state S.Source source.old) (source_state S.Source source.new) }
 {
     let ontology = match read_document(alloc, source, limits, state) {
@@ -74,6 +77,8 @@ pub fn classify_document<S: Source, T: Sink, I: Sink, C: Sink>(
 ) -> Result<Summary, ClassifyFault>
     // What the answer says of the document, and what each sink has taken; a sink is named only where it failed.
     ensures answered { Classifies T.Sink I.Sink C.Sink limits.now (S.left source.old) (taxonomy.old, instances.old, certificate.old) (taxonomy.new, instances.new, certificate.new) result }
+    // Of a source that does not tell its bytes, too: it gave more than the limit.
+    ensures beyond { IsErrOf result (faults.Document document_faults.TooLarge) → S.most source.new + limits.now.max_bytes < S.most source.old }
     // What was read of the document; its source has not failed but where that is the fault.
     ensures read { IsDocumentRead result (source_state S.Source source.old) (source_state S.Source source.new) }
     ensures paths { (T.path taxonomy.new ≡ T.path taxonomy.old) × (I.path instances.new ≡ I.path instances.old) × (C.path certificate.new ≡ C.path certificate.old) }
