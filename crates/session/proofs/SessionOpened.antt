@@ -5,12 +5,7 @@ use Rattle.axioms.specs.Numbered.{Ontology}
 use Rattle.profile.specs.Faults.{RefusesKnown}
 use Rattle.profile.specs.declared.fault.DocumentFault.{DocumentFault}
 use Rattle.profile.specs.declared.fault.DocumentFault.TheVariants.{Io, Memory, TooLarge}
-use Rattle.axioms.specs.Expression.{Iri}
-use Rattle.axioms.specs.declared.terms.Kind.{Kind}
 use Rattle.session.specs.Opened.{Opened}
-use Rattle.session.specs.Texts.{IsUnanswered}
-use Rattle.session.specs.declared.question_fault.QuestionFault.{QuestionFault}
-use Rattle.session.specs.declared.question_fault.QuestionFault.TheVariants.{Document}
 
 -- what holds of the ontology holds of that of its session
 pub of_ontology : {E : Type 0} (P : Ontology → Type 0) (o : Ontology) (r : Result Opened E) → P o → IfOk r (λ s. s.ontology ≡ o) → IfOk r (λ s. P s.ontology)
@@ -36,10 +31,3 @@ not_io (Err e) is told = let same : e ≡ Memory = is in cc
 pub not_too_large : (r : Result Opened DocumentFault) → IfErr r (λ e. e ≡ Memory) → IsErrOf r TooLarge → ⊥
 not_too_large (Ok s) is told = cc
 not_too_large (Err e) is told = let same : e ≡ Memory = is in cc
-
--- .. and no question is refused so where the document was read
-pub read_is_not_too_large : {X : Type 0} (o : Ontology) (facts : ℕ) (names : List (Kind × Iri)) (r : Result X QuestionFault) → IfErr r (IsUnanswered o facts names) → IsErrOf r (Document TooLarge) → ⊥
-read_is_not_too_large o facts names (Ok x) is told = cc
-read_is_not_too_large o facts names (Err e) is told =
-    let same : e ≡ Document TooLarge = cc in
-    subst (IsUnanswered o facts names) same is
