@@ -190,7 +190,9 @@ impl Files for FailingFiles {
 
     fn close(&mut self, sink: Self::Out) {
         let FailingFileSink {
-            inner, failures, ..
+            inner,
+            failures,
+            ..
         } = sink;
         self.failed_writes = self.failed_writes.saturating_add(failures);
         self.inner.close(inner);

@@ -47,7 +47,7 @@ fn owned(alloc: Global, words: &[&str]) -> Result<Vec<String>, AllocError> {
 }
 
 /// A program that is started with these words over a document alone, where nothing can be written if the files are locked.
-fn ended<R: AllocGlobal + RandomSource>(
+fn run_to_end<R: AllocGlobal + RandomSource>(
     rt: &R,
     words: &[&str],
     document: &[u8],
@@ -58,12 +58,7 @@ fn ended<R: AllocGlobal + RandomSource>(
         files.lock();
     }
     let words = owned(rt.alloc(), words)?;
-    Ok(started(
-        rt.alloc(),
-        Ok(words),
-        RandomState::new(rt),
-        &mut files,
-    ))
+    Ok(started(rt.alloc(), Ok(words), RandomState::new(rt), &mut files))
 }
 
 /// Words, a document, whether the files are locked, and how the program then ends.
@@ -84,14 +79,7 @@ const ENDS: &[(&[&str], &[u8], bool, u8, &str, &str)] = &[
         "",
         "unknown name <x:C>\n",
     ),
-    (
-        CLASSIFY,
-        b"Ontology(",
-        false,
-        3,
-        "",
-        "P2 at byte 9\n",
-    ),
+    (CLASSIFY, b"Ontology(", false, 3, "", "P2 at byte 9\n"),
     (
         TWO_FACTS,
         b"Ontology()",
@@ -100,14 +88,7 @@ const ENDS: &[(&[&str], &[u8], bool, u8, &str, &str)] = &[
         "",
         "limit: more than 2 facts\n",
     ),
-    (
-        CLASSIFY,
-        ONE_DOCUMENT,
-        true,
-        6,
-        "",
-        "cannot write tax\n",
-    ),
+    (CLASSIFY, ONE_DOCUMENT, true, 6, "", "cannot write tax\n"),
     (CHECK, ONE_DOCUMENT, true, 6, "", "cannot read tax\n"),
 ];
 
@@ -115,7 +96,7 @@ const ENDS: &[(&[&str], &[u8], bool, u8, &str, &str)] = &[
 fn a_program_ends_with_the_status_of_its_run(rt: HostRuntime) -> Result<(), Fail> {
     for row in ENDS {
         let (words, document, is_locked, status, out, err) = *row;
-        let end = ended(&rt, words, document, is_locked)?;
+        let end = run_to_end(&rt, words, document, is_locked)?;
         assert!(rt; is_end(&end, status, out, err), "{status}");
     }
     Ok(())
@@ -176,11 +157,11 @@ fn says(bytes: &[u8], word: &str) -> bool {
 #[test]
 fn wrong_words_are_told_the_usage(rt: HostRuntime) -> Result<(), Fail> {
     for words in REFUSED_WORDS {
-        let end = ended(&rt, *words, ONE_DOCUMENT, false)?;
+        let end = run_to_end(&rt, *words, ONE_DOCUMENT, false)?;
         assert!(rt; end.status == ExitCode::from(2) && end.out.is_empty());
         assert!(rt; says(&end.err, "Usage: elc classify") || says(&end.err, "--max-"));
     }
-    let end = ended(&rt, &["elc"], ONE_DOCUMENT, false)?;
+    let end = run_to_end(&rt, &["elc"], ONE_DOCUMENT, false)?;
     assert!(rt; end.status == ExitCode::from(2) && says(&end.err, "Usage: elc"));
     Ok(())
 }
