@@ -2,7 +2,8 @@
 ghost use Rattle.engine.specs.Saturated.{IsSaturated};
 
 use axioms::{ExprId, IndId, Ontology};
-use certificate::{Conclusion, Line, LineText, Rule, Subject, read_certificate};
+use cert_check::{Conclusion, Line, Rule, Subject, read_certificate};
+use certificate::LineText;
 use classification::is_consistent;
 use engine::{Saturation, saturated};
 use explain::{contradiction, contradiction_text, line_text, lines};

@@ -21,7 +21,10 @@ pub use command_line::{LineFault, Paths, Question, Task, task};
 pub use fault::{CheckFault, ClassifyFault};
 pub use profile::{DocumentFault, Limits, read_document};
 pub use run::perform;
-pub use session::{AskFault, Asked, Explanation, QuestionFault, Session, Stop, TextFault};
+pub use session::{
+    AskFault, Asked, Explanation, Form, Interpretation, Line, QuestionFault, Session, Stop,
+    TextFault, explanation_text, instances_text,
+};
 pub use starting::start;
 pub use system_files::Files;
 

@@ -18,10 +18,12 @@ mod writing;
 
 pub use answering::{explanation_text, instances_text};
 pub use answers::{Asked, Explanation};
+pub use certificate::Line;
 pub use classification::Summary;
 pub use engine::Stop;
 pub use fault::{AskFault, TextFault};
 pub use form::Form;
+pub use interpretation_spec::Interpretation;
 pub use profile::{DocumentFault, Limits};
 pub use question_fault::QuestionFault;
 pub use session::Session;
