@@ -7,7 +7,7 @@ pub mod Outcomes
 pub mod Stored
 pub mod SomeTexts
 pub mod Left
-pub mod Asked
+pub mod QuestionsAsked
 pub mod WrittenAccepted
 pub mod FilesAccepted
 pub mod EveryDocument

@@ -1,5 +1,5 @@
 use Rattle.std.proofs.Common.{◌≡◌, map, true, false, inl}
-use Rattle.cli.proofs.Asked.{asked, asked_limits, classified, checked, explain_within, instances_within, same_limits}
+use Rattle.cli.proofs.QuestionsAsked.{asked, asked_limits, classified, checked, explain_within, instances_within, same_limits}
 use Rattle.cli.specs.Printed.{Output}
 use Rattle.command_line.specs.declared.tasks.Task.TheVariants.{Check, Classify, Explain, Instances}
 use Rattle.cli.proofs.run.perform.Goals as goal
