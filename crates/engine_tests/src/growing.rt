@@ -1,5 +1,5 @@
 //! States that grow: whatever the list of work and the script, the facts at the end are those of one run over all forms.
-ghost use Rattle.work_list.specs.Bag.{IsEmpty};
+ghost use Rattle.std.specs.Prelude.{◌≡◌, []};
 
 use crate::lists::{Refusing, Scripted};
 use crate::problems::{
@@ -219,7 +219,7 @@ fn grows<W: WorkList + Drop>(
     script: &[Act],
     list: W,
 ) -> Option<u32>
-    requires { IsEmpty (W.pending list) }
+    requires { W.pending list ≡ [] }
 {
     let Ok(mut state) = State::new(alloc, seed, list) else {
         return None;

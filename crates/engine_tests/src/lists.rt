@@ -1,6 +1,5 @@
 //! Lists of work that a test rules: one pops by a script, one hands an item back.
 ghost use Rattle.std.specs.Prelude.{◌≡◌, []};
-ghost use Rattle.work_list.specs.Bag.{bag_of};
 
 use std::alloc::Global;
 use work_list::{Fifo, Item, WorkList};
@@ -27,7 +26,7 @@ impl Scripted {
 }
 
 impl WorkList for Scripted {
-    ghost pending = { λ s. bag_of s.items.items };
+    ghost pending = { λ s. s.items.items };
 
     fn push(&mut self, item: Item) -> Result<(), Item> {
         self.items.push(item).map_err(|refused| refused.value)
@@ -68,7 +67,7 @@ impl Refusing {
 }
 
 impl WorkList for Refusing {
-    ghost pending = { λ r. bag_of r.items };
+    ghost pending = { λ r. r.items };
 
     fn push(&mut self, item: Item) -> Result<(), Item> {
         if self.refused == 1 {

@@ -1,5 +1,5 @@
 //! Edges that a transitive property gave do not stand second where each chain that they could end goes on.
-ghost use Rattle.work_list.specs.Bag.{IsEmpty};
+ghost use Rattle.std.specs.Prelude.{◌≡◌, []};
 
 use crate::problems::{ALL_GO_ON, ONE_ENDS, Problem};
 use facts::{Fact, FactId, Older};
@@ -70,7 +70,7 @@ fn has<W: WorkList + Drop>(
     stated: bool,
     list: W,
 ) -> bool
-    requires { IsEmpty (W.pending list) }
+    requires { W.pending list ≡ [] }
 {
     let Ok(mut state) = State::new(alloc, seed, list) else {
         return false;

@@ -1,5 +1,5 @@
 //! A run from the start takes as many steps as there are facts, whatever the list of work.
-ghost use Rattle.work_list.specs.Bag.{IsEmpty};
+ghost use Rattle.std.specs.Prelude.{◌≡◌, []};
 
 use crate::lists::Scripted;
 use crate::problems::{ALL_GO_ON, ONE_ENDS, PROBLEMS, Problem};
@@ -50,7 +50,7 @@ fn ends<W: WorkList>(state: &mut State<W>, alloc: Global, problem: &Problem) -> 
 
 /// Whether a state with this list of work does. It is made and dropped here alone.
 fn does<W: WorkList + Drop>(alloc: Global, seed: RandomState, problem: &Problem, list: W) -> bool
-    requires { IsEmpty (W.pending list) }
+    requires { W.pending list ≡ [] }
 {
     let Ok(mut state) = State::new(alloc, seed, list) else {
         return false;

@@ -11,11 +11,13 @@ use Rattle.std.proofs.lemmas.List.Sorted.{Contains-permutation, IsPermutation-ap
 use Rattle.std.specs.List.Sorted.{IsPermutation}
 use Rattle.std.proofs.lemmas.List.Elements.{Contains-append_left, Contains-push, Contains-push_cases}
 use Rattle.work_list.specs.declared.item.Item.{Item}
-use Rattle.work_list.specs.Bag.{Bag, is_item, Adds, IsEmpty}
+use Rattle.work_list.specs.Bag.{is_item, often, Adds}
 use Rattle.saturate.specs.Flagged.{asked, is_flagged, is_kept, kept}
 use Rattle.axioms.specs.WellFormed.{AreDistinct}
 use Rattle.axioms.proofs.Growing.{AreDistinct-push}
-use Rattle.saturate.specs.Queued.{item, IsBeside, IsQueue, HasTurn, IsServedOnce}
+use Rattle.facts.specs.declared.contexts.Fact.{Fact}
+use Rattle.inference.specs.Derived.{Keeps}
+use Rattle.saturate.specs.Queued.{context_number, item, AreAmong, IsBeside, IsQueue, HasTurn, IsServedOnce, NameTheirContexts}
 use Rattle.inference.proofs.Lists.{one_value, Contains-from_slice_get, slice_get-from_Contains, slice_get_there, slice_get_push, slice_get_push_cases, slice_get_take, keeps_push}
 
 same_item : (n c : ℕ) → is_item (item n c) (item n c) ≡ true
@@ -28,26 +30,26 @@ is_same : (x y : Item) → is_item x y ≡ true → (x.fact ≡ y.fact) × (x.co
 is_same x y e = grind (arith, nat_tests)
 
 -- how often an item is in the list with one more
-adds_one : {old new : Bag} {x : Item} → Adds x old new → (y : Item) → is_item y x ≡ true → new.count y ≡ old.count y + 1
-adds_one {old} {x = x} s y e = s.each y ∙ ap (λ t. old.count y + (if t then 1 else 0)) e
+adds_one : {old new : List Item} {x : Item} → Adds x old new → (y : Item) → is_item y x ≡ true → often new y ≡ often old y + 1
+adds_one {old} {x = x} s y e = s.each y ∙ ap (λ t. often old y + (if t then 1 else 0)) e
 
-adds_none : {old new : Bag} {x : Item} → Adds x old new → (y : Item) → is_item y x ≡ false → new.count y ≡ old.count y
-adds_none {old} {x = x} s y e = omega (arith, s.each y ∙ ap (λ t. old.count y + (if t then 1 else 0)) e)
+adds_none : {old new : List Item} {x : Item} → Adds x old new → (y : Item) → is_item y x ≡ false → often new y ≡ often old y
+adds_none {old} {x = x} s y e = omega (arith, s.each y ∙ ap (λ t. often old y + (if t then 1 else 0)) e)
 
 -- the next number waits
-pub queued_more : {old new : Bag} {start end queued served c : ℕ} {taken : List ℕ} → IsQueue old start end queued taken served → Adds (item queued c) old new → IsQueue new start end (queued + 1) taken served
+pub queued_more : {old new : List Item} {start end queued served c : ℕ} {taken : List ℕ} → IsQueue old start end queued taken served → Adds (item queued c) old new → IsQueue new start end (queued + 1) taken served
 queued_more {old} {new} {start} {end} {queued} {served} {c} {taken} q s = record {
   contexts = q.contexts ++ c ∷ [];
   long = omega (arith, length-append q.contexts (c ∷ []), q.long);
   each = λ n d at. ⊎_elim
       (λ before. ⊎_elim
       (λ w. inl w)
-      (λ w. let same : new.count (item n d) ≡ old.count (item n d) = others n d (omega (arith, slice_get_within q.contexts n d before, q.long)) in
+      (λ w. let same : often new (item n d) ≡ often old (item n d) = others n d (omega (arith, slice_get_within q.contexts n d before, q.long)) in
       inr (⊎_elim (λ v. inl (same ∙ v.0, v.1)) (λ v. inr (same ∙ v.0, v.1)) w))
       (q.each n d before))
       (λ here.
       let last : n ≡ queued = here.0 ∙ q.long in
-      let one : new.count (item n d) ≡ old.count (item n d) + 1 = adds_one s (item n d) (subst (λ (m : ℕ). is_item (item n d) (item m c) ≡ true) last (subst (λ (b : ℕ). is_item (item n d) (item n b) ≡ true) (sym here.1) (same_item n d))) in
+      let one : often new (item n d) ≡ often old (item n d) + 1 = adds_one s (item n d) (subst (λ (m : ℕ). is_item (item n d) (item m c) ≡ true) last (subst (λ (b : ℕ). is_item (item n d) (item n b) ≡ true) (sym here.1) (same_item n d))) in
       inr (inl (omega (arith, one, none n d last), λ t. omega (arith, q.within n t, last))))
       (slice_get_push_cases q.contexts c n d at);
   beside = λ n w. (λ d. others n d (omega (arith, w.1, q.last)) ∙ (q.beside n w).0 d, (q.beside n w).1);
@@ -60,13 +62,13 @@ queued_more {old} {new} {start} {end} {queued} {served} {c} {taken} q s = record
   low = q.low;
 }
   where
-    others : (n d : ℕ) → n < queued → new.count (item n d) ≡ old.count (item n d)
+    others : (n d : ℕ) → n < queued → often new (item n d) ≡ often old (item n d)
     others n d low = adds_none s (item n d) (other_item (item n d) (item queued c) (λ e. omega (arith, e, low)))
 
-    none : (n d : ℕ) → n ≡ queued → old.count (item n d) ≡ 0
-    none n d last = ⊎_elim (λ w. omega (arith, w.1)) (λ w. absurd (omega (arith, slice_get_within q.contexts n d (q.known (item n d) (omega (arith, w.1))), q.long, last))) (eqb_tells (old.count (item n d)) 0)
+    none : (n d : ℕ) → n ≡ queued → often old (item n d) ≡ 0
+    none n d last = ⊎_elim (λ w. omega (arith, w.1)) (λ w. absurd (omega (arith, slice_get_within q.contexts n d (q.known (item n d) (omega (arith, w.1))), q.long, last))) (eqb_tells (often old (item n d)) 0)
 
-    known : (x : Item) → 0 < new.count x → (b : Bool) → is_item x (item queued c) ≡ b → slice_get (q.contexts ++ c ∷ []) x.fact ≡ Some x.context
+    known : (x : Item) → 0 < often new x → (b : Bool) → is_item x (item queued c) ≡ b → slice_get (q.contexts ++ c ∷ []) x.fact ≡ Some x.context
     known x lt true e =
         let w = is_same x (item queued c) e in
         rw (w.0, w.1, ← q.long) (slice_get_push q.contexts c)
@@ -78,8 +80,8 @@ slice_get_front (x ∷ xs) ys zero l = refl
 slice_get_front (x ∷ xs) ys (suc n) l = slice_get_front xs ys n (omega arith)
 
 -- those up to a size wait beside the list, where none did
-pub lined_up : {bag : Bag} {start end queued served : ℕ} {taken : List ℕ} (size : ℕ) → IsQueue bag start end queued taken served → start ≡ end → queued ≤ size → IsQueue bag queued size size taken served
-lined_up {bag} {start} {end} {queued} {served} {taken} size q none low = record {
+pub lined_up : {waiting : List Item} {start end queued served : ℕ} {taken : List ℕ} (size : ℕ) → IsQueue waiting start end queued taken served → start ≡ end → queued ≤ size → IsQueue waiting queued size size taken served
+lined_up {waiting} {start} {end} {queued} {served} {taken} size q none low = record {
   contexts = q.contexts ++ more;
   long = omega (arith, length-append q.contexts more, length-range_with_len 0 (size - queued), q.long, low);
   each = λ n c at. ⊎_elim
@@ -102,11 +104,11 @@ lined_up {bag} {start} {end} {queued} {served} {taken} size q none low = record 
     more : List ℕ
     more = range_with_len 0 (size - queued)
 
-    not_there : (n c : ℕ) → queued ≤ n → bag.count (item n c) ≡ 0
-    not_there n c high = ⊎_elim (λ w. omega (arith, w.1)) (λ w. absurd (omega (arith, slice_get_within q.contexts n c (q.known (item n c) (omega (arith, w.1))), q.long, high))) (eqb_tells (bag.count (item n c)) 0)
+    not_there : (n c : ℕ) → queued ≤ n → often waiting (item n c) ≡ 0
+    not_there n c high = ⊎_elim (λ w. omega (arith, w.1)) (λ w. absurd (omega (arith, slice_get_within q.contexts n c (q.known (item n c) (omega (arith, w.1))), q.long, high))) (eqb_tells (often waiting (item n c)) 0)
 
 -- one that waits in the list is taken
-module _ {old new : Bag} {start end queued served : ℕ} {taken : List ℕ} {x : Item} (q : IsQueue old start end queued taken served) (s : Adds x new old) where
+module _ {old new : List Item} {start end queued served : ℕ} {taken : List ℕ} {x : Item} (q : IsQueue old start end queued taken served) (s : Adds x new old) where
   waits : slice_get q.contexts x.fact ≡ Some x.context
   waits = q.known x (omega (arith, adds_one s x (same_item x.fact x.context)))
 
@@ -126,7 +128,7 @@ module _ {old new : Bag} {start end queued served : ℕ} {taken : List ℕ} {x :
     each = λ n c at. ⊎_elim
         (λ w. inr (inr (here n c at w.1, subst (λ (m : ℕ). Contains (taken ++ x.fact ∷ []) m) (sym w.1) (Contains-push taken x.fact))))
         (λ w.
-        let same : old.count (item n c) ≡ new.count (item n c) = adds_none s (item n c) (other_item (item n c) x w.1) in
+        let same : often old (item n c) ≡ often new (item n c) = adds_none s (item n c) (other_item (item n c) x w.1) in
         ⊎_elim
         (λ v. inl v)
         (λ u. inr (⊎_elim
@@ -148,19 +150,19 @@ module _ {old new : Bag} {start end queued served : ℕ} {taken : List ℕ} {x :
     low = omega (arith, all, length-append taken (x.fact ∷ []));
   }
     where
-      here : (n c : ℕ) → slice_get q.contexts n ≡ Some c → n ≡ x.fact → new.count (item n c) ≡ 0
+      here : (n c : ℕ) → slice_get q.contexts n ≡ Some c → n ≡ x.fact → often new (item n c) ≡ 0
       here n c at e =
           let same : x.context ≡ c = one_value _ _ _ waits (subst (λ (m : ℕ). slice_get q.contexts m ≡ Some c) e at) in
-          let one : old.count (item n c) ≡ new.count (item n c) + 1 = adds_one s (item n c) (subst (λ (m : ℕ). is_item (item n c) (item m x.context) ≡ true) e (subst (λ (b : ℕ). is_item (item n c) (item n b) ≡ true) (sym same) (same_item n c))) in
+          let one : often old (item n c) ≡ often new (item n c) + 1 = adds_one s (item n c) (subst (λ (m : ℕ). is_item (item n c) (item m x.context) ≡ true) e (subst (λ (b : ℕ). is_item (item n c) (item n b) ≡ true) (sym same) (same_item n c))) in
           ⊎_elim (λ w. omega (arith, (q.beside n w).0 c, one)) (λ v. ⊎_elim (λ w. omega (arith, w.0, one)) (λ w. omega (arith, w.0, one)) v) (q.each n c at)
 
 -- the last that waits beside the list is taken
-pub taken_beside : {bag : Bag} {start end queued served : ℕ} {taken : List ℕ} → IsQueue bag start end queued taken served → start < end → length taken ≡ served → IsQueue bag start (end - 1) queued (taken ++ (end - 1) ∷ []) served
-taken_beside {bag} {start} {end} {queued} {served} {taken} q some all = record {
+pub taken_beside : {waiting : List Item} {start end queued served : ℕ} {taken : List ℕ} → IsQueue waiting start end queued taken served → start < end → length taken ≡ served → IsQueue waiting start (end - 1) queued (taken ++ (end - 1) ∷ []) served
+taken_beside {waiting} {start} {end} {queued} {served} {taken} q some all = record {
   contexts = q.contexts;
   long = q.long;
   each = λ n c at. ⊎_elim
-      (λ w. inr (inr (subst (λ (m : ℕ). bag.count (item m c) ≡ 0) (sym w.1) (first.0 c), subst (λ (m : ℕ). Contains (taken ++ (end - 1) ∷ []) m) (sym w.1) (Contains-push taken (end - 1)))))
+      (λ w. inr (inr (subst (λ (m : ℕ). often waiting (item m c) ≡ 0) (sym w.1) (first.0 c), subst (λ (m : ℕ). Contains (taken ++ (end - 1) ∷ []) m) (sym w.1) (Contains-push taken (end - 1)))))
       (λ w. ⊎_elim
       (λ v. inl (v.0, before n v.1 w.1))
       (λ u. inr (⊎_elim
@@ -181,40 +183,45 @@ taken_beside {bag} {start} {end} {queued} {served} {taken} q some all = record {
   low = omega (arith, all, length-append taken ((end - 1) ∷ []));
 }
   where
-    first : ((c : ℕ) → bag.count (item (end - 1) c) ≡ 0) × (Contains taken (end - 1) → ⊥)
+    first : ((c : ℕ) → often waiting (item (end - 1) c) ≡ 0) × (Contains taken (end - 1) → ⊥)
     first = q.beside (end - 1) (omega (arith, some), omega (arith, some))
 
     before : (n : ℕ) → n < end → (n ≡ end - 1 → ⊥) → n < end - 1
     before n low apart = ⊎_elim (λ w. w) (λ w. absurd (apart (omega (arith, w, low)))) (cases_lt n (end - 1))
 
+-- in an empty list there is no item
+nothing : (waiting : List Item) → length waiting ≡ 0 → (x : Item) → often waiting x ≡ 0
+nothing [] none x = refl
+nothing (y ∷ ys) none x = absurd (omega (arith, none))
+
 -- nothing waits, so all were taken
-pub all_taken : {bag : Bag} {start end queued served : ℕ} {taken : List ℕ} → IsQueue bag start end queued taken served → IsEmpty bag → end ≤ start → (n : ℕ) → n < queued → Contains taken n
-all_taken q empty none n low =
+pub all_taken : {waiting : List Item} {start end queued served : ℕ} {taken : List ℕ} → IsQueue waiting start end queued taken served → length waiting ≡ 0 → end ≤ start → (n : ℕ) → n < queued → Contains taken n
+all_taken {waiting = waiting} q empty none n low =
     let c = slice_get_there q.contexts n (omega (arith, low, q.long)) in
-    ⊎_elim (λ w. absurd (omega (arith, w.0, w.1, none))) (λ v. ⊎_elim (λ w. absurd (omega (arith, w.0, empty.each (item n c.0)))) (λ w. w.1) v) (q.each n c.0 c.1)
+    ⊎_elim (λ w. absurd (omega (arith, w.0, w.1, none))) (λ v. ⊎_elim (λ w. absurd (omega (arith, w.0, nothing waiting empty (item n c.0)))) (λ w. w.1) v) (q.each n c.0 c.1)
 
 -- where no number is in hand, those that were taken are those that were served
-pub idle : {bag : Bag} {start end queued served : ℕ} {taken : List ℕ} → IsQueue bag start end queued taken served → slice_get taken served ≡ None → length taken ≡ served
+pub idle : {waiting : List Item} {start end queued served : ℕ} {taken : List ℕ} → IsQueue waiting start end queued taken served → slice_get taken served ≡ None → length taken ≡ served
 idle {served = served} {taken = taken} q none = ⊎_elim
     (λ w. sym w.1)
     (λ w. let there = slice_get_there taken served (omega (arith, q.low, w.1)) in absurd (none-some there.0 (sym none ∙ there.1)))
     (eqb_tells served (length taken))
 
-pub in_hand : {bag : Bag} {start end queued served : ℕ} {taken : List ℕ} → IsQueue bag start end queued taken served → (n : ℕ) → slice_get taken served ≡ Some n → (n < queued) × (length (take served taken) < queued)
+pub in_hand : {waiting : List Item} {start end queued served : ℕ} {taken : List ℕ} → IsQueue waiting start end queued taken served → (n : ℕ) → slice_get taken served ≡ Some n → (n < queued) × (length (take served taken) < queued)
 in_hand {queued = queued} {served = served} {taken = taken} q n at =
     let low : served < length taken = slice_get_within taken served n at in
     (q.within n (Contains-from_slice_get taken served n at), simp length-take (omega (arith, q.tally)))
 
-pub nobody_waits : {bag : Bag} {start end queued served : ℕ} {taken : List ℕ} → IsQueue bag start end queued taken served → IsEmpty bag → start ≡ end → slice_get taken served ≡ None → HasTurn queued (take served taken) (slice_get taken served)
+pub nobody_waits : {waiting : List Item} {start end queued served : ℕ} {taken : List ℕ} → IsQueue waiting start end queued taken served → length waiting ≡ 0 → start ≡ end → slice_get taken served ≡ None → HasTurn queued (take served taken) (slice_get taken served)
 nobody_waits {queued = queued} {served = served} {taken = taken} q empty beside none =
     let long : length taken ≤ served = omega (arith, idle q none) in
     let whole : take served taken ≡ taken = take_all served taken long in
     record {
       some = λ n e. absurd (none-some n (sym none ∙ e));
-      none = λ _. (ap length whole ∙ omega (arith, q.tally, empty.total, beside), λ n low. rw whole (all_taken q empty (omega (arith, beside)) n low));
+      none = λ _. (ap length whole ∙ omega (arith, q.tally, empty, beside), λ n low. rw whole (all_taken q empty (omega (arith, beside)) n low));
     }
 
-pub just_taken : {bag : Bag} {start end queued served : ℕ} (taken : List ℕ) (x : ℕ) → IsQueue bag start end queued (taken ++ x ∷ []) served → length taken ≡ served → HasTurn queued (take served taken) (slice_get (taken ++ x ∷ []) served)
+pub just_taken : {waiting : List Item} {start end queued served : ℕ} (taken : List ℕ) (x : ℕ) → IsQueue waiting start end queued (taken ++ x ∷ []) served → length taken ≡ served → HasTurn queued (take served taken) (slice_get (taken ++ x ∷ []) served)
 just_taken {queued = queued} {served = served} taken x q all =
     let at : slice_get (taken ++ x ∷ []) served ≡ Some x = rw (← all) (slice_get_push taken x) in
     let short : served ≤ length taken = omega (arith, all) in
@@ -224,24 +231,24 @@ just_taken {queued = queued} {served = served} taken x q all =
     }
 
 -- a number waits beside the list, or in it, so not all that were queued were served
-pub one_waits_beside : {bag : Bag} {start end queued served : ℕ} {taken : List ℕ} → IsQueue bag start end queued taken served → start < end → length (take served taken) < queued
+pub one_waits_beside : {waiting : List Item} {start end queued served : ℕ} {taken : List ℕ} → IsQueue waiting start end queued taken served → start < end → length (take served taken) < queued
 one_waits_beside {served = served} {taken = taken} q low = simp length-take (omega (arith, q.tally, low))
 
-pub one_waits : {bag : Bag} {start end queued served : ℕ} {taken : List ℕ} → IsQueue bag start end queued taken served → (bag.total ≡ 0 → ⊥) → length (take served taken) < queued
-one_waits {bag = bag} {served = served} {taken = taken} q some = simp length-take (⊎_elim (λ w. absurd (some w.1)) (λ w. omega (arith, q.tally, w.1)) (eqb_tells bag.total 0))
+pub one_waits : {waiting : List Item} {start end queued served : ℕ} {taken : List ℕ} → IsQueue waiting start end queued taken served → (length waiting ≡ 0 → ⊥) → length (take served taken) < queued
+one_waits {waiting = waiting} {served = served} {taken = taken} q some = simp length-take (⊎_elim (λ w. absurd (some w.1)) (λ w. omega (arith, q.tally, w.1)) (eqb_tells (length waiting) 0))
 
 -- what was served was queued
-pub few_served : {bag : Bag} {start end queued served : ℕ} {taken : List ℕ} → IsQueue bag start end queued taken served → length (take served taken) ≤ queued
+pub few_served : {waiting : List Item} {start end queued served : ℕ} {taken : List ℕ} → IsQueue waiting start end queued taken served → length (take served taken) ≤ queued
 few_served {queued = queued} {served = served} {taken = taken} q = simp length-take (omega (arith, q.tally))
 
 -- as many were served as were queued, so nothing waits
-pub all_served : {bag : Bag} {start end queued served : ℕ} {taken : List ℕ} → IsQueue bag start end queued taken served → (bag.total ≡ 0 → IsEmpty bag) → queued ≤ length (take served taken) → (n : ℕ) → n < queued → Contains (take served taken) n
-all_served {bag = bag} {queued = queued} {served = served} {taken = taken} q empty most n low =
+pub all_served : {waiting : List Item} {start end queued served : ℕ} {taken : List ℕ} → IsQueue waiting start end queued taken served → queued ≤ length (take served taken) → (n : ℕ) → n < queued → Contains (take served taken) n
+all_served {waiting = waiting} {queued = queued} {served = served} {taken = taken} q most n low =
     let few : length (take served taken) ≤ served = simp length-take (omega arith) in
     let long : length taken ≤ served = omega (arith, q.tally, few) in
     let whole : take served taken ≡ taken = take_all served taken long in
-    let none : bag.total ≡ 0 = omega (arith, q.tally, q.low, few) in
-    rw whole (all_taken q (empty none) (omega (arith, q.tally, q.low, few)) n low)
+    let none : length waiting ≡ 0 = omega (arith, q.tally, q.low, few) in
+    rw whole (all_taken q none (omega (arith, q.tally, q.low, few)) n low)
 
 -- ---- no number was taken twice
 
@@ -265,7 +272,7 @@ distinct_moved xs ys p distinct m n x a b =
     (cases_lt m n)
 
 -- so no number was served twice, and the one in hand was not served
-pub served_once : {bag : Bag} {start end queued served : ℕ} {taken : List ℕ} → IsQueue bag start end queued taken served → IsServedOnce (record { queued = queued; served = take served taken; hand = slice_get taken served })
+pub served_once : {waiting : List Item} {start end queued served : ℕ} {taken : List ℕ} → IsQueue waiting start end queued taken served → IsServedOnce (record { queued = queued; waiting = waiting; served = take served taken; hand = slice_get taken served })
 served_once {served = served} {taken = taken} q = record {
   distinct = λ i j x a b. q.distinct i j x (slice_get_take served taken i x a).1 (slice_get_take served taken j x b).1;
   fresh = λ n at c.
@@ -275,7 +282,7 @@ served_once {served = served} {taken = taken} q = record {
 }
 
 -- the numbers that were taken change places
-pub moved : {bag : Bag} {start end queued served : ℕ} {taken : List ℕ} (moves : List ℕ) (served_now : ℕ) → IsQueue bag start end queued taken served → IsPermutation taken moves → served_now ≤ length moves → IsQueue bag start end queued moves served_now
+pub moved : {waiting : List Item} {start end queued served : ℕ} {taken : List ℕ} (moves : List ℕ) (served_now : ℕ) → IsQueue waiting start end queued taken served → IsPermutation taken moves → served_now ≤ length moves → IsQueue waiting start end queued moves served_now
 moved {taken = taken} moves served_now q p low = record {
   contexts = q.contexts;
   long = q.long;
@@ -308,7 +315,7 @@ parted flags served taken =
     subst (λ (xs : List ℕ). IsPermutation xs (kept flags front ++ asked flags front ++ drop served taken)) all
     (IsPermutation-append_left (drop served taken) front (kept flags front ++ asked flags front) (IsPermutation-filter_both (is_kept flags) (is_flagged flags) (λ x. not_not (is_flagged flags x)) front))
 
-pub turned_back : {bag : Bag} {start end queued served : ℕ} {taken : List ℕ} (flags : List Bool) → IsQueue bag start end queued taken served → IsQueue bag start end queued (kept flags (take served taken) ++ asked flags (take served taken) ++ drop served taken) (length (kept flags (take served taken)))
+pub turned_back : {waiting : List Item} {start end queued served : ℕ} {taken : List ℕ} (flags : List Bool) → IsQueue waiting start end queued taken served → IsQueue waiting start end queued (kept flags (take served taken) ++ asked flags (take served taken) ++ drop served taken) (length (kept flags (take served taken)))
 turned_back {served = served} {taken = taken} flags q =
     let front : List ℕ = take served taken in
     moved _ (length (kept flags front)) q (parted flags served taken) (omega (arith, length-append (kept flags front ++ asked flags front) (drop served taken), length-append (kept flags front) (asked flags front)))
@@ -319,3 +326,29 @@ front_kept flags served taken =
     let ys : List ℕ = asked flags (take served taken) in
     let zs : List ℕ = drop served taken in
     take-append-le (length xs) (xs ++ ys) zs (omega (arith, length-append xs ys)) ∙ take-append-le (length xs) xs ys (omega arith) ∙ take_all (length xs) xs (omega arith)
+
+-- ---- what waits names its fact's context
+
+-- one more that does
+pub named_more : (facts : List Fact) (old new : List Item) (n : ℕ) (f : Fact) → NameTheirContexts facts old → slice_get facts n ≡ Some f → Adds (item n (context_number f)) old new → NameTheirContexts facts new
+named_more facts old new n f named at s x lt = go (is_item x (item n (context_number f))) refl
+  where
+    go : (b : Bool) → is_item x (item n (context_number f)) ≡ b → (g : Fact) × (slice_get facts x.fact ≡ Some g) × (x.context ≡ context_number g)
+    go true e =
+        let same = is_same x (item n (context_number f)) e in
+        (f, subst (λ (m : ℕ). slice_get facts m ≡ Some f) (sym same.0) at, same.1)
+    go false e = named x (omega (arith, lt, adds_none s x e))
+
+-- those of fewer
+pub named_among : (facts : List Fact) (some all : List Item) → AreAmong some all → NameTheirContexts facts all → NameTheirContexts facts some
+named_among facts some all among named x lt = named x (among x lt)
+
+-- where facts are added
+pub named_still : (old new : List Fact) (waiting : List Item) → Keeps old new → NameTheirContexts old waiting → NameTheirContexts new waiting
+named_still old new waiting keeps named x lt = (let w = named x lt in (w.0, keeps x.fact w.0 w.1, w.2))
+
+pub among_one_less : (old new : List Item) (x : Item) → Adds x new old → AreAmong new old
+among_one_less old new x s y lt = omega (arith, s.each y, lt)
+
+pub none_named : (facts : List Fact) (waiting : List Item) → waiting ≡ [] → NameTheirContexts facts waiting
+none_named facts waiting none x lt = absurd (omega (arith, lt, nothing waiting (ap length none) x))

@@ -128,6 +128,7 @@ fn begun_again<W: WorkList>(
     requires queued { queue.old.queued ≤ length facts.old.facts }
     ensures begun { OnOk result (HasBegun ground.now u32.MAX facts.old facts.new) }
     ensures queued { queue.new.queued ≤ length facts.new.facts }
+    ensures waiting { queue.new.waiting ≡ queue.old.waiting }
     ensures served { OnOk result (queue.new.served ≡ kept flags.now queue.old.served) }
     ensures facts { OnErr result (facts.new ≡ facts.old) }
     ensures queue { OnErr result (queue.new ≡ queue.old) }
@@ -168,6 +169,7 @@ pub(crate) fn restart<W: WorkList>(
     requires queued { queue.old.queued ≤ length facts.old.facts }
     ensures begun { OnOk result (HasBegun ground.now u32.MAX facts.old facts.new) }
     ensures queued { queue.new.queued ≤ length facts.new.facts }
+    ensures waiting { queue.new.waiting ≡ queue.old.waiting }
     ensures served { OnOk result (KeepsServed ground.now.forms forms.now facts.old.facts queue.old.served queue.new.served) }
     ensures index { OnOk result (ListsFacts ground.now facts.new queue.new.served queue.new.served index.new) }
     ensures facts { OnErr result (facts.new ≡ facts.old) }

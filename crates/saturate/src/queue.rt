@@ -1,8 +1,7 @@
 //! Whose turn it is.
 ghost use Rattle.std.specs.Prelude.{◌≡◌, ◌<◌, ◌≤◌, ◌^◌, ◌+◌, ◌++◌, [], ℕ, None, Some, length, take, Contains, OnOk, OnErr, IfOk};
 ghost use Rattle.saturate.specs.Flagged.{asked, is_flagged, kept};
-ghost use Rattle.saturate.specs.Queued.{context_number, with_one_more, option_list, HasTurn, IsServedOnce, IsWithoutHand, IsWithoutLast};
-ghost use Rattle.work_list.specs.Bag.{IsEmpty};
+ghost use Rattle.saturate.specs.Queued.{context_number, option_list, AreAmong, HasOneMore, HasTurn, IsServedOnce, IsWithoutHand, IsWithoutLast, NameTheirContexts};
 
 use axioms::Memory;
 use facts::{Context, Fact, StoredFact};
@@ -29,7 +28,7 @@ impl<W: WorkList> Model for Queue<W> {
 
     ghost Value = { Queued };
 
-    ghost view = { λ q. record { queued = q.queued; served = take q.served q.taken.items; hand = slice_get q.taken.items q.served } };
+    ghost view = { λ q. record { queued = q.queued; waiting = W.pending q.list; served = take q.served q.taken.items; hand = slice_get q.taken.items q.served } };
 
     ghost invariant = { λ q. IsQueue (W.pending q.list) q.start q.end q.queued q.taken.items q.served };
 }
@@ -114,18 +113,12 @@ fn without_last(list: &[u32], number: u32) -> &[u32]
     list.strip_suffix(&[number]).unwrap_or(list)
 }
 
-/// A list that counts no items has none. This changes nothing.
-fn none_waits<W: WorkList>(list: &W)
-    ensures { (W.pending list.now).total ≡ 0 → IsEmpty (W.pending list.now) }
-{
-    list.len();
-}
-
 impl<W: WorkList> Queue<W> {
     /// Nothing has had its turn.
     pub fn new(alloc: Global, list: W) -> Self
-        requires { IsEmpty (W.pending list) }
+        requires { W.pending list ≡ [] }
         ensures queued { result.queued ≡ 0 }
+        ensures waiting { result.waiting ≡ [] }
         ensures served { result.served ≡ [] }
         ensures hand { result.hand ≡ None }
     {
@@ -149,7 +142,7 @@ impl<W: WorkList> Queue<W> {
     /// Queues the next number.
     fn wait(&mut self, context: u32) -> Result<(), Memory>
         requires { self.old.queued < u32.MAX }
-        ensures ok { OnOk result (self.new ≡ with_one_more self.old) }
+        ensures ok { OnOk result (HasOneMore context self.old self.new) }
         ensures err { OnErr result (self.new ≡ self.old) }
     {
         let item = Item {
@@ -179,14 +172,16 @@ impl<W: WorkList> Queue<W> {
         ensures few { length self.now.served ≤ self.now.queued }
         ensures all { self.now.queued ≤ length self.now.served → (n : ℕ) → n < self.now.queued → Contains self.now.served n }
     {
-        none_waits(&self.list);
+        let _ = &self.list;
     }
 
     /// Queues the numbers of all facts.
     fn fill(&mut self, facts: &[StoredFact]) -> Result<(), Memory>
         requires few { length facts.now < 2 ^ 32 }
         requires least { self.old.queued ≤ length facts.now }
+        requires named { NameTheirContexts facts.now self.old.waiting }
         ensures most { self.new.queued ≤ length facts.now }
+        ensures named { NameTheirContexts facts.now self.new.waiting }
         ensures least { self.old.queued ≤ self.new.queued }
         ensures served { self.new.served ≡ self.old.served }
         ensures hand { self.new.hand ≡ self.old.hand }
@@ -204,6 +199,7 @@ impl<W: WorkList> Queue<W> {
         requires few { length facts.now < 2 ^ 32 }
         requires least { self.old.queued ≤ length facts.now }
         ensures queued { self.new.queued ≤ length facts.now }
+        ensures waiting { self.new.waiting ≡ self.old.waiting }
         ensures served { self.new.served ≡ self.old.served }
         ensures hand { self.new.hand ≡ self.old.hand }
     {
@@ -218,6 +214,7 @@ impl<W: WorkList> Queue<W> {
     fn take(&mut self) -> Result<(), Memory>
         requires { self.old.hand ≡ None }
         ensures queued { self.new.queued ≡ self.old.queued }
+        ensures waiting { AreAmong self.new.waiting self.old.waiting }
         ensures served { self.new.served ≡ self.old.served }
         ensures ok { OnOk result (HasTurn self.old.queued self.old.served self.new.hand) }
         ensures err { OnErr result (self.new.hand ≡ None) }
@@ -265,7 +262,9 @@ impl<W: WorkList> Queue<W> {
     pub fn turn(&mut self, facts: &[StoredFact]) -> Result<Option<u32>, Memory>
         requires few { length facts.now < 2 ^ 32 }
         requires least { self.old.queued ≤ length facts.now }
+        requires named { NameTheirContexts facts.now self.old.waiting }
         ensures queued { self.new.queued ≤ length facts.now }
+        ensures named { NameTheirContexts facts.now self.new.waiting }
         ensures served { self.new.served ≡ self.old.served }
         ensures hand { IfOk result (λ hand. hand ≡ self.new.hand) }
         ensures ok { OnOk result (HasTurn (length facts.now) self.old.served self.new.hand) }
@@ -286,6 +285,7 @@ impl<W: WorkList> Queue<W> {
     pub fn finish(&mut self)
         requires { self.old.hand ≡ None → ⊥ }
         ensures queued { self.new.queued ≡ self.old.queued }
+        ensures waiting { self.new.waiting ≡ self.old.waiting }
         ensures served { self.new.served ≡ self.old.served ++ option_list self.old.hand }
     {
         self.served += 1;
@@ -310,6 +310,7 @@ impl<W: WorkList> Queue<W> {
     /// Numbers that were served and are flagged wait again.
     pub fn unserve(&mut self, alloc: Global, flags: &[bool]) -> Result<(), Memory>
         ensures queued { self.new.queued ≡ self.old.queued }
+        ensures waiting { self.new.waiting ≡ self.old.waiting }
         ensures ok { OnOk result (self.new.served ≡ kept flags.now self.old.served) }
         ensures err { OnErr result (self.new ≡ self.old) }
     {

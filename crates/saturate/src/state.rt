@@ -1,5 +1,5 @@
 //! The state of a saturation.
-ghost use Rattle.std.specs.Prelude.{OnErr, ◌≡◌, ◌↔◌, ◌<◌, ◌≤◌, ◌+◌, Ok, Err, Some, true, false, length, take, slice_get, IfOk, OnOk, IfSome, IfNone};
+ghost use Rattle.std.specs.Prelude.{OnErr, ◌≡◌, ◌↔◌, ◌<◌, ◌≤◌, ◌+◌, Ok, Err, Some, true, false, [], length, take, slice_get, IfOk, OnOk, IfSome, IfNone};
 ghost use Rattle.facts.specs.Births.{IsBirth, reason};
 ghost use Rattle.inference.specs.Derived.{HasMoreFactsThan};
 ghost use Rattle.facts.specs.declared.contexts.Fact.{Fact as Fact2};
@@ -8,7 +8,6 @@ ghost use Rattle.saturate.specs.Growing.{HasGrown, KeepsServed};
 ghost use Rattle.saturate.specs.Run.{IsLeft, IsRun, IsRunUntil, IsState, IsStep};
 ghost use Rattle.inference.specs.Closed.{IsClosureOf};
 ghost use Rattle.inference.specs.Working.{IsClosure};
-ghost use Rattle.work_list.specs.Bag.{IsEmpty};
 
 use crate::extension::restart;
 use crate::ground::Ground;
@@ -50,12 +49,13 @@ impl<W: WorkList + Drop> Drop for State<W> {
 impl<W: WorkList> Model for State<W> {
     ghost use Rattle.saturate.specs.State.{Seen, IsUnderWay};
     ghost use Rattle.saturate.specs.Listed.{ListsServed};
+    ghost use Rattle.saturate.specs.Queued.{NameTheirContexts};
 
     ghost Value = { Seen };
 
     ghost view = { λ s. record { problem = s.ground; facts = s.facts.facts; births = s.facts.births; served = s.queue.served } };
 
-    ghost invariant = { λ s. IsUnderWay s.ground s.facts s.queue × ListsServed s.ground s.facts s.queue s.index };
+    ghost invariant = { λ s. IsUnderWay s.ground s.facts s.queue × ListsServed s.ground s.facts s.queue s.index × NameTheirContexts s.facts.facts s.queue.waiting };
 }
 
 impl<W: WorkList> State<W> {
@@ -67,7 +67,7 @@ impl<W: WorkList> State<W> {
     pub fn new(alloc: Global, state: RandomState, list: W) -> Result<Self, Memory>
     where
         W: Drop,
-        requires { IsEmpty (W.pending list) }
+        requires { W.pending list ≡ [] }
         ensures nothing { IfOk result (λ s. s ≡ nothing_seen) }
         ensures state { IfOk result IsState }
     {

@@ -6,7 +6,7 @@ use Rattle.std.proofs.lemmas.List.{get_or_push, get_or_append_left, get_or-set_s
 use Rattle.std.proofs.lemmas.List.Elements.{Contains-append_cases}
 use Rattle.std.proofs.lemmas.List.Sums.{sum_by-append, sum_by_push}
 use Rattle.work_list.specs.declared.item.Item.{Item}
-use Rattle.work_list.specs.Bag.{Adds, bag_of, is_item}
+use Rattle.work_list.specs.Bag.{Adds, is_item}
 use Rattle.work_list.specs.Stacked.{IsSame, IsStack, item_of, items_of, items_of_last, place_at, stacked}
 
 -- ---- places
@@ -114,26 +114,26 @@ stack_added cs ls ps k fact w low = record {
     longer : List ℕ
     longer = get_or ls k [] ++ fact ∷ []
 
-pub adds_push : (xs : List Item) (x : Item) → Adds x (bag_of xs) (bag_of (xs ++ x ∷ []))
+pub adds_push : (xs : List Item) (x : Item) → Adds x xs (xs ++ x ∷ [])
 adds_push xs x = record { each = λ y. sum_by_push (λ z. cond (is_item y z) 1 0) xs x; total = length_push xs x }
 
-pub adds_front : (front xs ys : List Item) (x : Item) → Adds x (bag_of xs) (bag_of ys) → Adds x (bag_of (front ++ xs)) (bag_of (front ++ ys))
+pub adds_front : (front xs ys : List Item) (x : Item) → Adds x xs ys → Adds x (front ++ xs) (front ++ ys)
 adds_front front xs ys x w = record {
   each = λ y. (let a = sum_by-append (λ z. cond (is_item y z) 1 0) front xs in let b = sum_by-append (λ z. cond (is_item y z) 1 0) front ys in let e = w.each y in omega (arith, a, b, e));
   total = omega (arith, w.total, length-append front xs, length-append front ys);
 }
 
-pub adds_back : (xs ys back : List Item) (x : Item) → Adds x (bag_of xs) (bag_of ys) → Adds x (bag_of (xs ++ back)) (bag_of (ys ++ back))
+pub adds_back : (xs ys back : List Item) (x : Item) → Adds x xs ys → Adds x (xs ++ back) (ys ++ back)
 adds_back xs ys back x w = record {
   each = λ y. (let a = sum_by-append (λ z. cond (is_item y z) 1 0) xs back in let b = sum_by-append (λ z. cond (is_item y z) 1 0) ys back in let e = w.each y in omega (arith, a, b, e));
   total = omega (arith, w.total, length-append xs back, length-append ys back);
 }
 
-pub stacked_added : (cs : List ℕ) (ls : List (List ℕ)) (k fact : ℕ) → length ls ≡ length cs → k < length ls → Adds (item_of (get_or cs k 0) fact) (bag_of (stacked cs ls)) (bag_of (stacked cs (set ls k (get_or ls k [] ++ fact ∷ []))))
+pub stacked_added : (cs : List ℕ) (ls : List (List ℕ)) (k fact : ℕ) → length ls ≡ length cs → k < length ls → Adds (item_of (get_or cs k 0) fact) (stacked cs ls) (stacked cs (set ls k (get_or ls k [] ++ fact ∷ [])))
 stacked_added [] [] k fact e low = absurd (omega arith)
 stacked_added [] (l ∷ ls) k fact e low = absurd (omega arith)
 stacked_added (c ∷ cs) [] k fact e low = absurd (omega arith)
-stacked_added (c ∷ cs) (l ∷ ls) zero fact e low = subst (λ xs. Adds (item_of c fact) (bag_of (items_of c l ++ stacked cs ls)) (bag_of (xs ++ stacked cs ls))) (sym (map-append (item_of c) l (fact ∷ [])))
+stacked_added (c ∷ cs) (l ∷ ls) zero fact e low = subst (λ xs. Adds (item_of c fact) (items_of c l ++ stacked cs ls) (xs ++ stacked cs ls)) (sym (map-append (item_of c) l (fact ∷ [])))
     (adds_back (items_of c l) (items_of c l ++ item_of c fact ∷ []) (stacked cs ls) (item_of c fact) (adds_push (items_of c l) (item_of c fact)))
 stacked_added (c ∷ cs) (l ∷ ls) (suc k) fact e low = adds_front (items_of c l) (stacked cs ls) (stacked cs (set ls k (get_or ls k [] ++ fact ∷ []))) (item_of (get_or cs k 0) fact) (stacked_added cs ls k fact (omega arith) (omega arith))
 

@@ -1,7 +1,7 @@
 //! The items of one context together.
 ghost use Rattle.std.specs.Prelude.{◌≡◌, ◌++◌, ◌∷◌, [], None, Some, IfNone, IfSome, IsTrue, ◌↔◌, OnErr, OnOk, Contains, length};
 ghost use Rattle.work_list.specs.declared.item.Item.{Item as AnItem};
-ghost use Rattle.work_list.specs.Bag.{Adds, bag_of};
+ghost use Rattle.work_list.specs.Bag.{Adds};
 ghost use Rattle.work_list.specs.Grouped.{PopsTogether, PushesInto};
 ghost use Rattle.work_list.specs.Stacked.{IsApart, items_in, items_of_last, waiting};
 
@@ -62,7 +62,7 @@ fn push(
 ) -> Result<(), AllocError>
     requires { IsApart groups.old last current.old }
     ensures apart { IsApart groups.new last current.new }
-    ensures ok { OnOk result (Adds item (bag_of (waiting groups.old last current.old)) (bag_of (waiting groups.new last current.new))) }
+    ensures ok { OnOk result (Adds item (waiting groups.old last current.old) (waiting groups.new last current.new)) }
     ensures err { OnErr result (waiting groups.new last current.new ≡ waiting groups.old last current.old) }
 {
     if is_last(last, item.context) {
@@ -116,7 +116,7 @@ impl ByContext {
 }
 
 impl WorkList for ByContext {
-    ghost pending = { λ b. bag_of b.items };
+    ghost pending = { λ b. b.items };
 
     fn push(&mut self, item: Item) -> Result<(), Item>
         ensures items { PushesInto item result self.old.items self.new.items }

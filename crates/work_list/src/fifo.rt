@@ -1,7 +1,6 @@
 //! First in, first out.
 ghost use Rattle.std.specs.Prelude.{◌≡◌, List, [], length};
 ghost use Rattle.work_list.specs.declared.item.Item.{Item};
-ghost use Rattle.work_list.specs.Bag.{bag_of};
 ghost use Rattle.work_list.specs.Order.{PushesLast, PopsFirst};
 
 use crate::item::Item;
@@ -34,7 +33,7 @@ impl Fifo {
 }
 
 impl WorkList for Fifo {
-    ghost pending = { bag_of };
+    ghost pending = { λ items. items };
 
     fn push(&mut self, item: Item) -> Result<(), Item>
         ensures last { PushesLast item result self.old self.new }

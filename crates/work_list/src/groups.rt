@@ -1,6 +1,6 @@
 //! Facts that wait in groups, one for each context.
 ghost use Rattle.std.specs.Prelude.{◌≡◌, ◌<◌, ◌++◌, ◌∷◌, [], IfNone, IfSome, OnErr, OnOk, length, slice_index_or, slice_set};
-ghost use Rattle.work_list.specs.Bag.{Adds, bag_of};
+ghost use Rattle.work_list.specs.Bag.{Adds};
 ghost use Rattle.work_list.specs.Stacked.{IsGrouped, IsSame, IsSameBut, items_in, items_of, place_at};
 
 use crate::item::Item;
@@ -107,7 +107,7 @@ impl Groups {
     pub(crate) fn push(&mut self, item: Item) -> Result<(), AllocError>
         requires { IsGrouped self.old }
         ensures grouped { IsGrouped self.new }
-        ensures ok { OnOk result (Adds item (bag_of (items_in self.old)) (bag_of (items_in self.new))) }
+        ensures ok { OnOk result (Adds item (items_in self.old) (items_in self.new)) }
         ensures err { OnErr result (items_in self.new ≡ items_in self.old) }
         ensures others { IsSameBut item.context self.old.places.items self.new.places.items }
     {

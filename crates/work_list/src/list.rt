@@ -1,14 +1,15 @@
 //! The trait of lists of pending work.
-ghost use Rattle.std.specs.Prelude.{◌≡◌, OnOk, OnErr, IfOk, IfErr};
-ghost use Rattle.work_list.specs.Bag.{Bag, Adds, Pops, IsEmpty, IsBagOf};
+ghost use Rattle.std.specs.Prelude.{◌≡◌, [], List, length, OnOk, OnErr, IfOk, IfErr};
+ghost use Rattle.work_list.specs.declared.item.Item.{Item as AnItem};
+ghost use Rattle.work_list.specs.Bag.{Adds, Pops, HaveSameItems};
 
 use crate::item::Item;
 use std::alloc::{AllocError, Global};
 
-/// Items that wait, seen as a bag: each list has its own order in which it pops them.
+/// Items that wait: each list has its own order in which it pops them.
 pub trait WorkList {
-    /// The items that wait.
-    ghost pending: { Self → Bag };
+    /// The items that wait, in some order, which means nothing.
+    ghost pending: { Self → List AnItem };
 
     /// Adds the item, or hands it back and changes nothing where memory is refused.
     fn push(&mut self, item: Item) -> Result<(), Item>
@@ -22,15 +23,14 @@ pub trait WorkList {
 
     /// How many items wait.
     fn len(&self) -> usize
-        ensures value { result ≡ (pending self.now).total }
-        ensures empty { result ≡ 0 → IsEmpty (pending self.now) };
+        ensures { result ≡ length (pending self.now) };
 }
 
 /// Takes out all items, in the order in which the list pops them: whatever was pushed is popped or still there.
 /// Where memory is refused nothing is taken.
 pub fn drain<W: WorkList>(list: &mut W, alloc: Global) -> Result<Vec<Item>, AllocError>
-    ensures all { IfOk result (λ popped. IsBagOf popped.items (W.pending list.old)) }
-    ensures empty { OnOk result (IsEmpty (W.pending list.new)) }
+    ensures all { IfOk result (λ popped. HaveSameItems (W.pending list.old) popped.items) }
+    ensures empty { OnOk result (W.pending list.new ≡ []) }
     ensures same { OnErr result (W.pending list.new ≡ W.pending list.old) }
 {
     let mut popped = Vec::with_capacity(alloc, list.len())?;

@@ -8,4 +8,4 @@ pub returns-clause-few : goal.returns-clause-few
 returns-clause-few g c = rw (← c.self.view_is) (few_served c.self.invariant)
 
 pub returns-clause-all : goal.returns-clause-all
-returns-clause-all g c = rw (← c.self.view_is) (λ most n low. all_served c.self.invariant c.none_waits.ensures most n low)
+returns-clause-all g c = rw (← c.self.view_is) (λ most n low. all_served c.self.invariant most n low)

@@ -7,12 +7,14 @@ use Rattle.saturate.specs.State.{IsUnderWay}
 use Rattle.saturate.proofs.Runs.{seen_state}
 use Rattle.saturate.proofs.States.{begun}
 use Rattle.saturate.proofs.Listing.{nothing_listed}
+use Rattle.saturate.proofs.Turns.{none_named}
 use Rattle.saturate.proofs.state.State.new.Goals as goal
 
 pub invariant_of-result : goal.invariant_of-result
 invariant_of-result g c = (
   begun c.in_ok-ground.ensures.forms c.in_ok-ground.ensures.roots c.new.ensures.facts c.new.ensures.births c.new-2.ensures.queued c.new-2.ensures.served,
   subst (λ (ns : List ℕ). ListsFacts c.in_ok-ground.ground c.new.result ns (c.new-2.result.served ++ option_list c.new-2.result.hand) c.new-3.result) (sym c.new-2.ensures.served) (nothing_listed c.in_ok-ground.ground c.new.result _ c.new-3.result c.new-3.ensures),
+  none_named c.new.result.facts c.new-2.result.waiting c.new-2.ensures.waiting,
 )
 
 pub returns-clause-state : goal.returns-clause-state

@@ -8,11 +8,13 @@ use Rattle.axioms.specs.WellFormed.{AreDistinct}
 use Rattle.saturate.specs.Run.{IsLeft, IsStep}
 use Rattle.saturate.specs.State.{IsUnderWay}
 use Rattle.saturate.specs.Listed.{ListsServed}
+use Rattle.saturate.specs.Queued.{NameTheirContexts}
 use Rattle.inference.specs.Met.{AllListedAreMet}
 use Rattle.inference.proofs.Growth.{grows_same}
 use Rattle.saturate.proofs.Runs.{in_any_refusal, left, one_step}
 use Rattle.saturate.proofs.States.{grown, one_served, finished}
 use Rattle.saturate.proofs.Listing.{turned, may, listed, still_listed, all_within, all_met, in_most, finish_listed}
+use Rattle.saturate.proofs.Turns.{named_still}
 use Rattle.saturate.proofs.state.State.step.Goals as goal
 use Rattle.saturate.proofs.state.State.step.Goals.{After-turn, After-add, After-serve, After-finish}
 
@@ -22,11 +24,18 @@ kept g c = (
   turned c.self.inside.queue c.turn.new.self c.self.invariant.1 c.turn.ensures.served c.turn.ensures.kept,
 )
 
+-- what waits names its fact's context
+named : (g : _) (c : After-turn g) → NameTheirContexts c.self.inside.facts.facts c.turn.new.self.waiting
+named g c = rw (← c.as_slice.ensures.value) c.turn.ensures.named
+
+pub turn-requires-clause-named : goal.turn-requires-clause-named
+turn-requires-clause-named g c = rw c.as_slice.ensures.value c.self.invariant.2
+
 pub invariant_of-self : goal.invariant_of-self
-invariant_of-self g c = kept g (goal.at.invariant_of-self g c).After-turn
+invariant_of-self g c = let d = (goal.at.invariant_of-self g c).After-turn in ((kept g d).0, (kept g d).1, named g d)
 
 pub invariant_of-self-in_default : goal.invariant_of-self-in_default
-invariant_of-self-in_default g c = kept g (goal.at.invariant_of-self-in_default g c).After-turn
+invariant_of-self-in_default g c = let d = (goal.at.invariant_of-self-in_default g c).After-turn in ((kept g d).0, (kept g d).1, named g d)
 
 pub returns-in_default-clause-done : goal.returns-in_default-clause-done
 returns-in_default-clause-done g c = λ _.
@@ -50,7 +59,7 @@ indexed g c = may (turned c.self.inside.queue c.turn.new.self c.self.invariant.1
 pub invariant_of-self-in_default-add : goal.invariant_of-self-in_default-add
 invariant_of-self-in_default-add g c =
     let d = goal.at.invariant_of-self-in_default-add g c in
-    ((kept g d.After-turn).0, indexed g d.After-add)
+    ((kept g d.After-turn).0, indexed g d.After-add, named g d.After-turn)
 
 pub serve-requires-clause-index : goal.serve-requires-clause-index
 serve-requires-clause-index g c = all_within (indexed g (goal.at.serve-requires-clause-index g c).After-add)
@@ -60,7 +69,7 @@ invariant_of-self-in_err-serve g c =
     let d = goal.at.invariant_of-self-in_err-serve g c in
     let s = (kept g d.After-turn).0 in
     let grows = subst (λ (k : Problem). Grows k c.args.max_facts c.self.inside.facts c.serve.new.facts) c.problem-problem.ensures c.serve.ensures.grows in
-    (grown s grows (omega (arith, c.turn.ensures.queued, ap length c.as_slice.ensures.value)) refl, still_listed grows s.within (indexed g d.After-add))
+    (grown s grows (omega (arith, c.turn.ensures.queued, ap length c.as_slice.ensures.value)) refl, still_listed grows s.within (indexed g d.After-add), named_still c.self.inside.facts.facts c.serve.new.facts.facts c.turn.new.self.waiting grows.facts (named g d.After-turn))
 
 pub finish-requires : goal.finish-requires
 finish-requires g c = λ none. none-some c.in-Some.hand (sym none ∙ handed g (goal.at.finish-requires g c).After-add)
@@ -102,6 +111,7 @@ invariant_of-self-2 g c =
     let s = (kept g d.After-turn).0 in (
       under_way g d.After-finish s (indexed g d.After-add) (handed g d.After-add) (spared g d.After-add) (uncarried g d.After-add),
       finish_listed c.turn.new.self c.finish.new.self (indexed g d.After-add) (handed g d.After-add) c.get-fact.ensures c.in-Ok.ensures.ok (spared g d.After-add) (uncarried g d.After-add) (grows g d.After-finish) s.within (served_now g d.After-finish (handed g d.After-add)),
+      rw c.finish.ensures.waiting (named_still c.self.inside.facts.facts c.serve.new.facts.facts c.turn.new.self.waiting (grows g d.After-finish).facts (named g d.After-turn)),
     )
 
 pub returns-clause-extends : goal.returns-clause-extends

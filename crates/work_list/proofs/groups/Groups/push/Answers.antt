@@ -1,5 +1,5 @@
 use Rattle.std.proofs.Common.{◌≡◌, ◌+◌, ◌-◌, ◌<◌, ◌∷◌, [], ◌++◌, ◌∙◌, List, ℕ, ap, arith, length, get_or, set, sym, subst}
-use Rattle.work_list.specs.Bag.{Adds, bag_of}
+use Rattle.work_list.specs.Bag.{Adds}
 use Rattle.work_list.specs.Stacked.{IsStack, item_of, place_at, stacked}
 use Rattle.work_list.proofs.Stacks.{stack_added, stacked_added}
 use Rattle.work_list.proofs.groups.Groups.push.Goals as goal
@@ -25,6 +25,6 @@ returns-clause-ok c =
     let place : place_at old.places.items c.args.item.context ≡ k + 1 = ap (λ (l : List ℕ). place_at l c.args.item.context) (sym c.deref.ensures.value) ∙ sym c.place_of-place.ensures ∙ omega (arith, c.if-place-eq0.false) in
     let there = c.requires.index.there c.args.item.context k place in
     let low : k < length old.lists.items = omega (arith, c.requires.long, there.0) in
-    subst (λ xs. Adds c.args.item (bag_of (stacked old.contexts.items old.lists.items)) (bag_of (stacked old.contexts.items xs))) (sym c.in_ok-add.ensures.ok)
-    (subst (λ x. Adds (item_of x c.args.item.fact) (bag_of (stacked old.contexts.items old.lists.items)) (bag_of (stacked old.contexts.items (set old.lists.items k (get_or old.lists.items k [] ++ c.args.item.fact ∷ []))))) there.1
+    subst (λ xs. Adds c.args.item (stacked old.contexts.items old.lists.items) (stacked old.contexts.items xs)) (sym c.in_ok-add.ensures.ok)
+    (subst (λ x. Adds (item_of x c.args.item.fact) (stacked old.contexts.items old.lists.items) (stacked old.contexts.items (set old.lists.items k (get_or old.lists.items k [] ++ c.args.item.fact ∷ [])))) there.1
     (stacked_added old.contexts.items old.lists.items k c.args.item.fact c.requires.long low))
