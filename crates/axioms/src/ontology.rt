@@ -14,7 +14,6 @@ use std::alloc::Global;
 use std::marker::Model;
 
 /// Names, class expressions and logical axioms, each numbered by its first place.
-#[derive(Drop)]
 pub struct Ontology {
     pub(crate) alloc: Global,
     pub(crate) classes: NumberedSet<String>,
@@ -24,6 +23,21 @@ pub struct Ontology {
     // the expression of each class, by the number of the class
     pub(crate) class_expressions: Vec<ExprId>,
     pub(crate) axioms: Vec<Axiom>,
+}
+
+// A value is let go by one call, where each way out would else let each field go.
+impl Drop for Ontology {
+    fn drop(self) {
+        let Ontology {
+            alloc: _,
+            classes: _,
+            properties: _,
+            individuals: _,
+            expressions: _,
+            class_expressions: _,
+            axioms: _,
+        } = self;
+    }
 }
 
 impl Model for Ontology {

@@ -25,7 +25,7 @@ pub struct Claim {
 }
 
 /// An interpretation by its members: the elements are the numbers below `domain`.
-#[derive(Debug, PartialEq, Eq, Drop)]
+#[derive(Debug, PartialEq, Eq)]
 pub struct Listed {
     pub domain: u32,
     /// Ascending by class.
@@ -36,4 +36,17 @@ pub struct Listed {
     pub individuals: Vec<u32>,
     /// Ascending by class.
     pub claims: Vec<Claim>,
+}
+
+// A value is let go by one call, where each way out would else let each field go.
+impl Drop for Listed {
+    fn drop(self) {
+        let Listed {
+            domain: _,
+            classes: _,
+            pairs: _,
+            individuals: _,
+            claims: _,
+        } = self;
+    }
 }

@@ -13,7 +13,6 @@ use std::marker::Model;
 
 /// A set of elements for each class of an ontology, a set of pairs of elements for each property, an element for each
 /// individual (OWL 2 Direct Semantics, section 2.2, with a finite domain). The elements are the numbers below `size`.
-#[derive(Drop)]
 pub struct Interpretation {
     pub(crate) alloc: Global,
     pub(crate) size: usize,
@@ -21,6 +20,19 @@ pub struct Interpretation {
     // the targets of each source, ascending, by property
     pub(crate) pairs: Vec<BTreeMap<usize, Vec<usize>>>,
     pub(crate) individuals: Vec<usize>,
+}
+
+// A value is let go by one call, where each way out would else let each field go.
+impl Drop for Interpretation {
+    fn drop(self) {
+        let Interpretation {
+            alloc: _,
+            size: _,
+            classes: _,
+            pairs: _,
+            individuals: _,
+        } = self;
+    }
 }
 
 impl Model for Interpretation {

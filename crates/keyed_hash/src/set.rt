@@ -13,12 +13,23 @@ use std::marker::Model;
 
 /// Members in the order in which they came, fewer than 2^32, each with its place as its number. They are found by hashes, in 8 bytes
 /// for each slot, of which at least a quarter is free.
-#[derive(Drop)]
 pub struct NumberedSet<T: Eq + Hash> {
     alloc: Global,
     state: KeyedState,
     slots: Slots,
     members: Vec<T>,
+}
+
+// A value is let go by one call, where each way out would else let each field go.
+impl<T: Eq + Hash + Drop> Drop for NumberedSet<T> {
+    fn drop(self) {
+        let NumberedSet {
+            alloc: _,
+            state: _,
+            slots: _,
+            members: _,
+        } = self;
+    }
 }
 
 impl<T: Eq + Hash> Model for NumberedSet<T> {
