@@ -2,6 +2,7 @@
 ghost use Rattle.cli.specs.Checked.{AreKnown, AreTextsRead, IsCheckAnswer, IsChecked, IsCheckFault, IsTextRead, Reads, text_states};
 ghost use Rattle.cli.specs.Devices.{source_state};
 ghost use Rattle.cli.specs.Files.{AreTextsThere, BlamesText, ChecksFiles, IsTextUnread};
+ghost use Rattle.cli.specs.Performed.{IsCheckedFiles};
 ghost use Rattle.cli.specs.declared.fault.CheckFault.TheVariants as faults;
 ghost use Rattle.profile.specs.declared.fault.DocumentFault.TheVariants as document_faults;
 ghost use Rattle.std.specs.Prelude.{◌+◌, ◌<◌, IfErr, IfOk, IsErrOf, OnOk};
@@ -194,8 +195,7 @@ pub(crate) fn checked_files<F: Files>(
     files: &F,
     state: RandomState,
 ) -> Result<(Ontology, Verdict), CheckFault>
-    ensures checked { IfOk result (λ p. IsChecked limits.now.max_bytes (F.content files.now paths.now.document.now) (F.content files.now paths.now.taxonomy.now) (F.content files.now paths.now.instances.now) (F.content files.now paths.now.certificate.now) p.0 p.1) }
-    ensures fault { IfErr result (IsCheckFault limits.now.max_bytes (F.content files.now paths.now.document.now)) }
+    ensures checked { IsCheckedFiles paths.now limits.now.max_bytes (F.content files.now) result }
     ensures blames { ChecksFiles F.reads_fail (F.is_known files.now) (F.content files.now) paths.now result }
 {
     let ontology = match ontology_of(alloc, files, paths.document, limits, state) {
