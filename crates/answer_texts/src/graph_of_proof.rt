@@ -27,7 +27,6 @@ pub(crate) fn push_escaped(out: &mut Vec<u8>, bytes: &[u8]) -> Result<(), AllocE
     Ok(())
 }
 
-// Adds the node of a line.
 fn push_node(
     alloc: Global,
     out: &mut Vec<u8>,

@@ -111,7 +111,6 @@ fn push_outlines(out: &mut Vec<u8>, refuting: usize, element: usize) -> Result<(
     out.extend_from_slice(b", peripheries=2")
 }
 
-// Adds the node of an element.
 fn push_node(
     out: &mut Vec<u8>,
     ontology: &Ontology,

@@ -6,7 +6,6 @@ ghost use Rattle.std.specs.Prelude.{◌<◌, ◌≡◌, ◌^◌, ◌≤◌, slic
 use axioms::{ClassId, IndId, PropId};
 use interpretation_spec::Interpretation;
 
-/// Whether the element is in the class.
 pub(crate) fn is_member(interpretation: &Interpretation, class: ClassId, element: usize) -> bool
     ensures { result ≡ has (members_of interpretation.now class.0) element }
 {

@@ -13,7 +13,6 @@ use axioms::{ClassId, IndId, Memory, Ontology, PropId};
 use interpretation_spec::Interpretation;
 use std::alloc::{AllocError, Global};
 
-// The elements of the class.
 fn elements_of(
     alloc: Global,
     interpretation: &Interpretation,

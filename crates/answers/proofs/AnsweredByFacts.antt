@@ -86,7 +86,7 @@ module _ (o : Ontology) (w : IsOntology o) (s : Saturated) (h : IsSaturated o s)
           let follows = answer_follows q low n below in
           (λ m. follows.0 (mark.0 m), λ f. mark.1 (follows.1 f))
 
-  -- .. by another list of names, marks and number, which are the same
+  -- the names that are marked are those that follow, by another list of names, marks and number, which are the same
   pub those_named : (q : Question) → class_asked q < length o.names.classes → (names : List Iri) → names ≡ names_asked o q → (size : ℕ) → size ≡ length names → (marks shown : List Bool) → shown ≡ marks
       → AreAnswers o q s.state.facts size marks → (answer : List Iri) → AreThose names (HasMark names shown) answer → AreThose (names_asked o q) (FollowsFor o q) answer
   those_named q low names is size long marks shown same are answer those =

@@ -111,7 +111,7 @@ via_more (N7 _) P Q R h w = w
 via_more (N8 _ _) P Q R h w = w
 via_more (N9 _ _ _) P Q R h w = w
 
--- .. and along one of them more
+-- where one of the forms puts s below t, and s is reached, t is reached too
 pub reach_on : (fs : List Form) (s t : PropId) (n p : ℕ) → slice_get fs n ≡ Some (N5 s t) → Reach fs p s.0 → Reach fs p t.0
 reach_on [] s t n p at h = absurd (none-some (N5 s t) at)
 reach_on (f ∷ fs) s t zero p at h =

@@ -12,7 +12,6 @@ use axioms::{Memory, Ontology};
 use engine::Saturation;
 use std::alloc::Global;
 
-/// The number of the name.
 fn number_of(names: &[String], name: &str) -> Option<usize>
     ensures { MatchOption result (Contains (map string_bytes names.now) name.now → ⊥)
         (λ n. slice_get (map string_bytes names.now) n ≡ Some name.now) }

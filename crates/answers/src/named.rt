@@ -7,7 +7,6 @@ use crate::asked::Asked;
 use axioms::{ClassId, ExprId, IndId, Ontology};
 use facts::Context;
 
-/// The number of the name.
 fn number_of(names: &[String], name: &str) -> Option<usize>
     ensures { MatchOption result (Contains (map string_bytes names.now) name.now → ⊥)
         (λ n. slice_get (map string_bytes names.now) n ≡ Some name.now) }
@@ -29,7 +28,6 @@ pub(crate) fn class_named(ontology: &Ontology, name: &str) -> Option<ExprId>
     ontology.class_expr(ClassId(number as u32))
 }
 
-/// The individual of that name.
 fn individual_named(ontology: &Ontology, name: &str) -> Option<IndId>
     ensures { MatchOption result (Contains ontology.now.names.individuals name.now → ⊥)
         (λ a. slice_get ontology.now.names.individuals a.0 ≡ Some name.now) }

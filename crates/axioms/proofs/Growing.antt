@@ -185,7 +185,7 @@ module _ (o : Ontology) (whole : IsOntology o) where
       last_node : (e : ℕ) (node : Node) → Class (length o.names.classes) ≡ node → IsNodeOf (with_class o iri) e node
       last_node e node is = subst (IsNodeOf (with_class o iri) e) is (omega (arith, length_push o.names.classes iri))
 
-  -- .. by what a declaration or an addition says
+  -- a property, an individual or a node, by what a declaration or an addition says
   pub grown_property : (iri : Iri) (properties : List Iri) (n : ℕ) → Numbers o.names.properties iri properties n → IsOntology (record o { names = record o.names { properties = properties } })
   grown_property iri properties n (inl (at, same)) = subst (λ ps. IsOntology (record o { names = record o.names { properties = ps } })) (sym same) whole
   grown_property iri properties n (inr (new, at, longer)) = subst (λ ps. IsOntology (record o { names = record o.names { properties = ps } })) (sym longer) (with_property iri new)

@@ -90,7 +90,7 @@ bounded_with_class o iri bounded room place = record {
   axioms = bounded.axioms;
 }
 
--- .. or with one more axiom
+-- an ontology with one more axiom is bounded where there was room for it
 pub bounded_with_axiom : (o : Ontology) (axiom' : Axiom) → IsBounded o → length o.axioms + 1 < 2 ^ 32 → IsBounded (with_axiom o axiom')
 bounded_with_axiom o axiom' bounded room = record {
   classes = bounded.classes;
@@ -105,11 +105,11 @@ pub number_below : {X : Type 0} (old : List X) (x : X) (new : List X) (n : ℕ) 
 number_below old x new n (inl (at, same)) = (slice_get_within new n x (subst (λ xs. slice_get xs n ≡ Some x) (sym same) at), omega (arith, ap length same))
 number_below old x new n (inr (apart, at, longer)) = (omega (arith, ap length longer, length_push old x), omega (arith, ap length longer, length_push old x))
 
--- what a declaration of a class says where the name is there ..
+-- what a declaration of a class says where the name is there
 pub declares_present : (o : Ontology) (iri : List ℕ) (class place : ℕ) → slice_get o.names.classes class ≡ Some iri → IsClassAt o class place → DeclaresClass o iri o class place
 declares_present o iri class place named at = record { name = inl (named, refl); node = inl (at, refl); others = refl }
 
--- .. and where it is new
+-- what a declaration of a class says where the name is new
 pub declares_new : (o : Ontology) → IsOntology o → (iri : List ℕ) → (Contains o.names.classes iri → ⊥) → (new : Ontology) (class place : ℕ)
     → class ≡ length o.names.classes → place ≡ length o.nodes → new ≡ with_class o iri → DeclaresClass o iri new class place
 declares_new o whole iri absent new class place class-is place-is is = subst (λ p. DeclaresClass o iri p class place) (sym is) (record {

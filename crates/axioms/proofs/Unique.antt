@@ -18,7 +18,7 @@ use Rattle.axioms.proofs.Trees.{node_tree, length_trees}
 abbrev Determined : {X : Type 0} → (ℕ → X) → ℕ → Type 0
 Determined f n = (a b : ℕ) → a < n → b < n → f a ≡ f b → a ≡ b
 
--- .. and so is a list of numbers
+-- where numbers below a bound are determined by what they stand for, so is a list of them
 same_numbers : {X : Type 0} (f : ℕ → X) (n : ℕ) → Determined f n → (xs ys : List ℕ) → All (λ x. x < n) xs → All (λ x. x < n) ys → map f xs ≡ map f ys → xs ≡ ys
 same_numbers f n one [] [] h k e = refl
 same_numbers f n one [] (y ∷ ys) h k e = cc
@@ -189,7 +189,7 @@ module _ (o : Ontology) (whole : IsOntology o) where
       let rest : map (axiom_tree o) as' ≡ map (axiom_tree o) bs = cc in
       ap₂ (λ x xs. x ∷ xs) (same_axiom a b (All-head P a as' h) (All-head P b bs k) first) (same_axioms as' bs (All-tail P a as' h) (All-tail P b bs k) rest)
 
--- ---- .. so all of it is
+-- ---- an ontology is determined by its statements
 
 by_axioms : (o : Ontology) → IsOntology o → (axioms : List Axiom) → IsOntology (record o { axioms = axioms }) → axiom_trees o ≡ axiom_trees (record o { axioms = axioms }) → o.axioms ≡ axioms
 by_axioms o whole axioms other same = same_axioms o whole o.axioms axioms whole.axioms other.axioms same

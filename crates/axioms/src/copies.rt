@@ -15,14 +15,12 @@ fn copied_names(names: &NumberedSet<String>) -> Result<NumberedSet<String>, Memo
     Ok(names.copy()?)
 }
 
-// The same expressions.
 fn copied_expressions(expressions: &NumberedSet<Expr>) -> Result<NumberedSet<Expr>, Memory>
     ensures { IfOk result (λ s. map node_of s.keys ≡ map node_of expressions.now.keys) }
 {
     Ok(expressions.copy()?)
 }
 
-// The same axioms.
 fn copied_axioms(axioms: &Vec<Axiom>) -> Result<Vec<Axiom>, Memory>
     ensures { IfOk result (λ v. map axiom_of v.items ≡ map axiom_of axioms.now.items) }
 {

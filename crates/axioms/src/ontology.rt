@@ -51,7 +51,6 @@ impl Model for Ontology {
     ghost invariant = { IsKept };
 }
 
-// Whether the IRI is one of the names.
 fn is_named(names: &NumberedSet<String>, iri: &str) -> bool
     ensures { result ≡ list_any (bytes_eq iri.now) (map string_bytes names.now.keys) }
 {

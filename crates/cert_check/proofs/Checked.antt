@@ -11,7 +11,7 @@ at_there f g xs m (suc n) x h e =
     let same : m ≡ n = omega arith in
     subst (λ k. Some (g (f x)) ≡ slice_get (map g (map f xs)) k) same (sym (slice_get_map g (map f xs) m (f x) (slice_get_map f xs m x h)))
 
--- .. and of what stands there, if anything does
+-- what is made of the thing of a number, if there is one
 pub said_there : {X Y : Type 0} (f : X → Y) (xs : List X) (m n : ℕ) (o : Option X) → o ≡ slice_get xs m → m + 1 ≡ n → option_map f o ≡ at_number (map f xs) n
 said_there f xs m zero o h e = absurd (omega arith)
 said_there f xs m (suc n) o h e =

@@ -73,7 +73,7 @@ module _ (o : Ontology) (claims : List (ℕ × ℕ)) (claim : ℕ × ℕ) (claim
         );
   }
 
-  -- .. or it is one
+  -- the expression of the claim is a class, for which nothing was claimed before
   pub claimed_more : IsOntology o → (c : ℕ) → IsClassAt o c claim.0 → ((y : ℕ) → Contains claims (claim.0, y) → ⊥) → AreClaimed o (claims ++ claim ∷ []) (set claimed c (Some claim.1))
   claimed_more w c at none = record {
     long = length-set claimed c (Some claim.1) ∙ before.long;
@@ -108,7 +108,7 @@ module _ (o : Ontology) (claims : List (ℕ × ℕ)) (claim : ℕ × ℕ) (claim
             ],
           )
 
--- .. in the code's claims
+-- the next of the code's claims, after those before it
 module _ (o : Ontology) (w : IsOntology o) (claims : List Claim) (ascend : Ascends (map (λ c. c.0) (map claim_of claims))) (k : ℕ) (claim : Claim) (g : slice_get claims k ≡ Some claim)
     (claimed : List (Option ℕ)) (before : AreClaimed o (map claim_of (take k claims)) claimed) where
   pub claim_step : (c : ℕ) → IsClassAt o c claim.class.0 → AreClaimed o (map claim_of (take (k + 1) claims)) (set claimed c (Some claim.element))

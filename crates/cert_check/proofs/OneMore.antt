@@ -70,7 +70,7 @@ tested_good o lines last said t h = record {
   bad_is = derivation_more o lines last t.bad_is h;
 }
 
--- .. and the next does not
+-- where the lines so far are a derivation and the next does not follow
 pub tested_bad : (o : Ontology) (lines : List Line) (last : Line) (said : List Conclusion) → AreTested o lines said None → (IsDerived o lines last → ⊥)
     → AreTested o (lines ++ last ∷ []) (said ++ last.conclusion ∷ []) (Some (length said + 1))
 tested_bad o lines last said t h =
@@ -80,7 +80,7 @@ tested_bad o lines last said t h =
       bad_is = subst (λ n. IsFirstBadLine o (lines ++ last ∷ []) (n + 1)) (sym long) (bad_now o lines last t.bad_is h);
     }
 
--- .. and where a line was bad before
+-- where one of the lines so far is bad
 pub tested_later : (o : Ontology) (lines : List Line) (last : Line) (said : List Conclusion) (n : ℕ) → AreTested o lines said (Some n)
     → AreTested o (lines ++ last ∷ []) (said ++ last.conclusion ∷ []) (Some n)
 tested_later o lines last said n t = record {

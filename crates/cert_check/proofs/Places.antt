@@ -49,7 +49,7 @@ at_places R flip xs h m n x y apart gx gy =
       | inr (inr l) ↦ flip y x (subst₂ R (get_or_from_slice_get xs n y x gy) (get_or_from_slice_get xs m x x gx) (h n m x l (slice_get_within xs m x gx)))
     ]
 
--- .. of any two members, where it also holds of an element and itself
+-- of any two members, where the relation also holds of an element and itself
 pub of_elements : {X : Type 0} (R : X → X → Type 0) → ((a : X) → R a a) → ((a b : X) → R a b → R b a) → (xs : List X) → AllPairs R xs → (x y : X) → Contains xs x → Contains xs y → R x y
 of_elements R self flip xs h x y c d =
     let (m, gx) = slice_get-from_Contains xs x c in

@@ -44,7 +44,7 @@ module _ (o : Ontology) (w : IsOntology o) (lines : List Line) (derived : IsDeri
       let lx = (All-contains (λ c. IsNamedClass o c.0 × (c.1 < l.domain)) l.claims (e, x) fits.claims claim).1 in
       record { element = x; within = subst (λ n. x < n) (sym listing.size) lx; holds = hold c e x ge claim }
 
-  -- .. it lies below itself
+  -- each class lies below itself
   reflexive_at : (c : ℕ) → c < length above → (b : Bool) → is_listed above c nothing_class ≡ b → is_below above c c ≡ true
   reflexive_at c lc true t = ap (λ b. b || is_listed above c c) t
   reflexive_at c lc false none =

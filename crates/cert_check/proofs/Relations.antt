@@ -97,7 +97,7 @@ preorder_of rows above long says p = record {
     fit : (c : ℕ) → c < length rows → c < length above
     fit c l = subst (λ n. c < n) long l
 
--- .. at the classes of the ontology
+-- a relation that says what the lists do says so of the classes of the ontology
 pub relation_says : (o : Ontology) (rows reduced : List (List Bool)) (above : List (List ℕ)) → reduced ≡ rows → length rows ≡ length above → length above ≡ length o.names.classes
     → ((c d : ℕ) → c < length rows → d < length rows → lies_below rows c d ≡ is_below above c d)
     → (c d : ℕ) → c < length o.names.classes → d < length o.names.classes → lies_below reduced c d ≡ is_below above c d

@@ -38,7 +38,7 @@ pub record AddsMembers (puts : ℕ → ℕ → Type 0) (old new : NumberedInterp
   pub pairs : new.pairs ≡ old.pairs
   pub individuals : new.individuals ≡ old.individuals
 
--- .. the pairs
+-- the new interpretation has the pairs of the old one and those that are put, and else says the same
 pub record AddsPairs (puts : ℕ → ℕ → ℕ → Type 0) (old new : NumberedInterpretation) : Type 0 where
   pub size : new.size ≡ old.size
   pub classes : new.classes ≡ old.classes
@@ -46,7 +46,7 @@ pub record AddsPairs (puts : ℕ → ℕ → ℕ → Type 0) (old new : Numbered
   pub pairs : (r x y : ℕ) → (is_target new r x y ≡ true) ↔ ((is_target old r x y ≡ true) ⊎ puts r x y)
   pub individuals : new.individuals ≡ old.individuals
 
--- .. each individual that has an element in the list is that element
+-- the new interpretation is the old one but for individuals, of which it has as many: each with an element in the list is that element
 pub record PutsIndividuals (elements : List ℕ) (old new : NumberedInterpretation) : Type 0 where
   pub size : new.size ≡ old.size
   pub classes : new.classes ≡ old.classes

@@ -35,7 +35,7 @@ AcceptableSays =
     (o : Ontology) → IsOntology o → (taxonomy instances text : List ℕ) (a : IsAcceptable o taxonomy instances text) →
     Says o taxonomy instances a.certificate
 
--- .. and an ontology has no other acceptable texts
+-- acceptable taxonomy texts of an ontology are the same, and so are acceptable instances texts
 abbrev pub TextsAreDetermined : Type 0
 TextsAreDetermined =
     (o : Ontology) → IsOntology o → (taxonomy instances text taxonomy' instances' text' : List ℕ) →

@@ -18,7 +18,7 @@ pub record AreTested (o : Ontology) (lines : List Line) (said : List Conclusion)
   pub said_is : said ≡ said_by lines
   pub bad_is : MatchOption bad (IsDerivation o lines) (IsFirstBadLine o lines)
 
--- .. and what they show
+-- what the lines say, which is the first that does not follow from those before it, and what they show
 pub record AreKept (o : Ontology) (lines : List Line) (said : List Conclusion) (bad : Option ℕ) (contradictory : Bool) (above types : List (List ℕ)) : Type 0 where
   pub tested : AreTested o lines said bad
   pub shown : AreShown o lines contradictory above types

@@ -51,7 +51,7 @@ pub record RelationAgainst (o : Ontology) (t i : List ℕ) (lines : List Line) (
   pub types : Belongs o lines belongs
   pub texts : TextsAgainst t i (taxonomy_text o.names.classes lies_below) (instances_text o.names.classes o.names.individuals lies_below belongs) reason
 
--- .. for whichever lines these are the lists of
+-- whichever lines have these superclasses and types, the texts are measured by those of the relation and of the types that they give
 abbrev pub RelationAgainstLists : Ontology → (t i : List ℕ) → (above types : List (List ℕ)) → Option Reason → Type 0
 RelationAgainstLists o t i above types reason =
     (lines : List Line) → AreSuperclasses o (said_by lines) above → AreTypes o (said_by lines) types → RelationAgainst o t i lines reason
@@ -88,7 +88,7 @@ ClaimsAgainst o i lines listed None =
     Each (HasClaim o lines listed) × Each (ClaimsHold o i lines listed) × Each (IndividualAgrees o i lines listed)
 ClaimsAgainst _ _ _ _ _ = ⊥
 
--- .. for whichever lines these are the lists of, and whichever interpretation is listed
+-- what speaks against the claims, whichever lines have these superclasses and types, and whichever interpretation is listed
 abbrev pub ClaimsAgainstLists : Ontology → Listed → (above types : List (List ℕ)) → Option Reason → Type 0
 ClaimsAgainstLists o listed above types reason =
     (lines : List Line) → AreSuperclasses o (said_by lines) above → AreTypes o (said_by lines) types → (i : Interpretation) → IsListing o listed i → IsInterpretation i → ClaimsAgainst o i lines listed reason
@@ -129,12 +129,12 @@ pub record AreShown (o : Ontology) (lines : List Line) (contradictory : Bool) (a
 abbrev pub HasDerivation : Ontology → Bool → (above types : List (List ℕ)) → Type 0
 HasDerivation o contradictory above types = (lines : List Line) × AreShown o lines contradictory above types × IsDerivation o lines
 
--- .. and the texts are measured, for whichever lines these are the lists of
+-- whichever lines have these superclasses and types, the members list an interpretation, by which the texts are measured
 abbrev pub ConsistentAgainstShown : Ontology → (taxonomy instances : List ℕ) → (above types : List (List ℕ)) → Listed → Option Reason → Type 0
 ConsistentAgainstShown o t i above types listed reason =
     (lines : List Line) → AreSuperclasses o (said_by lines) above → AreTypes o (said_by lines) types → ConsistentAgainst o t i lines listed reason
 
--- .. for whichever lines show a contradiction, or do not
+-- what speaks against the texts where a derivation is to show a contradiction, for whichever lines show one, or do not
 abbrev pub ContradictionAgainstShown : (taxonomy instances : List ℕ) → Bool → Option Reason → Type 0
 ContradictionAgainstShown t i contradictory reason = (lines : List Line) → (IsTrue contradictory ↔ HasContradiction lines) → ContradictionAgainst t i lines reason
 
@@ -143,7 +143,7 @@ abbrev pub Against : Ontology → (taxonomy instances : List ℕ) → List Line 
 Against o t i lines None reason = ContradictionAgainst t i lines reason
 Against o t i lines (Some listed) reason = ConsistentAgainst o t i lines listed reason
 
--- .. where this is kept of its lines, whichever they are
+-- what speaks against a certificate, whichever its lines are of which this is kept
 abbrev pub AgainstShown : Ontology → (taxonomy instances : List ℕ) → Bool → (above types : List (List ℕ)) → Option Listed → Option Reason → Type 0
 AgainstShown o t i contradictory above types listed reason = (lines : List Line) → AreShown o lines contradictory above types → Against o t i lines listed reason
 

@@ -107,7 +107,6 @@ fn fill(set: &mut EpochSet, numbers: &[u32])
     }
 }
 
-// Whether the set has each of these numbers.
 fn has_each(set: &EpochSet, numbers: &[u32]) -> bool
     ensures { IsTrue result ↔ ((n : ℕ) → has_number numbers.now n ≡ true → has set.now n ≡ true) }
 {

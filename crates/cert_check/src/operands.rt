@@ -10,22 +10,20 @@ ghost use Rattle.std.specs.Prelude.{◌↔◌, ◌≡◌, ◌∷◌, [], Contain
 use axioms::{ExprId, PropId};
 use certificate::{Conclusion, Subject};
 
-/// Whether the expression is one of these.
-pub fn has_expression(operands: &[ExprId], expression: ExprId) -> bool
+pub(crate) fn has_expression(operands: &[ExprId], expression: ExprId) -> bool
     ensures { IsTrue result ↔ Contains (expr_numbers operands.now) expression.0 }
 {
     operands.contains(&expression)
 }
 
-/// Whether the property is one of these.
-pub fn has_property(operands: &[PropId], property: PropId) -> bool
+pub(crate) fn has_property(operands: &[PropId], property: PropId) -> bool
     ensures { IsTrue result ↔ Contains (prop_numbers operands.now) property.0 }
 {
     operands.contains(&property)
 }
 
 /// Whether the property stands alone.
-pub fn is_only(chain: &[PropId], property: PropId) -> bool
+pub(crate) fn is_only(chain: &[PropId], property: PropId) -> bool
     ensures { IsTrue result ↔ (prop_numbers chain.now ≡ property.0 ∷ []) }
 {
     match chain {
@@ -47,7 +45,7 @@ fn stands_beside(operands: &[ExprId], place: usize, expression: ExprId) -> bool
 }
 
 /// Whether the two stand at different places.
-pub fn at_two_places(operands: &[ExprId], first: ExprId, second: ExprId) -> bool
+pub(crate) fn at_two_places(operands: &[ExprId], first: ExprId, second: ExprId) -> bool
     ensures { IsTrue result ↔ AtTwoPlaces (expr_numbers operands.now) first.0 second.0 }
 {
     for (i, operand) in operands.iter().enumerate() {
@@ -73,7 +71,6 @@ fn after_first_in(
     }
 }
 
-// Whether there is no premise.
 fn is_empty(premises: &[Conclusion]) -> bool
     ensures { IsTrue result ↔ (map conclusion_of premises.now ≡ []) }
 {
@@ -84,7 +81,7 @@ fn is_empty(premises: &[Conclusion]) -> bool
 }
 
 /// Whether the premises say of the subject that it lies in each operand, in their order.
-pub fn are_in_each(premises: &[Conclusion], subject: Subject, operands: &[ExprId]) -> bool
+pub(crate) fn are_in_each(premises: &[Conclusion], subject: Subject, operands: &[ExprId]) -> bool
     ensures { IsTrue result ↔ (map conclusion_of premises.now ≡ map (certificate.Sub (subject_of subject)) (expr_numbers operands.now)) }
 {
     let mut left = premises;

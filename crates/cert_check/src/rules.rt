@@ -12,7 +12,7 @@ use axioms::{Axiom, Expr, ExprId, Ontology, PropId};
 use certificate::{Conclusion, Rule, Subject};
 
 /// Whether the conclusion follows by the rule from the premises, in their order, and the stated axiom, if there is one.
-pub fn follows(
+pub(crate) fn follows(
     ontology: &Ontology,
     rule: Rule,
     premises: &[Conclusion],

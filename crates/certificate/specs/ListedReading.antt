@@ -99,6 +99,6 @@ unfoldable pub listed_if : Ontology → Bool → Reader (Option Listed)
 listed_if o true bytes = listed_at o bytes >>= λ x. Some (Some x.0, x.1)
 listed_if o false bytes = Some (None, bytes)
 
--- .. in all of the bytes, with the last line
+-- all of the bytes: the interpretation of a consistent certificate, or none of an inconsistent one, and then the last line
 unfoldable pub ending : Ontology → Bool → List ℕ → Option (Option Listed)
 ending o is_consistent bytes = ended (listed_if o is_consistent) (codes "end\n") bytes >>= λ x. if length x.1 == 0 then Some x.0 else None

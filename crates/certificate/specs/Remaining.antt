@@ -22,7 +22,7 @@ pub record Remaining : Type 0 where
 abbrev pub lines_left : Ontology → List ℕ → List Line × List ℕ
 lines_left o bytes = many_from (λ last. fitting_line_at o) None (length bytes) bytes
 
--- .. where a certificate of the kind is read, and so many bytes were at first
+-- what is left, with these lines at the front and these bytes behind them, of a text of so many bytes that names this kind
 abbrev pub remaining_from : Ontology → ℕ → Bool → List Line × List ℕ → Remaining
 remaining_from o size is_consistent left = record { ontology = o; size = size; lines = left.0; listed = ending o is_consistent left.1 }
 

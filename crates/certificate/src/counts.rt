@@ -5,19 +5,19 @@ ghost use Rattle.certificate.specs.Fitting.{is_class, is_named};
 
 use axioms::{ExprId, Ontology};
 
-pub fn property_count(ontology: &Ontology) -> usize
+pub(crate) fn property_count(ontology: &Ontology) -> usize
     ensures { result ≡ length ontology.now.names.properties }
 {
     ontology.properties().len()
 }
 
-pub fn individual_count(ontology: &Ontology) -> usize
+pub(crate) fn individual_count(ontology: &Ontology) -> usize
     ensures { result ≡ length ontology.now.names.individuals }
 {
     ontology.individuals().len()
 }
 
-pub fn axiom_count(ontology: &Ontology) -> usize
+pub(crate) fn axiom_count(ontology: &Ontology) -> usize
     ensures { result ≡ length ontology.now.axioms }
 {
     ontology.axioms().len()
@@ -30,7 +30,7 @@ fn is_class(ontology: &Ontology, expression: ExprId) -> bool
 }
 
 /// Whether the expression is a class, whose number then fits a text.
-pub fn is_named(ontology: &Ontology, expression: ExprId) -> bool
+pub(crate) fn is_named(ontology: &Ontology, expression: ExprId) -> bool
     ensures { result ≡ is_named ontology.now expression.0 }
 {
     is_class(ontology, expression)

@@ -36,7 +36,7 @@ impl From<Memory> for CertFault {
 
 /// Why reading stopped.
 #[derive(Clone, Copy, Debug, PartialEq, Eq)]
-pub enum ReadFault {
+pub(crate) enum ReadFault {
     /// The last bytes, so many, do not go on as they should.
     Text { left: usize },
     /// A growth of memory was refused.
@@ -60,7 +60,7 @@ impl<T: Drop> From<AllocFailed<T>> for ReadFault {
 }
 
 /// Reading stopped before these bytes.
-pub fn stopped(rest: &[u8]) -> ReadFault
+pub(crate) fn stopped(rest: &[u8]) -> ReadFault
     ensures { result ≡ ReadFault.Text (length rest.now) }
 {
     ReadFault::Text { left: rest.len() }

@@ -57,14 +57,14 @@ fn is_premise(number: u64) -> bool
 }
 
 /// Whether the numbers may be those of lines.
-pub fn are_premises(numbers: &[u64]) -> bool
+pub(crate) fn are_premises(numbers: &[u64]) -> bool
     ensures { result ≡ list_all is_premise numbers.now }
 {
     numbers.iter().all(|number| is_premise(*number))
 }
 
 /// Whether the line's numbers name something of the ontology, and lines.
-pub fn fits_line(ontology: &Ontology, line: &Line) -> bool
+pub(crate) fn fits_line(ontology: &Ontology, line: &Line) -> bool
     ensures { result ≡ fits_line ontology.now (line_of line.now) }
 {
     fits_conclusion(ontology, line.conclusion)
@@ -130,14 +130,14 @@ pub fn fits_pairs(ontology: &Ontology, domain: u32, last: Option<(u32, u32)>, ro
 }
 
 /// Whether the claim may stand after one of the class `last`.
-pub fn fits_claim(ontology: &Ontology, domain: u32, last: Option<u32>, claim: Claim) -> bool
+pub(crate) fn fits_claim(ontology: &Ontology, domain: u32, last: Option<u32>, claim: Claim) -> bool
     ensures { result ≡ fits_claim ontology.now domain last (claim_of claim) }
 {
     is_named(ontology, claim.class) && claim.element < domain && is_after(last, claim.class.0)
 }
 
 /// Whether there is an element.
-pub fn fits_domain(domain: u32) -> bool
+pub(crate) fn fits_domain(domain: u32) -> bool
     ensures { result ≡ fits_domain domain }
 {
     1 <= domain
@@ -218,7 +218,7 @@ fn are_lines(ontology: &Ontology, lines: &[Line]) -> bool
 }
 
 /// Whether there is a text of these lines and of this interpretation, if there is one.
-pub fn have_text(ontology: &Ontology, lines: &[Line], listed: &Option<Listed>) -> bool
+pub(crate) fn have_text(ontology: &Ontology, lines: &[Line], listed: &Option<Listed>) -> bool
     ensures { result ≡ fits_certificate ontology.now (certificate_from lines.now listed.now) }
 {
     are_lines(ontology, lines)

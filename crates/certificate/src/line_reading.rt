@@ -105,7 +105,7 @@ fn premises_at(room: Vec<u64>, bytes: &[u8]) -> Result<(Vec<u64>, &[u8]), AllocE
 
 /// The line at the front, of any numbers that fit the types. Its premises take the room of the list.
 #[tactic(auto, unfolding(crate::specs::LineReading::line_at))]
-pub fn line_at(room: Vec<u64>, bytes: &[u8]) -> Result<(Line, &[u8]), ReadFault>
+pub(crate) fn line_at(room: Vec<u64>, bytes: &[u8]) -> Result<(Line, &[u8]), ReadFault>
     ensures { Gives (λ x. (line_of x.0, x.1.now)) result (line_at bytes.now) }
 {
     let (conclusion, rest) = conclusion_at(bytes).ok_or(stopped(bytes))?;

@@ -17,7 +17,7 @@ use std::alloc::{AllocError, Global};
 
 #[tactic(auto, unfolding(crate::specs::ListedReading::fitting_line_at))]
 /// The line at the front, where it names what the ontology has. Its premises take the room of the list.
-pub fn fitting_line_at<'a>(
+pub(crate) fn fitting_line_at<'a>(
     room: Vec<u64>,
     ontology: &Ontology,
     bytes: &'a [u8],
@@ -296,7 +296,7 @@ fn listed_if<'a>(
 
 /// What stands behind the lines of a certificate: the listed interpretation of a consistent one, and then the last line.
 #[tactic(auto, unfolding(crate::specs::ListedReading::ending))]
-pub fn ending(
+pub(crate) fn ending(
     alloc: Global,
     ontology: &Ontology,
     is_consistent: bool,

@@ -5,7 +5,7 @@ ghost use Rattle.certificate.specs.LineReading.{small_at};
 ghost use Rattle.certificate.specs.Reading.{after, more_digits, number_at};
 
 /// The bytes after the word, where they begin with it.
-pub fn after<'a>(word: &[u8], bytes: &'a [u8]) -> Option<&'a [u8]>
+pub(crate) fn after<'a>(word: &[u8], bytes: &'a [u8]) -> Option<&'a [u8]>
     ensures { option_map (λ x. x.now) result ≡ after word.now bytes.now }
 {
     bytes.strip_prefix(word)
@@ -28,7 +28,7 @@ fn more_digits(first: u64, bytes: &[u8]) -> Option<(u64, &[u8])>
 
 /// The number at the front, without leading zeros and below 2 ^ 64.
 #[tactic(auto, unfolding(crate::specs::Reading::number_at))]
-pub fn number_at(bytes: &[u8]) -> Option<(u64, &[u8])>
+pub(crate) fn number_at(bytes: &[u8]) -> Option<(u64, &[u8])>
     ensures { option_map (λ x. (x.0, x.1.now)) result ≡ number_at bytes.now }
 {
     match bytes {
@@ -39,7 +39,7 @@ pub fn number_at(bytes: &[u8]) -> Option<(u64, &[u8])>
 }
 
 /// The number at the front, without leading zeros and below 2 ^ 32.
-pub fn small_at(bytes: &[u8]) -> Option<(u32, &[u8])>
+pub(crate) fn small_at(bytes: &[u8]) -> Option<(u32, &[u8])>
     ensures { option_map (λ x. (x.0, x.1.now)) result ≡ small_at bytes.now }
 {
     let (number, rest) = number_at(bytes)?;

@@ -103,7 +103,6 @@ fn push_elements(out: &mut Vec<u8>, elements: &[u32]) -> Result<(), AllocError>
     Ok(())
 }
 
-/// The line.
 pub(crate) fn push_line(out: &mut Vec<u8>, line: &Line) -> Result<(), AllocError>
     ensures { OnOk result (out.new.items ≡ out.old.items ++ text.line_text (line_of line.now)) }
 {
@@ -192,7 +191,6 @@ fn push_claims(out: &mut Vec<u8>, claims: &[Claim]) -> Result<(), AllocError>
     Ok(())
 }
 
-/// What is listed.
 pub(crate) fn push_listed(out: &mut Vec<u8>, listed: &Listed) -> Result<(), AllocError>
     ensures { OnOk result (out.new.items ≡ out.old.items ++ text.listed_text (Some (listed_of listed.now))) }
 {

@@ -150,6 +150,6 @@ puts_into_once o fact a d (i, f, s, k, h) a' d' (i', f', s', k', h') =
       one_class o d' d f'.0 h' (subst (λ (x : ExprId). IsClassAt o d x.0) second h),
     )
 
--- .. of an individual that is there
+-- the individual that a fact puts into a class is there, where the fact is about one of the ontology
 pub individual_in : (o : Ontology) (fact : Fact) (a d : ℕ) → PutsInto o fact a d → IsAboutIndividualOf o fact → a < length o.names.individuals
 individual_in o fact a d (i, f, is, same, above) within = subst (λ n. n < length o.names.individuals) same (subst (IsAboutIndividualOf o) is within)

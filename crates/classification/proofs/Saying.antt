@@ -77,7 +77,7 @@ module _ (o : Ontology) (w : IsOntology o) (b : Beginnings) (fs : List code_fact
         (n, fact, at, (e', f', is, subst (IsClassAt o c) (sym same_e) class, subst (IsClassAt o d) (sym same_f) above)),
   )
 
-  -- .. and an individual into a class
+  -- a fact puts an individual into a class where that is a fact of the closure
   pub type_by_fact : (a d f : ℕ) → IsClassAt o d f → SomeFact fs (λ fact. PutsInto o fact a d) ↔ IsFact o [] (In (Whole f) (Individual a))
   type_by_fact a d f above = (
     λ (n, fact, at, (i, f', is, same, above')).

@@ -51,7 +51,7 @@ texts_of o true Inconsistent is = absurd is
 texts_of o false Inconsistent is = (refl, refl)
 texts_of o false (Consistent taxonomy types) is = absurd is
 
--- .. and so do texts that were written of it
+-- texts that are equal to those of the outcome are texts of the ontology too
 pub told_texts : (o : Ontology) (consistent : Bool) (outcome : Outcome) → IsOutcomeOf o consistent outcome → (says : Bool) (taxonomy instances : List ℕ) → says ≡ consistent
     → taxonomy ≡ taxonomy_of o outcome → instances ≡ instances_of o outcome → AreTextsOf o says taxonomy instances
 told_texts o consistent outcome is says taxonomy instances same t i =

@@ -39,7 +39,7 @@ unopened_is_refused known (Some bytes) most (reading.Lex fault) is = absurd is
 unopened_is_refused known (Some bytes) most (reading.Parse fault) is = absurd is
 unopened_is_refused known (Some bytes) most (reading.Faults found) is = absurd is
 
--- .. and its file is to blame
+-- the file of a document that is not opened is to blame
 pub unopened_is_blamed : (fails known : Bool) (held : Option (List ℕ)) (fault : DocumentFault) → IsUnopened known held fault → BlamesFile fails known held fault
 unopened_is_blamed fails known held reading.Io is = λ e. is
 unopened_is_blamed fails known held reading.Memory is = tt
@@ -73,7 +73,7 @@ pub record IsCounted (before behind failures : ℕ) : Type 0 where
   pub unfailed : failures ≡ 0 → behind ≡ before
   pub failed : 0 < failures → HasFailed before behind
 
--- .. of three sinks, one after the other
+-- how many writes had failed, before three sinks were closed one after the other and behind that
 pub record AreCounted (sinks : Sinks) (before behind : ℕ) : Type 0 where
   pub first : ℕ
   pub second : ℕ

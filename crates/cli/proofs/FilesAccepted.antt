@@ -71,7 +71,7 @@ checked_texts most content paths bytes texts o verdict document taxonomy instanc
     let of_certificate : Option (List ℕ) → Type 0 = λ c. IsChecked most (Some bytes) (Some texts.taxonomy) (Some texts.instances) c o verdict in
     subst of_certificate certificate (subst of_instances instances (subst of_taxonomy taxonomy (subst of_document document checked)))
 
--- .. which is accepted, unless it is stopped
+-- texts that were written are accepted in files that hold them, unless the check is stopped
 check_accepted : (paths : Paths) (facts bytes most : ℕ) (content : Content) (old new : Output) (status : ℕ) (document : List ℕ) (texts : Texts) (summary : Summary) (answer : Result (Ontology × Verdict) CheckFault) → IsClassified bytes facts (Some document) summary texts → content paths.document.now ≡ Some document → content paths.taxonomy.now ≡ Some texts.taxonomy → content paths.instances.now ≡ Some texts.instances → content paths.certificate.now ≡ Some texts.certificate → IsCheckedFiles paths most content answer → IsCheckTold paths most answer old new status → IsAcceptedRun most document old new status
 check_accepted paths facts bytes most content old new status document texts summary (Ok p) classified holds taxonomy instances certificate is told =
     let o = p.0 in
@@ -138,7 +138,7 @@ classify_run words paths facts bytes (Explain question' facts' bytes') s content
     let bad : codes "classify" ≡ codes "explain" = sym of.is.0 ∙ ap (λ (p : Text × List Row). p.0) rows ∙ of'.is.0 in
     absurd (cc)
 
--- .. and of a check
+-- what a run of a check says, of the task that the words ask for
 check_run : (words : List Text) (paths : Paths) (most : ℕ) (task : Task) (s : Store) (content content' : Content) (old new : Output) (status : ℕ) → IsTaskOf words (Check paths most) → IsTaskOf words task → IsTaskRun task s content content' old new status → (paths' : Paths) × AreSamePaths paths paths' × IsCheckRun paths' most s content old new status
 check_run words paths most (Check paths' most') s content content' old new status of of' run =
     let rows : (of.name, of.rows) ≡ (of'.name, of'.rows) = one_value _ _ _ of.found of'.found in

@@ -37,7 +37,7 @@ refuses_file (Some xs) (Some ys) most fault kept refuses =
     let P : List ℕ → Type 0 = λ bytes. RefusesKnown (Some bytes) most fault in
     subst P kept refuses
 
--- .. as they may always be for want of memory
+-- any document may be refused for want of memory
 pub refused_memory : (file : Option (List ℕ)) (most : ℕ) → RefusesKnown file most reading.Memory
 refused_memory None most = tt
 refused_memory (Some bytes) most = tt

@@ -26,7 +26,7 @@ files_left paths facts bytes known content content' left old new (Io n) kept fre
     let is = classified_file (content paths.document.now) left bytes facts summary texts kept unwritten.2 in
     (summary, texts, is, λ apart. texts_held_until n known paths old new texts content content' (acceptable_are_some is.ontology texts is.acceptable) fresh unwritten.3 closed apart)
 
--- .. and where it ended with any answer
+-- what files hold where a classification ended with any answer
 pub classify_answer : (paths : Paths) (facts bytes : ℕ) (known : Bool) (content content' : Content) (left : Option (List ℕ)) (old new : Sinks) (answer : Result Summary ClassifyFault) → Keeps (content paths.document.now) left → AreNew known old → IsClassification bytes facts left old new answer → AreSinksClosed paths new content content' → IsClassifyAnswer paths facts bytes known content content' answer
 classify_answer paths facts bytes known content content' left old new (Ok summary) kept fresh is closed =
     let made = classified_file (content paths.document.now) left bytes facts summary is.0 kept is.1 in

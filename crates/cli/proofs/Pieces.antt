@@ -38,11 +38,11 @@ failed old now new same fails = let P : ℕ → Type 0 = λ n. HasFailed n new i
 pub printed : (old new : Device) (given text : List ℕ) (status : Status) (answered : ℕ) → given ≡ text → IsPrinted old new given status answered → IsPrinted old new text status answered
 printed old new given text status answered same is = let P : List ℕ → Type 0 = λ t. IsPrinted old new t status answered in subst P same is
 
--- .. of this reason
+-- what is printed is the text of this reason
 pub reason_printed : (o : Ontology) (reason is : Reason) (old new : Device) (answered : ℕ) → reason ≡ is → IsPrinted old new (rejected_text (reason_text o is)) statuses.Rejected answered → IsPrinted old new (rejected_text (reason_text o reason)) statuses.Rejected answered
 reason_printed o reason is old new answered same printed = let P : Reason → Type 0 = λ r. IsPrinted old new (rejected_text (reason_text o r)) statuses.Rejected answered in subst P (sym same) printed
 
--- .. by the name that it is of
+-- what is printed is the text of a reason by this name
 pub named_printed : (word given name : List ℕ) (old new : Device) (answered : ℕ) → given ≡ name → IsPrinted old new (rejected_text (word ++ (given ++ codes ">"))) statuses.Rejected answered → IsPrinted old new (rejected_text (word ++ (name ++ codes ">"))) statuses.Rejected answered
 named_printed word given name old new answered same printed = let P : List ℕ → Type 0 = λ n. IsPrinted old new (rejected_text (word ++ (n ++ codes ">"))) statuses.Rejected answered in subst P same printed
 

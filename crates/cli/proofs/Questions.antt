@@ -27,7 +27,7 @@ question_fault_of_file file left most facts names Limit kept is = (is.0, read_as
 question_fault_of_file file left most facts names (UnknownName name) kept is = (is.0, read_as_file file left most is.0 kept is.1, is.2, is.3)
 question_fault_of_file file left most facts names Memory kept is = (is.0, read_as_file file left most is.0 kept is.1)
 
--- ---- .. of whole answers
+-- ---- whole answers about a source's bytes are about those of its file
 
 pub instances_in_file : (answer : Result (Vec ℕ) QuestionFault) (file left : Option (List ℕ)) (most facts : ℕ) (class : List ℕ) → Keeps file left → IfOk answer (λ v. AnswersInstances most facts left class v.items) → IfOk answer (λ v. AnswersInstances most facts file class v.items)
 instances_in_file (Ok v) file left most facts class kept is = instances_of_file file left most facts class v.items kept is

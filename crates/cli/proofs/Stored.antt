@@ -24,7 +24,7 @@ appended : (new : Option (List ℕ)) (text : List ℕ) → Appends (Some []) new
 appended None text appends = absurd appends
 appended (Some xs) text appends = ap Some appends
 
--- .. that was new
+-- a sink that was new has taken just the text, as far as that is known
 taken_text : (known : Bool) (taken new : Option (List ℕ)) (text : List ℕ) → taken ≡ nothing_taken known → Appends taken new text → Holds known new text
 taken_text false taken new text fresh appends = tt
 taken_text true taken new text fresh appends =
@@ -111,7 +111,7 @@ pub record AreNew (known : Bool) (old : Sinks) : Type 0 where
   pub instances_is : old.instances.0 ≡ nothing_taken known
   pub certificate_is : old.certificate.0 ≡ nothing_taken known
 
--- .. and are closed
+-- the sinks are closed
 abbrev pub AreSinksClosed : Paths → Sinks → (content content' : Content) → Type 0
 AreSinksClosed paths sinks content content' = AreClosed paths sinks.taxonomy.0 sinks.instances.0 sinks.certificate.0 content content'
 
@@ -159,7 +159,7 @@ untaken old new path taken closed fresh other =
       | false ↦ λ same back. closed.others other (λ e. let bad : false ≡ true = back e in absurd (cc))
     ]) decides.0 decides.1
 
--- .. and so do three
+-- three sinks that have taken nothing leave all files as they were
 pub nothing_stored : (known : Bool) (paths : Paths) (old new : Sinks) (content content' : Content) → AreNew known old → new ≡ old → AreSinksClosed paths new content content' → (path : List ℕ) → Stays known (content path) (content' path)
 nothing_stored false paths old new content content' fresh same closed path = tt
 nothing_stored true paths old new content content' fresh same closed path =

@@ -23,7 +23,7 @@ acceptable_there o p t i c t' i' c' same same_taxonomy same_instances same_certi
 pub not_refused : (bytes : List ℕ) (o : Ontology) (fault : DocumentFault) → ReadsAs bytes o → (fault ≡ reading.Memory → ⊥) → Refuses fault bytes → ⊥
 not_refused bytes o fault reads other refuses = bytes_read_as_none bytes fault refuses other o reads
 
--- .. so that a fault of their check is one that stops it
+-- a fault by which bytes that read as an ontology are refused is one that stops their check
 stops : (most : ℕ) (bytes : List ℕ) (o : Ontology) (fault : DocumentFault) → ReadsAs bytes o → RefusesKnown (Some bytes) most fault → IsStop most bytes (Document fault)
 stops most bytes o (reading.NotUtf8 at) reads refuses = absurd (not_refused bytes o (reading.NotUtf8 at) reads (λ e. absurd (cc)) refuses.0)
 stops most bytes o reading.TooLarge reads refuses = refuses

@@ -54,7 +54,7 @@ pub record TextSources : Type 0 where
   pub instances : SourceState
   pub certificate : SourceState
 
--- .. as the words of their traits tell them
+-- what the words of their traits tell of the sources of the three texts
 abbrev pub text_states : {T I C : Type 0} → Ghosts T → Ghosts I → Ghosts C → T × I × C → TextSources
 text_states T I C three = record { taxonomy = source_state T three.0; instances = source_state I three.1; certificate = source_state C three.2 }
 
@@ -72,7 +72,7 @@ AreTextsReadUntil (Io (suc (suc (suc (suc zero))))) old new =
     IsReadToItsEnd old.taxonomy new.taxonomy × IsReadToItsEnd old.instances new.instances × FailsInReading old.certificate new.certificate
 AreTextsReadUntil (Io n) old new = ⊥
 
--- .. and where it is any answer
+-- what was read of the sources of the three texts: each to its end, or until this fault
 abbrev pub AreTextsRead : {X : Type 0} → Result X CheckFault → (old new : TextSources) → Type 0
 AreTextsRead (Ok x) old new =
     IsReadToItsEnd old.taxonomy new.taxonomy × IsReadToItsEnd old.instances new.instances × IsReadToItsEnd old.certificate new.certificate
@@ -83,7 +83,7 @@ pub record Sources : Type 0 where
   pub document : SourceState
   pub texts : TextSources
 
--- .. as the words of their traits tell them
+-- what the words of their traits tell of the sources of the document and of the three texts
 abbrev pub states : {D T I C : Type 0} → Ghosts D → Ghosts T → Ghosts I → Ghosts C → D × T × I × C → Sources
 states D T I C four = record { document = source_state D four.0; texts = text_states T I C (four.1, four.2, four.3) }
 
@@ -95,7 +95,7 @@ AreRead (Err (Document fault)) old new = IsReadUntil fault old.document new.docu
 AreRead (Err Memory) old new = IsReadToItsEnd old.document new.document × AreTextsReadUntil Memory old.texts new.texts
 AreRead (Err (Io n)) old new = IsReadToItsEnd old.document new.document × AreTextsReadUntil (Io n) old.texts new.texts
 
--- .. of the four sources before and after a call
+-- what was read of the four sources, by what they tell before and after a call: each to its end, or until this fault
 abbrev pub Reads : {D T I C X : Type 0} → Ghosts D → Ghosts T → Ghosts I → Ghosts C → (old new : D × T × I × C) → Result X CheckFault → Type 0
 Reads D T I C old new answer = AreRead answer (states D T I C old) (states D T I C new)
 

@@ -22,7 +22,7 @@ pub record Store : Type 0 where
   pub failed_before : ℕ
   pub failed_behind : ℕ
 
--- .. as the words of their trait tell it
+-- what the words of their trait tell of the files, before a run and behind it
 abbrev pub store : {F In Out : Type 0} → Ghosts F In Out → (old new : F) → Store
 store F old new = record { is_known = F.is_known old; reads_fail = F.reads_fail; failed_before = F.failed_writes old; failed_behind = F.failed_writes new }
 
@@ -30,7 +30,7 @@ store F old new = record { is_known = F.is_known old; reads_fail = F.reads_fail;
 abbrev pub NoWriteFails : Store → Type 0
 NoWriteFails s = s.failed_behind ≡ s.failed_before
 
--- .. or one did
+-- a write failed in the run
 abbrev pub SomeWriteFails : Store → Type 0
 SomeWriteFails s = HasFailed s.failed_before s.failed_behind
 
@@ -52,7 +52,7 @@ BlamesFile fails known held Io = IsUnreadable fails known held
 BlamesFile fails known held Memory = Unit {0}
 BlamesFile fails known held fault = IsThere known held
 
--- .. and where there is none, the file is there
+-- what an answer of a reading says of the file: that it is there, or what the fault says of it
 abbrev pub ReadsFile : {X : Type 0} → (fails known : Bool) → Option (List ℕ) → Result X DocumentFault → Type 0
 ReadsFile fails known held (Ok x) = IsThere known held
 ReadsFile fails known held (Err fault) = BlamesFile fails known held fault
@@ -85,7 +85,7 @@ IsTextUnread number fails known held (checking.Document fault) = ⊥
 IsTextUnread number fails known held checking.Memory = Unit {0}
 IsTextUnread number fails known held (checking.Io n) = (n ≡ number) × IsUnreadable fails known held
 
--- .. and of the files of the three
+-- what a fault says of the files of the three texts: that the one of the number, from 2, was not read only where a read failed
 abbrev pub BlamesText : (fails known : Bool) → Content → Paths → CheckFault → Type 0
 BlamesText fails known content paths (checking.Document fault) = ⊥
 BlamesText fails known content paths checking.Memory = Unit {0}

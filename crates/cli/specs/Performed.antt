@@ -38,12 +38,12 @@ abbrev pub Holds : Bool → Option (List ℕ) → List ℕ → Type 0
 Holds true held text = held ≡ Some text
 Holds false held text = Unit {0}
 
--- .. what it held
+-- the file holds what it held, as far as it is known what files hold
 abbrev pub Stays : Bool → (old new : Option (List ℕ)) → Type 0
 Stays true old new = new ≡ old
 Stays false old new = Unit {0}
 
--- .. a beginning of the text, or what it held
+-- the file holds a beginning of the text, or what it held, as far as it is known what files hold
 abbrev pub HoldsBeginning : Bool → (old new : Option (List ℕ)) → List ℕ → Type 0
 HoldsBeginning true old new text = (new ≡ old) ⊎ ((n : ℕ) × (new ≡ Some (take n text)))
 HoldsBeginning false old new text = Unit {0}
@@ -95,7 +95,7 @@ IsClassifyAnswer paths facts bytes known content content' (Ok summary) =
 IsClassifyAnswer paths facts bytes known content content' (Err fault) =
     IsFaultOf bytes facts (content paths.document.now) fault × AreLeft paths facts bytes known content content' fault
 
--- .. where no other file is written, and a device is blamed only where it failed
+-- the answer is that of a classification in files, no other file is written, and a device is blamed only where it failed
 pub record IsClassifyMade (paths : Paths) (facts bytes : ℕ) (s : Store) (content content' : Content) (answer : Result Summary ClassifyFault) : Type 0 where
   pub answered : IsClassifyAnswer paths facts bytes s.is_known content content' answer
   pub blames : ClassifiesFile s (content paths.document.now) answer
@@ -153,7 +153,7 @@ pub record IsInstancesRun (path class : List ℕ) (facts bytes : ℕ) (s : Store
 abbrev pub asked_by : Question → Asked
 asked_by q = if q.individual then Individual q.subject else Class q.subject
 
--- .. and in which form it is answered
+-- in which form a question is answered
 abbrev pub form_of : Question → Form
 form_of q = if q.dot then Graph else Lines
 
@@ -194,7 +194,7 @@ IsPerformed words s content content' old new status =
 abbrev pub AskForNoClassification : List Text → Type 0
 AskForNoClassification words = (paths : Paths) (facts bytes : ℕ) → IsTaskOf words (Classify paths facts bytes) → ⊥
 
--- ---- .. of files and the two outputs, before and after
+-- ---- a run of the program, by files and the two outputs before and after
 
 abbrev pub Performs : {F In Out O E : Type 0} → files.Ghosts F In Out → sinks.Ghosts O → sinks.Ghosts E → List Text → (old new : F × O × E) → (status : ℕ) → Type 0
 Performs F O E words old new status =

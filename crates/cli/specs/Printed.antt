@@ -40,7 +40,7 @@ pub record Output : Type 0 where
   pub out : Device
   pub err : Device
 
--- .. as what is seen of two sinks
+-- standard output and standard error, as what is seen of two sinks
 abbrev pub outputs : {O E : Type 0} → Ghosts O → Ghosts E → O → E → Output
 outputs O E out err = record { out = seen O out; err = seen E err }
 

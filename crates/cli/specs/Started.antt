@@ -26,7 +26,7 @@ IsStarted F O E (Ok words) old new status =
     ⊎ ((new.0 ≡ old.0) × (new.1 ≡ old.1) × IsPrinted (seen E old.2) (seen E new.2) out_of_memory statuses.Memory status)
 IsStarted F O E (Err fault) old new status = (new.0 ≡ old.0) × (new.1 ≡ old.1) × IsUnreadTold (error_kind fault) (seen E old.2) (seen E new.2) status
 
--- .. where there is a seed; or there is none, which is told, and nothing else is done
+-- there is a seed, and the program is started on the words; or there is none, which is told, and nothing else is done
 abbrev pub StartsSeeded : {F In Out O E S : Type 0} → files.Ghosts F In Out → sinks.Ghosts O → sinks.Ghosts E → (seed : Result S Error) → Result (Vec (String Global)) Error → (old new : F × O × E) → (status : ℕ) → Type 0
 StartsSeeded F O E (Ok seed) words old new status = IsStarted F O E words old new status
 StartsSeeded F O E (Err fault) words old new status =

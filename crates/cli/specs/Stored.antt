@@ -8,7 +8,7 @@ use Rattle.system_files.specs.Contents.{nothing_taken}
 abbrev pub FileSink : Type 0
 FileSink = List ℕ × Option (List ℕ)
 
--- .. as the words of its trait tell it
+-- what the words of its trait tell of a sink: the path of its file, and the bytes that it has taken
 abbrev pub file_sink : {S : Type 0} → Ghosts S → S → FileSink
 file_sink S sink = (S.path sink, S.taken sink)
 
@@ -18,13 +18,14 @@ pub record IsFresh (known : Bool) (path : List ℕ) (has_place : List ℕ → Bo
   pub taken : sink.1 ≡ nothing_taken known
   pub place : has_place path ≡ true
 
--- .. and so are those of the three texts
+-- each of three sinks has taken nothing, is that of the path of its text, and there is a place for its file
 pub record AreFresh (known : Bool) (paths : Paths) (has_place : List ℕ → Bool) (taxonomy instances certificate : FileSink) : Type 0 where
   pub taxonomy_is : IsFresh known paths.taxonomy.now has_place taxonomy
   pub instances_is : IsFresh known paths.instances.now has_place instances
   pub certificate_is : IsFresh known paths.certificate.now has_place certificate
 
--- .. and so are these three
+-- what the words of their trait tell of three sinks: each has taken nothing, is that of the path of its text, and there is a place
+-- for its file
 abbrev pub HasFresh : {S : Type 0} → Ghosts S → (known : Bool) → Paths → (has_place : List ℕ → Bool) → (taxonomy instances certificate : S) → Type 0
 HasFresh S known paths has_place taxonomy instances certificate =
     AreFresh known paths has_place (file_sink S taxonomy) (file_sink S instances) (file_sink S certificate)

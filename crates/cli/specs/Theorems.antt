@@ -72,7 +72,7 @@ WhatIsWrittenIsAccepted =
     IsCheckAnswer most_checked (Some bytes) (Some texts.taxonomy) (Some texts.instances) (Some texts.certificate) answer →
     AcceptsUnlessStopped most_checked bytes answer
 
--- ---- .. through files
+-- ---- written files are accepted
 
 -- both name the same four paths
 pub record AreSamePaths (p q : Paths) : Type 0 where

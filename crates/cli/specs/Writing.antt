@@ -20,7 +20,7 @@ pub record Sinks : Type 0 where
   pub instances : Device
   pub certificate : Device
 
--- .. as the words of their traits tell it
+-- what the words of their traits tell of the three sinks
 abbrev pub all_seen : {T I C : Type 0} → Ghosts T → Ghosts I → Ghosts C → T × I × C → Sinks
 all_seen T I C three = record { taxonomy = seen T three.0; instances = seen I three.1; certificate = seen C three.2 }
 
@@ -45,7 +45,7 @@ AreWrittenUntil (suc (suc (suc zero))) old new texts =
     Takes old.taxonomy new.taxonomy texts.taxonomy × Takes old.instances new.instances texts.instances × FailsIn old.certificate new.certificate texts.certificate
 AreWrittenUntil n old new texts = ⊥
 
--- .. all of them, or until the sink of the number that is told
+-- the texts are written: all of them, or until the sink of the number that is told
 abbrev pub AreWrittenAsFar : {X : Type 0} → Result X ℕ → (old new : Sinks) → Texts → Type 0
 AreWrittenAsFar (Ok x) old new texts = AreWritten old new texts
 AreWrittenAsFar (Err n) old new texts = AreWrittenUntil n old new texts
@@ -65,7 +65,7 @@ pub record IsClassified (most_bytes most_facts : ℕ) (document : Option (List �
 abbrev pub IsRead : (most_bytes : ℕ) → (document : Option (List ℕ)) → Type 0
 IsRead bytes document = (o : Ontology) × ReadsKnown document bytes o
 
--- .. whose closure has more facts
+-- the document reads as some ontology whose closure has more facts
 abbrev pub IsBeyondLimit : (most_bytes most_facts : ℕ) → (document : Option (List ℕ)) → Type 0
 IsBeyondLimit bytes facts document = (o : Ontology) × ReadsKnown document bytes o × HasMoreFactsThan o facts
 
@@ -87,7 +87,7 @@ abbrev pub IsClassification : (most_bytes most_facts : ℕ) → (document : Opti
 IsClassification bytes facts document old new (Ok summary) = (texts : Texts) × IsClassified bytes facts document summary texts × AreWritten old new texts
 IsClassification bytes facts document old new (Err fault) = IsFaultOf bytes facts document fault × IsUnwritten bytes facts document old new fault
 
--- .. of the three sinks before and after a call
+-- what an answer says of the document, and of the three sinks before and after a call
 abbrev pub Classifies : {T I C : Type 0} → Ghosts T → Ghosts I → Ghosts C → Limits → (document : Option (List ℕ)) → (old new : T × I × C) → Result Summary ClassifyFault → Type 0
 Classifies T I C limits document old new answer = IsClassification limits.max_bytes limits.max_facts document (all_seen T I C old) (all_seen T I C new) answer
 

@@ -71,7 +71,6 @@ pub(crate) fn perform_instances<F: Files, O: Sink, E: Sink>(
     tell_answer(alloc, answer, path, limits, out, err)
 }
 
-/// What the question asks about.
 fn asked<'a>(question: &Question<'a>) -> Asked<'a>
     ensures { result ≡ asked_by question.now }
 {

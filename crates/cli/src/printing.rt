@@ -65,7 +65,6 @@ fn print_pieces<W: Sink>(sink: &mut W, pieces: &[&[u8]], status: Status) -> u8
     }
 }
 
-/// Tells that there is no memory.
 pub(crate) fn tell_out_of_memory<E: Sink>(err: &mut E) -> u8
     ensures { IsPrinted (seen E.Sink err.old) (seen E.Sink err.new) out_of_memory Status.Memory result }
 {
@@ -279,7 +278,7 @@ fn print_numbered<O: Sink>(out: &mut O, word: &str, number: usize) -> u8
     print_pieces(out, &pieces, Status::Rejected)
 }
 
-/// .. by a reason of a word and a name.
+/// Prints that the texts are rejected by a reason of a word and a name.
 fn print_named<O: Sink>(out: &mut O, word: &str, name: &str) -> u8
     ensures { IsPrinted (seen O.Sink out.old) (seen O.Sink out.new) (rejected_text (word.now ++ (name.now ++ codes ">"))) Status.Rejected result }
 {
@@ -292,7 +291,7 @@ fn print_named<O: Sink>(out: &mut O, word: &str, name: &str) -> u8
     print_pieces(out, &pieces, Status::Rejected)
 }
 
-/// .. by this reason.
+/// Prints that the texts are rejected by this reason.
 fn print_reason<O: Sink>(out: &mut O, ontology: &Ontology, reason: &Reason) -> u8
     ensures { IsPrinted (seen O.Sink out.old) (seen O.Sink out.new) (rejected_text (text_of_reason ontology.now reason.now)) Status.Rejected result }
 {

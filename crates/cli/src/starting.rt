@@ -15,7 +15,6 @@ use std::io;
 use std::process::ExitCode;
 use system_files::Files;
 
-/// The words as slices.
 fn slices<'a>(alloc: Global, words: &'a [String]) -> Result<Vec<&'a str>, AllocError>
     ensures { IfOk result (λ s. map (λ w. w.now) s.items ≡ map string_bytes words.now) }
 {

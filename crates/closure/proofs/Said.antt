@@ -110,7 +110,7 @@ module _ (o : Ontology) (asked : List ℕ) (b : Beginnings) (k : Problem) (h : I
       let (f, there, says_f) = h.all_forms (N5 s t) form in
       step_sayer q says_q below_q f there says_f
 
-  -- .. between what is said
+  -- where a property over numbers is at or below another, what the two say is so too
   below_as : {p q : code_property.PropId2} {r s : Property2} → code_below.IsAtOrBelow k.forms p q → SaysProperty b p r → SaysProperty b q s → IsAtOrBelow o asked r s
   below_as {r = r} below says_p says_q =
       let (s', says_s, below_s) = below_said below says_p in

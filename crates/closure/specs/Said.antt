@@ -63,7 +63,7 @@ pub record IsProblemOf (o : Ontology) (asked : List ℕ) (b : Beginnings) (k : P
   pub each_root : (x : code_context.Context) → Contains k.roots x → (y : Context) × SaysContext x y × IsRoot o asked y
   pub all_roots : (y : Context) → IsRoot o asked y → (x : code_context.Context) × Contains k.roots x × SaysContext x y
 
--- .. then the facts over numbers say exactly the facts of the closure
+-- where forms and roots over numbers are exactly those of the ontology, the facts over numbers say exactly the facts of the closure
 abbrev pub NumbersSayTheClosure : Type 0
 NumbersSayTheClosure =
     (o : Ontology) (asked : List ℕ) (b : Beginnings) (k : Problem) → IsProblemOf o asked b k →

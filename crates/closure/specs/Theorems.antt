@@ -11,7 +11,7 @@ ClosureIsClosed =
     (o : Ontology) (asked : List ℕ) (older : List Fact) (fact : Fact) →
     Gives o asked older fact → All (IsFact o asked) older → IsFact o asked fact
 
--- .. and lies in every set that has what its members give
+-- the closure lies in every set that has what its members give
 abbrev pub ClosureIsLeast : Type 0
 ClosureIsLeast =
     (o : Ontology) (asked : List ℕ) (is_there : Fact → Bool) →

@@ -21,7 +21,7 @@ ends_at xs d l =
     let all : length xs ≤ length xs - 1 + 1 = omega arith in
     sym (take_all (length xs - 1 + 1) xs all) ∙ take_more xs (length xs - 1) d low
 
--- .. and is another one after a write there
+-- after a write at the last place another element is the last
 pub ends_with : {X : Type 0} (front : List X) (x y : X) → set (front ++ x ∷ []) (length (front ++ x ∷ []) - 1) y ≡ front ++ y ∷ []
 ends_with front x y =
     let here : length (front ++ x ∷ []) - 1 ≡ length front = omega (arith, length_push front x) in

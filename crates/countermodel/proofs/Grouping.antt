@@ -66,7 +66,7 @@ row_has_pair pairs rows g row c =
     let y = get_or row.2 0 0 in
     (y, subst (λ (ps : List Pair). Contains ps (pair row.0 row.1 y)) g.together (of_target rows row y c (Contains-get_or row.2 0 0 some)))
 
--- .. and one for each of its targets
+-- each row has a pair for each of its targets
 pub row_has_targets : (pairs : List Pair) (rows : List Row) → AreGrouped pairs rows → (row : Row) → Contains rows row → (y : ℕ) → Contains row.2 y → Contains pairs (pair row.0 row.1 y)
 row_has_targets pairs rows g row c y h = subst (λ (ps : List Pair). Contains ps (pair row.0 row.1 y)) g.together (of_target rows row y c h)
 

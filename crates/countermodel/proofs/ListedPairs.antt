@@ -125,7 +125,7 @@ module _ (o : Ontology) (s : Saturated) (saturated : IsSaturated o s) (k : Known
       → (x : Context) × (y : Context) × (slice_get elements p.source ≡ Some x) × (slice_get elements p.target ≡ Some y) × HasEdge o [] x (Property p.property.0) y
   edge_of_pair p (fact, there, by) = of_fact p fact there by
 
-  -- .. and the other way
+  -- from edges to pairs: the property of an edge among the facts is known
   has_property : (x y : code_context.Context) (q : code_property.PropId2) → Contains s.state.facts (facts.Edge x q y) → Has k q
   has_property x y q there =
       let f = facts.Edge x q y in

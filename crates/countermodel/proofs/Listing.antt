@@ -84,7 +84,7 @@ pub record HasListed (test : Context → Bool) (number : ℕ) (xs : List code.Co
   pub placed : PlacesExpressions xs places
   pub long : length places ≡ number
 
--- .. and after so many individuals behind them
+-- after so many individuals, behind the expressions that were listed before
 pub record HasListedMore (test : Context → Bool) (before : List code.Context) (number : ℕ) (xs : List code.Context) (places : List ℕ) : Type 0 where
   pub listed : AreBefore test (Individual number) (contexts_of xs)
   pub placed : PlacesIndividuals xs places

@@ -70,7 +70,7 @@ module _ (o : Ontology) (s : Saturated) (saturated : IsSaturated o s) where
   pub property_said : {q : code_property.PropId2} (r : ℕ) → SaysProperty begun q (Property r) → q ≡ properties.Property (prop_id r)
   property_said r (property {p = id} h) = ap (λ n. properties.Property (prop_id n)) h
 
-  -- .. of properties below properties
+  -- a property is at or below another for the ontology where it is so by the forms of the saturation, and the other way
   pub below_said : (a b : PropId) → code_below.IsAtOrBelow all_forms (properties.Property a) (properties.Property b) → IsAtOrBelow o [] (Property a.0) (Property b.0)
   below_said a b below =
       let (t, says, below_t) = said_below below (property refl) in

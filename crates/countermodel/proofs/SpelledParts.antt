@@ -23,7 +23,7 @@ in_parts lines l =
 bare : (h ls d e f : List ℕ) → (((h ++ ls) ++ ((((d ++ []) ++ []) ++ []) ++ [])) ++ e) ++ f ≡ ((h ++ ls) ++ d) ++ (e ++ f)
 bare h ls d e f = simp (append-nil, append_assoc)
 
--- .. where no more is listed than how many elements there are
+-- the text of a certificate that lists no more than how many elements there are
 pub none_listed : (lines : List Line) (domain : ℕ) (classes : List (ℕ × List ℕ)) (pairs : List (ℕ × ℕ × List ℕ)) (individuals : List ℕ) (claims : List (ℕ × ℕ)) → classes ≡ [] → pairs ≡ [] → individuals ≡ [] → claims ≡ []
     → certificate_text (record { lines = lines; listed = Some (record { domain = domain; classes = classes; pairs = pairs; individuals = individuals; claims = claims }) }) ≡ text_to_domain lines domain ++ codes "end\n"
 none_listed lines domain classes pairs individuals claims a b c d =

@@ -25,7 +25,7 @@ IsGivenBy k elements (Edge x (Property q) y) p = (slice_get elements p.source �
 IsGivenBy k elements (Edge x (Partial n) y) p = ⊥
 IsGivenBy k elements (In a x) p = ⊥
 
--- .. of one of the edges
+-- one of the facts is an edge whose ends are the elements of the pair, and the pair's property is at or above its own
 abbrev pub IsGiven : Known → List Context → List Fact → Pair → Type 0
 IsGiven k elements facts p = (fact : Fact) × Contains facts fact × IsGivenBy k elements fact p
 

@@ -20,7 +20,7 @@ pub record AreBefore (test : Context → Bool) (bound : Context) (xs : List Cont
 abbrev pub PlacesExpressions : List code.Context → List ℕ → Type 0
 PlacesExpressions xs places = (m : ℕ) (e : ExprId) → slice_get xs m ≡ Some (Expr e) → slice_get places e.0 ≡ Some m
 
--- .. of each individual
+-- the table has the place of each individual of the list
 abbrev pub PlacesIndividuals : List code.Context → List ℕ → Type 0
 PlacesIndividuals xs places = (m : ℕ) (a : IndId) → slice_get xs m ≡ Some (Individual2 a) → slice_get places a.0 ≡ Some m
 

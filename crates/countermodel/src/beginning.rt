@@ -13,7 +13,7 @@ use std::alloc::Global;
 /// # Errors
 ///
 /// `Memory` where memory was refused.
-pub fn begun(alloc: Global, lines: LineText, domain: u32) -> Result<Vec<u8>, Memory>
+pub(crate) fn begun(alloc: Global, lines: LineText, domain: u32) -> Result<Vec<u8>, Memory>
     ensures { IfOk result (λ v. v.items ≡ text_to_domain lines domain) }
 {
     let bare = Listed {

@@ -17,7 +17,11 @@ pub(crate) struct ContextSet {
 
 impl ContextSet {
     /// The empty set, for so many expressions and individuals.
-    pub fn new(alloc: Global, expressions: usize, individuals: usize) -> Result<ContextSet, Memory>
+    pub(crate) fn new(
+        alloc: Global,
+        expressions: usize,
+        individuals: usize,
+    ) -> Result<ContextSet, Memory>
         ensures { IfOk result (λ s. s ≡ record { expressions = replicate expressions false; individuals = replicate individuals false }) }
     {
         let expressions = EpochSet::new(alloc, expressions)?;
@@ -29,7 +33,7 @@ impl ContextSet {
     }
 
     /// Adds the context, if its number is below the bound.
-    pub fn put(&mut self, context: Context)
+    pub(crate) fn put(&mut self, context: Context)
         ensures { self.new ≡ with_context self.old context }
     {
         match context {
@@ -42,8 +46,7 @@ impl ContextSet {
         }
     }
 
-    /// Whether the context is there.
-    pub fn contains(&self, context: Context) -> bool
+    pub(crate) fn contains(&self, context: Context) -> bool
         ensures { result ≡ holds self.now (context_of context) }
     {
         match context {

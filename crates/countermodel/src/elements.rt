@@ -20,7 +20,7 @@ pub struct Elements {
     contexts: Vec<Context>,
     // of each expression how many contexts come before it: its place, if it is a context
     expressions: Vec<u32>,
-    // .. of each individual
+    // of each individual how many contexts come before it: its place, if it is a context
     individuals: Vec<u32>,
 }
 
@@ -109,7 +109,6 @@ fn place_of(expressions: &[u32], individuals: &[u32], context: Context) -> Optio
     }
 }
 
-/// Whether the context stands at that place.
 fn stands_at(contexts: &[Context], place: u32, context: Context) -> bool
     ensures { IsTrue result ↔ (slice_get contexts.now place ≡ Some context) }
 {

@@ -30,7 +30,11 @@ fn push_elements(out: &mut Vec<u8>, elements: &[u32]) -> Result<(), AllocError>
 }
 
 /// Adds the row of the class with these elements. Fails where memory is refused; then a part of it may stand there.
-pub fn push_class(out: &mut Vec<u8>, class: ExprId, elements: &[u32]) -> Result<(), AllocError>
+pub(crate) fn push_class(
+    out: &mut Vec<u8>,
+    class: ExprId,
+    elements: &[u32],
+) -> Result<(), AllocError>
     ensures { OnOk result (out.new.items ≡ out.old.items ++ text.class_text (class.0, elements.now)) }
 {
     push_number(out, b"class e", class.0 as u64)?;
@@ -39,7 +43,7 @@ pub fn push_class(out: &mut Vec<u8>, class: ExprId, elements: &[u32]) -> Result<
 }
 
 /// Adds a row of one pair. Fails where memory is refused; then a part of it may stand there.
-pub fn push_pair(
+pub(crate) fn push_pair(
     out: &mut Vec<u8>,
     property: PropId,
     source: u32,
@@ -55,7 +59,7 @@ pub fn push_pair(
 
 /// Adds a target to the row of pairs that the text ends with. Fails where memory is refused; then a part of it may stand there, and
 /// the row may have no end.
-pub fn push_target(out: &mut Vec<u8>, target: u32) -> Result<(), AllocError>
+pub(crate) fn push_target(out: &mut Vec<u8>, target: u32) -> Result<(), AllocError>
     ensures { OnOk result (AddsTarget target out.old.items out.new.items) }
 {
     let _line_feed = out.pop();
@@ -81,7 +85,7 @@ fn push_claim(out: &mut Vec<u8>, claim: Claim) -> Result<(), AllocError>
 }
 
 /// Adds a line for the element of each individual. Fails where memory is refused; then some of them may stand there.
-pub fn push_individuals(out: &mut Vec<u8>, elements: &[u32]) -> Result<(), AllocError>
+pub(crate) fn push_individuals(out: &mut Vec<u8>, elements: &[u32]) -> Result<(), AllocError>
     ensures { OnOk result (out.new.items ≡ out.old.items ++ flat_map text.individual_text (enumerate_from 0 elements.now)) }
 {
     for number in 0..elements.len() {
@@ -91,7 +95,7 @@ pub fn push_individuals(out: &mut Vec<u8>, elements: &[u32]) -> Result<(), Alloc
 }
 
 /// Adds a line for each claim. Fails where memory is refused; then some of them may stand there.
-pub fn push_claims(out: &mut Vec<u8>, claims: &[Claim]) -> Result<(), AllocError>
+pub(crate) fn push_claims(out: &mut Vec<u8>, claims: &[Claim]) -> Result<(), AllocError>
     ensures { OnOk result (out.new.items ≡ out.old.items ++ flat_map text.claim_text (map claim_of claims.now)) }
 {
     for claim in claims {

@@ -44,7 +44,7 @@ pub fn pair_rows(
 /// # Errors
 ///
 /// `Memory` where memory was refused; then some of them may stand there.
-pub fn write_pair_rows(
+pub(crate) fn write_pair_rows(
     alloc: Global,
     ontology: &Ontology,
     saturation: &Saturation,

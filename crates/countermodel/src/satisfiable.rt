@@ -33,7 +33,6 @@ fn context_with(class: ExprId, fact: &StoredFact) -> Option<Context>
     }
 }
 
-/// The contexts that have the class.
 fn contexts_with(
     alloc: Global,
     ontology: &Ontology,
@@ -55,7 +54,7 @@ fn contexts_with(
 
 impl Satisfiable {
     /// What the facts say of contexts.
-    pub fn of(
+    pub(crate) fn of(
         alloc: Global,
         ontology: &Ontology,
         saturation: &Saturation,
@@ -71,7 +70,7 @@ impl Satisfiable {
     }
 
     /// Whether the context is satisfiable.
-    pub fn contains(&self, context: Context) -> bool
+    pub(crate) fn contains(&self, context: Context) -> bool
         ensures { result ≡ admits self.now (context_of context) }
     {
         self.things.contains(context) && !self.nothings.contains(context)

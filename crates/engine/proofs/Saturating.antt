@@ -50,7 +50,7 @@ pub is_sound : (o : Ontology) (v : Listing) (s : Seen) → IsNormalFor o v → v
     → IsSound o (record { normal = v; state = s })
 is_sound o v s normal asked forms problem born = record { normal = normal; asked = asked; forms = forms; problem = problem; facts = says_facts o v s problem born; born = born }
 
--- .. and so are those that come of them
+-- in another state of the same problem, facts that are born of its forms are of the closure too
 pub still_sound : (o : Ontology) (v : Listing) (s t : Seen) → IsSound o (record { normal = v; state = s }) → t.problem ≡ s.problem → AreBorn t → IsSound o (record { normal = v; state = t })
 still_sound o v s t h same born = is_sound o v t h.normal h.asked
     (ap (λ (k : Problem). k.forms) same ∙ h.forms)
@@ -61,7 +61,7 @@ still_sound o v s t h same born = is_sound o v t h.normal h.asked
 pub is_saturated : (o : Ontology) (v : Listing) (s : Seen) → IsSound o (record { normal = v; state = s }) → IsClosure s.problem s.facts → IsSaturated o (record { normal = v; state = s })
 is_saturated o v s h closure = record { normal = h.normal; asked = h.asked; forms = h.forms; problem = h.problem; facts = says_the_closure o v s h.problem closure; born = h.born }
 
--- .. and they are, whichever were served
+-- a state with the same problem, facts and births is saturated too, whichever were served
 pub saturated_still : (o : Ontology) (v : Listing) (s t : Seen) → t.problem ≡ s.problem → t.facts ≡ s.facts → t.births ≡ s.births → IsSaturated o (record { normal = v; state = s }) → IsSaturated o (record { normal = v; state = t })
 saturated_still o v s t problem facts births h = record {
   normal = h.normal;
@@ -96,7 +96,7 @@ pub grown_into : (o : Ontology) (v : Listing) (old new : Seen) (forms : List For
 grown_into o v old new forms roots normal asked are empty same grown =
     is_problem o v roots new.problem normal asked are (grown_forms old new forms roots empty grown ∙ same) (ap (λ (k : Problem). k.roots) (grown_problem old new forms roots empty grown))
 
--- .. and nothing of it is served
+-- a list without members is empty: so nothing is served of a state that was empty and has grown
 no_members : (ns : List ℕ) → ((n : ℕ) → Contains ns n → ⊥) → ns ≡ []
 no_members [] none = refl
 no_members (n ∷ ns) none = absurd (none n (0, omega arith, refl))

@@ -25,7 +25,7 @@ SayFactsOfTheClosure o b facts = (f : code.Fact) → Contains facts f → (g : F
 pub record IsSound (o : Ontology) (s : Saturated) : Type 0 where
   pub normal : IsNormalFor o s.normal
   pub asked : s.normal.asked ≡ []
-  -- .. in the same order
+  -- the forms of the state are those of the entries, in the same order
   pub forms : s.state.problem.forms ≡ map form_in s.normal.entries
   pub problem : IsProblemOf o [] (beginnings_of s.normal) s.state.problem
   pub facts : SayFactsOfTheClosure o (beginnings_of s.normal) s.state.facts
@@ -44,7 +44,7 @@ pub record SayTheClosure (o : Ontology) (b : Beginnings) (facts : List code.Fact
 pub record IsSaturated (o : Ontology) (s : Saturated) : Type 0 where
   pub normal : IsNormalFor o s.normal
   pub asked : s.normal.asked ≡ []
-  -- .. in the same order
+  -- the forms of the state are those of the entries, in the same order
   pub forms : s.state.problem.forms ≡ map form_in s.normal.entries
   pub problem : IsProblemOf o [] (beginnings_of s.normal) s.state.problem
   pub facts : SayTheClosure o (beginnings_of s.normal) s.state.facts

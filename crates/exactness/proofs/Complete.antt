@@ -301,7 +301,7 @@ pub listed_is_model : (o : Ontology) (asked : List ℕ) (elements : List Context
     → IsOntology o → All (λ e. e < length o.nodes) asked → IsListedInterpretation o asked elements i → IsConsistent o asked → IsModel i (axiom_trees o)
 listed_is_model o asked elements i wf asked_within listed consistent = model o asked elements i wf asked_within listed consistent
 
--- .. which agrees with the facts
+-- the listed interpretation agrees with the facts
 pub listed_agrees : (o : Ontology) (asked : List ℕ) (elements : List Context) (i : Interpretation)
     → IsOntology o → All (λ e. e < length o.nodes) asked → IsListedInterpretation o asked elements i → AgreesWithClosure o asked elements i
 listed_agrees o asked elements i wf asked_within listed = agrees o asked elements i wf asked_within listed
@@ -319,7 +319,7 @@ complete_below o asked elements i wf asked_within listed consistent e f root_e r
     (answered o asked elements i wf asked_within listed f m (Expression e) root_f at).0
     (follows i (listed_is_model o asked elements i wf asked_within listed consistent) m inside is_e)
 
--- .. of an individual
+-- what follows from the axioms of an individual in a named class or an asked expression is a fact
 pub complete_types : (o : Ontology) (asked : List ℕ) (elements : List Context) (i : Interpretation)
     → IsOntology o → All (λ e. e < length o.nodes) asked → IsListedInterpretation o asked elements i → IsConsistent o asked
     → (a f : ℕ) → a < length o.names.individuals → IsRoot o asked (Expression f)
@@ -329,7 +329,7 @@ complete_types o asked elements i wf asked_within listed consistent a f l root_f
     (individual_at o asked elements i wf asked_within listed consistent a l)).0
     (follows i (listed_is_model o asked elements i wf asked_within listed consistent))
 
--- .. and an ontology with no model has Nothing in the context of Thing or of an individual
+-- an ontology with no model has Nothing in the context of Thing or of an individual
 pub complete_contradictory : (o : Ontology) (asked : List ℕ) (elements : List Context) (i : Interpretation)
     → IsOntology o → All (λ e. e < length o.nodes) asked → IsListedInterpretation o asked elements i
     → IsContradictory (axiom_trees o) → IsConsistent o asked → ⊥

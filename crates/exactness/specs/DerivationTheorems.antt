@@ -43,7 +43,7 @@ TrimmedIsDerivation =
     (o : Ontology) (lines : List Line) (goal : ℕ) (line : Line) → IsDerivation o lines → at_number lines goal ≡ Some line →
     (left : List Line) → IsTrimmed lines goal left → IsDerivation o left × EndsWith left line.conclusion × EachServes left
 
--- .. and the function computes it
+-- the function computes what is left of a derivation for a goal
 abbrev pub TrimmedIsTrimmed : Type 0
 TrimmedIsTrimmed =
     (o : Ontology) (lines : List Line) (goal : ℕ) (line : Line) → IsDerivation o lines → at_number lines goal ≡ Some line →

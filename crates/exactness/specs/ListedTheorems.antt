@@ -20,7 +20,7 @@ ListedIsModel =
     IsOntology o → AreAsked o asked → IsListedInterpretation o asked elements i → IsConsistent o asked →
     IsModel i (axiom_trees o)
 
--- .. and it agrees with the closure
+-- the listed interpretation agrees with the closure
 abbrev pub ListedAgrees : Type 0
 ListedAgrees =
     (o : Ontology) (asked : List ℕ) (elements : List Context) (i : Interpretation) →
@@ -34,7 +34,7 @@ ClosureIsComplete =
     (e f : ℕ) → IsRoot o asked (Expression e) → IsRoot o asked (Expression f) → (IsFact o asked (In (Whole nothing) (Expression e)) → ⊥) →
     IsBelow (axiom_trees o) (expression o e) (expression o f) → IsFact o asked (In (Whole f) (Expression e))
 
--- .. and of individuals
+-- where the closure is without contradiction, what follows of individuals in named classes and asked expressions is a fact of it
 abbrev pub TypesAreComplete : Type 0
 TypesAreComplete =
     (o : Ontology) (asked : List ℕ) (elements : List Context) (i : Interpretation) →
@@ -55,7 +55,7 @@ ListedExists =
     (has : Context → ℕ → Bool) (edge : Context → ℕ → Context → Bool) → AreTests o asked has edge →
     (i : Interpretation) × IsListedInterpretation o asked elements i
 
--- .. and there is one
+-- where the closure is without contradiction, listed interpretations have the same elements, and say the same of each name
 abbrev pub ListedIsDetermined : Type 0
 ListedIsDetermined =
     (o : Ontology) (asked : List ℕ) (xs ys : List Context) (i j : Interpretation) → IsOntology o → IsConsistent o asked →

@@ -34,7 +34,7 @@ ClosureIsExact =
     (e f : ℕ) → IsRoot o asked (Expression e) → IsRoot o asked (Expression f) → (IsFact o asked (In (Whole nothing) (Expression e)) → ⊥) →
     IsBelow (axiom_trees o) (expression o e) (expression o f) ↔ IsFact o asked (In (Whole f) (Expression e))
 
--- .. and of individuals
+-- where the closure is without contradiction, exactly what follows of individuals in named classes and asked expressions is a fact
 abbrev pub TypesAreExact : Type 0
 TypesAreExact =
     (o : Ontology) (asked : List ℕ) (elements : List Context) (i : Interpretation) →
@@ -49,7 +49,7 @@ ContradictionIsSound =
     (IsFact o asked (In (Whole nothing) (Expression thing)) → IsContradictory (axiom_trees o))
     × ((a : ℕ) → IsFact o asked (In (Whole nothing) (Individual a)) → IsContradictory (axiom_trees o))
 
--- .. and where there is none, the closure says so
+-- where there is no finite interpretation of the axioms, the closure puts all things or an individual in Nothing
 abbrev pub ContradictionIsComplete : Type 0
 ContradictionIsComplete =
     (o : Ontology) (asked : List ℕ) (elements : List Context) (i : Interpretation) →

@@ -115,7 +115,7 @@ showing_not o s marks lines shown unmarked h = record { derivation = h.derivatio
       | inr r ↦ elim r [ inl p ↦ inr (inl p) | inr a ↦ inr (inr (awaited n a)) ]
     ]
 
--- .. and is
+-- the next fact is marked, and lines that show it were added
 module _ (o : Ontology) (s : Saturated) (marks : List Bool) (old new : List Line) (shown : List (List ℕ)) (numbers : List ℕ) (f : Fact)
     (at_f : slice_get s.state.facts (length shown) ≡ Some f) (marked : IsMarked marks (length shown)) (called_for : EachIsCalledFor o s marks)
     (h : IsShowing o s marks old shown) (derivation : IsDerivation o new) (g : Lengthens old new)

@@ -49,7 +49,7 @@ steps_before rs s n l =
     (λ e. take_one rs n e l)
     refl
 
--- .. and with the last
+-- the steps before the last of a chain, and the last behind them
 steps_with : (rs : List ℕ) (s : Property2) (n r : ℕ) → slice_get rs n ≡ Some r → steps_of (first_steps rs s n) ++ r ∷ [] ≡ take (n + 1) rs
 steps_with rs s n r at = ap (λ ps. ps ++ r ∷ []) (steps_before rs s n (slice_get_within rs n r at)) ∙ sym (take_push rs n r at)
 

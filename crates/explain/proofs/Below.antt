@@ -48,7 +48,7 @@ rests_below s n m f r birth born h =
     let older = older_there (take n s.state.facts) r.older born.0 m born.1 (rests_on_older s.normal.entries r m (rests_on_birth s n m r birth h)) in
     (slice_get_take n s.state.facts m older.0 older.1).0
 
--- .. of those that the code names
+-- each of the numbers that the code names for the n-th fact is below n
 pub named_below : (s : Saturated) (normal : Listing) (n : ℕ) (r : Reason) (numbers : List ℕ) (m : ℕ) → normal ≡ s.normal → n < length s.state.facts → slice_get s.state.births n ≡ Some r → ((f : Fact) → slice_get s.state.facts n ≡ Some f → IsBirth s.state.problem (take n s.state.facts) f r) → numbers ≡ rests_on normal.entries r → Contains numbers m → m < n
 named_below s normal n r numbers m same l birth born e h =
     let f = slice_get_there s.state.facts n l in
@@ -110,7 +110,7 @@ pub record AreHandedOn (s : Saturated) (first marks : List Bool) (k : ℕ) : Typ
   pub closed : (n m : ℕ) → k ≤ n → IsMarked marks n → RestsOn s n m → IsMarked marks m
   pub only : (n : ℕ) → IsMarked marks n → IsMarked first n ⊎ ServesLater s marks n
 
--- .. also where all stand before it
+-- marks are handed on from the end of the facts, where all stand before it
 pub handed_on_none : (s : Saturated) (marks : List Bool) (k : ℕ) → length marks ≡ length s.state.facts → k ≡ length s.state.facts → ((n : ℕ) → IsMarked marks n → n < length marks) → AreHandedOn s marks marks k
 handed_on_none s marks k long all within = record {
   long = long;

@@ -60,7 +60,7 @@ TakesByAxiom k (N7 r) older f = (x : Context) × (older ≡ []) × (f ≡ Edge x
 TakesByAxiom k (N8 i a) older f = Concludes k (N8 i a) older f
 TakesByAxiom k (N9 i r j) older f = Concludes k (N9 i r j) older f
 
--- .. and where these facts are
+-- the facts at the numbers on which the line rests are what such a form takes
 pub record IsTakenByAxiom (k : Problem) (facts : List Fact) (entries : List Entry) (r : Reason) (form : Form) (f : Fact) : Type 0 where
   pub older : List Fact
   pub at : map (slice_get facts) (rests_on entries r) ≡ map Some older

@@ -129,7 +129,7 @@ module _ (o : Ontology) (s : Saturated) (w : IsOntology o) (saturated : IsSatura
     within : m < length (map form_in s.normal.entries)
     within = omega (arith, form_there s.normal.entries m (origins.Expr e) origin, length-map s.normal.entries form_in)
 
-    -- .. the form being read from the forms
+    -- the fact is born by the expression, by a form that is read from the forms
     pub born_by_expression : (read : List Form) (form : Form) → read ≡ map form_in s.normal.entries → slice_get read m ≡ Some form → IsBornByExpression o s r form f
     born_by_expression read form is at = born_at m e form place origin (ap (λ (fs : List Form). slice_get fs m) (sym is) ∙ at)
 

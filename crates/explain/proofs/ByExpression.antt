@@ -39,7 +39,7 @@ operands_before ds e n l =
     (λ k. take_one ds n k l)
     refl
 
--- .. and with it
+-- the operands before one, and that one behind them
 operands_with : (ds : List ℕ) (e n d : ℕ) → slice_get ds n ≡ Some d → operands_of (first_of ds e n) ++ d ∷ [] ≡ take (n + 1) ds
 operands_with ds e n d at = ap (λ cs. cs ++ d ∷ []) (operands_before ds e n (slice_get_within ds n d at)) ∙ sym (take_push ds n d at)
 
@@ -161,7 +161,7 @@ module _ (o : Ontology) (b : Beginnings) (k : Problem) (lines : List Line) (numb
     | inr left ↦ left_leads e.0 node form g at says left.1 older f (con, shown)
   ]
 
-  -- .. so that they lead to the fact, where what its line names is there
+  -- lines that lead by the rule to what the fact says lead to the fact, where what its line names is there
   pub leads_to : (rule : Rule) (f : Fact) → ((c : Conclusion) → said_by f ≡ Some c → IsConclusionOf o c) → Lead rule (said_by f) f → LeadTo o b lines rule None numbers f
   leads_to rule f within = go (said_by f) refl
     where

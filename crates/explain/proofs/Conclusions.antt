@@ -72,7 +72,7 @@ module _ {b : Beginnings} where
   pub edge_shown : {lines : List Line} {ns : List ℕ} {r : code_property.PropId2} {s : Property2} {x y : code_context.Context} → SaysProperty b r s → AreShowing b lines ns (facts.Edge x r y) → (cs : List Conclusion) × (at_numbers (conclusions lines) ns ≡ Some cs) × IsWalk (subject_in x) (steps_of s) (subject_in y) cs
   edge_shown says s = (s.conclusions, s.at, edge_says says s.fact s.says s.conclusions s.shown)
 
-  -- .. of a property one edge
+  -- the conclusions of lines that show an edge of a property are one edge
   pub property_shown : {lines : List Line} {ns : List ℕ} {r : code_property.PropId2} {s : ℕ} {x y : code_context.Context} → SaysProperty b r (Property s) → AreShowing b lines ns (facts.Edge x r y) → at_numbers (conclusions lines) ns ≡ Some (line.Edge (subject_in x) s (subject_in y) ∷ [])
   property_shown {s = s} {x = x} {y = y} says shown =
       let (cs, at, is_walk) = edge_shown says shown in

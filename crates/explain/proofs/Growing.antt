@@ -35,7 +35,7 @@ at_numbers_grown xs ys (n ∷ ns) zs e =
     let p = prepended_list_parts (at_number xs n) (at_numbers xs ns) zs e in
     rw (at_number_grown xs ys n p.0 p.2, at_numbers_grown xs ys ns p.1 p.3) (ap Some p.4)
 
--- .. at numbers one behind the other, what stands at each
+-- at numbers behind numbers stands what stands at the first ones, and behind that what stands at the others
 pub at_numbers_joined : {X : Type 0} (xs : List X) (ms ns : List ℕ) (ys zs : List X) → at_numbers xs ms ≡ Some ys → at_numbers xs ns ≡ Some zs → at_numbers xs (ms ++ ns) ≡ Some (ys ++ zs)
 at_numbers_joined xs [] ns ys zs e h = go ys e
   where

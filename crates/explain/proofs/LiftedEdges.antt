@@ -106,7 +106,7 @@ given_step o t form r s w at =
     let (by, (g, (f, there, says), gives)) = w.normal.each form (slice_get_within v.entries form e.0 e.1) in
     given_at o v form r s by f g there says gives (form_there v.entries form f by e.0 there e.1 ∙ e.2)
 
--- .. is told by its entry alone
+-- the properties and the axiom of a plain form are told by its entry alone
 pub one_step : (o : Ontology) (t : Saturated) (form : ℕ) (p q r s : PropId) (m n : ℕ) → GivesStep t.normal form p q m → GivesStep t.normal form r s n → (p ≡ r) × (q ≡ s) × (m ≡ n)
 one_step o t form p q r s m n g h =
     let make : PropId → PropId → ℕ → Entry = λ x y k. record { form = forms.N5 x y; origin = origins.Axiom k } in

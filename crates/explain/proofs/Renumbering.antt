@@ -37,7 +37,7 @@ place_new (n ∷ ns) m h =
     place_behind n m (ns ++ m ∷ []) (λ e. h (subst (Contains (n ∷ ns)) e (Contains-first n ns)))
     ∙ ap suc (place_new ns m (λ c. h (Contains-later n m ns c)))
 
--- .. and changes no place
+-- the number at the end changes no place of the numbers before it
 place_kept : (ns : List ℕ) (m n : ℕ) → Contains ns m → place (ns ++ n ∷ []) m ≡ place ns m
 place_kept [] m n c = absurd (Contains-none m c)
 place_kept (x ∷ xs) m n c = go (x == m) (eqb-false x m) (λ h. elim (Contains-cons_cases x m xs c) [ inl e ↦ absurd (h e) | inr d ↦ place_kept xs m n d ])

@@ -44,7 +44,7 @@ used_twice first second third Given between after g earlier later n l h =
       | inr k ↦ later n l (inl k)
     ]
 
--- .. of what two steps leave, one behind the other
+-- two steps one behind the other, each of lines that it is given, leave the numbers of both
 pub used_beside : (first second third : List Line) (One Other : ℕ → Type 0) (numbers more : List ℕ) → Lengthens second third → Uses first second One numbers → Uses second third Other more
     → Uses first third (λ n. One n ⊎ Other n) (numbers ++ more)
 used_beside first second third One Other numbers more g earlier later n l h =
@@ -112,14 +112,14 @@ of_two shown m k n (i, h, c) = elim (Contains-cons_cases m i (k ∷ []) h) [
 pub shows_those : (s : Saturated) (shown : List (List ℕ)) (fact : ℕ) (r : Reason) → slice_get s.state.births fact ≡ Some r → (n : ℕ) → ShowsOlder s shown fact n → IsAmongThose shown (rests_on s.normal.entries r) n
 shows_those s shown fact r birth n (m, (t, at, h), c) = (m, subst (λ u. Contains (rests_on s.normal.entries u) m) (one_value (slice_get s.state.births fact) t r at birth) h, c)
 
--- .. what shows them being taken by one step, and what that leaves by the next
+-- one step takes what shows the facts on which the line rests, and the next takes what that leaves
 pub used_by_fact : (s : Saturated) (shown : List (List ℕ)) (fact : ℕ) (r : Reason) (facts : List ℕ) → slice_get s.state.births fact ≡ Some r → rests_on s.normal.entries r ≡ facts → (first second third : List Line) (premises numbers : List ℕ)
     → Lengthens second third → Uses first second (IsAmongThose shown facts) premises → Uses second third (IsAmong premises) numbers → EachIsUsed s shown fact first third numbers
 used_by_fact s shown fact r facts birth rests first second third premises numbers g earlier later =
     used_twice first second third (ShowsOlder s shown fact) premises numbers g
     (used_from first second (IsAmongThose shown facts) (ShowsOlder s shown fact) premises (λ n h. subst (λ ms. IsAmongThose shown ms n) rests (shows_those s shown fact r birth n h)) earlier) later
 
--- .. by none
+-- where the line of the fact rests on no facts, one step is enough
 pub used_of_none : (s : Saturated) (shown : List (List ℕ)) (fact : ℕ) (r : Reason) → slice_get s.state.births fact ≡ Some r → rests_on s.normal.entries r ≡ [] → (lines new : List Line) (premises numbers : List ℕ)
     → Uses lines new (IsAmong premises) numbers → EachIsUsed s shown fact lines new numbers
 used_of_none s shown fact r birth rests lines new premises numbers =

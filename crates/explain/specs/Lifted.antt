@@ -16,7 +16,7 @@ use Rattle.normalise.specs.Problem.{beginnings_of}
 abbrev pub GivesStep : Listing → ℕ → PropId → PropId → ℕ → Type 0
 GivesStep v form r s n = slice_get v.entries form ≡ Some (record { form = N5 r s; origin = Axiom n })
 
--- .. and the lines of these numbers show an edge of r
+-- the form of that number puts one property below another, and the lines of these numbers show an edge of the one below
 pub record LeadsUpTo (s : Saturated) (lines : List Line) (numbers : List ℕ) (source target : Context) (form : ℕ) (below above : PropId) : Type 0 where
   pub leads : slice_get s.state.problem.forms form ≡ Some (N5 below above)
   pub shown : AreShowing (beginnings_of s.normal) lines numbers (Edge source (Property below) target)

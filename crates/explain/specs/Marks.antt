@@ -22,7 +22,7 @@ abbrev pub IsNamed : Ontology → Context → Type 0
 IsNamed o (contexts.Expr e) = IsClass o e.0
 IsNamed o (contexts.Individual a) = a.0 < length o.names.individuals
 
--- .. is in a named class
+-- the fact puts a named class or an individual in a named class
 abbrev pub IsWantedFact : Ontology → Fact → Type 0
 IsWantedFact o (facts.In (classes.Expr e) x) = IsClass o e.0 × IsNamed o x
 IsWantedFact o (facts.In (classes.Partial n) x) = ⊥
@@ -33,7 +33,7 @@ abbrev pub IsTopContext : Ontology → Context → Type 0
 IsTopContext o (contexts.Expr e) = e.0 ≡ thing
 IsTopContext o (contexts.Individual a) = a.0 < length o.names.individuals
 
--- .. is in owl:Nothing
+-- the fact puts owl:Thing or an individual in owl:Nothing
 abbrev pub IsContradictoryFact : Ontology → Fact → Type 0
 IsContradictoryFact o (facts.In (classes.Expr e) x) = (e.0 ≡ nothing) × IsTopContext o x
 IsContradictoryFact o (facts.In (classes.Partial n) x) = ⊥

@@ -47,7 +47,7 @@ AreEarlier found = (place : ℕ) (r : Reached) (way : Way) → slice_get found p
 abbrev pub StandsAt : List Reached → PropId → ℕ → Type 0
 StandsAt found d place = (r : Reached) × (slice_get found place ≡ Some r) × (r.property ≡ d)
 
--- .. at none
+-- the property was reached at no place
 abbrev pub HasNo : List Reached → PropId → Type 0
 HasNo found d = (place : ℕ) → StandsAt found d place → ⊥
 

@@ -15,7 +15,7 @@ IsPremise lines n = (m : ℕ) × (later : Line) × (n < m) × (slice_get lines m
 abbrev pub IsAmong : List ℕ → ℕ → Type 0
 IsAmong numbers n = Contains numbers (suc n)
 
--- .. in the list of one of the facts of these numbers
+-- the number of the n-th line, counted from 1, is in the list of one of the facts of these numbers
 abbrev pub IsAmongThose : List (List ℕ) → List ℕ → ℕ → Type 0
 IsAmongThose shown facts n = (m : ℕ) × Contains facts m × IsAmong (list_at shown m) n
 

@@ -13,7 +13,7 @@ use std::marker::Model;
 
 /// Lines, numbered from 1, in a sink.
 #[derive(Drop)]
-pub struct Derivation<L: LineSink> {
+pub(crate) struct Derivation<L: LineSink> {
     sink: L,
 }
 
@@ -28,7 +28,7 @@ impl<L: LineSink> Model for Derivation<L> {
 
 impl<L: LineSink> Derivation<L> {
     /// The lines of the sink.
-    pub fn new(sink: L) -> Derivation<L>
+    pub(crate) fn new(sink: L) -> Derivation<L>
         ensures { result ≡ L.lines sink }
     {
         Derivation { sink }
@@ -39,7 +39,7 @@ impl<L: LineSink> Derivation<L> {
     /// # Errors
     ///
     /// `Memory` where memory was refused, or the sink takes no such line; then nothing changes.
-    pub fn add(&mut self, line: Line) -> Result<u64, Memory>
+    pub(crate) fn add(&mut self, line: Line) -> Result<u64, Memory>
         ensures added { OnOk result (self.new ≡ self.old ++ line_of line ∷ []) }
         ensures number { IfOk result (λ n. n ≡ length self.new) }
         // A line that follows from those of a derivation makes a derivation.
@@ -50,14 +50,13 @@ impl<L: LineSink> Derivation<L> {
     }
 
     /// What the line of that number speaks of: its subject, or the start of its edge.
-    pub fn source(&self, number: u64) -> Option<Subject>
+    pub(crate) fn source(&self, number: u64) -> Option<Subject>
         ensures { option_map subject_of result ≡ option_map source_of (at_number (map (λ l. l.conclusion) self.now) number) }
     {
         self.sink.source(number)
     }
 
-    /// The sink.
-    pub fn into_sink(self) -> L
+    pub(crate) fn into_sink(self) -> L
         ensures { L.lines result ≡ self }
     {
         self.sink

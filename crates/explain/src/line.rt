@@ -17,7 +17,6 @@ use facts::{Context, Fact, FactId};
 use normal_forms::{Class2, PropId2};
 use std::alloc::Global;
 
-/// The fact of that number.
 pub(crate) fn fact_of(saturation: &Saturation, number: FactId) -> Fact
     requires { number.0 < length saturation.now.state.facts }
     ensures { slice_get saturation.now.state.facts number.0 ≡ Some result }

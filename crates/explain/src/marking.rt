@@ -7,7 +7,6 @@ use crate::older::rests_on;
 use engine::Saturation;
 use facts::{FactId, Older};
 
-// Marks one fact.
 fn mark(marks: &mut [bool], fact: FactId)
     requires { fact.0 < length marks.old }
     ensures long { length marks.new ≡ length marks.old }
@@ -45,7 +44,7 @@ pub(crate) fn mark_older(saturation: &Saturation, count: u32, marks: &mut [bool]
     ensures long { length marks.new ≡ length marks.old }
     ensures kept { (n : ℕ) → IsMarked marks.old n → IsMarked marks.new n }
     ensures closed { AreClosed saturation.now marks.new }
-    // .. and no others.
+    // What is marked was marked before, or the line of a later fact that is marked rests on it.
     ensures only { (n : ℕ) → IsMarked marks.new n → IsMarked marks.old n ⊎ ServesLater saturation.now marks.new n }
 {
     for number in (0..count).rev() {

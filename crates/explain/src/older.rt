@@ -17,7 +17,6 @@ fn is_by_axiom(normal: &Normal, form: Option<u32>) -> bool
     }
 }
 
-// The first alone.
 fn first_alone(older: Older) -> Older
     ensures { numbers_of result ≡ take 1 (numbers_of older) }
 {
@@ -29,7 +28,7 @@ fn first_alone(older: Older) -> Older
 }
 
 /// The older facts that the line of a fact with this birth rests on.
-pub fn rests_on(normal: &Normal, birth: &Birth) -> Older
+pub(crate) fn rests_on(normal: &Normal, birth: &Birth) -> Older
     ensures { numbers_of result ≡ rests_on normal.now.entries (reason birth.now) }
 {
     match birth.condition() {

@@ -35,7 +35,7 @@ fn first_property(form: &Form) -> Option<PropId2>
     }
 }
 
-// .. for the second.
+// The property that the form names for the second fact that it takes, where that is an edge.
 fn second_property(form: &Form) -> Option<PropId2>
     ensures { result ≡ spec.second_property form.now }
 {

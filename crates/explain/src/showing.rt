@@ -129,7 +129,7 @@ fn shown_without_form<L: LineSink>(
 /// # Errors
 ///
 /// `Memory` where memory was refused.
-pub fn show<L: LineSink>(
+pub(crate) fn show<L: LineSink>(
     alloc: Global,
     ontology: &Ontology,
     saturation: &Saturation,

@@ -11,7 +11,7 @@ use std::alloc::Global;
 use std::marker::Model;
 
 /// Takes lines one after another, as values or as text.
-pub trait LineSink {
+pub(crate) trait LineSink {
     /// The lines that it has taken, numbered from 1.
     ghost lines: { Self → List spec.Line };
 
@@ -28,7 +28,7 @@ pub trait LineSink {
 
 /// Lines as values.
 #[derive(Drop)]
-pub struct LineList {
+pub(crate) struct LineList {
     lines: Vec<Line>,
 }
 
@@ -44,7 +44,7 @@ impl Model for LineList {
 
 impl LineList {
     /// No lines.
-    pub fn new(alloc: Global) -> LineList
+    pub(crate) fn new(alloc: Global) -> LineList
         ensures { result ≡ [] }
     {
         LineList {
@@ -52,8 +52,7 @@ impl LineList {
         }
     }
 
-    /// The lines.
-    pub fn into_lines(self) -> Vec<Line>
+    pub(crate) fn into_lines(self) -> Vec<Line>
         ensures { lines_of result.items ≡ self }
     {
         self.lines

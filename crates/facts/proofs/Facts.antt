@@ -70,7 +70,7 @@ pub here_is : (facts : List Fact) (fact d : Fact) (place : ℕ) (test : Bool) �
 here_is facts fact d place test within says passed =
     slice_get-get_or facts place d within ∙ ap Some ((same_fact (get_or facts place d) fact).0 (sym says ∙ passed))
 
--- .. and of what is there
+-- the test passes where the fact is at the place
 pub here_passes : (facts : List Fact) (fact d : Fact) (place : ℕ) (test : Bool) →
     test ≡ ghosts.eq (get_or facts place d) fact → slice_get facts place ≡ Some fact → test ≡ true
 here_passes facts fact d place test says there =

@@ -39,7 +39,7 @@ stands_put old new slot number bucket put first = record {
   no_gap = λ i low high free. first.no_gap i low high (sym (put.others i (λ e. absurd (omega (arith, e)))) ∙ free);
 }
 
--- .. and what stood somewhere stands there
+-- where a number is put into a free slot, what stood somewhere stands there still
 pub stands_still : (old new : List ℕ) (slot number : ℕ) → IsPut old new slot number → get_or old slot 0 ≡ 0 → 0 < number →
     (b n : ℕ) → 0 < n → Stands old b n → Stands new b n
 stands_still old new slot number put free some b n more stood =

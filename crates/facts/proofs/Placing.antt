@@ -60,7 +60,7 @@ found_still seeds homes home old new fact place there same keeps found =
       }
     ]
 
--- .. and so is what is put
+-- a fact whose number is put into the slot that is free for it is found
 pub found_new : (seeds : Seeds) (homes : List Slots) (home slot number : ℕ) (old new : Slots) (fact : Fact) (place : ℕ) →
     slice_get homes home ≡ Some old → buckets_of new ≡ buckets_of old →
     ((b : ℕ) → IsFirstFree (numbers_of old) b slot → Stands (numbers_of new) b number) →
@@ -149,7 +149,7 @@ not_there seeds facts homes fact table found at absent member =
     let here : IsFound seeds homes fact place = found place fact there in
     absent place there (subst (λ t. Holds seeds t fact place) (same_table homes (home_of fact) here.table table here.at at) here.holds)
 
--- .. nor is one whose home has no slots
+-- a fact whose home has no slots is not there
 pub no_home : (seeds : Seeds) (facts : List Fact) (homes : List Slots) (fact : Fact) → AreFound seeds facts homes → length homes ≤ home_of fact → Contains facts fact → ⊥
 no_home seeds facts homes fact found past member =
     let (place, there) = slice_get-from_Contains facts fact member in

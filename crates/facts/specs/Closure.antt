@@ -41,13 +41,13 @@ FromNone (N8 i a) f = f ≡ In a (Individual i)
 FromNone (N9 i r j) f = f ≡ Edge (Individual i) (Property r) (Individual j)
 FromNone _ f = ⊥
 
--- .. from one
+-- what a form gives from one fact
 abbrev pub FromOne : Form → Fact → Fact → Type 0
 FromOne (N1 a b) (In c x) f = (c ≡ a) × (f ≡ In b x)
 FromOne (N3 a r b) (In c x) f = (c ≡ a) × (f ≡ Edge x (Property r) (Expr b))
 FromOne _ _ f = ⊥
 
--- .. from two, in their order
+-- what a form gives from two facts, in their order
 abbrev pub FromTwo : Problem → Form → Fact → Fact → Fact → Type 0
 FromTwo k (N2 a b c) (In d x) (In e y) f = (d ≡ a) × (e ≡ b) × (x ≡ y) × (f ≡ In c x)
 FromTwo k (N4 r a b) (Edge x q y) (In c z) f = IsAtOrBelow k.forms q (Property r) × (c ≡ a) × (y ≡ z) × (f ≡ In b x)

@@ -58,12 +58,12 @@ pub record IsFirstFree (slots : List ℕ) (bucket slot : ℕ) : Type 0 where
   pub free : slice_index slots slot ≡ 0
   pub no_gap : (i : ℕ) → bucket ≤ i → i < slot → slice_index slots i ≡ 0 → ⊥
 
--- what holds of the place that a search comes to ..
+-- P holds of the place, where a search comes to one
 abbrev pub IfAt : Found → (ℕ → Type 0) → Type 0
 IfAt (At place) P = P place
 IfAt (Free slot) P = Unit {0}
 
--- .. and of the free slot
+-- P holds of the free slot, where a search comes to one
 abbrev pub IfFree : Found → (ℕ → Type 0) → Type 0
 IfFree (At place) P = Unit {0}
 IfFree (Free slot) P = P slot
@@ -88,7 +88,7 @@ CanHold (Few numbers) slot = slot < FEW
 CanHold (Several numbers) slot = slot < SEVERAL
 CanHold (Many size used numbers) slot = slot ≤ length numbers.value.items
 
--- .. in those of its home
+-- the fact that is at the place is found in the slots of its home
 pub record IsFound (seeds : Seeds) (homes : List Slots) (fact : Fact) (place : ℕ) : Type 0 where
   pub table : Slots
   pub at : slice_get homes (home_of fact) ≡ Some table

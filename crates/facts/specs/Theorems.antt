@@ -10,7 +10,7 @@ ClosureIsClosed =
     (k : Problem) (condition : ℕ) (form : Option ℕ) (older : List Fact) (f : Fact) →
     Gives k condition form older f → All (IsFact k) older → IsFact k f
 
--- .. and lies in every set that has what its members give
+-- the closure lies in every set that has what its members give
 abbrev pub ClosureIsLeast : Type 0
 ClosureIsLeast =
     (k : Problem) (is_there : Fact → Bool) →

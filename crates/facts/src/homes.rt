@@ -25,7 +25,7 @@ fn number_of(context: Context) -> usize
 
 /// The number of the context that the fact is of, an edge of its source.
 #[inline(always)]
-pub fn home_of(fact: Fact) -> usize
+pub(crate) fn home_of(fact: Fact) -> usize
     ensures { result ≡ home_of fact }
 {
     match fact {
@@ -35,7 +35,7 @@ pub fn home_of(fact: Fact) -> usize
 }
 
 /// Makes slots for the home. Fails where memory is refused; each fact is found as before.
-pub fn extend(homes: &mut Vec<Slots>, home: usize) -> Result<(), Memory>
+pub(crate) fn extend(homes: &mut Vec<Slots>, home: usize) -> Result<(), Memory>
     requires { HaveSlots homes.old.items }
     ensures slots { HaveSlots homes.new.items }
     ensures found { (seeds : TheSeeds) (fact : AFact) (place : ℕ) → IsFound seeds homes.old.items fact place → IsFound seeds homes.new.items fact place }
@@ -49,7 +49,7 @@ pub fn extend(homes: &mut Vec<Slots>, home: usize) -> Result<(), Memory>
 
 /// The place of the fact, if it is there, or else the slot that it goes into.
 #[inline(always)]
-pub fn search(
+pub(crate) fn search(
     seeds: &Seeds,
     facts: &[StoredFact],
     homes: &[Slots],
@@ -68,7 +68,7 @@ pub fn search(
 }
 
 /// The place of the fact, if it is there.
-pub fn find(seeds: &Seeds, facts: &[StoredFact], homes: &[Slots], fact: Fact) -> Option<u32>
+pub(crate) fn find(seeds: &Seeds, facts: &[StoredFact], homes: &[Slots], fact: Fact) -> Option<u32>
     requires slots { HaveSlots homes.now }
     requires found { AreFound seeds.now facts.now homes.now }
     ensures there { IfSome result (λ place. slice_get facts.now place ≡ Some fact) }
@@ -87,7 +87,7 @@ pub fn find(seeds: &Seeds, facts: &[StoredFact], homes: &[Slots], fact: Fact) ->
 /// Makes room for the fact, and tells the slot that it goes into: this one, the first that is free for it, where there was room.
 /// Fails where memory is refused; each fact is found as before.
 #[inline(always)]
-pub fn make_room(
+pub(crate) fn make_room(
     alloc: Global,
     seeds: &Seeds,
     facts: &[StoredFact],

@@ -48,7 +48,7 @@ const _: () = prove!(size_of::<Slots>() == 16);
 
 /// What a search for a fact comes to.
 #[derive(Clone, Copy, Debug, PartialEq, Eq, Drop)]
-pub enum Found {
+pub(crate) enum Found {
     /// The fact, at this place.
     At(u32),
     /// This slot, which is free for the fact.
@@ -249,7 +249,6 @@ impl Slots {
         }
     }
 
-    /// The bucket of the fact.
     #[inline(always)]
     fn bucket(&self, seeds: &Seeds, fact: Fact) -> usize
         ensures value { result ≡ bucket_of seeds.now (buckets_of self.now) fact }

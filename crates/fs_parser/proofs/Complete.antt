@@ -146,7 +146,7 @@ one_reading prefixes are tokens a b h k =
     let f : list_from a ≡ list_from b = cc in
     sym (back a) ∙ ap trees_from f ∙ back b
 
--- .. and one tree
+-- the tokens are one tree at most
 pub one_tree : (prefixes : Prefixes) → StandForOne prefixes → (tokens : List Token) (a b : Tree) → IsTree prefixes a tokens → IsTree prefixes b tokens → a ≡ b
 one_tree prefixes are tokens a b h k =
     let e : Then a Empty ≡ Then b Empty = one_reading prefixes are tokens (Then a Empty) (Then b Empty) (tokens, [], sym (append-nil tokens), h, refl) (tokens, [], sym (append-nil tokens), k, refl) in

@@ -185,7 +185,7 @@ no_declaration ds tokens x h b refused document k =
     go [] allowed same o = not_both x b (subst (BeginsWith (codes "Ontology")) (sym same) o)
     go (d ∷ more) allowed are o = refused d are.0 are.1 (allowed_rest standard_prefixes ds (d ∷ more) allowed).0
 
--- .. and where no declaration stands, an ontology does
+-- where no declaration stands behind those that were read, a document has declared just these, and its ontology stands there
 pub is_ontology : (ds : Prefixes) (tokens x : List Token) → AreDeclarations ds tokens x → (BeginsWith (codes "Prefix") x → ⊥)
     → (document : Document) → IsDocument document tokens → (document.declared ≡ ds) × IsOntology 64 (standard_prefixes ++ ds) document.trees x
 is_ontology ds tokens x h none document k =

@@ -54,7 +54,7 @@ more_last : (c b d : ℕ) (bs : List ℕ) → ((x : List ℕ) → d ∷ bs ≡ x
 more_last c b d bs none [] e = cc
 more_last c b d bs none (f ∷ front) e = none front (cc)
 
--- .. and before an end of one byte
+-- what stands before an end of one byte
 pub before_last : (c : ℕ) (text : List ℕ) → Decided (λ front. text ≡ front ++ c ∷ [])
 before_last c [] = no (none_last c)
 before_last c (b ∷ []) =

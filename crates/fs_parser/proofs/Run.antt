@@ -21,7 +21,7 @@ start = state [] [] Nothing
 abbrev pub read : ℕ → Prefixes → List Token → Option (List Tree)
 read limit prefixes tokens = run limit prefixes tokens start
 
--- .. up to a closing parenthesis, with which the tokens end
+-- the trees at a closing parenthesis, with which the tokens have to end; where it does not stand, the other
 abbrev pub closed_or : Bool → List Token → State → Option (List Tree) → Option (List Tree)
 closed_or true [] s other = finish s
 closed_or true (t ∷ ts) s other = None

@@ -73,7 +73,7 @@ low : (limit : ℕ) (prefixes : Prefixes) (frames : List Frame) (done : List Tre
 low limit prefixes [] done a h = omega arith
 low limit prefixes (f ∷ frames) done a h = omega (arith, h.7)
 
--- .. as a state
+-- with one more tree, which has no parentheses, the state has read the tokens of the tree too
 pushed : (limit : ℕ) (prefixes : Prefixes) (frames : List Frame) (done : List Tree) (tree : Tree) (a b tokens : List Token)
     → AreOpen limit prefixes frames done a → IsTree prefixes tree b → depth tree ≡ 0 → tokens ≡ a ++ b
     → HasRead limit prefixes (add frames done tree) tokens

@@ -127,7 +127,7 @@ tree_stops limit prefixes are ts d s r all e l some none h so_far tree k =
     fails_by e (run limit prefixes all start) (Some tree) (λ gone. absurd (none-some (tree ∷ []) (sym gone ∙ tree_read limit prefixes are tree all k)))
     (run_stops limit prefixes are ts d s r (run limit prefixes all start) e l some none h so_far)
 
--- .. where no token is left
+-- where no token is left, the run gives what the state finishes with
 pub run_ends : (limit : ℕ) (prefixes : Prefixes) (ts : List lexer.Token) (s : State) (total : Option (List Tree)) → length ts ≡ 0 → run limit prefixes (tokens_of ts) s ≡ total → finish s ≡ total
 run_ends limit prefixes [] s total l so_far = so_far
 run_ends limit prefixes (t ∷ ts) s total l so_far = absurd (omega arith)
@@ -143,7 +143,7 @@ abbrev waiting : Pending → ℕ
 waiting Nothing = 0
 waiting _ = 1
 
--- .. and how many are whole or begun
+-- how many trees are whole or begun outside of all parentheses
 abbrev begun_outside : List Frame → List Tree → Pending → ℕ
 begun_outside [] done pending = length done + waiting pending
 begun_outside (f ∷ frames) done pending = whole_outside frames f.before + 1
@@ -224,7 +224,7 @@ step_begins limit name frames done (Word at keyword) kind t = word_begins limit 
 step_begins limit name frames done (Text at text) kind t = text_begins limit name frames done at text kind t
 step_begins limit name frames done (Typed at text) kind t = named_begins name frames done (TypedLiteral at text)
 
--- .. and a second, where the token is behind a whole tree
+-- after a token behind a whole tree, outside of all parentheses, a second tree is begun
 second_begins : (limit : ℕ) (name : Option (List ℕ)) (frames : List Frame) (done : List Tree) (pending : Pending) (kind : Kind) (t : Token)
     → begins_second_at frames done pending kind ≡ true → Begins 1 (step_at limit name frames done pending kind t)
 second_begins limit name (f ∷ frames) done pending kind t e = absurd (false≢true e)

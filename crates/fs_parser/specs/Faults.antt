@@ -23,7 +23,7 @@ end_of [] = 0
 end_of (t ∷ []) = t.at + length t.text
 end_of (t ∷ u ∷ ts) = end_of (u ∷ ts)
 
--- .. as a place, of which 2 ^ 64 - 1 is the last
+-- where the last token ends, as a place, of which 2 ^ 64 - 1 is the last; 0 where there is none
 abbrev pub last_place : List Token → ℕ
 last_place tokens = min (end_of tokens) (2 ^ 64 - 1)
 
@@ -38,7 +38,7 @@ abbrev pub closes : Kind → ℕ
 closes Closing = 1
 closes _ = 0
 
--- .. and how many the tokens do
+-- how many parentheses the tokens open, and how many they close
 abbrev pub opened : List Token → ℕ
 opened [] = 0
 opened (t ∷ ts) = opens t.kind + opened ts
@@ -67,7 +67,7 @@ pub record IsUnknown (known : Prefixes) (at : ℕ) (tokens : List Token) : Type 
   pub kind : name.kind ≡ ShortName
   pub unknown : (iri : List ℕ) → IsShort known name.text iri → ⊥
 
--- .. and stands in the ontology, where these and the standard ones are all prefixes
+-- the tokens begin with Ontology, and the short name at this place has a prefix that is no standard one and none of these
 abbrev pub IsUndeclared : ℕ → Prefixes → List Token → Type 0
 IsUndeclared at declared tokens = BeginsWith (codes "Ontology") tokens × IsUnknown (standard_prefixes ++ declared) at tokens
 

@@ -11,7 +11,7 @@ abbrev pub BeginsWithKind : Kind → List Token → Type 0
 BeginsWithKind kind [] = ⊥
 BeginsWithKind kind (t ∷ ts) = t.kind ≡ kind
 
--- .. or this keyword
+-- the first token is this keyword
 abbrev pub BeginsWith : List ℕ → List Token → Type 0
 BeginsWith word [] = ⊥
 BeginsWith word (t ∷ ts) = (t.kind ≡ Keyword) × (t.text ≡ word)

@@ -15,7 +15,7 @@ DocumentsHavePrefixes = (document : Document) (tokens : List Token) → IsDocume
 abbrev pub OneListOfTrees : Type 0
 OneListOfTrees = (prefixes : Prefixes) → StandForOne prefixes → (tokens : List Token) (a b : Trees) → AreTrees prefixes a tokens → AreTrees prefixes b tokens → a ≡ b
 
--- .. and one tree
+-- with prefixes that each stand for one IRI a list of tokens is at most one tree
 abbrev pub OneTree : Type 0
 OneTree = (prefixes : Prefixes) → StandForOne prefixes → (tokens : List Token) (a b : Tree) → IsTree prefixes a tokens → IsTree prefixes b tokens → a ≡ b
 

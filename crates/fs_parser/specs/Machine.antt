@@ -80,7 +80,7 @@ step_at limit name frames done (Word at keyword) kind t = behind_word limit fram
 step_at limit name frames done (Text at text) kind t = behind_text limit name frames done at text kind t
 step_at limit name frames done (Typed at text) kind t = if_named name frames done (TypedLiteral at text)
 
--- .. of the name
+-- the state after one more token, where it names the IRI, if any
 abbrev pub step : ℕ → Option (List ℕ) → State → Token → Option State
 step limit name s t = step_at limit name s.frames s.done s.pending t.kind t
 
@@ -102,7 +102,7 @@ finish_at _ done _ = None
 abbrev pub finish : State → Option (List Tree)
 finish s = finish_at s.frames s.done s.pending
 
--- .. where none follows
+-- the trees, at the end of the tokens, where none of these follows it
 abbrev pub finish_before : List Token → State → Option (List Tree)
 finish_before [] s = finish s
 finish_before (t ∷ ts) s = None

@@ -87,7 +87,7 @@ pub record IsShallow (limit : ℕ) (prefixes : Prefixes) (tree : Tree) (tokens :
   pub is_tree : IsTree prefixes tree tokens
   pub shallow : depth tree ≤ limit
 
--- .. the trees
+-- the tokens are exactly the trees, in which at most so many parentheses are open at once
 pub record AreShallow (limit : ℕ) (prefixes : Prefixes) (trees : Trees) (tokens : List Token) : Type 0 where
   pub are_trees : AreTrees prefixes trees tokens
   pub shallow : depth_of trees ≤ limit

@@ -23,13 +23,13 @@ use fs_lexer::{Kind, Token};
 use std::alloc::Global;
 
 /// How many parentheses may be open at once inside of `Ontology( .. )`.
-pub const DEEPEST: usize = 64;
+pub(crate) const DEEPEST: usize = 64;
 
 /// How many tokens a declaration has.
 const DECLARATION: usize = 6;
 
 /// Where the last token ends.
-pub fn end_of(tokens: &[Token<'_>]) -> usize
+pub(crate) fn end_of(tokens: &[Token<'_>]) -> usize
     ensures { result ≡ last_place (tokens_of tokens.now) }
 {
     match tokens.last() {
@@ -39,7 +39,7 @@ pub fn end_of(tokens: &[Token<'_>]) -> usize
 }
 
 /// Whether the token is the keyword.
-pub fn is_word(word: &str, token: &Token<'_>) -> bool
+pub(crate) fn is_word(word: &str, token: &Token<'_>) -> bool
     ensures { IsTrue result ↔ ((token.now.kind ≡ Keyword) × (token.now.text.now ≡ word.now)) }
 {
     token.kind == Kind::Keyword && token.text == word

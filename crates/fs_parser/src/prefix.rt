@@ -21,7 +21,7 @@ pub struct Prefix<'a> {
 
 /// The IRI of a prefix that is declared from the start.
 #[tactic(auto, unfolding(crate::specs::Name::standard_prefixes))]
-pub fn standard_iri(name: &str) -> Option<&'static str>
+pub(crate) fn standard_iri(name: &str) -> Option<&'static str>
     ensures some { IfSome result (λ iri. Contains standard_prefixes (name.now, iri.now)) }
     ensures none { IfNone result ((iri : List ℕ) → Contains standard_prefixes (name.now, iri) → ⊥) }
 {
@@ -39,7 +39,7 @@ pub fn standard_iri(name: &str) -> Option<&'static str>
 }
 
 /// What stands between `<` and `>`.
-pub fn in_brackets(text: &str) -> Option<&str>
+pub(crate) fn in_brackets(text: &str) -> Option<&str>
     ensures some { IfSome result (λ iri. IsBracketed iri.now text.now) }
     ensures none { IfNone result ((iri : List ℕ) → IsBracketed iri text.now → ⊥) }
 {
@@ -50,7 +50,7 @@ pub fn in_brackets(text: &str) -> Option<&str>
 }
 
 /// What stands before a colon at the end.
-pub fn before_colon(text: &str) -> Option<&str>
+pub(crate) fn before_colon(text: &str) -> Option<&str>
     ensures some { IfSome result (λ name. text.now ≡ name.now ++ codes ":") }
     ensures none { IfNone result ((name : List ℕ) → text.now ≡ name ++ codes ":" → ⊥) }
 {
@@ -70,7 +70,7 @@ fn expand_short<'a>(known: &Known<'a>, text: &'a str) -> Option<Iri<'a>>
 
 /// The IRI that the token names.
 #[inline(always)]
-pub fn expand<'a>(known: &Known<'a>, token: &Token<'a>) -> Option<Iri<'a>>
+pub(crate) fn expand<'a>(known: &Known<'a>, token: &Token<'a>) -> Option<Iri<'a>>
     ensures some { IfSome result (λ i. IsNameOf (known_of known.now) (token_of token.now) (iri_of i)) }
     ensures none { IfNone result ((iri : List ℕ) → IsNameOf (known_of known.now) (token_of token.now) iri → ⊥) }
 {

@@ -226,7 +226,7 @@ fn take_behind_text<'a>(
 
 /// One more token, which names the IRI, if any.
 #[inline(always)]
-pub fn take<'a>(
+pub(crate) fn take<'a>(
     alloc: Global,
     limit: usize,
     state: &mut State<'a>,
@@ -261,7 +261,7 @@ pub fn take<'a>(
 }
 
 /// The trees, at the end of the tokens.
-pub fn end(state: State<'_>, here: usize) -> Result<Vec<Tree<'_>>, ParseFault>
+pub(crate) fn end(state: State<'_>, here: usize) -> Result<Vec<Tree<'_>>, ParseFault>
     ensures given { Gives (λ v. map tree_of v.items) result (finish (state_of state.entry)) }
     ensures said { IfErr result (IsEnd here) }
 {
@@ -280,7 +280,7 @@ pub fn end(state: State<'_>, here: usize) -> Result<Vec<Tree<'_>>, ParseFault>
 }
 
 /// Whether the token closes a parenthesis that was open before the first of the trees, so that these are whole.
-pub fn is_ended_by(state: &State<'_>, token: &Token<'_>) -> bool
+pub(crate) fn is_ended_by(state: &State<'_>, token: &Token<'_>) -> bool
     ensures { result ≡ ends (state_of state.now) (token_of token.now) }
 {
     if !state.frames.is_empty() {
@@ -309,7 +309,7 @@ fn end_before<'a>(
 
 /// The trees that the tokens are up to a closing parenthesis, which is the last token. At most `limit` parentheses are
 /// open at once in the trees. `here` is where the tokens end.
-pub fn trees_inside<'a>(
+pub(crate) fn trees_inside<'a>(
     alloc: Global,
     limit: usize,
     known: &Known<'a>,
@@ -341,7 +341,7 @@ pub fn trees_inside<'a>(
 }
 
 /// The trees that the tokens are. At most `limit` parentheses are open at once in them. `here` is where the tokens end.
-pub fn trees_to_end<'a>(
+pub(crate) fn trees_to_end<'a>(
     alloc: Global,
     limit: usize,
     known: &Known<'a>,
@@ -396,7 +396,7 @@ fn end_of_tree(state: State<'_>, here: usize) -> Result<Tree<'_>, ParseFault>
 }
 
 /// The one tree that the tokens are. At most `limit` parentheses are open at once in it. `here` is where the tokens end.
-pub fn tree_to_end<'a>(
+pub(crate) fn tree_to_end<'a>(
     alloc: Global,
     limit: usize,
     known: &Known<'a>,

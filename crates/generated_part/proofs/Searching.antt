@@ -131,7 +131,7 @@ module _ (first : List ℕ) (pairs : List (List (PropId × ℕ))) where
     closed = λ k b d r l g t. absurd (omega arith);
   }
 
-  -- .. and then the first are
+  -- at the start of the search the first are found
   pub begun : All (λ x. x < length pairs) first → IsSearchFrom first pairs 0 (with_numbers (record { found = []; seen = replicate (length pairs) false }) first)
   begun within =
       let q = follows 0 first (record { found = []; seen = replicate (length pairs) false }) none (λ d h. (All-contains (λ x. x < length pairs) first d within h, itself h)) in

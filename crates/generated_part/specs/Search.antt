@@ -45,7 +45,7 @@ pub record IsSearch (first : List ℕ) (pairs : List (List (PropId × ℕ))) (ne
   pub sound : (k d : ℕ) → slice_get f.found k ≡ Some d → IsFound first pairs d
   pub closed : (k b d : ℕ) (r : PropId) → k < next → slice_get f.found k ≡ Some b → Contains (list_at pairs b) (r, d) → has f.seen d ≡ true
 
--- .. and so were the first
+-- it is a search of what the first lead to, and all of the first were found
 pub record IsSearchFrom (first : List ℕ) (pairs : List (List (PropId × ℕ))) (next : ℕ) (f : Search) : Type 0 where
   pub search : IsSearch first pairs next f
   pub begun : (d : ℕ) → Contains first d → has f.seen d ≡ true

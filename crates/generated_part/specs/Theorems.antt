@@ -17,7 +17,7 @@ GeneratedSatisfies =
     (o : Ontology) → IsOntology o → (i part : Interpretation) (from new : ℕ) → IsInterpretation i → IsGenerated o i from part new →
     (a : Axiom) → IsAxiomOf o a → Satisfies i (axiom_tree o a) → Satisfies part (axiom_tree o a)
 
--- .. so the part of a model is a model
+-- the part of a model, where it is an interpretation, is a model
 abbrev pub GeneratedIsModel : Type 0
 GeneratedIsModel =
     (o : Ontology) → IsOntology o → (i part : Interpretation) (from new : ℕ) → IsGenerated o i from part new → IsInterpretation part →

@@ -21,7 +21,6 @@ pub(crate) struct ByElement {
     pub individuals: Vec<usize>,
 }
 
-/// Whether the element is in the class.
 fn is_member(interpretation: &Interpretation, class: ClassId, element: usize) -> bool
     ensures { result ≡ has (members_of interpretation.now class.0) element }
 {

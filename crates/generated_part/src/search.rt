@@ -36,7 +36,6 @@ impl Search {
         Ok(())
     }
 
-    /// Adds each of these elements.
     fn add_each(&mut self, elements: &[usize]) -> Result<(), Memory>
         ensures { OnOk result (search_of self.new ≡ with_numbers (search_of self.old) elements.now) }
     {

@@ -71,7 +71,7 @@ next_starts starts more pairs place sorted lt was long same rest = record {
   short = λ m l g. omega (arith, long, rising pairs sorted place m (omega (arith, l)) g);
 }
 
--- .. and up to the key behind the last
+-- the starts of the keys up to the one behind that of the last pair
 pub last_starts : (starts more : List ℕ) (pairs : List (ℕ × ℕ)) (place last : ℕ) → IsNonDecreasingBy (λ (p : ℕ × ℕ). p.0) pairs → place ≡ length pairs → last + 1 ≡ length pairs
     → AreStartsTo starts pairs place → length more ≡ key_at pairs last + 2
     → ((k : ℕ) → k < length starts → get_or more k 0 ≡ get_or starts k 0)

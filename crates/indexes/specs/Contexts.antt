@@ -23,7 +23,7 @@ IsLast list n = (rest : List ℕ) × (list ≡ rest ++ n ∷ [])
 abbrev pub EndsAt : ByContext → ByContext → Context → ℕ → Type 0
 EndsAt old new x number = (y : Context) → (at_context new y ≡ at_context old y) ⊎ ((y ≡ x) × (IsLast (at_context old y) number → ⊥) × (at_context new y ≡ at_context old y ++ number ∷ []))
 
--- .. whether it was the last or not
+-- each list is what it was, but that of the context: there the number is put at the end, whether it was the last or not
 abbrev pub PutsLastAt : ByContext → ByContext → Context → ℕ → Type 0
 PutsLastAt old new x number = (y : Context) → ((y ≡ x → ⊥) × (at_context new y ≡ at_context old y)) ⊎ ((y ≡ x) × (at_context new y ≡ at_context old y ++ number ∷ []))
 

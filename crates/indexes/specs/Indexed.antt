@@ -19,16 +19,16 @@ abbrev pub IsFrom : Context → Fact → Type 0
 IsFrom x (In a y) = ⊥
 IsFrom x (Edge y r z) = y ≡ x
 
--- .. into it
+-- the fact is an edge into the context
 abbrev pub IsInto : Context → Fact → Type 0
 IsInto x (In a y) = ⊥
 IsInto x (Edge y r z) = z ≡ x
 
--- .. an edge from it that is a second
+-- the fact is an edge from the context, and is a second
 abbrev pub IsSecondFrom : Bool → Context → Fact → Type 0
 IsSecondFrom is_second x f = (is_second ≡ true) × IsFrom x f
 
--- .. a class in it that is a filler
+-- the fact puts a class into the context, and is a filler
 abbrev pub IsFillerIn : Bool → Context → Fact → Type 0
 IsFillerIn is_filler x f = (is_filler ≡ true) × IsIn x f
 
@@ -59,7 +59,7 @@ pub record ListsIn (has : Context → Fact → Type 0) (facts : List Fact) (whol
   pub only : (x : Context) (n : ℕ) → Contains (at_context table x) n → Contains most n × (f : Fact) × (slice_get facts n ≡ Some f) × has x f
   pub order : (x : Context) → ArePartOf (at_context table x) most
 
--- .. but for the seconds and the fillers
+-- exactly the facts of these numbers are listed, but for the seconds and the fillers, of which it says nothing
 pub record IsIndex (facts : List Fact) (whole most : List ℕ) (index : Index) : Type 0 where
   pub classes : ListsIn IsIn facts whole most index.classes
   pub from : ListsIn IsFrom facts whole most index.from

@@ -24,7 +24,7 @@ pub record Divides (starts : List ℕ) (pairs : List (ℕ × ℕ)) : Type 0 wher
   pub low : (key place : ℕ) → key < length starts → place < slice_index starts key → key_at pairs place < key
   pub high : (key place : ℕ) → key < length starts → slice_index starts key ≤ place → place < length pairs → key ≤ key_at pairs place
 
--- .. up to the key behind the greatest
+-- what stands for each key divides the pairs, and something stands for each key up to the one behind the greatest
 pub record AreStarts (starts : List ℕ) (pairs : List (ℕ × ℕ)) : Type 0 where
   pub divides : Divides starts pairs
   pub all : (place : ℕ) → place < length pairs → key_at pairs place + 1 < length starts

@@ -37,7 +37,7 @@ impl Drop for FormIndex {
 
 impl FormIndex {
     /// Lists nothing.
-    pub fn new(alloc: Global) -> Self
+    pub(crate) fn new(alloc: Global) -> Self
         ensures { IsFormIndex [] result }
     {
         FormIndex {
@@ -53,7 +53,7 @@ impl FormIndex {
     }
 
     /// Lists all of the forms. Fails where memory is refused.
-    pub fn of(alloc: Global, forms: &FormList) -> Result<Self, AllocError>
+    pub(crate) fn of(alloc: Global, forms: &FormList) -> Result<Self, AllocError>
         requires { length forms.now ≤ u32.MAX }
         ensures { IfOk result (λ index. IsFormIndex forms.now index) }
     {

@@ -28,7 +28,7 @@ impl Drop for KeyLists {
 
 impl KeyLists {
     /// No list has a number.
-    pub fn new(alloc: Global) -> Self
+    pub(crate) fn new(alloc: Global) -> Self
         ensures { ListsNothing result }
     {
         KeyLists {
@@ -50,7 +50,7 @@ impl KeyLists {
     }
 
     /// The list of the key.
-    pub fn of(&self, key: Key) -> &[u32]
+    pub(crate) fn of(&self, key: Key) -> &[u32]
         ensures { result.now ≡ at_key self.now key }
     {
         match key {

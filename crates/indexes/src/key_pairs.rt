@@ -29,7 +29,7 @@ impl KeyPairs {
     }
 
     /// The keys that the forms have in that role. Fails where memory is refused.
-    pub fn of(alloc: Global, role: Role, forms: &FormList) -> Result<Self, AllocError>
+    pub(crate) fn of(alloc: Global, role: Role, forms: &FormList) -> Result<Self, AllocError>
         requires { length forms.now ≤ u32.MAX }
         ensures { IfOk result (λ pairs. ArePairsOf (key_by role) forms.now pairs) }
     {

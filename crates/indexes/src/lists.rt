@@ -14,7 +14,6 @@ pub(crate) struct Lists {
     ghost within: { IsWithin starts.items numbers.items },
 }
 
-/// The numbers of the pairs.
 fn numbers_of(alloc: Global, pairs: &[(u32, u32)]) -> Result<Vec<u32>, AllocError>
     ensures { IfOk result (λ numbers. numbers.items ≡ map (λ (p : ℕ × ℕ). p.1) pairs.now) }
 {
@@ -45,7 +44,7 @@ fn starts_of(alloc: Global, pairs: &[(u32, u32)]) -> Result<Vec<u32>, AllocError
 
 impl Lists {
     /// No list has a number.
-    pub fn new(alloc: Global) -> Self
+    pub(crate) fn new(alloc: Global) -> Self
         ensures { (key : ℕ) → list_at result.starts.items result.numbers.items key ≡ [] }
     {
         Lists {
@@ -55,7 +54,7 @@ impl Lists {
     }
 
     /// The list of each key has the numbers that it is paired with. Fails where memory is refused.
-    pub fn from_pairs(alloc: Global, mut pairs: Vec<(u32, u32)>) -> Result<Self, AllocError>
+    pub(crate) fn from_pairs(alloc: Global, mut pairs: Vec<(u32, u32)>) -> Result<Self, AllocError>
         requires { length pairs.items ≤ u32.MAX }
         ensures { IfOk result (λ lists. AreLists pairs.items lists.starts.items lists.numbers.items) }
     {
@@ -67,7 +66,7 @@ impl Lists {
     }
 
     /// The list of the key.
-    pub fn of(&self, key: u32) -> &[u32]
+    pub(crate) fn of(&self, key: u32) -> &[u32]
         ensures { result.now ≡ list_at self.now.starts.items self.now.numbers.items key }
     {
         let next = key as usize + 1;

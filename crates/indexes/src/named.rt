@@ -5,7 +5,6 @@ ghost use Rattle.indexes.specs.Named.{class_key, property_key, by_kind, by_alone
 use crate::keys::Key;
 use normal_forms::{Class2, Form, PropId2};
 
-/// The key of a class.
 pub(crate) fn key_of_class(class: Class2) -> Key
     ensures { result ≡ class_key class }
 {
@@ -15,7 +14,6 @@ pub(crate) fn key_of_class(class: Class2) -> Key
     }
 }
 
-/// The key of a property.
 pub(crate) fn key_of_property(property: PropId2) -> Key
     ensures { result ≡ property_key property }
 {

@@ -81,7 +81,7 @@ all_met_still s f old numbers met n there g at = met_still s f g (met n there g 
 pub met_earlier : {k : Problem} {most : ℕ} {a b : Derived} → Grows k most a b → (f : Fact) (numbers : List ℕ) (new : Derived) → AreMet k f b.facts numbers new → AreMet k f a.facts numbers new
 met_earlier s f numbers new met n there g at = met n there g (s.facts n g at)
 
--- .. the same of what one of two gives in one order
+-- what the fact gives as the first of two is there or spared still
 pub before_still : {k : Problem} {most : ℕ} {a b : Derived} → Grows k most a b → (f : Fact) (old : List Fact) (numbers : List ℕ) → AreMetBefore k f old numbers a → AreMetBefore k f old numbers b
 before_still s f old numbers met n there g at = but_spared_still s (f ∷ g ∷ []) (met n there g at)
 

@@ -128,7 +128,7 @@ module _ (k : Problem) {closure : Known} (closed : IsClosureOf k.forms closure) 
       let here : slice_get d.facts n ≡ Some (Edge x q y) = cc in
       subst (Has closure) (same_Some q p e) (first_edge s n (Edge x q y) here x q y refl)
 
--- .. and that of each edge
+-- the property of each edge is there
 pub has_property : (k : Problem) {closure : Known} → IsClosureOf k.forms closure → {d : Derived} → IsDerived k d → (n : ℕ) (f : Fact) → slice_get d.facts n ≡ Some f → HasProperty closure f
 has_property k closed s n (In a x) at = tt
 has_property k closed s n (Edge x r y) at = first_edge k closed s n (Edge x r y) at x r y refl

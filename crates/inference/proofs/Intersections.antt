@@ -39,7 +39,7 @@ no_intersection k old new x n none a b ina inb form at h w =
     let i = intersection k form a b x x h w in
     absurd (none a b i.0 (subst (λ f. slice_get k.forms n ≡ Some f) i.1 at))
 
--- .. nor where not both of its classes are in the context
+-- where not both classes of the intersection are in the context there is nothing to draw
 pub not_both : (k : Problem) (old new : List Fact) (x : Context) (n : ℕ) (p q r : Class2) → slice_get k.forms n ≡ Some (N2 p q r) → (Contains old (In p x) → Contains old (In q x) → ⊥) → IsDrawnIn k old x new n
 not_both k old new x n p q r is none a b ina inb form at h w =
     let i = intersection k form a b x x h w in

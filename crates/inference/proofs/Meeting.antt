@@ -71,7 +71,7 @@ within_still s w = record {
   into = λ x n c. let o = w.into x n c in (o.0, s.facts n o.0 o.1, o.2);
 }
 
--- .. and stay so
+-- the facts of these numbers are all of the kind still
 pub all_still_there : {k : Problem} {most : ℕ} {a b : Derived} → Grows k most a b → (P : Fact → Type 0) (numbers : List ℕ) → AreAll P a.facts numbers → AreAll P b.facts numbers
 all_still_there s P numbers all n c = let o = all n c in (o.0, s.facts n o.0 o.1, o.2)
 

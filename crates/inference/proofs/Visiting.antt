@@ -54,7 +54,7 @@ for_one (N7 _) g f w = absurd w
 for_one (N8 _ _) g f w = absurd w
 for_one (N9 _ _ _) g f w = absurd w
 
--- .. for the two facts, unless it is a chain
+-- the form is listed for the two facts, unless it is a chain
 abbrev pub IsForTwo : Form → Fact → Fact → Type 0
 IsForTwo form (In a x) (In b y) = (by_first form ≡ Some (class_key a)) × (by_second form ≡ Some (class_key b))
 IsForTwo form (In a x) (Edge y r z) = ⊥

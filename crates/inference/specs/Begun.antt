@@ -10,7 +10,7 @@ use Rattle.inference.specs.Working.{AllDrawn, Drawn}
 abbrev pub LoopIsDrawn : Problem → List Fact → List Fact → ℕ → Type 0
 LoopIsDrawn k old new n = (f : Fact) (x : Context) → slice_get old n ≡ Some f → IsTarget f x → AllDrawn (IsLoop x) k.forms new
 
--- .. at the target of each edge
+-- the loops at the target of each fact that is an edge are there
 abbrev pub LoopsAreDrawn : Problem → List Fact → List Fact → Type 0
 LoopsAreDrawn k old new = (n : ℕ) → LoopIsDrawn k old new n
 

@@ -34,7 +34,7 @@ abbrev pub IsEdge : Fact → Type 0
 IsEdge (In a x) = ⊥
 IsEdge (Edge x r y) = Unit {0}
 
--- .. by the property
+-- an edge by the property
 abbrev pub IsBy : PropId2 → Fact → Type 0
 IsBy p (In a x) = ⊥
 IsBy p (Edge x r y) = r ≡ p

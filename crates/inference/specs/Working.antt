@@ -30,11 +30,11 @@ IsContextAt k facts numbers x = (older : List Fact) × AreAt facts numbers older
 abbrev pub AllDrawn : (Form → Fact → Type 0) → List Form → List Fact → Type 0
 AllDrawn D forms facts = (form : Form) → Contains forms form → (f : Fact) → D form f → Contains facts f
 
--- .. from the form at the place
+-- what is drawn from the form at the place is there
 abbrev pub DrawnAt : (Form → Fact → Type 0) → List Form → List Fact → ℕ → Type 0
 DrawnAt D forms facts n = (form : Form) → slice_get forms n ≡ Some form → (f : Fact) → D form f → Contains facts f
 
--- .. from those at the places
+-- what is drawn from the forms at the places is there
 abbrev pub AreDrawnAt : (Form → Fact → Type 0) → List Form → List ℕ → List Fact → Type 0
 AreDrawnAt D forms places facts = (n : ℕ) → Contains places n → DrawnAt D forms facts n
 
@@ -42,11 +42,11 @@ AreDrawnAt D forms places facts = (n : ℕ) → Contains places n → DrawnAt D 
 abbrev pub IsDrawnIn : Problem → List Fact → Context → List Fact → ℕ → Type 0
 IsDrawnIn k old x new n = (a b : Class2) → Contains old (In a x) → Contains old (In b x) → DrawnAt (λ form. Concludes k form (In a x ∷ In b x ∷ [])) k.forms new n
 
--- .. what those at the places give
+-- what the forms at the places give from two classes that were in the context is there
 abbrev pub AreDrawnIn : Problem → List Fact → Context → List Fact → List ℕ → Type 0
 AreDrawnIn k old x new places = (n : ℕ) → Contains places n → IsDrawnIn k old x new n
 
--- .. what the intersections give of which the class is an operand
+-- what the intersections with the class as an operand give from two classes that were in the context is there
 pub record MeetsOperands (k : Problem) (old : List Fact) (a : Class2) (x : Context) (new : List Fact) : Type 0 where
   pub first : (n : ℕ) → IsUnder by_first k.forms (class_key a) n → IsDrawnIn k old x new n
   pub second : (n : ℕ) → IsUnder by_second k.forms (class_key a) n → IsDrawnIn k old x new n
@@ -118,11 +118,11 @@ pub record MeetEachOther (k : Problem) (f g : Fact) (d : Derived) : Type 0 where
 abbrev pub AreMet : Problem → Fact → List Fact → List ℕ → Derived → Type 0
 AreMet k f old numbers new = (n : ℕ) → Contains numbers n → (g : Fact) → slice_get old n ≡ Some g → MeetEachOther k f g new
 
--- .. what it gives as the first of the two, with each of them as the second
+-- what the fact gives as the first of two, with each of those with these numbers as the second, is there or spared
 abbrev pub AreMetBefore : Problem → Fact → List Fact → List ℕ → Derived → Type 0
 AreMetBefore k f old numbers new = (n : ℕ) → Contains numbers n → (g : Fact) → slice_get old n ≡ Some g → DrawnButSpared k (f ∷ g ∷ []) new
 
--- .. as the second
+-- what the fact gives as the second of two, with each of those with these numbers as the first, is there or spared
 abbrev pub AreMetBehind : Problem → Fact → List Fact → List ℕ → Derived → Type 0
 AreMetBehind k f old numbers new = (n : ℕ) → Contains numbers n → (g : Fact) → slice_get old n ≡ Some g → DrawnButSpared k (g ∷ f ∷ []) new
 

@@ -13,7 +13,6 @@ fn is_same(p: PropId2, q: PropId2) -> bool
     p == q
 }
 
-/// Whether it is in the list.
 fn is_listed(list: &[PropId2], p: PropId2) -> bool
     ensures { IsTrue result ↔ Contains list.now p }
 {

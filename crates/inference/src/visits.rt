@@ -85,7 +85,6 @@ pub(crate) fn visited<'a>(problem: &'a IndexedProblem, older: &[Fact]) -> &'a [u
     }
 }
 
-/// Whether the list has any number.
 pub(crate) fn has_any(list: &[u32]) -> bool
     ensures { result ≡ false → (n : ℕ) → Contains list.now n → ⊥ }
 {

@@ -12,7 +12,7 @@ use Rattle.interpretation_spec.specs.Numbered.{NumberedInterpretation}
 abbrev pub kept_targets : BTreeMap ℕ (Vec ℕ) → ℕ → List ℕ
 kept_targets pairs source = option_map_or (λ (targets : Vec ℕ). targets.items) (get nat_cmp pairs source) []
 
--- .. for each element
+-- of each element below the size, in order, the targets that are kept for it
 abbrev pub kept_pairs : ℕ → BTreeMap ℕ (Vec ℕ) → List (List ℕ)
 kept_pairs size pairs = map (kept_targets pairs) (range_with_len 0 size)
 

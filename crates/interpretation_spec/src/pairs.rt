@@ -35,7 +35,6 @@ pub(crate) fn targets_in(pairs: &BTreeMap<usize, Vec<usize>>, source: usize) -> 
     }
 }
 
-/// Adds the targets to the row.
 pub(crate) fn put_targets(row: &mut Row, targets: &[usize])
     ensures len { length row.new ≡ length row.old }
     ensures members { (k : ℕ) → k < length row.old → has row.new k ≡ (has row.old k || list_any (λ z. z == k) targets.now) }

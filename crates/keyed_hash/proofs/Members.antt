@@ -45,7 +45,7 @@ none_passes {T} test hash slots xs h found alike missed = none_of test xs (λ n 
     go n x at false e = e
     go n x at true e = sym (ap (passes test) at) ∙ missed n (subst (λ k. Leads slots k n) (sym (alike x e)) (found n x at))
 
--- .. and what passes is a member
+-- where a number passes, there is a member of that number, and it passes
 pub some_passes : {T : Type 0} (test : T → Bool) (xs : List T) (n : ℕ) → passes_at test xs n ≡ true → (k : T) × (slice_get xs n ≡ Some k) × (test k ≡ true)
 some_passes {T} test xs n = go (slice_get xs n)
   where
@@ -58,7 +58,7 @@ any_passes test [] n k at passes = absurd (none-some k at)
 any_passes test (d ∷ ks) zero k at passes = or_left (test d) _ (ap test (same_Some d k at) ∙ passes)
 any_passes test (d ∷ ks) (suc n) k at passes = or_right (test d) _ (any_passes test ks n k at passes)
 
--- .. after a search
+-- where a search finds none, as no number passes that the hash leads to, no member passes
 pub none_found : {T : Type 0} (test : T → Bool) (hash : T → ℕ) (slots : Slots) (xs : List T) (h : ℕ) → AreFound hash slots xs → ((x : T) → test x ≡ true → h ≡ hash x)
     → (r : Option ℕ) → IfNone r ((n : ℕ) → Leads slots h n → passes_at test xs n ≡ false) → IfNone r (list_any test xs ≡ false)
 none_found test hash slots xs h found alike None missed = none_passes test hash slots xs h found alike missed

@@ -33,7 +33,6 @@ pub(crate) struct Slots {
     pub(crate) cells: Vec<Slot>,
 }
 
-/// The bucket of the hash.
 #[inline(always)]
 fn bucket(mask: u32, hash: u32) -> usize
     ensures value { result ≡ bucket_of mask hash }

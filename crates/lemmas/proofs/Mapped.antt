@@ -10,7 +10,7 @@ slice_get_map f [] n x e = absurd (none-some x e)
 slice_get_map f (y ∷ xs) zero x e = ap (λ z. Some (f z)) (same_Some y x e)
 slice_get_map f (y ∷ xs) (suc n) x e = slice_get_map f xs n x e
 
--- .. and comes from an element there
+-- what a mapped list has at a place comes from the element there
 pub slice_get_map_from : {X Y : Type 0} (f : X → Y) (xs : List X) (n : ℕ) (y : Y) → slice_get (map f xs) n ≡ Some y → (x : X) × (slice_get xs n ≡ Some x) × (f x ≡ y)
 slice_get_map_from f [] n y e = absurd (none-some y e)
 slice_get_map_from f (x ∷ xs) zero y e = (x, refl, same_Some (f x) y e)
@@ -22,13 +22,13 @@ Contains-map f xs x c = let p = slice_get-from_Contains xs x c in Contains-from_
 
 -- ---- what holds of each of a mapped list
 
--- .. at a place
+-- what holds of each of a mapped list holds of what the element at a place is mapped to
 pub mapped : {A B : Type 0} (P : B → Type 0) (f : A → B) (xs : List A) → All P (map f xs) → (n : ℕ) (x : A) → slice_get xs n ≡ Some x → P (f x)
 mapped P f xs all n x h =
     let l : n < length xs = slice_get_within xs n x h in
     subst P (get_or-map f xs n x (f x) l ∙ ap f (get_or_from_slice_get xs n x x h)) (all n (f x) (omega (arith, length-map xs f)))
 
--- .. of all
+-- what holds of each of a mapped list holds of what each element is mapped to
 pub All-from_map : {A B : Type 0} (P : B → Type 0) (f : A → B) (xs : List A) → All P (map f xs) → All (λ x. P (f x)) xs
 All-from_map P f xs h k d l = mapped P f xs h k (get_or xs k d) (slice_get-get_or xs k d l)
 

@@ -21,7 +21,7 @@ AllPairs-map R f (x ∷ xs) h m n d l k =
     subst₂ R (sym (get_or-map f (x ∷ xs) m x d l')) (sym (get_or-map f (x ∷ xs) n x d k'))
     (h m n (get_or (x ∷ xs) m x) (get_or (x ∷ xs) n x) l (slice_get-get_or (x ∷ xs) m x l') (slice_get-get_or (x ∷ xs) n x k'))
 
--- .. and the other way
+-- what holds of the pairs of a mapped list holds of what the pairs of the list are mapped to
 pub AllPairs-from_map : {X Y : Type 0} (R : Y → Y → Type 0) (f : X → Y) (xs : List X) → AllPairs R (map f xs) → AllPairs (λ a b. R (f a) (f b)) xs
 AllPairs-from_map R f xs h i j d l k =
     let l' : i < length xs = omega arith in

@@ -47,7 +47,7 @@ slice_get_take (suc m) [] n x e = absurd (none-some x e)
 slice_get_take (suc m) (y ∷ xs) zero x e = (omega arith, e)
 slice_get_take (suc m) (y ∷ xs) (suc n) x e = let h = slice_get_take m xs n x e in (omega arith, h.1)
 
--- .. and the other way, before its end
+-- what the list has at a place before the end of a beginning, the beginning has there
 pub take_slice_get : {X : Type 0} (m : ℕ) (xs : List X) (n : ℕ) (x : X) → n < m → slice_get xs n ≡ Some x → slice_get (take m xs) n ≡ Some x
 take_slice_get zero xs n x l e = absurd (omega arith)
 take_slice_get (suc m) [] n x l e = e

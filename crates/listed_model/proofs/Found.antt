@@ -197,7 +197,7 @@ range_means rows r a b la lb at_a at_b row =
           (k - a, omega arith, get_or-take (b - a) (drop a rows) (k - a) row inside ∙ get_or-drop a rows (k - a) row ∙ ap (λ n. get_or rows n row) place ∙ e),
     )
 
--- .. stand at the places from a up to b
+-- the rows of the property stand at the places from a up to b
 pub range_places : (rows : List PairRow) (r a b : ℕ) → IsStart rows r a → IsEnd rows r b → (k : ℕ) (row : PairRow) → slice_get rows k ≡ Some row → (row.property.0 ≡ r) ↔ ((a ≤ k) × (k < b))
 range_places rows r a b at_a at_b k row g =
     let l = slice_get_within rows k row g in

@@ -46,7 +46,7 @@ found_holds xs x (Err i) up found =
 pub rest_rises : (xs : List ℕ) (s : ℕ) → IsNonDecreasing xs → IsNonDecreasing (drop s xs)
 rest_rises xs s up i j d l m = let long = length-drop s xs in rw (get_or-drop s xs i d, get_or-drop s xs j d) (up (s + i) (s + j) d (omega arith) (omega arith))
 
--- .. as the code has them
+-- what is left of a list from a place on, as the code takes it
 pub to_end : (xs : List ℕ) (s : ℕ) → drop s xs ≡ take (length xs - s) (drop s xs)
 to_end xs s = let long = length-drop s xs in sym (take_all (length xs - s) (drop s xs) (omega arith))
 

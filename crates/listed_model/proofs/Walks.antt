@@ -54,7 +54,7 @@ module _ (rows of_property : List PairRow) (r : ℕ) (given : ArePairRows rows) 
       let within = slice_get_within of_property k row i in
       subst (λ (z : ℕ). Q z y) s (h k row (omega arith) i y u)
 
-  -- .. and has a target
+  -- a row of the property has a target
   pub row_some : (k : ℕ) (row : PairRow) → slice_get of_property k ≡ Some row → (y : ℕ) × (holds row.targets.items y ≡ true)
   row_some k row g =
       let (c, p) = (those row).0 (Contains-from_slice_get of_property k row g) in

@@ -10,7 +10,7 @@ abbrev pub elements_of : List (ℕ × List ℕ) → ℕ → List ℕ
 elements_of [] e = []
 elements_of (c ∷ cs) e = if c.0 == e then c.1 else elements_of cs e
 
--- .. for the property and the source
+-- the targets that are listed for the property and the source
 abbrev pub targets_of : List (ℕ × ℕ × List ℕ) → ℕ → ℕ → List ℕ
 targets_of [] r x = []
 targets_of (p ∷ ps) r x = if (p.0 == r) && (p.1 == x) then p.2 else targets_of ps r x

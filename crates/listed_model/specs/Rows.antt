@@ -55,7 +55,7 @@ pub record IsHolders (rows : List PairRow) (y : ℕ) (places : List ℕ) : Type 
   pub ascending : IsNonDecreasing places
   pub those : (k : ℕ) → (holds places k ≡ true) ↔ ((row : PairRow) × (slice_get rows k ≡ Some row) × (holds row.targets.items y ≡ true))
 
--- .. of each element
+-- the list of each element of the domain has the places of the rows that have it among their targets, ascending
 abbrev pub AreHolders : List PairRow → ℕ → List (List ℕ) → Type 0
 AreHolders rows domain lists = (y : ℕ) → y < domain → IsHolders rows y (list_at lists y)
 

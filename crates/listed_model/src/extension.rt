@@ -20,7 +20,6 @@ use certificate::Listed;
 use number_sets::PackedLists;
 use std::alloc::Global;
 
-// All elements.
 fn all_elements(alloc: Global, domain: u32) -> Result<Vec<u32>, Memory>
     ensures { IfOk result (λ all. all.items ≡ range_with_len 0 domain) }
 {
@@ -31,7 +30,6 @@ fn all_elements(alloc: Global, domain: u32) -> Result<Vec<u32>, Memory>
     Ok(all)
 }
 
-// The elements of the class.
 fn class_elements(alloc: Global, listed: &Listed, class: ExprId) -> Result<Vec<u32>, Memory>
     requires { AreClassRows listed.now.classes.items }
     ensures { IfOk result (λ elements. elements.items ≡ class_members (listed_of listed.now) class.0) }

@@ -72,7 +72,6 @@ pub(crate) fn is_reflexive(rows: &[PairRow], domain: u32, property: PropId) -> b
     true
 }
 
-/// Whether the property leads from the source to the target.
 pub(crate) fn leads_to(rows: &[PairRow], property: PropId, source: u32, target: u32) -> bool
     requires { ArePairRows rows.now }
     ensures { result ≡ holds (targets_of (map pair_row_of rows.now) property.0 source) target }

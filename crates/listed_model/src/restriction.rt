@@ -14,7 +14,6 @@ use certificate::PairRow;
 use number_sets::{PackedLists, turned};
 use std::alloc::Global;
 
-// The targets of each row.
 fn targets_of_each(alloc: Global, rows: &[PairRow]) -> Result<PackedLists, Memory>
     ensures { IfOk result (λ lists. lists ≡ map (λ (row : PairRow2). row.targets.items) rows.now) }
 {

@@ -48,7 +48,6 @@ pub(crate) fn end_of(rows: &[PairRow], property: PropId) -> usize
     )
 }
 
-/// The rows of the property.
 pub(crate) fn rows_of(rows: &[PairRow], property: PropId) -> &[PairRow]
     requires { ArePairRows rows.now }
     ensures { (row : PairRow2) → Contains result.now row ↔ (Contains rows.now row × (row.property.0 ≡ property.0)) }

@@ -18,7 +18,6 @@ pub(crate) fn has_one(set: &EpochSet, numbers: &[u32]) -> bool
     false
 }
 
-/// Puts the numbers into the set.
 pub(crate) fn put_each(set: &mut EpochSet, numbers: &[u32])
     ensures len { length set.new ≡ length set.old }
     ensures members { (x : ℕ) → x < length set.old → has set.new x ≡ (has set.old x || holds numbers.now x) }

@@ -21,7 +21,7 @@ pub(crate) struct Shown {
 
 impl Shown {
     /// Nothing.
-    pub fn new(alloc: Global) -> Shown
+    pub(crate) fn new(alloc: Global) -> Shown
         ensures { (rows : List (ℕ × ℕ × List ℕ)) → AreShown rows result }
     {
         Shown {

@@ -49,7 +49,7 @@ RightGives e (Class c) g = ⊥
 RightGives e (And ds) g = (d : ℕ) × Contains ds d × (g ≡ N1 (Whole e) (Whole d))
 RightGives e (Exists r c) g = g ≡ N3 (Whole e) r c
 
--- .. that occurs left
+-- what an expression gives that occurs left
 abbrev pub LeftGives : ℕ → Node → Form → Type 0
 LeftGives e (Class c) g = ⊥
 LeftGives e (And ds) g = (n : ℕ) × AndGives ds e n g

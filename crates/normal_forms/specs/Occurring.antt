@@ -11,7 +11,7 @@ AtRight (Domain r c) e = e ≡ c
 AtRight (ClassAssertion c a) e = e ≡ c
 AtRight axiom' e = ⊥
 
--- .. at a place where it lies below something
+-- the axiom has the expression at a place where it lies below something
 abbrev pub AtLeft : Axiom → ℕ → Type 0
 AtLeft (SubClass c d) e = e ≡ c
 AtLeft (EquivalentClasses cs) e = Contains cs e

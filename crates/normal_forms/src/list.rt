@@ -39,7 +39,6 @@ impl Model for FormList {
     ghost view = { λ l. forms_of l.forms };
 }
 
-/// A copy of the forms.
 fn copied(alloc: Global, forms: &[StoredForm]) -> Result<Vec<StoredForm>, AllocError>
     ensures { IfOk result (λ v. v.items ≡ forms.now) }
 {

@@ -130,7 +130,6 @@ impl StoredForm {
         }
     }
 
-    /// The form.
     pub fn get(&self) -> Form
         ensures { result ≡ form_of self.now }
     {

@@ -35,7 +35,7 @@ adds_one P Q old now y adds more only new x = (
   ],
 )
 
--- .. none with it
+-- none more, with Q, where P and Q are the same
 pub adds_same : (P Q : code.Context → Type 0) (old now : List code.Context) → AddsThose P old now → ((x : code.Context) → P x → Q x) → ((x : code.Context) → Q x → P x) → AddsThose Q old now
 adds_same P Q old now adds more only x = (
   λ c. elim ((adds x).0 c) [ inl o ↦ inl o | inr p ↦ inr (more x p) ],

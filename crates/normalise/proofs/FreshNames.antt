@@ -176,7 +176,7 @@ left_no_chain e (Class c) p q rs h = h
 left_no_chain e (And ds) p q rs (n, (d, _, _, i)) = let f : N6 p q (Steps rs) ≡ N2 (first_of ds e n) (Whole d) (first_of ds e (n + 1)) = i in cc
 left_no_chain e (Exists r c) p q rs i = let f : N6 p q (Steps rs) ≡ N4 r (Whole c) (Whole e) = i in cc
 
--- .. nor do expressions
+-- expressions name no chain
 pub expressions_name_none : (s t : Made) (nodes : List Node) (right left : List Bool) (k : ℕ) → Adds s t (ExpressedTo nodes right left k) → t.steps ≡ s.steps
 expressions_name_none s t nodes right left k adds = steps_stay s t (ExpressedTo nodes right left k) adds none
   where
@@ -255,7 +255,7 @@ given_begins o asked ds (origins.Expr e, a, b, (node, at, h)) = elim h [
   | inr y ↦ left_begins o asked e.0 node a b ds at y.0 y.1
 ]
 
--- .. and each is the last of one
+-- each beginning of an intersection is one that a given form has last
 pub begins_given : (o : Ontology) (asked : List ℕ) (ds : List ℕ) → BeginsIntersection o asked ds → HasClass (GivenBy o asked) ds
 begins_given o asked ds h =
     let e = h.expression in let n = length ds - 1 in

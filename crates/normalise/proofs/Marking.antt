@@ -85,7 +85,7 @@ each_all {X} xs F k l m = marks_same (EachOf xs F k) (λ e. (x : X) × Contains 
     from : (e : ℕ) → ((x : X) × Contains xs x × F x e) → EachOf xs F k e
     from e (x, c, f) = let p = slice_get-from_Contains xs x c in let w : p.0 < length xs = slice_get_within xs p.0 x p.1 in (p.0, omega arith, (x, p.1, f))
 
--- .. where that is being the member itself
+-- at the end it is the members, where each marks itself
 pub each_member : (xs : List ℕ) (k : ℕ) {a b : List Bool} → length xs ≤ k → Marks a b (EachOf xs (λ x e. e ≡ x) k) → Marks a b (Contains xs)
 each_member xs k l m = marks_same (λ e. (x : ℕ) × Contains xs x × (e ≡ x)) (Contains xs) (λ e h. subst (Contains xs) (sym h.2) h.1) (λ e h. (e, h, refl)) (each_all xs (λ x e. e ≡ x) k l m)
 

@@ -9,7 +9,7 @@ reached_same : (nodes : List Node) (P Q : ℕ → Type 0) → ((e : ℕ) → P e
 reached_same nodes P Q to e (itself p) = itself (to e p)
 reached_same nodes P Q to e (part d node r g p) = part d node (reached_same nodes P Q to d r) g p
 
--- .. where the expression is there, it is enough to have P there
+-- where the expression is there, it is enough that P gives Q of those that are there
 reached_within : (nodes : List Node) (P Q : ℕ → Type 0) → ((e : ℕ) → e < length nodes → P e → Q e) → (e : ℕ) → e < length nodes → Reached nodes P e → Reached nodes Q e
 reached_within nodes P Q to e l (itself p) = itself (to e l p)
 reached_within nodes P Q to e l (part d node r g p) = part d node (reached_within nodes P Q to d (slice_get_within nodes d node g) r) g p

@@ -21,7 +21,7 @@ pub spells_entry : (t : Table) (s : Start) (xs : List ℕ) (d n : ℕ) → slice
 spells_entry t (One c) xs d n g e = subst (λ ys. Spells t n (ys ++ d ∷ [])) (sym e) (two c d g)
 spells_entry t (Longer m) xs d n g h = longer m d xs g h
 
--- .. and back
+-- a list that is spelled is the list of an entry
 pub entry_spells : (t : Table) (n : ℕ) (ys : List ℕ) → Spells t n ys → (s : Start) × ((d : ℕ) × ((zs : List ℕ) × (slice_get t n ≡ Some (s, d)) × Starts t s zs × (ys ≡ zs ++ d ∷ [])))
 entry_spells t n _ (two c d g) = (One c, (d, (c ∷ [], g, refl, refl)))
 entry_spells t n _ (longer m d ds g s) = (Longer m, (d, (ds, g, s, refl)))

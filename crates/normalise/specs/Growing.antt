@@ -32,13 +32,13 @@ pub record IsNormalFor (o : Ontology) (v : Listing) : Type 0 where
   pub right : MarksOccurring AtRight o v.asked v.right
   pub left : MarksOccurring AtLeft o v.asked v.left
 
--- .. so each is a form of the definition, and each of the definition is there
+-- each form that is listed is one of the definition, and each of the definition is listed
 abbrev pub NormalFormsAreListed : Type 0
 NormalFormsAreListed = (o : Ontology) (v : Listing) → IsNormalFor o v →
     ((n : ℕ) → n < length v.entries → (by : Origin) × ((g : Form) × Has v n by g × IsForm o v.asked g))
     × ((g : Form) → IsForm o v.asked g → (n : ℕ) × ((by : Origin) × Has v n by g))
 
--- .. and the forms of properties name what is there
+-- what the listed forms of properties name is there
 abbrev pub PropertyFormsAreNamed : Type 0
 PropertyFormsAreNamed = (o : Ontology) → IsOntology o → (v : Listing) → IsNormalFor o v → All (IsPropertyFormOf (length o.names.properties) (length v.steps)) (map form_in v.entries)
 

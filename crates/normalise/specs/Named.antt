@@ -10,7 +10,7 @@ pub record IsBeginningOf (whole list : List ℕ) : Type 0 where
   pub shorter : length list < length whole
   pub first : list ≡ take (length list) whole
 
--- .. of the operands of an intersection that occurs left
+-- the first operands of an intersection that occurs left, two or more of them and not all
 pub record BeginsIntersection (o : Ontology) (asked : List ℕ) (ds : List ℕ) : Type 0 where
   pub expression : ℕ
   pub operands : List ℕ
@@ -23,7 +23,7 @@ abbrev pub beginnings_below : ℕ → List ℕ → List (List ℕ)
 beginnings_below zero list = []
 beginnings_below (suc k) list = if nat_le 2 k then beginnings_below k list ++ take k list ∷ [] else beginnings_below k list
 
--- .. and fewer than all
+-- the beginnings of two members or more and fewer than all, the shorter ones first
 abbrev pub beginnings_of : List ℕ → List (List ℕ)
 beginnings_of list = beginnings_below (length list) list
 
@@ -32,7 +32,7 @@ abbrev pub chain_beginnings : Axiom → List (List ℕ)
 chain_beginnings (SubProperty rs s) = beginnings_of rs
 chain_beginnings _ = []
 
--- .. of all chains, in the order of the axioms
+-- the beginnings of the chains of all axioms, in the order of the axioms
 abbrev pub all_chain_beginnings : List Axiom → List (List ℕ)
 all_chain_beginnings axioms = flat_map chain_beginnings axioms
 

@@ -39,7 +39,7 @@ pub record Names (old new : Lists) (list : List ℕ) (k : ℕ) : Type 0 where
 abbrev pub NumbersBehind : Lists → Lists → Lists → Type 0
 NumbersBehind old further new = (places : Lists) → AreNumberedByFirstPlace places old → AreNumberedByFirstPlace (places ++ further) new
 
--- .. by the beginnings of a list with at most k members
+-- where the old lists are numbered by places, the new ones are by these and behind them the beginnings of the list with at most k members
 pub record NamesTo (old new : Lists) (list : List ℕ) (k : ℕ) : Type 0 where
   pub some : k < length list → NumbersBehind old (beginnings_below (k + 1) list) new
   pub all : length list ≤ k → NumbersBehind old (beginnings_of list) new
@@ -53,7 +53,7 @@ pub record MoreOperands (s t : Made) (ds : List ℕ) (e k : ℕ) (c : code_class
   pub starts : k + 1 < length ds → StartsClass t.operands c (take (k + 1) ds)
   pub says : SaysClass t.operands c (first_of ds e (k + 1))
 
--- .. and with its form
+-- c is the class of the first k + 1 operands, where they are not all; t is s with what the k-th operand gives, of that origin
 pub record OperandStep (s t : Made) (ds : List ℕ) (e k : ℕ) (origin : Origin) (c : code_class.Class2) : Type 0 where
   pub starts : k + 1 < length ds → StartsClass t.operands c (take (k + 1) ds)
   pub adds : Adds s t (From origin (AndGives ds e k))

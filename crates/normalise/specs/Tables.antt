@@ -33,6 +33,6 @@ abbrev pub start_in : Option ℕ → List ℕ → Start
 start_in None list = One (slice_index list 0)
 start_in (Some n) list = Longer n
 
--- .. and its last member
+-- what a list is longer than, by the number of that or its first member, and its last member
 abbrev pub key_in : Option ℕ → List ℕ → Start × ℕ
 key_in shorter list = (start_in shorter list, slice_index list (length list - 1))

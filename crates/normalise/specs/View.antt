@@ -45,7 +45,7 @@ IsAt entries operands steps n o g = (f : code_form.Form) × (slice_get entries n
 abbrev pub Keeps : {X : Type 0} → List X → List X → Type 0
 Keeps {X} xs ys = (n : ℕ) (x : X) → slice_get xs n ≡ Some x → slice_get ys n ≡ Some x
 
--- .. and nothing stands twice in the second, where nothing does in the first
+-- the second list keeps each element of the first at its place, and nothing stands twice in it, where nothing does in the first
 pub record Lengthens {X : Type 0} (xs ys : List X) : Type 0 where
   pub keeps : Keeps xs ys
   pub distinct : AreDistinct xs → AreDistinct ys

@@ -45,7 +45,6 @@ impl Model for Entries {
     ghost invariant = { λ e. length e.origins.items ≡ length e.forms };
 }
 
-// The origin at that place.
 fn origin_at(origins: &[StoredOrigin], place: usize) -> Option<Origin>
     ensures { result ≡ slice_get (map origin_of origins.now) place }
 {
@@ -64,7 +63,6 @@ impl Entries {
         }
     }
 
-    // The forms.
     pub(crate) fn forms(&self) -> &FormList
         ensures { result.now ≡ map form_in self.now }
     {

@@ -15,7 +15,6 @@ use axioms::{ExprId, Memory, Ontology};
 use std::alloc::Global;
 use std::hash::RandomState;
 
-// Whether the expression is among them.
 fn is_among(asked: &[ExprId], expr: ExprId) -> bool
     ensures { IsTrue result ↔ Contains (expr_numbers asked.now) expr.0 }
 {

@@ -105,7 +105,6 @@ impl Made {
         Ok(())
     }
 
-    // Adds a form.
     pub(crate) fn add(&mut self, form: Form, origin: Origin) -> Result<(), Memory>
         ensures forms { OnOk result ((g : Formed) → Says self.old.operands self.old.steps form g → Adds self.old self.new (IsOne origin g)) }
         ensures steps { OnOk result (self.new.steps ≡ self.old.steps) }

@@ -9,7 +9,6 @@ ghost use Rattle.normalise.specs.Marks.{Closes, ClosesAt, Marks};
 
 use axioms::{Axiom, Expr, ExprId, Ontology};
 
-// Marks one expression.
 pub(crate) fn mark(marks: &mut [bool], id: ExprId)
     ensures { Marks marks.old marks.new (λ e. e ≡ id.0) }
 {
@@ -19,7 +18,6 @@ pub(crate) fn mark(marks: &mut [bool], id: ExprId)
     }
 }
 
-// Marks each of a list.
 pub(crate) fn mark_all(marks: &mut [bool], ids: &[ExprId])
     ensures { Marks marks.old marks.new (Contains (expr_numbers ids.now)) }
 {
@@ -28,7 +26,6 @@ pub(crate) fn mark_all(marks: &mut [bool], ids: &[ExprId])
     }
 }
 
-// Marks the parts of an expression.
 fn mark_parts(marks: &mut [bool], expr: &Expr)
     ensures { Marks marks.old marks.new (IsPart (node_of expr.now)) }
 {

@@ -7,7 +7,6 @@ use axioms::{ExprId, PropId};
 pub trait Member: Copy + Drop {
     ghost number: { Self → ℕ };
 
-    /// Its number.
     fn number(self) -> u32
         ensures { result ≡ number self };
 }

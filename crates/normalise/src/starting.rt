@@ -22,7 +22,6 @@ fn push_classes(ontology: &Ontology, roots: &mut Vec<Context>) -> Result<(), Mem
     Ok(())
 }
 
-// Adds each individual.
 fn push_individuals(ontology: &Ontology, roots: &mut Vec<Context>) -> Result<(), Memory>
     ensures { OnOk result (AddsThose (IsIndividual ontology.now) roots.old.items roots.new.items) }
 {

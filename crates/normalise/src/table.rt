@@ -16,7 +16,7 @@ use std::marker::Model;
 /// Lists of two or more members, numbered from 0, no two of them equal. Each is kept as a shorter one and a member more, so that all
 /// beginnings of a list take no more room than the list.
 #[derive(Drop)]
-pub struct Beginnings<T: Member> {
+pub(crate) struct Beginnings<T: Member> {
     table: NumberedSet<(Start, u32)>,
     // where each stands among the members
     spans: Vec<Span>,
@@ -59,7 +59,7 @@ fn span_of(spans: &[Span], shorter: Option<u32>) -> Option<Span>
 
 impl<T: Member> Beginnings<T> {
     /// No lists. They are found by hashes that the state makes.
-    pub fn new(alloc: Global, state: RandomState) -> Beginnings<T>
+    pub(crate) fn new(alloc: Global, state: RandomState) -> Beginnings<T>
         ensures { result ≡ [] }
     {
         Beginnings {
@@ -70,7 +70,7 @@ impl<T: Member> Beginnings<T> {
     }
 
     /// How many lists there are, fewer than 2^32.
-    pub fn len(&self) -> usize
+    pub(crate) fn len(&self) -> usize
         ensures count { result ≡ length self.now }
         ensures small { result < 2 ^ 32 }
     {
@@ -78,7 +78,7 @@ impl<T: Member> Beginnings<T> {
     }
 
     /// The list of that number.
-    pub fn get(&self, number: usize) -> Option<&[T]>
+    pub(crate) fn get(&self, number: usize) -> Option<&[T]>
         ensures { option_map (λ s. map T.number s.now) result ≡ slice_get self.now number }
     {
         let span = self.spans.get(number)?;
@@ -91,7 +91,7 @@ impl<T: Member> Beginnings<T> {
     /// # Errors
     ///
     /// `Memory` where memory was refused, or there are 2^32 - 1 lists. Then nothing changes.
-    pub fn longer(&mut self, shorter: Option<u32>, list: &[T]) -> Result<u32, Memory>
+    pub(crate) fn longer(&mut self, shorter: Option<u32>, list: &[T]) -> Result<u32, Memory>
         requires many { 2 ≤ length list.now }
         requires shorter { IsShorter self.old shorter (map T.number list.now) }
         ensures ok { IfOk result (λ n. Numbers self.old (map T.number list.now) self.new n) }
@@ -117,7 +117,7 @@ impl<T: Member> Beginnings<T> {
     /// # Errors
     ///
     /// `Memory` where memory was refused.
-    pub fn copy(&self, alloc: Global) -> Result<Beginnings<T>, Memory>
+    pub(crate) fn copy(&self, alloc: Global) -> Result<Beginnings<T>, Memory>
         ensures { IfOk result (λ b. b ≡ self.now) }
     {
         let table = self.table.copy()?;

@@ -103,7 +103,6 @@ fn pop(numbers: &mut Numbers) -> Option<u32>
     Some(last)
 }
 
-/// Writes another number at a place.
 fn write(numbers: &mut [u32], place: usize, number: u32)
     requires { place < length numbers.old }
     ensures { numbers.new ≡ slice_set numbers.old place number }

@@ -123,7 +123,6 @@ fn intersect_fours(a: &mut [u64], b: &[u64]) -> usize
     i
 }
 
-/// Whether the four words are 0.
 fn are_zero(words: u64x4) -> bool
     ensures { IsTrue result ↔ Each1 (λ w. w ≡ 0) words }
 {

@@ -32,7 +32,7 @@ parts_of_intersection (c ∷ d ∷ ds) many = parts_are c d ds
 pub same_parts : (cs ds : List Class) → 2 ≤ length cs → 2 ≤ length ds → intersection cs ≡ intersection ds → cs ≡ ds
 same_parts cs ds many others e = sym (parts_of_intersection cs many) ∙ ap parts e ∙ parts_of_intersection ds others
 
--- .. and no name, and no thing with a successor
+-- an intersection is no name, and no thing with a successor
 pub intersection_is_not : (cs : List Class) → 2 ≤ length cs → ((iri : Iri) → intersection cs ≡ Named iri → ⊥) × ((r : Iri) (d : Class) → intersection cs ≡ SomeValues r d → ⊥)
 intersection_is_not [] many = absurd (omega arith)
 intersection_is_not (c ∷ []) many = absurd (omega arith)

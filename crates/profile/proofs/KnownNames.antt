@@ -107,7 +107,7 @@ known_both names es fs rs ss h k = record {
   properties_known = among_both names.properties rs ss h.properties_known k.properties_known;
 }
 
--- .. with a whole that is no name
+-- where the names in expressions are there, so are those with one more expression that is no name
 known_with : (names : Names) (es : List Class) (rs : List Iri) (whole : Class) → class_name whole ≡ None → AreKnown names es rs → AreKnown names (es ++ whole ∷ []) rs
 known_with names es rs whole none h =
     let is : filter_map class_name (es ++ whole ∷ []) ≡ filter_map class_name es =

@@ -225,7 +225,7 @@ module _ (o : Ontology) (whole : IsOntology o) where
   class_added iri classes nodes c e whole' (inr (apart, last, longer)) (inr (apart', end, more)) =
       class_new iri classes nodes c e whole' apart last longer end more
 
--- ---- .. by what a declaration says
+-- ---- additions, by what a declaration says
 
 same_few : (o p : Ontology) → p.names ≡ o.names → HasFewNames o → HasFewNames p
 same_few o p same few = record {
@@ -286,7 +286,7 @@ axiom_stated o axiom' whole =
       few_names = same_few o (with_axiom o axiom') refl;
     }
 
--- .. where it was added
+-- where a node that is no name was added, its expression has the number that is told
 pub expr_added : (o p : Ontology) (node : Node) (result : Result ExprId Memory) → IsOntology o → IsOntology p → class_name (tree_of o.names (trees o) node) ≡ None →
     IfOk result (λ e. Numbers o.nodes node p.nodes e.0) → p ≡ record o { nodes = p.nodes } → IfOk result (λ e. HasAdded o p e.0 (tree_of o.names (trees o) node))
 expr_added o p node (Ok e) whole whole' none numbers others = node_stated o p node e.0 whole whole' numbers others _ refl none

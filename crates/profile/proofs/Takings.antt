@@ -48,7 +48,7 @@ statements_push version [] t = sym (append-nil (statement_of version t))
 statements_push version (u ∷ us) t =
     append_assoc (statement_of version u) (statements version (trees_from us)) (statement_of version t) ∙ ap (λ (ss : List Statement). statement_of version u ++ ss) (statements_push version us t)
 
--- .. by no statement
+-- where nothing is stated, the ontology has grown by no statement
 pub nothing_stated : (s : Option Statement') → ((x : Statement') → s ≡ Some x → ⊥) → (o : Ontology) → IsOntology o → AreStated o (meaning (option_map stated s)) false o
 nothing_stated None other o whole = none_read o whole
 nothing_stated (Some x) other o whole = absurd (other x refl)
@@ -166,7 +166,7 @@ one_behind ts n t old mid new within is behind more start before h =
 pub all_behind : (ts : List parsed.Tree) (n : ℕ) (old new : Taken) → length ts ≤ n → AreTakenBehind (map tree_of (take n ts)) old new → AreTakenBehind (map tree_of ts) old new
 all_behind ts n old new all behind = subst (λ (us : List parsed.Tree). AreTakenBehind (map tree_of us) old new) (take_all n ts all) behind
 
--- .. from the start
+-- what is answered to trees that were taken from the start
 module _ (version : Version) (ts us : List parsed.Tree) (same : ts ≡ us) (old new : Taken) (behind : AreTakenBehind (map tree_of ts) old new) where
   behind_all : AreTakenBehind (map tree_of us) old new
   behind_all = subst (λ (xs : List parsed.Tree). AreTakenBehind (map tree_of xs) old new) same behind

@@ -75,7 +75,7 @@ ClassRead (Ok e) c old new = ReadsClass c old new e.0
 ClassRead (Err TooManyNames) c old new = Overflows (parts c) (properties_in c) [] old
 ClassRead (Err Memory) c old new = Unit {0}
 
--- .. class expressions, in their order
+-- the class expressions are added with their parts, in their order, and each has the number beside it
 pub record ReadsClasses (cs : List ClassExpression) (old new : Ontology) (numbers : List ℕ) : Type 0 where
   pub adds : Adds (flat_map parts cs) (flat_map properties_in cs) [] [] old new
   pub at : AreNumbers (trees new) numbers cs
@@ -94,7 +94,7 @@ PropertyRead (Ok p) r old new = ReadsProperty r old new p.0
 PropertyRead (Err TooManyNames) r old new = Overflows [] (r ∷ []) [] old
 PropertyRead (Err Memory) r old new = Unit {0}
 
--- .. properties, in their order
+-- the properties are added, in their order, and each has the number beside it
 pub record ReadsProperties (rs : List Iri) (old new : Ontology) (numbers : List ℕ) : Type 0 where
   pub adds : Adds [] rs [] [] old new
   pub at : AreNumbers new.names.properties numbers rs

@@ -12,7 +12,7 @@ use Rattle.profile.specs.Faults.{HaveFaults, ReadAsNone, ReadsKnown, Refuses, Re
 abbrev pub BytesReadAsOneOntology : Type 0
 BytesReadAsOneOntology = (bytes : List ℕ) (o p : Ontology) → ReadsAs bytes o → ReadsAs bytes p → o ≡ p
 
--- .. and have at most one list of faults
+-- bytes have at most one list of faults
 abbrev pub BytesHaveOneFaultList : Type 0
 BytesHaveOneFaultList = (bytes : List ℕ) (xs ys : List Fault) → HaveFaults bytes xs → HaveFaults bytes ys → faults_of xs ≡ faults_of ys
 
@@ -20,7 +20,7 @@ BytesHaveOneFaultList = (bytes : List ℕ) (xs ys : List Fault) → HaveFaults b
 abbrev pub RefusedBytesReadAsNone : Type 0
 RefusedBytesReadAsNone = (bytes : List ℕ) (fault : DocumentFault) → Refuses fault bytes → ¬ (fault ≡ Memory) → ReadAsNone bytes
 
--- .. also where their source allows so many, unless it failed
+-- refused bytes of a source, of which so many are allowed, read as no ontology, unless memory was refused or the source failed
 abbrev pub RefusedSourcesReadAsNone : Type 0
 RefusedSourcesReadAsNone =
     (bytes : List ℕ) (most : ℕ) (fault : DocumentFault) → RefusesKnown (Some bytes) most fault → ¬ (fault ≡ Memory) → ¬ (fault ≡ Io) →

@@ -22,7 +22,6 @@ pub enum Refusal {
     Memory,
 }
 
-/// Takes the trees.
 pub(crate) fn take_all(reader: &mut OntologyReader, trees: &[Tree<'_>]) -> Result<(), Memory>
     ensures { OnOk result (AreTakenBehind (map tree_of trees.now) reader.old reader.new) }
 {

@@ -41,7 +41,6 @@ fn iri_of<'a>(tree: &Tree<'a>) -> Iri<'a>
     }
 }
 
-/// The property that the tree is.
 #[inline(always)]
 pub(crate) fn property(builder: &mut NameBuilder, tree: &Tree<'_>) -> Result<PropId, BuildFault>
     ensures { PropertyRead result (tree_iri (tree_of tree.now)) builder.old builder.new }
@@ -49,7 +48,6 @@ pub(crate) fn property(builder: &mut NameBuilder, tree: &Tree<'_>) -> Result<Pro
     names::property(builder, &iri_of(tree))
 }
 
-/// The individual that the tree is.
 #[inline(always)]
 pub(crate) fn individual(builder: &mut NameBuilder, tree: &Tree<'_>) -> Result<IndId, BuildFault>
     ensures { IndividualRead result (tree_iri (tree_of tree.now)) builder.old builder.new }

@@ -55,7 +55,7 @@ fn answer_to(
 }
 
 /// The ontology that a text reads as, or the faults of its trees. None where it is no document, and where memory was refused.
-pub fn streamed(
+pub(crate) fn streamed(
     alloc: Global,
     text: &str,
     state: RandomState,

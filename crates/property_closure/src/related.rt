@@ -22,7 +22,6 @@ pub(crate) struct Related {
     pub chains: Chains,
 }
 
-/// The forms of properties among these.
 pub(crate) fn property_forms_of(alloc: Global, forms: &[Form]) -> Result<Vec<Form>, Memory>
     ensures { IfOk result (λ v. v.items ≡ property_forms forms.now) }
 {

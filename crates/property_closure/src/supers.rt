@@ -24,7 +24,6 @@ fn told_supers(alloc: Global, properties: usize, forms: &[Form]) -> Result<Packe
     Ok(told.packed(alloc)?)
 }
 
-/// The properties of these numbers.
 fn as_properties(alloc: Global, numbers: &[u32]) -> Result<Vec<PropId2>, Memory>
     ensures { IfOk result (λ v. v.items ≡ map as_property numbers.now) }
 {

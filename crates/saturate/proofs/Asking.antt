@@ -155,7 +155,7 @@ begins_above all (N7 _) x y p r low begins = absurd begins
 begins_above all (N8 _ _) x y p r low begins = absurd begins
 begins_above all (N9 _ _ _) x y p r low begins = absurd begins
 
--- .. and none else does
+-- a form that asks for an edge begins with a property at or above that of the edge
 pub asks_above : (all : List Form) (form : Form) (x y : Context) (p : PropId2) → Asks all form (Edge x p y) → (r : PropId2) × IsAtOrBelow all p r × BeginsWith form r
 asks_above all (N5 s t) x y p h = (property.Property s, h, refl)
 asks_above all (N6 s t u) x y p h = (s, h, refl)

@@ -25,7 +25,7 @@ use Rattle.saturate.proofs.States.{finished, grown}
 pub seen_state : {k : Problem} {d : Derived} {q : Queued} → IsUnderWay k d q → AreDistinct q.served → IsState (record { problem = k; facts = d.facts; births = d.births; served = q.served })
 seen_state s once = record { born = s.derived; within = s.within; once = once; complete = s.complete }
 
--- .. and one whose facts are the closure, whichever were served
+-- a state whose facts are the closure, whichever were served
 pub closed_state : (s : Seen) → AreBorn s → IsClosure s.problem s.facts → ((n : ℕ) → Contains s.served n → n < length s.facts) → AreDistinct s.served → IsState s
 closed_state s born closure within once = record {
   born = born;
@@ -151,7 +151,7 @@ no_steps s = record { steps = 0; are = AreSteps.none }
 pub one_more : {s t u : Seen} → IsRun s t → IsStep t u → IsRun s u
 one_more {t = t} run step = record { steps = suc run.steps; are = AreSteps.more t run.are step }
 
--- .. and one that was given up before its first step, or in the step behind its last
+-- a run that was given up before its first step, or in the step behind its last
 pub not_begun : (s : Seen) → IsState s → IsRunUntil s s
 not_begun s state = record { last = s; run = no_steps s; left = record { extends = extends_same s; served = refl; state = state } }
 

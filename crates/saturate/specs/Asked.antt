@@ -29,6 +29,6 @@ BeginsWith _ p = ⊥
 abbrev pub IsAsked : List Form → List Form → Fact → Type 0
 IsAsked forms added f = (form : Form) × Contains added form × Asks forms form f
 
--- .. for the fact of that number
+-- one of the added forms asks for the fact of that number, by all forms
 abbrev pub IsAskedAt : List Form → List Form → List Fact → ℕ → Type 0
 IsAskedAt forms added facts n = (f : Fact) × (slice_get facts n ≡ Some f) × IsAsked forms added f

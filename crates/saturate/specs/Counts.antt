@@ -23,6 +23,6 @@ pub record HasNames (c : Counts) (form : Form) : Type 0 where
   pub named : IsPropertyFormOf c.properties c.partials form
   pub edges : (p : PropId2) → PutsOnEdges form p → HasProperty c p
 
--- .. for the first n forms
+-- what each of the first k forms says of properties is of those that are there, and so is what it puts on edges
 abbrev pub HasNamesBelow : Counts → List Form → ℕ → Type 0
 HasNamesBelow c forms k = (n : ℕ) → n < k → (form : Form) → slice_get forms n ≡ Some form → HasNames c form

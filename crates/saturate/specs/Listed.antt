@@ -32,6 +32,6 @@ pub record ListsFacts (k : Problem) (d : Derived) (whole most : List ℕ) (index
   pub seconds : ListsSeconds k d whole index.seconds
   pub fillers : ListsFillers k d.facts whole index.fillers
 
--- .. the served facts, and no others but the one in hand
+-- the index lists the served facts, and none but those and the one in hand
 abbrev pub ListsServed : Problem → Derived → Queued → Index → Type 0
 ListsServed k d q index = ListsFacts k d q.served (q.served ++ option_list q.hand) index

@@ -81,7 +81,7 @@ pub record IsServedOnce (q : Queued) : Type 0 where
 abbrev pub IsWithoutLast : ℕ → List ℕ → List ℕ → Type 0
 IsWithoutLast n list rest = (list ≡ rest ++ n ∷ []) ⊎ ((rest ≡ list) × (IsLast list n → ⊥))
 
--- .. the number in hand, if there is one
+-- the list without the number in hand, if there is one and it is the last of the list
 abbrev pub IsWithoutHand : Option ℕ → List ℕ → List ℕ → Type 0
 IsWithoutHand None list rest = rest ≡ list
 IsWithoutHand (Some n) list rest = IsWithoutLast n list rest

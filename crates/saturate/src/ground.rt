@@ -56,7 +56,7 @@ fn closed(alloc: Global, forms: &FormList) -> Result<PropertyClosure, Memory>
 
 impl Ground {
     /// No forms and no contexts.
-    pub fn empty(alloc: Global) -> Result<Ground, Memory>
+    pub(crate) fn empty(alloc: Global) -> Result<Ground, Memory>
         ensures forms { IfOk result (λ g. g.forms ≡ []) }
         ensures roots { IfOk result (λ g. g.roots ≡ []) }
     {
@@ -66,7 +66,7 @@ impl Ground {
     }
 
     /// The same forms and contexts, and then those that are added.
-    pub fn grown(
+    pub(crate) fn grown(
         &self,
         alloc: Global,
         forms: &FormList,
@@ -85,14 +85,14 @@ impl Ground {
     }
 
     /// The forms and contexts.
-    pub fn problem(&self) -> &IndexedProblem
+    pub(crate) fn problem(&self) -> &IndexedProblem
         ensures { result.now ≡ self.now }
     {
         &self.problem
     }
 
     /// What the forms say of properties.
-    pub fn closure(&self) -> &PropertyClosure
+    pub(crate) fn closure(&self) -> &PropertyClosure
         ensures { IsClosureOf self.now.forms result.now }
     {
         &self.closure

@@ -36,15 +36,14 @@ impl Model for Kept {
 }
 
 impl Kept {
-    /// The closure of the properties.
-    pub fn closure(&self) -> &PropertyClosure
+    pub(crate) fn closure(&self) -> &PropertyClosure
         ensures { IsClosureOf self.now.problem.forms result.now }
     {
         self.ground.closure()
     }
 
     /// The facts, in order of birth.
-    pub fn facts(&self) -> &[StoredFact]
+    pub(crate) fn facts(&self) -> &[StoredFact]
         ensures { result.now ≡ self.now.facts }
     {
         &self.facts
@@ -59,7 +58,7 @@ impl Kept {
     }
 
     /// What gave the fact of that number, if there is one: a condition, older facts and a form.
-    pub fn born(&self, fact: FactId) -> Option<&Birth>
+    pub(crate) fn born(&self, fact: FactId) -> Option<&Birth>
         ensures reason { IfSome result (λ b. slice_get self.now.births fact.0 ≡ Some (reason b.now)) }
         ensures gives { IfSome result (λ b. (f : Fact2) → slice_get self.now.facts fact.0 ≡ Some f → IsBirth self.now.problem (take fact.0 self.now.facts) f (reason b.now)) }
         ensures none { IfNone result (length self.now.facts ≤ fact.0) }
@@ -73,7 +72,7 @@ impl Kept {
     }
 
     /// How many facts are served: all.
-    pub fn served(&self) -> usize
+    pub(crate) fn served(&self) -> usize
         ensures value { result ≡ length self.now.served }
         ensures all { result ≡ length self.now.facts }
     {
@@ -81,7 +80,7 @@ impl Kept {
     }
 
     /// It is a state. The facts are the closure, and all are served.
-    pub fn well_formed(&self)
+    pub(crate) fn well_formed(&self)
         ensures state { IsState self.now }
         ensures closure { IsClosure self.now.problem self.now.facts }
         ensures served { length self.now.served ≡ length self.now.facts }
@@ -94,7 +93,7 @@ impl Kept {
     /// # Errors
     ///
     /// `Limit` where there are more than so many facts.
-    pub fn run(&self, max_facts: u32) -> Result<(), Stop>
+    pub(crate) fn run(&self, max_facts: u32) -> Result<(), Stop>
         ensures state { IsState self.now }
         ensures done { IsClosure self.now.problem self.now.facts }
         ensures served { length self.now.served ≡ length self.now.facts }

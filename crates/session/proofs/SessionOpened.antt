@@ -22,12 +22,12 @@ pub on_ok : {A E : Type 0} (r : Result A E) (X : Type 0) → X → OnOk r X
 on_ok (Ok a) X x = x
 on_ok (Err e) X x = tt
 
--- .. and is not told as a failure of its source
+-- a session that is not made for want of memory is not told as a failure of its source
 pub not_io : (r : Result Opened DocumentFault) → IfErr r (λ e. e ≡ Memory) → IsErrOf r Io → ⊥
 not_io (Ok s) is told = cc
 not_io (Err e) is told = let same : e ≡ Memory = is in cc
 
--- .. nor as too large
+-- a session that is not made for want of memory is not told as a document that is too large
 pub not_too_large : (r : Result Opened DocumentFault) → IfErr r (λ e. e ≡ Memory) → IsErrOf r TooLarge → ⊥
 not_too_large (Ok s) is told = cc
 not_too_large (Err e) is told = let same : e ≡ Memory = is in cc

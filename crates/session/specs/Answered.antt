@@ -45,7 +45,8 @@ pub record ListsMembers (o : Ontology) (class : Iri) (text : List ℕ) : Type 0 
   pub those : AreThose o.names.individuals (λ name. BelongsTo o name class) names
   pub lines : text ≡ name_lines names
 
--- .. of the ontology that the document reads as, whose closure has at most so many facts
+-- the document reads as an ontology whose closure has at most so many facts and which has the class, and the lines of the text are of
+-- exactly the individuals that belong to it in every finite interpretation of the axioms, each once and in byte order
 abbrev pub AnswersInstances : (most_bytes most_facts : ℕ) → (document : Option (List ℕ)) → (class : Iri) → (text : List ℕ) → Type 0
 AnswersInstances bytes facts document class text = (o : Ontology) × IsReadAs bytes document o × HasNoMoreFactsThan o facts × ListsMembers o class text
 
@@ -57,13 +58,13 @@ lines_text o (Yes lines) = codes "yes\n" ++ proof_text o (lines_of lines.items)
 lines_text o (No i x) = refutation_text o.names i x
 lines_text o (Contradictory lines) = codes "contradictory\n" ++ proof_text o (lines_of lines.items)
 
--- .. and as a graph
+-- an explanation as a graph: that of the derivation, or of the interpretation
 abbrev pub graph_text : Ontology → Explanation → List ℕ
 graph_text o (Yes lines) = proof_graph o (lines_of lines.items)
 graph_text o (No i x) = refutation_graph o.names i x
 graph_text o (Contradictory lines) = proof_graph o (lines_of lines.items)
 
--- .. in the form that is asked for
+-- an explanation in the form that is asked for: as lines, or as a graph
 abbrev pub shown_text : Ontology → Form → Explanation → List ℕ
 shown_text o Lines explanation = lines_text o explanation
 shown_text o Graph explanation = graph_text o explanation
@@ -76,7 +77,8 @@ pub record ShowsWhy (o : Ontology) (asked : Asked) (class : Iri) (form : Form) (
   pub explains : Explains o asked class explanation
   pub shown : text ≡ shown_text o form explanation
 
--- .. of the ontology that the document reads as, whose closure has at most so many facts
+-- the document reads as an ontology whose closure has at most so many facts and which has both names, and the text is that of an
+-- explanation that shows whether the subject is in the class
 abbrev pub AnswersWhy : (most_bytes most_facts : ℕ) → (document : Option (List ℕ)) → Asked → (class : Iri) → Form → (text : List ℕ) → Type 0
 AnswersWhy bytes facts document asked class form text = (o : Ontology) × IsReadAs bytes document o × HasNoMoreFactsThan o facts × ShowsWhy o asked class form text
 

@@ -81,7 +81,7 @@ IsUnmade s writing.Unfinished = ¬ IsFinished s.saturation
 IsUnmade s writing.Memory = IsFinished s.saturation
 IsUnmade s (writing.Io n) = ⊥
 
--- .. and what was written: nothing, or the texts until the sink that is told, by its number from 1
+-- what a fault says of the session and of what was written: nothing, or the texts until the sink that is told, by its number from 1
 abbrev pub IsTextFault : Opened → (old new : Sinks) → TextFault → Type 0
 IsTextFault s old new (writing.Io n) = (1 ≤ n) × (n ≤ 3) × ((summary : Summary) × (texts : Texts) × IsMade s summary texts × AreWrittenUntil n old new texts)
 IsTextFault s old new fault = IsUnmade s fault × (new ≡ old)
@@ -91,6 +91,6 @@ abbrev pub IsWritten : Opened → (old new : Sinks) → Result Summary TextFault
 IsWritten s old new (Ok summary) = (texts : Texts) × IsMade s summary texts × AreWritten old new texts
 IsWritten s old new (Err fault) = IsTextFault s old new fault
 
--- .. of the three sinks before and after a call
+-- what an answer says of the session, and of the three sinks before and after a call
 abbrev pub Writes : {T I C : Type 0} → Ghosts T → Ghosts I → Ghosts C → Opened → (old new : T × I × C) → Result Summary TextFault → Type 0
 Writes T I C s old new answer = IsWritten s (all_seen T I C old) (all_seen T I C new) answer

@@ -13,7 +13,7 @@ use Rattle.profile.specs.declared.fault.DocumentFault.TheVariants.{Io}
 abbrev pub Device : Type 0
 Device = Option (List ℕ) × ℕ
 
--- .. as the words of its trait tell it
+-- what the words of its trait tell of a sink: the bytes that it has taken, and how many of its calls have failed
 abbrev pub seen : {S : Type 0} → sinks.Ghosts S → S → Device
 seen S sink = (S.taken sink, S.failures sink)
 
@@ -33,7 +33,7 @@ pub record SourceState : Type 0 where
   pub most : ℕ
   pub failures : ℕ
 
--- .. as the words of its trait tell it
+-- what the words of its trait tell of a source: the bytes that it has left, how many it can still give, and its failed calls
 abbrev pub source_state : {S : Type 0} → sources.Ghosts S → S → SourceState
 source_state S source = record { left = S.left source; most = S.most source; failures = S.failures source }
 
@@ -42,7 +42,7 @@ pub record IsReadOn (old new : SourceState) : Type 0 where
   pub lost : LosesFront old.left new.left old.most new.most
   pub unfailed : new.failures ≡ old.failures
 
--- .. and all of them
+-- the source is read on, and then it is at its end
 pub record IsReadToItsEnd (old new : SourceState) : Type 0 where
   pub on : IsReadOn old new
   pub end : IsAtEnd new.left

@@ -10,7 +10,7 @@ pub record Sinks : Type 0 where
   pub instances : Device
   pub certificate : Device
 
--- .. as the words of their traits tell it
+-- what the words of their traits tell of the three sinks
 abbrev pub all_seen : {T I C : Type 0} → Ghosts T → Ghosts I → Ghosts C → T × I × C → Sinks
 all_seen T I C three = record { taxonomy = seen T three.0; instances = seen I three.1; certificate = seen C three.2 }
 
@@ -35,7 +35,7 @@ AreWrittenUntil (suc (suc (suc zero))) old new texts =
     Takes old.taxonomy new.taxonomy texts.taxonomy × Takes old.instances new.instances texts.instances × FailsIn old.certificate new.certificate texts.certificate
 AreWrittenUntil n old new texts = ⊥
 
--- .. all of them, or until the sink of the number that is told
+-- the texts are written: all of them, or until the sink of the number that is told
 abbrev pub AreWrittenAsFar : {X : Type 0} → Result X ℕ → (old new : Sinks) → Texts → Type 0
 AreWrittenAsFar (Ok x) old new texts = AreWritten old new texts
 AreWrittenAsFar (Err n) old new texts = AreWrittenUntil n old new texts

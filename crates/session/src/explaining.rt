@@ -8,7 +8,6 @@ use crate::session::Session;
 use answers::{Asked, Explanation, explained};
 use axioms::{Kind, Ontology};
 
-/// The name of what is asked about.
 fn name_of<'n>(asked: Asked<'n>) -> &'n str
     ensures { result.now ≡ (subject_name asked.entry).1 }
 {

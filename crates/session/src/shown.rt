@@ -30,7 +30,6 @@ fn answer_and_lines(
     Ok(out)
 }
 
-/// The explanation as lines.
 fn as_lines(
     alloc: Global,
     ontology: &Ontology,
@@ -50,7 +49,6 @@ fn as_lines(
     }
 }
 
-/// The explanation as a graph.
 fn as_graph(
     alloc: Global,
     ontology: &Ontology,

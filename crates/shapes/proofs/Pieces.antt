@@ -13,7 +13,7 @@ pub begins_behind : (base rest local : List ℕ) → starts_with nat_eq (base ++
 begins_behind [] rest local = refl
 begins_behind (b ∷ bs) rest local = rw (same b) (begins_behind bs rest local)
 
--- .. and one whose front is not in the first piece
+-- where a front does not begin with the first piece of a text, the text begins with the front where that piece does
 pub begins_before : (base front local : List ℕ) → ((rest : List ℕ) → front ≡ base ++ rest → ⊥) → starts_with nat_eq (base ++ local) front ≡ starts_with nat_eq base front
 begins_before [] front local h = absurd (h front refl)
 begins_before (b ∷ bs) [] local h = refl
@@ -46,7 +46,7 @@ bytes_eq-sym (x ∷ xs) (y ∷ ys) = ap₂ (λ s t. s && t) (nat_eq-sym x y) (by
 pub same_behind : (front rest more local : List ℕ) → bytes_eq local (rest ++ more) ≡ bytes_eq ((front ++ rest) ++ more) (front ++ local)
 same_behind front rest more local = bytes_eq-sym local (rest ++ more) ∙ sym (ap (λ t. bytes_eq t (front ++ local)) (append_assoc front rest more) ∙ behind_same front (rest ++ more) local)
 
--- .. and where neither is that of the other
+-- where neither of the first pieces of two texts is the beginning of the other, the texts are not equal
 pub other_before : (a b x y : List ℕ) → ((rest : List ℕ) → a ≡ b ++ rest → ⊥) → ((rest : List ℕ) → b ≡ a ++ rest → ⊥) → bytes_eq (a ++ x) (b ++ y) ≡ false
 other_before [] b x y h k = absurd (k b refl)
 other_before (a ∷ as') [] x y h k = absurd (h (a ∷ as') refl)

@@ -110,7 +110,7 @@ annotation_faults version names Empty = []
 annotation_faults version names (Then first rest) =
     if is_annotation first then faults_among version names Annotation first ++ annotation_faults version names rest else []
 
--- .. if there may be annotations where such a tree is expected
+-- the faults of the annotations in front, if there may be annotations where such a tree is expected
 abbrev pub front_faults : Version → Option Names → Expected → Trees → List Fault
 front_faults version names expected trees = if may_be_annotated expected then annotation_faults version names trees else []
 

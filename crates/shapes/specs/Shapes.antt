@@ -97,7 +97,7 @@ Shape = Form × List ℕ × Operands × Version
 abbrev pub shape : Form → Shape
 shape form = (form, (row form).0, (row form).1, since form)
 
--- .. of the forms that may stand where such a tree is expected
+-- the forms that may stand where such a tree is expected, each with its keyword and operands, and its first version
 abbrev pub shapes_of : Expected → List Shape
 shapes_of expected = map shape (forms_of expected)
 
@@ -106,7 +106,7 @@ abbrev pub shape_in : Version → List Shape → List ℕ → Option Shape
 shape_in version [] keyword = None
 shape_in version (shape ∷ shapes) keyword = if takes version shape.3 && bytes_eq shape.1 keyword then Some shape else shape_in version shapes keyword
 
--- .. where such a tree is expected
+-- the row of that keyword where such a tree is expected, if the version has one
 abbrev pub shape_of : Version → Expected → List ℕ → Option Shape
 shape_of version expected keyword = shape_in version (shapes_of expected) keyword
 

@@ -43,7 +43,7 @@ abbrev pub statement_in : Version → Tree → Option Stated
 statement_in version (trees.Form at keyword operands) = axiom_by version (form_of version Axiom keyword) (behind_annotations operands)
 statement_in version _ = None
 
--- .. in words of its names and class expressions
+-- what operands state in words of their names and class expressions, where the form says something by itself
 abbrev pub said : Says → Trees → List numbering.Statement
 said None operands = []
 said (Some says) operands = says operands ∷ []

@@ -8,9 +8,8 @@ ghost use Rattle.shapes.specs.SameTree.{same_tree, same_trees};
 use crate::names::same_iri;
 use fs_parser::Tree;
 
-/// Whether two trees are equal.
 #[cycle(equality)]
-pub fn same_tree(a: &Tree<'_>, b: &Tree<'_>) -> bool
+pub(crate) fn same_tree(a: &Tree<'_>, b: &Tree<'_>) -> bool
     ensures { result ≡ same_tree (tree_of a.now) (tree_of b.now) }
 {
     match (a, b) {
@@ -64,7 +63,7 @@ fn same_trees(a: &[Tree<'_>], b: &[Tree<'_>]) -> bool
 }
 
 /// Whether the tree equals one of these.
-pub fn is_among(tree: &Tree<'_>, trees: &[Tree<'_>]) -> bool
+pub(crate) fn is_among(tree: &Tree<'_>, trees: &[Tree<'_>]) -> bool
     ensures { result ≡ list_any (same_tree (tree_of tree.now)) (map tree_of trees.now) }
 {
     for other in trees {

@@ -273,7 +273,7 @@ fn has_shape(expected: Expected, keyword: &str, version: Version) -> bool
 
 /// Whether the keyword is one of documents and of the version.
 #[tactic(auto, unfolding(crate::specs::Keywords::is_known))]
-pub fn is_known(keyword: &str, version: Version) -> bool
+pub(crate) fn is_known(keyword: &str, version: Version) -> bool
     ensures { result ≡ is_known version keyword.now }
 {
     keyword == "Prefix"
@@ -287,7 +287,7 @@ pub fn is_known(keyword: &str, version: Version) -> bool
 
 /// Whether the keyword is one of OWL 2 that the version leaves out.
 #[tactic(auto, unfolding(crate::specs::Keywords::is_refused))]
-pub fn is_refused(keyword: &str, version: Version) -> bool
+pub(crate) fn is_refused(keyword: &str, version: Version) -> bool
     ensures { result ≡ is_refused version keyword.now }
 {
     REFUSED.contains(&keyword) && !is_known(keyword, version)

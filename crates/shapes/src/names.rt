@@ -20,7 +20,6 @@ fn behind<'a>(text: &'a str, front: &str) -> Option<&'a str>
     text.strip_prefix(front)
 }
 
-/// Whether the text begins so.
 #[inline(always)]
 fn text_begins_with(text: &str, front: &str) -> bool
     ensures { result ≡ starts_with nat_eq text.now front.now }
@@ -28,7 +27,6 @@ fn text_begins_with(text: &str, front: &str) -> bool
     text.as_bytes().starts_with(front.as_bytes())
 }
 
-/// Whether the IRI begins so.
 #[inline(always)]
 fn begins_with(iri: &Iri<'_>, front: &str) -> bool
     ensures { result ≡ starts_with nat_eq (iri_of iri.now) front.now }
@@ -76,7 +74,7 @@ fn is_class_name(iri: &Iri<'_>) -> bool
 
 /// Whether what is expected may have this IRI.
 #[inline(always)]
-pub fn is_allowed(expected: Expected, iri: &Iri<'_>) -> bool
+pub(crate) fn is_allowed(expected: Expected, iri: &Iri<'_>) -> bool
     ensures { result ≡ is_allowed expected (iri_of iri.now) }
 {
     match expected {
@@ -88,7 +86,7 @@ pub fn is_allowed(expected: Expected, iri: &Iri<'_>) -> bool
 
 /// Whether a name may stand where this is expected.
 #[inline(always)]
-pub fn may_be_name(expected: Expected) -> bool
+pub(crate) fn may_be_name(expected: Expected) -> bool
     ensures { result ≡ may_be_name expected }
 {
     !matches!(
@@ -98,7 +96,7 @@ pub fn may_be_name(expected: Expected) -> bool
 }
 
 /// Whether two names are the same IRI, wherever their prefixes end.
-pub fn same_iri(a: &Iri<'_>, b: &Iri<'_>) -> bool
+pub(crate) fn same_iri(a: &Iri<'_>, b: &Iri<'_>) -> bool
     ensures { result ≡ bytes_eq (iri_of a.now) (iri_of b.now) }
 {
     match behind(a.base, b.base) {

@@ -70,7 +70,6 @@ fn feed_iri<H: Hasher>(iri: &Iri<'_>, state: &mut H)
     feed_bytes(iri.local.as_bytes(), state);
 }
 
-/// Feeds a hasher the tree.
 #[cycle(feeding)]
 fn feed<H: Hasher>(tree: &Tree<'_>, state: &mut H)
     ensures { state.new ≡ fold H.write state.old (writes (tree_of tree.now)) }

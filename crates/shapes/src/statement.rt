@@ -35,7 +35,6 @@ pub enum Statement<'t, 'a> {
     DeclareIndividual(&'t Tree<'a>),
 }
 
-/// The one operand.
 fn one<'t, 'a>(operands: &'t [Tree<'a>]) -> Option<&'t Tree<'a>>
     ensures some { IfSome result (λ t. trees_of operands.now ≡ trees_of (t.now ∷ [])) }
     ensures none { IfNone result ((count_of (trees_of operands.now) == 1) ≡ false) }
@@ -46,7 +45,6 @@ fn one<'t, 'a>(operands: &'t [Tree<'a>]) -> Option<&'t Tree<'a>>
     }
 }
 
-/// The two operands.
 fn two<'t, 'a>(operands: &'t [Tree<'a>]) -> Option<(&'t Tree<'a>, &'t Tree<'a>)>
     ensures some { IfSome result (λ ts. trees_of operands.now ≡ trees_of (ts.0.now ∷ ts.1.now ∷ [])) }
     ensures none { IfNone result ((count_of (trees_of operands.now) == 2) ≡ false) }
@@ -57,7 +55,6 @@ fn two<'t, 'a>(operands: &'t [Tree<'a>]) -> Option<(&'t Tree<'a>, &'t Tree<'a>)>
     }
 }
 
-/// The three operands.
 fn three<'t, 'a>(operands: &'t [Tree<'a>]) -> Option<(&'t Tree<'a>, &'t Tree<'a>, &'t Tree<'a>)>
     ensures some { IfSome result (λ ts. trees_of operands.now ≡ trees_of (ts.0.now ∷ ts.1.now ∷ ts.2.now ∷ [])) }
     ensures none { IfNone result ((count_of (trees_of operands.now) == 3) ≡ false) }

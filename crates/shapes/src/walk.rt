@@ -29,7 +29,6 @@ use std::hash::RandomState;
 /// How many operands are compared one by one; more are found in a table.
 const FEW_OPERANDS: usize = 8;
 
-/// Whether the tree is a name.
 #[inline(always)]
 fn is_name(tree: &Tree<'_>) -> bool
     ensures { result ≡ is_name (tree_of tree.now) }

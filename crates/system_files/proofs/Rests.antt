@@ -21,7 +21,7 @@ rest_read rest buffer piece n is first =
       most = left;
     }
 
--- .. where so many were given before
+-- what a read gives of bytes of which so many were given before
 pub reads_on : (bytes buffer piece : List ℕ) (at n : ℕ) → n ≡ min (length buffer) (length (drop at bytes)) → piece ≡ take n (drop at bytes) → Reads (Some (drop at bytes)) (Some (drop (at + n) bytes)) (length (drop at bytes)) (length (drop (at + n) bytes)) (piece ++ drop n buffer) n
 reads_on bytes buffer piece at n is first =
     let P : List ℕ → Type 0 = λ new. Reads (Some (drop at bytes)) (Some new) (length (drop at bytes)) (length new) (piece ++ drop n buffer) n in

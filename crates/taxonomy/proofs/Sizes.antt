@@ -96,7 +96,7 @@ module _ (lists : List (List ℕ)) (s : AreSuperclasses lists) where
   strictly_by_size g h =
       and_same (is_listed lists g h) (ltb (length (list_at lists h)) (length (list_at lists g))) (not (is_listed lists h g)) (λ b. sym (same_by_size g h b))
 
-  -- .. or in the group
+  -- by its number of superclasses a superclass is in the same group
   pub group_by_size : (g h : ℕ) → is_as_large lists g h ≡ is_same (is_listed lists) g h
   group_by_size g h =
       let mine = length (list_at lists h) in

@@ -52,7 +52,6 @@ pub(crate) fn leaders(
     Ok(found)
 }
 
-/// The set of these numbers.
 pub(crate) fn set_of(alloc: Global, n: usize, numbers: &[usize]) -> Result<EpochSet, Memory>
     ensures len { IfOk result (λ s. length s ≡ n) }
     ensures members { IfOk result (λ s. (k : ℕ) → k < n → has s k ≡ is_among numbers.now k) }

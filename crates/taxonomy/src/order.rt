@@ -42,7 +42,6 @@ fn named<'a>(
     Ok(pairs)
 }
 
-/// The numbers of the pairs.
 fn numbers(alloc: Global, pairs: &[(&str, usize)]) -> Result<Vec<usize>, Memory>
     ensures { IfOk result (λ v. v.items ≡ map (λ p. p.1) pairs.now) }
 {
@@ -50,7 +49,7 @@ fn numbers(alloc: Global, pairs: &[(&str, usize)]) -> Result<Vec<usize>, Memory>
 }
 
 /// All class numbers, in the byte order of their names.
-pub fn in_byte_order(alloc: Global, names: &[String]) -> Result<Vec<usize>, Memory>
+pub(crate) fn in_byte_order(alloc: Global, names: &[String]) -> Result<Vec<usize>, Memory>
     ensures { IfOk result (λ v. v.items ≡ in_byte_order (map string_bytes names.now)) }
 {
     let mut pairs = numbered(alloc, names)?;

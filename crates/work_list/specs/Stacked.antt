@@ -10,7 +10,7 @@ item_of context fact = record { fact = fact; context = context }
 abbrev pub items_of : ℕ → List ℕ → List Item
 items_of context facts = map (item_of context) facts
 
--- .. of the context popped last, if there is one
+-- the facts of the context popped last, as items, and none where there is no such context
 abbrev pub items_of_last : Option ℕ → List ℕ → List Item
 items_of_last None facts = []
 items_of_last (Some context) facts = items_of context facts
@@ -32,7 +32,7 @@ place_at places context = slice_index_or places context 0
 abbrev pub IsSame : (old new : List ℕ) → Type 0
 IsSame old new = (c : ℕ) → place_at new c ≡ place_at old c
 
--- .. but this one
+-- each context has the same place, but this one
 abbrev pub IsSameBut : ℕ → (old new : List ℕ) → Type 0
 IsSameBut context old new = (c : ℕ) → (c ≡ context → ⊥) → place_at new c ≡ place_at old c
 

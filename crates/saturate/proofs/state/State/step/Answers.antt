@@ -49,7 +49,7 @@ handed g c = sym c.in_ok-hand.ensures.hand ∙ c.in-Some.is
 spared : (g : _) (c : After-add g) → c.stands_second-is_second.result ≡ false → IsSparedAsSecond c.self.inside.ground c.self.inside.facts c.get-fact.result
 spared g c not_second = subst (λ (k : Problem). IsSparedAsSecond k c.self.inside.facts c.get-fact.result) c.problem-problem.ensures (c.stands_second-is_second.ensures not_second c.get-fact.result c.get-fact.ensures)
 
--- .. and where edges carry nothing for it
+-- the fact in hand, where edges carry nothing for it
 uncarried : (g : _) (c : After-add g) → c.is_filler-is_filler.result ≡ false → IsNotCarried c.self.inside.ground c.get-fact.result
 uncarried g c no_filler = subst (λ (k : Problem). IsNotCarried k c.get-fact.result) c.problem-problem.ensures (c.is_filler-is_filler.ensures no_filler)
 
@@ -74,7 +74,7 @@ invariant_of-self-in_err-serve g c =
 pub finish-requires : goal.finish-requires
 finish-requires g c = λ none. none-some c.in-Some.hand (sym none ∙ handed g (goal.at.finish-requires g c).After-add)
 
--- .. with the number in hand served
+-- the number in hand is served, behind those that were
 served_now : (g : _) (c : After-finish g) → c.turn.new.self.hand ≡ Some c.in-Some.hand → c.finish.new.self.served ≡ c.turn.new.self.served ++ c.in-Some.hand ∷ []
 served_now g c handed = c.finish.ensures.served ∙ in_most c.turn.new.self.served c.turn.new.self.hand c.in-Some.hand handed
 
