@@ -6,6 +6,7 @@ use Rattle.std.proofs.lemmas.List.{map-append, length-map}
 use Rattle.std.proofs.lemmas.Option.{none-some, same_Some}
 use Rattle.std.proofs.lemmas.Slice.Eq.{bytes_eq-Decides}
 use Rattle.std.specs.Bool.{Decides}
+use Rattle.std.specs.Prelude.{IfNone, IfSome, MatchOption, None, Option}
 use Rattle.std.specs.Cmp.Lexicographic.{pointwise}
 use Rattle.std.specs.List.{list_any}
 use Rattle.std.specs.String.{string_eq}
@@ -98,3 +99,10 @@ same_expr (expr.Some p e) (expr.Some q f) = Decides-like _ (λ h. ap₂ Exists h
 pub any_text : (iri : List ℕ) (names : List (String Global)) → list_any (λ k. bytes_eq iri (string_bytes k)) names ≡ list_any (bytes_eq iri) (map string_bytes names)
 any_text iri [] = refl
 any_text iri (name ∷ names) = ap (λ b. bytes_eq iri (string_bytes name) || b) (any_text iri names)
+
+-- what a search for a text among texts finds
+pub number_of_text : (iri : List ℕ) (names : List (String Global)) (found : Option ℕ) → IfSome found (λ n. (k : String Global) × (slice_get names n ≡ Some k) × (bytes_eq iri (string_bytes k) ≡ true))
+    → IfNone found (list_any (λ k. bytes_eq iri (string_bytes k)) names ≡ false)
+    → MatchOption found (Contains (map string_bytes names) iri → ⊥) (λ n. slice_get (map string_bytes names) n ≡ Some iri)
+number_of_text iri names None some none = text_absent iri names none
+number_of_text iri names (Some n) some none = text_placed iri names n some

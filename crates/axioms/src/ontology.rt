@@ -1,5 +1,5 @@
 //! An ontology: names, class expressions and logical axioms by number.
-ghost use Rattle.std.specs.Prelude.{◌<◌, ◌≡◌, ◌↔◌, IfSome, IsSome, MatchOption, Some, length, map, option_map, slice_get, string_bytes, ℕ};
+ghost use Rattle.std.specs.Prelude.{◌<◌, ◌≡◌, ◌↔◌, Contains, IfSome, IsSome, MatchOption, Some, length, map, option_map, slice_get, string_bytes, ℕ};
 ghost use Rattle.std.specs.List.{list_any};
 ghost use Rattle.std.specs.Str.{bytes_eq};
 ghost use Rattle.axioms.specs.Growth.{IsBounded, names_of};
@@ -57,6 +57,14 @@ fn is_named(names: &NumberedSet<String>, iri: &str) -> bool
     names.contains(iri)
 }
 
+// The number of the IRI among the names, if it is one of them.
+fn number_among(names: &NumberedSet<String>, iri: &str) -> Option<u32>
+    ensures { MatchOption result (Contains (map string_bytes names.now.keys) iri.now → ⊥)
+        (λ n. slice_get (map string_bytes names.now.keys) n ≡ Some iri.now) }
+{
+    names.find(iri)
+}
+
 impl Ontology {
     /// The IRIs of the named classes, by number.
     pub fn classes(&self) -> &[String]
@@ -99,6 +107,18 @@ impl Ontology {
             Kind::Class => is_named(&self.classes, iri),
             Kind::Property => is_named(&self.properties, iri),
             Kind::Individual => is_named(&self.individuals, iri),
+        }
+    }
+
+    /// The number of the IRI among the names of that kind, if it is one of them.
+    pub fn number_of(&self, kind: Kind, iri: &str) -> Option<u32>
+        ensures { MatchOption result (Contains (names_of self.now.names kind) iri.now → ⊥)
+            (λ n. slice_get (names_of self.now.names kind) n ≡ Some iri.now) }
+    {
+        match kind {
+            Kind::Class => number_among(&self.classes, iri),
+            Kind::Property => number_among(&self.properties, iri),
+            Kind::Individual => number_among(&self.individuals, iri),
         }
     }
 

@@ -4,8 +4,8 @@ ghost use Rattle.countermodel.specs.declared.pair.Pair.{Pair as Pair2};
 ghost use Rattle.std.specs.List.{AllPairs};
 ghost use Rattle.std.specs.Prelude.{◌↔◌, Contains};
 
-use crate::sorted::sort_ascending;
 use axioms::PropId;
+use number_sets::sort_ascending;
 
 /// Two elements, the second of which the property leads to from the first. Pairs are in order of their properties, those of one
 /// property in order of their sources, and those of one source in order of their targets.

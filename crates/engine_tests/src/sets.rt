@@ -1,7 +1,7 @@
 //! Sets and lists of a few numbers, worked out by hand.
 ghost use Rattle.std.specs.Prelude.{◌≡◌, IfOk, length};
 
-use number_sets::{EpochSet, OpenLists, PackedLists, turned};
+use number_sets::{EpochSet, OpenLists, PackedLists, sort_ascending, turned};
 use std::alloc::{AllocError, Global};
 use std::test::Fail;
 
@@ -187,5 +187,21 @@ fn lists_that_grow(rt: HostRuntime) -> Result<(), Fail> {
     pushed?;
     assert!(rt; has_grown);
     assert!(rt; is_packed?);
+    Ok(())
+}
+
+/// Whether the list has these numbers once it is sorted.
+fn is_sorted_to(list: &mut Vec<u32>, numbers: &[u32]) -> bool {
+    sort_ascending(list);
+    list.as_slice() == numbers
+}
+
+#[test]
+fn sorting_leaves_equal_numbers_once(rt: HostRuntime) -> Result<(), Fail> {
+    let mut list = Vec::new(rt.alloc());
+    list.extend_from_slice(&[3, 1, 3, 2, 1])?;
+    let is_sorted = is_sorted_to(&mut list, &[1, 2, 3]);
+    drop(list);
+    assert!(rt; is_sorted);
     Ok(())
 }

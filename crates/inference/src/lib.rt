@@ -3,6 +3,7 @@
 
 mod conclusions;
 mod known_facts;
+mod meeting;
 mod properties;
 mod rules;
 mod seconds;

@@ -120,6 +120,9 @@ fn assert_names<R: Abort>(rt: &R, ontology: &Ontology) {
     assert!(rt; ontology.expr(ExprId(4)).is_none());
     assert!(rt; ontology.class_of(ExprId(3)) == Some(ClassId(3)));
     assert!(rt; ontology.class_of(ExprId(4)).is_none());
+    assert!(rt; ontology.number_of(Kind::Class, "x:B") == Some(3));
+    assert!(rt; ontology.number_of(Kind::Property, "x:r") == Some(0));
+    assert!(rt; ontology.number_of(Kind::Individual, "x:B").is_none());
 }
 
 #[test]

@@ -1,6 +1,7 @@
 //! Sets of numbers below a bound, and lists by number: a row of bits, and sets and lists whose cost goes by their members.
 #![tactic(auto)]
 
+mod ascending;
 mod epoch_set;
 mod list;
 mod open_lists;
@@ -9,6 +10,7 @@ mod row;
 mod turning;
 mod words;
 
+pub use ascending::sort_ascending;
 pub use epoch_set::EpochSet;
 pub use list::NumberList;
 pub use open_lists::OpenLists;

@@ -5,10 +5,9 @@ ghost use Rattle.std.specs.List.{AllPairs};
 ghost use Rattle.std.specs.Prelude.{◌↔◌, ◌≡◌, [], IfOk, OnOk, Contains, ℕ, ◌<◌, length};
 ghost use Rattle.number_sets.specs.Pieces.{list_at};
 
-use crate::ascending::sort_ascending;
 use axioms::Memory;
 use normal_forms::{Form, PropId2};
-use number_sets::{OpenLists, PackedLists};
+use number_sets::{OpenLists, PackedLists, sort_ascending};
 use std::alloc::Global;
 
 /// What follows the first property of a chain, and what is above both.

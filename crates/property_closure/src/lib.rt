@@ -1,7 +1,6 @@
 //! Superproperties, reflexive properties and property chains, by normal forms.
 #![tactic(auto)]
 
-mod ascending;
 mod chains;
 mod closure;
 mod reflexive;

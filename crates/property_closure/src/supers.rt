@@ -3,11 +3,10 @@ ghost use Rattle.number_sets.specs.Pieces.{list_at};
 ghost use Rattle.property_closure.specs.Related.{AreAbove, ArePlainWithin, IsAdjacency, as_property};
 ghost use Rattle.std.specs.Prelude.{◌<◌, ◌≡◌, ◌≤◌, ◌^◌, IfOk, length, map, ℕ};
 
-use crate::ascending::sort_ascending;
 use crate::search::Search;
 use axioms::{Memory, PropId};
 use normal_forms::{Form, PropId2};
-use number_sets::{OpenLists, PackedLists};
+use number_sets::{OpenLists, PackedLists, sort_ascending};
 use std::alloc::Global;
 
 /// For each property those that a plain form puts directly above it.

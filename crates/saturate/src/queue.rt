@@ -115,7 +115,7 @@ fn without_last(list: &[u32], number: u32) -> &[u32]
 
 impl<W: WorkList> Queue<W> {
     /// Nothing has had its turn.
-    pub fn new(alloc: Global, list: W) -> Self
+    pub(crate) fn new(alloc: Global, list: W) -> Self
         requires { W.pending list ≡ [] }
         ensures queued { result.queued ≡ 0 }
         ensures waiting { result.waiting ≡ [] }
@@ -159,7 +159,7 @@ impl<W: WorkList> Queue<W> {
     }
 
     /// How many numbers were served.
-    pub fn served(&self) -> usize
+    pub(crate) fn served(&self) -> usize
         ensures value { result ≡ length self.now.served }
         ensures few { result ≤ self.now.queued }
     {
@@ -167,7 +167,7 @@ impl<W: WorkList> Queue<W> {
     }
 
     /// No number was served twice; and where as many were served as were queued, each of them was.
-    pub fn all_served(&self)
+    pub(crate) fn all_served(&self)
         ensures once { IsServedOnce self.now }
         ensures few { length self.now.served ≤ self.now.queued }
         ensures all { self.now.queued ≤ length self.now.served → (n : ℕ) → n < self.now.queued → Contains self.now.served n }
@@ -195,7 +195,7 @@ impl<W: WorkList> Queue<W> {
     }
 
     /// The numbers of facts that are not queued yet wait beside the list, unless others still do.
-    pub fn line_up(&mut self, facts: &[StoredFact])
+    pub(crate) fn line_up(&mut self, facts: &[StoredFact])
         requires few { length facts.now < 2 ^ 32 }
         requires least { self.old.queued ≤ length facts.now }
         ensures queued { self.new.queued ≤ length facts.now }
@@ -248,7 +248,7 @@ impl<W: WorkList> Queue<W> {
     }
 
     /// The list without the number in hand, where that is its last. No number was served twice, and the one in hand was not.
-    pub fn without_hand<'a>(&self, list: &'a [u32]) -> &'a [u32]
+    pub(crate) fn without_hand<'a>(&self, list: &'a [u32]) -> &'a [u32]
         ensures without { IsWithoutHand self.now.hand list.now result.now }
         ensures once { IsServedOnce self.now }
     {
@@ -259,7 +259,7 @@ impl<W: WorkList> Queue<W> {
     }
 
     /// Takes a number in hand, unless one is there.
-    pub fn turn(&mut self, facts: &[StoredFact]) -> Result<Option<u32>, Memory>
+    pub(crate) fn turn(&mut self, facts: &[StoredFact]) -> Result<Option<u32>, Memory>
         requires few { length facts.now < 2 ^ 32 }
         requires least { self.old.queued ≤ length facts.now }
         requires named { NameTheirContexts facts.now self.old.waiting }
@@ -282,7 +282,7 @@ impl<W: WorkList> Queue<W> {
     }
 
     /// The number in hand is served.
-    pub fn finish(&mut self)
+    pub(crate) fn finish(&mut self)
         requires { self.old.hand ≡ None → ⊥ }
         ensures queued { self.new.queued ≡ self.old.queued }
         ensures waiting { self.new.waiting ≡ self.old.waiting }
@@ -292,14 +292,14 @@ impl<W: WorkList> Queue<W> {
     }
 
     /// The numbers that were served, in order.
-    pub fn numbers(&self) -> &[u32]
+    pub(crate) fn numbers(&self) -> &[u32]
         ensures { result.now ≡ self.now.served }
     {
         &self.taken[..self.served]
     }
 
     /// Makes room for so many turns more at once, where memory is to be had; else room is made as they come.
-    pub fn expect(&mut self, more: usize)
+    pub(crate) fn expect(&mut self, more: usize)
         ensures { self.new ≡ self.old }
     {
         if self.taken.reserve(more).is_ok() {
@@ -308,7 +308,7 @@ impl<W: WorkList> Queue<W> {
     }
 
     /// Numbers that were served and are flagged wait again.
-    pub fn unserve(&mut self, alloc: Global, flags: &[bool]) -> Result<(), Memory>
+    pub(crate) fn unserve(&mut self, alloc: Global, flags: &[bool]) -> Result<(), Memory>
         ensures queued { self.new.queued ≡ self.old.queued }
         ensures waiting { self.new.waiting ≡ self.old.waiting }
         ensures ok { OnOk result (self.new.served ≡ kept flags.now self.old.served) }

@@ -1,0 +1,367 @@
+//! What two facts give, added to the facts.
+ghost use Rattle.std.specs.Prelude.{◌≡◌, ◌<◌, ℕ, [], ◌∷◌, false, Some, Err, length, slice_get, Contains, OnOk};
+ghost use Rattle.facts.specs.declared.contexts.Fact.TheVariants as the_facts;
+ghost use Rattle.inference.specs.Derived.{IsDerived, Grows, HasMoreFactsThan};
+ghost use Rattle.inference.specs.Closed.{IsClosureOf};
+ghost use Rattle.inference.specs.Working.{IsSparedAsSecond, Drawn, IsDrawnIn, AreDrawnIn, MeetsOperands, MeetEachOther, AreMet, AreMetBefore, AreMetBehind};
+ghost use Rattle.inference.specs.Visited.{AreAll, GiveNothing, HasProperty, IsBy, IsClassFact, IsEdge};
+ghost use Rattle.inference.specs.Met.{IsWithin, AllListedAreMet};
+
+use crate::known_facts::{KnownFacts, Stop};
+use crate::rules::Rules;
+use crate::visits::{begins_chain, has_any, is_carried, operands_of};
+use facts::{Context, Fact};
+use indexes::Index;
+use normal_forms::{Class2, PropId2};
+
+impl Rules<'_> {
+    /// Whether the two facts may give something in this order, by what is listed for their classes and properties.
+    fn may_give(&self, first: Fact, second: Fact) -> bool
+        requires closed { IsClosureOf self.now.problem.now.forms self.now.closure.now }
+        requires has { HasProperty self.now.closure.now first }
+        ensures { result ≡ false → GiveNothing self.now.problem.now first second }
+    {
+        match (first, second) {
+            (Fact::In(a, _), Fact::In(b, _)) => {
+                has_any(self.problem.first(a)) && has_any(self.problem.second(b))
+            }
+            (Fact::Edge(..), Fact::In(class, _)) => is_carried(self.problem, class),
+            (Fact::Edge(_, property, _), Fact::Edge(..)) => {
+                begins_chain(self.problem, self.closure, property)
+            }
+            _ => false,
+        }
+    }
+
+    /// Adds what two facts give in this order.
+    fn draw_pair(
+        &self,
+        facts: &mut KnownFacts,
+        m: u32,
+        f: Fact,
+        n: u32,
+        g: Fact,
+    ) -> Result<(), Stop>
+        requires closed { IsClosureOf self.now.problem.now.forms self.now.closure.now }
+        requires derived { IsDerived self.now.problem.now facts.old }
+        requires first { slice_get facts.old.facts m ≡ Some f }
+        requires second { slice_get facts.old.facts n ≡ Some g }
+        ensures grows { Grows self.now.problem.now self.now.max_facts facts.old facts.new }
+        ensures limit { result ≡ Err Stop.Limit → HasMoreFactsThan self.now.problem.now self.now.max_facts }
+        ensures drawn { OnOk result (Drawn self.now.problem.now (f ∷ g ∷ []) facts.new.facts) }
+    {
+        if self.may_give(f, g) {
+            self.draw(facts, &[m, n], &[f, g])?;
+        }
+        Ok(())
+    }
+
+    /// Adds what two facts give, whichever is first.
+    fn meet(&self, facts: &mut KnownFacts, m: u32, f: Fact, n: u32, g: Fact) -> Result<(), Stop>
+        requires closed { IsClosureOf self.now.problem.now.forms self.now.closure.now }
+        requires derived { IsDerived self.now.problem.now facts.old }
+        requires first { slice_get facts.old.facts m ≡ Some f }
+        requires second { slice_get facts.old.facts n ≡ Some g }
+        ensures grows { Grows self.now.problem.now self.now.max_facts facts.old facts.new }
+        ensures limit { result ≡ Err Stop.Limit → HasMoreFactsThan self.now.problem.now self.now.max_facts }
+        ensures met { OnOk result (MeetEachOther self.now.problem.now f g facts.new) }
+    {
+        self.draw_pair(facts, m, f, n, g)?;
+        self.draw_pair(facts, n, g, m, f)?;
+        Ok(())
+    }
+
+    /// Adds what the fact of that number gives with those of the other numbers.
+    fn meet_all(
+        &self,
+        facts: &mut KnownFacts,
+        hand: u32,
+        fact: Fact,
+        numbers: &[u32],
+    ) -> Result<(), Stop>
+        requires closed { IsClosureOf self.now.problem.now.forms self.now.closure.now }
+        requires derived { IsDerived self.now.problem.now facts.old }
+        requires hand { slice_get facts.old.facts hand ≡ Some fact }
+        requires numbers { (n : ℕ) → Contains numbers.now n → n < length facts.old.facts }
+        ensures grows { Grows self.now.problem.now self.now.max_facts facts.old facts.new }
+        ensures limit { result ≡ Err Stop.Limit → HasMoreFactsThan self.now.problem.now self.now.max_facts }
+        ensures met { OnOk result (AreMet self.now.problem.now fact facts.old.facts numbers.now facts.new) }
+    {
+        for number in numbers {
+            let partner = facts.get(*number);
+            self.meet(facts, hand, fact, *number, partner)?;
+        }
+        Ok(())
+    }
+
+    /// Adds what the intersection of that number gives from its two classes, if both are in the context.
+    fn draw_intersection(
+        &self,
+        facts: &mut KnownFacts,
+        number: u32,
+        context: Context,
+    ) -> Result<(), Stop>
+        requires closed { IsClosureOf self.now.problem.now.forms self.now.closure.now }
+        requires derived { IsDerived self.now.problem.now facts.old }
+        ensures grows { Grows self.now.problem.now self.now.max_facts facts.old facts.new }
+        ensures limit { result ≡ Err Stop.Limit → HasMoreFactsThan self.now.problem.now self.now.max_facts }
+        ensures drawn { OnOk result (IsDrawnIn self.now.problem.now facts.old.facts context facts.new.facts number) }
+    {
+        let Some((first, second)) = operands_of(self.problem, number) else {
+            return Ok(());
+        };
+        let Some(place) = facts.find(Fact::In(second, context)) else {
+            return Ok(());
+        };
+        let Some(before) = facts.find(Fact::In(first, context)) else {
+            return Ok(());
+        };
+        let older = [Fact::In(first, context), Fact::In(second, context)];
+        self.draw_form(facts, number, &[before, place], &older)
+    }
+
+    /// Adds what the listed intersections give from classes in the context.
+    fn draw_intersections(
+        &self,
+        facts: &mut KnownFacts,
+        listed: &[u32],
+        context: Context,
+    ) -> Result<(), Stop>
+        requires closed { IsClosureOf self.now.problem.now.forms self.now.closure.now }
+        requires derived { IsDerived self.now.problem.now facts.old }
+        ensures grows { Grows self.now.problem.now self.now.max_facts facts.old facts.new }
+        ensures limit { result ≡ Err Stop.Limit → HasMoreFactsThan self.now.problem.now self.now.max_facts }
+        ensures drawn { OnOk result (AreDrawnIn self.now.problem.now facts.old.facts context facts.new.facts listed.now) }
+    {
+        for number in listed {
+            self.draw_intersection(facts, *number, context)?;
+        }
+        Ok(())
+    }
+
+    /// Adds what the intersections that have the class as an operand give from it and from classes in the context.
+    fn meet_operands(
+        &self,
+        facts: &mut KnownFacts,
+        class: Class2,
+        context: Context,
+    ) -> Result<(), Stop>
+        requires closed { IsClosureOf self.now.problem.now.forms self.now.closure.now }
+        requires derived { IsDerived self.now.problem.now facts.old }
+        ensures grows { Grows self.now.problem.now self.now.max_facts facts.old facts.new }
+        ensures limit { result ≡ Err Stop.Limit → HasMoreFactsThan self.now.problem.now self.now.max_facts }
+        ensures met { OnOk result (MeetsOperands self.now.problem.now facts.old.facts class context facts.new.facts) }
+    {
+        self.draw_intersections(facts, self.problem.first(class), context)?;
+        self.draw_intersections(facts, self.problem.second(class), context)?;
+        Ok(())
+    }
+
+    /// Whether at most so many intersections have the class as an operand.
+    fn has_few_operands(&self, class: Class2, most: usize) -> bool {
+        let first = self.problem.first(class).len();
+        let second = self.problem.second(class).len();
+        first.saturating_add(second) <= most
+    }
+
+    /// Adds what the class in a context gives with the other classes in it, which have those numbers: by the intersections that have
+    /// the class as an operand, or by the other classes, whichever are fewer.
+    fn meet_classes(
+        &self,
+        facts: &mut KnownFacts,
+        hand: u32,
+        class: Class2,
+        context: Context,
+        numbers: &[u32],
+    ) -> Result<(), Stop>
+        requires closed { IsClosureOf self.now.problem.now.forms self.now.closure.now }
+        requires derived { IsDerived self.now.problem.now facts.old }
+        requires hand { slice_get facts.old.facts hand ≡ Some (the_facts.In class context) }
+        requires numbers { AreAll IsClassFact facts.old.facts numbers.now }
+        ensures grows { Grows self.now.problem.now self.now.max_facts facts.old facts.new }
+        ensures limit { result ≡ Err Stop.Limit → HasMoreFactsThan self.now.problem.now self.now.max_facts }
+        ensures met { OnOk result (AreMet self.now.problem.now (the_facts.In class context) facts.old.facts numbers.now facts.new) }
+    {
+        if self.has_few_operands(class, numbers.len()) {
+            self.meet_operands(facts, class, context)?;
+        } else {
+            self.meet_all(facts, hand, Fact::In(class, context), numbers)?;
+        }
+        Ok(())
+    }
+
+    /// Adds what the fact of that number gives as the first of two, with each of those of the other numbers.
+    fn meet_before(
+        &self,
+        facts: &mut KnownFacts,
+        hand: u32,
+        fact: Fact,
+        numbers: &[u32],
+    ) -> Result<(), Stop>
+        requires closed { IsClosureOf self.now.problem.now.forms self.now.closure.now }
+        requires derived { IsDerived self.now.problem.now facts.old }
+        requires hand { slice_get facts.old.facts hand ≡ Some fact }
+        requires numbers { (n : ℕ) → Contains numbers.now n → n < length facts.old.facts }
+        ensures grows { Grows self.now.problem.now self.now.max_facts facts.old facts.new }
+        ensures limit { result ≡ Err Stop.Limit → HasMoreFactsThan self.now.problem.now self.now.max_facts }
+        ensures met { OnOk result (AreMetBefore self.now.problem.now fact facts.old.facts numbers.now facts.new) }
+    {
+        for number in numbers {
+            let partner = facts.get(*number);
+            self.draw_pair(facts, hand, fact, *number, partner)?;
+        }
+        Ok(())
+    }
+
+    /// Adds what the fact of that number gives as the second of two, with each of those of the other numbers.
+    fn meet_behind(
+        &self,
+        facts: &mut KnownFacts,
+        hand: u32,
+        fact: Fact,
+        numbers: &[u32],
+    ) -> Result<(), Stop>
+        requires closed { IsClosureOf self.now.problem.now.forms self.now.closure.now }
+        requires derived { IsDerived self.now.problem.now facts.old }
+        requires hand { slice_get facts.old.facts hand ≡ Some fact }
+        requires numbers { (n : ℕ) → Contains numbers.now n → n < length facts.old.facts }
+        ensures grows { Grows self.now.problem.now self.now.max_facts facts.old facts.new }
+        ensures limit { result ≡ Err Stop.Limit → HasMoreFactsThan self.now.problem.now self.now.max_facts }
+        ensures met { OnOk result (AreMetBehind self.now.problem.now fact facts.old.facts numbers.now facts.new) }
+    {
+        for number in numbers {
+            let partner = facts.get(*number);
+            self.draw_pair(facts, *number, partner, hand, fact)?;
+        }
+        Ok(())
+    }
+
+    /// Adds what the class in a context gives with the edges into it, which have those numbers.
+    fn carry(
+        &self,
+        facts: &mut KnownFacts,
+        hand: u32,
+        class: Class2,
+        context: Context,
+        numbers: &[u32],
+    ) -> Result<(), Stop>
+        requires closed { IsClosureOf self.now.problem.now.forms self.now.closure.now }
+        requires derived { IsDerived self.now.problem.now facts.old }
+        requires hand { slice_get facts.old.facts hand ≡ Some (the_facts.In class context) }
+        requires numbers { AreAll IsEdge facts.old.facts numbers.now }
+        ensures grows { Grows self.now.problem.now self.now.max_facts facts.old facts.new }
+        ensures limit { result ≡ Err Stop.Limit → HasMoreFactsThan self.now.problem.now self.now.max_facts }
+        ensures met { OnOk result (AreMetBehind self.now.problem.now (the_facts.In class context) facts.old.facts numbers.now facts.new) }
+    {
+        if is_carried(self.problem, class) {
+            self.meet_behind(facts, hand, Fact::In(class, context), numbers)?;
+        }
+        Ok(())
+    }
+
+    /// Adds what the edge gives as the first of two, with edges that have those numbers.
+    fn lead_on(
+        &self,
+        facts: &mut KnownFacts,
+        hand: u32,
+        edge: Fact,
+        property: PropId2,
+        numbers: &[u32],
+    ) -> Result<(), Stop>
+        requires closed { IsClosureOf self.now.problem.now.forms self.now.closure.now }
+        requires derived { IsDerived self.now.problem.now facts.old }
+        requires hand { slice_get facts.old.facts hand ≡ Some edge }
+        requires property { IsBy property edge }
+        requires numbers { AreAll IsEdge facts.old.facts numbers.now }
+        ensures grows { Grows self.now.problem.now self.now.max_facts facts.old facts.new }
+        ensures limit { result ≡ Err Stop.Limit → HasMoreFactsThan self.now.problem.now self.now.max_facts }
+        ensures met { OnOk result (AreMetBefore self.now.problem.now edge facts.old.facts numbers.now facts.new) }
+    {
+        if begins_chain(self.problem, self.closure, property) {
+            self.meet_before(facts, hand, edge, numbers)?;
+        }
+        Ok(())
+    }
+
+    /// Adds what the edge gives as the second of two, with the edges into its source, which have those numbers: nothing where it need
+    /// not stand second.
+    fn lead_up(
+        &self,
+        facts: &mut KnownFacts,
+        hand: u32,
+        edge: Fact,
+        is_second: bool,
+        numbers: &[u32],
+    ) -> Result<(), Stop>
+        requires closed { IsClosureOf self.now.problem.now.forms self.now.closure.now }
+        requires derived { IsDerived self.now.problem.now facts.old }
+        requires hand { slice_get facts.old.facts hand ≡ Some edge }
+        requires second { is_second ≡ false → IsSparedAsSecond self.now.problem.now facts.old edge }
+        requires numbers { (n : ℕ) → Contains numbers.now n → n < length facts.old.facts }
+        ensures grows { Grows self.now.problem.now self.now.max_facts facts.old facts.new }
+        ensures limit { result ≡ Err Stop.Limit → HasMoreFactsThan self.now.problem.now self.now.max_facts }
+        ensures met { OnOk result (AreMetBehind self.now.problem.now edge facts.old.facts numbers.now facts.new) }
+    {
+        if is_second {
+            self.meet_behind(facts, hand, edge, numbers)?;
+        }
+        Ok(())
+    }
+
+    /// Adds what the fact gives with those that the index lists for it.
+    fn meet_listed(
+        &self,
+        facts: &mut KnownFacts,
+        index: &Index,
+        hand: u32,
+        fact: Fact,
+        is_second: bool,
+    ) -> Result<(), Stop>
+        requires closed { IsClosureOf self.now.problem.now.forms self.now.closure.now }
+        requires derived { IsDerived self.now.problem.now facts.old }
+        requires hand { slice_get facts.old.facts hand ≡ Some fact }
+        requires index { IsWithin facts.old.facts index.now }
+        requires second { is_second ≡ false → IsSparedAsSecond self.now.problem.now facts.old fact }
+        ensures grows { Grows self.now.problem.now self.now.max_facts facts.old facts.new }
+        ensures limit { result ≡ Err Stop.Limit → HasMoreFactsThan self.now.problem.now self.now.max_facts }
+        ensures met { OnOk result (AllListedAreMet self.now.problem.now fact facts.old.facts index.now facts.new) }
+    {
+        match fact {
+            Fact::In(class, x) => {
+                self.meet_classes(facts, hand, class, x, index.classes_in(x))?;
+                self.carry(facts, hand, class, x, index.edges_into(x))?;
+            }
+            Fact::Edge(x, property, y) => {
+                self.meet_before(facts, hand, fact, index.fillers_in(y))?;
+                self.lead_on(facts, hand, fact, property, index.seconds_from(y))?;
+                self.lead_up(facts, hand, fact, is_second, index.edges_into(x))?;
+            }
+        }
+        Ok(())
+    }
+
+    /// Adds what the fact of that number gives, alone and with those that the index lists for it; as the second of two only where it has
+    /// to stand second.
+    pub fn serve(
+        &self,
+        facts: &mut KnownFacts,
+        index: &Index,
+        hand: u32,
+        fact: Fact,
+        is_second: bool,
+    ) -> Result<(), Stop>
+        requires closed { IsClosureOf self.now.problem.now.forms self.now.closure.now }
+        requires derived { IsDerived self.now.problem.now facts.old }
+        requires hand { slice_get facts.old.facts hand ≡ Some fact }
+        requires index { IsWithin facts.old.facts index.now }
+        requires second { is_second ≡ false → IsSparedAsSecond self.now.problem.now facts.old fact }
+        ensures grows { Grows self.now.problem.now self.now.max_facts facts.old facts.new }
+        ensures limit { result ≡ Err Stop.Limit → HasMoreFactsThan self.now.problem.now self.now.max_facts }
+        ensures alone { OnOk result (Drawn self.now.problem.now (fact ∷ []) facts.new.facts) }
+        ensures met { OnOk result (AllListedAreMet self.now.problem.now fact facts.old.facts index.now facts.new) }
+    {
+        self.draw_alone(facts, hand, fact)?;
+        self.meet_listed(facts, index, hand, fact, is_second)?;
+        Ok(())
+    }
+}
