@@ -99,9 +99,9 @@ module _ (o : Ontology) (w : IsOntology o) (s : Saturated) (h : IsSaturated o s)
 name_by : (names : List Iri) (n : ℕ) (name : Iri) → slice_get names n ≡ Some name → name_at names n ≡ name
 name_by names n name at = ap (λ x. unwrap_or x []) at
 
-module _ (o : Ontology) (names : List Iri) (is : names ≡ o.names.classes) (n : ℕ) (class : Iri) (at : slice_get names n ≡ Some class) (answer : List Iri) where
+module _ (o : Ontology) (n : ℕ) (class : Iri) (at : slice_get o.names.classes n ≡ Some class) (answer : List Iri) where
   here : name_at o.names.classes n ≡ class
-  here = subst (λ (xs : List Iri). name_at xs n ≡ class) is (name_by names n class at)
+  here = name_by o.names.classes n class at
 
   pub above_named : AreThose (names_asked o (Above n)) (FollowsFor o (Above n)) answer → AreThose o.names.classes (LiesBelow o class) answer
   above_named are = those_same o.names.classes answer (FollowsFor o (Above n)) (LiesBelow o class)
@@ -114,18 +114,3 @@ module _ (o : Ontology) (names : List Iri) (is : names ≡ o.names.classes) (n :
   pub members_named : AreThose (names_asked o (Members n)) (FollowsFor o (Members n)) answer → AreThose o.names.individuals (λ name. BelongsTo o name class) answer
   members_named are = those_same o.names.individuals answer (FollowsFor o (Members n)) (λ name. BelongsTo o name class)
       (λ name there. (λ p. subst (λ (c : Iri). BelongsTo o name c) here p, λ p. subst (λ (c : Iri). BelongsTo o name c) (sym here) p)) are
-
--- a name that stands at none of the places is not there
-pub is_nowhere_below : (names : List Iri) (name : Iri) (i : ℕ) → length names ≤ i → ((k : ℕ) → k < i → slice_get names k ≡ Some name → ⊥) → Contains names name → ⊥
-is_nowhere_below names name i long none there =
-    let (k, at) = slice_get-from_Contains names name there in
-    let within : k < length names = slice_get_within names k name at in
-    none k (omega arith) at
-
--- ---- the same text, or another
-
-pub same_text : (a b : Iri) (r : Bool) → r ≡ bytes_eq a b → r ≡ true → a ≡ b
-same_text a b r e t = (bytes_eq-Decides a b).0 (sym e ∙ t)
-
-pub other_text : (a b : Iri) (r : Bool) → r ≡ bytes_eq a b → r ≡ false → a ≡ b → ⊥
-other_text a b r e f same = false≢true (sym f ∙ e ∙ (bytes_eq-Decides a b).1 same)

@@ -8,20 +8,17 @@ ghost use Rattle.std.specs.Prelude.{◌<◌, ◌↔◌, ◌≡◌, Contains, IfO
 use crate::marks::marks_of;
 use crate::names::names_in_order;
 use crate::question::Question;
-use axioms::{Memory, Ontology};
+use axioms::{Kind, Memory, Ontology};
 use engine::Saturation;
 use std::alloc::Global;
 
-fn number_of(names: &[String], name: &str) -> Option<usize>
-    ensures { MatchOption result (Contains (map string_bytes names.now) name.now → ⊥)
-        (λ n. slice_get (map string_bytes names.now) n ≡ Some name.now) }
+/// The number of the class of that name.
+fn class_number(ontology: &Ontology, class: &str) -> Option<usize>
+    ensures { MatchOption result (Contains ontology.now.names.classes class.now → ⊥)
+        (λ n. slice_get ontology.now.names.classes n ≡ Some class.now) }
 {
-    for (n, other) in names.iter().enumerate() {
-        if other.as_str() == name {
-            return Some(n);
-        }
-    }
-    None
+    let number = ontology.number_of(Kind::Class, class)?;
+    Some(number as usize)
 }
 
 /// The names among which the answers are.
@@ -70,7 +67,7 @@ pub fn superclasses<'a>(
     ensures exact { IfOk result (λ answer. IfSome answer
         (λ v. AreThose ontology.now.names.classes (LiesBelow ontology.now class.now) (map (λ s. s.now) v.items))) }
 {
-    match number_of(ontology.classes(), class) {
+    match class_number(ontology, class) {
         Some(number) => Ok(Some(answers(alloc, ontology, saturation, Question::Above(number))?)),
         None => Ok(None),
     }
@@ -94,7 +91,7 @@ pub fn subclasses<'a>(
     ensures exact { IfOk result (λ answer. IfSome answer
         (λ v. AreThose ontology.now.names.classes (λ name. LiesBelow ontology.now name class.now) (map (λ s. s.now) v.items))) }
 {
-    match number_of(ontology.classes(), class) {
+    match class_number(ontology, class) {
         Some(number) => Ok(Some(answers(alloc, ontology, saturation, Question::Below(number))?)),
         None => Ok(None),
     }
@@ -118,7 +115,7 @@ pub fn instances<'a>(
     ensures exact { IfOk result (λ answer. IfSome answer
         (λ v. AreThose ontology.now.names.individuals (λ name. BelongsTo ontology.now name class.now) (map (λ s. s.now) v.items))) }
 {
-    match number_of(ontology.classes(), class) {
+    match class_number(ontology, class) {
         Some(number) => Ok(Some(answers(alloc, ontology, saturation, Question::Members(number))?)),
         None => Ok(None),
     }

@@ -1,40 +1,26 @@
 //! Names and what they name.
 ghost use Rattle.countermodel.specs.Elements.{context_of};
 ghost use Rattle.answers.specs.Explained.{IsAbout, IsClassNamed, IsKnown};
-ghost use Rattle.std.specs.Prelude.{◌≡◌, Contains, MatchOption, Some, map, slice_get, string_bytes};
+ghost use Rattle.std.specs.Prelude.{◌≡◌, Contains, MatchOption, Some, slice_get};
 
 use crate::asked::Asked;
-use axioms::{ClassId, ExprId, IndId, Ontology};
+use axioms::{ClassId, ExprId, IndId, Kind, Ontology};
 use facts::Context;
-
-fn number_of(names: &[String], name: &str) -> Option<usize>
-    ensures { MatchOption result (Contains (map string_bytes names.now) name.now → ⊥)
-        (λ n. slice_get (map string_bytes names.now) n ≡ Some name.now) }
-{
-    for (n, other) in names.iter().enumerate() {
-        if other.as_str() == name {
-            return Some(n);
-        }
-    }
-    None
-}
 
 /// The class of that name, as an expression.
 pub(crate) fn class_named(ontology: &Ontology, name: &str) -> Option<ExprId>
     ensures { MatchOption result (Contains ontology.now.names.classes name.now → ⊥) (λ e. IsClassNamed ontology.now name.now e.0) }
 {
-    ontology.bounded();
-    let number = number_of(ontology.classes(), name)?;
-    ontology.class_expr(ClassId(number as u32))
+    let number = ontology.number_of(Kind::Class, name)?;
+    ontology.class_expr(ClassId(number))
 }
 
 fn individual_named(ontology: &Ontology, name: &str) -> Option<IndId>
     ensures { MatchOption result (Contains ontology.now.names.individuals name.now → ⊥)
         (λ a. slice_get ontology.now.names.individuals a.0 ≡ Some name.now) }
 {
-    ontology.bounded();
-    let number = number_of(ontology.individuals(), name)?;
-    Some(IndId(number as u32))
+    let number = ontology.number_of(Kind::Individual, name)?;
+    Some(IndId(number))
 }
 
 /// The context of what is asked about.

@@ -1,16 +1,14 @@
 //! The lines of worked closures, as values and as text.
 ghost use Rattle.engine.specs.Saturated.{IsSaturated};
 
+use crate::asked;
 use axioms::{ExprId, IndId, Ontology};
 use cert_check::{Conclusion, Line, Rule, Subject, read_certificate};
 use certificate::LineText;
 use classification::is_consistent;
-use engine::{Saturation, saturated};
+use engine::Saturation;
 use explain::{contradiction, contradiction_text, line_text, lines};
-use profile::read_bytes;
 use std::alloc::Global;
-use std::hash::RandomState;
-use std::random::RandomSource;
 use std::test::Fail;
 
 /// The classes A and B are the expressions 2 and 3.
@@ -134,7 +132,7 @@ fn has_contradiction_text(alloc: Global, ontology: &Ontology, saturation: &Satur
 
 /// What is asked of a saturation: whether it is what was worked out for its document.
 #[derive(Clone, Copy)]
-enum Asked {
+pub(crate) enum Asked {
     Lines,
     Text,
     Contradiction,
@@ -142,7 +140,12 @@ enum Asked {
 }
 
 /// The answer.
-fn answer(alloc: Global, ontology: &Ontology, saturation: &Saturation, asked: Asked) -> bool
+pub(crate) fn answer(
+    alloc: Global,
+    ontology: &Ontology,
+    saturation: &Saturation,
+    asked: Asked,
+) -> bool
     requires { IsSaturated ontology.now saturation.now }
 {
     match asked {
@@ -151,27 +154,6 @@ fn answer(alloc: Global, ontology: &Ontology, saturation: &Saturation, asked: As
         Asked::Contradiction => has_contradiction(alloc, ontology, saturation),
         Asked::ContradictionText => has_contradiction_text(alloc, ontology, saturation),
     }
-}
-
-/// The answer for the saturation of an ontology. Here alone a saturation is alive.
-fn answer_for(alloc: Global, state: RandomState, ontology: &Ontology, asked: Asked) -> bool {
-    let Ok(saturation) = saturated(alloc, state, ontology, 100) else {
-        return false;
-    };
-    let right = answer(alloc, ontology, &saturation, asked);
-    drop(saturation);
-    right
-}
-
-/// The answer for the ontology of the document.
-fn is_so<R: AllocGlobal + RandomSource>(
-    rt: &R,
-    document: &str,
-    asked: Asked,
-) -> Result<bool, Fail> {
-    let state = RandomState::new(rt)?;
-    let ontology = read_bytes(rt.alloc(), document.as_bytes(), state)?;
-    Ok(answer_for(rt.alloc(), state, &ontology, asked))
 }
 
 /// Documents, and what is asked of each.
@@ -186,7 +168,10 @@ const ROWS: &[(&str, Asked)] = &[
 fn lines_of_worked_documents(rt: HostRuntime) -> Result<(), Fail> {
     for row in ROWS {
         let (document, asked) = *row;
-        assert!(rt; is_so(&rt, document, asked)?, "{document}");
+        assert!(rt;
+            asked::is_so(&rt, document, asked::Asked::Derivation(asked))?,
+            "{document}"
+        );
     }
     Ok(())
 }

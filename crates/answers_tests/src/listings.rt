@@ -4,18 +4,16 @@ ghost use Rattle.engine.specs.Saturated.{IsSaturated};
 ghost use Rattle.interpretation_spec.specs.Numbered.{IsMadeFor};
 ghost use Rattle.std.specs.Prelude.{[]};
 
+use crate::asked;
 use axioms::{ClassId, ExprId, Ontology, PropId};
 use certificate::{Claim, ClassRow, LineText, Listed, PairRow};
 use classification::is_consistent;
 use countermodel::{Elements, build, listed, pair_rows, text_with_listed};
-use engine::{Saturation, saturated};
+use engine::Saturation;
 use facts::Context;
 use interpretation_spec::{Interpretation, Row};
 use normalise::Normal;
-use profile::read_bytes;
 use std::alloc::Global;
-use std::hash::RandomState;
-use std::random::RandomSource;
 use std::test::Fail;
 
 /// The classes E, W, H and D are the expressions 2, 3, 5 and 7; loc and part are the properties 0 and 1.
@@ -194,7 +192,7 @@ fn has_one_form(normal: &Normal) -> bool {
 
 /// What is asked of a saturation: whether it is what was worked out for its document.
 #[derive(Clone, Copy)]
-enum Asked {
+pub(crate) enum Asked {
     ElementsAndPairs,
     Listing,
     Text,
@@ -203,7 +201,12 @@ enum Asked {
 }
 
 /// The answer.
-fn answer(alloc: Global, ontology: &Ontology, saturation: &Saturation, asked: Asked) -> bool
+pub(crate) fn answer(
+    alloc: Global,
+    ontology: &Ontology,
+    saturation: &Saturation,
+    asked: Asked,
+) -> bool
     requires { IsSaturated ontology.now saturation.now }
 {
     match asked {
@@ -213,27 +216,6 @@ fn answer(alloc: Global, ontology: &Ontology, saturation: &Saturation, asked: As
         Asked::Model => builds_a_model(alloc, ontology, saturation),
         Asked::OneForm => has_one_form(saturation.normal()),
     }
-}
-
-/// The answer for the saturation of an ontology. Here alone a saturation is alive.
-fn answer_for(alloc: Global, state: RandomState, ontology: &Ontology, asked: Asked) -> bool {
-    let Ok(saturation) = saturated(alloc, state, ontology, 100) else {
-        return false;
-    };
-    let right = answer(alloc, ontology, &saturation, asked);
-    drop(saturation);
-    right
-}
-
-/// The answer for the ontology of the document.
-fn is_so<R: AllocGlobal + RandomSource>(
-    rt: &R,
-    document: &str,
-    asked: Asked,
-) -> Result<bool, Fail> {
-    let state = RandomState::new(rt)?;
-    let ontology = read_bytes(rt.alloc(), document.as_bytes(), state)?;
-    Ok(answer_for(rt.alloc(), state, &ontology, asked))
 }
 
 /// Documents, and what is asked of each.
@@ -250,7 +232,10 @@ const ROWS: &[(&str, Asked)] = &[
 fn reads_what_worked_documents_list(rt: HostRuntime) -> Result<(), Fail> {
     for row in ROWS {
         let (document, asked) = *row;
-        assert!(rt; is_so(&rt, document, asked)?, "{document}");
+        assert!(rt;
+            asked::is_so(&rt, document, asked::Asked::Listing(asked))?,
+            "{document}"
+        );
     }
     Ok(())
 }

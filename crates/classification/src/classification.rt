@@ -1,5 +1,5 @@
 //! A classification with its texts.
-ghost use Rattle.cert_check.specs.Acceptable.{IsAcceptable};
+ghost use Rattle.cert_check.specs.Acceptable.{AreRight, IsAcceptable};
 ghost use Rattle.classification.specs.Classified.{AreCountsOf, AreTextsOf};
 ghost use Rattle.classification.specs.Shown.{IsCertificateOf, IsOutcomeOf};
 ghost use Rattle.exactness.specs.Listed.{IsConsistent};
@@ -164,9 +164,10 @@ pub fn classified(
     ensures counts { IfOk result (λ c. AreCountsOf ontology.now c.summary) }
     ensures facts { IfOk result (λ c. c.summary.facts ≡ length saturation.now.state.facts) }
     ensures texts { IfOk result (λ c. AreTextsOf ontology.now c.summary.consistent c.taxonomy.items c.instances.items) }
-    // The certificate shows that the taxonomy and the instances are right.
+    // The certificate shows that the taxonomy and the instances are right, and so they say what follows from the axioms.
     ensures acceptable { IfOk result
         (λ c. IsAcceptable ontology.now c.taxonomy.items c.instances.items c.certificate.items) }
+    ensures right { IfOk result (λ c. AreRight ontology.now c.taxonomy.items c.instances.items c.certificate.items) }
 {
     ontology.well_formed();
     let consistent = is_consistent(ontology, saturation);
@@ -192,6 +193,7 @@ fn classification_of(
     ensures texts { IfOk result (λ c. AreTextsOf ontology.now c.summary.consistent c.taxonomy.items c.instances.items) }
     ensures acceptable { IfOk result
         (λ c. IsAcceptable ontology.now c.taxonomy.items c.instances.items c.certificate.items) }
+    ensures right { IfOk result (λ c. AreRight ontology.now c.taxonomy.items c.instances.items c.certificate.items) }
 {
     let made = classified(alloc, ontology, &saturation);
     drop(saturation);
@@ -213,9 +215,10 @@ pub fn classify(
     ensures counts { IfOk result (λ c. AreCountsOf ontology.now c.summary) }
     ensures within { IfOk result (λ c. c.summary.facts ≤ max_facts) }
     ensures texts { IfOk result (λ c. AreTextsOf ontology.now c.summary.consistent c.taxonomy.items c.instances.items) }
-    // The certificate shows that the taxonomy and the instances are right.
+    // The certificate shows that the taxonomy and the instances are right, and so they say what follows from the axioms.
     ensures acceptable { IfOk result
         (λ c. IsAcceptable ontology.now c.taxonomy.items c.instances.items c.certificate.items) }
+    ensures right { IfOk result (λ c. AreRight ontology.now c.taxonomy.items c.instances.items c.certificate.items) }
     ensures limit { result ≡ Err stops.Limit → HasMoreFactsThan ontology.now max_facts }
 {
     let saturation = match saturated(alloc, state, ontology, max_facts) {

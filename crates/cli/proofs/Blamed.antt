@@ -1,8 +1,9 @@
 -- Which files the answers of calls blame.
 use Rattle.std.proofs.Common.{◌≡◌, ◌∙◌, ◌<◌, ◌≤◌, ◌-◌, ◌^◌, ℕ, zero, suc, List, Bool, false, Option, Some, None, Result, Ok, Err, refl, sym, ap, subst, inl, inr, arith}
-use Rattle.cli.specs.Devices.{Device, FailsIn, IsReadUntil, SourceState, Takes}
+use Rattle.session.specs.Devices.{Device, FailsIn, IsReadUntil, SourceState, Takes}
 use Rattle.cli.specs.Files.{AsksFile, BlamesFile, ClassifiesFile, IsUnopened, IsUnreadable, NoWriteFails, SomeWriteFails, Store}
-use Rattle.cli.specs.Writing.{AreWritten, AreWrittenUntil, IsClassification, IsDocumentRead, Sinks, Texts}
+use Rattle.cli.specs.Writing.{IsClassification, IsDocumentRead}
+use Rattle.session.specs.Written.{AreWritten, AreWrittenUntil, Sinks, Texts}
 use Rattle.cli.specs.declared.fault.ClassifyFault.{ClassifyFault}
 use Rattle.cli.specs.declared.fault.ClassifyFault.TheVariants as classifying
 use Rattle.classification.specs.declared.classification.Summary.{Summary}
@@ -10,8 +11,7 @@ use Rattle.device.specs.Device.{HasFailed}
 use Rattle.profile.specs.Faults.{RefusesKnown}
 use Rattle.profile.specs.declared.fault.DocumentFault.{DocumentFault}
 use Rattle.profile.specs.declared.fault.DocumentFault.TheVariants as reading
-use Rattle.session.specs.Answered as asked_of
-use Rattle.session.specs.Devices as asked
+use Rattle.session.specs.Answered.{IsRead}
 use Rattle.session.specs.declared.question_fault.QuestionFault.{QuestionFault}
 use Rattle.session.specs.declared.question_fault.QuestionFault.TheVariants as asking
 use Rattle.system_files.specs.Contents.{IsMissing, IsThere}
@@ -50,18 +50,22 @@ unopened_is_blamed fails known held (reading.Lex fault) is = absurd is
 unopened_is_blamed fails known held (reading.Parse fault) is = absurd is
 unopened_is_blamed fails known held (reading.Faults found) is = absurd is
 
+-- a document that is read until a fault: its file is to blame where the source failed
+read_blamed : (fails known : Bool) (held : Option (List ℕ)) (fault : DocumentFault) (old new : SourceState) → IsThere known held → (fails ≡ false → old.failures ≡ 0) → (fails ≡ false → new.failures ≡ 0) → IsReadUntil fault old new → BlamesFile fails known held fault
+read_blamed fails known held reading.Io old new there none none' is = unreadable fails known held old.failures new.failures none none' is.failed
+read_blamed fails known held reading.Memory old new there none none' is = tt
+read_blamed fails known held reading.TooLarge old new there none none' is = there
+read_blamed fails known held reading.TooManyNames old new there none none' is = there
+read_blamed fails known held (reading.NotUtf8 at) old new there none none' is = there
+read_blamed fails known held (reading.Lex fault) old new there none none' is = there
+read_blamed fails known held (reading.Parse fault) old new there none none' is = there
+read_blamed fails known held (reading.Faults found) old new there none none' is = there
+
 -- ---- questions
 
-pub asks_file : {X : Type 0} (fails known : Bool) (held : Option (List ℕ)) (answer : Result X QuestionFault) (old new : asked.SourceState) → IsThere known held → (fails ≡ false → old.failures ≡ 0) → (fails ≡ false → new.failures ≡ 0) → asked_of.IsRead answer old new → AsksFile fails known held answer
+pub asks_file : {X : Type 0} (fails known : Bool) (held : Option (List ℕ)) (answer : Result X QuestionFault) (old new : SourceState) → IsThere known held → (fails ≡ false → old.failures ≡ 0) → (fails ≡ false → new.failures ≡ 0) → IsRead answer old new → AsksFile fails known held answer
 asks_file fails known held (Ok x) old new there none none' is = there
-asks_file fails known held (Err (asking.Document reading.Io)) old new there none none' is = unreadable fails known held old.failures new.failures none none' is.failed
-asks_file fails known held (Err (asking.Document reading.Memory)) old new there none none' is = tt
-asks_file fails known held (Err (asking.Document reading.TooLarge)) old new there none none' is = there
-asks_file fails known held (Err (asking.Document reading.TooManyNames)) old new there none none' is = there
-asks_file fails known held (Err (asking.Document (reading.NotUtf8 at))) old new there none none' is = there
-asks_file fails known held (Err (asking.Document (reading.Lex fault))) old new there none none' is = there
-asks_file fails known held (Err (asking.Document (reading.Parse fault))) old new there none none' is = there
-asks_file fails known held (Err (asking.Document (reading.Faults found))) old new there none none' is = there
+asks_file fails known held (Err (asking.Document fault)) old new there none none' is = read_blamed fails known held fault old new there none none' is
 asks_file fails known held (Err asking.Limit) old new there none none' is = there
 asks_file fails known held (Err (asking.UnknownName name)) old new there none none' is = there
 asks_file fails known held (Err asking.Memory) old new there none none' is = there
@@ -132,16 +136,6 @@ written_some (suc (suc (suc zero))) old new texts before behind working counted 
 written_some (suc (suc (suc (suc n)))) old new texts before behind working counted written = absurd written
 
 -- ---- classifications
-
-read_blamed : (fails known : Bool) (held : Option (List ℕ)) (fault : DocumentFault) (old new : SourceState) → IsThere known held → (fails ≡ false → old.failures ≡ 0) → (fails ≡ false → new.failures ≡ 0) → IsReadUntil fault old new → BlamesFile fails known held fault
-read_blamed fails known held reading.Io old new there none none' is = unreadable fails known held old.failures new.failures none none' is.failed
-read_blamed fails known held reading.Memory old new there none none' is = tt
-read_blamed fails known held reading.TooLarge old new there none none' is = there
-read_blamed fails known held reading.TooManyNames old new there none none' is = there
-read_blamed fails known held (reading.NotUtf8 at) old new there none none' is = there
-read_blamed fails known held (reading.Lex fault) old new there none none' is = there
-read_blamed fails known held (reading.Parse fault) old new there none none' is = there
-read_blamed fails known held (reading.Faults found) old new there none none' is = there
 
 pub classifies_file : (s : Store) (facts bytes : ℕ) (held left : Option (List ℕ)) (answer : Result Summary ClassifyFault) (source source' : SourceState) (old new : Sinks) → IsThere s.is_known held → (s.reads_fail ≡ false → source.failures ≡ 0) → (s.reads_fail ≡ false → source'.failures ≡ 0) → AreWorking old → AreCounted new s.failed_before s.failed_behind → IsDocumentRead answer source source' → IsClassification bytes facts left old new answer → ClassifiesFile s held answer
 classifies_file s facts bytes held left (Ok summary) source source' old new there unfailed unfailed' working counted read is = (there, written_none old new is.0 _ _ working counted is.2)

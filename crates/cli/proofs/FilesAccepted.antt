@@ -17,12 +17,13 @@ use Rattle.std.specs.Prelude.{codes}
 use Rattle.std.specs.Str.Parse.{digits_value, without_leading_plus}
 use Rattle.cli.proofs.WrittenAccepted.{written_is_accepted}
 use Rattle.cli.specs.Checked.{IsChecked, IsCheckFault}
-use Rattle.cli.specs.Devices.{Device}
+use Rattle.session.specs.Devices.{Device}
 use Rattle.cli.specs.Performed.{AreApart, HoldTexts, IsCheckRun, IsCheckTold, IsCheckedFiles, IsClassifyAnswer, IsClassifyRun, IsClassifyTold, IsPerformed, IsTaskRun}
 use Rattle.cli.specs.Files.{Store}
 use Rattle.cli.specs.Printed.{Output, IsAnswered, IsLineTold, IsPrinted, IsTold, classify_status, out_of_memory, verdict_status, verdict_text}
 use Rattle.cli.specs.Theorems.{AreSamePaths, IsAcceptedRun, IsDocumentApart, WrittenFilesAreAccepted}
-use Rattle.cli.specs.Writing.{IsClassified, Texts}
+use Rattle.cli.specs.Writing.{IsClassified}
+use Rattle.session.specs.Written.{Texts}
 use Rattle.cli.specs.declared.fault.ClassifyFault.{ClassifyFault}
 use Rattle.cli.specs.declared.fault.ClassifyFault.TheVariants as classifying
 use Rattle.classification.specs.declared.classification.Summary.{Summary}

@@ -5,7 +5,8 @@ use Rattle.std.specs.Io.KnownBytes.{Consumes, IsAtEnd, Keeps}
 use Rattle.axioms.specs.Numbered.{Ontology}
 use Rattle.cert_check.specs.declared.verdict.Verdict.{Verdict}
 use Rattle.cli.specs.Checked.{AreKnown, IsChecked, IsCheckFault}
-use Rattle.cli.specs.Writing.{IsClassified, IsFaultOf, Texts}
+use Rattle.cli.specs.Writing.{IsClassified, IsFaultOf}
+use Rattle.session.specs.Written.{Texts}
 use Rattle.classification.specs.declared.classification.Summary.{Summary}
 use Rattle.cli.specs.declared.fault.CheckFault.{CheckFault}
 use Rattle.cli.specs.declared.fault.CheckFault.TheVariants as checking
@@ -56,6 +57,7 @@ classified_file file left bytes facts summary texts kept is = record {
   within = is.within;
   texts_are = is.texts_are;
   acceptable = is.acceptable;
+  right = is.right;
 }
 
 pub fault_of_file : (file left : Option (List ℕ)) (bytes facts : ℕ) (fault : ClassifyFault) → Keeps file left → IsFaultOf bytes facts left fault → IsFaultOf bytes facts file fault

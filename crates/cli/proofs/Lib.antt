@@ -3,7 +3,6 @@ pub mod Questions
 pub mod Telling
 pub mod Pieces
 pub mod Blamed
-pub mod Outcomes
 pub mod Stored
 pub mod SomeTexts
 pub mod Left
@@ -11,3 +10,4 @@ pub mod QuestionsAsked
 pub mod WrittenAccepted
 pub mod FilesAccepted
 pub mod EveryDocument
+pub mod AcceptedRight

@@ -9,7 +9,7 @@ use Rattle.std.specs.Io.KnownBytes.{Appends}
 use Rattle.std.proofs.KnownBytes.{Appends-trans}
 use Rattle.device.specs.Device.{AppendsBeginning, HasFailed}
 use Rattle.program.specs.declared.status.Status.{Status}
-use Rattle.cli.specs.Devices.{Device}
+use Rattle.session.specs.Devices.{Device}
 use Rattle.cli.specs.Printed.{IsPrinted, reason_text, rejected_text}
 use Rattle.axioms.specs.Numbered.{Ontology}
 use Rattle.cert_check.specs.declared.verdict.Reason.{Reason}

@@ -7,7 +7,7 @@ use Rattle.axioms.specs.Numbered.{Ontology}
 use Rattle.cert_check.specs.Acceptable.{IsAcceptable, IsConsistentShown, IsContradictionShown}
 use Rattle.certificate.specs.Certificate.{Certificate, Line, Listed}
 use Rattle.cli.proofs.Stored.{AreSome, IsSome}
-use Rattle.cli.specs.Writing.{Texts}
+use Rattle.session.specs.Written.{Texts}
 
 some : (text given : List ℕ) → given ≡ text → IsSome text → IsSome given
 some text given is h = let P : List ℕ → Type 0 = IsSome in subst P (sym is) h

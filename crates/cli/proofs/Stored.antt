@@ -4,9 +4,9 @@ use Rattle.std.specs.Io.KnownBytes.{Appends}
 use Rattle.std.specs.Str.{bytes_eq}
 use Rattle.std.proofs.lemmas.Slice.Eq.{bytes_eq-Decides}
 use Rattle.command_line.specs.declared.tasks.Paths.{Paths}
-use Rattle.cli.specs.Devices.{Device, FailsIn, Takes}
+use Rattle.session.specs.Devices.{Device, FailsIn, Takes}
 use Rattle.cli.specs.Performed.{AreApart, AreOthersKept, HoldTexts, HoldTextsUntil, Holds, HoldsBeginning, Stays}
-use Rattle.cli.specs.Writing.{AreWritten, AreWrittenUntil, Sinks, Texts}
+use Rattle.session.specs.Written.{AreWritten, AreWrittenUntil, Sinks, Texts}
 use Rattle.system_files.specs.Contents.{Content, HasTakenSome, IsClosed, nothing_taken}
 
 -- the text is not empty

@@ -6,7 +6,7 @@ use Rattle.cert_check.specs.Acceptable.{AreRight, IsAcceptable}
 use Rattle.cert_check.specs.Verdict.{HasTrueLines, IsVerdict, PassesLines}
 use Rattle.cert_check.specs.declared.verdict.Verdict.{Verdict}
 use Rattle.cert_check.specs.declared.verdict.Verdict.TheVariants.{Accepted}
-use Rattle.cli.specs.Devices.{SourceState, source_state, IsReadOn, IsReadToItsEnd, IsReadUntil, FailsInReading}
+use Rattle.session.specs.Devices.{SourceState, source_state, IsReadOn, IsReadToItsEnd, IsReadUntil, FailsInReading}
 use Rattle.cli.specs.Writing.{IsRead}
 use Rattle.cli.specs.declared.fault.CheckFault.{CheckFault}
 use Rattle.cli.specs.declared.fault.CheckFault.TheVariants.{Document, Memory, Io}

@@ -1,4 +1,3 @@
-pub mod Devices
 pub mod Printed
 pub mod Writing
 pub mod Checked

@@ -14,7 +14,8 @@ use Rattle.cli.specs.Checked.{IsChecked, IsCheckFault}
 use Rattle.std.specs.Global.{Vec}
 use Rattle.cli.specs.Files.{AsksFile, ChecksFiles, ClassifiesFile, Store, store}
 use Rattle.cli.specs.Printed.{Output, IsAnswered, IsTold, verdict_text, verdict_status, outputs, summary_text, IsCheckText, check_status, IsClassifyText, classify_status, IsQuestionText, question_status, IsLineTold}
-use Rattle.cli.specs.Writing.{IsClassified, IsFaultOf, Texts}
+use Rattle.cli.specs.Writing.{IsClassified, IsFaultOf}
+use Rattle.session.specs.Written.{Texts}
 use Rattle.cli.specs.declared.fault.CheckFault.{CheckFault}
 use Rattle.cli.specs.declared.fault.ClassifyFault.{ClassifyFault}
 use Rattle.cli.specs.declared.fault.ClassifyFault.TheVariants.{Io}

@@ -7,7 +7,7 @@ use Rattle.cert_check.specs.declared.verdict.Reason.TheVariants.{BadText, BadLin
 use Rattle.cert_check.specs.declared.verdict.Verdict.{Verdict}
 use Rattle.cert_check.specs.declared.verdict.Verdict.TheVariants.{Accepted, Rejected}
 use Rattle.classification.specs.declared.classification.Summary.{Summary}
-use Rattle.cli.specs.Devices.{Device, Takes, FailsIn, seen}
+use Rattle.session.specs.Devices.{Device, Takes, FailsIn, seen}
 use Rattle.cli.specs.declared.printing.Message.{Message}
 use Rattle.cli.specs.declared.fault.CheckFault.{CheckFault}
 use Rattle.cli.specs.declared.fault.CheckFault.TheVariants as checking

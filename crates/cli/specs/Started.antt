@@ -6,7 +6,7 @@ use Rattle.std.specs.IoError.{error_kind}
 use Rattle.std.specs.declared.io.Error.{Error}
 use Rattle.std.specs.declared.io.ErrorKind.{ErrorKind}
 use Rattle.std.specs.declared.io.ErrorKind.TheVariants.{OutOfMemory}
-use Rattle.cli.specs.Devices.{Device, seen}
+use Rattle.session.specs.Devices.{Device, seen}
 use Rattle.cli.specs.Performed.{Performs}
 use Rattle.cli.specs.Printed.{IsPrinted, out_of_memory}
 use Rattle.device.specs.declared.device.Sink as sinks

@@ -1,7 +1,7 @@
 -- What is proved of classifications and checks together.
 use Rattle.std.specs.Prelude.{◌≡◌, ◌<◌, ◌≤◌, ℕ, ◌⊎◌, List, Result, Ok, Err, Some, true, codes, length}
 use Rattle.axioms.specs.Numbered.{Ontology}
-use Rattle.cert_check.specs.Acceptable.{IsAcceptable}
+use Rattle.cert_check.specs.Acceptable.{AreRight, IsAcceptable}
 use Rattle.cert_check.specs.declared.verdict.Verdict.{Verdict}
 use Rattle.cert_check.specs.declared.verdict.Verdict.TheVariants.{Accepted}
 use Rattle.classification.specs.Classified.{AreCountsOf}
@@ -14,7 +14,8 @@ use Rattle.command_line.specs.declared.tasks.Task.TheVariants.{Check, Classify}
 use Rattle.cli.specs.Files.{Store}
 use Rattle.cli.specs.Performed.{AreApart, IsPerformed}
 use Rattle.cli.specs.Printed.{Output, IsAnswered, IsCheckText, IsTold, check_status}
-use Rattle.cli.specs.Writing.{Texts, IsClassification, IsClassified, AreWritten, Sinks}
+use Rattle.cli.specs.Writing.{IsClassification, IsClassified}
+use Rattle.session.specs.Written.{Texts, AreWritten, Sinks}
 use Rattle.cli.specs.declared.fault.CheckFault.{CheckFault}
 use Rattle.cli.specs.declared.fault.CheckFault.TheVariants.{Document, Memory, Io}
 use Rattle.cli.specs.declared.fault.ClassifyFault.{ClassifyFault}
@@ -71,6 +72,24 @@ WhatIsWrittenIsAccepted =
     IsClassified most_written facts (Some bytes) summary texts →
     IsCheckAnswer most_checked (Some bytes) (Some texts.taxonomy) (Some texts.instances) (Some texts.certificate) answer →
     AcceptsUnlessStopped most_checked bytes answer
+
+-- ---- accepted texts are right
+
+-- the document reads as this ontology, and as no other; the taxonomy and the instances say what follows from its axioms, as the
+-- certificate shows; and no other taxonomy and instances are acceptable for it
+pub record AreRightFor (document taxonomy instances certificate : List ℕ) : Type 0 where
+  pub ontology : Ontology
+  pub reads : ReadsAs document ontology
+  pub only : (o : Ontology) → ReadsAs document o → o ≡ ontology
+  pub right : AreRight ontology taxonomy instances certificate
+  pub determined : (others others' text : List ℕ) → IsAcceptable ontology others others' text → (others ≡ taxonomy) × (others' ≡ instances)
+
+-- texts that a check of a document accepts, whoever made them, are right for it
+abbrev pub AcceptedTextsAreRight : Type 0
+AcceptedTextsAreRight =
+    (most : ℕ) (document taxonomy instances certificate : List ℕ) →
+    IsCheckAnswer most (Some document) (Some taxonomy) (Some instances) (Some certificate) (Ok Accepted) →
+    AreRightFor document taxonomy instances certificate
 
 -- ---- written files are accepted
 

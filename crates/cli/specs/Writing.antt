@@ -1,12 +1,12 @@
 -- What a classification of a document writes.
-use Rattle.std.specs.Prelude.{◌≡◌, ◌≤◌, ℕ, zero, suc, List, Option, Result, Ok, Err}
+use Rattle.std.specs.Prelude.{◌≡◌, ◌≤◌, ℕ, List, Option, Result, Ok, Err}
 use Rattle.axioms.specs.Numbered.{Ontology}
 use Rattle.axioms.specs.WellFormed.{IsOntology}
-use Rattle.cert_check.specs.Acceptable.{IsAcceptable}
+use Rattle.cert_check.specs.Acceptable.{AreRight, IsAcceptable}
 use Rattle.classification.specs.Classified.{AreCountsOf, AreTextsOf}
-use Rattle.classification.specs.declared.classification.Classification.{Classification}
 use Rattle.classification.specs.declared.classification.Summary.{Summary}
-use Rattle.cli.specs.Devices.{Device, seen, Takes, FailsIn, SourceState, IsReadToItsEnd, IsReadUntil}
+use Rattle.session.specs.Devices.{SourceState, IsReadToItsEnd, IsReadUntil}
+use Rattle.session.specs.Written.{Sinks, Texts, AreWritten, AreWrittenUntil, all_seen}
 use Rattle.cli.specs.declared.fault.ClassifyFault.{ClassifyFault}
 use Rattle.cli.specs.declared.fault.ClassifyFault.TheVariants.{Document, Memory, Limit, Io}
 use Rattle.device.specs.declared.device.Sink.{Ghosts}
@@ -14,44 +14,8 @@ use Rattle.profile.specs.Faults.{ReadsKnown, RefusesKnown}
 use Rattle.engine.specs.Saturated.{HasMoreFactsThan}
 use Rattle.program.specs.declared.limits.Limits.{Limits}
 
--- what takes the three texts
-pub record Sinks : Type 0 where
-  pub taxonomy : Device
-  pub instances : Device
-  pub certificate : Device
-
--- what the words of their traits tell of the three sinks
-abbrev pub all_seen : {T I C : Type 0} → Ghosts T → Ghosts I → Ghosts C → T × I × C → Sinks
-all_seen T I C three = record { taxonomy = seen T three.0; instances = seen I three.1; certificate = seen C three.2 }
-
-pub record Texts : Type 0 where
-  pub taxonomy : List ℕ
-  pub instances : List ℕ
-  pub certificate : List ℕ
-
--- each sink has taken the whole of its text
-abbrev pub AreWritten : (old new : Sinks) → Texts → Type 0
-AreWritten old new texts =
-    Takes old.taxonomy new.taxonomy texts.taxonomy × Takes old.instances new.instances texts.instances × Takes old.certificate new.certificate texts.certificate
-
--- the sink of that number failed: those before it have taken the whole of their texts, it a beginning of its text, and
--- those behind it nothing
-abbrev pub AreWrittenUntil : ℕ → (old new : Sinks) → Texts → Type 0
-AreWrittenUntil (suc zero) old new texts =
-    FailsIn old.taxonomy new.taxonomy texts.taxonomy × (new.instances ≡ old.instances) × (new.certificate ≡ old.certificate)
-AreWrittenUntil (suc (suc zero)) old new texts =
-    Takes old.taxonomy new.taxonomy texts.taxonomy × FailsIn old.instances new.instances texts.instances × (new.certificate ≡ old.certificate)
-AreWrittenUntil (suc (suc (suc zero))) old new texts =
-    Takes old.taxonomy new.taxonomy texts.taxonomy × Takes old.instances new.instances texts.instances × FailsIn old.certificate new.certificate texts.certificate
-AreWrittenUntil n old new texts = ⊥
-
--- the texts are written: all of them, or until the sink of the number that is told
-abbrev pub AreWrittenAsFar : {X : Type 0} → Result X ℕ → (old new : Sinks) → Texts → Type 0
-AreWrittenAsFar (Ok x) old new texts = AreWritten old new texts
-AreWrittenAsFar (Err n) old new texts = AreWrittenUntil n old new texts
-
 -- the document, of at most so many bytes, reads as an ontology whose closure has at most so many facts; these are its counts
--- and its texts, and the certificate shows that the other two are right
+-- and its texts, the certificate shows that the other two are right, and so they say what follows from the axioms
 pub record IsClassified (most_bytes most_facts : ℕ) (document : Option (List ℕ)) (summary : Summary) (texts : Texts) : Type 0 where
   pub ontology : Ontology
   pub reads : ReadsKnown document most_bytes ontology
@@ -60,6 +24,7 @@ pub record IsClassified (most_bytes most_facts : ℕ) (document : Option (List �
   pub within : summary.facts ≤ most_facts
   pub texts_are : AreTextsOf ontology summary.consistent texts.taxonomy texts.instances
   pub acceptable : IsAcceptable ontology texts.taxonomy texts.instances texts.certificate
+  pub right : AreRight ontology texts.taxonomy texts.instances texts.certificate
 
 -- the document reads as some ontology
 abbrev pub IsRead : (most_bytes : ℕ) → (document : Option (List ℕ)) → Type 0
@@ -90,10 +55,6 @@ IsClassification bytes facts document old new (Err fault) = IsFaultOf bytes fact
 -- what an answer says of the document, and of the three sinks before and after a call
 abbrev pub Classifies : {T I C : Type 0} → Ghosts T → Ghosts I → Ghosts C → Limits → (document : Option (List ℕ)) → (old new : T × I × C) → Result Summary ClassifyFault → Type 0
 Classifies T I C limits document old new answer = IsClassification limits.max_bytes limits.max_facts document (all_seen T I C old) (all_seen T I C new) answer
-
--- the texts of a classification in memory
-abbrev pub texts_of : Classification → Texts
-texts_of c = record { taxonomy = c.taxonomy.items; instances = c.instances.items; certificate = c.certificate.items }
 
 -- what was read of the document: all of it, where it was read as an ontology; otherwise some of it; and the fault of a source
 -- is told only where it failed

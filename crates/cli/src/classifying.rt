@@ -1,14 +1,16 @@
 //! Classification of a document.
-ghost use Rattle.cli.specs.Devices.{source_state};
-ghost use Rattle.cli.specs.Writing.{AreWrittenAsFar, Classifies, IsBeforeWriting, IsClassified, IsDocumentRead, IsFaultOf, all_seen, texts_of};
+ghost use Rattle.session.specs.Devices.{source_state};
+ghost use Rattle.cli.specs.Writing.{Classifies, IsBeforeWriting, IsClassified, IsDocumentRead, IsFaultOf};
+ghost use Rattle.session.specs.Written.{KeepPaths, texts_of};
 ghost use Rattle.cli.specs.declared.fault.ClassifyFault.TheVariants as faults;
 ghost use Rattle.profile.specs.declared.fault.DocumentFault.TheVariants as document_faults;
-ghost use Rattle.std.specs.Prelude.{◌≡◌, ◌+◌, ◌<◌, IfErr, IfOk, IsErrOf};
+ghost use Rattle.std.specs.Prelude.{◌+◌, ◌<◌, IfErr, IfOk, IsErrOf};
 
 use crate::fault::ClassifyFault;
 use classification::{Classification, Stop, Summary, classify};
-use device::{Sink, Source, write_all};
+use device::{Sink, Source};
 use profile::{Limits, read_document};
+use session::write_texts;
 use std::alloc::Global;
 use std::hash::RandomState;
 
@@ -38,32 +40,6 @@ fn classified<S: Source>(
     }
 }
 
-/// Writes the texts to the three sinks, in their order.
-///
-/// # Errors
-///
-/// The number of the sink that failed.
-fn write_texts<T: Sink, I: Sink, C: Sink>(
-    made: &Classification,
-    taxonomy: &mut T,
-    instances: &mut I,
-    certificate: &mut C,
-) -> Result<(), usize>
-    ensures written { AreWrittenAsFar result (all_seen T.Sink I.Sink C.Sink (taxonomy.old, instances.old, certificate.old)) (all_seen T.Sink I.Sink C.Sink (taxonomy.new, instances.new, certificate.new)) (texts_of made.now) }
-    ensures paths { (T.path taxonomy.new ≡ T.path taxonomy.old) × (I.path instances.new ≡ I.path instances.old) × (C.path certificate.new ≡ C.path certificate.old) }
-{
-    if write_all(taxonomy, &made.taxonomy).is_err() {
-        return Err(1);
-    }
-    if write_all(instances, &made.instances).is_err() {
-        return Err(2);
-    }
-    if write_all(certificate, &made.certificate).is_err() {
-        return Err(3);
-    }
-    Ok(())
-}
-
 /// Reads the document, classifies it, and writes the taxonomy, the instances and the certificate, in this order. All
 /// three are made in memory before anything is written.
 pub fn classify_document<S: Source, T: Sink, I: Sink, C: Sink>(
@@ -81,7 +57,7 @@ pub fn classify_document<S: Source, T: Sink, I: Sink, C: Sink>(
     ensures beyond { IsErrOf result (faults.Document document_faults.TooLarge) → S.most source.new + limits.now.max_bytes < S.most source.old }
     // What was read of the document; its source has not failed but where that is the fault.
     ensures read { IsDocumentRead result (source_state S.Source source.old) (source_state S.Source source.new) }
-    ensures paths { (T.path taxonomy.new ≡ T.path taxonomy.old) × (I.path instances.new ≡ I.path instances.old) × (C.path certificate.new ≡ C.path certificate.old) }
+    ensures paths { KeepPaths T.Sink I.Sink C.Sink (taxonomy.old, instances.old, certificate.old) (taxonomy.new, instances.new, certificate.new) }
 {
     let made = match classified(alloc, source, limits, state) {
         Ok(made) => made,

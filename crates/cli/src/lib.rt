@@ -1,7 +1,7 @@
 //! Documents in, texts and verdicts out: the calls that the program `elc` makes.
 #![tactic(auto)]
 
-ghost use Rattle.cli.specs.Theorems.{EveryDocumentIsClassified, WhatIsWrittenIsAccepted, WrittenFilesAreAccepted};
+ghost use Rattle.cli.specs.Theorems.{AcceptedTextsAreRight, EveryDocumentIsClassified, WhatIsWrittenIsAccepted, WrittenFilesAreAccepted};
 
 mod asking;
 mod checking;
@@ -40,6 +40,13 @@ pub fn every_document_is_classified()
 /// document has more bytes than this checker reads.
 pub fn what_is_written_is_accepted()
     ensures { WhatIsWrittenIsAccepted }
+{}
+
+/// Where `check_document` accepts texts, whoever made them, the document reads as one ontology, and the taxonomy and the
+/// instances are those that its finite interpretations determine: each yes has a derivation from its axioms, each no is
+/// refuted by the listed interpretation of them, and no other texts are acceptable for the document.
+pub fn accepted_texts_are_right()
+    ensures { AcceptedTextsAreRight }
 {}
 
 /// Two runs of `perform` over files whose content is known: after one that classifies and ends with status 0, one that

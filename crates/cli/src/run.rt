@@ -1,5 +1,5 @@
 //! A whole run of the program.
-ghost use Rattle.cli.specs.Devices.{seen};
+ghost use Rattle.session.specs.Devices.{seen};
 ghost use Rattle.cli.specs.Files.{store};
 ghost use Rattle.cli.specs.Performed.{AskForNoClassification, IsCheckRun, IsCheckTold, IsClassifyMade, IsClassifyRun, IsClassifyTold, Performs, max_bytes_of, max_facts_of};
 ghost use Rattle.cli.specs.Printed.{IsLineTold, outputs};

@@ -11,6 +11,7 @@ use Rattle.facts.specs.declared.contexts.Context.TheVariants as contexts
 use Rattle.facts.specs.declared.contexts.Fact.{Fact}
 use Rattle.facts.specs.declared.contexts.Fact.TheVariants as facts
 use Rattle.normal_forms.specs.declared.forms.Class2.TheVariants as classes
+use Rattle.normalise.specs.Problem.{beginnings_of}
 
 -- ---- facts that are wanted
 
@@ -59,3 +60,7 @@ EachIsCalledFor o s marks = (n : ℕ) (f : Fact) → slice_get s.state.facts n �
 -- some of the lines show the fact
 abbrev pub IsShown : Beginnings → List Line → Fact → Type 0
 IsShown b lines f = (numbers : List ℕ) × AreShowing b lines numbers f
+
+-- some of the lines show each marked fact
+abbrev pub ShowsMarked : Saturated → List Bool → List Line → Type 0
+ShowsMarked s marks lines = (n : ℕ) (f : Fact) → IsMarked marks n → slice_get s.state.facts n ≡ Some f → IsShown (beginnings_of s.normal) lines f

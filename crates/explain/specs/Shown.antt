@@ -1,13 +1,15 @@
 -- Lines that show facts: of a beginning of an intersection a line for each operand, of one of a chain a walk along it.
-use Rattle.std.specs.Prelude.{◌≡◌, ℕ, List, [], ◌∷◌, ◌++◌, map, Some}
+use Rattle.std.specs.Prelude.{◌≡◌, ℕ, List, [], ◌∷◌, ◌++◌, map, slice_get, Some}
 use Rattle.certificate.specs.Certificate.{Conclusion, Sub, Line}
 use Rattle.cert_check.specs.Derivation.{at_numbers}
 use Rattle.cert_check.specs.Lines.{IsWalk}
 use Rattle.closure.specs.Closure.{Fact, In, Edge}
 use Rattle.closure.specs.Said.{Beginnings, SaysFact}
+use Rattle.engine.specs.Saturated.{Saturated}
 use Rattle.exactness.specs.Derivable.{subject_of}
 use Rattle.facts.specs.declared.contexts.Fact as code
 use Rattle.normal_forms.specs.Forms.{Class2, Whole, Beginning, Property2, Property, Steps}
+use Rattle.normalise.specs.Problem.{beginnings_of}
 
 -- a class itself, or the operands of a beginning
 abbrev pub operands_of : Class2 → List ℕ
@@ -30,6 +32,10 @@ pub record AreShowing (b : Beginnings) (lines : List Line) (numbers : List ℕ) 
   pub conclusions : List Conclusion
   pub at : at_numbers (map (λ l. l.conclusion) lines) numbers ≡ Some conclusions
   pub shown : IsShownBy fact conclusions
+
+-- the lines of these numbers show the fact of that number
+abbrev pub ShowsFact : Saturated → List Line → ℕ → List ℕ → Type 0
+ShowsFact s lines fact numbers = (f : code.Fact) → slice_get s.state.facts fact ≡ Some f → AreShowing (beginnings_of s.normal) lines numbers f
 
 -- the new lines are the old ones with more behind them
 pub record Lengthens (old new : List Line) : Type 0 where

@@ -14,3 +14,7 @@ pub record LeadsToNothing (lines : List Line) (walk : List ℕ) (end : ℕ) (x :
   pub at : at_numbers (map (λ l. l.conclusion) lines) walk ≡ Some edges
   pub is_walk : IsWalk x steps target edges
   pub at_end : at_number (map (λ l. l.conclusion) lines) end ≡ Some (Sub target nothing)
+
+-- the line of number n of the new lines puts the subject into owl:Nothing, from which the walk in the old ones leads there
+abbrev pub PutsIntoNothing : (old new : List Line) → (walk : List ℕ) → (end n : ℕ) → Type 0
+PutsIntoNothing old new walk end n = (x : Subject) → LeadsToNothing old walk end x → at_number (map (λ l. l.conclusion) new) n ≡ Some (Sub x nothing)

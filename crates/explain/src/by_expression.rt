@@ -1,16 +1,13 @@
 //! What a form that an expression gave leads to.
 ghost use Rattle.cert_check.specs.Derivation.{IsDerivation};
 ghost use Rattle.engine.specs.Saturated.{IsSaturated};
-ghost use Rattle.explain.specs.Older.{AreOlderShown};
+ghost use Rattle.explain.specs.Older.{AreOlderShown, IsFormOf};
 ghost use Rattle.explain.specs.Serving.{EachIsUsed};
-ghost use Rattle.explain.specs.Shown.{AreShowing, Lengthens};
+ghost use Rattle.explain.specs.Shown.{Lengthens, ShowsFact};
 ghost use Rattle.explain.specs.Step.{expression_rule};
 ghost use Rattle.facts.specs.Births.{reason};
-ghost use Rattle.facts.specs.declared.contexts.Fact.{Fact as Fact2};
 ghost use Rattle.normal_forms.specs.declared.forms.Origin.TheVariants as origins;
-ghost use Rattle.normalise.specs.Entries.{origin_in};
-ghost use Rattle.normalise.specs.Problem.{beginnings_of};
-ghost use Rattle.std.specs.Prelude.{◌≡◌, ◌<◌, IfOk, OnOk, Some, length, option_map, slice_get, ℕ};
+ghost use Rattle.std.specs.Prelude.{◌≡◌, ◌<◌, IfOk, OnOk, Some, length, slice_get};
 
 use crate::derivation::Derivation;
 use crate::line::{concluded, fact_of};
@@ -59,10 +56,10 @@ pub(crate) fn shown_by_expression<L: LineSink>(
     requires derivation { IsDerivation ontology.now derivation.old }
     requires older { AreOlderShown saturation.now derivation.old shown.now fact.0 }
     requires birth { slice_get saturation.now.state.births fact.0 ≡ Some (reason birth.now) }
-    requires origin { (n : ℕ) × ((reason birth.now).form ≡ Some n) × (option_map origin_in (slice_get saturation.now.normal.entries n) ≡ Some (origins.Expr whole)) }
+    requires origin { IsFormOf saturation.now.normal.entries (reason birth.now) (origins.Expr whole) }
     ensures derivation { OnOk result (IsDerivation ontology.now derivation.new) }
     ensures longer { OnOk result (Lengthens derivation.old derivation.new) }
-    ensures shown { IfOk result (λ numbers. (f : Fact2) → slice_get saturation.now.state.facts fact.0 ≡ Some f → AreShowing (beginnings_of saturation.now.normal) derivation.new numbers.items f) }
+    ensures shown { IfOk result (λ numbers. ShowsFact saturation.now derivation.new fact.0 numbers.items) }
     ensures used { IfOk result (λ numbers. EachIsUsed saturation.now shown.now fact.0 derivation.old derivation.new numbers.items) }
 {
     ontology.well_formed();

@@ -1,12 +1,10 @@
 //! How owl:Nothing at the end of a walk is carried to its start.
-ghost use Rattle.axioms.specs.Numbered.{nothing};
-ghost use Rattle.axioms.specs.View.{at_number};
 ghost use Rattle.cert_check.specs.Derivation.{IsDerivation};
 ghost use Rattle.certificate.specs.Certificate.{Sub, Subject as Subject2};
-ghost use Rattle.explain.specs.Walks.{LeadsToNothing};
+ghost use Rattle.explain.specs.Walks.{LeadsToNothing, PutsIntoNothing};
 ghost use Rattle.explain.specs.Serving.{IsAmong, Uses};
 ghost use Rattle.explain.specs.Shown.{Lengthens};
-ghost use Rattle.std.specs.Prelude.{◌≡◌, ◌++◌, ◌∷◌, [], IfOk, OnOk, Some, map};
+ghost use Rattle.std.specs.Prelude.{◌++◌, ◌∷◌, [], IfOk, OnOk, Some};
 
 use crate::derivation::Derivation;
 use crate::sink::LineSink;
@@ -26,7 +24,7 @@ fn carried_over<L: LineSink>(
     requires edge { (x : Subject2) × LeadsToNothing derivation.old (edge ∷ []) end x }
     ensures derivation { OnOk result (IsDerivation ontology.now derivation.new) }
     ensures longer { OnOk result (Lengthens derivation.old derivation.new) }
-    ensures shown { IfOk result (λ n. (x : Subject2) → LeadsToNothing derivation.old (edge ∷ []) end x → at_number (map (λ l. l.conclusion) derivation.new) n ≡ Some (Sub x nothing)) }
+    ensures shown { IfOk result (PutsIntoNothing derivation.old derivation.new (edge ∷ []) end) }
     ensures used { IfOk result (λ n. Uses derivation.old derivation.new (IsAmong (edge ∷ end ∷ [])) (n ∷ [])) }
 {
     ontology.well_formed();
@@ -62,7 +60,7 @@ pub(crate) fn carried_back<L: LineSink>(
     requires walk { (x : Subject2) × LeadsToNothing derivation.old walk.now end x }
     ensures derivation { OnOk result (IsDerivation ontology.now derivation.new) }
     ensures longer { OnOk result (Lengthens derivation.old derivation.new) }
-    ensures shown { IfOk result (λ n. (x : Subject2) → LeadsToNothing derivation.old walk.now end x → at_number (map (λ l. l.conclusion) derivation.new) n ≡ Some (Sub x nothing)) }
+    ensures shown { IfOk result (PutsIntoNothing derivation.old derivation.new walk.now end) }
     ensures used { IfOk result (λ n. Uses derivation.old derivation.new (IsAmong (walk.now ++ end ∷ [])) (n ∷ [])) }
 {
     let mut number = end;

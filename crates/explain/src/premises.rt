@@ -4,7 +4,7 @@ ghost use Rattle.engine.specs.Saturated.{IsSaturated};
 ghost use Rattle.explain.specs.Premises as spec;
 ghost use Rattle.explain.specs.Premises.{AreShowingEach, LeadUp, LeadsUp, taken};
 ghost use Rattle.explain.specs.Serving.{IsAmong, IsAmongThose, Uses};
-ghost use Rattle.explain.specs.Shown.{AreShowing, Lengthens};
+ghost use Rattle.explain.specs.Shown.{AreShowing, Lengthens, ShowsFact};
 ghost use Rattle.facts.specs.Births.{numbers_of};
 ghost use Rattle.facts.specs.declared.contexts.Fact.{Fact as Fact2};
 ghost use Rattle.number_sets.specs.Pieces.{list_at};
@@ -69,7 +69,7 @@ fn led_up<L: LineSink>(
     requires paths { paths.now ≡ saturation.now.state.problem.forms }
     requires derivation { IsDerivation ontology.now derivation.old }
     requires there { older.0 < length saturation.now.state.facts }
-    requires shown { (f : Fact2) → slice_get saturation.now.state.facts older.0 ≡ Some f → AreShowing (beginnings_of saturation.now.normal) derivation.old (list_at shown.now older.0) f }
+    requires shown { ShowsFact saturation.now derivation.old older.0 (list_at shown.now older.0) }
     requires below { (f : Fact2) → slice_get saturation.now.state.facts older.0 ≡ Some f → LeadsUp saturation.now.state.problem.forms property f }
     ensures derivation { OnOk result (IsDerivation ontology.now derivation.new) }
     ensures longer { OnOk result (Lengthens derivation.old derivation.new) }
@@ -111,7 +111,7 @@ pub(crate) fn premises<L: LineSink>(
     requires paths { paths.now ≡ saturation.now.state.problem.forms }
     requires derivation { IsDerivation ontology.now derivation.old }
     requires there { (m : ℕ) → Contains (numbers_of older) m → m < length saturation.now.state.facts }
-    requires shown { (m : ℕ) → Contains (numbers_of older) m → (f : Fact2) → slice_get saturation.now.state.facts m ≡ Some f → AreShowing (beginnings_of saturation.now.normal) derivation.old (list_at shown.now m) f }
+    requires shown { (m : ℕ) → Contains (numbers_of older) m → ShowsFact saturation.now derivation.old m (list_at shown.now m) }
     requires below { (fs : List Fact2) → map (slice_get saturation.now.state.facts) (numbers_of older) ≡ map Some fs → LeadUp saturation.now.state.problem.forms form.now fs }
     ensures derivation { OnOk result (IsDerivation ontology.now derivation.new) }
     ensures longer { OnOk result (Lengthens derivation.old derivation.new) }

@@ -4,10 +4,8 @@ ghost use Rattle.engine.specs.Saturated.{IsSaturated};
 ghost use Rattle.explain.specs.Older.{AreOlderShown};
 ghost use Rattle.explain.specs.ContextRule.{context_rule};
 ghost use Rattle.explain.specs.Serving.{EachIsUsed};
-ghost use Rattle.explain.specs.Shown.{AreShowing, Lengthens};
+ghost use Rattle.explain.specs.Shown.{Lengthens, ShowsFact};
 ghost use Rattle.facts.specs.Births.{reason};
-ghost use Rattle.facts.specs.declared.contexts.Fact.{Fact as Fact2};
-ghost use Rattle.normalise.specs.Problem.{beginnings_of};
 ghost use Rattle.std.specs.Prelude.{◌≡◌, ◌<◌, IfOk, List, None, OnOk, Some, length, slice_get, ℕ};
 
 use crate::by_axiom::shown_by_axiom;
@@ -52,7 +50,7 @@ fn shown_of_context<L: LineSink>(
     requires condition { (reason birth.now).condition ≡ 8 → ⊥ }
     ensures derivation { OnOk result (IsDerivation ontology.now derivation.new) }
     ensures longer { OnOk result (Lengthens derivation.old derivation.new) }
-    ensures shown { IfOk result (λ numbers. (f : Fact2) → slice_get saturation.now.state.facts fact.0 ≡ Some f → AreShowing (beginnings_of saturation.now.normal) derivation.new numbers.items f) }
+    ensures shown { IfOk result (λ numbers. ShowsFact saturation.now derivation.new fact.0 numbers.items) }
     ensures used { IfOk result (λ numbers. (shown : List (List ℕ)) → EachIsUsed saturation.now shown fact.0 derivation.old derivation.new numbers.items) }
 {
     ontology.well_formed();
@@ -79,7 +77,7 @@ fn shown_by_target<L: LineSink>(
     requires condition { (reason birth.now).condition ≡ 8 }
     ensures derivation { OnOk result (IsDerivation ontology.now derivation.new) }
     ensures longer { OnOk result (Lengthens derivation.old derivation.new) }
-    ensures shown { IfOk result (λ numbers. (f : Fact2) → slice_get saturation.now.state.facts fact.0 ≡ Some f → AreShowing (beginnings_of saturation.now.normal) derivation.new numbers.items f) }
+    ensures shown { IfOk result (λ numbers. ShowsFact saturation.now derivation.new fact.0 numbers.items) }
     ensures used { IfOk result (λ numbers. EachIsUsed saturation.now shown.now fact.0 derivation.old derivation.new numbers.items) }
 {
     let Older::Two(edge, class) = birth.older() else {
@@ -112,7 +110,7 @@ fn shown_without_form<L: LineSink>(
     requires form { (reason birth.now).form ≡ None }
     ensures derivation { OnOk result (IsDerivation ontology.now derivation.new) }
     ensures longer { OnOk result (Lengthens derivation.old derivation.new) }
-    ensures shown { IfOk result (λ numbers. (f : Fact2) → slice_get saturation.now.state.facts fact.0 ≡ Some f → AreShowing (beginnings_of saturation.now.normal) derivation.new numbers.items f) }
+    ensures shown { IfOk result (λ numbers. ShowsFact saturation.now derivation.new fact.0 numbers.items) }
     ensures used { IfOk result (λ numbers. EachIsUsed saturation.now shown.now fact.0 derivation.old derivation.new numbers.items) }
 {
     if birth.condition() == 8 {
@@ -145,7 +143,7 @@ pub(crate) fn show<L: LineSink>(
     requires older { AreOlderShown saturation.now derivation.old shown.now fact.0 }
     ensures derivation { OnOk result (IsDerivation ontology.now derivation.new) }
     ensures longer { OnOk result (Lengthens derivation.old derivation.new) }
-    ensures shown { IfOk result (λ numbers. (f : Fact2) → slice_get saturation.now.state.facts fact.0 ≡ Some f → AreShowing (beginnings_of saturation.now.normal) derivation.new numbers.items f) }
+    ensures shown { IfOk result (λ numbers. ShowsFact saturation.now derivation.new fact.0 numbers.items) }
     ensures used { IfOk result (λ numbers. EachIsUsed saturation.now shown.now fact.0 derivation.old derivation.new numbers.items) }
 {
     let Some(birth) = saturation.born(fact) else {

@@ -1,11 +1,10 @@
 //! The lines of marked facts.
 ghost use Rattle.cert_check.specs.Derivation.{IsDerivation};
 ghost use Rattle.engine.specs.Saturated.{IsSaturated};
-ghost use Rattle.explain.specs.Marks.{IsMarked, IsShown, IsWantedFact};
+ghost use Rattle.explain.specs.Marks.{IsMarked, IsWantedFact, ShowsMarked};
 ghost use Rattle.explain.specs.Needed.{EachIsNeeded};
 ghost use Rattle.explain.specs.ShownInOrder.{AreReady, IsShowing};
 ghost use Rattle.facts.specs.declared.contexts.Fact.{Fact as Fact2};
-ghost use Rattle.normalise.specs.Problem.{beginnings_of};
 ghost use Rattle.std.specs.Prelude.{◌+◌, ◌<◌, ◌≡◌, [], IfOk, OnOk, Some, length, slice_get, ℕ};
 
 use crate::derivation::Derivation;
@@ -100,7 +99,7 @@ impl Explainer<'_> {
         requires count { count ≡ length self.now.marks.now }
         requires none { derivation.old ≡ [] }
         ensures derivation { OnOk result (IsDerivation self.now.ontology.now derivation.new) }
-        ensures shown { OnOk result ((n : ℕ) (f : Fact2) → IsMarked self.now.marks.now n → slice_get self.now.saturation.now.state.facts n ≡ Some f → IsShown (beginnings_of self.now.saturation.now.normal) derivation.new f) }
+        ensures shown { OnOk result (ShowsMarked self.now.saturation.now self.now.marks.now derivation.new) }
         ensures needed { OnOk result (EachIsNeeded self.now.ontology.now derivation.new) }
     {
         let mut shown = PackedLists::new(self.alloc);
@@ -128,7 +127,7 @@ pub(crate) fn add_lines<L: LineSink>(
     requires wanted { (n : ℕ) (f : Fact2) → slice_get saturation.now.state.facts n ≡ Some f → IsMarked marks.items n → IsWantedFact ontology.now f }
     requires none { derivation.old ≡ [] }
     ensures derivation { OnOk result (IsDerivation ontology.now derivation.new) }
-    ensures shown { OnOk result ((n : ℕ) (f : Fact2) → IsMarked marks.items n → slice_get saturation.now.state.facts n ≡ Some f → IsShown (beginnings_of saturation.now.normal) derivation.new f) }
+    ensures shown { OnOk result (ShowsMarked saturation.now marks.items derivation.new) }
     ensures needed { OnOk result (EachIsNeeded ontology.now derivation.new) }
 {
     let count = fact_count(saturation)?;

@@ -3,7 +3,7 @@
 
 mod conclusions;
 mod known_facts;
-mod meeting;
+mod pairing;
 mod properties;
 mod rules;
 mod seconds;

@@ -6,7 +6,7 @@ use Rattle.axioms.specs.Growth.{names_of}
 use Rattle.axioms.specs.Numbered.{Ontology}
 use Rattle.axioms.specs.declared.terms.Kind.{Kind}
 use Rattle.axioms.specs.declared.terms.Kind.TheVariants as kinds
-use Rattle.cert_check.specs.Acceptable.{IsAcceptable}
+use Rattle.cert_check.specs.Acceptable.{AreRight, IsAcceptable}
 use Rattle.classification.specs.Classified.{AreCountsOf, AreTextsOf}
 use Rattle.classification.specs.declared.classification.Summary.{Summary}
 use Rattle.device.specs.declared.device.Sink.{Ghosts}
@@ -74,6 +74,7 @@ pub record IsMade (s : Opened) (summary : Summary) (texts : Texts) : Type 0 wher
   pub facts : summary.facts ≡ length s.saturation.state.facts
   pub texts_are : AreTextsOf s.ontology summary.consistent texts.taxonomy texts.instances
   pub acceptable : IsAcceptable s.ontology texts.taxonomy texts.instances texts.certificate
+  pub right : AreRight s.ontology texts.taxonomy texts.instances texts.certificate
 
 -- what a fault says of the session where no text is made: facts are pending, or memory was refused
 abbrev pub IsUnmade : Opened → TextFault → Type 0

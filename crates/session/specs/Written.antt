@@ -40,6 +40,10 @@ abbrev pub AreWrittenAsFar : {X : Type 0} → Result X ℕ → (old new : Sinks)
 AreWrittenAsFar (Ok x) old new texts = AreWritten old new texts
 AreWrittenAsFar (Err n) old new texts = AreWrittenUntil n old new texts
 
+-- each sink is that of the path that it was of
+abbrev pub KeepPaths : {T I C : Type 0} → Ghosts T → Ghosts I → Ghosts C → (old new : T × I × C) → Type 0
+KeepPaths T I C old new = (T.path new.0 ≡ T.path old.0) × (I.path new.1 ≡ I.path old.1) × (C.path new.2 ≡ C.path old.2)
+
 -- the texts of a classification in memory
 abbrev pub texts_of : Classification → Texts
 texts_of c = record { taxonomy = c.taxonomy.items; instances = c.instances.items; certificate = c.certificate.items }

@@ -1,7 +1,7 @@
 //! The texts of a session.
 ghost use Rattle.session.specs.Asking.{IsMade, IsUnmade, Writes};
-ghost use Rattle.session.specs.Written.{texts_of};
-ghost use Rattle.std.specs.Prelude.{◌≡◌, IfErr, IfOk};
+ghost use Rattle.session.specs.Written.{KeepPaths, texts_of};
+ghost use Rattle.std.specs.Prelude.{IfErr, IfOk};
 
 use crate::fault::TextFault;
 use crate::session::Session;
@@ -39,7 +39,7 @@ impl Session {
     ) -> Result<Summary, TextFault>
         // What the answer says of the session, and what each sink has taken; a sink is named only where it failed.
         ensures written { Writes T.Sink I.Sink C.Sink self.now (taxonomy.old, instances.old, certificate.old) (taxonomy.new, instances.new, certificate.new) result }
-        ensures paths { (T.path taxonomy.new ≡ T.path taxonomy.old) × (I.path instances.new ≡ I.path instances.old) × (C.path certificate.new ≡ C.path certificate.old) }
+        ensures paths { KeepPaths T.Sink I.Sink C.Sink (taxonomy.old, instances.old, certificate.old) (taxonomy.new, instances.new, certificate.new) }
     {
         let made = match self.made() {
             Ok(made) => made,

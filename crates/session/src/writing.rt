@@ -1,6 +1,5 @@
 //! The three texts of a classification, written to sinks.
-ghost use Rattle.session.specs.Written.{AreWrittenAsFar, all_seen, texts_of};
-ghost use Rattle.std.specs.Prelude.{◌≡◌};
+ghost use Rattle.session.specs.Written.{AreWrittenAsFar, KeepPaths, all_seen, texts_of};
 
 use classification::Classification;
 use device::{Sink, write_all};
@@ -17,7 +16,7 @@ pub fn write_texts<T: Sink, I: Sink, C: Sink>(
     certificate: &mut C,
 ) -> Result<(), usize>
     ensures written { AreWrittenAsFar result (all_seen T.Sink I.Sink C.Sink (taxonomy.old, instances.old, certificate.old)) (all_seen T.Sink I.Sink C.Sink (taxonomy.new, instances.new, certificate.new)) (texts_of made.now) }
-    ensures paths { (T.path taxonomy.new ≡ T.path taxonomy.old) × (I.path instances.new ≡ I.path instances.old) × (C.path certificate.new ≡ C.path certificate.old) }
+    ensures paths { KeepPaths T.Sink I.Sink C.Sink (taxonomy.old, instances.old, certificate.old) (taxonomy.new, instances.new, certificate.new) }
 {
     if write_all(taxonomy, &made.taxonomy).is_err() {
         return Err(1);

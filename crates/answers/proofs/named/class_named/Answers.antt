@@ -1,11 +1,7 @@
-use Rattle.std.proofs.Common.{◌≡◌, List, Some, slice_get, subst}
-use Rattle.axioms.specs.Expression.{Iri}
 use Rattle.answers.proofs.NamedThings.{class_found}
 use Rattle.answers.proofs.named.class_named.Goals as goal
 
 pub returns : goal.returns
 returns c =
     let o = c.args.ontology.now in
-    class_found o c.args.name.now c.in_ok-number.number c.class_expr.result
-    (subst (λ (names : List Iri). slice_get names c.in_ok-number.number ≡ Some c.args.name.now) c.classes.ensures.names c.in_ok-number.ensures)
-    c.class_expr.ensures.found c.class_expr.ensures.only
+    class_found o c.args.name.now c.in_ok-number.number c.class_expr.result c.in_ok-number.ensures c.class_expr.ensures.found c.class_expr.ensures.only

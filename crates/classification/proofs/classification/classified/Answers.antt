@@ -1,3 +1,8 @@
+use Rattle.axioms.specs.Numbered.{Ontology}
+use Rattle.axioms.specs.WellFormed.{IsOntology}
+use Rattle.cert_check.proofs.Headline.{acceptable_says}
+use Rattle.cert_check.specs.Acceptable.{AreRight, IsAcceptable}
+use Rattle.std.specs.Prelude.{ℕ, List}
 use Rattle.classification.proofs.Counting.{counts_of}
 use Rattle.classification.proofs.Shown.{consistent_where, acceptable}
 use Rattle.classification.proofs.classification.classified.Goals as goal
@@ -22,3 +27,15 @@ returns-clause-acceptable c =
     let made = c.in_ok-certificate.ensures in
     acceptable c.args.ontology.now c.well_formed-2.ensures c.is_consistent-consistent.result made.certificate made.text_of.has_text made.derivation made.shown _ _ _
     c.in_ok-taxonomy.ensures made.text_of.spelled
+
+-- acceptable texts are right
+right_where_acceptable : (o : Ontology) → IsOntology o → (taxonomy instances text : List ℕ) → IsAcceptable o taxonomy instances text → AreRight o taxonomy instances text
+right_where_acceptable o w taxonomy instances text a =
+    record { certificate = a.certificate; text_is = a.text_is; derivation = a.derivation; says = acceptable_says o w taxonomy instances text a }
+
+pub returns-clause-right : goal.returns-clause-right
+returns-clause-right c =
+    let made = c.in_ok-certificate.ensures in
+    right_where_acceptable c.args.ontology.now c.well_formed-2.ensures _ _ _
+    (acceptable c.args.ontology.now c.well_formed-2.ensures c.is_consistent-consistent.result made.certificate made.text_of.has_text made.derivation made.shown _ _ _
+    c.in_ok-taxonomy.ensures made.text_of.spelled)

@@ -3,9 +3,9 @@ use Rattle.cli.proofs.Blamed.{AreCounted, AreWorking, classifies_file, unopened_
 use Rattle.cli.proofs.Kept.{refused_memory}
 use Rattle.cli.proofs.Left.{at_path, classify_answer}
 use Rattle.cli.proofs.Stored.{AreNew, AreSinksClosed, others_kept, stays}
-use Rattle.cli.specs.Devices.{SourceState}
+use Rattle.session.specs.Devices.{SourceState}
 use Rattle.cli.specs.Files.{Store}
-use Rattle.cli.specs.Writing.{Sinks}
+use Rattle.session.specs.Written.{Sinks}
 use Rattle.cli.proofs.run.classified_files.Goals as goal
 
 pub returns-in-Err : goal.returns-in-Err

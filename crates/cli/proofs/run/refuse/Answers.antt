@@ -1,6 +1,6 @@
 use Rattle.std.proofs.Common.{sym, subst}
 use Rattle.cli.proofs.Telling.{told_status}
-use Rattle.cli.specs.Devices.{Device}
+use Rattle.session.specs.Devices.{Device}
 use Rattle.cli.specs.Printed.{IsLineTold}
 use Rattle.program.specs.declared.status.Status.TheVariants as statuses
 use Rattle.command_line.specs.declared.tasks.LineFault.{LineFault}

@@ -3,7 +3,7 @@ use Rattle.std.specs.Prelude.{codes}
 use Rattle.std.specs.Process.{exit_status}
 use Rattle.std.specs.declared.io.Error.{Error}
 use Rattle.std.specs.declared.hash.RandomState.{RandomState}
-use Rattle.cli.specs.Devices.{Device}
+use Rattle.session.specs.Devices.{Device}
 use Rattle.cli.specs.Printed.{IsPrinted}
 use Rattle.cli.specs.Started.{StartsSeeded}
 use Rattle.program.specs.declared.status.Status.TheVariants as statuses

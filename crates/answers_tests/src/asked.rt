@@ -1,0 +1,49 @@
+//! What is asked of the saturation of a document. Here alone a saturation is alive.
+ghost use Rattle.engine.specs.Saturated.{IsSaturated};
+
+use crate::{derivations, listings};
+use axioms::Ontology;
+use engine::{Saturation, saturated};
+use profile::read_bytes;
+use std::alloc::Global;
+use std::hash::RandomState;
+use std::random::RandomSource;
+use std::test::Fail;
+
+/// What is asked of a saturation: whether it is what was worked out for its document.
+#[derive(Clone, Copy)]
+pub(crate) enum Asked {
+    Derivation(derivations::Asked),
+    Listing(listings::Asked),
+}
+
+/// The answer.
+fn answer(alloc: Global, ontology: &Ontology, saturation: &Saturation, asked: Asked) -> bool
+    requires { IsSaturated ontology.now saturation.now }
+{
+    match asked {
+        Asked::Derivation(asked) => derivations::answer(alloc, ontology, saturation, asked),
+        Asked::Listing(asked) => listings::answer(alloc, ontology, saturation, asked),
+    }
+}
+
+/// The answer for the saturation of an ontology.
+fn answer_for(alloc: Global, state: RandomState, ontology: &Ontology, asked: Asked) -> bool {
+    let Ok(saturation) = saturated(alloc, state, ontology, 100) else {
+        return false;
+    };
+    let right = answer(alloc, ontology, &saturation, asked);
+    drop(saturation);
+    right
+}
+
+/// The answer for the ontology of the document.
+pub(crate) fn is_so<R: AllocGlobal + RandomSource>(
+    rt: &R,
+    document: &str,
+    asked: Asked,
+) -> Result<bool, Fail> {
+    let state = RandomState::new(rt)?;
+    let ontology = read_bytes(rt.alloc(), document.as_bytes(), state)?;
+    Ok(answer_for(rt.alloc(), state, &ontology, asked))
+}
