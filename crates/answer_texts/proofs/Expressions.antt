@@ -4,7 +4,7 @@ use Rattle.std.specs.Prelude.{codes}
 use Rattle.std.proofs.lemmas.List.{append-nil, at_drop_more}
 use Rattle.axioms.specs.declared.ids.ExprId.{ExprId}
 use Rattle.axioms.specs.View.{expr_numbers}
-use Rattle.axioms.specs.Numbered.{Ontology, operands_of, intersection, expression, expressions}
+use Rattle.axioms.specs.Ontology.{Ontology, operands_of, intersection, expression, expressions}
 use Rattle.answer_texts.specs.Names.{expression_text, operands_text}
 
 -- expressions, the first behind one text and each other behind a space

@@ -2,9 +2,9 @@
 use Rattle.std.specs.Prelude.{ℕ, List, [], ◌∷◌, ◌++◌, ◌-◌, if◌then◌else◌, ◌==◌, length, codes}
 use Rattle.std.specs.List.{flat_map, range_with_len, enumerate_from}
 use Rattle.std.specs.Fmt.{decimal}
-use Rattle.axioms.specs.Numbered.{Ontology, Names, name_at}
+use Rattle.axioms.specs.Ontology.{Ontology, Names, name_at}
 use Rattle.certificate.specs.Certificate.{Line}
-use Rattle.interpretation_spec.specs.Numbered.{NumberedInterpretation, members_of, targets_of}
+use Rattle.interpretation_spec.specs.NumberedInterpretation.{NumberedInterpretation, members_of, targets_of}
 use Rattle.number_sets.specs.Members.{has}
 use Rattle.answer_texts.specs.Proof.{numbered_text}
 

@@ -3,7 +3,7 @@ use Rattle.std.specs.Prelude.{ℕ, List, [], ◌∷◌, ◌++◌, Some, None, co
 use Rattle.std.specs.declared.option.Option.{Option}
 use Rattle.std.specs.List.{flat_map, enumerate_from}
 use Rattle.std.specs.Fmt.{decimal}
-use Rattle.axioms.specs.Numbered.{Ontology, expression, property_name, individual_name}
+use Rattle.axioms.specs.Ontology.{Ontology, expression, property_name, individual_name}
 use Rattle.certificate.specs.Certificate.{Subject, Expression, Individual, Conclusion, Sub, Edge, Line}
 use Rattle.certificate.specs.Text.{rule_number}
 use Rattle.answer_texts.specs.Names.{line_feed, name_text, expression_text}

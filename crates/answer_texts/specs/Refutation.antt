@@ -2,8 +2,8 @@
 use Rattle.std.specs.Prelude.{ℕ, List, [], ◌∷◌, ◌++◌, ◌-◌, length, codes}
 use Rattle.std.specs.List.{filter, flat_map, range_with_len, enumerate_from}
 use Rattle.std.specs.Fmt.{decimal}
-use Rattle.axioms.specs.Numbered.{Names, name_at}
-use Rattle.interpretation_spec.specs.Numbered.{NumberedInterpretation, members_of, targets_of}
+use Rattle.axioms.specs.Ontology.{Names, name_at}
+use Rattle.interpretation_spec.specs.NumberedInterpretation.{NumberedInterpretation, members_of, targets_of}
 use Rattle.number_sets.specs.Members.{has}
 use Rattle.answer_texts.specs.Names.{line_feed, name_text, spaced_numbers}
 

@@ -2,10 +2,10 @@
 ghost use Rattle.answer_texts.specs.Graphs as graphs;
 ghost use Rattle.answer_texts.specs.Proof as proof;
 ghost use Rattle.answer_texts.specs.Refutation as refutation;
-ghost use Rattle.certificate.specs.HasText.{IsLineOf};
+ghost use Rattle.certificate.specs.Writability.{IsLineOf};
 ghost use Rattle.certificate.specs.View.{lines_of};
-ghost use Rattle.device.specs.Device.{AppendsBeginning, HasFailed};
-ghost use Rattle.interpretation_spec.specs.Numbered.{IsMadeFor};
+ghost use Rattle.device.specs.Device.{AppendsPrefix, HasFailed};
+ghost use Rattle.interpretation_spec.specs.NumberedInterpretation.{IsMadeFor};
 ghost use Rattle.std.specs.Io.KnownBytes.{Appends, Keeps};
 ghost use Rattle.std.specs.Prelude.{◌≡◌, ◌≤◌, All, IfOk, IsErrOf, OnOk};
 
@@ -35,7 +35,7 @@ pub fn proof_bytes(alloc: Global, ontology: &Ontology, lines: &[Line]) -> Result
 /// Writes the lines of a derivation over the ontology, as people read them: a line each, with its number, rule, axiom and premises.
 ///
 /// `Io` comes only where the sink failed in this call. After `Memory` it did not fail and has taken nothing. After either
-/// it has taken a beginning of the text.
+/// it has taken a prefix of the text.
 pub fn write_proof<S: Sink>(
     alloc: Global,
     ontology: &Ontology,
@@ -44,7 +44,7 @@ pub fn write_proof<S: Sink>(
 ) -> Result<(), WriteFault>
     requires { All (IsLineOf ontology.now) (lines_of lines.now) }
     ensures ok { OnOk result (Appends (S.taken sink.old) (S.taken sink.new) (proof.proof_text ontology.now (lines_of lines.now))) }
-    ensures begun { AppendsBeginning (S.taken sink.old) (S.taken sink.new) (proof.proof_text ontology.now (lines_of lines.now)) }
+    ensures begun { AppendsPrefix (S.taken sink.old) (S.taken sink.new) (proof.proof_text ontology.now (lines_of lines.now)) }
     ensures io { IsErrOf result WriteFault.Io → HasFailed (S.failures sink.old) (S.failures sink.new) }
     ensures untouched { IsErrOf result WriteFault.Memory → Keeps (S.taken sink.old) (S.taken sink.new) }
     ensures untried { IsErrOf result WriteFault.Memory → S.failures sink.new ≡ S.failures sink.old }
@@ -78,7 +78,7 @@ pub fn refutation_bytes(
 /// Writes the text of a refutation: an interpretation that was made for the ontology, and one of its elements.
 ///
 /// `Io` comes only where the sink failed in this call. After `Memory` it did not fail and has taken nothing. After either
-/// it has taken a beginning of the text.
+/// it has taken a prefix of the text.
 pub fn write_refutation<S: Sink>(
     alloc: Global,
     ontology: &Ontology,
@@ -88,7 +88,7 @@ pub fn write_refutation<S: Sink>(
 ) -> Result<(), WriteFault>
     requires { IsMadeFor ontology.now.names interpretation.now }
     ensures ok { OnOk result (Appends (S.taken sink.old) (S.taken sink.new) (refutation.refutation_text ontology.now.names interpretation.now element)) }
-    ensures begun { AppendsBeginning (S.taken sink.old) (S.taken sink.new) (refutation.refutation_text ontology.now.names interpretation.now element) }
+    ensures begun { AppendsPrefix (S.taken sink.old) (S.taken sink.new) (refutation.refutation_text ontology.now.names interpretation.now element) }
     ensures io { IsErrOf result WriteFault.Io → HasFailed (S.failures sink.old) (S.failures sink.new) }
     ensures untouched { IsErrOf result WriteFault.Memory → Keeps (S.taken sink.old) (S.taken sink.new) }
     ensures untried { IsErrOf result WriteFault.Memory → S.failures sink.new ≡ S.failures sink.old }
@@ -123,7 +123,7 @@ pub fn proof_graph_bytes(
 /// Writes the lines of a derivation as a DOT document: a node for each line, and an edge to it from each premise.
 ///
 /// `Io` comes only where the sink failed in this call. After `Memory` it did not fail and has taken nothing. After either
-/// it has taken a beginning of the text.
+/// it has taken a prefix of the text.
 pub fn write_proof_graph<S: Sink>(
     alloc: Global,
     ontology: &Ontology,
@@ -132,7 +132,7 @@ pub fn write_proof_graph<S: Sink>(
 ) -> Result<(), WriteFault>
     requires { All (IsLineOf ontology.now) (lines_of lines.now) }
     ensures ok { OnOk result (Appends (S.taken sink.old) (S.taken sink.new) (graphs.proof_graph ontology.now (lines_of lines.now))) }
-    ensures begun { AppendsBeginning (S.taken sink.old) (S.taken sink.new) (graphs.proof_graph ontology.now (lines_of lines.now)) }
+    ensures begun { AppendsPrefix (S.taken sink.old) (S.taken sink.new) (graphs.proof_graph ontology.now (lines_of lines.now)) }
     ensures io { IsErrOf result WriteFault.Io → HasFailed (S.failures sink.old) (S.failures sink.new) }
     ensures untouched { IsErrOf result WriteFault.Memory → Keeps (S.taken sink.old) (S.taken sink.new) }
     ensures untried { IsErrOf result WriteFault.Memory → S.failures sink.new ≡ S.failures sink.old }
@@ -168,7 +168,7 @@ pub fn refutation_graph_bytes(
 /// Writes a refutation as a DOT document: a node for each element, the refuting one with two outlines, and an edge for each pair.
 ///
 /// `Io` comes only where the sink failed in this call. After `Memory` it did not fail and has taken nothing. After either
-/// it has taken a beginning of the text.
+/// it has taken a prefix of the text.
 pub fn write_refutation_graph<S: Sink>(
     alloc: Global,
     ontology: &Ontology,
@@ -178,7 +178,7 @@ pub fn write_refutation_graph<S: Sink>(
 ) -> Result<(), WriteFault>
     requires { IsMadeFor ontology.now.names interpretation.now }
     ensures ok { OnOk result (Appends (S.taken sink.old) (S.taken sink.new) (graphs.refutation_graph ontology.now.names interpretation.now element)) }
-    ensures begun { AppendsBeginning (S.taken sink.old) (S.taken sink.new) (graphs.refutation_graph ontology.now.names interpretation.now element) }
+    ensures begun { AppendsPrefix (S.taken sink.old) (S.taken sink.new) (graphs.refutation_graph ontology.now.names interpretation.now element) }
     ensures io { IsErrOf result WriteFault.Io → HasFailed (S.failures sink.old) (S.failures sink.new) }
     ensures untouched { IsErrOf result WriteFault.Memory → Keeps (S.taken sink.old) (S.taken sink.new) }
     ensures untried { IsErrOf result WriteFault.Memory → S.failures sink.new ≡ S.failures sink.old }

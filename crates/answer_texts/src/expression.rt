@@ -1,6 +1,6 @@
 //! Class expressions in texts.
 ghost use Rattle.answer_texts.specs.Names.{expression_text};
-ghost use Rattle.axioms.specs.Numbered.{expression as expression_of};
+ghost use Rattle.axioms.specs.Ontology.{expression as expression_of};
 ghost use Rattle.std.specs.Prelude.{◌++◌, ◌<◌, ◌≡◌, OnOk, length};
 
 use crate::names::push_name;

@@ -1,7 +1,7 @@
 //! A refutation as a graph.
 ghost use Rattle.answer_texts.specs.Graphs as graphs;
-ghost use Rattle.axioms.specs.Numbered.{name_at};
-ghost use Rattle.interpretation_spec.specs.Numbered.{IsMadeFor};
+ghost use Rattle.axioms.specs.Ontology.{name_at};
+ghost use Rattle.interpretation_spec.specs.NumberedInterpretation.{IsMadeFor};
 ghost use Rattle.std.specs.List.{enumerate_from, flat_map, range_with_len};
 ghost use Rattle.std.specs.Prelude.{◌++◌, ◌-◌, ◌≡◌, OnOk, length, map};
 ghost use Rattle.std.specs.String.{string_bytes};

@@ -1,5 +1,5 @@
 //! What an interpretation says, by numbers.
-ghost use Rattle.interpretation_spec.specs.Numbered.{members_of, targets_of};
+ghost use Rattle.interpretation_spec.specs.NumberedInterpretation.{members_of, targets_of};
 ghost use Rattle.number_sets.specs.Members.{has};
 ghost use Rattle.std.specs.Prelude.{◌<◌, ◌≡◌, ◌^◌, ◌≤◌, slice_index};
 

@@ -1,6 +1,6 @@
 //! Names and numbers in texts.
 ghost use Rattle.answer_texts.specs.Names.{name_text};
-ghost use Rattle.axioms.specs.Numbered.{name_at};
+ghost use Rattle.axioms.specs.Ontology.{name_at};
 ghost use Rattle.std.specs.Fmt.{decimal};
 ghost use Rattle.std.specs.Prelude.{◌++◌, ◌≡◌, OnOk, map};
 ghost use Rattle.std.specs.String.{string_bytes};

@@ -1,6 +1,6 @@
 //! The lines of a derivation as people read them.
 ghost use Rattle.answer_texts.specs.Proof as text;
-ghost use Rattle.certificate.specs.HasText.{IsConclusionOf, IsLineOf, IsSubjectOf};
+ghost use Rattle.certificate.specs.Writability.{IsConclusionOf, IsLineOf, IsSubjectOf};
 ghost use Rattle.certificate.specs.Text.{rule_number};
 ghost use Rattle.certificate.specs.View.{conclusion_of, line_of, lines_of, subject_of};
 ghost use Rattle.std.specs.List.{enumerate_from, flat_map};

@@ -1,8 +1,8 @@
 //! An interpretation and one of its elements, as people read them.
 ghost use Rattle.answer_texts.specs.Names.{spaced_numbers};
 ghost use Rattle.answer_texts.specs.Refutation as text;
-ghost use Rattle.axioms.specs.Numbered.{name_at};
-ghost use Rattle.interpretation_spec.specs.Numbered.{IsMadeFor};
+ghost use Rattle.axioms.specs.Ontology.{name_at};
+ghost use Rattle.interpretation_spec.specs.NumberedInterpretation.{IsMadeFor};
 ghost use Rattle.std.specs.List.{enumerate_from, flat_map, range_with_len};
 ghost use Rattle.std.specs.Prelude.{◌++◌, ◌-◌, ◌<◌, ◌≡◌, ◌^◌, ◌≤◌, IfOk, OnOk, length, map};
 ghost use Rattle.std.specs.String.{string_bytes};

@@ -7,16 +7,16 @@ use Rattle.std.proofs.lemmas.Bool.{false≢true}
 use Rattle.std.proofs.lemmas.Slice.Eq.{bytes_eq-Decides}
 use Rattle.lemmas.proofs.Members.{slice_get-from_Contains}
 use Rattle.axioms.specs.Expression.{Iri}
-use Rattle.axioms.specs.Numbered.{Ontology, IsClassAt, nothing, name_at, individual_name}
-use Rattle.axioms.specs.WellFormed.{IsOntology}
+use Rattle.axioms.specs.Ontology.{Ontology, IsClassAt, nothing, name_at, individual_name}
+use Rattle.axioms.specs.WellFormedness.{IsOntology}
 use Rattle.closure.specs.Closure.{Expression, In, IsFact}
 use Rattle.normal_forms.specs.Forms.{Whole}
-use Rattle.normalise.specs.Problem.{beginnings_of}
-use Rattle.engine.specs.Saturated.{Saturated, IsSaturated}
+use Rattle.normalise.specs.Problem.{prefixes_of}
+use Rattle.engine.specs.Saturations.{Saturated, IsSaturated}
 use Rattle.classification.specs.Lists.{PutsBelow, SomeFact}
 use Rattle.classification.proofs.Saying.{below_by_fact, type_by_fact}
-use Rattle.answers.specs.Asked.{Answers, AreAnswers, FollowsFor, IsEvery, class_asked, names_asked, nothing_class}
-use Rattle.answers.specs.Follows.{LiesBelow, BelongsTo}
+use Rattle.answers.specs.Questions.{Answers, AreAnswers, FollowsFor, IsEvery, class_asked, names_asked, nothing_class}
+use Rattle.answers.specs.Entailment.{LiesBelow, BelongsTo}
 use Rattle.answers.specs.Names.{AreThose, HasMark, IsMarked}
 use Rattle.answers.specs.declared.question.Question.{Question}
 use Rattle.answers.specs.declared.question.Question.TheVariants.{Above, Below, Members}
@@ -25,7 +25,7 @@ use Rattle.answers.proofs.Naming.{mark_tells, those_same}
 
 module _ (o : Ontology) (w : IsOntology o) (s : Saturated) (h : IsSaturated o s) where
   fact_below : (c d e f : ℕ) → IsClassAt o c e → IsClassAt o d f → SomeFact s.state.facts (λ fact. PutsBelow o fact c d) ↔ IsFact o [] (In (Whole f) (Expression e))
-  fact_below = below_by_fact o w (beginnings_of s.normal) s.state.facts h.facts
+  fact_below = below_by_fact o w (prefixes_of s.normal) s.state.facts h.facts
 
   either : (c d : ℕ) → SomeFact s.state.facts (λ fact. PutsBelow o fact c d ⊎ PutsBelow o fact c nothing_class) ↔ (SomeFact s.state.facts (λ fact. PutsBelow o fact c d) ⊎ SomeFact s.state.facts (λ fact. PutsBelow o fact c nothing_class))
   either c d = (
@@ -63,7 +63,7 @@ module _ (o : Ontology) (w : IsOntology o) (s : Saturated) (h : IsSaturated o s)
   member_answers d a low below =
       let (f, class) = w.class_nodes d low in
       let by = types_by_facts o w s h a d f below class in
-      let here = type_by_fact o w (beginnings_of s.normal) s.state.facts h.facts a d f class in (
+      let here = type_by_fact o w (prefixes_of s.normal) s.state.facts h.facts a d f class in (
         λ v. by.1 (⊎_elim (λ none. inl none) (λ p. inr (here.0 p)) v),
         λ follows. ⊎_elim (λ none. inl none) (λ p. inr (here.1 p)) (by.0 follows),
       )

@@ -7,22 +7,22 @@ use Rattle.lemmas.proofs.Mapped.{slice_get_map}
 use Rattle.lemmas.proofs.Members.{Contains-first}
 use Rattle.lemmas.proofs.Places.{slice_get_push, keeps_push}
 use Rattle.axioms.specs.Expression.{Iri, ClassExpression, Named}
-use Rattle.axioms.specs.Numbered.{Ontology, nothing, expression, individual_name, axiom_trees}
-use Rattle.axioms.specs.WellFormed.{IsOntology}
+use Rattle.axioms.specs.Ontology.{Ontology, nothing, expression, individual_name, axiom_trees}
+use Rattle.axioms.specs.WellFormedness.{IsOntology}
 use Rattle.axioms.specs.View.{at_number}
 use Rattle.axioms.proofs.Trees.{class_tree}
 use Rattle.cert_check.specs.Derivation.{IsDerivation, HasLine, at_numbers}
 use Rattle.cert_check.proofs.Derivations.{line_true}
 use Rattle.certificate.specs.Certificate.{Conclusion, Line, Subject, Sub}
-use Rattle.certificate.specs.HasText.{IsLineOf, IsSubjectOf}
+use Rattle.certificate.specs.Writability.{IsLineOf, IsSubjectOf}
 use Rattle.closure.specs.Closure.{Context, Expression, IsRoot}
 use Rattle.closure.specs.Closure as closure
-use Rattle.exactness.specs.Derivable.{subject_of}
-use Rattle.exactness.specs.Trimmed.{EndsWith, EachServes}
+use Rattle.exactness.specs.Derivability.{subject_of}
+use Rattle.exactness.specs.Trimming.{EndsWith, EachServes}
 use Rattle.exactness.proofs.Derivable.{derivation_push}
 use Rattle.interpretation_spec.specs.Interpretation.{IsContradictory, IsIn}
-use Rattle.answers.specs.Explained.{IsAbout, IsClassNamed, FollowsFor, Derives, ShowsContradiction}
-use Rattle.answers.specs.Numbered.{IsContradiction, IsLineWith, line_from_nothing}
+use Rattle.answers.specs.Explanations.{IsAbout, IsClassNamed, FollowsFor, Derives, ShowsContradiction}
+use Rattle.answers.specs.Findings.{IsContradiction, IsLineWith, line_from_nothing}
 use Rattle.answers.specs.declared.asked.Asked.{Asked}
 use Rattle.answers.specs.declared.asked.Asked.TheVariants as asked
 

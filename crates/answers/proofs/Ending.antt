@@ -4,10 +4,10 @@ use Rattle.std.proofs.lemmas.Bool.{cases_eq, eq-eqb, eqb-true, false≢true}
 use Rattle.std.proofs.lemmas.List.{length-map}
 use Rattle.std.proofs.lemmas.Option.{slice_get_within, same_Some}
 use Rattle.lemmas.proofs.Mapped.{slice_get_map}
-use Rattle.axioms.specs.Numbered.{thing, nothing}
+use Rattle.axioms.specs.Ontology.{thing, nothing}
 use Rattle.axioms.specs.declared.ids.ExprId.{ExprId}
 use Rattle.axioms.specs.declared.ids.IndId.{IndId}
-use Rattle.cert_check.specs.Acceptable.{IsTop}
+use Rattle.cert_check.specs.Acceptance.{IsTop}
 use Rattle.certificate.specs.Certificate.{Conclusion, Line, Subject}
 use Rattle.certificate.specs.Certificate as certificate
 use Rattle.certificate.specs.View.{subject_of, conclusion_of, line_of, lines_of}
@@ -16,7 +16,7 @@ use Rattle.certificate.specs.declared.line.Subject.TheVariants.{Expr, Individual
 use Rattle.certificate.specs.declared.line.Conclusion as code_conclusion
 use Rattle.certificate.specs.declared.line.Conclusion.TheVariants.{Sub, Edge}
 use Rattle.certificate.specs.declared.line.Line as code_line
-use Rattle.answers.specs.Numbered.{IsContradiction, IsLineWith}
+use Rattle.answers.specs.Findings.{IsContradiction, IsLineWith}
 
 -- ---- the code's conclusions
 

@@ -2,8 +2,8 @@
 use Rattle.std.proofs.Common.{◌≡◌, ◌↔◌, ℕ, zero, suc, inl, inr, ⊎_elim, Bool, true, false, List, [], ◌∷◌, ◌++◌, length, slice_get, Some, Contains, refl, sym, ap, ◌∙◌, subst, arith}
 use Rattle.std.proofs.lemmas.Option.{same_Some}
 use Rattle.lemmas.proofs.Members.{Contains-from_slice_get, slice_get-from_Contains}
-use Rattle.axioms.specs.Numbered.{Ontology, thing, nothing}
-use Rattle.axioms.specs.WellFormed.{IsOntology}
+use Rattle.axioms.specs.Ontology.{Ontology, thing, nothing}
+use Rattle.axioms.specs.WellFormedness.{IsOntology}
 use Rattle.axioms.specs.declared.ids.ExprId.{ExprId}
 use Rattle.axioms.specs.declared.ids.IndId.{IndId}
 use Rattle.axioms.specs.declared.ids.PropId.{PropId}
@@ -19,15 +19,15 @@ use Rattle.normal_forms.specs.declared.forms.Form as code_form
 use Rattle.normal_forms.specs.declared.forms.Form.TheVariants as forms
 use Rattle.normal_forms.specs.Forms.{Whole, Property2, Property, Steps, Form, N5, IsForm}
 use Rattle.closure.specs.Closure.{Context, Expression, Individual, Fact, In, Edge, IsFact, IsAtOrBelow, same, step}
-use Rattle.closure.specs.Said.{Beginnings, SaysProperty, property, steps, SaysContext, expression, individual, SaysFact, edge, SaysForm, n5, IsProblemOf}
-use Rattle.exactness.specs.Listed.{HasEdge, IsConsistent, IsListedInterpretation, IsSatisfiable, AreSatisfiableContexts}
+use Rattle.closure.specs.Denotations.{Prefixes, SaysProperty, property, steps, SaysContext, expression, individual, SaysFact, edge, SaysForm, n5, IsProblemOf}
+use Rattle.exactness.specs.ListedInterpretation.{HasEdge, IsConsistent, IsListedInterpretation, IsSatisfiable, AreSatisfiableContexts}
 use Rattle.exactness.proofs.Listed.{listed_exists}
 use Rattle.interpretation_spec.specs.Interpretation.{Interpretation}
 use Rattle.countermodel.specs.Elements.{contexts_of}
 use Rattle.countermodel.proofs.Contexts.{context_has_thing}
 use Rattle.countermodel.proofs.Facts.{code_of, whole_said, satisfiable_within}
 use Rattle.countermodel.proofs.Listing.{HasListed, HasListedMore, none_listed, listed_more, listed_same, none_listed_more, individual_more, individual_same, no_individual, expressions_done, contexts_done}
-use Rattle.engine.specs.Saturated.{SayTheClosure}
+use Rattle.engine.specs.Saturations.{SayTheClosure}
 use Rattle.answers.proofs.Deciding.{Decided, is_yes, tells, SomeOf, some_of, same_context, is_in, Reach, reach, reach_same, reach_on}
 
 abbrev expr_id : ℕ → ExprId
@@ -51,7 +51,7 @@ says_context : (x : Context) → SaysContext (code_of x) x
 says_context (Expression e) = expression refl
 says_context (Individual a) = individual refl
 
-module _ (o : Ontology) (w : IsOntology o) (b : Beginnings) (k : Problem) (problem : IsProblemOf o [] b k) (list : List code_fact.Fact) (says : SayTheClosure o b list) where
+module _ (o : Ontology) (w : IsOntology o) (b : Prefixes) (k : Problem) (problem : IsProblemOf o [] b k) (list : List code_fact.Fact) (says : SayTheClosure o b list) where
   -- ---- properties
 
   form_of : (s t : PropId) {g : Form} → SaysForm b (forms.N5 s t) g → IsForm o [] g → IsForm o [] (N5 s.0 t.0)

@@ -3,20 +3,20 @@ use Rattle.std.proofs.Common.{◌≡◌, ℕ, ◌<◌, Option, Some, None, Match
 use Rattle.std.proofs.lemmas.List.{length-map}
 use Rattle.answers.proofs.Following.{contradictory}
 use Rattle.axioms.specs.Expression.{Iri}
-use Rattle.axioms.specs.Numbered.{Ontology, nothing}
-use Rattle.axioms.specs.WellFormed.{IsOntology}
+use Rattle.axioms.specs.Ontology.{Ontology, nothing}
+use Rattle.axioms.specs.WellFormedness.{IsOntology}
 use Rattle.cert_check.specs.Derivation.{HasLine}
 use Rattle.certificate.specs.Certificate.{Line, Subject, Sub}
-use Rattle.certificate.specs.HasText.{IsSubjectOf}
+use Rattle.certificate.specs.Writability.{IsSubjectOf}
 use Rattle.certificate.specs.View.{line_of, lines_of}
 use Rattle.certificate.specs.declared.line.Line as code_line
 use Rattle.closure.specs.Closure.{Context, Expression, IsContextBy, IsRoot, AreFacts}
-use Rattle.exactness.specs.Listed.{IsConsistent, IsSatisfiable}
-use Rattle.exactness.specs.Derivable.{subject_of}
-use Rattle.engine.specs.Saturated.{Saturated, IsSaturated}
+use Rattle.exactness.specs.ListedInterpretation.{IsConsistent, IsSatisfiable}
+use Rattle.exactness.specs.Derivability.{subject_of}
+use Rattle.engine.specs.Saturations.{Saturated, IsSaturated}
 use Rattle.exactness.specs.Theorems.{HaveFacts}
-use Rattle.answers.specs.Explained.{IsAbout, IsClassNamed, Derives, ShowsThatItFollows}
-use Rattle.answers.specs.Numbered.{IsRefutable, line_from_nothing}
+use Rattle.answers.specs.Explanations.{IsAbout, IsClassNamed, Derives, ShowsThatItFollows}
+use Rattle.answers.specs.Findings.{IsRefutable, line_from_nothing}
 use Rattle.answers.specs.declared.asked.Asked.{Asked}
 use Rattle.answers.proofs.Deriving.{derived_follows, derives_class, root_subject}
 

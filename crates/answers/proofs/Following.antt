@@ -6,8 +6,8 @@ use Rattle.std.proofs.lemmas.Option.{slice_get-get_or}
 use Rattle.std.proofs.lemmas.List.Elements.{All-contains}
 use Rattle.lemmas.proofs.Members.{Contains-from_slice_get}
 use Rattle.axioms.specs.Expression.{ClassExpression}
-use Rattle.axioms.specs.Numbered.{Ontology, IsClassAt, thing, nothing, name_at, expression, individual_name, axiom_trees}
-use Rattle.axioms.specs.WellFormed.{IsOntology}
+use Rattle.axioms.specs.Ontology.{Ontology, IsClassAt, thing, nothing, name_at, expression, individual_name, axiom_trees}
+use Rattle.axioms.specs.WellFormedness.{IsOntology}
 use Rattle.axioms.proofs.Trees.{class_tree}
 use Rattle.facts.specs.declared.contexts.Context.TheVariants as contexts
 use Rattle.facts.specs.declared.contexts.Fact as code_fact
@@ -15,15 +15,15 @@ use Rattle.facts.specs.declared.contexts.Fact.TheVariants as facts
 use Rattle.normal_forms.specs.declared.forms.Class2.TheVariants as classes
 use Rattle.normal_forms.specs.Forms.{Whole}
 use Rattle.closure.specs.Closure.{Context, Expression, Individual, In, IsFact, IsRoot}
-use Rattle.exactness.specs.Listed.{IsConsistent, IsListedInterpretation}
+use Rattle.exactness.specs.ListedInterpretation.{IsConsistent, IsListedInterpretation}
 use Rattle.exactness.proofs.Complete.{complete_contradictory}
 use Rattle.exactness.proofs.Exact.{sound_below, sound_nothing, contradiction_sound, exact_below, exact_types}
 use Rattle.interpretation_spec.specs.Interpretation.{Interpretation, IsBelow, IsMember, IsContradictory}
-use Rattle.normalise.specs.Problem.{beginnings_of}
-use Rattle.engine.specs.Saturated.{Saturated, IsSaturated}
+use Rattle.normalise.specs.Problem.{prefixes_of}
+use Rattle.engine.specs.Saturations.{Saturated, IsSaturated}
 use Rattle.classification.specs.Contradiction.{IsContradiction}
 use Rattle.classification.proofs.Saying.{consistent_by_facts}
-use Rattle.answers.specs.Follows.{LiesBelow, BelongsTo}
+use Rattle.answers.specs.Entailment.{LiesBelow, BelongsTo}
 use Rattle.answers.proofs.Deciding.{Decided, some_of}
 use Rattle.answers.proofs.Existing.{has_fact, listed}
 
@@ -38,11 +38,11 @@ is_contradiction (facts.Edge x r y) = inr (λ b. b)
 
 module _ (o : Ontology) (w : IsOntology o) (s : Saturated) (h : IsSaturated o s) where
   exists : IsConsistent o [] → (xs : List Context) × (i : Interpretation) × IsListedInterpretation o [] xs i
-  exists = listed o w (beginnings_of s.normal) s.state.problem h.problem s.state.facts h.facts
+  exists = listed o w (prefixes_of s.normal) s.state.problem h.problem s.state.facts h.facts
 
   pub consistent : Decided (IsConsistent o [])
   consistent =
-      let by = consistent_by_facts o w (beginnings_of s.normal) s.state.facts h.facts in
+      let by = consistent_by_facts o w (prefixes_of s.normal) s.state.facts h.facts in
       ⊎_elim
       (λ v. inr (λ c. All-contains (λ f. IsContradiction f → ⊥) s.state.facts v.1 (by.1 c) (Contains-from_slice_get s.state.facts v.0 v.1 v.2) v.3))
       (λ n. inl (by.0 (λ k d l bad. n (k, get_or s.state.facts k d, slice_get-get_or s.state.facts k d l, bad))))
@@ -56,7 +56,7 @@ module _ (o : Ontology) (w : IsOntology o) (s : Saturated) (h : IsSaturated o s)
   )
 
   fact_of : (x : Context) (e : ℕ) → Decided (IsFact o [] (In (Whole e) x))
-  fact_of = has_fact o w (beginnings_of s.normal) s.state.problem h.problem s.state.facts h.facts
+  fact_of = has_fact o w (prefixes_of s.normal) s.state.problem h.problem s.state.facts h.facts
 
   module _ (c d e f : ℕ) (class : IsClassAt o c e) (above : IsClassAt o d f) where
     abbrev ByFacts : Type 0

@@ -2,10 +2,10 @@
 use Rattle.std.proofs.Common.{ℕ, Contains}
 use Rattle.lemmas.proofs.Members.{Contains-from_slice_get}
 use Rattle.axioms.specs.Expression.{Iri}
-use Rattle.axioms.specs.Numbered.{Ontology}
+use Rattle.axioms.specs.Ontology.{Ontology}
 use Rattle.closure.specs.Closure.{Context, Expression}
 use Rattle.closure.specs.Closure as closure
-use Rattle.answers.specs.Explained.{IsAbout, IsClassNamed, IsKnown}
+use Rattle.answers.specs.Explanations.{IsAbout, IsClassNamed, IsKnown}
 use Rattle.answers.specs.declared.asked.Asked.{Asked}
 use Rattle.answers.specs.declared.asked.Asked.TheVariants as asked
 

@@ -5,11 +5,11 @@ use Rattle.std.specs.List.{AllWithin}
 use Rattle.std.proofs.lemmas.Bool.{false≢true}
 use Rattle.std.proofs.lemmas.Option.{none-some, same_Some, slice_get-get_or, slice_get_within, get_or_from_slice_get}
 use Rattle.lemmas.proofs.Places.{slice_get_push, slice_get_push_cases, keeps_push, take_push}
-use Rattle.axioms.specs.Numbered.{Ontology}
+use Rattle.axioms.specs.Ontology.{Ontology}
 use Rattle.facts.specs.declared.contexts.Fact.{Fact}
 use Rattle.classification.specs.Lists.{PutsBelow, PutsInto, SomeFact}
 use Rattle.classification.proofs.Growing.{puts_below_once, puts_into_once}
-use Rattle.answers.specs.Asked.{Answers, AreAnswers, AreMarks, IsAnswer, IsEvery, nothing_class}
+use Rattle.answers.specs.Questions.{Answers, AreAnswers, AreMarks, IsAnswer, IsEvery, nothing_class}
 use Rattle.answers.specs.Names.{IsMarked}
 use Rattle.answers.specs.declared.question.Question.{Question}
 use Rattle.answers.specs.declared.question.Question.TheVariants.{Above, Below, Members}

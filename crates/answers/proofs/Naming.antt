@@ -19,8 +19,8 @@ use Rattle.std.proofs.lemmas.Option.{none-some, same_Some, slice_get_within, sli
 use Rattle.lemmas.proofs.Members.{Contains-from_slice_get, slice_get-from_Contains}
 use Rattle.lemmas.proofs.Places.{slice_get_push, slice_get_push_cases, keeps_push}
 use Rattle.axioms.specs.Expression.{Iri}
-use Rattle.axioms.specs.Numbered.{name_at}
-use Rattle.axioms.specs.WellFormed.{AreDistinct}
+use Rattle.axioms.specs.Ontology.{name_at}
+use Rattle.axioms.specs.WellFormedness.{AreDistinct}
 use Rattle.answers.specs.Names.{AreInByteOrder, AreMarkedBelow, AreThose, HasMark, IsMarked}
 
 -- ---- the same names by another property

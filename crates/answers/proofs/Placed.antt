@@ -2,22 +2,22 @@
 use Rattle.std.proofs.Common.{◌≡◌, ℕ, ◌<◌, zero, suc, List, [], ◌∷◌, length, slice_get, Some, AllPairs, refl, sym, ap₂, ◌∙◌, subst, arith}
 use Rattle.std.proofs.lemmas.Option.{same_Some, none-some, slice_get_within, get_or_from_slice_get}
 use Rattle.std.proofs.lemmas.List.Elements.{All-nil}
-use Rattle.axioms.specs.Numbered.{Ontology, axiom_trees}
-use Rattle.axioms.specs.WellFormed.{IsOntology}
+use Rattle.axioms.specs.Ontology.{Ontology, axiom_trees}
+use Rattle.axioms.specs.WellFormedness.{IsOntology}
 use Rattle.certificate.specs.Certificate.{Listed}
-use Rattle.certificate.specs.HasText.{IsListedOf}
+use Rattle.certificate.specs.Writability.{IsListedOf}
 use Rattle.closure.specs.Closure.{Context, Expression, Individual}
-use Rattle.exactness.specs.Listed.{IsBefore, AreSatisfiableContexts, IsListedInterpretation, AgreesWithClosure}
+use Rattle.exactness.specs.ListedInterpretation.{IsBefore, AreSatisfiableContexts, IsListedInterpretation, AgreesWithClosure}
 use Rattle.exactness.proofs.Complete.{listed_is_model, listed_agrees}
 use Rattle.countermodel.proofs.SameMembers.{same_members}
 use Rattle.exactness.specs.Acceptance.{IsListedFor}
-use Rattle.generated_part.specs.Generated.{IsGenerated}
-use Rattle.interpretation_spec.specs.ByName.{interpretation_of}
+use Rattle.generated_part.specs.GeneratedPart.{IsGenerated}
+use Rattle.interpretation_spec.specs.NamedInterpretation.{interpretation_of}
 use Rattle.interpretation_spec.specs.Interpretation.{Interpretation, IsModel}
-use Rattle.interpretation_spec.specs.Numbered.{NumberedInterpretation, IsMadeFor}
-use Rattle.listed_model.specs.Interpreted.{listed_interpretation}
+use Rattle.interpretation_spec.specs.NumberedInterpretation.{NumberedInterpretation, IsMadeFor}
+use Rattle.listed_model.specs.Interpretations.{listed_interpretation}
 use Rattle.listed_model.proofs.Interpreted.{listing_is, interpretation_is}
-use Rattle.answers.specs.Numbered.{IsPartFor}
+use Rattle.answers.specs.Findings.{IsPartFor}
 
 irreflexive : (x : Context) → IsBefore x x → ⊥
 irreflexive (Expression e) h = omega arith

@@ -5,19 +5,19 @@ use Rattle.std.proofs.lemmas.Bool.{cases_order}
 use Rattle.std.proofs.lemmas.List.Kept.{AllPairs-from_increasing}
 use Rattle.std.proofs.lemmas.Option.{slice_get_within, get_or_from_slice_get}
 use Rattle.axioms.specs.Expression.{Iri, ClassExpression, Named}
-use Rattle.axioms.specs.Numbered.{Ontology, Class, expression, individual_name, axiom_trees}
-use Rattle.axioms.specs.WellFormed.{IsOntology}
+use Rattle.axioms.specs.Ontology.{Ontology, Class, expression, individual_name, axiom_trees}
+use Rattle.axioms.specs.WellFormedness.{IsOntology}
 use Rattle.axioms.proofs.Trees.{class_tree}
 use Rattle.closure.specs.Closure.{Context, Expression, IsRoot}
 use Rattle.closure.specs.Closure as closure
-use Rattle.generated_part.specs.Generated.{IsGenerated}
+use Rattle.generated_part.specs.GeneratedPart.{IsGenerated}
 use Rattle.generated_part.proofs.Keeping.{same, model_kept}
-use Rattle.interpretation_spec.specs.ByName.{interpretation_of}
+use Rattle.interpretation_spec.specs.NamedInterpretation.{interpretation_of}
 use Rattle.interpretation_spec.specs.Interpretation.{Interpretation, IsInterpretation, IsIn, IsModel}
-use Rattle.interpretation_spec.specs.Numbered.{NumberedInterpretation, IsNumberedInterpretation}
+use Rattle.interpretation_spec.specs.NumberedInterpretation.{NumberedInterpretation, IsNumberedInterpretation}
 use Rattle.interpretation_spec.proofs.Names.{stands_well, size_of}
-use Rattle.answers.specs.Explained.{IsAbout, IsClassNamed, IsOf, Refutes}
-use Rattle.answers.specs.Numbered.{IsPartFor, IsRefutable}
+use Rattle.answers.specs.Explanations.{IsAbout, IsClassNamed, IsOf, Refutes}
+use Rattle.answers.specs.Findings.{IsPartFor, IsRefutable}
 use Rattle.answers.specs.declared.asked.Asked.{Asked}
 use Rattle.answers.specs.declared.asked.Asked.TheVariants as asked
 use Rattle.answers.proofs.Deriving.{named_tree}

@@ -1,5 +1,5 @@
 pub mod Names
-pub mod Follows
-pub mod Asked
-pub mod Explained
-pub mod Numbered
+pub mod Entailment
+pub mod Questions
+pub mod Explanations
+pub mod Findings

@@ -4,7 +4,7 @@ use Rattle.std.specs.Cmp.Lexicographic.{slice_cmp}
 use Rattle.std.specs.List.{AllPairs, Contains}
 use Rattle.std.specs.Ordering.{is_lt, nat_cmp}
 use Rattle.axioms.specs.Expression.{Iri}
-use Rattle.axioms.specs.WellFormed.{AreDistinct}
+use Rattle.axioms.specs.WellFormedness.{AreDistinct}
 
 -- each name stands before the later ones in byte order
 abbrev pub AreInByteOrder : List Iri → Type 0

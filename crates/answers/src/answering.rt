@@ -1,10 +1,10 @@
 //! Explanations.
 ghost use Rattle.closure.specs.Closure.{Expression, IsRoot};
-ghost use Rattle.exactness.specs.Listed.{IsConsistent};
+ghost use Rattle.exactness.specs.ListedInterpretation.{IsConsistent};
 ghost use Rattle.countermodel.specs.Elements.{context_of};
-ghost use Rattle.engine.specs.Saturated.{IsSaturated};
-ghost use Rattle.answers.specs.Explained.{Explains, IsKnown};
-ghost use Rattle.answers.specs.Numbered.{ExplainsOf};
+ghost use Rattle.engine.specs.Saturations.{IsSaturated};
+ghost use Rattle.answers.specs.Explanations.{Explains, IsKnown};
+ghost use Rattle.answers.specs.Findings.{ExplainsOf};
 ghost use Rattle.std.specs.Prelude.{◌↔◌, [], Contains, IfOk, IfSome, IsSome};
 
 use crate::asked::Asked;

@@ -1,8 +1,8 @@
 //! The classes above and below a class, and its individuals.
-ghost use Rattle.answers.specs.Asked.{FollowsFor, class_asked, names_asked};
-ghost use Rattle.answers.specs.Follows.{BelongsTo, LiesBelow};
+ghost use Rattle.answers.specs.Questions.{FollowsFor, class_asked, names_asked};
+ghost use Rattle.answers.specs.Entailment.{BelongsTo, LiesBelow};
 ghost use Rattle.answers.specs.Names.{AreThose};
-ghost use Rattle.engine.specs.Saturated.{IsSaturated};
+ghost use Rattle.engine.specs.Saturations.{IsSaturated};
 ghost use Rattle.std.specs.Prelude.{◌<◌, ◌↔◌, ◌≡◌, Contains, IfOk, IfSome, IsSome, MatchOption, Some, length, map, slice_get, string_bytes};
 
 use crate::marks::marks_of;

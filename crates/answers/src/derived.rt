@@ -1,17 +1,17 @@
 //! Derivations that end in what is asked.
-ghost use Rattle.axioms.specs.Numbered.{Ontology as Ontology2};
-ghost use Rattle.cert_check.specs.Acceptable.{IsTop};
+ghost use Rattle.axioms.specs.Ontology.{Ontology as Ontology2};
+ghost use Rattle.cert_check.specs.Acceptance.{IsTop};
 ghost use Rattle.cert_check.specs.Derivation.{HasLine, IsDerivation};
 ghost use Rattle.certificate.specs.Certificate.{Sub};
 ghost use Rattle.certificate.specs.View.{conclusion_of, lines_of, subject_of as subject_in};
 ghost use Rattle.closure.specs.Closure.{Expression, IsRoot};
-ghost use Rattle.exactness.specs.Listed.{IsConsistent};
-ghost use Rattle.exactness.specs.Derivable.{subject_of as subject_by};
+ghost use Rattle.exactness.specs.ListedInterpretation.{IsConsistent};
+ghost use Rattle.exactness.specs.Derivability.{subject_of as subject_by};
 ghost use Rattle.countermodel.specs.Elements.{context_of};
-ghost use Rattle.engine.specs.Saturated.{IsSaturated};
-ghost use Rattle.explain.specs.Needed.{ShowsContradiction as SaysContradiction};
-ghost use Rattle.answers.specs.Explained.{Derives, ShowsContradiction};
-ghost use Rattle.answers.specs.Numbered.{IsContradiction, IsLineWith, IsRefutable, line_from_nothing};
+ghost use Rattle.engine.specs.Saturations.{IsSaturated};
+ghost use Rattle.explain.specs.Needs.{ShowsContradiction as SaysContradiction};
+ghost use Rattle.answers.specs.Explanations.{Derives, ShowsContradiction};
+ghost use Rattle.answers.specs.Findings.{IsContradiction, IsLineWith, IsRefutable, line_from_nothing};
 ghost use Rattle.std.specs.Prelude.{◌≡◌, ◌++◌, ◌∷◌, ◌↔◌, [], IfOk, IsTrue, MatchOption, length};
 
 use axioms::{ExprId, Memory, Ontology};

@@ -1,9 +1,9 @@
 //! Marks on the numbers that facts answer with.
-ghost use Rattle.answers.specs.Asked.{AreAnswers, AreMarks, IsAnswer, IsEvery, nothing_class};
+ghost use Rattle.answers.specs.Questions.{AreAnswers, AreMarks, IsAnswer, IsEvery, nothing_class};
 ghost use Rattle.answers.specs.Names.{IsMarked};
 ghost use Rattle.answers.specs.declared.question.Question.TheVariants as asked;
 ghost use Rattle.classification.specs.Lists.{PutsBelow, PutsInto, SomeFact};
-ghost use Rattle.engine.specs.Saturated.{IsSaturated};
+ghost use Rattle.engine.specs.Saturations.{IsSaturated};
 ghost use Rattle.std.specs.Prelude.{◌<◌, ◌↔◌, ◌≡◌, ◌⊎◌, IfOk, IsTrue, MatchOption, Some, length, ℕ};
 
 use crate::question::Question;

@@ -1,6 +1,6 @@
 //! Names and what they name.
 ghost use Rattle.countermodel.specs.Elements.{context_of};
-ghost use Rattle.answers.specs.Explained.{IsAbout, IsClassNamed, IsKnown};
+ghost use Rattle.answers.specs.Explanations.{IsAbout, IsClassNamed, IsKnown};
 ghost use Rattle.std.specs.Prelude.{◌≡◌, Contains, MatchOption, Some, slice_get};
 
 use crate::asked::Asked;

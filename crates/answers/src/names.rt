@@ -1,6 +1,6 @@
 //! Names in byte order.
 ghost use Rattle.answers.specs.Names.{AreMarkedBelow, AreThose, HasMark};
-ghost use Rattle.axioms.specs.WellFormed.{AreDistinct};
+ghost use Rattle.axioms.specs.WellFormedness.{AreDistinct};
 ghost use Rattle.std.specs.Prelude.{◌≡◌, IfOk, length, map, string_bytes};
 
 use axioms::Memory;

@@ -1,8 +1,8 @@
 //! Interpretations that refute what is asked.
-ghost use Rattle.exactness.specs.Listed.{IsConsistent, IsSatisfiable};
+ghost use Rattle.exactness.specs.ListedInterpretation.{IsConsistent, IsSatisfiable};
 ghost use Rattle.countermodel.specs.Elements.{context_of};
-ghost use Rattle.engine.specs.Saturated.{IsSaturated};
-ghost use Rattle.answers.specs.Numbered.{IsPartFor};
+ghost use Rattle.engine.specs.Saturations.{IsSaturated};
+ghost use Rattle.answers.specs.Findings.{IsPartFor};
 ghost use Rattle.std.specs.Prelude.{[], IfOk};
 
 use axioms::{Memory, Ontology};

@@ -1,5 +1,5 @@
 //! What the facts of a saturation say.
-ghost use Rattle.answers.specs.Follows.{ClassesFollow, ContradictionIsExact, TypesFollow};
+ghost use Rattle.answers.specs.Entailment.{ClassesFollow, ContradictionIsExact, TypesFollow};
 
 /// Exactly what follows from the axioms, in every finite interpretation in which they hold, is what a saturation has of named
 /// classes and individuals.

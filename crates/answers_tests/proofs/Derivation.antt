@@ -4,7 +4,7 @@ use Rattle.std.proofs.lemmas.Option.{none-some, same_Some}
 use Rattle.axioms.specs.Examples.{one_subclass}
 use Rattle.certificate.specs.Certificate.{Expression, Conclusion, Sub, Line}
 use Rattle.certificate.specs.declared.line.Rule.{Rule}
-use Rattle.certificate.specs.HasText.{IsConclusionOf}
+use Rattle.certificate.specs.Writability.{IsConclusionOf}
 use Rattle.cert_check.specs.Lines.{Follows}
 use Rattle.cert_check.specs.Derivation.{IsDerived, IsDerivation}
 use Rattle.answers_tests.specs.OneSubclass.{seven_lines}

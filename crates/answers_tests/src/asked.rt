@@ -1,5 +1,5 @@
 //! What is asked of the saturation of a document. Here alone a saturation is alive.
-ghost use Rattle.engine.specs.Saturated.{IsSaturated};
+ghost use Rattle.engine.specs.Saturations.{IsSaturated};
 
 use crate::{derivations, listings};
 use axioms::Ontology;

@@ -1,5 +1,5 @@
 //! The lines of worked closures, as values and as text.
-ghost use Rattle.engine.specs.Saturated.{IsSaturated};
+ghost use Rattle.engine.specs.Saturations.{IsSaturated};
 
 use crate::asked;
 use axioms::{ExprId, IndId, Ontology};

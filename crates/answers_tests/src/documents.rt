@@ -1,5 +1,5 @@
 //! Ontologies that documents state, and interpretations that certificates list.
-ghost use Rattle.interpretation_spec.specs.Numbered.{IsMadeFor};
+ghost use Rattle.interpretation_spec.specs.NumberedInterpretation.{IsMadeFor};
 ghost use Rattle.std.specs.Prelude.{IfSome};
 
 use axioms::Ontology;

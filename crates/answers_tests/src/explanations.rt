@@ -2,12 +2,12 @@
 
 mod judged;
 
-ghost use Rattle.engine.specs.Saturated.{IsSaturated};
-ghost use Rattle.answers.specs.Explained.{Explains};
+ghost use Rattle.engine.specs.Saturations.{IsSaturated};
+ghost use Rattle.answers.specs.Explanations.{Explains};
 ghost use Rattle.answers.specs.declared.asked.Asked.{Asked as Asked2};
-ghost use Rattle.certificate.specs.HasText.{IsLineOf};
+ghost use Rattle.certificate.specs.Writability.{IsLineOf};
 ghost use Rattle.certificate.specs.View.{lines_of};
-ghost use Rattle.interpretation_spec.specs.Numbered.{IsMadeFor};
+ghost use Rattle.interpretation_spec.specs.NumberedInterpretation.{IsMadeFor};
 ghost use Rattle.std.specs.Prelude.{All, List, ℕ};
 
 use answer_texts::{proof_bytes, refutation_bytes};
@@ -125,7 +125,7 @@ const QUESTIONS: &[Question] = &[
         wanted: Wanted::YesByLast("\n10. sub <x:E> <x:D> by K4 axiom 4 from 9\n"),
     },
     Question {
-        case: "A is in D, by the beginnings of an intersection",
+        case: "A is in D, by the prefixes of an intersection",
         document: INTERSECTION,
         asked: Asked::Class("x:A"),
         class: "x:D",

@@ -1,7 +1,7 @@
 //! The parts that are reached from an element, as they are written for people.
-ghost use Rattle.certificate.specs.HasText.{IsListedOf};
+ghost use Rattle.certificate.specs.Writability.{IsListedOf};
 ghost use Rattle.certificate.specs.View.{listed_of};
-ghost use Rattle.interpretation_spec.specs.Numbered.{IsMadeFor};
+ghost use Rattle.interpretation_spec.specs.NumberedInterpretation.{IsMadeFor};
 
 use crate::documents::{listed_in, ontology_of};
 use answer_texts::refutation_bytes;

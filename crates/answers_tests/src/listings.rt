@@ -1,7 +1,7 @@
 //! What a closure lists, for worked documents.
-ghost use Rattle.exactness.specs.Listed.{AreSatisfiableContexts};
-ghost use Rattle.engine.specs.Saturated.{IsSaturated};
-ghost use Rattle.interpretation_spec.specs.Numbered.{IsMadeFor};
+ghost use Rattle.exactness.specs.ListedInterpretation.{AreSatisfiableContexts};
+ghost use Rattle.engine.specs.Saturations.{IsSaturated};
+ghost use Rattle.interpretation_spec.specs.NumberedInterpretation.{IsMadeFor};
 ghost use Rattle.std.specs.Prelude.{[]};
 
 use crate::asked;

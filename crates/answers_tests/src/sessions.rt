@@ -1,5 +1,5 @@
 //! Sessions over documents worked out by hand: what they answer before they are run, and when they are.
-ghost use Rattle.engine.specs.Saturated.{IsSound};
+ghost use Rattle.engine.specs.Saturations.{IsSound};
 
 use device::{BufferSink, SliceSource};
 use session::{AskFault, Limits, Session, Stop, Summary, TextFault};

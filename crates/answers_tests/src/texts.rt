@@ -2,9 +2,9 @@
 
 ghost use Rattle.answers_tests.specs.OneSubclass.{seven_lines, sub_line};
 ghost use Rattle.certificate.specs.declared.line.Rule.TheVariants.{K4};
-ghost use Rattle.certificate.specs.HasText.{HasText};
+ghost use Rattle.certificate.specs.Writability.{HasText};
 ghost use Rattle.certificate.specs.View.{line_of, lines_of};
-ghost use Rattle.interpretation_spec.specs.Numbered.{IsMadeFor};
+ghost use Rattle.interpretation_spec.specs.NumberedInterpretation.{IsMadeFor};
 ghost use Rattle.std.specs.Prelude.{[], ◌∷◌, ◌++◌, ◌≡◌, IfOk, None, OnOk, Some};
 
 use crate::documents::{listed_in, ontology_of};

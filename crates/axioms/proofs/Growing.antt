@@ -7,8 +7,8 @@ use Rattle.lemmas.proofs.Members.{Contains-from_slice_get, slice_get-from_Contai
 use Rattle.lemmas.proofs.Places.{slice_get_push, slice_get_push_cases, Keeps, keeps_push}
 use Rattle.axioms.specs.Expression.{Iri, owl_thing, owl_nothing}
 use Rattle.axioms.specs.Growth.{Numbers, with_axiom, with_class}
-use Rattle.axioms.specs.Numbered.{Ontology, Axiom, Node, Class, And, Exists, IsClassAt, SubClass, EquivalentClasses, DisjointClasses, SubProperty, EquivalentProperties, Domain, Transitive, Reflexive, ClassAssertion, PropertyAssertion}
-use Rattle.axioms.specs.WellFormed.{AreDistinct, AreOperands, IsNodeOf, IsAxiomOf, IsOntology}
+use Rattle.axioms.specs.Ontology.{Ontology, Axiom, Node, Class, And, Exists, IsClassAt, SubClass, EquivalentClasses, DisjointClasses, SubProperty, EquivalentProperties, Domain, Transitive, Reflexive, ClassAssertion, PropertyAssertion}
+use Rattle.axioms.specs.WellFormedness.{AreDistinct, AreOperands, IsNodeOf, IsAxiomOf, IsOntology}
 
 pub AreDistinct-push : {X : Type 0} (xs : List X) (x : X) → AreDistinct xs → (Contains xs x → ⊥) → AreDistinct (xs ++ x ∷ [])
 AreDistinct-push xs x distinct new m n y gm gn =

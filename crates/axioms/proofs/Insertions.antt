@@ -13,9 +13,9 @@ use Rattle.std.specs.String.{string_eq}
 use Rattle.std.specs.declared.alloc.Global.{Global}
 use Rattle.lemmas.proofs.Mapped.{slice_get_map}
 use Rattle.lemmas.proofs.Places.{slice_get_push_cases}
-use Rattle.keyed_hash.specs.Numbered.{insert_key}
+use Rattle.keyed_hash.specs.Numbering.{insert_key}
 use Rattle.axioms.specs.Growth.{Numbers}
-use Rattle.axioms.specs.Numbered.{Class, And, Exists}
+use Rattle.axioms.specs.Ontology.{Class, And, Exists}
 use Rattle.axioms.specs.View.{node_of}
 use Rattle.axioms.specs.contracts.terms.ExprPartialEq.TheImpl.{ghosts}
 use Rattle.axioms.specs.declared.ids.ExprId.{ExprId}

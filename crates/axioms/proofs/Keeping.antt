@@ -6,10 +6,10 @@ use Rattle.lemmas.proofs.Members.{Contains-from_slice_get}
 use Rattle.lemmas.proofs.Places.{slice_get_push, slice_get_push_cases, keeps_push}
 use Rattle.axioms.specs.Expression.{owl_thing, owl_nothing}
 use Rattle.axioms.specs.Growth.{DeclaresClass, IsBounded, Numbers, empty_ontology, most_names, with_axiom, with_class}
-use Rattle.axioms.specs.Kept.{kept_ontology, IsKept}
-use Rattle.axioms.specs.Numbered.{Ontology, Node, Axiom, Class, IsClassAt}
+use Rattle.axioms.specs.Fields.{kept_ontology, IsKept}
+use Rattle.axioms.specs.Ontology.{Ontology, Node, Axiom, Class, IsClassAt}
 use Rattle.axioms.specs.View.{node_of, axiom_of}
-use Rattle.axioms.specs.WellFormed.{IsOntology}
+use Rattle.axioms.specs.WellFormedness.{IsOntology}
 use Rattle.axioms.specs.declared.ids.ExprId.{ExprId}
 use Rattle.axioms.specs.declared.ontology.Ontology.TheInside.{Inside}
 use Rattle.axioms.proofs.Growing.{new_class_node}

@@ -4,8 +4,8 @@ use Rattle.std.proofs.lemmas.List.Elements.{All-nil}
 use Rattle.std.proofs.lemmas.Option.{none-some, same_Some}
 use Rattle.axioms.specs.Expression.{Iri, owl_thing, owl_nothing}
 use Rattle.axioms.specs.Growth.{empty_ontology}
-use Rattle.axioms.specs.Numbered.{Node, Class, IsClassAt}
-use Rattle.axioms.specs.WellFormed.{IsNodeOf, IsAxiomOf, IsOntology}
+use Rattle.axioms.specs.Ontology.{Node, Class, IsClassAt}
+use Rattle.axioms.specs.WellFormedness.{IsNodeOf, IsAxiomOf, IsOntology}
 
 name_place : (n : ℕ) (x : Iri) → slice_get (owl_thing ∷ owl_nothing ∷ []) n ≡ Some x → 35 + 2 * n ≡ length x
 name_place zero x g = ap length (same_Some owl_thing x g)

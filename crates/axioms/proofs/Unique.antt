@@ -7,10 +7,10 @@ use Rattle.std.proofs.lemmas.List.{length-map}
 use Rattle.std.proofs.lemmas.List.Elements.{All-head, All-tail, All-weaker}
 use Rattle.lemmas.proofs.Places.{slice_get_there}
 use Rattle.axioms.specs.Expression.{Iri, ClassExpression, Operands, Named, Intersection, SomeValues, operand_list}
-use Rattle.axioms.specs.Numbered.{Ontology, Names, Axiom, Node, Class, And, Exists, SubClass, EquivalentClasses, DisjointClasses, SubProperty, EquivalentProperties, Domain, Transitive, Reflexive, ClassAssertion, PropertyAssertion, name_at, tree_at, tree_of, trees, intersection, operands_of, expression, property_name, individual_name, axiom_tree, axiom_trees}
+use Rattle.axioms.specs.Ontology.{Ontology, Names, Axiom, Node, Class, And, Exists, SubClass, EquivalentClasses, DisjointClasses, SubProperty, EquivalentProperties, Domain, Transitive, Reflexive, ClassAssertion, PropertyAssertion, name_at, tree_at, tree_of, trees, intersection, operands_of, expression, property_name, individual_name, axiom_tree, axiom_trees}
 use Rattle.axioms.specs.Numbering.{class_name}
 use Rattle.axioms.specs.Theorems.{StatementsDetermineOntology}
-use Rattle.axioms.specs.WellFormed.{AreDistinct, IsNodeOf, IsAxiomOf, IsOntology}
+use Rattle.axioms.specs.WellFormedness.{AreDistinct, IsNodeOf, IsAxiomOf, IsOntology}
 use Rattle.axioms.proofs.Keeping.{same_ontology}
 use Rattle.axioms.proofs.Trees.{node_tree, length_trees}
 

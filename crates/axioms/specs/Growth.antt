@@ -6,7 +6,7 @@ use Rattle.axioms.specs.declared.terms.Kind.TheVariants as kinds
 use Rattle.axioms.specs.declared.terms.Name.{Name}
 use Rattle.axioms.specs.declared.terms.Name.TheVariants as declared
 use Rattle.axioms.specs.Expression.{Iri, owl_thing, owl_nothing}
-use Rattle.axioms.specs.Numbered.{Ontology, Names, Axiom, Class}
+use Rattle.axioms.specs.Ontology.{Ontology, Names, Axiom, Class}
 
 -- the ontology of no statements has the two classes of the standard
 abbrev pub empty_ontology : Ontology

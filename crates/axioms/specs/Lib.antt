@@ -1,10 +1,10 @@
 pub mod Expression
 pub mod Axiom
-pub mod Numbered
-pub mod WellFormed
+pub mod Ontology
+pub mod WellFormedness
 pub mod Numbering
 pub mod Theorems
 pub mod Examples
 pub mod View
-pub mod Kept
+pub mod Fields
 pub mod Growth

@@ -7,7 +7,7 @@ use Rattle.axioms.specs.declared.terms.Expr as code_expr
 use Rattle.axioms.specs.declared.terms.Expr.TheVariants as exprs
 use Rattle.axioms.specs.declared.terms.Axiom as code_axiom
 use Rattle.axioms.specs.declared.terms.Axiom.TheVariants as axioms
-use Rattle.axioms.specs.Numbered as numbered
+use Rattle.axioms.specs.Ontology as numbered
 
 abbrev pub expr_numbers : List ExprId → List ℕ
 expr_numbers = map (λ (e : ExprId). e.0)

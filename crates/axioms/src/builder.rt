@@ -3,7 +3,7 @@ ghost use Rattle.std.specs.Prelude.{◌≡◌, ◌↔◌, length, Err, IfOk, OnO
 ghost use Rattle.axioms.specs.declared.fault.BuildFault.TheVariants as faults;
 ghost use Rattle.axioms.specs.Growth.{empty_ontology, names_of, Numbers, IsFull, Declares, with_axiom};
 ghost use Rattle.axioms.specs.View.{axiom_of, node_of};
-ghost use Rattle.axioms.specs.WellFormed.{IsAxiomOf, IsNodeOf, IsOntology};
+ghost use Rattle.axioms.specs.WellFormedness.{IsAxiomOf, IsNodeOf, IsOntology};
 
 use crate::fault::BuildFault;
 use crate::ids::ExprId;
@@ -22,7 +22,7 @@ pub struct Builder {
 }
 
 impl Model for Builder {
-    ghost use Rattle.axioms.specs.Numbered as numbered;
+    ghost use Rattle.axioms.specs.Ontology as numbered;
 
     ghost Value = { numbered.Ontology };
 

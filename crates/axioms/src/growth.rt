@@ -3,9 +3,9 @@ ghost use Rattle.std.specs.Prelude.{◌≡◌, ◌<◌, ◌≤◌, ◌↔◌, []
 ghost use Rattle.axioms.specs.declared.fault.BuildFault.TheVariants as faults;
 ghost use Rattle.axioms.specs.Growth.{empty_ontology, most_names, Numbers, IsFull, DeclaresClass, DeclaresProperty, DeclaresIndividual, with_axiom, with_class};
 ghost use Rattle.axioms.specs.Expression.{owl_thing, owl_nothing};
-ghost use Rattle.axioms.specs.Numbered.{Class};
+ghost use Rattle.axioms.specs.Ontology.{Class};
 ghost use Rattle.axioms.specs.View.{axiom_of, node_of};
-ghost use Rattle.axioms.specs.WellFormed.{IsAxiomOf, IsNodeOf};
+ghost use Rattle.axioms.specs.WellFormedness.{IsAxiomOf, IsNodeOf};
 
 use crate::fault::BuildFault;
 use crate::ids::{ClassId, ExprId, IndId, PropId};

@@ -3,9 +3,9 @@ ghost use Rattle.std.specs.Prelude.{◌<◌, ◌≡◌, ◌↔◌, Contains, IfS
 ghost use Rattle.std.specs.List.{list_any};
 ghost use Rattle.std.specs.Str.{bytes_eq};
 ghost use Rattle.axioms.specs.Growth.{IsBounded, names_of};
-ghost use Rattle.axioms.specs.Numbered.{Class, IsClassAt};
+ghost use Rattle.axioms.specs.Ontology.{Class, IsClassAt};
 ghost use Rattle.axioms.specs.View.{axiom_of, node_of, at_number};
-ghost use Rattle.axioms.specs.WellFormed.{IsOntology};
+ghost use Rattle.axioms.specs.WellFormedness.{IsOntology};
 
 use crate::ids::{ClassId, ExprId};
 use crate::terms::{Axiom, Expr, Kind};
@@ -41,8 +41,8 @@ impl Drop for Ontology {
 }
 
 impl Model for Ontology {
-    ghost use Rattle.axioms.specs.Numbered as numbered;
-    ghost use Rattle.axioms.specs.Kept.{kept_ontology, IsKept};
+    ghost use Rattle.axioms.specs.Ontology as numbered;
+    ghost use Rattle.axioms.specs.Fields.{kept_ontology, IsKept};
 
     ghost Value = { numbered.Ontology };
 

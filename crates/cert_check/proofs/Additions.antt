@@ -7,10 +7,10 @@ use Rattle.std.proofs.lemmas.List.{length-set, get_or-set_same, get_or-set_other
 use Rattle.std.proofs.lemmas.Option.{none-some, same_Some}
 use Rattle.lemmas.proofs.Members.{Contains-from_slice_get, slice_get-from_Contains}
 use Rattle.lemmas.proofs.Places.{slice_get_push, slice_get_push_cases, keeps_push, take_push, slice_get_take, take_slice_get}
-use Rattle.axioms.specs.Numbered.{Ontology, IsClassAt}
+use Rattle.axioms.specs.Ontology.{Ontology, IsClassAt}
 use Rattle.axioms.proofs.Trees.{one_class}
-use Rattle.interpretation_spec.specs.ByName.{is_target}
-use Rattle.interpretation_spec.specs.Numbered.{NumberedInterpretation, IsNumberedInterpretation, targets_of, with_member, with_pair, with_individual, with_number}
+use Rattle.interpretation_spec.specs.NamedInterpretation.{is_target}
+use Rattle.interpretation_spec.specs.NumberedInterpretation.{NumberedInterpretation, IsNumberedInterpretation, targets_of, with_member, with_pair, with_individual, with_number}
 use Rattle.cert_check.specs.Additions.{SomeRow, AddsMembers, AddsPairs, PutsIndividuals}
 use Rattle.cert_check.proofs.Rowwise.{one_more_number, adds_none}
 

@@ -8,15 +8,15 @@ use Rattle.std.specs.Cmp.{both_ways}
 use Rattle.lemmas.proofs.Mapped.{slice_get_map}
 use Rattle.lemmas.proofs.Members.{Contains-from_slice_get, slice_get-from_Contains}
 use Rattle.lemmas.proofs.Places.{slice_get_take}
-use Rattle.axioms.specs.Numbered.{Ontology, Class, IsClassAt, expression, name_at, nothing}
-use Rattle.axioms.specs.WellFormed.{IsOntology}
+use Rattle.axioms.specs.Ontology.{Ontology, Class, IsClassAt, expression, name_at, nothing}
+use Rattle.axioms.specs.WellFormedness.{IsOntology}
 use Rattle.axioms.specs.Expression.{owl_thing}
 use Rattle.axioms.proofs.Trees.{class_tree, one_class}
 use Rattle.certificate.specs.Certificate.{Subject, Expression, Individual, Sub, Line, Listed}
-use Rattle.certificate.specs.HasText.{IsListedOf, IsNamedClass, AreElements, Ascends}
+use Rattle.certificate.specs.Writability.{IsListedOf, IsNamedClass, AreElements, Ascends}
 use Rattle.interpretation_spec.specs.Interpretation.{Interpretation, IsInterpretation, IsIn}
 use Rattle.interpretation_spec.proofs.Extensions.{in_thing, not_in_nothing}
-use Rattle.cert_check.specs.Acceptable.{Agrees}
+use Rattle.cert_check.specs.Acceptance.{Agrees}
 use Rattle.listed_model.specs.Listing.{IsListing}
 use Rattle.cert_check.specs.Derivation.{HasLine}
 use Rattle.number_sets.specs.Pieces.{list_at}

@@ -6,9 +6,9 @@ use Rattle.std.proofs.lemmas.List.Elements.{All-nil, All-from_recursion}
 use Rattle.cert_check.proofs.Places.{All-from_test}
 use Rattle.certificate.specs.Certificate.{Individual, Sub, Line, Certificate}
 use Rattle.certificate.specs.declared.line.Rule.TheVariants.{K7, K15}
-use Rattle.certificate.specs.HasText.{certificate_numbers, IsLineOf, HasText}
+use Rattle.certificate.specs.Writability.{certificate_numbers, IsLineOf, HasText}
 use Rattle.cert_check.specs.Derivation.{IsDerived, IsDerivation}
-use Rattle.cert_check.specs.Acceptable.{of_individual}
+use Rattle.cert_check.specs.Acceptance.{of_individual}
 use Rattle.cert_check.specs.Examples.{ContradictionIsAccepted}
 use Rattle.axioms.specs.Examples.{contradiction}
 

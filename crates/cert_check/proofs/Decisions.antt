@@ -4,7 +4,7 @@ use Rattle.std.proofs.lemmas.Bool.{cases_eq}
 use Rattle.std.proofs.lemmas.Option.{none-some, same_Some}
 use Rattle.certificate.specs.Certificate.{Subject, Expression, Individual, Conclusion, Sub, Edge, Line}
 use Rattle.cert_check.specs.Derivation.{HasLine}
-use Rattle.certificate.specs.HasText.{subject_number}
+use Rattle.certificate.specs.Writability.{subject_number}
 
 pub same_subject : (x y : Subject) → (x ≡ y) ⊎ (x ≡ y → ⊥)
 same_subject (Expression m) (Expression n) =

@@ -3,14 +3,14 @@ use Rattle.std.proofs.Common.{◌≡◌, ℕ, zero, suc, ◌+◌, ◌<◌, List,
 use Rattle.std.proofs.lemmas.Option.{none-some, same_Some, slice_get-get_or}
 use Rattle.std.proofs.lemmas.List.Elements.{All-contains, All-map}
 use Rattle.lemmas.proofs.Members.{Contains-from_slice_get}
-use Rattle.axioms.specs.Numbered.{Ontology, Axiom, axiom_tree, axiom_trees}
+use Rattle.axioms.specs.Ontology.{Ontology, Axiom, axiom_tree, axiom_trees}
 use Rattle.interpretation_spec.specs.Interpretation.{Interpretation, IsModel, Satisfies}
 use Rattle.certificate.specs.Certificate.{Conclusion, Line}
 use Rattle.certificate.specs.declared.line.Rule.{Rule}
 use Rattle.cert_check.specs.Lines.{IsTrueIn, Follows}
 use Rattle.axioms.specs.View.{at_number}
 use Rattle.cert_check.specs.Derivation.{at_numbers, prepended_list, axiom_at, IsDerived, IsDerivation, HasLine}
-use Rattle.axioms.specs.WellFormed.{IsOntology}
+use Rattle.axioms.specs.WellFormedness.{IsOntology}
 use Rattle.std.specs.List.{AllByRecursion}
 use Rattle.cert_check.proofs.Truth.{Holds, rule_keeps_truth}
 use Rattle.cert_check.proofs.Places.{mapped_member}

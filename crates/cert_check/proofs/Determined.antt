@@ -3,10 +3,10 @@ use Rattle.std.proofs.Common.{◌≡◌, ℕ, ◌<◌, ◌↔◌, List, length, 
 use Rattle.std.proofs.lemmas.Option.{slice_get_within}
 use Rattle.std.specs.Cmp.{both_ways}
 use Rattle.axioms.specs.Expression.{owl_nothing}
-use Rattle.axioms.specs.Numbered.{Ontology}
+use Rattle.axioms.specs.Ontology.{Ontology}
 use Rattle.certificate.specs.Certificate.{Line, Listed}
-use Rattle.cert_check.specs.Acceptable.{AreDetermined, SaysConsistent, SaysContradictory, IsAcceptable, ClassBelow, HasType}
-use Rattle.axioms.specs.WellFormed.{IsOntology}
+use Rattle.cert_check.specs.Acceptance.{AreDetermined, SaysConsistent, SaysContradictory, IsAcceptable, ClassBelow, HasType}
+use Rattle.axioms.specs.WellFormedness.{IsOntology}
 use Rattle.taxonomy.proofs.Agreement.{same_taxonomy, same_instances}
 use Rattle.cert_check.proofs.Headline.{acceptable_says}
 

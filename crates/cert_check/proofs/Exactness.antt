@@ -5,14 +5,14 @@ use Rattle.std.proofs.lemmas.Option.{slice_get-get_or, slice_get_within}
 use Rattle.lemmas.proofs.Mapped.{slice_get_map}
 use Rattle.lemmas.proofs.Members.{Contains-from_slice_get}
 use Rattle.axioms.specs.Expression.{owl_nothing}
-use Rattle.axioms.specs.Numbered.{Ontology, Axiom, axiom_tree, axiom_trees, thing, nothing}
+use Rattle.axioms.specs.Ontology.{Ontology, Axiom, axiom_tree, axiom_trees, thing, nothing}
 use Rattle.axioms.specs.View.{at_number}
-use Rattle.axioms.specs.WellFormed.{IsOntology}
+use Rattle.axioms.specs.WellFormedness.{IsOntology}
 use Rattle.certificate.specs.Certificate.{Subject, Expression, Individual, Conclusion, Sub, Edge, Line, Listed, Certificate}
-use Rattle.certificate.specs.HasText.{IsListedOf, IsNamedClass}
+use Rattle.certificate.specs.Writability.{IsListedOf, IsNamedClass}
 use Rattle.certificate.proofs.Meaning.{same_certificate}
 use Rattle.interpretation_spec.specs.Agreement.{AgreeOn}
-use Rattle.interpretation_spec.specs.ByName.{IsFirstUnsatisfied}
+use Rattle.interpretation_spec.specs.NamedInterpretation.{IsFirstUnsatisfied}
 use Rattle.interpretation_spec.specs.Interpretation.{Interpretation, IsModel, Satisfies}
 use Rattle.interpretation_spec.proofs.Agreement.{hold_same, satisfy_same}
 use Rattle.taxonomy.specs.Texts.{taxonomy_text, instances_text}
@@ -21,7 +21,7 @@ use Rattle.cert_check.specs.declared.verdict.Reason.{Reason}
 use Rattle.cert_check.specs.declared.verdict.Reason.TheVariants.{BadText, BadLine, AxiomFails, ClaimMissing, ClaimDisagrees, IndividualDisagrees, NoContradiction, TaxonomyDiffers, InstancesDiffer}
 use Rattle.cert_check.specs.declared.verdict.Verdict.{Verdict}
 use Rattle.cert_check.specs.declared.verdict.Verdict.TheVariants.{Accepted, Rejected}
-use Rattle.cert_check.specs.Acceptable.{Agrees, ClaimHolds, LiesBelow, Belongs, IsConsistentShown, IsTop, of_thing, of_individual, IsContradictionShown, IsAcceptable, AreRight}
+use Rattle.cert_check.specs.Acceptance.{Agrees, ClaimHolds, LiesBelow, Belongs, IsConsistentShown, IsTop, of_thing, of_individual, IsContradictionShown, IsAcceptable, AreRight}
 use Rattle.cert_check.specs.Derivation.{IsDerivation, HasLine}
 use Rattle.cert_check.specs.Faults.{DifferFirstAt}
 use Rattle.cert_check.specs.Verdict.{IsContradiction, HasContradiction, ClaimsHold, IndividualAgrees, Against, ConsistentAgainst, IsJudged, HasBadLine, HasTrueLines, IsVerdict, PassesLines}

@@ -5,12 +5,12 @@ use Rattle.std.proofs.lemmas.Option.{slice_get-get_or}
 use Rattle.std.proofs.lemmas.List.Elements.{All-contains}
 use Rattle.axioms.specs.Expression.{Named}
 use Rattle.interpretation_spec.specs.Interpretation.{Interpretation, IsIn, IsContradictory}
-use Rattle.axioms.specs.Numbered.{Ontology, name_at, expression, individual_name, axiom_trees, IsClassAt, nothing}
+use Rattle.axioms.specs.Ontology.{Ontology, name_at, expression, individual_name, axiom_trees, IsClassAt, nothing}
 use Rattle.certificate.specs.Certificate.{Subject, Expression, Individual, Sub, Line, Listed}
 use Rattle.cert_check.specs.Derivation.{IsDerivation, HasLine}
-use Rattle.certificate.specs.HasText.{IsListedOf, IsNamedClass}
-use Rattle.cert_check.specs.Acceptable.{Agrees, ClaimHolds, IsConsistentShown, IsTop, of_thing, of_individual, IsContradictionShown, IsAcceptable, ClassBelow, HasType, IsRefutedByClaim, SaysConsistent, SaysContradictory, Says}
-use Rattle.axioms.specs.WellFormed.{IsOntology}
+use Rattle.certificate.specs.Writability.{IsListedOf, IsNamedClass}
+use Rattle.cert_check.specs.Acceptance.{Agrees, ClaimHolds, IsConsistentShown, IsTop, of_thing, of_individual, IsContradictionShown, IsAcceptable, ClassBelow, HasType, IsRefutedByClaim, SaysConsistent, SaysContradictory, Says}
+use Rattle.axioms.specs.WellFormedness.{IsOntology}
 use Rattle.axioms.proofs.Trees.{class_tree}
 use Rattle.interpretation_spec.proofs.Extensions.{in_thing, not_in_nothing}
 use Rattle.cert_check.proofs.Derivations.{line_true}

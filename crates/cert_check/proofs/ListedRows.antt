@@ -6,12 +6,12 @@ use Rattle.std.proofs.lemmas.Option.{none-some, same_Some, slice_get_within, get
 use Rattle.lemmas.proofs.Pairs.{AllPairs-tail}
 use Rattle.lemmas.proofs.Members.{Contains-none}
 use Rattle.lemmas.proofs.Mapped.{slice_get_map}
-use Rattle.axioms.specs.Numbered.{Ontology, Class, IsClassAt}
-use Rattle.axioms.specs.WellFormed.{IsOntology}
+use Rattle.axioms.specs.Ontology.{Ontology, Class, IsClassAt}
+use Rattle.axioms.specs.WellFormedness.{IsOntology}
 use Rattle.certificate.specs.Certificate.{Listed}
-use Rattle.certificate.specs.HasText.{IsListedOf, Ascends, IsPairBefore}
-use Rattle.interpretation_spec.specs.ByName.{interpretation_of, is_target}
-use Rattle.interpretation_spec.specs.Numbered.{NumberedInterpretation, IsMadeFor, empty_interpretation}
+use Rattle.certificate.specs.Writability.{IsListedOf, Ascends, IsPairBefore}
+use Rattle.interpretation_spec.specs.NamedInterpretation.{interpretation_of, is_target}
+use Rattle.interpretation_spec.specs.NumberedInterpretation.{NumberedInterpretation, IsMadeFor, empty_interpretation}
 use Rattle.interpretation_spec.proofs.Names.{stands}
 use Rattle.taxonomy.specs.Relation.{lies_below}
 use Rattle.listed_model.specs.Listing.{IsListing, elements_of, targets_of as listed_targets}

@@ -2,13 +2,13 @@
 use Rattle.std.proofs.Common.{◌≡◌, ℕ, zero, suc, ◌<◌, get_or, slice_get, Some, refl, sym, ap, ◌∙◌, subst, arith}
 use Rattle.std.proofs.lemmas.Option.{slice_get-get_or}
 use Rattle.axioms.specs.Expression.{owl_thing, owl_nothing}
-use Rattle.axioms.specs.Numbered.{Ontology, IsClassAt, name_at}
-use Rattle.axioms.specs.WellFormed.{IsOntology}
+use Rattle.axioms.specs.Ontology.{Ontology, IsClassAt, name_at}
+use Rattle.axioms.specs.WellFormedness.{IsOntology}
 use Rattle.axioms.proofs.Trees.{one_class}
 use Rattle.interpretation_spec.specs.Interpretation.{Interpretation, IsInterpretation}
 use Rattle.interpretation_spec.specs.Agreement.{AgreeOn}
 use Rattle.certificate.specs.Certificate.{Listed}
-use Rattle.certificate.specs.HasText.{IsListedOf}
+use Rattle.certificate.specs.Writability.{IsListedOf}
 use Rattle.listed_model.specs.Listing.{IsListing}
 use Rattle.cert_check.proofs.Determined.{same_answer}
 

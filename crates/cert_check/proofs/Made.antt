@@ -3,9 +3,9 @@ use Rattle.std.proofs.Common.{ℕ, ◌-◌, ◌<◌, [], length, false, replicat
 use Rattle.std.proofs.lemmas.List.{length-replicate}
 use Rattle.std.proofs.lemmas.Option.{slice_get_within}
 use Rattle.axioms.specs.Expression.{owl_thing}
-use Rattle.axioms.specs.Numbered.{Ontology}
-use Rattle.axioms.specs.WellFormed.{IsOntology}
-use Rattle.interpretation_spec.specs.Numbered.{IsMadeFor, empty_interpretation}
+use Rattle.axioms.specs.Ontology.{Ontology}
+use Rattle.axioms.specs.WellFormedness.{IsOntology}
+use Rattle.interpretation_spec.specs.NumberedInterpretation.{IsMadeFor, empty_interpretation}
 
 pub empty_is_made_for : (o : Ontology) → IsOntology o → (size : ℕ) → IsMadeFor o.names (empty_interpretation o.names size)
 empty_is_made_for o w size =

@@ -6,13 +6,13 @@ use Rattle.std.proofs.lemmas.Option.{none-some, slice_get_within}
 use Rattle.std.proofs.Math.Seq.{take-append_seam}
 use Rattle.std.proofs.lemmas.List.{take-append-le}
 use Rattle.lemmas.proofs.Places.{slice_get_push, keeps_push, slice_get_push_cases}
-use Rattle.axioms.specs.Numbered.{Ontology}
+use Rattle.axioms.specs.Ontology.{Ontology}
 use Rattle.certificate.specs.Certificate.{Line, Conclusion}
 use Rattle.taxonomy.specs.Texts.{inconsistent_taxonomy_text, inconsistent_instances_text}
 use Rattle.cert_check.specs.Derivation.{IsDerived, IsDerivation}
 use Rattle.cert_check.specs.Faults.{IsFirstBadLine}
 use Rattle.cert_check.specs.Lists.{said_by, AddsNumbers, PutsBelow, PutsInto, AreSuperclasses, AreTypes}
-use Rattle.cert_check.specs.Tested.{AreTested, AreKept}
+use Rattle.cert_check.specs.Tests.{AreTested, AreKept}
 use Rattle.cert_check.specs.Verdict.{IsContradiction, HasContradiction, AreShown, TextsAgainst, ContradictionAgainst, ContradictionAgainstShown}
 use Rattle.cert_check.specs.declared.verdict.Reason.{Reason}
 use Rattle.cert_check.specs.declared.verdict.Reason.TheVariants.{BadText, BadLine, AxiomFails, ClaimMissing, ClaimDisagrees, IndividualDisagrees, NoContradiction, TaxonomyDiffers, InstancesDiffer}

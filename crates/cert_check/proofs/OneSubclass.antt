@@ -6,16 +6,16 @@ use Rattle.std.proofs.lemmas.Bool.{or_cases, or_left, or_right, and_parts, and_f
 use Rattle.std.proofs.lemmas.Option.{none-some, same_Some}
 use Rattle.std.proofs.lemmas.List.Elements.{All-nil, All-cons, All-from_recursion}
 use Rattle.axioms.specs.Expression.{owl_thing}
-use Rattle.axioms.specs.Numbered.{Ontology, Class, SubClass, IsClassAt, axiom_trees, axiom_tree, name_at, nothing}
+use Rattle.axioms.specs.Ontology.{Ontology, Class, SubClass, IsClassAt, axiom_trees, axiom_tree, name_at, nothing}
 use Rattle.interpretation_spec.specs.Interpretation.{Interpretation, IsModel, Satisfies}
 use Rattle.taxonomy.specs.Texts.{taxonomy_text, instances_text}
 use Rattle.certificate.specs.Certificate.{Expression, Conclusion, Sub, Line, Listed, Certificate}
 use Rattle.certificate.specs.declared.line.Rule.{Rule}
 use Rattle.certificate.specs.declared.line.Rule.TheVariants.{K1, K2, K4}
 use Rattle.cert_check.specs.Lines.{Follows}
-use Rattle.certificate.specs.HasText.{certificate_numbers, IsConclusionOf, IsLineOf, HasText, AreElements, IsNamedClass}
+use Rattle.certificate.specs.Writability.{certificate_numbers, IsConclusionOf, IsLineOf, HasText, AreElements, IsNamedClass}
 use Rattle.cert_check.specs.Derivation.{IsDerived, IsDerivation, HasLine}
-use Rattle.cert_check.specs.Acceptable.{Agrees, ClaimHolds, LiesBelow, IsConsistentShown}
+use Rattle.cert_check.specs.Acceptance.{Agrees, ClaimHolds, LiesBelow, IsConsistentShown}
 use Rattle.listed_model.specs.Listing.{elements_of, IsListing}
 use Rattle.cert_check.specs.Examples.{OneSubclassIsAccepted}
 use Rattle.cert_check.proofs.Places.{All-from_test}

@@ -8,7 +8,7 @@ use Rattle.std.proofs.lemmas.List.Elements.{All-nil, All-cons}
 use Rattle.lemmas.proofs.Mapped.{slice_get_map, slice_get_map_from, mapped}
 use Rattle.lemmas.proofs.Members.{Contains-from_slice_get, slice_get-from_Contains}
 use Rattle.lemmas.proofs.Places.{slice_get_there}
-use Rattle.axioms.specs.Numbered.{Node, And}
+use Rattle.axioms.specs.Ontology.{Node, And}
 use Rattle.certificate.specs.Certificate.{Conclusion}
 
 -- ---- members

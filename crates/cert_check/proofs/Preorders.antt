@@ -2,15 +2,15 @@
 use Rattle.std.proofs.Common.{◌≡◌, ℕ, ◌<◌, Bool, true, false, ◌||◌, List, length, refl, sym, ap, ◌∙◌, subst, arith}
 use Rattle.std.proofs.lemmas.Bool.{false≢true}
 use Rattle.std.proofs.lemmas.List.Elements.{All-contains}
-use Rattle.axioms.specs.Numbered.{Ontology, IsClassAt, expression, nothing, axiom_trees}
-use Rattle.axioms.specs.WellFormed.{IsOntology}
+use Rattle.axioms.specs.Ontology.{Ontology, IsClassAt, expression, nothing, axiom_trees}
+use Rattle.axioms.specs.WellFormedness.{IsOntology}
 use Rattle.certificate.specs.Certificate.{Expression, Sub, Line, Listed}
-use Rattle.certificate.specs.HasText.{IsListedOf, IsNamedClass}
+use Rattle.certificate.specs.Writability.{IsListedOf, IsNamedClass}
 use Rattle.interpretation_spec.specs.Interpretation.{Interpretation, IsModel, IsIn}
 use Rattle.interpretation_spec.proofs.Extensions.{not_in_nothing}
 use Rattle.taxonomy.specs.Relation.{is_listed, is_below}
 use Rattle.taxonomy.specs.Texts.{nothing_class}
-use Rattle.cert_check.specs.Acceptable.{ClaimHolds}
+use Rattle.cert_check.specs.Acceptance.{ClaimHolds}
 use Rattle.listed_model.specs.Listing.{IsListing}
 use Rattle.cert_check.specs.Derivation.{IsDerivation, HasLine}
 use Rattle.cert_check.specs.Lists.{said_by, AreSuperclasses, ArePreorder}

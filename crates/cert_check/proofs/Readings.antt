@@ -1,10 +1,10 @@
 -- What reading a certificate answers.
 use Rattle.std.proofs.Common.{ℕ, List, Result, Ok, Err, IfOk, IfErr, option_map}
-use Rattle.axioms.specs.Numbered.{Ontology}
+use Rattle.axioms.specs.Ontology.{Ontology}
 use Rattle.certificate.specs.Outcome.{IsRefused}
 use Rattle.certificate.specs.View.{listed_of}
 use Rattle.certificate.specs.declared.fault.CertFault.{CertFault}
-use Rattle.cert_check.specs.Tested.{IsTested, IsReading}
+use Rattle.cert_check.specs.Tests.{IsTested, IsReading}
 use Rattle.cert_check.specs.declared.derivation.TestedCertificate.{TestedCertificate}
 
 pub reading : (o : Ontology) (text : List ℕ) (read : Result TestedCertificate CertFault)

@@ -2,13 +2,13 @@
 use Rattle.std.proofs.Common.{◌≡◌, ◌↔◌, ℕ, ◌<◌, List, length, Bool, true, false, ◌||◌, Option, sym, ap, ◌∙◌, subst, subst₂, arith}
 use Rattle.std.proofs.lemmas.Bool.{false_from_ne_true}
 use Rattle.lemmas.proofs.Mapped.{slice_get_map, slice_get_map_from}
-use Rattle.axioms.specs.Numbered.{Ontology, Class, IsClassAt, nothing}
-use Rattle.axioms.specs.WellFormed.{IsOntology}
+use Rattle.axioms.specs.Ontology.{Ontology, Class, IsClassAt, nothing}
+use Rattle.axioms.specs.WellFormedness.{IsOntology}
 use Rattle.certificate.specs.Certificate.{Conclusion, Line, Sub, Expression, Individual}
 use Rattle.taxonomy.specs.Relation.{lies_below, is_listed, is_below, IsPreorder}
 use Rattle.taxonomy.specs.Texts.{taxonomy_text, instances_text}
 use Rattle.cert_check.specs.declared.verdict.Reason.{Reason}
-use Rattle.cert_check.specs.Acceptable.{LiesBelow, Belongs}
+use Rattle.cert_check.specs.Acceptance.{LiesBelow, Belongs}
 use Rattle.cert_check.specs.Additions.{SomeRow}
 use Rattle.cert_check.specs.Derivation.{HasLine}
 use Rattle.cert_check.specs.Lists.{said_by, PutsBelow, PutsInto, AreSuperclasses, AreTypes, AreLists, ArePreorder}

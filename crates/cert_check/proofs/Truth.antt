@@ -4,8 +4,8 @@ use Rattle.std.specs.List.{AllByRecursion}
 use Rattle.std.proofs.lemmas.List.{length-map}
 use Rattle.std.proofs.lemmas.List.Elements.{All-cons, All-nil}
 use Rattle.lemmas.proofs.Pairs.{AllPairs-from_map}
-use Rattle.axioms.specs.Numbered.{Ontology, Axiom, And, SubClass, EquivalentClasses, DisjointClasses, SubProperty, EquivalentProperties, Domain, Transitive, Reflexive, ClassAssertion, PropertyAssertion, thing, nothing, expression, expressions, property_name, individual_name, axiom_tree}
-use Rattle.axioms.specs.WellFormed.{IsOntology}
+use Rattle.axioms.specs.Ontology.{Ontology, Axiom, And, SubClass, EquivalentClasses, DisjointClasses, SubProperty, EquivalentProperties, Domain, Transitive, Reflexive, ClassAssertion, PropertyAssertion, thing, nothing, expression, expressions, property_name, individual_name, axiom_tree}
+use Rattle.axioms.specs.WellFormedness.{IsOntology}
 use Rattle.axioms.proofs.Trees.{and_tree, some_tree}
 use Rattle.interpretation_spec.specs.Interpretation.{Interpretation, IsInterpretation, IsIn, HasPair, HasPath, IsSame, IsApart, IsSameProperty, Satisfies}
 use Rattle.interpretation_spec.proofs.Extensions.{in_intersection, each_of_intersection, in_thing, not_in_nothing}

@@ -1,10 +1,10 @@
 -- What is left when all that could speak against a certificate was looked at.
 use Rattle.std.proofs.Common.{◌≡◌, List, ℕ, Some, None, Option, IsNone, IfSome, MatchOption, false, true, is_some, refl, sym}
 use Rattle.std.proofs.lemmas.Bool.{false≢true}
-use Rattle.axioms.specs.Numbered.{Ontology, axiom_trees}
+use Rattle.axioms.specs.Ontology.{Ontology, axiom_trees}
 use Rattle.interpretation_spec.specs.Interpretation.{Interpretation, IsModel}
 use Rattle.certificate.specs.Certificate.{Line, Listed, Certificate}
-use Rattle.certificate.specs.HasText.{IsTextOf}
+use Rattle.certificate.specs.Writability.{IsTextOf}
 use Rattle.cert_check.specs.declared.verdict.Reason.{Reason}
 use Rattle.cert_check.specs.declared.verdict.Reason.TheVariants.{BadText, BadLine, AxiomFails, ClaimMissing, ClaimDisagrees, IndividualDisagrees, NoContradiction, TaxonomyDiffers, InstancesDiffer}
 use Rattle.cert_check.specs.declared.verdict.Verdict.TheVariants.{Rejected}

@@ -1,9 +1,9 @@
 -- What listed rows add to an interpretation.
 use Rattle.std.specs.Prelude.{◌≡◌, ℕ, ◌↔◌, ◌⊎◌, List, true, length, slice_get, Some}
 use Rattle.std.specs.List.{Contains}
-use Rattle.axioms.specs.Numbered.{Ontology, IsClassAt}
-use Rattle.interpretation_spec.specs.ByName.{is_target}
-use Rattle.interpretation_spec.specs.Numbered.{NumberedInterpretation}
+use Rattle.axioms.specs.Ontology.{Ontology, IsClassAt}
+use Rattle.interpretation_spec.specs.NamedInterpretation.{is_target}
+use Rattle.interpretation_spec.specs.NumberedInterpretation.{NumberedInterpretation}
 use Rattle.cert_check.specs.Rows.{Adds}
 
 -- the number of owl:Thing among the classes

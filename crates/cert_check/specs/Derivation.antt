@@ -1,10 +1,10 @@
 -- Derivations: lists of lines, each of which follows from lines before it.
 use Rattle.std.specs.Prelude.{◌≡◌, ℕ, List, [], ◌∷◌, map, slice_get, take, Some, None}
 use Rattle.std.specs.declared.option.Option.{Option}
-use Rattle.axioms.specs.Numbered.{Ontology, Axiom}
+use Rattle.axioms.specs.Ontology.{Ontology, Axiom}
 use Rattle.axioms.specs.View.{at_number}
 use Rattle.certificate.specs.Certificate.{Conclusion, Line}
-use Rattle.certificate.specs.HasText.{IsLineOf}
+use Rattle.certificate.specs.Writability.{IsLineOf}
 use Rattle.cert_check.specs.Lines.{Follows}
 
 abbrev pub prepended_list : {A : Type 0} → Option A → Option (List A) → Option (List A)

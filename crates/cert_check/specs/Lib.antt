@@ -6,7 +6,7 @@ pub mod Rows
 pub mod Additions
 pub mod Lists
 pub mod Verdict
-pub mod Tested
-pub mod Acceptable
+pub mod Tests
+pub mod Acceptance
 pub mod Soundness
 pub mod Examples

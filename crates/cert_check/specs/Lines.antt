@@ -2,7 +2,7 @@
 use Rattle.std.specs.Prelude.{◌≡◌, ℕ, ◌<◌, List, [], ◌∷◌, map, length, slice_get, Some, None}
 use Rattle.std.specs.declared.option.Option.{Option}
 use Rattle.std.specs.List.{Contains}
-use Rattle.axioms.specs.Numbered.{Ontology, Axiom, And, Exists, SubClass, EquivalentClasses, DisjointClasses, SubProperty, EquivalentProperties, Domain, Transitive, Reflexive, ClassAssertion, PropertyAssertion, AtTwoPlaces, thing, nothing, expression, property_name, individual_name}
+use Rattle.axioms.specs.Ontology.{Ontology, Axiom, And, Exists, SubClass, EquivalentClasses, DisjointClasses, SubProperty, EquivalentProperties, Domain, Transitive, Reflexive, ClassAssertion, PropertyAssertion, AtTwoPlaces, thing, nothing, expression, property_name, individual_name}
 use Rattle.interpretation_spec.specs.Interpretation.{Interpretation, IsIn, HasPair}
 use Rattle.certificate.specs.Certificate.{Subject, Expression, Individual, Conclusion, Sub, Edge}
 use Rattle.certificate.specs.declared.line.Rule.{Rule}

@@ -2,7 +2,7 @@
 -- that it is in.
 use Rattle.std.specs.Prelude.{◌≡◌, ℕ, ◌<◌, ◌==◌, ◌↔◌, ◌⊎◌, List, Bool, true, length, map, slice_get, Option, Some}
 use Rattle.std.specs.List.{Contains, list_any}
-use Rattle.axioms.specs.Numbered.{Ontology, IsClassAt}
+use Rattle.axioms.specs.Ontology.{Ontology, IsClassAt}
 use Rattle.certificate.specs.Certificate.{Expression, Individual, Conclusion, Sub, Line}
 use Rattle.number_sets.specs.Pieces.{list_at}
 use Rattle.taxonomy.specs.Relation.{is_listed, is_below}

@@ -3,15 +3,15 @@ use Rattle.std.specs.Prelude.{◌≡◌, ℕ, List, slice_get, IfSome, Some}
 use Rattle.std.specs.declared.option.Option.{Option}
 use Rattle.std.specs.List.{Contains, AllByRecursion}
 use Rattle.interpretation_spec.specs.Interpretation.{Interpretation, IsInterpretation, IsModel}
-use Rattle.axioms.specs.Numbered.{Ontology, Axiom, axiom_trees}
+use Rattle.axioms.specs.Ontology.{Ontology, Axiom, axiom_trees}
 use Rattle.interpretation_spec.specs.Agreement.{AgreeOn}
 use Rattle.certificate.specs.Certificate.{Conclusion, Line, Listed}
 use Rattle.certificate.specs.declared.line.Rule.{Rule}
 use Rattle.cert_check.specs.Lines.{IsTrueIn, Follows}
-use Rattle.certificate.specs.HasText.{IsListedOf}
+use Rattle.certificate.specs.Writability.{IsListedOf}
 use Rattle.cert_check.specs.Derivation.{IsDerivation}
-use Rattle.axioms.specs.WellFormed.{IsOntology}
-use Rattle.cert_check.specs.Acceptable.{IsAcceptable, Says}
+use Rattle.axioms.specs.WellFormedness.{IsOntology}
+use Rattle.cert_check.specs.Acceptance.{IsAcceptable, Says}
 use Rattle.listed_model.specs.Listing.{IsListing}
 
 -- what follows by a rule from true premises and an axiom of the ontology, or none, is true

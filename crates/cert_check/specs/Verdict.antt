@@ -2,19 +2,19 @@
 use Rattle.std.specs.Prelude.{◌≡◌, ◌↔◌, ℕ, ◌<◌, ◌≤◌, List, Bool, IsTrue, length, slice_get, Some, None}
 use Rattle.std.specs.declared.option.Option.{Option}
 use Rattle.std.specs.List.{Contains}
-use Rattle.axioms.specs.Numbered.{Ontology, IsClassAt, axiom_trees, thing, nothing}
-use Rattle.axioms.specs.WellFormed.{IsOntology}
-use Rattle.interpretation_spec.specs.ByName.{IsFirstUnsatisfied}
+use Rattle.axioms.specs.Ontology.{Ontology, IsClassAt, axiom_trees, thing, nothing}
+use Rattle.axioms.specs.WellFormedness.{IsOntology}
+use Rattle.interpretation_spec.specs.NamedInterpretation.{IsFirstUnsatisfied}
 use Rattle.interpretation_spec.specs.Interpretation.{Interpretation, IsInterpretation, IsModel}
 use Rattle.certificate.specs.Certificate.{Expression, Individual, Conclusion, Sub, Edge, Line, Listed, Certificate}
-use Rattle.certificate.specs.HasText.{IsTextOf, IsListedOf}
+use Rattle.certificate.specs.Writability.{IsTextOf, IsListedOf}
 use Rattle.taxonomy.specs.Texts.{taxonomy_text, instances_text, inconsistent_taxonomy_text, inconsistent_instances_text}
 use Rattle.cert_check.specs.declared.verdict.Reason.{Reason}
 use Rattle.cert_check.specs.declared.verdict.Reason.TheVariants.{BadText, BadLine, AxiomFails, ClaimMissing, ClaimDisagrees, IndividualDisagrees, NoContradiction, TaxonomyDiffers, InstancesDiffer}
 use Rattle.cert_check.specs.declared.verdict.Verdict.{Verdict}
 use Rattle.cert_check.specs.declared.verdict.Verdict.TheVariants.{Accepted, Rejected}
 use Rattle.cert_check.specs.Derivation.{IsDerivation, HasLine}
-use Rattle.cert_check.specs.Acceptable.{Agrees, ClaimHolds, LiesBelow, Belongs}
+use Rattle.cert_check.specs.Acceptance.{Agrees, ClaimHolds, LiesBelow, Belongs}
 use Rattle.listed_model.specs.Listing.{IsListing}
 use Rattle.cert_check.specs.Lists.{AreSuperclasses, AreTypes, ArePreorder, said_by}
 use Rattle.cert_check.specs.Rows.{SomeLine}

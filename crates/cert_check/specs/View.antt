@@ -3,7 +3,7 @@ use Rattle.std.specs.Prelude.{◌≡◌, ◌∷◌, ℕ, List, map, slice_get, S
 use Rattle.std.specs.declared.option.Option.{Option}
 use Rattle.axioms.specs.declared.ids.ExprId.{ExprId}
 use Rattle.axioms.specs.declared.ids.PropId.{PropId}
-use Rattle.axioms.specs.Numbered as numbered
+use Rattle.axioms.specs.Ontology as numbered
 use Rattle.certificate.specs.declared.line.Conclusion as code
 use Rattle.certificate.specs.declared.line.Subject as code_subject
 use Rattle.certificate.specs.Certificate.{Subject, Expression, Individual, Conclusion, Sub, Edge}

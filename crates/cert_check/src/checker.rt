@@ -1,13 +1,13 @@
 //! The checker.
-ghost use Rattle.axioms.specs.Numbered.{axiom_trees};
-ghost use Rattle.cert_check.specs.Acceptable.{AreRight, IsAcceptable};
+ghost use Rattle.axioms.specs.Ontology.{axiom_trees};
+ghost use Rattle.cert_check.specs.Acceptance.{AreRight, IsAcceptable};
 ghost use Rattle.listed_model.specs.Listing.{IsListing};
 ghost use Rattle.cert_check.specs.Lists.{AreLists, ArePreorder};
-ghost use Rattle.cert_check.specs.Tested.{IsReading};
+ghost use Rattle.cert_check.specs.Tests.{IsReading};
 ghost use Rattle.cert_check.specs.Verdict.{AgainstShown, ClaimsAgainstLists, ConsistentAgainstShown, ContradictionAgainstShown, HasDerivation, HasTrueLines, IsVerdict, PassesLines, RelationAgainstLists, TextsAgainst, verdict_of_reason};
-ghost use Rattle.certificate.specs.HasText.{IsListedOf};
+ghost use Rattle.certificate.specs.Writability.{IsListedOf};
 ghost use Rattle.certificate.specs.View.{listed_of};
-ghost use Rattle.interpretation_spec.specs.ByName.{IsFirstUnsatisfied};
+ghost use Rattle.interpretation_spec.specs.NamedInterpretation.{IsFirstUnsatisfied};
 ghost use Rattle.interpretation_spec.specs.Interpretation.{Interpretation, IsInterpretation, IsModel};
 ghost use Rattle.std.specs.Prelude.{◌↔◌, ◌≡◌, IfOk, IfSome, IsTrue, List, MatchOption, None, length, map, option_map, ℕ};
 ghost use Rattle.taxonomy.specs.Outcome.{IsMadeFor, instances_of, taxonomy_of};

@@ -3,7 +3,7 @@ ghost use Rattle.cert_check.specs.Additions.{ListsMember, thing_class};
 ghost use Rattle.cert_check.specs.Lists.{AddsNumbers, AreClaimed, AreElementClasses, AreLists, ClaimAgrees, ElementAgrees, IsClaimed, IsInExactly, has_number};
 ghost use Rattle.taxonomy.specs.Relation.{is_listed};
 ghost use Rattle.cert_check.specs.Verdict.{Each, IsFirstWithout};
-ghost use Rattle.certificate.specs.HasText.{Ascends};
+ghost use Rattle.certificate.specs.Writability.{Ascends};
 ghost use Rattle.certificate.specs.View.{claim_of, class_row_of};
 ghost use Rattle.number_sets.specs.Members.{has};
 ghost use Rattle.number_sets.specs.Pieces.{list_at};

@@ -2,13 +2,13 @@
 ghost use Rattle.axioms.specs.View.{at_number, axiom_of};
 ghost use Rattle.cert_check.specs.Derivation.{IsDerived, at_numbers, axiom_at};
 ghost use Rattle.cert_check.specs.Lists.{said_by};
-ghost use Rattle.cert_check.specs.Tested.{AreKept, AreTested, IsTested};
+ghost use Rattle.cert_check.specs.Tests.{AreKept, AreTested, IsTested};
 ghost use Rattle.cert_check.specs.Verdict.{HasContradiction, IsContradiction};
 ghost use Rattle.cert_check.specs.View.{said_of};
 ghost use Rattle.certificate.specs.Certificate as spec;
-ghost use Rattle.certificate.specs.HasText.{IsLineOf};
+ghost use Rattle.certificate.specs.Writability.{IsLineOf};
 ghost use Rattle.certificate.specs.Outcome.{IsRefused};
-ghost use Rattle.certificate.specs.Remaining.{with_lines};
+ghost use Rattle.certificate.specs.Rest.{with_lines};
 ghost use Rattle.certificate.specs.View.{conclusion_of, line_of, listed_of};
 ghost use Rattle.std.specs.Prelude.{◌↔◌, ◌≡◌, ◌++◌, ◌∷◌, [], List, IfErr, IfOk, IsTrue, None, OnOk, Some, if◌then◌else◌, map, option_map, slice_get};
 

@@ -1,10 +1,10 @@
 //! The interpretation that a certificate lists.
 ghost use Rattle.listed_model.specs.Listing.{IsListing};
 ghost use Rattle.cert_check.specs.Additions.{AddsMembers, AddsPairs, IsListedMember, IsListedPair, PutsIndividuals, ListsMember, ListsPair};
-ghost use Rattle.certificate.specs.HasText.{IsListedOf};
+ghost use Rattle.certificate.specs.Writability.{IsListedOf};
 ghost use Rattle.certificate.specs.View.{class_row_of, listed_of, pair_row_of};
-ghost use Rattle.interpretation_spec.specs.ByName.{interpretation_of as by_names};
-ghost use Rattle.interpretation_spec.specs.Numbered.{IsMadeFor};
+ghost use Rattle.interpretation_spec.specs.NamedInterpretation.{interpretation_of as by_names};
+ghost use Rattle.interpretation_spec.specs.NumberedInterpretation.{IsMadeFor};
 ghost use Rattle.std.specs.Prelude.{◌<◌, ◌≤◌, ◌^◌, length, IfOk, OnOk, map};
 
 use axioms::{IndId, Memory, Ontology};

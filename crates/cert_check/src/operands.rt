@@ -1,5 +1,5 @@
 //! Operands of axioms and of intersections, and walks along properties.
-ghost use Rattle.axioms.specs.Numbered.{AtTwoPlaces};
+ghost use Rattle.axioms.specs.Ontology.{AtTwoPlaces};
 ghost use Rattle.axioms.specs.View.{expr_numbers, prop_numbers};
 ghost use Rattle.cert_check.specs.Lines.{IsWalk};
 ghost use Rattle.cert_check.specs.View.{IsFirstEdge, IsFirstIn, StandsBeside};

@@ -1,5 +1,5 @@
 //! The rules of derivation lines.
-ghost use Rattle.axioms.specs.Numbered as numbered;
+ghost use Rattle.axioms.specs.Ontology as numbered;
 ghost use Rattle.axioms.specs.View.{axiom_of};
 ghost use Rattle.cert_check.specs.View.{FollowsFrom};
 ghost use Rattle.certificate.specs.Certificate as certificate;

@@ -6,7 +6,7 @@ use Rattle.std.proofs.lemmas.Bool.{ltb-true, lt-ltb}
 use Rattle.std.proofs.lemmas.Option.{none-some, same_Some}
 use Rattle.certificate.specs.Certificate.{Subject, Expression, Individual, Conclusion, Sub, Edge, Rule, K1, K2, K3, K4, K5, K6, K7, K8, K9, K10, K11, K12, K13, K14, K15, K16, Line}
 use Rattle.certificate.specs.Text.{rule_number, lettered_number, spaced_numbers, subject_text, conclusion_text, axiom_text, line_text, line_feed}
-use Rattle.certificate.specs.Fitting.{is_small}
+use Rattle.certificate.specs.Tests.{is_small}
 use Rattle.certificate.specs.Reading.{◌>>=◌, after, behind, both, number_at}
 use Rattle.certificate.specs.LineReading.{small_at, subject_at, conclusion_at, numbered_rule, rule_at, no_axiom_at, axiom_at, premise_at, premises_at, line_from, line_at}
 use Rattle.certificate.proofs.Words.{none_is, after_takes}

@@ -2,10 +2,10 @@
 use Rattle.std.proofs.Common.{◌≡◌, ℕ, ◌^◌, ◌<◌, ◌≤◌, true, ltb, leb, ◌&&◌, List, [], ◌∷◌, length, Option, Some, None, refl}
 use Rattle.std.specs.List.{AllByRecursion, list_all}
 use Rattle.std.proofs.lemmas.Bool.{ltb-true, lt-ltb, leb-true, le-leb, and_parts, and_from}
-use Rattle.axioms.specs.Numbered.{Ontology}
+use Rattle.axioms.specs.Ontology.{Ontology}
 use Rattle.certificate.specs.Certificate.{Subject, Expression, Individual, Conclusion, Sub, Edge, Line}
-use Rattle.certificate.specs.HasText.{IsSubjectOf, IsConclusionOf, IsAxiomNumberOf, IsLineOf, subject_number, conclusion_numbers, axiom_numbers, line_numbers}
-use Rattle.certificate.specs.Fitting.{is_small, fits_subject, fits_property, fits_conclusion, fits_axiom, is_premise, fits_line}
+use Rattle.certificate.specs.Writability.{IsSubjectOf, IsConclusionOf, IsAxiomNumberOf, IsLineOf, subject_number, conclusion_numbers, axiom_numbers, line_numbers}
+use Rattle.certificate.specs.Tests.{is_small, fits_subject, fits_property, fits_conclusion, fits_axiom, is_premise, fits_line}
 use Rattle.certificate.proofs.Every.{every_append, every_left, every_right, every_weaker, every_passes, passes_every}
 use Rattle.certificate.proofs.Many.{Chain}
 use Rattle.certificate.proofs.Derivations.{IsNumber, IsSmall, FitsSubject, FitsConclusion, FitsAxiom, FitsLine}

@@ -9,7 +9,7 @@ use Rattle.std.specs.Option.{option_map}
 use Rattle.lemmas.proofs.Mapped.{slice_get_map}
 use Rattle.axioms.specs.View.{at_number}
 use Rattle.certificate.specs.Certificate.{Subject, Expression, Individual, Conclusion, Sub, Edge, Line}
-use Rattle.certificate.specs.Fitting.{is_small, is_premise}
+use Rattle.certificate.specs.Tests.{is_small, is_premise}
 use Rattle.certificate.specs.LineReading.{line_at}
 use Rattle.certificate.specs.LineText.{first_line, lines_in, source_of, is_small_subject, is_small_conclusion, is_small_axiom, fits_types, IsLineText}
 use Rattle.certificate.specs.Reading.{many_from, many}

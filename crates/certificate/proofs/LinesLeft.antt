@@ -4,15 +4,15 @@ use Rattle.std.specs.Prelude.{codes}
 use Rattle.std.proofs.lemmas.List.{append-nil}
 use Rattle.std.proofs.lemmas.Option.{none-some, same_Some}
 use Rattle.lemmas.proofs.Choices.{passed}
-use Rattle.axioms.specs.Numbered.{Ontology}
+use Rattle.axioms.specs.Ontology.{Ontology}
 use Rattle.certificate.specs.Certificate.{Line, Listed, Certificate}
-use Rattle.certificate.specs.HasText.{IsLineOf, IsTextOf}
+use Rattle.certificate.specs.Writability.{IsLineOf, IsTextOf}
 use Rattle.certificate.specs.Text.{line_text}
-use Rattle.certificate.specs.Fitting.{fits_line}
+use Rattle.certificate.specs.Tests.{fits_line}
 use Rattle.certificate.specs.Reading.{Reader, ◌>>=◌, after, more, many_from, many}
 use Rattle.certificate.specs.LineReading.{line_at}
 use Rattle.certificate.specs.ListedReading.{fitting_line_at, lines_at, listed_at, listed_if, ending, consistent_from, certificate_at, whole}
-use Rattle.certificate.specs.Remaining.{Remaining, lines_left, remaining_from, remaining, with_lines, IsStartOf}
+use Rattle.certificate.specs.Rest.{Remaining, lines_left, remaining_from, remaining, with_lines, IsStartOf}
 use Rattle.certificate.proofs.Laws.{Anything, bind_some}
 use Rattle.certificate.proofs.LineMeaning.{line_means}
 use Rattle.certificate.proofs.Many.{ReadsEach, shorter}

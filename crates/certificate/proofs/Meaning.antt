@@ -5,10 +5,10 @@ use Rattle.std.specs.List.{AllByRecursion, list_all, flat_map, enumerate_from}
 use Rattle.std.proofs.lemmas.Bool.{ltb-true, lt-ltb, leb-true, le-leb, eqb-true, eq-eqb, and_parts, and_from}
 use Rattle.std.proofs.lemmas.List.Elements.{All-from_recursion, recursion_from_All}
 use Rattle.std.proofs.lemmas.Option.{same_Some}
-use Rattle.axioms.specs.Numbered.{Ontology}
+use Rattle.axioms.specs.Ontology.{Ontology}
 use Rattle.certificate.specs.Certificate.{Line, Listed, Certificate}
-use Rattle.certificate.specs.HasText.{IsLineOf, IsListedOf, line_numbers, listed_numbers, certificate_numbers, HasText, IsTextOf}
-use Rattle.certificate.specs.Fitting.{is_small, fits_line, fits_class, fits_pairs, fits_claim, fits_domain, fit_individuals, fits_listed, fits_option, fits_certificate, fit_classes, fit_pairs, fit_claims, key, pair_key}
+use Rattle.certificate.specs.Writability.{IsLineOf, IsListedOf, line_numbers, listed_numbers, certificate_numbers, HasText, IsTextOf}
+use Rattle.certificate.specs.Tests.{is_small, fits_line, fits_class, fits_pairs, fits_claim, fits_domain, fit_individuals, fits_listed, fits_option, fits_certificate, fit_classes, fit_pairs, fit_claims, key, pair_key}
 use Rattle.certificate.specs.ListedReading.{whole}
 use Rattle.certificate.proofs.Every.{every_append, every_left, every_right, every_flat, every_from_flat, every_map, every_from_map, every_both, every_weaker, every_passes, passes_every}
 use Rattle.certificate.proofs.Ordered.{chain_from_test, test_from_chain, chain_each, chain_ascends, chain_made, first_made}

@@ -5,8 +5,8 @@ use Rattle.std.specs.List.{AllByRecursion}
 use Rattle.std.proofs.lemmas.Bool.{ltb-true, lt-ltb, and_parts, and_from}
 use Rattle.std.proofs.lemmas.List.Elements.{All-from_recursion, recursion_from_All}
 use Rattle.std.proofs.lemmas.List.{map-id}
-use Rattle.certificate.specs.HasText.{Ascends, AreElements}
-use Rattle.certificate.specs.Fitting.{is_after, ascend, are_elements, all_after}
+use Rattle.certificate.specs.Writability.{Ascends, AreElements}
+use Rattle.certificate.specs.Tests.{is_after, ascend, are_elements, all_after}
 use Rattle.certificate.proofs.Many.{Chain}
 use Rattle.certificate.proofs.Derivations.{IsSmall}
 use Rattle.certificate.proofs.RowLaws.{AreSmall}

@@ -9,8 +9,8 @@ use Rattle.std.proofs.lemmas.Option.{same_Some}
 use Rattle.certificate.specs.Text.{lettered_number, spaced_numbers, class_text, pairs_text, individual_text, claim_text, line_feed}
 use Rattle.certificate.specs.Reading.{◌>>=◌, after, behind, both, ended}
 use Rattle.certificate.specs.LineReading.{small_at}
-use Rattle.axioms.specs.Numbered.{Ontology}
-use Rattle.certificate.specs.Fitting.{fits_class, fits_pairs, fits_claim, key, pair_key}
+use Rattle.axioms.specs.Ontology.{Ontology}
+use Rattle.certificate.specs.Tests.{fits_class, fits_pairs, fits_claim, key, pair_key}
 use Rattle.certificate.specs.ListedReading.{element_at, elements_at, class_row_at, fitting_class_at, classes_at, pair_row_from, pair_row_at, fitting_pairs_at, pairs_at, individual_at, individuals_from, claim_row_at, fitting_claim_at, claims_at}
 use Rattle.certificate.proofs.Decimals.{IsApart}
 use Rattle.certificate.proofs.Laws.{Reads, Anything, bind_some, restated, behind_reads, both_reads, such_reads, made_reads, ended_reads}

@@ -6,9 +6,9 @@ use Rattle.std.proofs.lemmas.Bool.{ltb-true, lt-ltb, leb-true, le-leb, eqb-true,
 use Rattle.std.proofs.lemmas.List.Elements.{All-from_recursion}
 use Rattle.std.proofs.lemmas.List.Kept.{AllPairs-cons}
 use Rattle.lemmas.proofs.Pairs.{AllPairs-tail}
-use Rattle.axioms.specs.Numbered.{Ontology, Node, Class, And, Exists}
-use Rattle.certificate.specs.HasText.{IsNamedClass, AreElements, IsPairBefore}
-use Rattle.certificate.specs.Fitting.{is_small, is_after, are_elements, is_class, is_named, fits_property, fits_class, is_pair_after, fits_pairs, fits_claim, key, pair_key}
+use Rattle.axioms.specs.Ontology.{Ontology, Node, Class, And, Exists}
+use Rattle.certificate.specs.Writability.{IsNamedClass, AreElements, IsPairBefore}
+use Rattle.certificate.specs.Tests.{is_small, is_after, are_elements, is_class, is_named, fits_property, fits_class, is_pair_after, fits_pairs, fits_claim, key, pair_key}
 use Rattle.certificate.proofs.Ordered.{FirstIs, elements_mean, elements_test}
 use Rattle.certificate.proofs.LineMeaning.{below_means, below_tests}
 use Rattle.certificate.proofs.Many.{Chain}

@@ -11,8 +11,8 @@ use Rattle.certificate.specs.Certificate.{Line, Listed, Certificate}
 use Rattle.certificate.specs.Text.{lettered_number, line_text, class_text, pairs_text, individual_text, claim_text, header, listed_text, certificate_text, line_feed}
 use Rattle.certificate.specs.Reading.{◌>>=◌, after}
 use Rattle.certificate.specs.LineReading.{small_at, conclusion_at, line_at}
-use Rattle.axioms.specs.Numbered.{Ontology}
-use Rattle.certificate.specs.Fitting.{fits_line, fits_domain}
+use Rattle.axioms.specs.Ontology.{Ontology}
+use Rattle.certificate.specs.Tests.{fits_line, fits_domain}
 use Rattle.certificate.specs.ListedReading.{fitting_line_at, lines_at, claims_at, domain_at, Rows, rows_at, listed_from, listed_at, consistent_from, inconsistent_from, certificate_at, whole}
 use Rattle.certificate.proofs.Laws.{Reads, Anything, bind_some, restated, behind_reads, both_reads, such_reads, made_reads, ended_reads, by_word_reads, in_turn_reads}
 use Rattle.certificate.proofs.Many.{Chain, ReadsEach, many_reads}

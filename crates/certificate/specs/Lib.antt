@@ -1,12 +1,12 @@
 pub mod Certificate
 pub mod Text
-pub mod HasText
+pub mod Writability
 pub mod View
-pub mod Kept
+pub mod Fields
 pub mod Reading
 pub mod LineReading
-pub mod Fitting
+pub mod Tests
 pub mod ListedReading
 pub mod Outcome
-pub mod Remaining
+pub mod Rest
 pub mod LineText

@@ -2,7 +2,7 @@
 use Rattle.std.specs.Prelude.{ℕ, zero, suc, List, [], ◌∷◌, Option, Some, None, codes, slice_get}
 use Rattle.certificate.specs.Certificate.{Subject, Expression, Individual, Conclusion, Sub, Edge, Rule, K1, K2, K3, K4, K5, K6, K7, K8, K9, K10, K11, K12, K13, K14, K15, K16, Line}
 use Rattle.certificate.specs.Text.{line_feed}
-use Rattle.certificate.specs.Fitting.{is_small}
+use Rattle.certificate.specs.Tests.{is_small}
 use Rattle.certificate.specs.Reading.{Reader, ◌>>=◌, behind, both, such, made, by_word, ended, many, number_at}
 
 -- a number below 2 ^ 32

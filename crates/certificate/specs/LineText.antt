@@ -2,7 +2,7 @@
 use Rattle.std.specs.Prelude.{◌≡◌, ℕ, ◌++◌, List, length, map, drop, Option, Some, None, Bool, true, ◌&&◌, codes}
 use Rattle.std.specs.List.{list_all, flat_map}
 use Rattle.certificate.specs.Certificate.{Subject, Expression, Individual, Conclusion, Sub, Edge, Line}
-use Rattle.certificate.specs.Fitting.{is_small, is_premise}
+use Rattle.certificate.specs.Tests.{is_small, is_premise}
 use Rattle.certificate.specs.LineReading.{line_at}
 use Rattle.certificate.specs.Reading.{many_from}
 use Rattle.certificate.specs.Text.{line_text}

@@ -1,11 +1,11 @@
 -- Reading a whole certificate.
 use Rattle.std.specs.Prelude.{ℕ, zero, suc, ◌+◌, List, [], ◌∷◌, length, Option, Some, None, Bool, true, false, ◌&&◌, ◌==◌, nat_lt, if◌then◌else◌, codes}
-use Rattle.axioms.specs.Numbered.{Ontology}
+use Rattle.axioms.specs.Ontology.{Ontology}
 use Rattle.certificate.specs.Certificate.{Line, Listed, Certificate}
 use Rattle.certificate.specs.Text.{line_feed}
 use Rattle.certificate.specs.Reading.{Reader, ◌>>=◌, behind, both, such, made, by_word, ended, many}
 use Rattle.certificate.specs.LineReading.{small_at, line_at}
-use Rattle.certificate.specs.Fitting.{fits_line, fits_class, fits_pairs, fits_claim, fits_domain, key, pair_key}
+use Rattle.certificate.specs.Tests.{fits_line, fits_class, fits_pairs, fits_claim, fits_domain, key, pair_key}
 
 -- a value, and then one that depends on it
 abbrev pub in_turn : {A B : Type 0} → Reader A → (A → Reader B) → Reader (A × B)

@@ -1,8 +1,8 @@
 -- What a call answers, beside what it reads.
 use Rattle.std.specs.Prelude.{◌≡◌, ℕ, ◌≤◌, List, length, Option, Some, None, Result, Ok, Err}
-use Rattle.axioms.specs.Numbered.{Ontology}
+use Rattle.axioms.specs.Ontology.{Ontology}
 use Rattle.certificate.specs.Certificate.{Certificate}
-use Rattle.certificate.specs.HasText.{IsTextOf}
+use Rattle.certificate.specs.Writability.{IsTextOf}
 use Rattle.certificate.specs.declared.fault.ReadFault.{ReadFault}
 use Rattle.certificate.specs.declared.fault.ReadFault.TheVariants as faults
 use Rattle.certificate.specs.declared.fault.CertFault.{CertFault}

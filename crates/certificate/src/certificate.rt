@@ -1,7 +1,7 @@
 //! Certificates: derivations with what they show.
 
 ghost use Rattle.std.specs.Prelude.{◌≡◌, IfOk, IfErr, OnErr, option_map};
-ghost use Rattle.certificate.specs.HasText.{HasText};
+ghost use Rattle.certificate.specs.Writability.{HasText};
 ghost use Rattle.certificate.specs.View.{lines_of, listed_of, certificate_from};
 
 use crate::fault::MakeFault;
@@ -20,7 +20,7 @@ pub struct Certificate {
 
 impl Model for Certificate {
     ghost use Rattle.certificate.specs.Certificate as spec;
-    ghost use Rattle.certificate.specs.Kept.{kept_certificate};
+    ghost use Rattle.certificate.specs.Fields.{kept_certificate};
 
     ghost Value = { spec.Certificate };
 

@@ -1,7 +1,7 @@
 //! What certificates need to know of an ontology.
 
 ghost use Rattle.std.specs.Prelude.{◌≡◌, length, slice_get};
-ghost use Rattle.certificate.specs.Fitting.{is_class, is_named};
+ghost use Rattle.certificate.specs.Tests.{is_class, is_named};
 
 use axioms::{ExprId, Ontology};
 

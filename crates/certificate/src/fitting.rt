@@ -2,7 +2,7 @@
 
 ghost use Rattle.std.specs.Prelude.{◌≡◌, None, map, nat_lt};
 ghost use Rattle.std.specs.List.{list_all};
-ghost use Rattle.certificate.specs.Fitting.{fits_subject, fits_property, fits_conclusion, fits_axiom, is_premise, fits_line, is_after, ascend, are_elements, fits_class, is_pair_after, fits_pairs, fits_claim, fits_domain, fit_classes, fit_pairs, fit_claims, fit_individuals, fits_listed, fits_certificate};
+ghost use Rattle.certificate.specs.Tests.{fits_subject, fits_property, fits_conclusion, fits_axiom, is_premise, fits_line, is_after, ascend, are_elements, fits_class, is_pair_after, fits_pairs, fits_claim, fits_domain, fit_classes, fit_pairs, fit_claims, fit_individuals, fits_listed, fits_certificate};
 ghost use Rattle.certificate.specs.View.{subject_of, conclusion_of, line_of, lines_of, class_row_of, pair_row_of, claim_of, listed_of, certificate_from};
 
 use crate::counts::{axiom_count, individual_count, is_named, property_count};

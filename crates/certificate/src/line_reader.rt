@@ -2,8 +2,8 @@
 
 ghost use Rattle.std.specs.Prelude.{◌≡◌, [], IfOk, IfErr, OnErr, Some, option_map};
 ghost use Rattle.certificate.specs.Certificate as spec;
-ghost use Rattle.certificate.specs.HasText.{IsTextOf};
-ghost use Rattle.certificate.specs.Remaining.{IsNext, IsNoEnd, IsStartOf};
+ghost use Rattle.certificate.specs.Writability.{IsTextOf};
+ghost use Rattle.certificate.specs.Rest.{IsNext, IsNoEnd, IsStartOf};
 ghost use Rattle.certificate.specs.View.{line_of, listed_of};
 
 use crate::fault::{CertFault, ReadFault};
@@ -25,7 +25,7 @@ pub struct LineReader<'a> {
 }
 
 impl<'a> Model for LineReader<'a> {
-    ghost use Rattle.certificate.specs.Remaining.{Remaining, remaining};
+    ghost use Rattle.certificate.specs.Rest.{Remaining, remaining};
 
     ghost Value = { Remaining };
 

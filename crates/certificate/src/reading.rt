@@ -1,11 +1,11 @@
 //! Certificates from their texts.
 
 ghost use Rattle.std.specs.Prelude.{◌≡◌, List, [], ℕ, IfOk, IfErr};
-ghost use Rattle.axioms.specs.Numbered as numbered;
+ghost use Rattle.axioms.specs.Ontology as numbered;
 ghost use Rattle.certificate.specs.Certificate as spec;
-ghost use Rattle.certificate.specs.HasText.{IsTextOf};
+ghost use Rattle.certificate.specs.Writability.{IsTextOf};
 ghost use Rattle.certificate.specs.Outcome.{IsRefused};
-ghost use Rattle.certificate.specs.Remaining.{with_lines};
+ghost use Rattle.certificate.specs.Rest.{with_lines};
 ghost use Rattle.certificate.specs.View.{lines_of};
 
 use crate::certificate::Certificate;

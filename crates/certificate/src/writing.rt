@@ -3,8 +3,8 @@
 ghost use Rattle.std.specs.Prelude.{◌≡◌, ◌≤◌, ◌++◌, map, OnOk, IfOk, IsErrOf};
 ghost use Rattle.std.specs.Io.KnownBytes.{Appends, Keeps};
 ghost use Rattle.std.specs.List.{flat_map, enumerate_from};
-ghost use Rattle.device.specs.Device.{AppendsBeginning, HasFailed};
-ghost use Rattle.certificate.specs.HasText.{HasText};
+ghost use Rattle.device.specs.Device.{AppendsPrefix, HasFailed};
+ghost use Rattle.certificate.specs.Writability.{HasText};
 ghost use Rattle.certificate.specs.Text as text;
 ghost use Rattle.certificate.specs.View.{subject_of, conclusion_of, line_of, lines_of, class_row_of, pair_row_of, claim_of, listed_of};
 
@@ -225,7 +225,7 @@ pub fn certificate_bytes(alloc: Global, certificate: &Certificate) -> Result<Vec
 /// Writes the certificate's text; the certificate was made or read for this ontology.
 ///
 /// `Io` comes only where the sink failed in this call. After `Memory` it did not fail and has taken nothing. After either
-/// it has taken a beginning of the text.
+/// it has taken a prefix of the text.
 pub fn write_certificate<S: Sink>(
     alloc: Global,
     ontology: &Ontology,
@@ -234,7 +234,7 @@ pub fn write_certificate<S: Sink>(
 ) -> Result<(), WriteFault>
     requires { HasText ontology.now certificate.now }
     ensures ok { OnOk result (Appends (S.taken sink.old) (S.taken sink.new) (text.certificate_text certificate.now)) }
-    ensures begun { AppendsBeginning (S.taken sink.old) (S.taken sink.new) (text.certificate_text certificate.now) }
+    ensures begun { AppendsPrefix (S.taken sink.old) (S.taken sink.new) (text.certificate_text certificate.now) }
     ensures io { IsErrOf result WriteFault.Io → HasFailed (S.failures sink.old) (S.failures sink.new) }
     ensures untouched { IsErrOf result WriteFault.Memory → Keeps (S.taken sink.old) (S.taken sink.new) }
     ensures untried { IsErrOf result WriteFault.Memory → S.failures sink.new ≡ S.failures sink.old }

@@ -2,7 +2,7 @@
 //!
 //! Two tests make the ontologies, and functions that borrow them look at all the rest.
 
-ghost use Rattle.certificate.specs.HasText.{HasText};
+ghost use Rattle.certificate.specs.Writability.{HasText};
 
 use crate::documents::ontology_of;
 use axioms::{ExprId, IndId, Memory, Ontology, PropId};
@@ -230,13 +230,13 @@ fn laws() {
 
 /// Whether reading the text, cut there, stops at the start of its last line.
 fn is_cut(alloc: Global, ontology: &Ontology, cut: usize) -> bool {
-    let beginning = TEXT.get(..cut).unwrap_or(TEXT);
-    let last_end = beginning.iter().rposition(|byte| *byte == b'\n');
+    let prefix = TEXT.get(..cut).unwrap_or(TEXT);
+    let last_end = prefix.iter().rposition(|byte| *byte == b'\n');
     let start = last_end.map_or(0, |at| at + 1);
-    stops_at(alloc, ontology, beginning, Some(start))
+    stops_at(alloc, ontology, prefix, Some(start))
 }
 
-/// Each beginning of the text is cut so.
+/// Each prefix of the text is cut so.
 fn are_cut<R: AllocGlobal + Abort>(rt: &R, ontology: &Ontology) {
     for cut in 0..TEXT.len() {
         assert!(rt; is_cut(rt.alloc(), ontology, cut), "cut after {cut}");

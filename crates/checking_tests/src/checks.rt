@@ -392,12 +392,12 @@ fn elements_in_more_classes(rt: HostRuntime) -> Result<(), Fail> {
 /// Whether the certificate, cut there, stops at the start of its last line.
 fn is_cut(alloc: Global, ontology: &Ontology, cut: usize) -> bool {
     let certificate = ONE_SUBCLASS.certificate;
-    let beginning = certificate.get(..cut).unwrap_or(certificate);
-    let start = beginning.rfind('\n').map_or(0, |at| at + 1);
-    has_verdict(alloc, ontology, ONE_SUBCLASS, beginning, bad_text(start))
+    let prefix = certificate.get(..cut).unwrap_or(certificate);
+    let start = prefix.rfind('\n').map_or(0, |at| at + 1);
+    has_verdict(alloc, ontology, ONE_SUBCLASS, prefix, bad_text(start))
 }
 
-/// Each beginning of the certificate is cut so.
+/// Each prefix of the certificate is cut so.
 fn are_cut<R: AllocGlobal + Abort>(rt: &R, ontology: &Ontology) {
     for cut in 0..ONE_SUBCLASS.certificate.len() {
         assert!(rt; is_cut(rt.alloc(), ontology, cut), "cut after {cut}");

@@ -1,6 +1,6 @@
 -- Facts of a class are facts of each root that is in it.
 use Rattle.std.proofs.Common.{◌≡◌, ℕ, ◌⊎◌, inl, inr, List, refl, subst, sym}
-use Rattle.axioms.specs.Numbered.{Ontology, nothing}
+use Rattle.axioms.specs.Ontology.{Ontology, nothing}
 use Rattle.normal_forms.specs.Forms.{Class2, Whole, Property2, Property, N4, N6, IsForm}
 use Rattle.closure.specs.Closure.{Context, Expression, Individual, In, Edge, IsAtOrBelow, IsRoot, IsFact, given, none, more}
 use Rattle.closure.specs.Closure.{Gives as by}

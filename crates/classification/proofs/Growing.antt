@@ -9,7 +9,7 @@ use Rattle.lemmas.proofs.Places.{slice_get_push, keeps_push, slice_get_push_case
 use Rattle.facts.specs.declared.contexts.Fact.{Fact}
 use Rattle.number_sets.specs.Pieces.{list_at}
 use Rattle.axioms.proofs.Trees.{one_class}
-use Rattle.axioms.specs.Numbered.{Ontology, IsClassAt}
+use Rattle.axioms.specs.Ontology.{Ontology, IsClassAt}
 use Rattle.axioms.specs.declared.ids.ExprId.{ExprId}
 use Rattle.facts.specs.declared.contexts.Fact.TheVariants.{In}
 use Rattle.facts.specs.declared.contexts.Context.TheVariants as contexts

@@ -2,8 +2,8 @@
 use Rattle.std.proofs.Common.{◌≡◌, ◌↔◌, ℕ, ◌<◌, List, [], length, get_or, All, Contains, refl, sym, ap₂, subst, subst₂}
 use Rattle.std.proofs.lemmas.List.Elements.{All-contains, Contains-get_or}
 use Rattle.lemmas.proofs.Members.{Contains-from_slice_get, slice_get-from_Contains}
-use Rattle.axioms.specs.Numbered.{Ontology, Class, IsClassAt, nothing, thing}
-use Rattle.axioms.specs.WellFormed.{IsOntology}
+use Rattle.axioms.specs.Ontology.{Ontology, Class, IsClassAt, nothing, thing}
+use Rattle.axioms.specs.WellFormedness.{IsOntology}
 use Rattle.axioms.specs.declared.ids.ExprId.{ExprId}
 use Rattle.axioms.specs.declared.ids.IndId.{IndId}
 use Rattle.normal_forms.specs.declared.forms.Class2 as code_class
@@ -13,11 +13,11 @@ use Rattle.facts.specs.declared.contexts.Context.TheVariants as contexts
 use Rattle.facts.specs.declared.contexts.Fact as code_fact
 use Rattle.facts.specs.declared.contexts.Fact.TheVariants as facts
 use Rattle.closure.specs.Closure.{Expression, Individual, Fact, In, IsFact}
-use Rattle.closure.specs.Said.{Beginnings, whole, expression, individual, SaysFact, in_context}
-use Rattle.exactness.specs.Listed.{IsConsistent}
-use Rattle.exactness.specs.Derivable.{FactIsDerivable}
+use Rattle.closure.specs.Denotations.{Prefixes, whole, expression, individual, SaysFact, in_context}
+use Rattle.exactness.specs.ListedInterpretation.{IsConsistent}
+use Rattle.exactness.specs.Derivability.{FactIsDerivable}
 use Rattle.exactness.proofs.Facts.{fact_derivable}
-use Rattle.engine.specs.Saturated.{SayTheClosure}
+use Rattle.engine.specs.Saturations.{SayTheClosure}
 use Rattle.classification.specs.Contradiction.{IsContradiction}
 use Rattle.classification.specs.Lists.{PutsBelow, PutsInto, IsAboutIndividualOf, SomeFact}
 
@@ -29,24 +29,24 @@ class_fact f e = facts.In (classes.Expr f) (contexts.Expr e)
 abbrev type_fact : ExprId → IndId → code_fact.Fact
 type_fact f i = facts.In (classes.Expr f) (contexts.Individual i)
 
-says_class : {b : Beginnings} {f e : ExprId} {g : Fact} → SaysFact b (class_fact f e) g → g ≡ In (Whole f.0) (Expression e.0)
+says_class : {b : Prefixes} {f e : ExprId} {g : Fact} → SaysFact b (class_fact f e) g → g ≡ In (Whole f.0) (Expression e.0)
 says_class (in_context (whole h) (expression k)) = ap₂ (λ c d. In (Whole c) (Expression d)) (sym h) (sym k)
 
-says_type : {b : Beginnings} {f : ExprId} {i : IndId} {g : Fact} → SaysFact b (type_fact f i) g → g ≡ In (Whole f.0) (Individual i.0)
+says_type : {b : Prefixes} {f : ExprId} {i : IndId} {g : Fact} → SaysFact b (type_fact f i) g → g ≡ In (Whole f.0) (Individual i.0)
 says_type (in_context (whole h) (individual k)) = ap₂ (λ c a. In (Whole c) (Individual a)) (sym h) (sym k)
 
-class_sayer : {b : Beginnings} {fact : code_fact.Fact} {c d : ℕ} → SaysFact b fact (In (Whole c) (Expression d)) → (f : ExprId) × (e : ExprId) × (fact ≡ class_fact f e) × (f.0 ≡ c) × (e.0 ≡ d)
+class_sayer : {b : Prefixes} {fact : code_fact.Fact} {c d : ℕ} → SaysFact b fact (In (Whole c) (Expression d)) → (f : ExprId) × (e : ExprId) × (fact ≡ class_fact f e) × (f.0 ≡ c) × (e.0 ≡ d)
 class_sayer (in_context (whole {e = f} h) (expression {e = e} k)) = (f, e, refl, h, k)
 
-type_sayer : {b : Beginnings} {fact : code_fact.Fact} {c a : ℕ} → SaysFact b fact (In (Whole c) (Individual a)) → (f : ExprId) × (i : IndId) × (fact ≡ type_fact f i) × (f.0 ≡ c) × (i.0 ≡ a)
+type_sayer : {b : Prefixes} {fact : code_fact.Fact} {c a : ℕ} → SaysFact b fact (In (Whole c) (Individual a)) → (f : ExprId) × (i : IndId) × (fact ≡ type_fact f i) × (f.0 ≡ c) × (i.0 ≡ a)
 type_sayer (in_context (whole {e = f} h) (individual {i = i} k)) = (f, i, refl, h, k)
 
-individual_there : (o : Ontology) {b : Beginnings} {a : code_class.Class2} {i : IndId} {g : Fact} → SaysFact b (facts.In a (contexts.Individual i)) g → FactIsDerivable o g → i.0 < length o.names.individuals
+individual_there : (o : Ontology) {b : Prefixes} {a : code_class.Class2} {i : IndId} {g : Fact} → SaysFact b (facts.In a (contexts.Individual i)) g → FactIsDerivable o g → i.0 < length o.names.individuals
 individual_there o (in_context s (individual k)) d = subst (λ n. n < length o.names.individuals) (sym k) d.0
 
 -- ---- all facts
 
-module _ (o : Ontology) (w : IsOntology o) (b : Beginnings) (fs : List code_fact.Fact) (h : SayTheClosure o b fs) where
+module _ (o : Ontology) (w : IsOntology o) (b : Prefixes) (fs : List code_fact.Fact) (h : SayTheClosure o b fs) where
   class_is_fact : (f e : ExprId) → Contains fs (class_fact f e) → IsFact o [] (In (Whole f.0) (Expression e.0))
   class_is_fact f e there =
       let (g, says, fact) = h.each (class_fact f e) there in

@@ -3,14 +3,14 @@ use Rattle.std.proofs.Common.{◌≡◌, ◌↔◌, ℕ, ◌<◌, Bool, true, fa
 use Rattle.std.specs.Prelude.{MatchOption}
 use Rattle.std.proofs.lemmas.List.Elements.{All-nil}
 use Rattle.std.proofs.lemmas.Bool.{false≢true}
-use Rattle.axioms.specs.Numbered.{Ontology, axiom_trees}
-use Rattle.axioms.specs.WellFormed.{IsOntology}
+use Rattle.axioms.specs.Ontology.{Ontology, axiom_trees}
+use Rattle.axioms.specs.WellFormedness.{IsOntology}
 use Rattle.certificate.specs.Certificate.{Line, Listed, Certificate}
-use Rattle.certificate.specs.HasText.{HasText}
+use Rattle.certificate.specs.Writability.{HasText}
 use Rattle.certificate.specs.Text.{certificate_text}
-use Rattle.cert_check.specs.Acceptable.{IsContradictionShown, IsAcceptable}
+use Rattle.cert_check.specs.Acceptance.{IsContradictionShown, IsAcceptable}
 use Rattle.cert_check.specs.Derivation.{IsDerivation}
-use Rattle.exactness.specs.Listed.{IsConsistent}
+use Rattle.exactness.specs.ListedInterpretation.{IsConsistent}
 use Rattle.exactness.proofs.Complete.{complete_contradictory}
 use Rattle.exactness.specs.Acceptance.{ShowsClosure}
 use Rattle.exactness.proofs.Acceptance.{shown_is_acceptable}
@@ -20,8 +20,8 @@ use Rattle.taxonomy.specs.Outcome.{IsMadeFor, taxonomy_of, instances_of}
 use Rattle.taxonomy.specs.Relation.{is_listed, lies_below}
 use Rattle.taxonomy.specs.declared.outcome.Outcome.{Outcome}
 use Rattle.taxonomy.specs.declared.outcome.Outcome.TheVariants.{Consistent, Inconsistent}
-use Rattle.classification.specs.Classified.{AreTextsOf}
-use Rattle.classification.specs.Shown.{IsOutcomeOf, AreShown}
+use Rattle.classification.specs.Classifications.{AreTextsOf}
+use Rattle.classification.specs.Findings.{IsOutcomeOf, AreShown}
 
 -- ---- consistent
 

@@ -1,12 +1,12 @@
 -- Lists by the facts of a saturation are the relations of its closure.
 use Rattle.std.proofs.Common.{◌≡◌, ◌↔◌, ℕ, ◌<◌, ◌||◌, Bool, true, ◌⊎◌, inl, inr, List, [], length, sym, ◌∙◌, arith}
 use Rattle.std.proofs.lemmas.Bool.{or_cases, or_left, or_right}
-use Rattle.axioms.specs.Numbered.{Ontology, Class, IsClassAt, nothing}
-use Rattle.axioms.specs.WellFormed.{IsOntology}
+use Rattle.axioms.specs.Ontology.{Ontology, Class, IsClassAt, nothing}
+use Rattle.axioms.specs.WellFormedness.{IsOntology}
 use Rattle.closure.specs.Closure.{Expression, In, IsRoot, IsFact}
 use Rattle.closure.proofs.Facts as fact
-use Rattle.closure.specs.Said.{Beginnings}
-use Rattle.engine.specs.Saturated.{SayTheClosure}
+use Rattle.closure.specs.Denotations.{Prefixes}
+use Rattle.engine.specs.Saturations.{SayTheClosure}
 use Rattle.facts.specs.declared.contexts.Fact as code_fact
 use Rattle.normal_forms.specs.Forms.{Whole}
 use Rattle.taxonomy.specs.Texts.{nothing_class}
@@ -15,7 +15,7 @@ use Rattle.classification.specs.Lists.{AreClassLists, AreTypeLists, IsTaxonomyOf
 use Rattle.classification.proofs.Above.{facts_of_facts}
 use Rattle.classification.proofs.Saying.{below_by_fact, type_by_fact}
 
-module _ (o : Ontology) (w : IsOntology o) (b : Beginnings) (facts : List code_fact.Fact) (h : SayTheClosure o b facts) where
+module _ (o : Ontology) (w : IsOntology o) (b : Prefixes) (facts : List code_fact.Fact) (h : SayTheClosure o b facts) where
   module _ (lists : List (List ℕ)) (are : AreClassLists o facts lists) where
     list_says : (c d e f : ℕ) → IsClassAt o c e → IsClassAt o d f → (is_listed lists c d ≡ true) ↔ IsFact o [] (In (Whole f) (Expression e))
     list_says c d e f class above =

@@ -4,10 +4,10 @@ use Rattle.std.proofs.lemmas.List.{length-map, length-take-le}
 use Rattle.std.proofs.lemmas.List.Elements.{All-nil, All-cons, All-append}
 use Rattle.std.proofs.lemmas.Option.{slice_get-get_or, slice_get_within, none-some}
 use Rattle.axioms.specs.Growth.{IsBounded}
-use Rattle.axioms.specs.Numbered.{Ontology}
+use Rattle.axioms.specs.Ontology.{Ontology}
 use Rattle.axioms.specs.View.{at_number}
 use Rattle.certificate.specs.Certificate.{Subject, Expression, Individual, Conclusion, Sub, Edge, Line, Listed}
-use Rattle.certificate.specs.HasText.{IsSubjectOf, IsConclusionOf, IsAxiomNumberOf, IsListedOf, HasText, subject_number, conclusion_numbers, axiom_numbers, line_numbers, listed_numbers}
+use Rattle.certificate.specs.Writability.{IsSubjectOf, IsConclusionOf, IsAxiomNumberOf, IsListedOf, HasText, subject_number, conclusion_numbers, axiom_numbers, line_numbers, listed_numbers}
 use Rattle.cert_check.specs.Derivation.{IsDerivation, at_numbers}
 use Rattle.exactness.proofs.Derivable.{prepended_list_parts}
 

@@ -1,6 +1,6 @@
 -- Facts that say that there is no interpretation.
 use Rattle.std.specs.Prelude.{◌≡◌}
-use Rattle.axioms.specs.Numbered.{thing, nothing}
+use Rattle.axioms.specs.Ontology.{thing, nothing}
 use Rattle.normal_forms.specs.declared.forms.Class2.TheVariants.{Expr}
 use Rattle.facts.specs.declared.contexts.Context.TheVariants as contexts
 use Rattle.facts.specs.declared.contexts.Fact.{Fact}

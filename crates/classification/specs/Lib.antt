@@ -1,4 +1,4 @@
 pub mod Contradiction
 pub mod Lists
-pub mod Classified
-pub mod Shown
+pub mod Classifications
+pub mod Findings

@@ -1,6 +1,6 @@
 -- What facts say of named classes and individuals, as lists of classes.
 use Rattle.std.specs.Prelude.{◌≡◌, ◌↔◌, ◌⊎◌, ◌<◌, ℕ, List, [], Bool, true, length, slice_get, Some}
-use Rattle.axioms.specs.Numbered.{Ontology, IsClassAt, nothing}
+use Rattle.axioms.specs.Ontology.{Ontology, IsClassAt, nothing}
 use Rattle.axioms.specs.declared.ids.ExprId.{ExprId}
 use Rattle.axioms.specs.declared.ids.IndId.{IndId}
 use Rattle.closure.specs.Closure.{Expression, IsFact}

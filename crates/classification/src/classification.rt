@@ -1,9 +1,9 @@
 //! A classification with its texts.
-ghost use Rattle.cert_check.specs.Acceptable.{AreRight, IsAcceptable};
-ghost use Rattle.classification.specs.Classified.{AreCountsOf, AreTextsOf};
-ghost use Rattle.classification.specs.Shown.{IsCertificateOf, IsOutcomeOf};
-ghost use Rattle.exactness.specs.Listed.{IsConsistent};
-ghost use Rattle.engine.specs.Saturated.{HasMoreFactsThan, IsSaturated};
+ghost use Rattle.cert_check.specs.Acceptance.{AreRight, IsAcceptable};
+ghost use Rattle.classification.specs.Classifications.{AreCountsOf, AreTextsOf};
+ghost use Rattle.classification.specs.Findings.{IsCertificateOf, IsOutcomeOf};
+ghost use Rattle.exactness.specs.ListedInterpretation.{IsConsistent};
+ghost use Rattle.engine.specs.Saturations.{HasMoreFactsThan, IsSaturated};
 ghost use Rattle.inference.specs.declared.known_facts.Stop.TheVariants as stops;
 ghost use Rattle.std.specs.Prelude.{◌↔◌, ◌≡◌, ◌≤◌, [], Err, IfOk, IsTrue, false, length, true};
 

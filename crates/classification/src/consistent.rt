@@ -1,7 +1,7 @@
 //! Whether a closure is without contradiction.
 ghost use Rattle.classification.specs.Contradiction.{IsContradiction};
-ghost use Rattle.exactness.specs.Listed.{IsConsistent};
-ghost use Rattle.engine.specs.Saturated.{IsSaturated};
+ghost use Rattle.exactness.specs.ListedInterpretation.{IsConsistent};
+ghost use Rattle.engine.specs.Saturations.{IsSaturated};
 ghost use Rattle.std.specs.Prelude.{◌↔◌, [], All, IsTrue};
 
 use axioms::{ExprId, Ontology};

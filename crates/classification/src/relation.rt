@@ -1,6 +1,6 @@
 //! Which named classes lie below which.
 ghost use Rattle.classification.specs.Lists.{Adds, AreClassLists, IsTaxonomyOf, PutsBelow};
-ghost use Rattle.engine.specs.Saturated.{IsSaturated};
+ghost use Rattle.engine.specs.Saturations.{IsSaturated};
 ghost use Rattle.std.specs.Prelude.{◌<◌, ◌≡◌, IfOk, MatchOption, OnOk, length, ℕ};
 
 use axioms::{ClassId, Memory, Ontology};

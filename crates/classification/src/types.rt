@@ -1,6 +1,6 @@
 //! Which individuals belong to which named classes.
 ghost use Rattle.classification.specs.Lists.{Adds, AreTypeLists, AreTypesOf, IsAboutIndividualOf, PutsInto};
-ghost use Rattle.engine.specs.Saturated.{IsSaturated};
+ghost use Rattle.engine.specs.Saturations.{IsSaturated};
 ghost use Rattle.std.specs.Prelude.{◌≡◌, All, IfOk, MatchOption, OnOk, length, ℕ};
 
 use axioms::{ClassId, IndId, Memory, Ontology};

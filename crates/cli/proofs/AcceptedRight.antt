@@ -1,8 +1,8 @@
 -- Texts that are accepted are right.
 use Rattle.std.proofs.Common.{◌≡◌, ◌∙◌, ℕ, List, refl, sym, subst}
-use Rattle.axioms.specs.Numbered.{Ontology}
+use Rattle.axioms.specs.Ontology.{Ontology}
 use Rattle.cert_check.proofs.Determined.{accepted_once}
-use Rattle.cert_check.specs.Acceptable.{AreRight, IsAcceptable}
+use Rattle.cert_check.specs.Acceptance.{AreRight, IsAcceptable}
 use Rattle.cli.specs.Theorems.{AcceptedTextsAreRight}
 use Rattle.profile.proofs.OneReading.{one_reading}
 

@@ -2,8 +2,8 @@
 use Rattle.std.proofs.Common.{◌≡◌, ◌∙◌, ◌<◌, ◌≤◌, ◌-◌, ◌^◌, ℕ, zero, suc, List, Bool, false, Option, Some, None, Result, Ok, Err, refl, sym, ap, subst, inl, inr, arith}
 use Rattle.session.specs.Devices.{Device, FailsIn, IsReadUntil, SourceState, Takes}
 use Rattle.cli.specs.Files.{AsksFile, BlamesFile, ClassifiesFile, IsUnopened, IsUnreadable, NoWriteFails, SomeWriteFails, Store}
-use Rattle.cli.specs.Writing.{IsClassification, IsDocumentRead}
-use Rattle.session.specs.Written.{AreWritten, AreWrittenUntil, Sinks, Texts}
+use Rattle.cli.specs.Classifications.{IsClassification, IsDocumentRead}
+use Rattle.session.specs.WrittenTexts.{AreWritten, AreWrittenUntil, Sinks, Texts}
 use Rattle.cli.specs.declared.fault.ClassifyFault.{ClassifyFault}
 use Rattle.cli.specs.declared.fault.ClassifyFault.TheVariants as classifying
 use Rattle.classification.specs.declared.classification.Summary.{Summary}
@@ -11,7 +11,7 @@ use Rattle.device.specs.Device.{HasFailed}
 use Rattle.profile.specs.Faults.{RefusesKnown}
 use Rattle.profile.specs.declared.fault.DocumentFault.{DocumentFault}
 use Rattle.profile.specs.declared.fault.DocumentFault.TheVariants as reading
-use Rattle.session.specs.Answered.{IsRead}
+use Rattle.session.specs.TextAnswers.{IsRead}
 use Rattle.session.specs.declared.question_fault.QuestionFault.{QuestionFault}
 use Rattle.session.specs.declared.question_fault.QuestionFault.TheVariants as asking
 use Rattle.system_files.specs.Contents.{IsMissing, IsThere}

@@ -1,8 +1,8 @@
 -- Every document of the profile is classified.
 use Rattle.std.proofs.Common.{◌<◌, ◌≤◌, ℕ, List, length, Some, Ok, Err, subst, arith}
-use Rattle.axioms.specs.Numbered.{Ontology}
-use Rattle.cert_check.specs.Acceptable.{IsAcceptable}
-use Rattle.classification.specs.Classified.{AreCountsOf}
+use Rattle.axioms.specs.Ontology.{Ontology}
+use Rattle.cert_check.specs.Acceptance.{IsAcceptable}
+use Rattle.classification.specs.Classifications.{AreCountsOf}
 use Rattle.cli.proofs.WrittenAccepted.{not_refused}
 use Rattle.cli.specs.Theorems.{EveryDocumentIsClassified, StopsClassification}
 use Rattle.cli.specs.declared.fault.ClassifyFault.TheVariants.{Document, Memory, Limit, Io}
@@ -11,7 +11,7 @@ use Rattle.profile.specs.Documents.{ReadsAs}
 use Rattle.profile.specs.Faults.{RefusesKnown}
 use Rattle.profile.specs.declared.fault.DocumentFault.{DocumentFault}
 use Rattle.profile.specs.declared.fault.DocumentFault.TheVariants as reading
-use Rattle.engine.specs.Saturated.{HasMoreFactsThan}
+use Rattle.engine.specs.Saturations.{HasMoreFactsThan}
 
 -- bytes within the limit that read as an ontology are not refused
 unrefused : (most facts : ℕ) (bytes : List ℕ) (o : Ontology) (fault : DocumentFault) → ReadsAs bytes o → length bytes ≤ most → RefusesKnown (Some bytes) most fault → StopsClassification o facts (Document fault)

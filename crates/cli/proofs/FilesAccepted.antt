@@ -3,7 +3,7 @@ use Rattle.std.proofs.Common.{◌≡◌, ◌∙◌, ℕ, List, Bool, Option, Res
 use Rattle.lemmas.proofs.Choices.{one_value}
 use Rattle.cert_check.specs.declared.verdict.Verdict.{Verdict}
 use Rattle.cert_check.specs.declared.verdict.Verdict.TheVariants.{Accepted}
-use Rattle.axioms.specs.Numbered.{Ontology}
+use Rattle.axioms.specs.Ontology.{Ontology}
 use Rattle.clap.specs.Words.{Row, Text, takes}
 use Rattle.command_line.specs.CommandLine.{ArePaths, IsNumber, IsTaskOf, Refuses, elc_app, most_bytes}
 use Rattle.command_line.specs.declared.tasks.LineFault.{LineFault}
@@ -16,18 +16,18 @@ use Rattle.cli.specs.declared.fault.CheckFault.TheVariants as checking
 use Rattle.std.specs.Prelude.{codes}
 use Rattle.std.specs.Str.Parse.{digits_value, without_leading_plus}
 use Rattle.cli.proofs.WrittenAccepted.{written_is_accepted}
-use Rattle.cli.specs.Checked.{IsChecked, IsCheckFault}
+use Rattle.cli.specs.Checks.{IsChecked, IsCheckFault}
 use Rattle.session.specs.Devices.{Device}
-use Rattle.cli.specs.Performed.{AreApart, HoldTexts, IsCheckRun, IsCheckTold, IsCheckedFiles, IsClassifyAnswer, IsClassifyRun, IsClassifyTold, IsPerformed, IsTaskRun}
+use Rattle.cli.specs.Runs.{AreApart, HoldTexts, IsCheckRun, IsCheckTold, IsCheckedFiles, IsClassifyAnswer, IsClassifyRun, IsClassifyTold, IsPerformed, IsTaskRun}
 use Rattle.cli.specs.Files.{Store}
-use Rattle.cli.specs.Printed.{Output, IsAnswered, IsLineTold, IsPrinted, IsTold, classify_status, out_of_memory, verdict_status, verdict_text}
+use Rattle.cli.specs.Messages.{Output, IsAnswered, IsLineTold, IsPrinted, IsTold, classify_status, out_of_memory, verdict_status, verdict_text}
 use Rattle.cli.specs.Theorems.{AreSamePaths, IsAcceptedRun, IsDocumentApart, WrittenFilesAreAccepted}
-use Rattle.cli.specs.Writing.{IsClassified}
-use Rattle.session.specs.Written.{Texts}
+use Rattle.cli.specs.Classifications.{IsClassified}
+use Rattle.session.specs.WrittenTexts.{Texts}
 use Rattle.cli.specs.declared.fault.ClassifyFault.{ClassifyFault}
 use Rattle.cli.specs.declared.fault.ClassifyFault.TheVariants as classifying
 use Rattle.classification.specs.declared.classification.Summary.{Summary}
-use Rattle.profile.specs.Printed.{status_of}
+use Rattle.profile.specs.Messages.{status_of}
 use Rattle.program.specs.Status.{code_of}
 use Rattle.program.specs.declared.status.Status.{Status}
 use Rattle.program.specs.declared.status.Status.TheVariants as statuses

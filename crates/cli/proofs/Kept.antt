@@ -2,11 +2,11 @@
 use Rattle.std.proofs.Common.{ℕ, ◌++◌, ◌≤◌, List, length, Option, Some, None, sym, ap, subst, ◌∙◌}
 use Rattle.std.proofs.lemmas.List.{append-nil}
 use Rattle.std.specs.Io.KnownBytes.{Consumes, IsAtEnd, Keeps}
-use Rattle.axioms.specs.Numbered.{Ontology}
+use Rattle.axioms.specs.Ontology.{Ontology}
 use Rattle.cert_check.specs.declared.verdict.Verdict.{Verdict}
-use Rattle.cli.specs.Checked.{AreKnown, IsChecked, IsCheckFault}
-use Rattle.cli.specs.Writing.{IsClassified, IsFaultOf}
-use Rattle.session.specs.Written.{Texts}
+use Rattle.cli.specs.Checks.{AreKnown, IsChecked, IsCheckFault}
+use Rattle.cli.specs.Classifications.{IsClassified, IsFaultOf}
+use Rattle.session.specs.WrittenTexts.{Texts}
 use Rattle.classification.specs.declared.classification.Summary.{Summary}
 use Rattle.cli.specs.declared.fault.CheckFault.{CheckFault}
 use Rattle.cli.specs.declared.fault.CheckFault.TheVariants as checking

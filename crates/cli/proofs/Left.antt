@@ -5,9 +5,9 @@ use Rattle.command_line.specs.declared.tasks.Paths.{Paths}
 use Rattle.cli.proofs.Kept.{classified_file, fault_of_file}
 use Rattle.cli.proofs.SomeTexts.{acceptable_are_some}
 use Rattle.cli.proofs.Stored.{AreNew, AreSinksClosed, nothing_stored, texts_held, texts_held_until}
-use Rattle.cli.specs.Performed.{AreLeft, IsClassifyAnswer}
-use Rattle.cli.specs.Writing.{IsClassification, IsUnwritten}
-use Rattle.session.specs.Written.{Sinks}
+use Rattle.cli.specs.Runs.{AreLeft, IsClassifyAnswer}
+use Rattle.cli.specs.Classifications.{IsClassification, IsUnwritten}
+use Rattle.session.specs.WrittenTexts.{Sinks}
 use Rattle.cli.specs.declared.fault.ClassifyFault.{ClassifyFault}
 use Rattle.cli.specs.declared.fault.ClassifyFault.TheVariants.{Document, Memory, Limit, Io}
 use Rattle.classification.specs.declared.classification.Summary.{Summary}

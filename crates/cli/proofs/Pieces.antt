@@ -7,16 +7,16 @@ use Rattle.std.specs.List.{flat_map}
 use Rattle.std.proofs.Math.Seq.{take-append_seam}
 use Rattle.std.specs.Io.KnownBytes.{Appends}
 use Rattle.std.proofs.KnownBytes.{Appends-trans}
-use Rattle.device.specs.Device.{AppendsBeginning, HasFailed}
+use Rattle.device.specs.Device.{AppendsPrefix, HasFailed}
 use Rattle.program.specs.declared.status.Status.{Status}
 use Rattle.session.specs.Devices.{Device}
-use Rattle.cli.specs.Printed.{IsPrinted, reason_text, rejected_text}
-use Rattle.axioms.specs.Numbered.{Ontology}
+use Rattle.cli.specs.Messages.{IsPrinted, reason_text, rejected_text}
+use Rattle.axioms.specs.Ontology.{Ontology}
 use Rattle.cert_check.specs.declared.verdict.Reason.{Reason}
 use Rattle.program.specs.declared.status.Status.TheVariants as statuses
 
--- some pieces, and a beginning of the next, are a beginning of all
-pub begun : (a b c : Option (List ℕ)) (front piece rest all : List ℕ) → all ≡ front ++ (piece ++ rest) → Appends a b front → AppendsBeginning b c piece → AppendsBeginning a c all
+-- some pieces, and a prefix of the next, are a prefix of all
+pub begun : (a b c : Option (List ℕ)) (front piece rest all : List ℕ) → all ≡ front ++ (piece ++ rest) → Appends a b front → AppendsPrefix b c piece → AppendsPrefix a c all
 begun a b c front piece rest all is h k =
     let n = k.0 in
     let some = front ++ take n piece in

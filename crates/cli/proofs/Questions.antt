@@ -3,10 +3,10 @@ use Rattle.std.proofs.Common.{ℕ, List, Option, Result, Ok, Err, IfOk, IfErr}
 use Rattle.std.specs.Global.{Vec}
 use Rattle.std.specs.Io.KnownBytes.{Keeps}
 use Rattle.axioms.specs.Expression.{Iri}
-use Rattle.axioms.specs.Numbered.{Ontology}
+use Rattle.axioms.specs.Ontology.{Ontology}
 use Rattle.axioms.specs.declared.terms.Kind.{Kind}
 use Rattle.cli.proofs.Kept.{reads_file, refuses_file}
-use Rattle.session.specs.Answered.{AnswersInstances, AnswersWhy, IsFaultOf, IsReadAs}
+use Rattle.session.specs.TextAnswers.{AnswersInstances, AnswersExplanation, IsFaultOf, IsReadAs}
 use Rattle.session.specs.declared.question_fault.QuestionFault.{QuestionFault}
 use Rattle.session.specs.declared.question_fault.QuestionFault.TheVariants.{Document, Limit, UnknownName, Memory}
 use Rattle.session.specs.declared.form.Form.{Form}
@@ -18,7 +18,7 @@ read_as_file file left most o kept is = record { reads = reads_file file left mo
 pub instances_of_file : (file left : Option (List ℕ)) (most facts : ℕ) (class text : List ℕ) → Keeps file left → AnswersInstances most facts left class text → AnswersInstances most facts file class text
 instances_of_file file left most facts class text kept is = (is.0, read_as_file file left most is.0 kept is.1, is.2, is.3)
 
-pub why_of_file : (file left : Option (List ℕ)) (most facts : ℕ) (asked : Asked) (class : List ℕ) (form : Form) (text : List ℕ) → Keeps file left → AnswersWhy most facts left asked class form text → AnswersWhy most facts file asked class form text
+pub why_of_file : (file left : Option (List ℕ)) (most facts : ℕ) (asked : Asked) (class : List ℕ) (form : Form) (text : List ℕ) → Keeps file left → AnswersExplanation most facts left asked class form text → AnswersExplanation most facts file asked class form text
 why_of_file file left most facts asked class form text kept is = (is.0, read_as_file file left most is.0 kept is.1, is.2, is.3)
 
 pub question_fault_of_file : (file left : Option (List ℕ)) (most facts : ℕ) (names : List (Kind × Iri)) (fault : QuestionFault) → Keeps file left → IsFaultOf most facts left names fault → IsFaultOf most facts file names fault
@@ -33,7 +33,7 @@ pub instances_in_file : (answer : Result (Vec ℕ) QuestionFault) (file left : O
 instances_in_file (Ok v) file left most facts class kept is = instances_of_file file left most facts class v.items kept is
 instances_in_file (Err fault) file left most facts class kept is = tt
 
-pub why_in_file : (answer : Result (Vec ℕ) QuestionFault) (file left : Option (List ℕ)) (most facts : ℕ) (asked : Asked) (class : List ℕ) (form : Form) → Keeps file left → IfOk answer (λ v. AnswersWhy most facts left asked class form v.items) → IfOk answer (λ v. AnswersWhy most facts file asked class form v.items)
+pub why_in_file : (answer : Result (Vec ℕ) QuestionFault) (file left : Option (List ℕ)) (most facts : ℕ) (asked : Asked) (class : List ℕ) (form : Form) → Keeps file left → IfOk answer (λ v. AnswersExplanation most facts left asked class form v.items) → IfOk answer (λ v. AnswersExplanation most facts file asked class form v.items)
 why_in_file (Ok v) file left most facts asked class form kept is = why_of_file file left most facts asked class form v.items kept is
 why_in_file (Err fault) file left most facts asked class form kept is = tt
 

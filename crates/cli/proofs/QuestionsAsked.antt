@@ -3,9 +3,9 @@ use Rattle.std.proofs.Common.{◌≡◌, ◌∙◌, ◌<◌, ◌≤◌, ℕ, Boo
 use Rattle.clap.specs.Words.{Row, Text}
 use Rattle.std.specs.Prelude.{List, codes}
 use Rattle.system_files.specs.Contents.{Content}
-use Rattle.cli.specs.Performed.{IsCheckRun, IsClassifyRun, IsExplainRun, IsInstancesRun, IsPerformed, max_bytes_of, max_facts_of}
+use Rattle.cli.specs.Runs.{IsCheckRun, IsClassifyRun, IsExplainRun, IsInstancesRun, IsPerformed, max_bytes_of, max_facts_of}
 use Rattle.cli.specs.Files.{Store}
-use Rattle.cli.specs.Printed.{Output}
+use Rattle.cli.specs.Messages.{Output}
 use Rattle.command_line.specs.CommandLine.{IsNumber, IsTaskOf, most_bytes, most_facts}
 use Rattle.command_line.specs.declared.tasks.Paths.{Paths}
 use Rattle.command_line.specs.declared.tasks.Question.{Question}

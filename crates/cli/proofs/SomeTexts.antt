@@ -3,11 +3,11 @@ use Rattle.std.proofs.Common.{◌≡◌, ℕ, List, ◌++◌, Option, Some, None
 use Rattle.std.specs.Prelude.{codes}
 use Rattle.std.specs.List.{flat_map}
 use Rattle.certificate.specs.Text.{certificate_text, header, line_text, listed_text, line_feed}
-use Rattle.axioms.specs.Numbered.{Ontology}
-use Rattle.cert_check.specs.Acceptable.{IsAcceptable, IsConsistentShown, IsContradictionShown}
+use Rattle.axioms.specs.Ontology.{Ontology}
+use Rattle.cert_check.specs.Acceptance.{IsAcceptable, IsConsistentShown, IsContradictionShown}
 use Rattle.certificate.specs.Certificate.{Certificate, Line, Listed}
 use Rattle.cli.proofs.Stored.{AreSome, IsSome}
-use Rattle.session.specs.Written.{Texts}
+use Rattle.session.specs.WrittenTexts.{Texts}
 
 some : (text given : List ℕ) → given ≡ text → IsSome text → IsSome given
 some text given is h = let P : List ℕ → Type 0 = IsSome in subst P (sym is) h

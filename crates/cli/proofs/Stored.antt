@@ -5,8 +5,8 @@ use Rattle.std.specs.Str.{bytes_eq}
 use Rattle.std.proofs.lemmas.Slice.Eq.{bytes_eq-Decides}
 use Rattle.command_line.specs.declared.tasks.Paths.{Paths}
 use Rattle.session.specs.Devices.{Device, FailsIn, Takes}
-use Rattle.cli.specs.Performed.{AreApart, AreOthersKept, HoldTexts, HoldTextsUntil, Holds, HoldsBeginning, Stays}
-use Rattle.session.specs.Written.{AreWritten, AreWrittenUntil, Sinks, Texts}
+use Rattle.cli.specs.Runs.{AreApart, AreOthersKept, HoldTexts, HoldTextsUntil, Holds, HoldsPrefix, Stays}
+use Rattle.session.specs.WrittenTexts.{AreWritten, AreWrittenUntil, Sinks, Texts}
 use Rattle.system_files.specs.Contents.{Content, HasTakenSome, IsClosed, nothing_taken}
 
 -- the text is not empty
@@ -44,15 +44,15 @@ holds true old new taken text some left is =
     let P : Option (List ℕ) → Type 0 = HasTakenSome in
     left.written (subst P (sym is) some) ∙ is
 
-front : (old new taken : Option (List ℕ)) (text : List ℕ) (n : ℕ) (bytes : List ℕ) → take n text ≡ bytes → IsLeftBy old new taken → taken ≡ Some bytes → HoldsBeginning true old new text
+front : (old new taken : Option (List ℕ)) (text : List ℕ) (n : ℕ) (bytes : List ℕ) → take n text ≡ bytes → IsLeftBy old new taken → taken ≡ Some bytes → HoldsPrefix true old new text
 front old new taken text n [] is left holds = inl (left.unwritten holds)
 front old new taken text n (b ∷ bs) is left holds =
     let P : Option (List ℕ) → Type 0 = HasTakenSome in
     inr (n, left.written (subst P (sym holds) tt) ∙ holds ∙ ap Some (sym is))
 
-holds_beginning : (known : Bool) (old new taken : Option (List ℕ)) (text : List ℕ) (n : ℕ) → IsLeftBy old new taken → Holds known taken (take n text) → HoldsBeginning known old new text
-holds_beginning false old new taken text n left is = tt
-holds_beginning true old new taken text n left is = front old new taken text n (take n text) refl left is
+holds_prefix : (known : Bool) (old new taken : Option (List ℕ)) (text : List ℕ) (n : ℕ) → IsLeftBy old new taken → Holds known taken (take n text) → HoldsPrefix known old new text
+holds_prefix false old new taken text n left is = tt
+holds_prefix true old new taken text n left is = front old new taken text n (take n text) refl left is
 
 stays_left : (known : Bool) (old new taken : Option (List ℕ)) → IsLeftBy old new taken → taken ≡ nothing_taken known → Stays known old new
 stays_left false old new taken left fresh = tt
@@ -118,8 +118,8 @@ AreSinksClosed paths sinks content content' = AreClosed paths sinks.taxonomy.0 s
 sink_holds : (known : Bool) (old new : Device) (held held' : Option (List ℕ)) (text : List ℕ) → old.0 ≡ nothing_taken known → IsSome text → Takes old new text → IsLeftBy held held' new.0 → Holds known held' text
 sink_holds known old new held held' text fresh some takes left = holds known held held' new.0 text some left (taken_text known old.0 new.0 text fresh takes.0)
 
-sink_begins : (known : Bool) (old new : Device) (held held' : Option (List ℕ)) (text : List ℕ) → old.0 ≡ nothing_taken known → FailsIn old new text → IsLeftBy held held' new.0 → HoldsBeginning known held held' text
-sink_begins known old new held held' text fresh fails left = holds_beginning known held held' new.0 text fails.0.0 left (taken_text known old.0 new.0 (take fails.0.0 text) fresh fails.0.1)
+sink_begins : (known : Bool) (old new : Device) (held held' : Option (List ℕ)) (text : List ℕ) → old.0 ≡ nothing_taken known → FailsIn old new text → IsLeftBy held held' new.0 → HoldsPrefix known held held' text
+sink_begins known old new held held' text fresh fails left = holds_prefix known held held' new.0 text fails.0.0 left (taken_text known old.0 new.0 (take fails.0.0 text) fresh fails.0.1)
 
 sink_stays : (known : Bool) (old new : Device) (held held' : Option (List ℕ)) → old.0 ≡ nothing_taken known → new ≡ old → IsLeftBy held held' new.0 → Stays known held held'
 sink_stays known old new held held' fresh same left = stays_left known held held' new.0 left (ap (λ (d : Device). d.0) same ∙ fresh)

@@ -1,7 +1,7 @@
 -- From a message that was told to what is said on the two outputs.
 use Rattle.std.proofs.Common.{◌≡◌, ℕ, List, inl, inr, subst, Result, Ok, Err, IfOk, string_bytes}
 use Rattle.session.specs.Devices.{Device}
-use Rattle.cli.specs.Printed.{IsPrinted, IsTold, IsToldMessage}
+use Rattle.cli.specs.Messages.{IsPrinted, IsTold, IsToldMessage}
 use Rattle.program.specs.declared.status.Status.{Status}
 use Rattle.cli.specs.declared.printing.Message.{Message}
 

@@ -1,7 +1,7 @@
 -- What a classification of a document writes is accepted where the same document is checked, unless the check is stopped.
 use Rattle.std.proofs.Common.{◌≡◌, ℕ, List, Some, Ok, Err, subst}
-use Rattle.axioms.specs.Numbered.{Ontology}
-use Rattle.cert_check.specs.Acceptable.{IsAcceptable}
+use Rattle.axioms.specs.Ontology.{Ontology}
+use Rattle.cert_check.specs.Acceptance.{IsAcceptable}
 use Rattle.profile.proofs.OneReading.{one_reading}
 use Rattle.profile.proofs.Refused.{bytes_read_as_none}
 use Rattle.profile.specs.Documents.{ReadsAs}

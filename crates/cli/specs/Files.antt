@@ -1,7 +1,7 @@
 -- What is seen of the files of a run, and which of them the answers of its calls blame.
 use Rattle.std.specs.Prelude.{◌≡◌, ◌≤◌, ℕ, List, Bool, false, Option, Result, Ok, Err}
 use Rattle.command_line.specs.declared.tasks.Paths.{Paths}
-use Rattle.cli.specs.Printed.{read_path}
+use Rattle.cli.specs.Messages.{read_path}
 use Rattle.cli.specs.declared.fault.CheckFault.{CheckFault}
 use Rattle.cli.specs.declared.fault.CheckFault.TheVariants as checking
 use Rattle.cli.specs.declared.fault.ClassifyFault.{ClassifyFault}

@@ -1,8 +1,8 @@
-pub mod Printed
-pub mod Writing
-pub mod Checked
-pub mod Stored
+pub mod Messages
+pub mod Classifications
+pub mod Checks
+pub mod FileSinks
 pub mod Files
-pub mod Performed
+pub mod Runs
 pub mod Theorems
-pub mod Started
+pub mod Starts

@@ -1,28 +1,28 @@
 -- What is proved of classifications and checks together.
 use Rattle.std.specs.Prelude.{◌≡◌, ◌<◌, ◌≤◌, ℕ, ◌⊎◌, List, Result, Ok, Err, Some, true, codes, length}
-use Rattle.axioms.specs.Numbered.{Ontology}
-use Rattle.cert_check.specs.Acceptable.{AreRight, IsAcceptable}
+use Rattle.axioms.specs.Ontology.{Ontology}
+use Rattle.cert_check.specs.Acceptance.{AreRight, IsAcceptable}
 use Rattle.cert_check.specs.declared.verdict.Verdict.{Verdict}
 use Rattle.cert_check.specs.declared.verdict.Verdict.TheVariants.{Accepted}
-use Rattle.classification.specs.Classified.{AreCountsOf}
+use Rattle.classification.specs.Classifications.{AreCountsOf}
 use Rattle.classification.specs.declared.classification.Summary.{Summary}
 use Rattle.command_line.specs.declared.tasks.Paths.{Paths}
-use Rattle.cli.specs.Checked.{IsCheckAnswer}
+use Rattle.cli.specs.Checks.{IsCheckAnswer}
 use Rattle.clap.specs.Words.{Text, takes}
 use Rattle.command_line.specs.CommandLine.{IsTaskOf, elc_app}
 use Rattle.command_line.specs.declared.tasks.Task.TheVariants.{Check, Classify}
 use Rattle.cli.specs.Files.{Store}
-use Rattle.cli.specs.Performed.{AreApart, IsPerformed}
-use Rattle.cli.specs.Printed.{Output, IsAnswered, IsCheckText, IsTold, check_status}
-use Rattle.cli.specs.Writing.{IsClassification, IsClassified}
-use Rattle.session.specs.Written.{Texts, AreWritten, Sinks}
+use Rattle.cli.specs.Runs.{AreApart, IsPerformed}
+use Rattle.cli.specs.Messages.{Output, IsAnswered, IsCheckText, IsTold, check_status}
+use Rattle.cli.specs.Classifications.{IsClassification, IsClassified}
+use Rattle.session.specs.WrittenTexts.{Texts, AreWritten, Sinks}
 use Rattle.cli.specs.declared.fault.CheckFault.{CheckFault}
 use Rattle.cli.specs.declared.fault.CheckFault.TheVariants.{Document, Memory, Io}
 use Rattle.cli.specs.declared.fault.ClassifyFault.{ClassifyFault}
 use Rattle.cli.specs.declared.fault.ClassifyFault.TheVariants as classifying
 use Rattle.profile.specs.Documents.{ReadsAs}
 use Rattle.profile.specs.declared.fault.DocumentFault.TheVariants as reading
-use Rattle.engine.specs.Saturated.{HasMoreFactsThan}
+use Rattle.engine.specs.Saturations.{HasMoreFactsThan}
 use Rattle.program.specs.Status.{code_of}
 use Rattle.program.specs.declared.status.Status.TheVariants as statuses
 use Rattle.system_files.specs.Contents.{Content}

@@ -1,9 +1,9 @@
 //! Runs that answer a question about a document.
 ghost use Rattle.cli.specs.Files.{AsksFile, store};
-ghost use Rattle.cli.specs.Performed.{IsExplainRun, IsInstancesRun, IsQuestionTold, asked_by, form_of as form_in};
-ghost use Rattle.cli.specs.Printed.{outputs};
-ghost use Rattle.session.specs.Answered.{AnswersInstances, AnswersWhy, IsFaultOf};
-ghost use Rattle.session.specs.Asking.{class_name, subject_name};
+ghost use Rattle.cli.specs.Runs.{IsExplainRun, IsInstancesRun, IsQuestionTold, asked_by, form_of as form_in};
+ghost use Rattle.cli.specs.Messages.{outputs};
+ghost use Rattle.session.specs.TextAnswers.{AnswersInstances, AnswersExplanation, IsFaultOf};
+ghost use Rattle.session.specs.Answers.{class_name, subject_name};
 ghost use Rattle.std.specs.Prelude.{◌≡◌, [], ◌∷◌, IfErr, IfOk};
 
 use crate::opening::document_of;
@@ -100,7 +100,7 @@ fn explanation_in<'n, F: Files>(
     files: &F,
     state: RandomState,
 ) -> Result<Vec<u8>, QuestionFault<'n>>
-    ensures answered { IfOk result (λ v. AnswersWhy limits.now.max_bytes limits.now.max_facts (F.content files.now question.now.document.now) (asked_by question.now) question.now.class.now (form_in question.now) v.items) }
+    ensures answered { IfOk result (λ v. AnswersExplanation limits.now.max_bytes limits.now.max_facts (F.content files.now question.now.document.now) (asked_by question.now) question.now.class.now (form_in question.now) v.items) }
     ensures fault { IfErr result (IsFaultOf limits.now.max_bytes limits.now.max_facts (F.content files.now question.now.document.now) (subject_name (asked_by question.now) ∷ class_name question.now.class.now ∷ [])) }
     ensures blames { AsksFile F.reads_fail (F.is_known files.now) (F.content files.now question.now.document.now) result }
 {

@@ -1,8 +1,8 @@
 //! The check of a document's texts.
-ghost use Rattle.cli.specs.Checked.{AreKnown, AreTextsRead, IsCheckAnswer, IsChecked, IsCheckFault, IsTextRead, Reads, text_states};
+ghost use Rattle.cli.specs.Checks.{AreKnown, AreTextsRead, IsCheckAnswer, IsChecked, IsCheckFault, IsTextRead, Reads, text_states};
 ghost use Rattle.session.specs.Devices.{source_state};
 ghost use Rattle.cli.specs.Files.{AreTextsThere, BlamesText, ChecksFiles, IsTextUnread};
-ghost use Rattle.cli.specs.Performed.{IsCheckedFiles};
+ghost use Rattle.cli.specs.Runs.{IsCheckedFiles};
 ghost use Rattle.cli.specs.declared.fault.CheckFault.TheVariants as faults;
 ghost use Rattle.profile.specs.declared.fault.DocumentFault.TheVariants as document_faults;
 ghost use Rattle.std.specs.Prelude.{◌+◌, ◌<◌, IfErr, IfOk, IsErrOf, OnOk};

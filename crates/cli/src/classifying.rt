@@ -1,7 +1,7 @@
 //! Classification of a document.
 ghost use Rattle.session.specs.Devices.{source_state};
-ghost use Rattle.cli.specs.Writing.{Classifies, IsBeforeWriting, IsClassified, IsDocumentRead, IsFaultOf};
-ghost use Rattle.session.specs.Written.{KeepPaths, texts_of};
+ghost use Rattle.cli.specs.Classifications.{Classifies, IsBeforeWriting, IsClassified, IsDocumentRead, IsFaultOf};
+ghost use Rattle.session.specs.WrittenTexts.{KeepPaths, texts_of};
 ghost use Rattle.cli.specs.declared.fault.ClassifyFault.TheVariants as faults;
 ghost use Rattle.profile.specs.declared.fault.DocumentFault.TheVariants as document_faults;
 ghost use Rattle.std.specs.Prelude.{◌+◌, ◌<◌, IfErr, IfOk, IsErrOf};

@@ -13,7 +13,7 @@ pub enum ClassifyFault {
     /// The closure has more facts than the limit. Nothing is written.
     Limit,
     /// The sink of that number failed: 1 is the taxonomy's, 2 the instances', 3 the certificate's. Those before it have
-    /// taken their whole text, this one a beginning of its text, those behind it nothing.
+    /// taken their whole text, this one a prefix of its text, those behind it nothing.
     Io(usize),
 }
 

@@ -1,7 +1,7 @@
 //! What the program prints, and its statuses.
 ghost use Rattle.session.specs.Devices.{FailsIn, Takes, seen};
-ghost use Rattle.cli.specs.Printed.{IsPrinted, IsToldMessage, IsDocumentText, IsClassifyText, IsCheckText, IsQuestionText, classify_status, check_status, question_status, name_at, consistency as word_of, reason_text as text_of_reason, rejected_text, summary_text, verdict_text, verdict_status, written_path as path_written, read_path as path_read, out_of_memory};
-ghost use Rattle.profile.specs.Printed.{status_of};
+ghost use Rattle.cli.specs.Messages.{IsPrinted, IsToldMessage, IsDocumentText, IsClassifyText, IsCheckText, IsQuestionText, classify_status, check_status, question_status, name_at, consistency as word_of, reason_text as text_of_reason, rejected_text, summary_text, verdict_text, verdict_status, written_path as path_written, read_path as path_read, out_of_memory};
+ghost use Rattle.profile.specs.Messages.{status_of};
 ghost use Rattle.std.specs.Fmt.{decimal};
 ghost use Rattle.std.specs.List.{flat_map};
 ghost use Rattle.std.specs.Prelude.{◌≡◌, ◌++◌, IfOk, OnOk, OnErr, Ok, codes, map, string_bytes};

@@ -1,9 +1,9 @@
 //! A whole run of the program.
 ghost use Rattle.session.specs.Devices.{seen};
 ghost use Rattle.cli.specs.Files.{store};
-ghost use Rattle.cli.specs.Performed.{AskForNoClassification, IsCheckRun, IsCheckTold, IsClassifyMade, IsClassifyRun, IsClassifyTold, Performs, max_bytes_of, max_facts_of};
-ghost use Rattle.cli.specs.Printed.{IsLineTold, outputs};
-ghost use Rattle.cli.specs.Stored.{HasFresh};
+ghost use Rattle.cli.specs.Runs.{AskForNoClassification, IsCheckRun, IsCheckTold, IsClassifyMade, IsClassifyRun, IsClassifyTold, Performs, max_bytes_of, max_facts_of};
+ghost use Rattle.cli.specs.Messages.{IsLineTold, outputs};
+ghost use Rattle.cli.specs.FileSinks.{HasFresh};
 ghost use Rattle.std.specs.Prelude.{◌≡◌, ℕ, List, IfOk, map};
 
 use crate::asking::{perform_explain, perform_instances};

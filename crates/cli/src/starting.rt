@@ -1,6 +1,6 @@
 //! A run of the program as it is started.
 ghost use Rattle.session.specs.Devices.{seen};
-ghost use Rattle.cli.specs.Started.{IsStarted, IsUnreadTold, StartsSeeded};
+ghost use Rattle.cli.specs.Starts.{IsStarted, IsUnreadTold, StartsSeeded};
 ghost use Rattle.std.specs.IoError.{error_kind};
 ghost use Rattle.std.specs.Prelude.{◌≡◌, IfOk, map, string_bytes};
 ghost use Rattle.std.specs.Process.{exit_status};

@@ -1,6 +1,6 @@
 -- The ten conditions as steps between facts.
 use Rattle.std.proofs.Common.{ℕ, List, [], ◌∷◌}
-use Rattle.axioms.specs.Numbered.{Ontology, thing, nothing}
+use Rattle.axioms.specs.Ontology.{Ontology, thing, nothing}
 use Rattle.normal_forms.specs.Forms.{Class2, Whole, Property2, Property, N1, N2, N3, N4, N6, N7, N8, N9, IsForm}
 use Rattle.closure.specs.Closure.{Context, Expression, Individual, Fact, In, Edge, IsAtOrBelow, IsRoot, IsContextBy, Gives, IsFact, AreFacts, given, none, more, IsContext}
 

@@ -1,7 +1,7 @@
 -- The closure is the least set under its conditions.
 use Rattle.std.proofs.Common.{ℕ, List, [], ◌∷◌, All}
 use Rattle.std.proofs.lemmas.List.Elements.{All-nil, All-cons, All-head, All-tail}
-use Rattle.axioms.specs.Numbered.{Ontology}
+use Rattle.axioms.specs.Ontology.{Ontology}
 use Rattle.closure.specs.Closure.{Fact, Gives, IsFact, AreFacts, given, none, more}
 
 are_facts : {o : Ontology} {asked : List ℕ} (facts : List Fact) → All (IsFact o asked) facts → AreFacts o asked facts

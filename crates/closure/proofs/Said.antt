@@ -2,7 +2,7 @@
 use Rattle.std.proofs.Common.{◌≡◌, ℕ, List, [], ◌∷◌, slice_get, Some, None, Option, Contains, refl, sym, ap, ◌∙◌, subst}
 use Rattle.std.proofs.lemmas.Option.{same_Some}
 use Rattle.lemmas.proofs.Members.{Contains-from_slice_get, slice_get-from_Contains}
-use Rattle.axioms.specs.Numbered.{Ontology, thing, nothing}
+use Rattle.axioms.specs.Ontology.{Ontology, thing, nothing}
 use Rattle.axioms.specs.declared.ids.ExprId.{ExprId}
 use Rattle.axioms.specs.declared.ids.PropId.{PropId}
 use Rattle.axioms.specs.declared.ids.IndId.{IndId}
@@ -13,7 +13,7 @@ use Rattle.normal_forms.specs.declared.forms.PropId2.TheVariants as properties
 use Rattle.normal_forms.specs.declared.forms.Form as code_form
 use Rattle.normal_forms.specs.declared.forms.Form.TheVariants as forms
 use Rattle.normal_forms.specs.Properties as code_below
-use Rattle.normal_forms.specs.Forms.{Class2, Whole, Beginning, Property2, Property, Steps, Form, N1, N2, N3, N4, N5, N6, N7, N8, N9, IsForm}
+use Rattle.normal_forms.specs.Forms.{Class2, Whole, Prefix, Property2, Property, Steps, Form, N1, N2, N3, N4, N5, N6, N7, N8, N9, IsForm}
 use Rattle.facts.specs.declared.contexts.Context as code_context
 use Rattle.facts.specs.declared.contexts.Context.TheVariants as contexts
 use Rattle.facts.specs.declared.contexts.Fact as code_fact
@@ -21,20 +21,20 @@ use Rattle.facts.specs.declared.contexts.Fact.TheVariants as facts
 use Rattle.facts.specs.Closure.{Problem, FromNone, FromOne, FromTwo, Concludes, CarriesBack, IsLoop}
 use Rattle.facts.specs.Closure as numbered
 use Rattle.closure.specs.Closure.{Context, Expression, Individual, Fact, In, Edge, IsRoot, IsContextBy, IsAtOrBelow, Gives, IsFact, AreFacts, given, none, more}
-use Rattle.closure.specs.Said.{Beginnings, SaysClass, whole, beginning, SaysProperty, property, steps, SaysContext, expression, individual, SaysFact, in_context, edge, SaysForm, n1, n2, n3, n4, n5, n6, n7, n8, n9, IsProblemOf}
+use Rattle.closure.specs.Denotations.{Prefixes, SaysClass, whole, prefix, SaysProperty, property, steps, SaysContext, expression, individual, SaysFact, in_context, edge, SaysForm, n1, n2, n3, n4, n5, n6, n7, n8, n9, IsProblemOf}
 
 -- each of the facts says one, in order
-data SayFacts (b : Beginnings) : List code_fact.Fact → List Fact → Type 0 where
+data SayFacts (b : Prefixes) : List code_fact.Fact → List Fact → Type 0 where
   no_facts : SayFacts b [] []
   one_more : {f : code_fact.Fact} {g : Fact} {fs : List code_fact.Fact} {gs : List Fact} → SaysFact b f g → SayFacts b fs gs → SayFacts b (f ∷ fs) (g ∷ gs)
 
 -- ---- what is said is one thing
 
-class_one : (b : Beginnings) {a : code_class.Class2} {c d : Class2} → SaysClass b a c → SaysClass b a d → c ≡ d
+class_one : (b : Prefixes) {a : code_class.Class2} {c d : Class2} → SaysClass b a c → SaysClass b a d → c ≡ d
 class_one b (whole h) (whole k) = ap Whole (sym h ∙ k)
-class_one b (beginning h) (beginning k) = ap Beginning (same_Some _ _ (sym h ∙ k))
+class_one b (prefix h) (prefix k) = ap Prefix (same_Some _ _ (sym h ∙ k))
 
-property_one : (b : Beginnings) {p : code_property.PropId2} {r s : Property2} → SaysProperty b p r → SaysProperty b p s → r ≡ s
+property_one : (b : Prefixes) {p : code_property.PropId2} {r s : Property2} → SaysProperty b p r → SaysProperty b p s → r ≡ s
 property_one b (property h) (property k) = ap Property (sym h ∙ k)
 property_one b (steps h) (steps k) = ap Steps (same_Some _ _ (sym h ∙ k))
 
@@ -64,10 +64,10 @@ context_same : {x y : code_context.Context} {z : Context} → SaysContext x z �
 context_same (expression h) (expression k) = ap contexts.Expr (same_expression h k)
 context_same (individual h) (individual k) = ap contexts.Individual (same_individual h k)
 
-module _ (o : Ontology) (asked : List ℕ) (b : Beginnings) (k : Problem) (h : IsProblemOf o asked b k) where
+module _ (o : Ontology) (asked : List ℕ) (b : Prefixes) (k : Problem) (h : IsProblemOf o asked b k) where
   class_same : {a c : code_class.Class2} {d : Class2} → SaysClass b a d → SaysClass b c d → a ≡ c
   class_same (whole g) (whole l) = ap classes.Expr (same_expression g l)
-  class_same (beginning {n = m} {ds = ds} g) (beginning {n = n} l) = ap classes.Partial (h.distinct_operands m n ds g l)
+  class_same (prefix {n = m} {ds = ds} g) (prefix {n = n} l) = ap classes.Partial (h.distinct_operands m n ds g l)
 
   property_same : {p q : code_property.PropId2} {r : Property2} → SaysProperty b p r → SaysProperty b q r → p ≡ q
   property_same (property g) (property l) = ap properties.Property (same_property g l)

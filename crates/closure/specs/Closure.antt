@@ -1,7 +1,7 @@
 -- The facts that the normal forms lead to.
 use Rattle.std.specs.Prelude.{ℕ, ◌<◌, List, [], ◌∷◌, length}
 use Rattle.std.specs.List.{Contains}
-use Rattle.axioms.specs.Numbered.{Ontology, IsClassAt, thing, nothing}
+use Rattle.axioms.specs.Ontology.{Ontology, IsClassAt, thing, nothing}
 use Rattle.normal_forms.specs.Forms.{Class2, Whole, Property2, Property, N1, N2, N3, N4, N5, N6, N7, N8, N9, IsForm}
 
 -- what classes are in, and what edges join

@@ -1,3 +1,3 @@
 pub mod Closure
 pub mod Theorems
-pub mod Said
+pub mod Denotations

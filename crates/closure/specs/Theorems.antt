@@ -1,7 +1,7 @@
 -- What is proved of the closure.
 use Rattle.std.specs.Prelude.{◌≡◌, ℕ, List, Bool, true}
 use Rattle.std.specs.List.{All, Contains}
-use Rattle.axioms.specs.Numbered.{Ontology, AtTwoPlaces, DisjointClasses, nothing}
+use Rattle.axioms.specs.Ontology.{Ontology, AtTwoPlaces, DisjointClasses, nothing}
 use Rattle.normal_forms.specs.Forms.{Whole}
 use Rattle.closure.specs.Closure.{Context, Fact, In, Gives, IsFact}
 

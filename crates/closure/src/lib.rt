@@ -1,7 +1,7 @@
 //! The closure of the normal forms.
 #![tactic(auto)]
 
-ghost use Rattle.closure.specs.Said.{NumbersSayTheClosure};
+ghost use Rattle.closure.specs.Denotations.{NumbersSayTheClosure};
 ghost use Rattle.closure.specs.Theorems.{ClosureIsClosed, ClosureIsLeast, OrderOfDisjointClassesDoesNotMatter};
 
 /// What the closure is: the least set of facts that has what its facts give.

@@ -2,8 +2,8 @@
 use Rattle.std.proofs.Common.{ℕ, ◌<◌, ◌↔◌, List, [], length, Contains}
 use Rattle.std.specs.List.{AllByRecursion}
 use Rattle.std.proofs.lemmas.List.Elements.{All-contains}
-use Rattle.axioms.specs.Numbered.{Ontology, Axiom, ClassAssertion, PropertyAssertion, thing}
-use Rattle.axioms.specs.WellFormed.{IsOntology, IsAxiomOf}
+use Rattle.axioms.specs.Ontology.{Ontology, Axiom, ClassAssertion, PropertyAssertion, thing}
+use Rattle.axioms.specs.WellFormedness.{IsOntology, IsAxiomOf}
 use Rattle.normal_forms.specs.Forms.{Class2, Whole, Property, N8, N9, IsForm, class_assertion, property_assertion}
 use Rattle.closure.specs.Closure.{Context, Expression, Individual, Fact, In, Edge, IsRoot, Gives, in_thing, in_itself, asserted, asserted_edge, subsumed, both, successor, predecessor, unsatisfiable, chained, loop, IsFact, AreFacts, given, none, more, IsContext}
 use Rattle.closure.proofs.Facts as fact

@@ -1,7 +1,7 @@
 -- What facts over numbers say of contexts.
 use Rattle.std.proofs.Common.{◌≡◌, ◌↔◌, ℕ, Bool, true, false, not, ◌&&◌, List, [], Contains, refl, ap, ap₂, sym, subst}
-use Rattle.axioms.specs.Numbered.{Ontology, thing}
-use Rattle.axioms.specs.WellFormed.{IsOntology}
+use Rattle.axioms.specs.Ontology.{Ontology, thing}
+use Rattle.axioms.specs.WellFormedness.{IsOntology}
 use Rattle.axioms.specs.declared.ids.ExprId.{ExprId}
 use Rattle.facts.specs.declared.contexts.Context as code
 use Rattle.facts.specs.declared.contexts.Context.TheVariants.{Expr, Individual as Individual2}
@@ -10,9 +10,9 @@ use Rattle.facts.specs.declared.contexts.Fact.TheVariants as facts
 use Rattle.normal_forms.specs.declared.forms.Class2.TheVariants as classes
 use Rattle.normal_forms.specs.Forms.{Whole}
 use Rattle.closure.specs.Closure.{Context, Expression, Individual, Fact, In, IsFact}
-use Rattle.closure.specs.Said.{Beginnings, whole, SaysContext, expression, individual, SaysFact, in_context}
-use Rattle.exactness.specs.Listed.{IsSatisfiable}
-use Rattle.engine.specs.Saturated.{SayTheClosure}
+use Rattle.closure.specs.Denotations.{Prefixes, whole, SaysContext, expression, individual, SaysFact, in_context}
+use Rattle.exactness.specs.ListedInterpretation.{IsSatisfiable}
+use Rattle.engine.specs.Saturations.{SayTheClosure}
 use Rattle.countermodel.specs.Elements.{context_of}
 use Rattle.countermodel.specs.Sets.{IsWithin, holds, admits}
 use Rattle.countermodel.specs.declared.context_set.ContextSet.{ContextSet}
@@ -50,13 +50,13 @@ said_context : {x : code.Context} {y : Context} → SaysContext x y → x ≡ co
 said_context (expression h) = ap (λ n. Expr (record { 0 = n })) h
 said_context (individual h) = ap (λ n. Individual2 (record { 0 = n })) h
 
-fact_of_whole : {b : Beginnings} {class : ExprId} {x : code.Context} {g : Fact} → SaysFact b (facts.In (classes.Expr class) x) g → g ≡ In (Whole class.0) (context_of x)
+fact_of_whole : {b : Prefixes} {class : ExprId} {x : code.Context} {g : Fact} → SaysFact b (facts.In (classes.Expr class) x) g → g ≡ In (Whole class.0) (context_of x)
 fact_of_whole (in_context (whole h) s) = ap₂ (λ c y. In (Whole c) y) (sym h) (context_said s)
 
-whole_of_fact : {b : Beginnings} {f : code_fact.Fact} {e : ℕ} {y : Context} → SaysFact b f (In (Whole e) y) → f ≡ facts.In (classes.Expr (record { 0 = e })) (code_of y)
+whole_of_fact : {b : Prefixes} {f : code_fact.Fact} {e : ℕ} {y : Context} → SaysFact b f (In (Whole e) y) → f ≡ facts.In (classes.Expr (record { 0 = e })) (code_of y)
 whole_of_fact (in_context (whole h) s) = ap₂ (λ n z. facts.In (classes.Expr (record { 0 = n })) z) h (said_context s)
 
-module _ (o : Ontology) (b : Beginnings) (list : List code_fact.Fact) (says : SayTheClosure o b list) where
+module _ (o : Ontology) (b : Prefixes) (list : List code_fact.Fact) (says : SayTheClosure o b list) where
   -- whole classes in contexts are said as they are
   pub whole_said : (class : ExprId) (x : Context) → Contains list (facts.In (classes.Expr class) (code_of x)) ↔ IsFact o [] (In (Whole class.0) x)
   whole_said class x = (

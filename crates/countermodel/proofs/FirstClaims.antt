@@ -6,11 +6,11 @@ use Rattle.std.proofs.lemmas.List.Elements.{Contains-append_left, Contains-push,
 use Rattle.std.proofs.lemmas.Option.{slice_get_within}
 use Rattle.lemmas.proofs.Mapped.{slice_get_map_from}
 use Rattle.lemmas.proofs.Members.{Contains-none, Contains-from_slice_get}
-use Rattle.axioms.specs.Numbered.{Ontology, Class}
-use Rattle.certificate.specs.HasText.{Ascends}
+use Rattle.axioms.specs.Ontology.{Ontology, Class}
+use Rattle.certificate.specs.Writability.{Ascends}
 use Rattle.closure.specs.Closure.{Context, Expression}
-use Rattle.exactness.specs.Listed.{IsBefore}
-use Rattle.countermodel.specs.Making.{IsOwnElement}
+use Rattle.exactness.specs.ListedInterpretation.{IsBefore}
+use Rattle.countermodel.specs.Members.{IsOwnElement}
 use Rattle.countermodel.specs.MemberRows.{AreOwnClaims}
 use Rattle.countermodel.proofs.Places.{one_place}
 use Rattle.countermodel.proofs.Numbers.{Ascends-push}

@@ -3,10 +3,10 @@ use Rattle.std.proofs.Common.{◌≡◌, ℕ, ◌+◌, ◌<◌, inl, inr, List, 
 use Rattle.std.proofs.lemmas.List.{length-append}
 use Rattle.std.proofs.lemmas.Option.{none-some}
 use Rattle.lemmas.proofs.Places.{slice_get_push_cases}
-use Rattle.axioms.specs.Numbered.{Ontology}
+use Rattle.axioms.specs.Ontology.{Ontology}
 use Rattle.closure.specs.Closure.{Context, Individual, IsRoot}
 use Rattle.closure.proofs.Facts as fact
-use Rattle.exactness.specs.Listed.{AreSatisfiableContexts, IsConsistent}
+use Rattle.exactness.specs.ListedInterpretation.{AreSatisfiableContexts, IsConsistent}
 
 -- the elements of the first individuals
 pub record AreFirst (elements : List Context) (count : ℕ) (numbers : List ℕ) : Type 0 where

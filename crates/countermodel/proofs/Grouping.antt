@@ -6,7 +6,7 @@ use Rattle.std.proofs.lemmas.List.{append_assoc, flat_map_more, get_or-take, get
 use Rattle.std.proofs.lemmas.List.Elements.{All-contains, All-nil, All-push, Contains-append_cases, Contains-append_left, Contains-append_right, Contains-get_or, Contains-push}
 use Rattle.lemmas.proofs.Mapped.{Contains-map, slice_get_map_from}
 use Rattle.lemmas.proofs.Members.{Contains-cons_cases, Contains-first, Contains-from_slice_get, Contains-later, Contains-none, slice_get-from_Contains}
-use Rattle.certificate.specs.HasText.{Ascends, IsPairBefore}
+use Rattle.certificate.specs.Writability.{Ascends, IsPairBefore}
 use Rattle.listed_model.specs.Listing.{targets_of}
 use Rattle.cert_check.specs.Additions.{SomeRow}
 use Rattle.cert_check.proofs.ListedRows.{listed_target}

@@ -11,17 +11,17 @@ use Rattle.lemmas.proofs.Members.{Contains-none, Contains-first, Contains-later,
 use Rattle.lemmas.proofs.Places.{slice_get_there}
 use Rattle.axioms.specs.Expression.{Iri}
 use Rattle.axioms.specs.Growth.{IsBounded}
-use Rattle.axioms.specs.Numbered.{Ontology, Class, IsClassAt, name_at, thing}
-use Rattle.axioms.specs.WellFormed.{IsOntology, AreDistinct}
+use Rattle.axioms.specs.Ontology.{Ontology, Class, IsClassAt, name_at, thing}
+use Rattle.axioms.specs.WellFormedness.{IsOntology, AreDistinct}
 use Rattle.interpretation_spec.specs.Interpretation.{Interpretation}
-use Rattle.interpretation_spec.specs.ByName.{number_of}
+use Rattle.interpretation_spec.specs.NamedInterpretation.{number_of}
 use Rattle.certificate.specs.Certificate.{Listed}
-use Rattle.certificate.specs.HasText.{IsListedOf, IsNamedClass, listed_numbers}
+use Rattle.certificate.specs.Writability.{IsListedOf, IsNamedClass, listed_numbers}
 use Rattle.listed_model.specs.Listing.{IsListing, elements_of, targets_of}
 use Rattle.closure.specs.Closure.{Context, Expression, Individual, In, IsFact, IsRoot}
 use Rattle.closure.proofs.Facts as fact
 use Rattle.normal_forms.specs.Forms.{Whole}
-use Rattle.exactness.specs.Listed.{AreSatisfiableContexts, IsConsistent, IsListedInterpretation}
+use Rattle.exactness.specs.ListedInterpretation.{AreSatisfiableContexts, IsConsistent, IsListedInterpretation}
 use Rattle.exactness.specs.Acceptance.{IsListedFor}
 use Rattle.countermodel.specs.MemberRows.{AreClassRows, AreIndividualElements, AreOwnClaims}
 use Rattle.countermodel.specs.PairRows.{ArePairRows}

@@ -2,10 +2,10 @@
 use Rattle.std.proofs.Common.{◌≡◌, ◌↔◌, ℕ, ◌+◌, ◌≤◌, List, [], ◌∷◌, ◌++◌, length, Contains, sym, ap, ◌∙◌}
 use Rattle.std.proofs.lemmas.List.{append-nil, flat_map_more}
 use Rattle.number_sets.specs.Pieces.{list_at}
-use Rattle.certificate.specs.HasText.{Ascends}
+use Rattle.certificate.specs.Writability.{Ascends}
 use Rattle.certificate.specs.Text.{class_text}
 use Rattle.countermodel.specs.Parts.{Writes}
-use Rattle.countermodel.specs.Making.{AreRowsOf}
+use Rattle.countermodel.specs.Members.{AreRowsOf}
 use Rattle.countermodel.proofs.ClassRows.{AreFirstRows, no_row, no_rows, one_row, all_rows}
 
 -- behind the start stand the rows of the first lists

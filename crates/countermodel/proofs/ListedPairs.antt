@@ -4,10 +4,10 @@ use Rattle.std.proofs.lemmas.Bool.{cases_lt}
 use Rattle.std.proofs.lemmas.List.Elements.{All-contains, Contains-get_or}
 use Rattle.std.proofs.lemmas.Option.{same_Some, slice_get_within, get_or_from_slice_get}
 use Rattle.lemmas.proofs.Members.{Contains-from_slice_get, slice_get-from_Contains}
-use Rattle.axioms.specs.Numbered.{Ontology, SubProperty, EquivalentProperties}
-use Rattle.axioms.specs.WellFormed.{AreDistinct, IsOntology}
+use Rattle.axioms.specs.Ontology.{Ontology, SubProperty, EquivalentProperties}
+use Rattle.axioms.specs.WellFormedness.{AreDistinct, IsOntology}
 use Rattle.axioms.specs.declared.ids.PropId.{PropId}
-use Rattle.certificate.specs.HasText.{AreElements, Ascends}
+use Rattle.certificate.specs.Writability.{AreElements, Ascends}
 use Rattle.normal_forms.specs.declared.forms.PropId2 as code_property
 use Rattle.normal_forms.specs.declared.forms.PropId2.TheVariants as properties
 use Rattle.normal_forms.specs.declared.forms.Form as code_form
@@ -18,15 +18,15 @@ use Rattle.facts.specs.declared.contexts.Context as code_context
 use Rattle.facts.specs.declared.contexts.Fact as code_fact
 use Rattle.facts.specs.declared.contexts.Fact.TheVariants as facts
 use Rattle.closure.specs.Closure.{Context, Expression, Individual, Fact, Edge, IsAtOrBelow, IsFact}
-use Rattle.closure.specs.Said.{Beginnings, property, SaysFact, edge}
-use Rattle.exactness.specs.Listed.{HasEdge, IsBefore}
+use Rattle.closure.specs.Denotations.{Prefixes, property, SaysFact, edge}
+use Rattle.exactness.specs.ListedInterpretation.{HasEdge, IsBefore}
 use Rattle.exactness.proofs.Facts.{fact_derivable}
 use Rattle.exactness.proofs.Rules.{axiom_within, derivable_within}
 use Rattle.countermodel.specs.Elements.{context_of}
-use Rattle.engine.specs.Saturated.{IsSaturated, Saturated}
-use Rattle.normalise.specs.Problem.{beginnings_of}
-use Rattle.property_closure.specs.Closed.{Known, Has}
-use Rattle.inference.specs.Closed.{IsClosureOf}
+use Rattle.engine.specs.Saturations.{IsSaturated, Saturated}
+use Rattle.normalise.specs.Problem.{prefixes_of}
+use Rattle.property_closure.specs.PropertyClosures.{Known, Has}
+use Rattle.inference.specs.PropertyClosures.{IsClosureOf}
 use Rattle.inference.proofs.Edges.{edge_has}
 use Rattle.countermodel.specs.declared.pair.Pair.{Pair}
 use Rattle.countermodel.specs.Edges.{IsGiven, IsGivenBy}
@@ -90,8 +90,8 @@ module _ (o : Ontology) (w : IsOntology o) where
 -- ---- edges
 
 module _ (o : Ontology) (s : Saturated) (saturated : IsSaturated o s) (k : Known) (closed : IsClosureOf s.state.problem.forms k) (elements : List Context) where
-  abbrev begun : Beginnings
-  begun = beginnings_of s.normal
+  abbrev begun : Prefixes
+  begun = prefixes_of s.normal
 
   below_o : (a b : PropId) → code_below.IsAtOrBelow k.forms (properties.Property a) (properties.Property b) → IsAtOrBelow o [] (Property a.0) (Property b.0)
   below_o a b below = below_said o s saturated a b

@@ -6,15 +6,15 @@ use Rattle.std.proofs.lemmas.List.Quantifiers.{all_pairs_push}
 use Rattle.std.proofs.lemmas.Option.{none-some, slice_get-get_or}
 use Rattle.lemmas.proofs.Mapped.{slice_get_map, slice_get_map_from}
 use Rattle.lemmas.proofs.Places.{slice_get_push, slice_get_push_cases, keeps_push}
-use Rattle.axioms.specs.Numbered.{Ontology}
+use Rattle.axioms.specs.Ontology.{Ontology}
 use Rattle.axioms.specs.declared.ids.ExprId.{ExprId}
 use Rattle.axioms.specs.declared.ids.IndId.{IndId}
 use Rattle.facts.specs.declared.contexts.Context as code
 use Rattle.facts.specs.declared.contexts.Context.TheVariants.{Expr, Individual as Individual2}
 use Rattle.closure.specs.Closure.{Context, Expression, Individual}
-use Rattle.exactness.specs.Listed.{IsBefore, IsSatisfiable, AreSatisfiableContexts}
+use Rattle.exactness.specs.ListedInterpretation.{IsBefore, IsSatisfiable, AreSatisfiableContexts}
 use Rattle.countermodel.specs.Elements.{context_of, contexts_of}
-use Rattle.countermodel.specs.Listing.{AreBefore, PlacesExpressions, PlacesIndividuals, place_in}
+use Rattle.countermodel.specs.ContextLists.{AreBefore, PlacesExpressions, PlacesIndividuals, place_in}
 
 -- ---- contexts of the code and of the definitions
 

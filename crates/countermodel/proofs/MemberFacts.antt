@@ -2,13 +2,13 @@
 use Rattle.std.proofs.Common.{◌≡◌, ◌↔◌, ℕ, ◌<◌, ◌≤◌, List, [], length, get_or, slice_get, Some, All, Contains, refl, sym, ap, ◌∙◌, subst}
 use Rattle.std.proofs.lemmas.List.Elements.{Contains-get_or}
 use Rattle.std.proofs.lemmas.Option.{same_Some, slice_get-get_or, slice_get_within}
-use Rattle.axioms.specs.Numbered.{Ontology}
+use Rattle.axioms.specs.Ontology.{Ontology}
 use Rattle.number_sets.specs.Pieces.{list_at}
-use Rattle.certificate.specs.HasText.{AreElements, Ascends, IsNamedClass}
+use Rattle.certificate.specs.Writability.{AreElements, Ascends, IsNamedClass}
 use Rattle.cert_check.proofs.ListedRows.{HasMember, listed_member}
 use Rattle.closure.specs.Closure.{Context, In, IsFact}
-use Rattle.closure.specs.Said.{Beginnings}
-use Rattle.engine.specs.Saturated.{SayTheClosure}
+use Rattle.closure.specs.Denotations.{Prefixes}
+use Rattle.engine.specs.Saturations.{SayTheClosure}
 use Rattle.facts.specs.declared.contexts.Fact as code_fact
 use Rattle.facts.specs.declared.contexts.Fact.TheVariants as facts
 use Rattle.normal_forms.specs.declared.forms.Class2.TheVariants as classes
@@ -16,10 +16,10 @@ use Rattle.normal_forms.specs.Forms.{Whole}
 use Rattle.countermodel.specs.Elements.{context_of}
 use Rattle.countermodel.proofs.Facts.{code_of, code_of-is, whole_said}
 use Rattle.countermodel.proofs.Listing.{same_code}
-use Rattle.countermodel.specs.Making.{IsOwnClass, AreMembers, AreRowsOf, expr_id}
+use Rattle.countermodel.specs.Members.{IsOwnClass, AreMembers, AreRowsOf, expr_id}
 use Rattle.countermodel.specs.MemberRows.{AreClassRows}
 
-module _ (o : Ontology) (b : Beginnings) (elements : List Context) (list : List code_fact.Fact) (says : SayTheClosure o b list) (lists : List (List ℕ)) (members : AreMembers o elements list lists) where
+module _ (o : Ontology) (b : Prefixes) (elements : List Context) (list : List code_fact.Fact) (says : SayTheClosure o b list) (lists : List (List ℕ)) (members : AreMembers o elements list lists) where
   -- a list has the elements whose contexts have the class
   listed_fact : (e m : ℕ) (x : Context) → IsOwnClass o e → slice_get elements m ≡ Some x → Contains (list_at lists e) m ↔ IsFact o [] (In (Whole e) x)
   listed_fact e m x own at = (

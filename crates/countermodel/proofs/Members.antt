@@ -4,14 +4,14 @@ use Rattle.std.specs.Prelude.{slice_set}
 use Rattle.std.proofs.lemmas.List.{length-set, length-replicate}
 use Rattle.std.proofs.lemmas.Option.{same_Some, slice_get-get_or, slice_get_within}
 use Rattle.lemmas.proofs.Members.{Contains-none, Contains-from_slice_get, slice_get-from_Contains}
-use Rattle.axioms.specs.Numbered.{Ontology, Class}
+use Rattle.axioms.specs.Ontology.{Ontology, Class}
 use Rattle.closure.specs.Closure.{Context}
-use Rattle.exactness.specs.Listed.{IsBefore}
+use Rattle.exactness.specs.ListedInterpretation.{IsBefore}
 use Rattle.facts.specs.declared.contexts.Fact.{Fact}
 use Rattle.number_sets.specs.Pieces.{list_at}
 use Rattle.property_closure.proofs.Members.{one_more_item, list_at_none}
 use Rattle.countermodel.specs.Elements.{context_of}
-use Rattle.countermodel.specs.Making.{IsMember, AreMembers, expr_id}
+use Rattle.countermodel.specs.Members.{IsMember, AreMembers, expr_id}
 use Rattle.countermodel.proofs.Places.{one_place}
 
 -- the lists have what facts say, and all that the first facts say

@@ -1,7 +1,7 @@
 -- Ascending numbers.
 use Rattle.std.proofs.Common.{◌≡◌, ℕ, suc, ◌<◌, List, [], ◌∷◌, ◌++◌, slice_get, Some, AllPairs, refl, arith}
 use Rattle.lemmas.proofs.Pairs.{AllPairs-tail}
-use Rattle.certificate.specs.HasText.{Ascends}
+use Rattle.certificate.specs.Writability.{Ascends}
 
 pub Ascends-from_pairs : (xs : List ℕ) → AllPairs (λ x y. x < y) xs → Ascends xs
 Ascends-from_pairs [] h = tt

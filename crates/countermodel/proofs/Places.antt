@@ -3,7 +3,7 @@ use Rattle.std.proofs.Common.{◌≡◌, ℕ, ◌<◌, ◌⊎◌, inl, inr, List
 use Rattle.std.proofs.lemmas.Bool.{cases_order}
 use Rattle.std.proofs.lemmas.Option.{get_or_from_slice_get, slice_get_within}
 use Rattle.closure.specs.Closure.{Context, Expression, Individual}
-use Rattle.exactness.specs.Listed.{IsBefore}
+use Rattle.exactness.specs.ListedInterpretation.{IsBefore}
 
 irreflexive : (x : Context) → IsBefore x x → ⊥
 irreflexive (Expression e) h = omega arith

@@ -1,6 +1,6 @@
 -- What facts and forms over numbers say of contexts and properties.
 use Rattle.std.proofs.Common.{◌≡◌, ℕ, List, [], Contains, refl, sym, ap, ◌∙◌, subst}
-use Rattle.axioms.specs.Numbered.{Ontology}
+use Rattle.axioms.specs.Ontology.{Ontology}
 use Rattle.axioms.specs.declared.ids.PropId.{PropId}
 use Rattle.normal_forms.specs.declared.forms.PropId2 as code_property
 use Rattle.normal_forms.specs.declared.forms.PropId2.TheVariants as properties
@@ -10,10 +10,10 @@ use Rattle.normal_forms.specs.Forms.{Property2, Property, Steps, Form, N5, IsFor
 use Rattle.normal_forms.specs.Properties as code_below
 use Rattle.facts.specs.declared.contexts.Context as code_context
 use Rattle.closure.specs.Closure.{Context, Expression, Individual, IsAtOrBelow}
-use Rattle.closure.specs.Said.{Beginnings, SaysProperty, property, SaysContext, expression, individual, SaysForm, n5}
+use Rattle.closure.specs.Denotations.{Prefixes, SaysProperty, property, SaysContext, expression, individual, SaysForm, n5}
 use Rattle.countermodel.specs.Elements.{context_of}
-use Rattle.engine.specs.Saturated.{IsSaturated, Saturated}
-use Rattle.normalise.specs.Problem.{beginnings_of}
+use Rattle.engine.specs.Saturations.{IsSaturated, Saturated}
+use Rattle.normalise.specs.Problem.{prefixes_of}
 
 pub said_context : {x : code_context.Context} {y : Context} → SaysContext x y → context_of x ≡ y
 said_context (expression h) = ap Expression h
@@ -28,14 +28,14 @@ abbrev pub IsPlain : Property2 → Type 0
 IsPlain (Property r) = Unit {0}
 IsPlain (Steps rs) = ⊥
 
--- what is above the beginning of a chain is no property
+-- what is above a prefix of a chain is no property
 pub plain_below : {o : Ontology} {p q : Property2} → IsAtOrBelow o [] p q → IsPlain q → IsPlain p
 plain_below IsAtOrBelow.same h = h
 plain_below (IsAtOrBelow.step s t below form) h = plain_below below tt
 
 module _ (o : Ontology) (s : Saturated) (saturated : IsSaturated o s) where
-  abbrev begun : Beginnings
-  begun = beginnings_of s.normal
+  abbrev begun : Prefixes
+  begun = prefixes_of s.normal
 
   abbrev all_forms : List code_form.Form
   all_forms = s.state.problem.forms

@@ -1,15 +1,15 @@
 -- Whatever the members of the listed interpretation stand for is the listed interpretation.
 use Rattle.std.proofs.Common.{◌≡◌, ℕ, zero, suc, ◌<◌, ◌↔◌, List, [], length, slice_get, Some, true, false, sym, subst, ◌∙◌, arith}
 use Rattle.std.proofs.lemmas.Option.{slice_get-get_or, slice_get_within}
-use Rattle.axioms.specs.Numbered.{Ontology, IsClassAt, name_at, property_name, individual_name, nothing, thing, expression}
-use Rattle.axioms.specs.WellFormed.{IsOntology}
+use Rattle.axioms.specs.Ontology.{Ontology, IsClassAt, name_at, property_name, individual_name, nothing, thing, expression}
+use Rattle.axioms.specs.WellFormedness.{IsOntology}
 use Rattle.axioms.proofs.Trees.{class_tree}
 use Rattle.listed_model.specs.Listing.{IsListing}
 use Rattle.certificate.specs.Certificate.{Listed}
-use Rattle.certificate.specs.HasText.{IsListedOf}
+use Rattle.certificate.specs.Writability.{IsListedOf}
 use Rattle.closure.specs.Closure.{Context, Individual, In, IsFact}
 use Rattle.closure.proofs.Facts as fact
-use Rattle.exactness.specs.Listed.{IsListedInterpretation, HasEdge}
+use Rattle.exactness.specs.ListedInterpretation.{IsListedInterpretation, HasEdge}
 use Rattle.interpretation_spec.specs.Interpretation.{Interpretation, IsInterpretation, IsIn}
 use Rattle.interpretation_spec.proofs.Extensions.{in_thing, not_in_nothing}
 use Rattle.normal_forms.specs.Forms.{Whole, Property}

@@ -3,12 +3,12 @@ use Rattle.std.proofs.Common.{◌≡◌, ℕ, ◌<◌, ◌++◌, ◌^◌, List, 
 use Rattle.std.specs.Prelude.{codes}
 use Rattle.std.specs.List.{flat_map, enumerate_from}
 use Rattle.axioms.specs.Growth.{IsBounded}
-use Rattle.axioms.specs.Numbered.{Ontology}
-use Rattle.axioms.specs.WellFormed.{IsOntology}
+use Rattle.axioms.specs.Ontology.{Ontology}
+use Rattle.axioms.specs.WellFormedness.{IsOntology}
 use Rattle.certificate.specs.Certificate.{Line, Listed}
 use Rattle.certificate.specs.Text.{class_text, pairs_text, individual_text, claim_text}
 use Rattle.closure.specs.Closure.{Context}
-use Rattle.exactness.specs.Listed.{AreSatisfiableContexts, IsConsistent}
+use Rattle.exactness.specs.ListedInterpretation.{AreSatisfiableContexts, IsConsistent}
 use Rattle.countermodel.specs.Parts.{Writes, text_to_domain}
 use Rattle.countermodel.proofs.SpelledParts.{in_parts}
 use Rattle.countermodel.specs.PairRows.{ArePairRows}
@@ -19,7 +19,7 @@ use Rattle.countermodel.proofs.Interpreted.{listed_for, listed_of, numbers_small
 -- a text of its parts, one behind the other
 pub record HasParts (o : Ontology) (elements : List Context) (lines : List Line) (text : List ℕ) : Type 0 where
   pub begun : List ℕ
-  pub beginning : begun ≡ text_to_domain lines (length elements)
+  pub prefix : begun ≡ text_to_domain lines (length elements)
   pub with_classes : List ℕ
   pub classes : Writes (AreClassRows o elements) class_text begun with_classes
   pub with_pairs : List ℕ
@@ -37,7 +37,7 @@ module _ (o : Ontology) (w : IsOntology o) (bounded : IsBounded o) (consistent :
       let pairs = h.pairs.items in
       let listed : Listed = record { domain = length elements; classes = rows; pairs = pairs; individuals = h.numbers; claims = h.claims } in
       let rest : List ℕ → List ℕ = λ s. s ++ flat_map individual_text (enumerate_from 0 h.numbers) ++ flat_map claim_text h.claims ++ codes "end\n" in
-      let classes : h.with_classes ≡ text_to_domain lines (length elements) ++ flat_map class_text rows = h.classes.spelled ∙ ap (λ (s : List ℕ). s ++ flat_map class_text rows) h.beginning in
+      let classes : h.with_classes ≡ text_to_domain lines (length elements) ++ flat_map class_text rows = h.classes.spelled ∙ ap (λ (s : List ℕ). s ++ flat_map class_text rows) h.prefix in
       record {
         listed = listed;
         spelled = h.spelled ∙ ap rest (h.pairs.spelled ∙ ap (λ (s : List ℕ). s ++ flat_map pairs_text pairs) classes) ∙ sym (in_parts lines listed);

@@ -4,7 +4,7 @@ use Rattle.std.specs.List.{Contains}
 use Rattle.normal_forms.specs.declared.forms.PropId2.{PropId2}
 use Rattle.normal_forms.specs.declared.forms.PropId2.TheVariants.{Property, Partial}
 use Rattle.normal_forms.specs.Properties.{IsAtOrBelow}
-use Rattle.property_closure.specs.Closed.{Known, Has}
+use Rattle.property_closure.specs.PropertyClosures.{Known, Has}
 use Rattle.facts.specs.declared.contexts.Fact.{Fact}
 use Rattle.facts.specs.declared.contexts.Fact.TheVariants.{In, Edge}
 use Rattle.closure.specs.Closure.{Context}

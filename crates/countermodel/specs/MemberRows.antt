@@ -1,9 +1,9 @@
 -- The members of classes in the interpretation that a closure lists, its individuals and its claims.
 use Rattle.std.specs.Prelude.{◌≡◌, ◌↔◌, ◌≤◌, ℕ, List, [], length, map, slice_get, Some}
 use Rattle.std.specs.List.{All, Contains}
-use Rattle.axioms.specs.Numbered.{Ontology, IsClassAt}
+use Rattle.axioms.specs.Ontology.{Ontology, IsClassAt}
 use Rattle.listed_model.specs.Listing.{elements_of}
-use Rattle.certificate.specs.HasText.{AreElements, Ascends, IsNamedClass}
+use Rattle.certificate.specs.Writability.{AreElements, Ascends, IsNamedClass}
 use Rattle.closure.specs.Closure.{Context, Expression, Individual, In, IsFact}
 use Rattle.normal_forms.specs.Forms.{Whole}
 

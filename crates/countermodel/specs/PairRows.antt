@@ -1,11 +1,11 @@
 -- The pairs of properties in the interpretation that a closure lists, as rows.
 use Rattle.std.specs.Prelude.{◌≡◌, ◌↔◌, ◌<◌, ℕ, List, [], length, slice_get, Some}
 use Rattle.std.specs.List.{All, AllPairs, Contains}
-use Rattle.axioms.specs.Numbered.{Ontology}
+use Rattle.axioms.specs.Ontology.{Ontology}
 use Rattle.listed_model.specs.Listing.{targets_of}
-use Rattle.certificate.specs.HasText.{AreElements, IsPairBefore}
+use Rattle.certificate.specs.Writability.{AreElements, IsPairBefore}
 use Rattle.closure.specs.Closure.{Context}
-use Rattle.exactness.specs.Listed.{HasEdge}
+use Rattle.exactness.specs.ListedInterpretation.{HasEdge}
 use Rattle.normal_forms.specs.Forms.{Property}
 
 -- a row for each property and each element that it leads anywhere from, in order: exactly the edges at or below the property

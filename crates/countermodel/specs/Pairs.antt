@@ -1,7 +1,7 @@
 -- Pairs of elements, and the rows that they make.
 use Rattle.std.specs.Prelude.{◌≡◌, ℕ, ◌<◌, ◌⊎◌, List, [], ◌∷◌, ◌++◌, map, length}
 use Rattle.std.specs.List.{All, AllPairs, flat_map}
-use Rattle.certificate.specs.HasText.{Ascends, IsPairBefore}
+use Rattle.certificate.specs.Writability.{Ascends, IsPairBefore}
 use Rattle.countermodel.specs.declared.pair.Pair.{Pair}
 
 -- a property and an element, and the elements that it leads to from there

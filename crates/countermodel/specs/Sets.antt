@@ -1,6 +1,6 @@
 -- Sets of contexts.
 use Rattle.std.specs.Prelude.{◌<◌, Bool, true, not, ◌&&◌, length, slice_set}
-use Rattle.axioms.specs.Numbered.{Ontology}
+use Rattle.axioms.specs.Ontology.{Ontology}
 use Rattle.facts.specs.declared.contexts.Context as code
 use Rattle.facts.specs.declared.contexts.Context.TheVariants.{Expr, Individual as Individual2}
 use Rattle.closure.specs.Closure.{Context, Expression, Individual}

@@ -1,9 +1,9 @@
 -- The text of a certificate of lines and of what a closure lists.
 use Rattle.std.specs.Prelude.{◌≡◌, ℕ, ◌<◌, ◌^◌, List, Some}
 use Rattle.std.specs.List.{All}
-use Rattle.axioms.specs.Numbered.{Ontology}
+use Rattle.axioms.specs.Ontology.{Ontology}
 use Rattle.certificate.specs.Certificate.{Line, Listed}
-use Rattle.certificate.specs.HasText.{IsListedOf, listed_numbers}
+use Rattle.certificate.specs.Writability.{IsListedOf, listed_numbers}
 use Rattle.certificate.specs.Text.{certificate_text}
 use Rattle.exactness.specs.Acceptance.{IsListedFor}
 

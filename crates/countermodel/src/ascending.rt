@@ -1,5 +1,5 @@
 //! Lists of elements in ascending order.
-ghost use Rattle.certificate.specs.HasText.{Ascends};
+ghost use Rattle.certificate.specs.Writability.{Ascends};
 ghost use Rattle.std.specs.Prelude.{◌↔◌, Contains, IfOk, ℕ};
 
 use axioms::Memory;

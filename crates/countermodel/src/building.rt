@@ -1,8 +1,8 @@
 //! The interpretation that a closure lists, as a value.
-ghost use Rattle.exactness.specs.Listed.{IsConsistent};
-ghost use Rattle.countermodel.specs.Built.{IsBuilt};
-ghost use Rattle.engine.specs.Saturated.{IsSaturated};
-ghost use Rattle.interpretation_spec.specs.Numbered.{IsMadeFor};
+ghost use Rattle.exactness.specs.ListedInterpretation.{IsConsistent};
+ghost use Rattle.countermodel.specs.Values.{IsBuilt};
+ghost use Rattle.engine.specs.Saturations.{IsSaturated};
+ghost use Rattle.interpretation_spec.specs.NumberedInterpretation.{IsMadeFor};
 ghost use Rattle.std.specs.Prelude.{[], IfOk};
 
 use crate::interpretation::listed;

@@ -1,7 +1,7 @@
 //! Claims.
 ghost use Rattle.certificate.specs.View.{claim_of};
-ghost use Rattle.exactness.specs.Listed.{AreSatisfiableContexts};
-ghost use Rattle.countermodel.specs.Making.{IsOwnElement};
+ghost use Rattle.exactness.specs.ListedInterpretation.{AreSatisfiableContexts};
+ghost use Rattle.countermodel.specs.Members.{IsOwnElement};
 ghost use Rattle.countermodel.specs.MemberRows.{AreOwnClaims};
 ghost use Rattle.std.specs.Prelude.{[], IfOk, MatchOption, map, ℕ};
 

@@ -1,10 +1,10 @@
 //! Rows of classes.
 ghost use Rattle.certificate.specs.Text.{class_text};
 ghost use Rattle.certificate.specs.View.{class_row_of};
-ghost use Rattle.exactness.specs.Listed.{AreSatisfiableContexts};
-ghost use Rattle.engine.specs.Saturated.{IsSaturated};
+ghost use Rattle.exactness.specs.ListedInterpretation.{AreSatisfiableContexts};
+ghost use Rattle.engine.specs.Saturations.{IsSaturated};
 ghost use Rattle.countermodel.specs.Parts.{Writes};
-ghost use Rattle.countermodel.specs.Making.{AreMembers, AreRowsOf, IsMember, IsOwnClass};
+ghost use Rattle.countermodel.specs.Members.{AreMembers, AreRowsOf, IsMember, IsOwnClass};
 ghost use Rattle.countermodel.specs.MemberRows.{AreClassRows};
 ghost use Rattle.std.specs.Prelude.{◌↔◌, ◌≡◌, ◌≤◌, ◌^◌, [], IfOk, IsTrue, MatchOption, OnOk, length, map, ℕ};
 

@@ -1,5 +1,5 @@
 //! Pairs from the edges among facts.
-ghost use Rattle.axioms.specs.WellFormed.{AreDistinct};
+ghost use Rattle.axioms.specs.WellFormedness.{AreDistinct};
 ghost use Rattle.countermodel.specs.Edges.{AddsPairs, IsAboveIn, IsGiven, IsGivenBy};
 ghost use Rattle.countermodel.specs.declared.pair.Pair.{Pair as Pair2};
 ghost use Rattle.std.specs.Prelude.{◌↔◌, Contains, IfOk, OnOk};
@@ -28,7 +28,7 @@ fn add_above(pairs: &mut Vec<Pair>, closure: &PropertyClosure, pair: Pair) -> Re
     Ok(())
 }
 
-/// Adds the pairs that the fact gives. A beginning of a chain gives none, since no property is above it.
+/// Adds the pairs that the fact gives. A prefix of a chain gives none, since no property is above it.
 fn add_fact(
     pairs: &mut Vec<Pair>,
     closure: &PropertyClosure,

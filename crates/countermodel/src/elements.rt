@@ -1,10 +1,10 @@
 //! Contexts as elements.
 ghost use Rattle.closure.specs.Closure.{Expression as Expression2, Individual as Individual2};
-ghost use Rattle.exactness.specs.Listed.{AreSatisfiableContexts};
+ghost use Rattle.exactness.specs.ListedInterpretation.{AreSatisfiableContexts};
 ghost use Rattle.countermodel.specs.Elements.{context_of, contexts_of};
-ghost use Rattle.countermodel.specs.Listing.{AreBefore, PlacesExpressions, PlacesIndividuals, place_in};
+ghost use Rattle.countermodel.specs.ContextLists.{AreBefore, PlacesExpressions, PlacesIndividuals, place_in};
 ghost use Rattle.countermodel.specs.Sets.{admits};
-ghost use Rattle.engine.specs.Saturated.{IsSaturated};
+ghost use Rattle.engine.specs.Saturations.{IsSaturated};
 ghost use Rattle.std.specs.Prelude.{◌≡◌, ◌<◌, ◌≤◌, ◌^◌, ◌↔◌, [], IfOk, IsTrue, MatchOption, OnOk, Some, List, length, slice_get, ℕ};
 
 use crate::satisfiable::Satisfiable;
@@ -28,7 +28,7 @@ impl Model for Elements {
     ghost use Rattle.std.specs.Prelude.{List, length, ◌<◌, ◌^◌};
     ghost use Rattle.closure.specs.Closure.{Context as Context2};
     ghost use Rattle.countermodel.specs.Elements.{contexts_of};
-    ghost use Rattle.countermodel.specs.Listing.{IsKept};
+    ghost use Rattle.countermodel.specs.ContextLists.{IsKept};
 
     ghost Value = { List Context2 };
 

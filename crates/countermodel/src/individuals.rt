@@ -1,5 +1,5 @@
 //! The elements of individuals.
-ghost use Rattle.exactness.specs.Listed.{AreSatisfiableContexts, IsConsistent};
+ghost use Rattle.exactness.specs.ListedInterpretation.{AreSatisfiableContexts, IsConsistent};
 ghost use Rattle.countermodel.specs.MemberRows.{AreIndividualElements};
 ghost use Rattle.std.specs.Prelude.{[], IfOk};
 

@@ -1,8 +1,8 @@
 //! The members of the interpretation that a closure lists.
-ghost use Rattle.certificate.specs.HasText.{IsListedOf, listed_numbers};
+ghost use Rattle.certificate.specs.Writability.{IsListedOf, listed_numbers};
 ghost use Rattle.certificate.specs.View.{listed_of};
-ghost use Rattle.exactness.specs.Listed.{IsConsistent};
-ghost use Rattle.engine.specs.Saturated.{IsSaturated};
+ghost use Rattle.exactness.specs.ListedInterpretation.{IsConsistent};
+ghost use Rattle.engine.specs.Saturations.{IsSaturated};
 ghost use Rattle.exactness.specs.Acceptance.{IsListedFor};
 ghost use Rattle.std.specs.Prelude.{◌<◌, ◌^◌, [], All, IfOk, Some};
 

@@ -1,8 +1,8 @@
 //! Rows of pairs.
 ghost use Rattle.certificate.specs.Text.{pairs_text};
 ghost use Rattle.certificate.specs.View.{pair_row_of};
-ghost use Rattle.exactness.specs.Listed.{AreSatisfiableContexts};
-ghost use Rattle.engine.specs.Saturated.{IsSaturated};
+ghost use Rattle.exactness.specs.ListedInterpretation.{AreSatisfiableContexts};
+ghost use Rattle.engine.specs.Saturations.{IsSaturated};
 ghost use Rattle.countermodel.specs.Parts.{Writes};
 ghost use Rattle.countermodel.specs.PairRows.{ArePairRows};
 ghost use Rattle.std.specs.Prelude.{IfOk, OnOk, [], map};

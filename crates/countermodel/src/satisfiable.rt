@@ -1,9 +1,9 @@
 //! Which contexts are satisfiable.
 ghost use Rattle.closure.specs.Closure.{Context as Context2};
-ghost use Rattle.exactness.specs.Listed.{IsSatisfiable};
+ghost use Rattle.exactness.specs.ListedInterpretation.{IsSatisfiable};
 ghost use Rattle.countermodel.specs.Elements.{context_of};
 ghost use Rattle.countermodel.specs.Sets.{IsWithin, admits, holds};
-ghost use Rattle.engine.specs.Saturated.{IsSaturated};
+ghost use Rattle.engine.specs.Saturations.{IsSaturated};
 ghost use Rattle.facts.specs.declared.contexts.Context.{Context as Context3};
 ghost use Rattle.facts.specs.declared.contexts.Fact.TheVariants as said;
 ghost use Rattle.normal_forms.specs.declared.forms.Class2.TheVariants as classes;

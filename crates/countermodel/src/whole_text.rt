@@ -1,10 +1,10 @@
 //! The text of the interpretation that a closure lists.
-ghost use Rattle.exactness.specs.Listed.{IsConsistent};
-ghost use Rattle.engine.specs.Saturated.{IsSaturated};
+ghost use Rattle.exactness.specs.ListedInterpretation.{IsConsistent};
+ghost use Rattle.engine.specs.Saturations.{IsSaturated};
 ghost use Rattle.countermodel.specs.WholeText.{IsTextWithListed};
 ghost use Rattle.std.specs.Prelude.{[], IfOk};
 
-use crate::beginning::begun;
+use crate::prefix::begun;
 use crate::claims::own_claims;
 use crate::class_rows::write_class_rows;
 use crate::elements::Elements;

@@ -27,9 +27,9 @@ pub record Writes (taken_old taken_new : Option (List ℕ)) (piece : List ℕ) (
 abbrev pub LosesFront : (left_old left_new : Option (List ℕ)) → (most_old most_new : ℕ) → Type 0
 LosesFront left_old left_new most_old most_new = (front : List ℕ) × Consumes left_old left_new front × (most_new + length front ≡ most_old)
 
--- known bytes grow by a beginning of the text
-abbrev pub AppendsBeginning : Option (List ℕ) → Option (List ℕ) → List ℕ → Type 0
-AppendsBeginning old new text = (n : ℕ) × Appends old new (take n text)
+-- known bytes grow by a prefix of the text
+abbrev pub AppendsPrefix : Option (List ℕ) → Option (List ℕ) → List ℕ → Type 0
+AppendsPrefix old new text = (n : ℕ) × Appends old new (take n text)
 
 -- known bytes are more than the limit
 abbrev pub IsLongerThan : Option (List ℕ) → ℕ → Type 0

@@ -1,17 +1,17 @@
 //! Whole texts through sources and sinks.
 ghost use Rattle.std.specs.Prelude.{◌≡◌, ◌+◌, ◌<◌, ◌≤◌, IfOk, OnOk, OnErr, IsErrOf, length};
 ghost use Rattle.std.specs.Io.KnownBytes.{Appends, Consumes, IsAtEnd};
-ghost use Rattle.device.specs.Device.{HasFailed, AppendsBeginning, LosesFront, IsLongerThan};
+ghost use Rattle.device.specs.Device.{HasFailed, AppendsPrefix, LosesFront, IsLongerThan};
 
 use crate::device::{Failed, Sink, Source};
 use std::alloc::Global;
 
 /// Writes a whole text, in as many pieces as the sink takes.
 ///
-/// It fails only where the sink failed in this call, which then has taken a beginning of the text.
+/// It fails only where the sink failed in this call, which then has taken a prefix of the text.
 pub fn write_all<S: Sink>(sink: &mut S, text: &[u8]) -> Result<(), Failed>
     ensures ok { OnOk result (Appends (S.taken sink.old) (S.taken sink.new) text.now) }
-    ensures begun { AppendsBeginning (S.taken sink.old) (S.taken sink.new) text.now }
+    ensures begun { AppendsPrefix (S.taken sink.old) (S.taken sink.new) text.now }
     ensures path { S.path sink.new ≡ S.path sink.old }
 
     ensures unfailed { OnOk result (S.failures sink.new ≡ S.failures sink.old) }

@@ -211,7 +211,7 @@ fn leaves(alloc: Global, calls: usize, taken: &[u8]) -> bool {
 const TAKEN: &[(usize, &[u8])] = &[(0, b""), (1, b"a"), (2, b"ab")];
 
 #[test]
-fn a_write_that_fails_leaves_a_beginning(rt: HostRuntime) {
+fn a_write_that_fails_leaves_a_prefix(rt: HostRuntime) {
     for row in TAKEN {
         let (calls, taken) = *row;
         assert!(rt; leaves(rt.alloc(), calls, taken), "after {calls} writes");

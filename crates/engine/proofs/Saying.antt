@@ -1,7 +1,7 @@
 -- Facts over numbers that differ say facts that differ.
 use Rattle.std.proofs.Common.{◌≡◌, ℕ, zero, suc, ◌<◌, List, [], ◌∷◌, length, slice_get, get_or, Some, refl, sym, ap, ◌∙◌, subst}
 use Rattle.std.proofs.lemmas.Option.{same_Some, slice_get-get_or}
-use Rattle.axioms.specs.Numbered.{Ontology}
+use Rattle.axioms.specs.Ontology.{Ontology}
 use Rattle.axioms.specs.declared.ids.ExprId.{ExprId}
 use Rattle.axioms.specs.declared.ids.PropId.{PropId}
 use Rattle.axioms.specs.declared.ids.IndId.{IndId}
@@ -16,10 +16,10 @@ use Rattle.facts.specs.declared.contexts.Fact as code_fact
 use Rattle.facts.specs.declared.contexts.Fact.TheVariants as facts
 use Rattle.facts.specs.Closure.{Problem}
 use Rattle.closure.specs.Closure.{Context, Fact, IsFact}
-use Rattle.closure.specs.Said.{Beginnings, SaysClass, whole, beginning, SaysProperty, property, steps, SaysContext, expression, individual, SaysFact, in_context, edge, IsProblemOf}
+use Rattle.closure.specs.Denotations.{Prefixes, SaysClass, whole, prefix, SaysProperty, property, steps, SaysContext, expression, individual, SaysFact, in_context, edge, IsProblemOf}
 use Rattle.closure.proofs.Said.{said}
-use Rattle.inference.specs.Derived as derived
-use Rattle.engine.specs.Saturated.{HasMoreFactsThan}
+use Rattle.inference.specs.Derivations as derived
+use Rattle.engine.specs.Saturations.{HasMoreFactsThan}
 
 abbrev expr_id : ℕ → ExprId
 expr_id n = record { 0 = n }
@@ -49,10 +49,10 @@ same_in {c = c} {x = x} h k = ap (λ d. facts.In d x) h ∙ ap (facts.In c) k
 same_edge : {x y z w : code_context.Context} {p q : code_property.PropId2} → x ≡ y → p ≡ q → z ≡ w → facts.Edge x p z ≡ facts.Edge y q w
 same_edge {y = y} {z = z} {p = p} {q = q} h k l = ap (λ v. facts.Edge v p z) h ∙ (ap (λ r. facts.Edge y r z) k ∙ ap (facts.Edge y q) l)
 
-module _ (o : Ontology) (b : Beginnings) (k : Problem) (h : IsProblemOf o [] b k) where
+module _ (o : Ontology) (b : Prefixes) (k : Problem) (h : IsProblemOf o [] b k) where
   class_same : {a c : code_class.Class2} {d : Class2} → SaysClass b a d → SaysClass b c d → a ≡ c
   class_same (whole g) (whole l) = ap classes.Expr (same_expression g l)
-  class_same (beginning {n = m} {ds = ds} g) (beginning {n = n} l) = ap classes.Partial (h.distinct_operands m n ds g l)
+  class_same (prefix {n = m} {ds = ds} g) (prefix {n = n} l) = ap classes.Partial (h.distinct_operands m n ds g l)
 
   property_same : {p q : code_property.PropId2} {r : Property2} → SaysProperty b p r → SaysProperty b q r → p ≡ q
   property_same (property g) (property l) = ap properties.Property (same_property g l)

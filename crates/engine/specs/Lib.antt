@@ -1,1 +1,1 @@
-pub mod Saturated
+pub mod Saturations

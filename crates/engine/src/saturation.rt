@@ -1,13 +1,13 @@
 //! All facts that an ontology leads to.
-ghost use Rattle.closure.specs.Said.{IsProblemOf};
-ghost use Rattle.axioms.specs.Numbered.{Ontology as Ontology2};
-ghost use Rattle.engine.specs.Saturated.{HasMoreFactsThan, IsFinished, IsSaturated, IsSound};
+ghost use Rattle.closure.specs.Denotations.{IsProblemOf};
+ghost use Rattle.axioms.specs.Ontology.{Ontology as Ontology2};
+ghost use Rattle.engine.specs.Saturations.{HasMoreFactsThan, IsFinished, IsSaturated, IsSound};
 ghost use Rattle.facts.specs.Births.{IsBirth, reason};
 ghost use Rattle.facts.specs.declared.contexts.Fact.{Fact as Fact2};
 ghost use Rattle.normalise.specs.Entries.{form_in};
-ghost use Rattle.normalise.specs.Growing.{IsNormalFor};
-ghost use Rattle.normalise.specs.Problem.{beginnings_of};
-ghost use Rattle.inference.specs.Closed.{IsClosureOf};
+ghost use Rattle.normalise.specs.Growth.{IsNormalFor};
+ghost use Rattle.normalise.specs.Problem.{prefixes_of};
+ghost use Rattle.inference.specs.PropertyClosures.{IsClosureOf};
 ghost use Rattle.saturate.specs.Run.{IsRun, IsRunUntil};
 ghost use Rattle.saturate.specs.State.{Extends};
 ghost use Rattle.inference.specs.declared.known_facts.Stop.TheVariants as stops;
@@ -31,7 +31,7 @@ pub struct Saturation {
 }
 
 impl Model for Saturation {
-    ghost use Rattle.engine.specs.Saturated.{Saturated};
+    ghost use Rattle.engine.specs.Saturations.{Saturated};
 
     ghost Value = { Saturated };
 
@@ -161,7 +161,7 @@ fn begun(
 ) -> Result<State<ByContext>, Memory>
     requires normal { IsNormalFor ontology.now normal.now }
     requires asked { normal.now.asked ≡ [] }
-    ensures problem { IfOk result (λ s. IsProblemOf ontology.now [] (beginnings_of normal.now) s.problem) }
+    ensures problem { IfOk result (λ s. IsProblemOf ontology.now [] (prefixes_of normal.now) s.problem) }
     ensures forms { IfOk result (λ s. s.problem.forms ≡ map form_in normal.now.entries) }
     ensures served { IfOk result (λ s. s.served ≡ []) }
 {

@@ -12,7 +12,7 @@ const ASCENDING: &[PropId2] = &[
 ];
 
 #[test]
-fn properties_come_before_beginnings(rt: HostRuntime) -> Result<(), Fail> {
+fn properties_come_before_prefixes(rt: HostRuntime) -> Result<(), Fail> {
     for (i, first) in ASCENDING.iter().enumerate() {
         for (j, second) in ASCENDING.iter().enumerate() {
             assert!(rt; first.comes_before(*second) == (i < j), "{i} {j}");

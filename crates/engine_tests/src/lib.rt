@@ -28,7 +28,7 @@ mod problems;
 #[cfg(test)]
 mod properties;
 #[cfg(test)]
-mod seconds;
+mod second_premises;
 #[cfg(test)]
 mod sets;
 #[cfg(test)]

@@ -283,7 +283,7 @@ pub(crate) const PROBLEMS: &[Problem] = &[
     },
 ];
 
-/// Problems in which no edge that a transitive property gave has to stand second.
+/// Problems in which no edge that a transitive property gave has to be a second premise.
 pub(crate) const ALL_GO_ON: &[Problem] = &[
     // Twelve individuals, each by a transitive property before the next: 66 edges.
     Problem {

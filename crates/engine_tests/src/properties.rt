@@ -15,8 +15,8 @@ const T: PropId2 = PropId2::Property(PropId(2));
 
 const U: PropId2 = PropId2::Property(PropId(3));
 
-/// The first beginning of a chain.
-const BEGINNING: PropId2 = PropId2::Partial(0);
+/// The first prefix of a chain.
+const PREFIX: PropId2 = PropId2::Partial(0);
 
 /// `SubObjectPropertyOf(r s) EquivalentObjectProperties(s t u)`, in a circle.
 const CIRCLE: &[Form] = &[
@@ -72,16 +72,16 @@ fn reflexivity_through_a_hierarchy(rt: HostRuntime) -> Result<(), Fail> {
     Ok(())
 }
 
-/// `SubObjectPropertyOf(ObjectPropertyChain(r s t) u)`, by the beginning `r s`.
-const LONG_CHAIN: &[Form] = &[Form::N6(R, S, BEGINNING), Form::N6(BEGINNING, T, U)];
+/// `SubObjectPropertyOf(ObjectPropertyChain(r s t) u)`, by the prefix `r s`.
+const LONG_CHAIN: &[Form] = &[Form::N6(R, S, PREFIX), Form::N6(PREFIX, T, U)];
 
-/// Whether r begins the beginning, and that the chain.
+/// Whether r begins the prefix, and that the chain.
 fn is_long_chain(closure: &PropertyClosure) -> bool {
-    closure.chains_from(R) == [(S, BEGINNING)].as_slice()
-        && closure.chains_from(BEGINNING) == [(T, U)].as_slice()
+    closure.chains_from(R) == [(S, PREFIX)].as_slice()
+        && closure.chains_from(PREFIX) == [(T, U)].as_slice()
         && closure.chains_from(S).is_empty()
-        && closure.supers(BEGINNING) == [BEGINNING].as_slice()
-        && !closure.is_reflexive(BEGINNING)
+        && closure.supers(PREFIX) == [PREFIX].as_slice()
+        && !closure.is_reflexive(PREFIX)
 }
 
 /// Whether nothing is known of it.
@@ -94,17 +94,17 @@ fn chain_of_three_and_what_is_out_of_range(rt: HostRuntime) -> Result<(), Fail> 
     let closure = close(rt.alloc(), 4, 1, LONG_CHAIN)?;
     let chain = is_long_chain(&closure);
     let property = is_out_of_range(&closure, PropId2::Property(PropId(4)));
-    let beginning = is_out_of_range(&closure, PropId2::Partial(1));
+    let prefix = is_out_of_range(&closure, PropId2::Partial(1));
     drop(closure);
     assert!(rt; chain);
     assert!(rt; property);
-    assert!(rt; beginning);
+    assert!(rt; prefix);
     Ok(())
 }
 
 /// `TransitiveObjectProperty(r)` and chains that begin with r, one of them twice.
 const MANY_CHAINS: &[Form] = &[
-    Form::N6(R, S, BEGINNING),
+    Form::N6(R, S, PREFIX),
     Form::N6(R, T, U),
     Form::N6(R, S, U),
     Form::N6(R, T, U),
@@ -112,7 +112,7 @@ const MANY_CHAINS: &[Form] = &[
 ];
 
 /// The ends of those chains.
-const ENDS: &[(PropId2, PropId2)] = &[(R, R), (S, U), (S, BEGINNING), (T, U)];
+const ENDS: &[(PropId2, PropId2)] = &[(R, R), (S, U), (S, PREFIX), (T, U)];
 
 #[test]
 fn chains_ascend_and_none_stands_twice(rt: HostRuntime) -> Result<(), Fail> {
@@ -132,13 +132,13 @@ fn grown(alloc: Global) -> Result<PropertyClosure, Memory> {
     Ok(closure)
 }
 
-/// Whether s is above r and reflexive, and u and the beginning are only above themselves.
+/// Whether s is above r and reflexive, and u and the prefix are only above themselves.
 fn has_grown(closure: &PropertyClosure) -> bool {
     closure.supers(R) == [R, S].as_slice()
         && closure.is_reflexive(S)
         && closure.supers(U) == [U].as_slice()
         && !closure.is_reflexive(U)
-        && closure.supers(BEGINNING) == [BEGINNING].as_slice()
+        && closure.supers(PREFIX) == [PREFIX].as_slice()
 }
 
 #[test]

@@ -4,18 +4,18 @@ use Rattle.std.specs.Prelude.{IfSome, MatchOption}
 use Rattle.std.proofs.lemmas.List.Elements.{All-nil}
 use Rattle.std.proofs.lemmas.Option.{slice_get_within, slice_get-get_or}
 use Rattle.lemmas.proofs.Members.{Contains-from_slice_get}
-use Rattle.axioms.specs.Numbered.{Ontology, IsClassAt, nothing, individual_name, expression, axiom_trees}
-use Rattle.axioms.specs.WellFormed.{IsOntology}
+use Rattle.axioms.specs.Ontology.{Ontology, IsClassAt, nothing, individual_name, expression, axiom_trees}
+use Rattle.axioms.specs.WellFormedness.{IsOntology}
 use Rattle.interpretation_spec.specs.Interpretation.{Interpretation, IsIn}
 use Rattle.certificate.specs.Certificate.{Sub, Line, Listed, Certificate}
 use Rattle.certificate.specs.Certificate as line
-use Rattle.certificate.specs.HasText.{IsTextOf, IsListedOf}
+use Rattle.certificate.specs.Writability.{IsTextOf, IsListedOf}
 use Rattle.cert_check.specs.Derivation.{IsDerivation, HasLine}
-use Rattle.cert_check.specs.Acceptable.{Agrees, ClaimHolds, LiesBelow, Belongs, IsConsistentShown, IsContradictionShown, IsAcceptable}
+use Rattle.cert_check.specs.Acceptance.{Agrees, ClaimHolds, LiesBelow, Belongs, IsConsistentShown, IsContradictionShown, IsAcceptable}
 use Rattle.normal_forms.specs.Forms.{Whole}
 use Rattle.closure.specs.Closure.{Context, Expression, Individual, In, IsRoot, IsFact}
 use Rattle.closure.proofs.Facts as fact
-use Rattle.exactness.specs.Listed.{IsSatisfiable, IsListedInterpretation, IsConsistent}
+use Rattle.exactness.specs.ListedInterpretation.{IsSatisfiable, IsListedInterpretation, IsConsistent}
 use Rattle.exactness.specs.ListedTheorems.{AreAsked}
 use Rattle.exactness.proofs.Complete.{listed_is_model, answered, individual_at}
 use Rattle.exactness.specs.Acceptance.{AreClaims, AreRelations, AreTextsOfClosure, IsListedFor, ShowsClosure}

@@ -6,8 +6,8 @@ use Rattle.std.proofs.lemmas.Bool.{false_from_ne_true}
 use Rattle.std.proofs.lemmas.List.{length-map}
 use Rattle.std.proofs.lemmas.List.Elements.{All-head, All-contains, All-map, Contains-get_or}
 use Rattle.axioms.specs.Expression.{Named, SomeValues, owl_thing, owl_nothing}
-use Rattle.axioms.specs.Numbered.{Ontology, Axiom, Node, Class, And, Exists, SubClass, EquivalentClasses, DisjointClasses, SubProperty, EquivalentProperties, Domain, Transitive, Reflexive, ClassAssertion, PropertyAssertion, IsPart, thing, nothing, name_at, property_name, individual_name, expression, intersection, axiom_tree, axiom_trees}
-use Rattle.axioms.specs.WellFormed.{IsOntology, IsAxiomOf}
+use Rattle.axioms.specs.Ontology.{Ontology, Axiom, Node, Class, And, Exists, SubClass, EquivalentClasses, DisjointClasses, SubProperty, EquivalentProperties, Domain, Transitive, Reflexive, ClassAssertion, PropertyAssertion, IsPart, thing, nothing, name_at, property_name, individual_name, expression, intersection, axiom_tree, axiom_trees}
+use Rattle.axioms.specs.WellFormedness.{IsOntology, IsAxiomOf}
 use Rattle.axioms.proofs.Trees.{class_tree, and_tree, some_tree, part_before, by_nodes}
 use Rattle.std.specs.Cmp.{both_ways}
 use Rattle.lemmas.proofs.Mapped.{mapped}
@@ -16,10 +16,10 @@ use Rattle.lemmas.proofs.Pairs.{AllPairs-map}
 use Rattle.interpretation_spec.specs.Interpretation.{IsBelow, Interpretation, IsInterpretation, IsModel, IsIn, HasPair, HasPath, Satisfies, IsSame, IsApart, IsSameProperty, IsWithin, IsSubProperty, IsMember, IsContradictory}
 use Rattle.interpretation_spec.proofs.Extensions.{in_intersection, each_of_intersection}
 use Rattle.normal_forms.specs.Forms.{Whole, Property2, Property, IsForm, N5, first_of, first_steps}
-use Rattle.normal_forms.specs.Occurring.{OccursRight, OccursLeft, AtRight, AtLeft}
+use Rattle.normal_forms.specs.Occurrences.{OccursRight, OccursLeft, AtRight, AtLeft}
 use Rattle.closure.specs.Closure.{Context, Expression, Individual, In, Edge, IsAtOrBelow, IsRoot, IsFact}
 use Rattle.closure.proofs.Facts as fact
-use Rattle.exactness.specs.Listed.{IsSatisfiable, HasEdge, IsListedInterpretation, IsConsistent, AgreesWithClosure}
+use Rattle.exactness.specs.ListedInterpretation.{IsSatisfiable, HasEdge, IsListedInterpretation, IsConsistent, AgreesWithClosure}
 use Rattle.exactness.proofs.Operands.{around, IsIn-along, first_of-one, first_of-all, first_steps-one, first_steps-all}
 
 module _ (o : Ontology) (asked : List ℕ) (elements : List Context) (i : Interpretation)
@@ -86,16 +86,16 @@ module _ (o : Ontology) (asked : List ℕ) (elements : List Context) (i : Interp
   abbrev LeftOf : ℕ → Type 0
   LeftOf e = OccursLeft o asked e → (m : ℕ) (x : Context) → At m x → IsIn i (expression o e) m → Has x e
 
-  beginning : (e : ℕ) (ds : List ℕ) (x : Context) → OccursLeft o asked e → slice_get o.nodes e ≡ Some (And ds) → 2 ≤ length ds
+  prefix : (e : ℕ) (ds : List ℕ) (x : Context) → OccursLeft o asked e → slice_get o.nodes e ≡ Some (And ds) → 2 ≤ length ds
       → ((n d : ℕ) → slice_get ds n ≡ Some d → Has x d) → (k : ℕ) → k < length ds → IsFact o asked (In (first_of ds e (k + 1)) x)
-  beginning e ds x occurs h many each zero l =
+  prefix e ds x occurs h many each zero l =
       let e1 : first_of ds e (zero + 1) ≡ Whole (slice_index ds 0) = first_of-one ds e many in
       subst (λ c. IsFact o asked (In c x)) (sym e1) (each 0 (slice_index ds 0) (slice_get-get_or ds 0 0 l))
-  beginning e ds x occurs h many each (suc k) l =
+  prefix e ds x occurs h many each (suc k) l =
       let d = slice_index ds (suc k) in
       let at_d : slice_get ds (suc k) ≡ Some d = slice_get-get_or ds (suc k) 0 l in
       let before : IsFact o asked (In (first_of ds e (suc k)) x) =
-      let P : ℕ → Type 0 = λ n. IsFact o asked (In (first_of ds e n) x) in subst P (add-one k) (beginning e ds x occurs h many each k (omega arith)) in
+      let P : ℕ → Type 0 = λ n. IsFact o asked (In (first_of ds e n) x) in subst P (add-one k) (prefix e ds x occurs h many each k (omega arith)) in
       fact.both (first_of ds e (suc k)) (Whole d) (IsForm.left_and e ds (suc k) d occurs h (omega arith) at_d) before (each (suc k) d at_d)
 
   left_node : (e : ℕ) (node : Node) → slice_get o.nodes e ≡ Some node → ((p : ℕ) → IsPart node p → LeftOf p) → LeftOf e
@@ -110,7 +110,7 @@ module _ (o : Ontology) (asked : List ℕ) (elements : List Context) (i : Interp
       parts d member (OccursLeft.by_part e (And ds) occurs h member) m x at (mapped (λ t. IsIn i t m) (expression o) ds all n d k) in
       let last = length ds - 1 in
       let whole : first_of ds e (last + 1) ≡ Whole e = first_of-all ds e (last + 1) (omega arith) in
-      subst (λ c. IsFact o asked (In c x)) whole (beginning e ds x occurs h many each last (omega arith))
+      subst (λ c. IsFact o asked (In c x)) whole (prefix e ds x occurs h many each last (omega arith))
   left_node e (Exists r c) h parts occurs m x at f =
       let (n, l, pair, f') = IsIn-along i m (SomeValues (property_name o r) (expression o c)) (expression o e) (sym (some_tree o wf e r c h)) f in
       let (y, at_y) = element n l in

@@ -2,14 +2,14 @@
 use Rattle.std.proofs.Common.{◌≡◌, ℕ, zero, suc, ◌<◌, ◌≤◌, ◌↔◌, inl, inr, List, [], ◌∷◌, ◌++◌, map, length, slice_get, take, Option, Some, None, refl, sym, ap, ◌∙◌, subst, arith}
 use Rattle.std.proofs.lemmas.Option.{slice_get_within, same_Some, none-some}
 use Rattle.std.proofs.lemmas.List.{take_all, take-append-le}
-use Rattle.axioms.specs.Numbered.{Ontology}
+use Rattle.axioms.specs.Ontology.{Ontology}
 use Rattle.lemmas.proofs.Places.{slice_get_push, slice_get_push_cases, Keeps, keeps_push, slice_get_take}
 use Rattle.certificate.specs.Certificate.{Conclusion}
 use Rattle.certificate.specs.Certificate.{Line}
 use Rattle.cert_check.specs.Derivation.{IsDerived, IsDerivation, HasLine, at_numbers, prepended_list}
-use Rattle.exactness.specs.Trimmed.{EndsWith}
+use Rattle.exactness.specs.Trimming.{EndsWith}
 use Rattle.axioms.specs.View.{at_number}
-use Rattle.exactness.specs.Derivable.{IsDerivable, AreDerivable, derived, none, more}
+use Rattle.exactness.specs.Derivability.{IsDerivable, AreDerivable, derived, none, more}
 
 -- ---- premises by their numbers
 

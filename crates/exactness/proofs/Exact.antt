@@ -1,7 +1,7 @@
 -- The facts are exactly what follows from the axioms, of named classes, asked expressions and individuals.
 use Rattle.std.proofs.Common.{◌≡◌, ℕ, ◌<◌, ◌↔◌, List, length, slice_get, Some, refl}
-use Rattle.axioms.specs.Numbered.{Ontology, IsClassAt, thing, nothing, individual_name, expression, axiom_trees}
-use Rattle.axioms.specs.WellFormed.{IsOntology}
+use Rattle.axioms.specs.Ontology.{Ontology, IsClassAt, thing, nothing, individual_name, expression, axiom_trees}
+use Rattle.axioms.specs.WellFormedness.{IsOntology}
 use Rattle.interpretation_spec.specs.Interpretation.{IsBelow, Interpretation, IsModel, IsIn, IsMember, IsContradictory}
 use Rattle.interpretation_spec.proofs.Extensions.{in_thing, not_in_nothing}
 use Rattle.certificate.specs.Certificate.{Conclusion, Sub}
@@ -9,15 +9,15 @@ use Rattle.cert_check.specs.Lines.{IsTrueIn, IsOf}
 use Rattle.certificate.specs.Certificate as line
 use Rattle.certificate.specs.Certificate.{Line}
 use Rattle.cert_check.specs.Derivation.{IsDerivation}
-use Rattle.cert_check.specs.Acceptable.{Agrees, ClaimHolds}
+use Rattle.cert_check.specs.Acceptance.{Agrees, ClaimHolds}
 use Rattle.cert_check.proofs.Derivations.{line_true}
 use Rattle.normal_forms.specs.Forms.{Whole}
 use Rattle.closure.specs.Closure.{Context, Expression, Individual, In, IsRoot, IsFact}
 use Rattle.closure.proofs.Facts as fact
-use Rattle.exactness.specs.Listed.{IsListedInterpretation, IsConsistent}
+use Rattle.exactness.specs.ListedInterpretation.{IsListedInterpretation, IsConsistent}
 use Rattle.exactness.specs.ListedTheorems.{AreAsked}
 use Rattle.exactness.proofs.Complete.{listed_is_model, complete_below, complete_types, complete_contradictory, within, answered, individual_at}
-use Rattle.exactness.specs.Derivable.{IsDerivable, subject_of}
+use Rattle.exactness.specs.Derivability.{IsDerivable, subject_of}
 use Rattle.exactness.proofs.Derivable.{HasLine-from_derivable}
 use Rattle.exactness.proofs.Facts.{below_derivable}
 use Rattle.exactness.specs.Theorems.{HaveFacts}

@@ -1,21 +1,21 @@
--- Each fact of the closure is derivable, and no fresh name is left: of a beginning of an intersection each operand, of a beginning of a chain a walk.
+-- Each fact of the closure is derivable, and no fresh name is left: of a prefix of an intersection each operand, of a prefix of a chain a walk.
 use Rattle.std.proofs.Common.{◌≡◌, ℕ, option_map, ◌+◌, ◌<◌, inl, inr, List, [], ◌∷◌, ◌++◌, map, length, slice_get, slice_index, get_or, take, Some, All, Contains, Bool, true, false, ◌==◌, if◌then◌else◌, refl, sym, ap, ◌∙◌, subst, arith, eqb-true}
 use Rattle.std.specs.List.{AllByRecursion}
 use Rattle.std.proofs.lemmas.Option.{slice_get_within, slice_get-map, slice_get-get_or}
 use Rattle.std.proofs.lemmas.List.{take_all}
 use Rattle.std.proofs.lemmas.List.Elements.{All-head, All-tail, All-cons, All-nil, All-push}
-use Rattle.axioms.specs.Numbered.{Ontology, Class, And, SubProperty, nothing}
-use Rattle.axioms.specs.WellFormed.{IsOntology}
+use Rattle.axioms.specs.Ontology.{Ontology, Class, And, SubProperty, nothing}
+use Rattle.axioms.specs.WellFormedness.{IsOntology}
 use Rattle.lemmas.proofs.Members.{Contains-from_slice_get}
 use Rattle.lemmas.proofs.Places.{take_push}
 use Rattle.certificate.specs.Certificate.{Subject, Expression, Individual, Conclusion, Sub, Edge}
 use Rattle.cert_check.specs.Lines.{IsWalk}
 use Rattle.certificate.specs.Certificate.{Line}
-use Rattle.certificate.specs.HasText.{IsSubjectOf}
+use Rattle.certificate.specs.Writability.{IsSubjectOf}
 use Rattle.cert_check.specs.Derivation.{IsDerivation, HasLine}
-use Rattle.normal_forms.specs.Forms.{Class2, Whole, Beginning, Property2, Property, Steps, N1, N2, N3, N4, N5, N6, N7, N8, N9, IsForm, sub_class, equivalent, right_and, left_and, disjoint, right_some, left_some, domain, sub_property, same_property, chain, transitive, reflexive, class_assertion, property_assertion, first_of, first_steps, IsNextInCircle}
+use Rattle.normal_forms.specs.Forms.{Class2, Whole, Prefix, Property2, Property, Steps, N1, N2, N3, N4, N5, N6, N7, N8, N9, IsForm, sub_class, equivalent, right_and, left_and, disjoint, right_some, left_some, domain, sub_property, same_property, chain, transitive, reflexive, class_assertion, property_assertion, first_of, first_steps, IsNextInCircle}
 use Rattle.closure.specs.Closure.{Context, Fact, In, IsAtOrBelow, same, step, IsRoot, named, individual, question, IsContextBy, root, target, Gives, in_thing, in_itself, asserted, asserted_edge, subsumed, both, successor, predecessor, unsatisfiable, chained, loop, IsFact, AreFacts, given}
-use Rattle.exactness.specs.Derivable.{IsDerivable, AreDerivable, none, more, subject_of, ClassIsDerivable, WalkIsDerivable, EdgeIsDerivable, FactIsDerivable}
+use Rattle.exactness.specs.Derivability.{IsDerivable, AreDerivable, none, more, subject_of, ClassIsDerivable, WalkIsDerivable, EdgeIsDerivable, FactIsDerivable}
 use Rattle.exactness.proofs.Derivable.{derivation_from_each}
 use Rattle.exactness.proofs.Rules.{derivable_within, k1, k2, k4_sub, k4_same, k5, k6, k7, k8, k9, k10, k11, k12_sub, k12_same, k13_chain, k13_transitive, k14, k15, k16}
 
@@ -23,13 +23,13 @@ use Rattle.exactness.proofs.Rules.{derivable_within, k1, k2, k4_sub, k4_same, k5
 abbrev Below : Ontology → Subject → ℕ → Type 0
 Below o x d = IsDerivable o (Sub x d)
 
--- ---- beginnings
+-- ---- prefixes
 
 take_one : (xs : List ℕ) (n : ℕ) → n ≡ 1 → n < length xs → take n xs ≡ slice_index xs 0 ∷ []
 take_one [] n e l = absurd (omega arith)
 take_one (x ∷ xs) n e l = rw e
 
--- what holds of the three parts of a beginning holds of it
+-- what holds of the three parts of a prefix holds of it
 at_first : {X : Type 0} (P : X → Type 0) (n l : ℕ) (a b c : X) → (n ≡ l → P a) → (n ≡ 1 → P b) → P c → P (if n == l then a else (if n == 1 then b else c))
 at_first {X} P n l a b c f g h = go (n == l) (n == 1) (eqb-true n l) (eqb-true n 1)
   where
@@ -39,17 +39,17 @@ at_first {X} P n l a b c f g h = go (n == l) (n == 1) (eqb-true n l) (eqb-true n
     go false false p q = h
 
 module _ (o : Ontology) (asked : List ℕ) (h : IsOntology o) where
-  -- the operands that a beginning stands for
-  from_beginning : (x : Subject) (ds : List ℕ) (e n : ℕ) → n < length ds → ClassIsDerivable o x (first_of ds e n) → All (Below o x) (take n ds)
-  from_beginning x ds e n l =
-      at_first (λ c. ClassIsDerivable o x c → All (Below o x) (take n ds)) n (length ds) (Whole e) (Whole (slice_index ds 0)) (Beginning (take n ds))
+  -- the operands that a prefix stands for
+  from_prefix : (x : Subject) (ds : List ℕ) (e n : ℕ) → n < length ds → ClassIsDerivable o x (first_of ds e n) → All (Below o x) (take n ds)
+  from_prefix x ds e n l =
+      at_first (λ c. ClassIsDerivable o x c → All (Below o x) (take n ds)) n (length ds) (Whole e) (Whole (slice_index ds 0)) (Prefix (take n ds))
       (λ k p. absurd (omega arith))
       (λ k p. rw (take_one ds n k l) (All-cons (Below o x) (slice_index ds 0) [] p (All-nil (Below o x))))
       (λ p. p)
 
-  to_beginning : (x : Subject) (ds : List ℕ) (e n : ℕ) → IsSubjectOf o x → slice_get o.nodes e ≡ Some (And ds) → 1 < n → All (Below o x) (take n ds) → ClassIsDerivable o x (first_of ds e n)
-  to_beginning x ds e n l node m ps =
-      at_first (ClassIsDerivable o x) n (length ds) (Whole e) (Whole (slice_index ds 0)) (Beginning (take n ds))
+  to_prefix : (x : Subject) (ds : List ℕ) (e n : ℕ) → IsSubjectOf o x → slice_get o.nodes e ≡ Some (And ds) → 1 < n → All (Below o x) (take n ds) → ClassIsDerivable o x (first_of ds e n)
+  to_prefix x ds e n l node m ps =
+      at_first (ClassIsDerivable o x) n (length ds) (Whole e) (Whole (slice_index ds 0)) (Prefix (take n ds))
       (λ k. k5 o h x e ds l node (rw (← take_all n ds (omega arith)) ps))
       (λ k. absurd (omega arith))
       ps
@@ -57,8 +57,8 @@ module _ (o : Ontology) (asked : List ℕ) (h : IsOntology o) where
   next_operand : (x : Subject) (ds : List ℕ) (e n d : ℕ) → IsSubjectOf o x → slice_get o.nodes e ≡ Some (And ds) → 0 < n → slice_get ds n ≡ Some d → ClassIsDerivable o x (first_of ds e n) → Below o x d → ClassIsDerivable o x (first_of ds e (n + 1))
   next_operand x ds e n d l node m at p q =
       let k : n < length ds = slice_get_within ds n d at in
-      to_beginning x ds e (n + 1) l node (omega arith)
-      (rw (take_push ds n d at) (All-push (Below o x) (take n ds) d (from_beginning x ds e n k p) q))
+      to_prefix x ds e (n + 1) l node (omega arith)
+      (rw (take_push ds n d at) (All-push (Below o x) (take n ds) d (from_prefix x ds e n k p) q))
 
   -- ---- walks
 

@@ -4,15 +4,15 @@ use Rattle.std.specs.Str.{bytes_eq}
 use Rattle.std.proofs.lemmas.Bool.{cases_Bool, cases_order, both_ways}
 use Rattle.std.proofs.lemmas.Option.{same_Some, none-some, slice_get-get_or, slice_get_within, get_or_from_slice_get, unwrap_or-slice_get}
 use Rattle.std.proofs.lemmas.Slice.Eq.{bytes_eq-Decides}
-use Rattle.axioms.specs.Numbered.{Ontology, Class, thing, name_at, property_name, individual_name}
-use Rattle.axioms.specs.WellFormed.{IsOntology}
+use Rattle.axioms.specs.Ontology.{Ontology, Class, thing, name_at, property_name, individual_name}
+use Rattle.axioms.specs.WellFormedness.{IsOntology}
 use Rattle.std.specs.Cmp.{both_ways as same_tests}
 use Rattle.interpretation_spec.specs.Interpretation.{Interpretation}
 use Rattle.interpretation_spec.specs.Agreement.{AgreeOn}
 use Rattle.normal_forms.specs.Forms.{Whole, Property}
 use Rattle.closure.specs.Closure.{Context, Expression, Individual, In, IsRoot, IsFact}
 use Rattle.closure.proofs.Facts as fact
-use Rattle.exactness.specs.Listed.{IsSatisfiable, HasEdge, IsBefore, AreSatisfiableContexts, IsListedInterpretation, IsConsistent}
+use Rattle.exactness.specs.ListedInterpretation.{IsSatisfiable, HasEdge, IsBefore, AreSatisfiableContexts, IsListedInterpretation, IsConsistent}
 use Rattle.exactness.specs.ListedTheorems.{AreTests}
 
 -- the number of a name, or that it has none

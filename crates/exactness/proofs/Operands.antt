@@ -1,4 +1,4 @@
--- What goes round a circle, and the beginnings of intersections and chains.
+-- What goes round a circle, and the prefixes of intersections and chains.
 use Rattle.std.proofs.Common.{◌≡◌, ℕ, zero, suc, ◌+◌, ◌-◌, ◌<◌, ◌≤◌, inl, inr, List, length, slice_get, slice_index, Some, refl, sym, subst, arith, ne_eqb, eq-eqb, add-zero}
 use Rattle.std.proofs.lemmas.Option.{slice_get-get_or, slice_get_within, get_or_from_slice_get}
 use Rattle.axioms.specs.Expression.{ClassExpression}
@@ -35,7 +35,7 @@ module _ (cs : List ℕ) (P : ℕ → Type 0) (step : (c d : ℕ) → IsNextInCi
 pub IsIn-along : (i : Interpretation) (m : ℕ) (c d : ClassExpression) → c ≡ d → IsIn i d m → IsIn i c m
 IsIn-along i m c d e h = subst (λ t. IsIn i t m) (sym e) h
 
--- ---- beginnings
+-- ---- prefixes
 
 pub first_of-one : (ds : List ℕ) (e : ℕ) → 2 ≤ length ds → first_of ds e 1 ≡ Whole (slice_index ds 0)
 first_of-one ds e l = rw (ne_eqb 1 (length ds) (λ h. omega arith)) refl

@@ -2,15 +2,15 @@
 use Rattle.std.proofs.Common.{◌≡◌, ℕ, suc, ◌<◌, List, [], ◌∷◌, map, length, slice_get, Some, None, All, Contains, refl, sym, subst, arith}
 use Rattle.std.proofs.lemmas.Option.{slice_get_within}
 use Rattle.std.proofs.lemmas.List.Elements.{All-contains, All-head, All-tail}
-use Rattle.axioms.specs.Numbered.{Ontology, Axiom, And, Exists, SubClass, EquivalentClasses, DisjointClasses, SubProperty, EquivalentProperties, Domain, Transitive, Reflexive, ClassAssertion, PropertyAssertion, AtTwoPlaces, thing, nothing}
-use Rattle.axioms.specs.WellFormed.{IsOntology, IsAxiomOf}
+use Rattle.axioms.specs.Ontology.{Ontology, Axiom, And, Exists, SubClass, EquivalentClasses, DisjointClasses, SubProperty, EquivalentProperties, Domain, Transitive, Reflexive, ClassAssertion, PropertyAssertion, AtTwoPlaces, thing, nothing}
+use Rattle.axioms.specs.WellFormedness.{IsOntology, IsAxiomOf}
 use Rattle.lemmas.proofs.Members.{slice_get-from_Contains}
 use Rattle.certificate.specs.Certificate.{Subject, Expression, Individual, Conclusion, Sub, Edge}
 use Rattle.certificate.specs.declared.line.Rule.{Rule}
 use Rattle.certificate.specs.declared.line.Rule.TheVariants.{K1, K2, K3, K4, K5, K6, K7, K8, K9, K10, K11, K12, K13, K14, K15, K16}
 use Rattle.cert_check.specs.Lines.{Follows, IsWalk}
-use Rattle.certificate.specs.HasText.{IsSubjectOf, IsConclusionOf}
-use Rattle.exactness.specs.Derivable.{IsDerivable, AreDerivable, derived, none, more}
+use Rattle.certificate.specs.Writability.{IsSubjectOf, IsConclusionOf}
+use Rattle.exactness.specs.Derivability.{IsDerivable, AreDerivable, derived, none, more}
 
 -- ---- what is derivable is in range
 

@@ -5,7 +5,7 @@ use Rattle.std.proofs.lemmas.Bool.{eqb-false, cases_order, cases_lt, false≢tru
 use Rattle.std.proofs.lemmas.List.{take_all, length-map}
 use Rattle.std.proofs.lemmas.List.Elements.{Contains-append_left, Contains-append_right, Contains-append_cases, Contains-push, Contains-push_cases}
 use Rattle.std.specs.List.{list_any}
-use Rattle.axioms.specs.Numbered.{Ontology}
+use Rattle.axioms.specs.Ontology.{Ontology}
 use Rattle.lemmas.proofs.Choices.{one_value}
 use Rattle.lemmas.proofs.Mapped.{slice_get_map, slice_get_map_from, Contains-map}
 use Rattle.lemmas.proofs.Members.{Contains-from_slice_get, slice_get-from_Contains, Contains-first, Contains-one}
@@ -13,11 +13,11 @@ use Rattle.lemmas.proofs.Places.{slice_get_there, slice_get_push_cases, take_pus
 use Rattle.certificate.specs.Certificate.{Conclusion}
 use Rattle.certificate.specs.Certificate.{Line}
 use Rattle.cert_check.specs.Derivation.{IsDerived, IsDerivation, at_numbers}
-use Rattle.exactness.specs.Trimmed.{EndsWith}
-use Rattle.certificate.specs.HasText.{Ascends}
+use Rattle.exactness.specs.Trimming.{EndsWith}
+use Rattle.certificate.specs.Writability.{Ascends}
 use Rattle.axioms.specs.View.{at_number}
-use Rattle.exactness.specs.Derivable.{IsDerivable}
-use Rattle.exactness.specs.Trimmed.{RestsOn, itself, premise, place, renumbered_line, IsTrimmed, EachServes, premises_of, wanted_below, trimmed_numbers, trimmed}
+use Rattle.exactness.specs.Derivability.{IsDerivable}
+use Rattle.exactness.specs.Trimming.{RestsOn, itself, premise, place, renumbered_line, IsTrimmed, EachServes, premises_of, wanted_below, trimmed_numbers, trimmed}
 use Rattle.exactness.proofs.Derivable.{derivation_from_derivable, HasLine-from_ends, prepended_list_parts, at_conclusion, conclusion_at, conclusions}
 
 -- ---- ascending numbers

@@ -1,18 +1,18 @@
 -- What makes texts acceptable: lines that have the closure's facts, the interpretation that it lists, and texts of its relations.
 use Rattle.std.specs.Prelude.{◌≡◌, ℕ, ◌<◌, ◌↔◌, ◌⊎◌, Bool, true, List, [], length, slice_get, Some, MatchOption}
 use Rattle.std.specs.List.{All, Contains}
-use Rattle.axioms.specs.Numbered.{Ontology, IsClassAt, nothing}
-use Rattle.axioms.specs.WellFormed.{IsOntology}
+use Rattle.axioms.specs.Ontology.{Ontology, IsClassAt, nothing}
+use Rattle.axioms.specs.WellFormedness.{IsOntology}
 use Rattle.interpretation_spec.specs.Interpretation.{Interpretation}
 use Rattle.taxonomy.specs.Texts.{taxonomy_text, instances_text}
 use Rattle.certificate.specs.Certificate.{Line, Listed, Certificate}
-use Rattle.certificate.specs.HasText.{IsTextOf}
+use Rattle.certificate.specs.Writability.{IsTextOf}
 use Rattle.cert_check.specs.Derivation.{IsDerivation}
-use Rattle.cert_check.specs.Acceptable.{IsContradictionShown, IsAcceptable}
+use Rattle.cert_check.specs.Acceptance.{IsContradictionShown, IsAcceptable}
 use Rattle.listed_model.specs.Listing.{IsListing}
 use Rattle.closure.specs.Closure.{Context, Expression, Individual, In, IsFact}
 use Rattle.normal_forms.specs.Forms.{Whole}
-use Rattle.exactness.specs.Listed.{IsListedInterpretation, IsConsistent}
+use Rattle.exactness.specs.ListedInterpretation.{IsListedInterpretation, IsConsistent}
 use Rattle.exactness.specs.Theorems.{HaveFacts}
 
 -- each satisfiable named class is claimed, at its own element

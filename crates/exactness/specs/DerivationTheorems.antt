@@ -1,17 +1,17 @@
 -- What is proved of derivations.
 use Rattle.std.specs.Prelude.{◌≡◌, ℕ, ◌↔◌, List, Some}
 use Rattle.std.specs.List.{All}
-use Rattle.axioms.specs.Numbered.{Ontology}
-use Rattle.axioms.specs.WellFormed.{IsOntology}
+use Rattle.axioms.specs.Ontology.{Ontology}
+use Rattle.axioms.specs.WellFormedness.{IsOntology}
 use Rattle.certificate.specs.Certificate.{Conclusion, Sub}
 use Rattle.certificate.specs.Certificate.{Line}
 use Rattle.cert_check.specs.Derivation.{IsDerivation, HasLine}
-use Rattle.exactness.specs.Trimmed.{EndsWith}
+use Rattle.exactness.specs.Trimming.{EndsWith}
 use Rattle.axioms.specs.View.{at_number}
 use Rattle.normal_forms.specs.Forms.{Whole}
 use Rattle.closure.specs.Closure.{Context, Fact, In, IsFact}
-use Rattle.exactness.specs.Derivable.{IsDerivable, FactIsDerivable, subject_of}
-use Rattle.exactness.specs.Trimmed.{IsTrimmed, EachServes, trimmed}
+use Rattle.exactness.specs.Derivability.{IsDerivable, FactIsDerivable, subject_of}
+use Rattle.exactness.specs.Trimming.{IsTrimmed, EachServes, trimmed}
 
 -- what is derivable is what some derivation has
 abbrev pub DerivableHasDerivation : Type 0

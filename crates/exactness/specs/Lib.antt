@@ -1,7 +1,7 @@
 pub mod Theorems
 pub mod Acceptance
-pub mod Listed
+pub mod ListedInterpretation
 pub mod ListedTheorems
-pub mod Derivable
-pub mod Trimmed
+pub mod Derivability
+pub mod Trimming
 pub mod DerivationTheorems

@@ -1,13 +1,13 @@
 -- What is proved of the interpretation that the closure lists.
 use Rattle.std.specs.Prelude.{◌≡◌, ℕ, ◌<◌, ◌↔◌, Bool, List, length, true}
 use Rattle.std.specs.List.{All}
-use Rattle.axioms.specs.Numbered.{Ontology, nothing, expression, individual_name, axiom_trees}
-use Rattle.axioms.specs.WellFormed.{IsOntology}
+use Rattle.axioms.specs.Ontology.{Ontology, nothing, expression, individual_name, axiom_trees}
+use Rattle.axioms.specs.WellFormedness.{IsOntology}
 use Rattle.interpretation_spec.specs.Interpretation.{IsBelow, Interpretation, IsModel, IsMember}
 use Rattle.interpretation_spec.specs.Agreement.{AgreeOn}
 use Rattle.normal_forms.specs.Forms.{Whole, Property}
 use Rattle.closure.specs.Closure.{Context, Expression, Individual, In, IsRoot, IsFact}
-use Rattle.exactness.specs.Listed.{HasEdge, AreSatisfiableContexts, IsListedInterpretation, IsConsistent, AgreesWithClosure}
+use Rattle.exactness.specs.ListedInterpretation.{HasEdge, AreSatisfiableContexts, IsListedInterpretation, IsConsistent, AgreesWithClosure}
 
 -- the expressions that are asked about are there
 abbrev pub AreAsked : Ontology → List ℕ → Type 0

@@ -1,18 +1,18 @@
 -- The closure has exactly what follows from the axioms, and what it lists meets what a certificate claims.
 use Rattle.std.specs.Prelude.{◌≡◌, ℕ, ◌<◌, ◌↔◌, List, length, slice_get, Some}
-use Rattle.axioms.specs.Numbered.{Ontology, IsClassAt, thing, nothing, expression, individual_name, axiom_trees}
-use Rattle.axioms.specs.WellFormed.{IsOntology}
+use Rattle.axioms.specs.Ontology.{Ontology, IsClassAt, thing, nothing, expression, individual_name, axiom_trees}
+use Rattle.axioms.specs.WellFormedness.{IsOntology}
 use Rattle.interpretation_spec.specs.Interpretation.{IsBelow, Interpretation, IsMember, IsContradictory}
 use Rattle.certificate.specs.Certificate.{Sub}
 use Rattle.certificate.specs.Certificate as line
 use Rattle.certificate.specs.Certificate.{Line}
 use Rattle.cert_check.specs.Derivation.{IsDerivation, HasLine}
-use Rattle.cert_check.specs.Acceptable.{Agrees, ClaimHolds}
+use Rattle.cert_check.specs.Acceptance.{Agrees, ClaimHolds}
 use Rattle.normal_forms.specs.Forms.{Whole}
 use Rattle.closure.specs.Closure.{Context, Expression, Individual, In, IsRoot, IsFact}
-use Rattle.exactness.specs.Listed.{IsListedInterpretation, IsConsistent}
+use Rattle.exactness.specs.ListedInterpretation.{IsListedInterpretation, IsConsistent}
 use Rattle.exactness.specs.ListedTheorems.{AreAsked}
-use Rattle.exactness.specs.Derivable.{subject_of}
+use Rattle.exactness.specs.Derivability.{subject_of}
 
 -- a fact says what holds in every finite interpretation of the axioms
 abbrev pub FactsFollow : Type 0

@@ -4,25 +4,25 @@ use Rattle.std.proofs.lemmas.Bool.{false≢true}
 use Rattle.std.proofs.lemmas.List.{length-append}
 use Rattle.std.proofs.lemmas.Option.{none-some, slice_get_within}
 use Rattle.std.specs.List.{Contains}
-use Rattle.axioms.specs.Numbered.{Ontology}
+use Rattle.axioms.specs.Ontology.{Ontology}
 use Rattle.cert_check.specs.Derivation.{IsDerivation}
 use Rattle.certificate.specs.Certificate.{Line}
-use Rattle.engine.specs.Saturated.{Saturated, IsSaturated}
+use Rattle.engine.specs.Saturations.{Saturated, IsSaturated}
 use Rattle.explain.proofs.Below.{from_next, rests_below}
 use Rattle.explain.proofs.Saying.{wanted_line}
 use Rattle.explain.specs.Marks.{IsMarked, AreClosed, EachIsCalledFor, IsShown, IsWantedFact, ServesLater}
-use Rattle.explain.specs.Needed.{IsWanted, EachIsNeeded}
-use Rattle.explain.specs.ShownInOrder.{IsAwaited, IsShowing}
+use Rattle.explain.specs.Needs.{IsWanted, EachIsNeeded}
+use Rattle.explain.specs.LineOrder.{IsAwaited, IsShowing}
 use Rattle.explain.proofs.Growing.{showing_grown}
-use Rattle.explain.specs.Older.{AreOlderShown}
-use Rattle.explain.specs.Serving.{IsPremise, RestsOn, EachIsUsed}
-use Rattle.explain.specs.Shown.{AreShowing, Lengthens}
+use Rattle.explain.specs.OlderFacts.{AreOlderShown}
+use Rattle.explain.specs.Uses.{IsPremise, RestsOn, EachIsUsed}
+use Rattle.explain.specs.LinesOfFacts.{AreShowing, Lengthens}
 use Rattle.facts.specs.declared.contexts.Fact.{Fact}
 use Rattle.lemmas.proofs.Choices.{one_value}
 use Rattle.lemmas.proofs.Members.{Contains-none, Contains-one}
 use Rattle.lemmas.proofs.Places.{slice_get_there}
 use Rattle.number_sets.specs.Pieces.{list_at}
-use Rattle.normalise.specs.Problem.{beginnings_of}
+use Rattle.normalise.specs.Problem.{prefixes_of}
 
 -- ---- lists that grow
 
@@ -97,7 +97,7 @@ showing_not o s marks lines shown unmarked h = record { derivation = h.derivatio
     other : (n : ℕ) → IsMarked marks n → n ≡ length shown → ⊥
     other n marked e = false≢true (one_value (slice_get marks (length shown)) false true unmarked (subst (IsMarked marks) e marked))
 
-    each : (n : ℕ) (f : Fact) → n < length (shown ++ [] ∷ []) → IsMarked marks n → slice_get s.state.facts n ≡ Some f → AreShowing (beginnings_of s.normal) lines (list_at (shown ++ [] ∷ []) n) f
+    each : (n : ℕ) (f : Fact) → n < length (shown ++ [] ∷ []) → IsMarked marks n → slice_get s.state.facts n ≡ Some f → AreShowing (prefixes_of s.normal) lines (list_at (shown ++ [] ∷ []) n) f
     each n f l marked at = elim (before_or_last shown [] n l) [
       | inl k ↦ rw (list_at_kept shown [] n k) (h.each n f k marked at)
       | inr e ↦ absurd (other n marked e)
@@ -119,20 +119,20 @@ showing_not o s marks lines shown unmarked h = record { derivation = h.derivatio
 module _ (o : Ontology) (s : Saturated) (marks : List Bool) (old new : List Line) (shown : List (List ℕ)) (numbers : List ℕ) (f : Fact)
     (at_f : slice_get s.state.facts (length shown) ≡ Some f) (marked : IsMarked marks (length shown)) (called_for : EachIsCalledFor o s marks)
     (h : IsShowing o s marks old shown) (derivation : IsDerivation o new) (g : Lengthens old new)
-    (shows : AreShowing (beginnings_of s.normal) new numbers f) (used : EachIsUsed s shown (length shown) old new numbers) where
+    (shows : AreShowing (prefixes_of s.normal) new numbers f) (used : EachIsUsed s shown (length shown) old new numbers) where
   abbrev Goal : ℕ → Line → Type 0
   Goal n line = IsWanted o line.conclusion ⊎ (IsPremise new n ⊎ IsAwaited s marks (shown ++ numbers ∷ []) n)
 
-  each_shown : (n : ℕ) (e : Fact) → n < length (shown ++ numbers ∷ []) → IsMarked marks n → slice_get s.state.facts n ≡ Some e → AreShowing (beginnings_of s.normal) new (list_at (shown ++ numbers ∷ []) n) e
+  each_shown : (n : ℕ) (e : Fact) → n < length (shown ++ numbers ∷ []) → IsMarked marks n → slice_get s.state.facts n ≡ Some e → AreShowing (prefixes_of s.normal) new (list_at (shown ++ numbers ∷ []) n) e
   each_shown n e l m at = elim (before_or_last shown numbers n l) [
     | inl k ↦ rw (list_at_kept shown numbers n k) (showing_grown g (h.each n e k m at))
     | inr is ↦ this is
   ]
     where
-      this : n ≡ length shown → AreShowing (beginnings_of s.normal) new (list_at (shown ++ numbers ∷ []) n) e
+      this : n ≡ length shown → AreShowing (prefixes_of s.normal) new (list_at (shown ++ numbers ∷ []) n) e
       this is =
           let same : f ≡ e = one_value (slice_get s.state.facts n) f e (subst (λ k. slice_get s.state.facts k ≡ Some f) (sym is) at_f) at in
-          rw (is, list_at_last shown numbers) (subst (AreShowing (beginnings_of s.normal) new numbers) same shows)
+          rw (is, list_at_last shown numbers) (subst (AreShowing (prefixes_of s.normal) new numbers) same shows)
 
   -- a line that shows the fact
   of_number : (n : ℕ) (line : Line) → slice_get new n ≡ Some line → Contains numbers (suc n) → Goal n line
@@ -140,7 +140,7 @@ module _ (o : Ontology) (s : Saturated) (marks : List Bool) (old new : List Line
     where
       wanted : IsWantedFact o f → IsWanted o line.conclusion
       wanted w =
-          let l = wanted_line o (beginnings_of s.normal) new numbers f w shows in
+          let l = wanted_line o (prefixes_of s.normal) new numbers f w shows in
           let number : suc l.place ≡ suc n = Contains-one (suc l.place) (suc n) (subst (λ ns. Contains ns (suc n)) l.number_is c) in
           let same : l.line ≡ line = one_value (slice_get new n) l.line line (subst (λ k. slice_get new k ≡ Some l.line) (omega (arith, number)) l.there) at in
           subst (λ (x : Line). IsWanted o x.conclusion) same l.wanted
@@ -193,6 +193,6 @@ all_needed o s marks lines shown long h n line at = elim (h.needed n line at) [
     over : IsAwaited s marks shown n → ⊥
     over a = omega (arith, slice_get_within marks a.later true a.marked, a.to_come, long)
 
-pub all_shown : (o : Ontology) (s : Saturated) (marks : List Bool) (lines : List Line) (shown : List (List ℕ)) → length marks ≡ length shown → IsShowing o s marks lines shown → (n : ℕ) (f : Fact) → IsMarked marks n → slice_get s.state.facts n ≡ Some f → IsShown (beginnings_of s.normal) lines f
+pub all_shown : (o : Ontology) (s : Saturated) (marks : List Bool) (lines : List Line) (shown : List (List ℕ)) → length marks ≡ length shown → IsShowing o s marks lines shown → (n : ℕ) (f : Fact) → IsMarked marks n → slice_get s.state.facts n ≡ Some f → IsShown (prefixes_of s.normal) lines f
 all_shown o s marks lines shown long h n f marked at =
     (list_at shown n, h.each n f (omega (arith, long, slice_get_within marks n true marked)) marked at)

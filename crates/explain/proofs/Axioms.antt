@@ -1,24 +1,24 @@
--- What the form of an axiom leads to: a line by the axiom's rule, or the lines that show a beginning.
+-- What the form of an axiom leads to: a line by the axiom's rule, or the lines that show a prefix.
 use Rattle.std.proofs.Common.{◌≡◌, ℕ, ◌+◌, ◌<◌, inl, inr, List, [], ◌∷◌, ◌++◌, length, slice_get, slice_index, take, Option, Some, None, Contains, refl, sym, ap, ◌∙◌, subst, arith}
 use Rattle.std.proofs.lemmas.List.{take_all}
 use Rattle.std.proofs.lemmas.Option.{slice_get_within}
 use Rattle.lemmas.proofs.Members.{Contains-from_slice_get}
 use Rattle.lemmas.proofs.Places.{take_push}
-use Rattle.axioms.specs.Numbered.{Ontology, Axiom, SubClass, EquivalentClasses, DisjointClasses, SubProperty, EquivalentProperties, Domain, Transitive, Reflexive, ClassAssertion, PropertyAssertion}
+use Rattle.axioms.specs.Ontology.{Ontology, Axiom, SubClass, EquivalentClasses, DisjointClasses, SubProperty, EquivalentProperties, Domain, Transitive, Reflexive, ClassAssertion, PropertyAssertion}
 use Rattle.axioms.specs.declared.ids.ExprId.{ExprId}
 use Rattle.axioms.specs.declared.ids.PropId.{PropId}
 use Rattle.certificate.specs.Certificate.{Subject, Conclusion, Sub, Line}
 use Rattle.certificate.specs.Certificate as line
 use Rattle.cert_check.specs.Derivation.{at_numbers}
 use Rattle.cert_check.specs.Lines.{IsWalk, Follows}
-use Rattle.closure.specs.Said.{Beginnings, whole, SaysProperty, property, steps, SaysForm, n1, n2, n4, n5, n6, n7, n8, n9}
+use Rattle.closure.specs.Denotations.{Prefixes, whole, SaysProperty, property, steps, SaysForm, n1, n2, n4, n5, n6, n7, n8, n9}
 use Rattle.exactness.proofs.Derivable.{conclusions}
-use Rattle.explain.proofs.Beginnings.{take_one, at_first}
+use Rattle.explain.proofs.Prefixes.{take_one, at_first}
 use Rattle.explain.proofs.Births.{TakesByAxiom}
 use Rattle.explain.proofs.Conclusions.{class_shown, edge_shown, property_shown, showing_edge, one_shown, two_shown, both_conclude}
 use Rattle.explain.specs.AxiomRule.{axiom_rule}
 use Rattle.explain.specs.Premises.{AreShowingEach, taken}
-use Rattle.explain.specs.Shown.{AreShowing, steps_of}
+use Rattle.explain.specs.LinesOfFacts.{AreShowing, steps_of}
 use Rattle.explain.specs.Step.{subject_in, said_by}
 use Rattle.facts.specs.Closure.{Problem}
 use Rattle.facts.specs.declared.contexts.Context.{Context}
@@ -31,7 +31,7 @@ use Rattle.normal_forms.specs.declared.forms.Form as code_form
 use Rattle.normal_forms.specs.declared.forms.PropId2.{PropId2}
 use Rattle.normal_forms.specs.declared.forms.PropId2.TheVariants as properties
 use Rattle.normal_forms.specs.Forms.{Whole, Property, Steps, Property2, Form, N1, N2, N4, N5, N6, N7, N8, N9, first_steps}
-use Rattle.normal_forms.specs.Given.{AxiomGives, CircleGives}
+use Rattle.normal_forms.specs.Origins.{AxiomGives, CircleGives}
 
 -- ---- chains
 
@@ -59,12 +59,12 @@ in_circle make cs n g (c, d, at, next, is) = (
   elim next [ inl k ↦ Contains-from_slice_get cs (n + 1) d k | inr k ↦ Contains-from_slice_get cs 0 d k.1 ],
 )
 
-module _ (o : Ontology) (b : Beginnings) (k : Problem) (lines : List Line) (numbers : List ℕ) where
+module _ (o : Ontology) (b : Prefixes) (k : Problem) (lines : List Line) (numbers : List ℕ) where
   -- the lines of the numbers conclude these
   abbrev Conclude : List Conclusion → Type 0
   Conclude cs = at_numbers (conclusions lines) numbers ≡ Some cs
 
-  -- from them the axiom's rule leads to what the fact says; a fact of a beginning they show
+  -- from them the axiom's rule leads to what the fact says; a fact of a prefix they show
   abbrev pub Lead : Axiom → Option Conclusion → Fact → Type 0
   Lead a None f = AreShowing b lines numbers f
   Lead a (Some c) f = (cs : List Conclusion) × Conclude cs × Follows o (axiom_rule a) cs (Some a) c
@@ -133,14 +133,14 @@ module _ (o : Ontology) (b : Beginnings) (k : Problem) (lines : List Line) (numb
       at_first (λ (p : Property2). SaysProperty b t p → Lead (SubProperty rs s) (said_by (Edge x t z)) (Edge x t z)) (n + 1) (length rs) (Property s) (Property (slice_index rs 0)) (Steps (take (n + 1) rs))
       (λ e. whole_chain t (omega arith) (subst (λ ps. IsWalk (subject_in x) ps (subject_in z) cs) (take_all (n + 1) rs (omega arith)) is_walk))
       (λ e. absurd (omega arith))
-      (beginning_of_chain t)
+      (prefix_of_chain t)
       says
     where
       whole_chain : (t : PropId2) → 1 < length rs → IsWalk (subject_in x) rs (subject_in z) cs → SaysProperty b t (Property s) → Lead (SubProperty rs s) (said_by (Edge x t z)) (Edge x t z)
       whole_chain _ many walk (property is) = (cs, at, (many, walk, sym is))
 
-      beginning_of_chain : (t : PropId2) → SaysProperty b t (Steps (take (n + 1) rs)) → Lead (SubProperty rs s) (said_by (Edge x t z)) (Edge x t z)
-      beginning_of_chain _ (steps is) = showing_edge cs (steps is) at is_walk
+      prefix_of_chain : (t : PropId2) → SaysProperty b t (Steps (take (n + 1) rs)) → Lead (SubProperty rs s) (said_by (Edge x t z)) (Edge x t z)
+      prefix_of_chain _ (steps is) = showing_edge cs (steps is) at is_walk
 
   chain_leads : (rs : List ℕ) (s n r : ℕ) (form : code_form.Form) → 0 < n → slice_get rs n ≡ Some r → SaysForm b form (N6 (first_steps rs (Property s) n) (Property r) (first_steps rs (Property s) (n + 1))) → (older : List Fact) (f : Fact) → Given form older f → Lead (SubProperty rs s) (said_by f) f
   chain_leads rs s n r form low at_n says older f given =

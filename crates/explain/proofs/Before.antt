@@ -1,12 +1,12 @@
 -- Premises of a derivation stand before.
 use Rattle.std.proofs.Common.{◌≡◌, ℕ, zero, suc, ◌<◌, ◌≤◌, List, length, Some, arith}
-use Rattle.axioms.specs.Numbered.{Ontology}
+use Rattle.axioms.specs.Ontology.{Ontology}
 use Rattle.axioms.specs.View.{at_number}
 use Rattle.certificate.specs.Certificate.{Line}
 use Rattle.cert_check.specs.Derivation.{IsDerivation}
 use Rattle.exactness.proofs.Trimmed.{premise_before}
 use Rattle.lemmas.proofs.Places.{slice_get_there}
-use Rattle.explain.specs.Resting.{ArePremisesBefore}
+use Rattle.explain.specs.LineMarks.{ArePremisesBefore}
 
 pub premises_before : (o : Ontology) (lines : List Line) → IsDerivation o lines → ArePremisesBefore lines
 premises_before o lines d n m line e c =

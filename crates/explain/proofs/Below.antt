@@ -2,10 +2,10 @@
 use Rattle.std.proofs.Common.{◌≡◌, ℕ, zero, suc, ◌+◌, ◌<◌, ◌≤◌, ◌⊎◌, ◌↔◌, inl, inr, List, [], ◌∷◌, length, map, take, slice_get, Some, Bool, true, false, if◌then◌else◌, ◌||◌, ◌&&◌, ◌==◌, refl, sym, ap, ◌∙◌, subst, arith}
 use Rattle.std.proofs.lemmas.Bool.{false≢true}
 use Rattle.std.specs.List.{Contains}
-use Rattle.engine.specs.Saturated.{Saturated}
+use Rattle.engine.specs.Saturations.{Saturated}
 use Rattle.explain.specs.Marks.{IsMarked, ServesLater}
-use Rattle.explain.specs.Older.{rests_on, by_axiom}
-use Rattle.explain.specs.Serving.{RestsOn}
+use Rattle.explain.specs.OlderFacts.{rests_on, by_axiom}
+use Rattle.explain.specs.Uses.{RestsOn}
 use Rattle.facts.specs.Births.{Reason, IsBirth}
 use Rattle.facts.specs.declared.contexts.Fact.{Fact}
 use Rattle.lemmas.proofs.Choices.{one_value}

@@ -4,11 +4,11 @@ use Rattle.std.proofs.lemmas.List.{take-map}
 use Rattle.std.proofs.lemmas.Option.{same_Some, none-some, slice_get_within}
 use Rattle.lemmas.proofs.Members.{Contains-none, Contains-cons_cases}
 use Rattle.lemmas.proofs.Places.{slice_get_take}
-use Rattle.axioms.specs.Numbered.{Ontology}
+use Rattle.axioms.specs.Ontology.{Ontology}
 use Rattle.axioms.specs.declared.ids.PropId.{PropId}
-use Rattle.engine.specs.Saturated.{Saturated, IsSaturated}
-use Rattle.explain.specs.Older.{rests_on, by_axiom, is_by_axiom, is_axiom}
-use Rattle.explain.specs.Premises.{LeadUp, LeadsUp, first_property, second_property}
+use Rattle.engine.specs.Saturations.{Saturated, IsSaturated}
+use Rattle.explain.specs.OlderFacts.{rests_on, by_axiom, is_by_axiom, is_axiom}
+use Rattle.explain.specs.Premises.{LiftTo, LiftsTo, first_property, second_property}
 use Rattle.facts.specs.Births.{Reason}
 use Rattle.facts.specs.Closure.{Problem, Gives, in_thing, in_itself, by_form, unsatisfiable, loop, Concludes, IsLoop, condition}
 use Rattle.facts.specs.declared.contexts.Context.{Context}
@@ -134,14 +134,14 @@ module _ (k : Problem) (facts : List Fact) (entries : List Entry) (m : ℕ) (by 
       subst (λ (p : Option ℕ). Taken 10 numbers p form f) (sym e)
       (subst (λ g. Taken 10 numbers (Some m) g f) (same_form e at_n there) (looped_by numbers x form' f is))
 
--- ---- which facts are there, and which edges are led up
+-- ---- which facts are there, and which edges are lifted
 
-pub none_named : (forms : List Form) (form : Form) (older : List Fact) → first_property form ≡ None → second_property form ≡ None → LeadUp forms form older
+pub none_named : (forms : List Form) (form : Form) (older : List Fact) → first_property form ≡ None → second_property form ≡ None → LiftTo forms form older
 none_named forms form [] e h = tt
-none_named forms form (f ∷ []) e h = subst (λ p. LeadsUp forms p f) (sym e) tt
-none_named forms form (f ∷ g ∷ more) e h = (subst (λ p. LeadsUp forms p f) (sym e) tt, subst (λ p. LeadsUp forms p g) (sym h) tt)
+none_named forms form (f ∷ []) e h = subst (λ p. LiftsTo forms p f) (sym e) tt
+none_named forms form (f ∷ g ∷ more) e h = (subst (λ p. LiftsTo forms p f) (sym e) tt, subst (λ p. LiftsTo forms p g) (sym h) tt)
 
-pub by_chain : (k : Problem) (r s t : PropId2) (older : List Fact) (f : Fact) → Concludes k (N6 r s t) older f → LeadUp k.forms (N6 r s t) older
+pub by_chain : (k : Problem) (r s t : PropId2) (older : List Fact) (f : Fact) → Concludes k (N6 r s t) older f → LiftTo k.forms (N6 r s t) older
 by_chain k r s t [] f c = tt
 by_chain k r s t (g ∷ []) f c = absurd c
 by_chain k r s t (In _ _ ∷ h ∷ []) f c = absurd c
@@ -149,11 +149,11 @@ by_chain k r s t (Edge _ _ _ ∷ In _ _ ∷ []) f c = absurd c
 by_chain k r s t (Edge x p y ∷ Edge z q w ∷ []) f c = (c.0, c.1)
 by_chain k r s t (g ∷ h ∷ i ∷ more) f c = absurd c
 
-takes_lead_up : (k : Problem) (form : Form) (older : List Fact) (f : Fact) → TakesByAxiom k form older f → LeadUp k.forms form older
+takes_lead_up : (k : Problem) (form : Form) (older : List Fact) (f : Fact) → TakesByAxiom k form older f → LiftTo k.forms form older
 takes_lead_up k (N1 a b) older f t = none_named k.forms (N1 a b) older refl refl
 takes_lead_up k (N2 a b d) older f t = none_named k.forms (N2 a b d) older refl refl
 takes_lead_up k (N3 a r b) older f t = none_named k.forms (N3 a r b) older refl refl
-takes_lead_up k (N4 r a b) older f (x, q, y, e, below, is) = subst (LeadUp k.forms (N4 r a b)) (sym e) below
+takes_lead_up k (N4 r a b) older f (x, q, y, e, below, is) = subst (LiftTo k.forms (N4 r a b)) (sym e) below
 takes_lead_up k (N5 r s) older f t = absurd t
 takes_lead_up k (N6 r s t) older f takes = by_chain k r s t older f takes
 takes_lead_up k (N7 r) older f t = none_named k.forms (N7 r) older refl refl
@@ -198,7 +198,7 @@ module _ (o : Ontology) (s : Saturated) (saturated : IsSaturated o s) (n : ℕ) 
       let t = taken_by_axiom form f at there in
       each_there s.state.facts (rests_on s.normal.entries r) t.older p t.at rests
 
-  pub rests_lead_up : (form : Form) (f : Fact) → slice_get s.state.problem.forms m ≡ Some form → slice_get s.state.facts n ≡ Some f → (fs : List Fact) → map (slice_get s.state.facts) (rests_on s.normal.entries r) ≡ map Some fs → LeadUp s.state.problem.forms form fs
+  pub rests_lead_up : (form : Form) (f : Fact) → slice_get s.state.problem.forms m ≡ Some form → slice_get s.state.facts n ≡ Some f → (fs : List Fact) → map (slice_get s.state.facts) (rests_on s.normal.entries r) ≡ map Some fs → LiftTo s.state.problem.forms form fs
   rests_lead_up form f at there fs at_fs =
       let t = taken_by_axiom form f at there in
-      subst (LeadUp s.state.problem.forms form) (same_each t.older fs (sym t.at ∙ at_fs)) (takes_lead_up s.state.problem form t.older f t.takes)
+      subst (LiftTo s.state.problem.forms form) (same_each t.older fs (sym t.at ∙ at_fs)) (takes_lead_up s.state.problem form t.older f t.takes)

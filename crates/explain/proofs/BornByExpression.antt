@@ -3,16 +3,16 @@ use Rattle.std.proofs.Common.{◌≡◌, ℕ, ◌<◌, List, [], ◌∷◌, map,
 use Rattle.std.proofs.lemmas.List.{length-map}
 use Rattle.std.proofs.lemmas.Option.{same_Some, none-some}
 use Rattle.lemmas.proofs.Places.{slice_get_there}
-use Rattle.axioms.specs.Numbered.{Ontology}
-use Rattle.axioms.specs.WellFormed.{IsOntology}
+use Rattle.axioms.specs.Ontology.{Ontology}
+use Rattle.axioms.specs.WellFormedness.{IsOntology}
 use Rattle.axioms.specs.declared.ids.ExprId.{ExprId}
 use Rattle.certificate.specs.Certificate.{Line}
-use Rattle.engine.specs.Saturated.{Saturated, IsSaturated}
+use Rattle.engine.specs.Saturations.{Saturated, IsSaturated}
 use Rattle.explain.proofs.Births.{born_by, same_each, each_there, none_named}
 use Rattle.explain.proofs.ByExpression.{IsOfExpression, expression_kind, expression_leads, leads_to}
 use Rattle.explain.proofs.Within.{fact_within, form_said, form_there}
-use Rattle.explain.specs.Older.{rests_on, by_axiom, is_by_axiom, is_axiom}
-use Rattle.explain.specs.Premises.{AreShowingEach, LeadUp, taken}
+use Rattle.explain.specs.OlderFacts.{rests_on, by_axiom, is_by_axiom, is_axiom}
+use Rattle.explain.specs.Premises.{AreShowingEach, LiftTo, taken}
 use Rattle.explain.specs.Step.{LeadTo, expression_rule}
 use Rattle.facts.specs.Births.{Reason}
 use Rattle.facts.specs.Closure.{Problem, Gives, in_thing, in_itself, by_form, unsatisfiable, loop, Concludes, IsLoop, condition}
@@ -22,10 +22,10 @@ use Rattle.facts.specs.declared.contexts.Fact.TheVariants.{In, Edge}
 use Rattle.normal_forms.specs.declared.forms.Form.{Form}
 use Rattle.normal_forms.specs.declared.forms.Form.TheVariants.{N1, N2, N3, N4, N5, N6, N7, N8, N9}
 use Rattle.normal_forms.specs.declared.forms.Origin.TheVariants as origins
-use Rattle.normal_forms.specs.Given.{GivenBy}
+use Rattle.normal_forms.specs.Origins.{GivenBy}
 use Rattle.normalise.specs.Entries.{form_in, origin_in}
 use Rattle.normalise.specs.declared.entries.Entry.{Entry}
-use Rattle.normalise.specs.Problem.{beginnings_of}
+use Rattle.normalise.specs.Problem.{prefixes_of}
 
 -- the facts give this one by the form, and its line rests on them all
 pub record IsGivenBy (k : Problem) (entries : List Entry) (r : Reason) (form : Form) (older : List Fact) (f : Fact) : Type 0 where
@@ -72,31 +72,31 @@ module _ (k : Problem) (entries : List Entry) (m : ℕ) (by : by_axiom entries (
   given_by {f = f} numbers form (loop x n form' at_n is by') e there kind =
       absurd (no_loop x form f kind (subst (λ g. IsLoop x g f) (same_form e at_n there) is))
 
--- each edge is led up to the property of the form
-leads_up : (k : Problem) (form : Form) (older : List Fact) (f : Fact) → IsOfExpression form → Concludes k form older f → LeadUp k.forms form older
-leads_up k (N1 a b) older f kind c = none_named k.forms (N1 a b) older refl refl
-leads_up k (N2 a b d) older f kind c = none_named k.forms (N2 a b d) older refl refl
-leads_up k (N3 a r b) older f kind c = none_named k.forms (N3 a r b) older refl refl
-leads_up k (N4 r a b) [] f kind c = tt
-leads_up k (N4 r a b) (g ∷ []) f kind c = absurd c
-leads_up k (N4 r a b) (In _ _ ∷ h ∷ []) f kind c = absurd c
-leads_up k (N4 r a b) (Edge _ _ _ ∷ Edge _ _ _ ∷ []) f kind c = absurd c
-leads_up k (N4 r a b) (Edge x q y ∷ In d z ∷ []) f kind c = (c.0, tt)
-leads_up k (N4 r a b) (g ∷ h ∷ i ∷ more) f kind c = absurd c
-leads_up k (N5 r s) older f kind c = absurd kind
-leads_up k (N6 r s t) older f kind c = absurd kind
-leads_up k (N7 r) older f kind c = absurd kind
-leads_up k (N8 i a) older f kind c = absurd kind
-leads_up k (N9 i r j) older f kind c = absurd kind
+-- each edge is lifted to the property of the form
+lifts : (k : Problem) (form : Form) (older : List Fact) (f : Fact) → IsOfExpression form → Concludes k form older f → LiftTo k.forms form older
+lifts k (N1 a b) older f kind c = none_named k.forms (N1 a b) older refl refl
+lifts k (N2 a b d) older f kind c = none_named k.forms (N2 a b d) older refl refl
+lifts k (N3 a r b) older f kind c = none_named k.forms (N3 a r b) older refl refl
+lifts k (N4 r a b) [] f kind c = tt
+lifts k (N4 r a b) (g ∷ []) f kind c = absurd c
+lifts k (N4 r a b) (In _ _ ∷ h ∷ []) f kind c = absurd c
+lifts k (N4 r a b) (Edge _ _ _ ∷ Edge _ _ _ ∷ []) f kind c = absurd c
+lifts k (N4 r a b) (Edge x q y ∷ In d z ∷ []) f kind c = (c.0, tt)
+lifts k (N4 r a b) (g ∷ h ∷ i ∷ more) f kind c = absurd c
+lifts k (N5 r s) older f kind c = absurd kind
+lifts k (N6 r s t) older f kind c = absurd kind
+lifts k (N7 r) older f kind c = absurd kind
+lifts k (N8 i a) older f kind c = absurd kind
+lifts k (N9 i r j) older f kind c = absurd kind
 
 -- what is known of a fact that the form of an expression gave
 pub record IsBornByExpression (o : Ontology) (s : Saturated) (r : Reason) (form : Form) (f : Fact) : Type 0 where
   -- its line rests on all older facts that gave it
   pub rests : rests_on s.normal.entries r ≡ r.older
   pub there : (p : ℕ) → Contains r.older p → p < length s.state.facts
-  pub lead_up : (fs : List Fact) → map (slice_get s.state.facts) r.older ≡ map Some fs → LeadUp s.state.problem.forms form fs
+  pub lift : (fs : List Fact) → map (slice_get s.state.facts) r.older ≡ map Some fs → LiftTo s.state.problem.forms form fs
   -- lines that show these lead to it
-  pub lead_to : (lines : List Line) (numbers : List ℕ) → ((fs : List Fact) → map (slice_get s.state.facts) r.older ≡ map Some fs → AreShowingEach (beginnings_of s.normal) lines numbers (taken form fs)) → LeadTo o (beginnings_of s.normal) lines (expression_rule form) None numbers f
+  pub lead_to : (lines : List Line) (numbers : List ℕ) → ((fs : List Fact) → map (slice_get s.state.facts) r.older ≡ map Some fs → AreShowingEach (prefixes_of s.normal) lines numbers (taken form fs)) → LeadTo o (prefixes_of s.normal) lines (expression_rule form) None numbers f
 
 is_by_expression : (e : ExprId) (entry : Option Entry) → option_map origin_in entry ≡ Some (origins.Expr e) → is_by_axiom entry ≡ false
 is_by_expression e None h = absurd (none-some (origins.Expr e) h)
@@ -105,7 +105,7 @@ is_by_expression e (Some entry) h = ap is_axiom (same_Some entry.origin (origins
 module _ (o : Ontology) (s : Saturated) (w : IsOntology o) (saturated : IsSaturated o s) (n : ℕ) (r : Reason) (born : slice_get s.state.births n ≡ Some r) (f : Fact) (there : slice_get s.state.facts n ≡ Some f) where
   born_at : (m : ℕ) (e : ExprId) (form : Form) → r.form ≡ Some m → option_map origin_in (slice_get s.normal.entries m) ≡ Some (origins.Expr e) → slice_get (map form_in s.normal.entries) m ≡ Some form → IsBornByExpression o s r form f
   born_at m e form place origin at_entries =
-      let b = beginnings_of s.normal in
+      let b = prefixes_of s.normal in
       let at = subst (λ (fs : List Form). slice_get fs m ≡ Some form) (sym saturated.forms) at_entries in
       let (g, says, given) = form_said o s.normal m form (origins.Expr e) saturated.normal at_entries origin in
       let gives = subst (λ (asked : List ℕ). GivenBy o asked (origins.Expr e) g) saturated.asked given in
@@ -115,7 +115,7 @@ module _ (o : Ontology) (s : Saturated) (w : IsOntology o) (saturated : IsSatura
       record {
         rests = is.rests;
         there = λ p member. each_there s.state.facts r.older older p at_older member;
-        lead_up = λ fs at_fs. subst (LeadUp s.state.problem.forms form) (same_each older fs (sym at_older ∙ at_fs)) (leads_up s.state.problem form older f kind is.concludes);
+        lift = λ fs at_fs. subst (LiftTo s.state.problem.forms form) (same_each older fs (sym at_older ∙ at_fs)) (lifts s.state.problem form older f kind is.concludes);
         lead_to = λ lines numbers shown. leads_to o b s.state.problem lines numbers (expression_rule form) f (λ c e. fact_within o s n f c w saturated there e)
             (expression_leads o b s.state.problem lines numbers e form g says gives older f is.concludes (shown older at_older));
       }

@@ -1,23 +1,23 @@
--- What the form of an expression leads to: a line by K5, K6, K8 or K9, or the lines that show a beginning.
+-- What the form of an expression leads to: a line by K5, K6, K8 or K9, or the lines that show a prefix.
 use Rattle.std.proofs.Common.{◌≡◌, ℕ, ◌+◌, ◌<◌, inl, inr, List, [], ◌∷◌, ◌++◌, length, map, slice_get, slice_index, take, Option, Some, None, Contains, refl, sym, ap, ap₂, ◌∙◌, subst, arith}
 use Rattle.std.proofs.lemmas.List.{take_all, map-append}
 use Rattle.std.proofs.lemmas.Option.{same_Some, none-some, slice_get_within}
 use Rattle.lemmas.proofs.Places.{take_push}
-use Rattle.axioms.specs.Numbered.{Ontology, Node, Class, And, Exists}
+use Rattle.axioms.specs.Ontology.{Ontology, Node, Class, And, Exists}
 use Rattle.axioms.specs.declared.ids.ExprId.{ExprId}
 use Rattle.certificate.specs.Certificate.{Conclusion, Sub, Line}
 use Rattle.certificate.specs.Certificate as line
-use Rattle.certificate.specs.HasText.{IsConclusionOf}
+use Rattle.certificate.specs.Writability.{IsConclusionOf}
 use Rattle.certificate.specs.declared.line.Rule.{Rule}
 use Rattle.certificate.specs.declared.line.Rule.TheVariants.{K5, K6, K8, K9}
 use Rattle.cert_check.specs.Derivation.{at_numbers}
 use Rattle.cert_check.specs.Lines.{Follows}
-use Rattle.closure.specs.Said.{Beginnings, SaysClass, whole, beginning, property, SaysForm, n1, n2, n3, n4}
+use Rattle.closure.specs.Denotations.{Prefixes, SaysClass, whole, prefix, property, SaysForm, n1, n2, n3, n4}
 use Rattle.exactness.proofs.Derivable.{conclusions}
-use Rattle.explain.proofs.Beginnings.{take_one, at_first}
+use Rattle.explain.proofs.Prefixes.{take_one, at_first}
 use Rattle.explain.proofs.Conclusions.{class_shown, property_shown, showing_class, one_shown, two_shown, both_conclude}
 use Rattle.explain.specs.Premises.{AreShowingEach, taken}
-use Rattle.explain.specs.Shown.{AreShowing, operands_of}
+use Rattle.explain.specs.LinesOfFacts.{AreShowing, operands_of}
 use Rattle.explain.specs.Step.{subject_in, said_by, LeadTo, expression_rule}
 use Rattle.facts.specs.Closure.{Problem, Concludes}
 use Rattle.facts.specs.declared.contexts.Context.{Context}
@@ -26,15 +26,15 @@ use Rattle.facts.specs.declared.contexts.Fact.TheVariants.{In, Edge}
 use Rattle.normal_forms.specs.declared.forms.Class2 as code_class
 use Rattle.normal_forms.specs.declared.forms.Form as code_form
 use Rattle.normal_forms.specs.declared.forms.Origin.TheVariants as origins
-use Rattle.normal_forms.specs.Forms.{Class2, Whole, Beginning, Form, N1, N2, N3, N4, first_of}
-use Rattle.normal_forms.specs.Given.{RightGives, LeftGives, GivenBy}
+use Rattle.normal_forms.specs.Forms.{Class2, Whole, Prefix, Form, N1, N2, N3, N4, first_of}
+use Rattle.normal_forms.specs.Origins.{RightGives, LeftGives, GivenBy}
 
--- ---- beginnings of intersections
+-- ---- prefixes of intersections
 
 -- the operands before one
 operands_before : (ds : List ℕ) (e n : ℕ) → n < length ds → operands_of (first_of ds e n) ≡ take n ds
 operands_before ds e n l =
-    at_first (λ (c : Class2). operands_of c ≡ take n ds) n (length ds) (Whole e) (Whole (slice_index ds 0)) (Beginning (take n ds))
+    at_first (λ (c : Class2). operands_of c ≡ take n ds) n (length ds) (Whole e) (Whole (slice_index ds 0)) (Prefix (take n ds))
     (λ k. absurd (omega arith))
     (λ k. take_one ds n k l)
     refl
@@ -55,19 +55,19 @@ IsOfExpression (code_form.TheVariants.N7 _) = ⊥
 IsOfExpression (code_form.TheVariants.N8 _ _) = ⊥
 IsOfExpression (code_form.TheVariants.N9 _ _ _) = ⊥
 
--- what a line says of a whole class in a context, and of a beginning
-said_whole : {b : Beginnings} {c : code_class.Class2} {d : ℕ} (x : Context) → SaysClass b c (Whole d) → said_by (In c x) ≡ Some (Sub (subject_in x) d)
+-- what a line says of a whole class in a context, and of a prefix
+said_whole : {b : Prefixes} {c : code_class.Class2} {d : ℕ} (x : Context) → SaysClass b c (Whole d) → said_by (In c x) ≡ Some (Sub (subject_in x) d)
 said_whole x (whole is) = ap (λ n. Some (Sub (subject_in x) n)) is
 
-said_beginning : {b : Beginnings} {c : code_class.Class2} {ds : List ℕ} (x : Context) → SaysClass b c (Beginning ds) → said_by (In c x) ≡ None
-said_beginning x (beginning is) = refl
+said_prefix : {b : Prefixes} {c : code_class.Class2} {ds : List ℕ} (x : Context) → SaysClass b c (Prefix ds) → said_by (In c x) ≡ None
+said_prefix x (prefix is) = refl
 
-module _ (o : Ontology) (b : Beginnings) (k : Problem) (lines : List Line) (numbers : List ℕ) where
+module _ (o : Ontology) (b : Prefixes) (k : Problem) (lines : List Line) (numbers : List ℕ) where
   -- the lines of the numbers conclude these
   abbrev Conclude : List Conclusion → Type 0
   Conclude cs = at_numbers (conclusions lines) numbers ≡ Some cs
 
-  -- from them the rule leads to what the fact says; a fact of a beginning they show
+  -- from them the rule leads to what the fact says; a fact of a prefix they show
   abbrev pub Lead : Rule → Option Conclusion → Fact → Type 0
   Lead rule None f = AreShowing b lines numbers f
   Lead rule (Some c) f = (cs : List Conclusion) × Conclude cs × Follows o rule cs None c
@@ -93,12 +93,12 @@ module _ (o : Ontology) (b : Beginnings) (k : Problem) (lines : List Line) (numb
   next_operand : (e n d : ℕ) (ds : List ℕ) (c : code_class.Class2) (x : Context) → slice_get o.nodes e ≡ Some (And ds) → 0 < n → slice_get ds n ≡ Some d → SaysClass b c (first_of ds e (n + 1)) → Conclude (map (Sub (subject_in x)) (take (n + 1) ds)) → Lead K5 (said_by (In c x)) (In c x)
   next_operand e n d ds c x node low at_n says at =
       let l : n < length ds = slice_get_within ds n d at_n in
-      at_first (λ (a : Class2). SaysClass b c a → Lead K5 (said_by (In c x)) (In c x)) (n + 1) (length ds) (Whole e) (Whole (slice_index ds 0)) (Beginning (take (n + 1) ds))
+      at_first (λ (a : Class2). SaysClass b c a → Lead K5 (said_by (In c x)) (In c x)) (n + 1) (length ds) (Whole e) (Whole (slice_index ds 0)) (Prefix (take (n + 1) ds))
       (λ k says_whole. (
       let all : take (n + 1) ds ≡ ds = take_all (n + 1) ds (omega arith) in
       rw (said_whole x says_whole) (map (Sub (subject_in x)) ds, rw (← all) at, (ds, node, refl))))
       (λ k. absurd (omega arith))
-      (λ says_beginning. rw (said_beginning x says_beginning) (showing_class says_beginning at))
+      (λ says_prefix. rw (said_prefix x says_prefix) (showing_class says_prefix at))
       says
 
   left_and_leads : (e n d : ℕ) (ds : List ℕ) (form : code_form.Form) → slice_get o.nodes e ≡ Some (And ds) → 0 < n → slice_get ds n ≡ Some d → SaysForm b form (N2 (first_of ds e n) (Whole d) (first_of ds e (n + 1))) → (older : List Fact) (f : Fact) → Given form older f → Lead (expression_rule form) (said_by f) f
@@ -166,7 +166,7 @@ module _ (o : Ontology) (b : Beginnings) (k : Problem) (lines : List Line) (numb
   leads_to rule f within = go (said_by f) refl
     where
       go : (said : Option Conclusion) → said_by f ≡ said → Lead rule said f → LeadTo o b lines rule None numbers f
-      go None is shown = record { line = λ c e. absurd (none-some c (sym is ∙ e)); beginning = λ e. shown }
+      go None is shown = record { line = λ c e. absurd (none-some c (sym is ∙ e)); prefix = λ e. shown }
       go (Some c) is (cs, at, follows) = record {
         line = λ d e. (
             let same : c ≡ d = same_Some c d (sym is ∙ e) in
@@ -176,15 +176,15 @@ module _ (o : Ontology) (b : Beginnings) (k : Problem) (lines : List Line) (numb
               premises_at = at;
               follows = subst (λ z. Follows o rule cs None z) same follows;
             });
-        beginning = λ e. absurd (none-some c (sym e ∙ is));
+        prefix = λ e. absurd (none-some c (sym e ∙ is));
       }
 
-pub same_rule : {o : Ontology} {b : Beginnings} {lines : List Line} {rule rule' : Rule} {axiom' : Option ℕ} {numbers : List ℕ} {f : Fact} → rule' ≡ rule → LeadTo o b lines rule axiom' numbers f → LeadTo o b lines rule' axiom' numbers f
+pub same_rule : {o : Ontology} {b : Prefixes} {lines : List Line} {rule rule' : Rule} {axiom' : Option ℕ} {numbers : List ℕ} {f : Fact} → rule' ≡ rule → LeadTo o b lines rule axiom' numbers f → LeadTo o b lines rule' axiom' numbers f
 same_rule {o} {b} {lines} {axiom' = axiom'} {numbers = numbers} {f = f} is leads = subst (λ r. LeadTo o b lines r axiom' numbers f) (sym is) leads
 
 -- ---- the kinds of forms
 
-right_kind : (b : Beginnings) (e : ℕ) (node : Node) (form : code_form.Form) (g : Form) → SaysForm b form g → RightGives e node g → IsOfExpression form
+right_kind : (b : Prefixes) (e : ℕ) (node : Node) (form : code_form.Form) (g : Form) → SaysForm b form g → RightGives e node g → IsOfExpression form
 right_kind b e (Class c) form g says gives = absurd gives
 right_kind b e (And ds) form g says (d, member, is) = go (subst (SaysForm b form) is says)
   where
@@ -195,7 +195,7 @@ right_kind b e (Exists r c) form g says is = go (subst (SaysForm b form) is says
     go : {form : code_form.Form} → SaysForm b form (N3 (Whole e) r c) → IsOfExpression form
     go (n3 says_a says_r says_c) = tt
 
-left_kind : (b : Beginnings) (e : ℕ) (node : Node) (form : code_form.Form) (g : Form) → SaysForm b form g → LeftGives e node g → IsOfExpression form
+left_kind : (b : Prefixes) (e : ℕ) (node : Node) (form : code_form.Form) (g : Form) → SaysForm b form g → LeftGives e node g → IsOfExpression form
 left_kind b e (Class c) form g says gives = absurd gives
 left_kind b e (And ds) form g says (n, (d, low, at_n, is)) = go (subst (SaysForm b form) is says)
   where
@@ -206,7 +206,7 @@ left_kind b e (Exists r c) form g says is = go (subst (SaysForm b form) is says)
     go : {form : code_form.Form} → SaysForm b form (N4 r (Whole c) (Whole e)) → IsOfExpression form
     go (n4 says_r says_a says_c) = tt
 
-pub expression_kind : (o : Ontology) (b : Beginnings) (e : ExprId) (form : code_form.Form) (g : Form) → SaysForm b form g → GivenBy o [] (origins.Expr e) g → IsOfExpression form
+pub expression_kind : (o : Ontology) (b : Prefixes) (e : ExprId) (form : code_form.Form) (g : Form) → SaysForm b form g → GivenBy o [] (origins.Expr e) g → IsOfExpression form
 expression_kind o b e form g says (node, at, gives) = elim gives [
   | inl right ↦ right_kind b e.0 node form g says right.1
   | inr left ↦ left_kind b e.0 node form g says left.1

@@ -7,12 +7,12 @@ use Rattle.certificate.specs.Certificate as line
 use Rattle.cert_check.specs.Derivation.{at_numbers}
 use Rattle.cert_check.specs.Lines.{IsWalk}
 use Rattle.closure.specs.Closure.{Context, Expression, Individual, Fact, In, Edge}
-use Rattle.closure.specs.Said.{Beginnings, SaysClass, whole, beginning, SaysProperty, property, steps, SaysContext, expression, individual, SaysFact, in_context, edge}
+use Rattle.closure.specs.Denotations.{Prefixes, SaysClass, whole, prefix, SaysProperty, property, steps, SaysContext, expression, individual, SaysFact, in_context, edge}
 use Rattle.exactness.proofs.Derivable.{conclusions}
-use Rattle.exactness.specs.Derivable.{subject_of}
+use Rattle.exactness.specs.Derivability.{subject_of}
 use Rattle.explain.proofs.Growing.{at_numbers_joined}
 use Rattle.explain.specs.Premises.{AreShowingEach}
-use Rattle.explain.specs.Shown.{operands_of, steps_of, IsShownBy, AreShowing}
+use Rattle.explain.specs.LinesOfFacts.{operands_of, steps_of, IsShownBy, AreShowing}
 use Rattle.explain.specs.Step.{subject_in, said_by}
 use Rattle.facts.specs.declared.contexts.Context as code_context
 use Rattle.facts.specs.declared.contexts.Context.TheVariants as contexts
@@ -22,15 +22,15 @@ use Rattle.normal_forms.specs.declared.forms.Class2 as code_class
 use Rattle.normal_forms.specs.declared.forms.Class2.TheVariants as classes
 use Rattle.normal_forms.specs.declared.forms.PropId2 as code_property
 use Rattle.normal_forms.specs.declared.forms.PropId2.TheVariants as properties
-use Rattle.normal_forms.specs.Forms.{Class2, Whole, Beginning, Property2, Property, Steps}
+use Rattle.normal_forms.specs.Forms.{Class2, Whole, Prefix, Property2, Property, Steps}
 
 -- ---- what is said is one thing
 
-pub one_class : {b : Beginnings} {a : code_class.Class2} {c d : Class2} → SaysClass b a c → SaysClass b a d → c ≡ d
+pub one_class : {b : Prefixes} {a : code_class.Class2} {c d : Class2} → SaysClass b a c → SaysClass b a d → c ≡ d
 one_class (whole h) (whole k) = ap Whole (sym h ∙ k)
-one_class (beginning h) (beginning k) = ap Beginning (same_Some _ _ (sym h ∙ k))
+one_class (prefix h) (prefix k) = ap Prefix (same_Some _ _ (sym h ∙ k))
 
-pub one_property : {b : Beginnings} {p : code_property.PropId2} {r s : Property2} → SaysProperty b p r → SaysProperty b p s → r ≡ s
+pub one_property : {b : Prefixes} {p : code_property.PropId2} {r s : Property2} → SaysProperty b p r → SaysProperty b p s → r ≡ s
 one_property (property h) (property k) = ap Property (sym h ∙ k)
 one_property (steps h) (steps k) = ap Steps (same_Some _ _ (sym h ∙ k))
 
@@ -51,7 +51,7 @@ one_step x r y [] w = absurd w
 one_step x r y (c ∷ []) (z, is, end) = ap (λ d. d ∷ []) (is ∙ ap (line.Edge x r) end)
 one_step x r y (c ∷ d ∷ cs) (z, is, end) = absurd end
 
-module _ {b : Beginnings} where
+module _ {b : Prefixes} where
   class_says : {a : code_class.Class2} {c : Class2} {x : code_context.Context} → SaysClass b a c → (fact : Fact) → SaysFact b (facts.In a x) fact → (cs : List Conclusion) → IsShownBy fact cs → cs ≡ map (Sub (subject_in x)) (operands_of c)
   class_says {c = c} {x = x} says _ (in_context {a' = d} {x' = y} s t) cs shown =
       shown

@@ -2,27 +2,27 @@
 use Rattle.std.proofs.Common.{◌≡◌, ℕ, ◌<◌, List, [], ◌∷◌, ◌++◌, length, map, slice_get, get_or, Option, Some, None, Bool, true, false, ◌==◌, if◌then◌else◌, Contains, refl, sym, ap, ◌∙◌, subst, arith, eqb-true}
 use Rattle.std.proofs.lemmas.Option.{same_Some, none-some}
 use Rattle.lemmas.proofs.Members.{Contains-first, Contains-later}
-use Rattle.axioms.specs.Numbered.{Ontology}
-use Rattle.axioms.specs.WellFormed.{IsOntology}
+use Rattle.axioms.specs.Ontology.{Ontology}
+use Rattle.axioms.specs.WellFormedness.{IsOntology}
 use Rattle.axioms.specs.View.{at_number}
 use Rattle.axioms.specs.declared.ids.ExprId.{ExprId}
 use Rattle.certificate.specs.Certificate.{Expression, Conclusion, Sub, Line}
 use Rattle.certificate.specs.declared.line.Rule.TheVariants.{K1, K2}
 use Rattle.cert_check.specs.Derivation.{at_numbers}
 use Rattle.cert_check.specs.Lines.{Follows, IsWalk}
-use Rattle.closure.specs.Said.{Beginnings, SaysFact, edge, whole}
+use Rattle.closure.specs.Denotations.{Prefixes, SaysFact, edge, whole}
 use Rattle.closure.specs.Closure as definition
 use Rattle.exactness.proofs.Derivable.{conclusions}
-use Rattle.engine.specs.Saturated.{Saturated, IsSaturated}
+use Rattle.engine.specs.Saturations.{Saturated, IsSaturated}
 use Rattle.explain.proofs.Births.{born_by, heads, tails}
 use Rattle.explain.proofs.Conclusions.{class_shown, edge_shown, showing_line}
 use Rattle.explain.proofs.Used.{one_given, shows_those, used_from}
 use Rattle.explain.proofs.Walking.{alone}
 use Rattle.explain.proofs.Within.{fact_within}
 use Rattle.explain.specs.ContextRule.{context_rule}
-use Rattle.explain.specs.Older.{AreOlderShown, rests_on}
-use Rattle.explain.specs.Serving.{EachIsUsed, IsAmong, IsAmongThose, ShowsOlder, Uses}
-use Rattle.explain.specs.Shown.{AreShowing, steps_of}
+use Rattle.explain.specs.OlderFacts.{AreOlderShown, rests_on}
+use Rattle.explain.specs.Uses.{EachIsUsed, IsAmong, IsAmongThose, ShowsOlder, Uses}
+use Rattle.explain.specs.LinesOfFacts.{AreShowing, steps_of}
 use Rattle.explain.specs.Step.{LeadTo, said_by, subject_in}
 use Rattle.explain.specs.Walks.{LeadsToNothing}
 use Rattle.facts.specs.Births.{Reason, numbers_of}
@@ -39,7 +39,7 @@ use Rattle.normal_forms.specs.declared.forms.Form.{Form}
 use Rattle.normal_forms.specs.declared.forms.Form.TheVariants.{N1, N2, N3, N4, N5, N6, N7, N8, N9}
 use Rattle.normal_forms.specs.declared.forms.PropId2.{PropId2}
 use Rattle.number_sets.specs.Pieces.{list_at}
-use Rattle.normalise.specs.Problem.{beginnings_of}
+use Rattle.normalise.specs.Problem.{prefixes_of}
 
 -- ---- what gave the fact
 
@@ -115,13 +115,13 @@ condition_of_context k (loop x n form at is by) e h = absurd (none-some n (sym e
 condition_of_context k (unsatisfiable back) e h = absurd (h refl)
 
 -- an edge is shown by a walk
-walk_said : {b : Beginnings} {lines : List Line} {ns : List ℕ} {x y : Context} {r : PropId2} (g : definition.Fact) → SaysFact b (Edge x r y) g → AreShowing b lines ns (Edge x r y)
+walk_said : {b : Prefixes} {lines : List Line} {ns : List ℕ} {x y : Context} {r : PropId2} (g : definition.Fact) → SaysFact b (Edge x r y) g → AreShowing b lines ns (Edge x r y)
     → (rs : List ℕ) × (cs : List Conclusion) × (at_numbers (conclusions lines) ns ≡ Some cs) × IsWalk (subject_in x) rs (subject_in y) cs
 walk_said g (edge {r' = r'} says_x says_r says_y) shown =
     let (cs, at, is_walk) = edge_shown says_r shown in
     (steps_of r', cs, at, is_walk)
 
-walk_of_edge : {b : Beginnings} {lines : List Line} {ns : List ℕ} {x y : Context} {r : PropId2} → AreShowing b lines ns (Edge x r y) → (rs : List ℕ) × (cs : List Conclusion) × (at_numbers (conclusions lines) ns ≡ Some cs) × IsWalk (subject_in x) rs (subject_in y) cs
+walk_of_edge : {b : Prefixes} {lines : List Line} {ns : List ℕ} {x y : Context} {r : PropId2} → AreShowing b lines ns (Edge x r y) → (rs : List ℕ) × (cs : List Conclusion) × (at_numbers (conclusions lines) ns ≡ Some cs) × IsWalk (subject_in x) rs (subject_in y) cs
 walk_of_edge shown = walk_said shown.fact shown.says shown
 
 -- two facts gave it, where two are there
@@ -138,7 +138,7 @@ module _ (o : Ontology) (s : Saturated) (saturated : IsSaturated o s) (n : ℕ) 
       let (older, at, gives) = born_by o s n r f saturated born there in
       gives_form s.state.problem m gives place
 
-  pub context_leads : IsOntology o → r.form ≡ None → (r.condition ≡ 8 → ⊥) → (lines : List Line) → LeadTo o (beginnings_of s.normal) lines (context_rule f) None [] f
+  pub context_leads : IsOntology o → r.form ≡ None → (r.condition ≡ 8 → ⊥) → (lines : List Line) → LeadTo o (prefixes_of s.normal) lines (context_rule f) None [] f
   context_leads w place other lines =
       let (older, at, gives) = born_by o s n r f saturated born there in
       let (d, said, follows) = gives_of_context o s.state.problem gives place other in
@@ -149,7 +149,7 @@ module _ (o : Ontology) (s : Saturated) (saturated : IsSaturated o s) (n : ℕ) 
           premises_at = refl;
           follows = subst (Follows o (context_rule f) [] None) (same_Some d c (sym said ∙ is)) follows;
         };
-        beginning = λ is. absurd (none-some d (sym is ∙ said));
+        prefix = λ is. absurd (none-some d (sym is ∙ said));
       }
 
   -- of a context nothing is taken
@@ -179,7 +179,7 @@ module _ (o : Ontology) (s : Saturated) (saturated : IsSaturated o s) (n : ℕ) 
         let c = is_carried eight in
         ap (map (slice_get s.state.facts)) (sym two) ∙ c.at ∙ ap (map Some) c.carries.older_are
 
-    older_shown : (m : ℕ) (g : Fact) → Contains (e ∷ d ∷ []) m → slice_get s.state.facts m ≡ Some g → AreShowing (beginnings_of s.normal) lines (list_at shown m) g
+    older_shown : (m : ℕ) (g : Fact) → Contains (e ∷ d ∷ []) m → slice_get s.state.facts m ≡ Some g → AreShowing (prefixes_of s.normal) lines (list_at shown m) g
     older_shown m g in_two at = shows r born m (subst (λ ns. Contains ns m) (sym (rests_on_all eight ∙ two)) in_two) g at
 
     edge_walk : let c = is_carried eight in (rs : List ℕ) × (cs : List Conclusion) × (at_numbers (conclusions lines) (list_at shown e) ≡ Some cs) × IsWalk (subject_in c.carries.source) rs (subject_in c.carries.target) cs
@@ -211,10 +211,10 @@ module _ (o : Ontology) (s : Saturated) (saturated : IsSaturated o s) (n : ℕ) 
           at_end = subst (λ ns. at_number (conclusions lines) (get_or ns 0 0) ≡ Some (Sub (subject_in c.carries.target) 1)) (sym (ends_are ∙ only)) at;
         }
 
-    pub carried_shown : (new : List Line) (number : ℕ) (numbers : List ℕ) → at_number (conclusions new) number ≡ Some (Sub (subject_in (is_carried eight).carries.source) 1) → numbers ≡ number ∷ [] → AreShowing (beginnings_of s.normal) new numbers f
+    pub carried_shown : (new : List Line) (number : ℕ) (numbers : List ℕ) → at_number (conclusions new) number ≡ Some (Sub (subject_in (is_carried eight).carries.source) 1) → numbers ≡ number ∷ [] → AreShowing (prefixes_of s.normal) new numbers f
     carried_shown new number numbers at are =
         let c = is_carried eight in
-        subst (λ ns. AreShowing (beginnings_of s.normal) new ns f) (sym are)
+        subst (λ ns. AreShowing (prefixes_of s.normal) new ns f) (sym are)
         (showing_line f (Sub (subject_in c.carries.source) 1) (ap said_by c.carries.is) (rw (at) refl))
 
     pub carried_used : (new : List Line) (walk ends : List ℕ) (number : ℕ) (numbers : List ℕ) → walk ≡ list_at shown e → ends ≡ list_at shown d → numbers ≡ number ∷ []

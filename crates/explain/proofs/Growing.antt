@@ -1,6 +1,6 @@
 -- How derivations grow: what is shown stays shown, numbers one behind the other show conclusions one behind the other, and the number of the last line shows its conclusion.
 use Rattle.std.proofs.Common.{◌≡◌, ℕ, zero, suc, List, [], ◌∷◌, ◌++◌, length, slice_get, Some, refl, sym, ap, ◌∙◌, subst, arith}
-use Rattle.axioms.specs.Numbered.{Ontology}
+use Rattle.axioms.specs.Ontology.{Ontology}
 use Rattle.std.proofs.lemmas.List.{append_assoc, append-nil, map-append, length-append, length-map}
 use Rattle.std.proofs.lemmas.Option.{none-some}
 use Rattle.axioms.specs.View.{at_number}
@@ -8,11 +8,11 @@ use Rattle.certificate.specs.Certificate.{Conclusion, Line}
 use Rattle.certificate.specs.View.{line_of, lines_of}
 use Rattle.certificate.specs.declared.line.Line as code
 use Rattle.cert_check.specs.Derivation.{IsDerivation, IsDerived, at_numbers}
-use Rattle.closure.specs.Said.{Beginnings}
+use Rattle.closure.specs.Denotations.{Prefixes}
 use Rattle.exactness.proofs.Derivable.{conclusions, derivation_push, prepended_list_parts}
-use Rattle.engine.specs.Saturated.{Saturated}
-use Rattle.explain.specs.Older.{AreOlderShown}
-use Rattle.explain.specs.Shown.{AreShowing, Lengthens}
+use Rattle.engine.specs.Saturations.{Saturated}
+use Rattle.explain.specs.OlderFacts.{AreOlderShown}
+use Rattle.explain.specs.LinesOfFacts.{AreShowing, Lengthens}
 use Rattle.facts.specs.declared.contexts.Fact.{Fact}
 use Rattle.lemmas.proofs.Places.{slice_get_push}
 
@@ -88,7 +88,7 @@ derivation_pushed o old new line e derivation derived = subst (IsDerivation o) (
 
 -- ---- facts
 
-pub showing_grown : {b : Beginnings} {old new : List Line} {numbers : List ℕ} {f : Fact} → Lengthens old new → AreShowing b old numbers f → AreShowing b new numbers f
+pub showing_grown : {b : Prefixes} {old new : List Line} {numbers : List ℕ} {f : Fact} → Lengthens old new → AreShowing b old numbers f → AreShowing b new numbers f
 showing_grown {numbers = numbers} g s = record {
   fact = s.fact;
   says = s.says;

@@ -5,12 +5,12 @@ use Rattle.std.proofs.lemmas.Option.{slice_get_within, slice_get-get_or}
 use Rattle.std.specs.Prelude.{slice_index_or}
 use Rattle.std.specs.List.{Contains}
 use Rattle.certificate.specs.Certificate.{Line}
-use Rattle.exactness.specs.Trimmed.{RestsOn, itself, premise}
+use Rattle.exactness.specs.Trimming.{RestsOn, itself, premise}
 use Rattle.lemmas.proofs.Choices.{one_value}
 use Rattle.lemmas.proofs.Members.{Contains-from_slice_get}
 use Rattle.lemmas.proofs.Places.{take_push}
 use Rattle.std.proofs.lemmas.List.Elements.{Contains-append_left, Contains-push, Contains-push_cases}
-use Rattle.explain.specs.Resting.{IsMarked, ArePremisesBefore, ArePremisesMarked, MarksRests}
+use Rattle.explain.specs.LineMarks.{IsMarked, ArePremisesBefore, ArePremisesMarked, MarksRests}
 
 -- what marked lines from the k-th on have as premises is marked, and the goal rests on whatever is marked
 pub record AreHandedOn (lines : List Line) (first marks : List Bool) (k : ℕ) : Type 0 where

@@ -3,31 +3,31 @@ use Rattle.std.proofs.Common.{◌≡◌, ℕ, ◌<◌, List, length, map, slice_
 use Rattle.std.proofs.lemmas.Option.{same_Some, slice_get-get_or, slice_get_within}
 use Rattle.lemmas.proofs.Mapped.{slice_get_map}
 use Rattle.lemmas.proofs.Places.{slice_get_there}
-use Rattle.axioms.specs.Numbered.{Ontology, Axiom}
-use Rattle.axioms.specs.WellFormed.{IsOntology}
+use Rattle.axioms.specs.Ontology.{Ontology, Axiom}
+use Rattle.axioms.specs.WellFormedness.{IsOntology}
 use Rattle.axioms.specs.View.{at_number}
 use Rattle.certificate.specs.Certificate.{Conclusion, Line}
 use Rattle.cert_check.specs.Derivation.{IsDerived}
 use Rattle.cert_check.specs.Lines.{Follows}
-use Rattle.closure.specs.Said.{SaysForm}
-use Rattle.engine.specs.Saturated.{Saturated, IsSaturated}
+use Rattle.closure.specs.Denotations.{SaysForm}
+use Rattle.engine.specs.Saturations.{Saturated, IsSaturated}
 use Rattle.explain.proofs.Axioms.{axiom_leads, Lead}
 use Rattle.explain.proofs.Births.{taken_by_axiom}
 use Rattle.explain.proofs.Within.{fact_within, axiom_number_within, form_said, form_there}
 use Rattle.explain.specs.AxiomRule.{axiom_rule}
-use Rattle.explain.specs.Older.{rests_on}
+use Rattle.explain.specs.OlderFacts.{rests_on}
 use Rattle.explain.specs.Premises.{AreShowingEach, taken}
 use Rattle.explain.specs.Step.{LeadTo, said_by}
 use Rattle.facts.specs.Births.{Reason}
 use Rattle.facts.specs.declared.contexts.Fact.{Fact}
 use Rattle.normal_forms.specs.Forms as definition
-use Rattle.normal_forms.specs.Given.{AxiomGives, GivenBy}
+use Rattle.normal_forms.specs.Origins.{AxiomGives, GivenBy}
 use Rattle.normal_forms.specs.declared.forms.Form.{Form}
 use Rattle.normal_forms.specs.declared.forms.Origin.{Origin}
 use Rattle.normal_forms.specs.declared.forms.Origin.TheVariants as origins
 use Rattle.normalise.specs.Entries.{form_in, origin_in}
 use Rattle.normalise.specs.declared.entries.Entry.{Entry}
-use Rattle.normalise.specs.Problem.{beginnings_of}
+use Rattle.normalise.specs.Problem.{prefixes_of}
 
 -- the origin of the form that a birth names
 pub origin_of_form : (entries : List Entry) (form : Option ℕ) (m : ℕ) (origin : Origin) → ((n : ℕ) × (form ≡ Some n) × (option_map origin_in (slice_get entries n) ≡ Some origin)) → form ≡ Some m → option_map origin_in (slice_get entries m) ≡ Some origin
@@ -59,20 +59,20 @@ axiom_there o s m number saturated by =
 
 module _ (o : Ontology) (s : Saturated) (saturated : IsSaturated o s) (n : ℕ) (r : Reason) (born : slice_get s.state.births n ≡ Some r) (m : ℕ) (place : r.form ≡ Some m)
     (number : ℕ) (origin : option_map origin_in (slice_get s.normal.entries m) ≡ Some (origins.Axiom number)) (form : Form) (at_form : slice_get s.state.problem.forms m ≡ Some form) where
-  given : (g : definition.Form) × SaysForm (beginnings_of s.normal) form g × GivenBy o s.normal.asked (origins.Axiom number) g
+  given : (g : definition.Form) × SaysForm (prefixes_of s.normal) form g × GivenBy o s.normal.asked (origins.Axiom number) g
   given = form_said o s.normal m form (origins.Axiom number) saturated.normal (ap (λ (fs : List Form). slice_get fs m) (sym saturated.forms) ∙ at_form) origin
 
   module _ (w : IsOntology o) (a : Axiom) (stated : at_number o.axioms number ≡ Some a) (f : Fact) (there : slice_get s.state.facts n ≡ Some f) (lines : List Line) (numbers : List ℕ)
-      (showing : (fs : List Fact) → map (slice_get s.state.facts) (rests_on s.normal.entries r) ≡ map Some fs → AreShowingEach (beginnings_of s.normal) lines numbers (taken form fs)) where
+      (showing : (fs : List Fact) → map (slice_get s.state.facts) (rests_on s.normal.entries r) ≡ map Some fs → AreShowingEach (prefixes_of s.normal) lines numbers (taken form fs)) where
     gives : AxiomGives a given.0
     gives = subst (λ b. AxiomGives b given.0) (same_Some given.2.0 a (sym given.2.1 ∙ stated)) given.2.2
 
-    lead : Lead o (beginnings_of s.normal) s.state.problem lines numbers a (said_by f) f
+    lead : Lead o (prefixes_of s.normal) s.state.problem lines numbers a (said_by f) f
     lead =
         let t = taken_by_axiom o s saturated n r born m place number origin form f at_form there in
-        axiom_leads o (beginnings_of s.normal) s.state.problem lines numbers a form given.0 given.1 gives t.older f t.takes (showing t.older t.at)
+        axiom_leads o (prefixes_of s.normal) s.state.problem lines numbers a form given.0 given.1 gives t.older f t.takes (showing t.older t.at)
 
-    follows_by : (c : Conclusion) → said_by f ≡ Some c → Lead o (beginnings_of s.normal) s.state.problem lines numbers a (Some c) f → IsDerived o lines (record { conclusion = c; rule = axiom_rule a; axiom' = Some number; premises = numbers })
+    follows_by : (c : Conclusion) → said_by f ≡ Some c → Lead o (prefixes_of s.normal) s.state.problem lines numbers a (Some c) f → IsDerived o lines (record { conclusion = c; rule = axiom_rule a; axiom' = Some number; premises = numbers })
     follows_by c said (cs, at, follows) = record {
       within = record { conclusion = fact_within o s n f c w saturated there said; axiom' = axiom_number_within o number a stated };
       premises = cs;
@@ -80,8 +80,8 @@ module _ (o : Ontology) (s : Saturated) (saturated : IsSaturated o s) (n : ℕ) 
       follows = subst (λ x. Follows o (axiom_rule a) cs x c) (sym stated) follows;
     }
 
-    pub leads_to : LeadTo o (beginnings_of s.normal) lines (axiom_rule a) (Some number) numbers f
+    pub leads_to : LeadTo o (prefixes_of s.normal) lines (axiom_rule a) (Some number) numbers f
     leads_to = record {
-      line = λ c said. follows_by c said (subst (λ x. Lead o (beginnings_of s.normal) s.state.problem lines numbers a x f) said lead);
-      beginning = λ said. subst (λ x. Lead o (beginnings_of s.normal) s.state.problem lines numbers a x f) said lead;
+      line = λ c said. follows_by c said (subst (λ x. Lead o (prefixes_of s.normal) s.state.problem lines numbers a x f) said lead);
+      prefix = λ said. subst (λ x. Lead o (prefixes_of s.normal) s.state.problem lines numbers a x f) said lead;
     }

@@ -3,21 +3,21 @@ use Rattle.std.proofs.Common.{◌≡◌, ℕ, zero, suc, ◌+◌, ◌<◌, ◌�
 use Rattle.std.proofs.lemmas.Option.{none-some, same_Some, slice_get_within}
 use Rattle.std.proofs.lemmas.List.Elements.{All-contains}
 use Rattle.axioms.specs.declared.ids.PropId.{PropId}
-use Rattle.axioms.specs.Numbered.{Ontology, Axiom, Node, Class, And, Exists, SubClass, EquivalentClasses, DisjointClasses, SubProperty, EquivalentProperties, Domain, Transitive, Reflexive, ClassAssertion, PropertyAssertion}
-use Rattle.axioms.specs.WellFormed.{IsOntology, IsAxiomOf}
+use Rattle.axioms.specs.Ontology.{Ontology, Axiom, Node, Class, And, Exists, SubClass, EquivalentClasses, DisjointClasses, SubProperty, EquivalentProperties, Domain, Transitive, Reflexive, ClassAssertion, PropertyAssertion}
+use Rattle.axioms.specs.WellFormedness.{IsOntology, IsAxiomOf}
 use Rattle.certificate.specs.Certificate.{Subject, Conclusion, Edge, Line}
-use Rattle.certificate.specs.HasText.{IsConclusionOf}
+use Rattle.certificate.specs.Writability.{IsConclusionOf}
 use Rattle.certificate.specs.declared.line.Rule.TheVariants.{K12}
 use Rattle.cert_check.specs.Derivation.{at_numbers, IsDerivation, IsDerived}
 use Rattle.cert_check.specs.Lines.{Follows}
-use Rattle.closure.specs.Said.{property}
+use Rattle.closure.specs.Denotations.{property}
 use Rattle.exactness.proofs.Derivable.{conclusions, at_conclusion, at_numbers_derivable, derivable_from_line}
 use Rattle.exactness.proofs.Rules.{derivable_within}
-use Rattle.exactness.specs.Derivable.{AreDerivable, none, more}
-use Rattle.engine.specs.Saturated.{Saturated, IsSaturated}
+use Rattle.exactness.specs.Derivability.{AreDerivable, none, more}
+use Rattle.engine.specs.Saturations.{Saturated, IsSaturated}
 use Rattle.explain.proofs.Conclusions.{property_shown}
-use Rattle.explain.specs.Lifted.{GivesStep}
-use Rattle.explain.specs.Shown.{AreShowing}
+use Rattle.explain.specs.LiftedEdges.{GivesStep}
+use Rattle.explain.specs.LinesOfFacts.{AreShowing}
 use Rattle.explain.specs.Step.{LeadTo, subject_in}
 use Rattle.facts.specs.declared.contexts.Context as code_context
 use Rattle.facts.specs.declared.contexts.Fact.TheVariants as facts
@@ -31,14 +31,14 @@ use Rattle.normal_forms.specs.declared.forms.PropId2.{PropId2}
 use Rattle.normal_forms.specs.declared.forms.PropId2.TheVariants as properties
 use Rattle.normal_forms.specs.Forms as given
 use Rattle.normal_forms.specs.Forms.{N5}
-use Rattle.normal_forms.specs.Given.{AxiomGives, RightGives, LeftGives, GivenBy}
+use Rattle.normal_forms.specs.Origins.{AxiomGives, RightGives, LeftGives, GivenBy}
 use Rattle.normal_forms.specs.Properties.{IsAtOrBelow, same, step}
 use Rattle.explain.specs.Paths.{IsPath}
 use Rattle.normalise.specs.declared.entries.Entry.{Entry}
 use Rattle.normalise.specs.Entries.{form_in, origin_in}
 use Rattle.normalise.specs.Listing.{Listing}
 use Rattle.normalise.specs.View.{Says}
-use Rattle.normalise.specs.Problem.{beginnings_of}
+use Rattle.normalise.specs.Problem.{prefixes_of}
 
 -- ---- what gave a plain form
 
@@ -115,7 +115,7 @@ one_step o t form p q r s m n g h =
     let k : origins.Axiom m ≡ origins.Axiom n = ap origin_in e in
     (cc, cc, cc)
 
--- ---- an edge led up
+-- ---- an edge lifted
 
 -- what lines of a derivation conclude is in range
 concluded_within : (o : Ontology) (lines : List Line) (numbers : List ℕ) (c : Conclusion) → IsDerivation o lines → at_numbers (conclusions lines) numbers ≡ Some (c ∷ []) → IsConclusionOf o c
@@ -126,8 +126,8 @@ concluded_within o lines numbers c d e =
     go (more p none) = derivable_within p
 
 pub edge_leads : (o : Ontology) (t : Saturated) (lines : List Line) (numbers : List ℕ) (x y : code_context.Context) (r s : PropId) (n : ℕ) → IsOntology o → IsDerivation o lines
-    → AreShowing (beginnings_of t.normal) lines numbers (facts.Edge x (properties.Property r) y) → GivenBy o t.normal.asked (origins.Axiom n) (N5 r.0 s.0)
-    → LeadTo o (beginnings_of t.normal) lines K12 (Some n) numbers (facts.Edge x (properties.Property s) y)
+    → AreShowing (prefixes_of t.normal) lines numbers (facts.Edge x (properties.Property r) y) → GivenBy o t.normal.asked (origins.Axiom n) (N5 r.0 s.0)
+    → LeadTo o (prefixes_of t.normal) lines K12 (Some n) numbers (facts.Edge x (properties.Property s) y)
 edge_leads o t lines numbers x y r s zero w d shown (a, at, gives) = absurd (none-some a at)
 edge_leads o t lines numbers x y r s (suc n) w d shown (a, at, gives) =
     let premise : Conclusion = Edge (subject_in x) r.0 (subject_in y) in
@@ -143,12 +143,12 @@ edge_leads o t lines numbers x y r s (suc n) w d shown (a, at, gives) =
       follows = subst (λ (b : Option Axiom). Follows o K12 (premise ∷ []) b above) (sym at) follows.0;
     } in record {
       line = λ c e. subst (λ (z : Conclusion). IsDerived o lines (record { conclusion = z; rule = K12; axiom' = Some (suc n); premises = numbers })) (same_Some above c e) line;
-      beginning = λ e. absurd (none-some above (sym e));
+      prefix = λ e. absurd (none-some above (sym e));
     }
 
--- ---- an edge that no path leads up
+-- ---- an edge that no path lifts
 
--- a beginning of chains is below itself alone
+-- a prefix of chains is below itself alone
 partial_above : (fs : List Form) (n : ℕ) (q : PropId2) → IsAtOrBelow fs (properties.Partial n) q → q ≡ properties.Partial n
 partial_above fs n _ same = refl
 partial_above fs n _ (step s t h form) = absurd (let e : properties.Property s ≡ properties.Partial n = partial_above fs n (properties.Property s) h in cc)

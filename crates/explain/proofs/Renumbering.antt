@@ -9,14 +9,14 @@ use Rattle.std.specs.List.{Contains}
 use Rattle.axioms.specs.View.{at_number}
 use Rattle.certificate.specs.Certificate.{Line}
 use Rattle.cert_check.specs.Derivation.{at_numbers}
-use Rattle.certificate.specs.HasText.{Ascends}
+use Rattle.certificate.specs.Writability.{Ascends}
 use Rattle.exactness.proofs.Derivable.{prepended_list_parts}
 use Rattle.exactness.proofs.Trimmed.{Ascends-push}
-use Rattle.exactness.specs.Trimmed.{RestsOn, itself, premise, place, renumbered_line, IsTrimmed}
+use Rattle.exactness.specs.Trimming.{RestsOn, itself, premise, place, renumbered_line, IsTrimmed}
 use Rattle.lemmas.proofs.Members.{Contains-from_slice_get, Contains-none, Contains-first, Contains-later, Contains-cons_cases}
 use Rattle.lemmas.proofs.Places.{slice_get_push, keeps_push, take_push}
 use Rattle.lemmas.proofs.Choices.{one_value}
-use Rattle.explain.specs.Resting.{IsMarked, ArePremisesBefore, ArePremisesMarked, MarksRests, marked_numbers, AreKept}
+use Rattle.explain.specs.LineMarks.{IsMarked, ArePremisesBefore, ArePremisesMarked, MarksRests, marked_numbers, AreKept}
 
 -- ---- places among numbers
 

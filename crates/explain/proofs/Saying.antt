@@ -3,24 +3,24 @@ use Rattle.std.proofs.Common.{◌≡◌, ℕ, zero, suc, ◌<◌, ◌⊎◌, inl
 use Rattle.std.proofs.lemmas.Bool.{false≢true}
 use Rattle.std.proofs.lemmas.Option.{none-some, same_Some, slice_get_within}
 use Rattle.std.specs.Prelude.{Result, Ok, Err, IfOk}
-use Rattle.axioms.specs.Numbered.{Ontology, IsClassAt, thing, nothing}
+use Rattle.axioms.specs.Ontology.{Ontology, IsClassAt, thing, nothing}
 use Rattle.axioms.specs.View.{at_number}
-use Rattle.axioms.specs.WellFormed.{IsOntology}
+use Rattle.axioms.specs.WellFormedness.{IsOntology}
 use Rattle.axioms.specs.declared.ids.ExprId.{ExprId}
-use Rattle.cert_check.specs.Acceptable.{IsTop}
+use Rattle.cert_check.specs.Acceptance.{IsTop}
 use Rattle.cert_check.specs.Derivation.{at_numbers, HasLine}
 use Rattle.certificate.specs.Certificate as subjects
 use Rattle.certificate.specs.Certificate.{Sub, Line}
 use Rattle.closure.specs.Closure.{Context, Expression, Individual, Fact, In, IsRoot, IsFact}
-use Rattle.closure.specs.Said.{Beginnings, whole, SaysContext, expression, individual, SaysFact, in_context}
-use Rattle.exactness.specs.Listed.{IsConsistent}
+use Rattle.closure.specs.Denotations.{Prefixes, whole, SaysContext, expression, individual, SaysFact, in_context}
+use Rattle.exactness.specs.ListedInterpretation.{IsConsistent}
 use Rattle.exactness.proofs.Derivable.{conclusions, at_conclusion, prepended_list_parts}
-use Rattle.exactness.specs.Derivable.{subject_of}
-use Rattle.engine.specs.Saturated.{Saturated, IsSaturated}
+use Rattle.exactness.specs.Derivability.{subject_of}
+use Rattle.engine.specs.Saturations.{Saturated, IsSaturated}
 use Rattle.exactness.specs.Theorems.{HaveFacts}
 use Rattle.explain.specs.Marks.{IsClass, IsNamed, IsWantedFact, IsTopContext, IsContradictoryFact, IsMarked, IsShown}
-use Rattle.explain.specs.Needed.{IsWanted, ShowsContradiction}
-use Rattle.explain.specs.Shown.{AreShowing, IsShownBy}
+use Rattle.explain.specs.Needs.{IsWanted, ShowsContradiction}
+use Rattle.explain.specs.LinesOfFacts.{AreShowing, IsShownBy}
 use Rattle.facts.specs.declared.contexts.Context as code_context
 use Rattle.facts.specs.declared.contexts.Context.TheVariants as contexts
 use Rattle.facts.specs.declared.contexts.Fact as code
@@ -29,7 +29,7 @@ use Rattle.lemmas.proofs.Members.{slice_get-from_Contains, Contains-none}
 use Rattle.lemmas.proofs.Places.{slice_get_there}
 use Rattle.normal_forms.specs.Forms.{Whole}
 use Rattle.normal_forms.specs.declared.forms.Class2.TheVariants as classes
-use Rattle.normalise.specs.Problem.{beginnings_of}
+use Rattle.normalise.specs.Problem.{prefixes_of}
 
 -- what follows from what is said of the value of a call that is handed on
 pub if_ok_then : {X E : Type 0} (r : Result X E) {P Q : X → Type 0} → IfOk r P → ((x : X) → P x → Q x) → IfOk r Q
@@ -46,11 +46,11 @@ context_said : {x : code_context.Context} {y : Context} → SaysContext x y → 
 context_said (expression h) = ap Expression h
 context_said (individual h) = ap Individual h
 
-whole_said : {b : Beginnings} {e : ExprId} {x : code_context.Context} {g : Fact} → SaysFact b (facts.In (classes.Expr e) x) g → g ≡ In (Whole e.0) (context_of x)
+whole_said : {b : Prefixes} {e : ExprId} {x : code_context.Context} {g : Fact} → SaysFact b (facts.In (classes.Expr e) x) g → g ≡ In (Whole e.0) (context_of x)
 whole_said (in_context (whole h) says) = ap₂ (λ c y. In (Whole c) y) (sym h) (sym (context_said says))
 
 -- the fact that says so
-whole_saying : {b : Beginnings} {f : code.Fact} {x : Context} {e : ℕ} → SaysFact b f (In (Whole e) x) → (id : ExprId) × (y : code_context.Context) × (f ≡ facts.In (classes.Expr id) y) × (id.0 ≡ e) × (context_of y ≡ x)
+whole_saying : {b : Prefixes} {f : code.Fact} {x : Context} {e : ℕ} → SaysFact b f (In (Whole e) x) → (id : ExprId) × (y : code_context.Context) × (f ≡ facts.In (classes.Expr id) y) × (id.0 ≡ e) × (context_of y ≡ x)
 whole_saying (in_context {x = y} (whole {e = id} h) says) = (id, y, refl, h, context_said says)
 
 -- ---- the line of a fact
@@ -84,14 +84,14 @@ pub record IsLineOfFact (lines : List Line) (numbers : List ℕ) (e : ExprId) (x
   pub there : slice_get lines place ≡ Some line
   pub says : line.conclusion ≡ Sub (subject_of (context_of x)) e.0
 
-pub line_of_fact : (b : Beginnings) (lines : List Line) (numbers : List ℕ) (e : ExprId) (x : code_context.Context) → AreShowing b lines numbers (facts.In (classes.Expr e) x) → IsLineOfFact lines numbers e x
+pub line_of_fact : (b : Prefixes) (lines : List Line) (numbers : List ℕ) (e : ExprId) (x : code_context.Context) → AreShowing b lines numbers (facts.In (classes.Expr e) x) → IsLineOfFact lines numbers e x
 line_of_fact b lines numbers e x s =
     let fact_is : IsShownBy (In (Whole e.0) (context_of x)) s.conclusions = subst (λ g. IsShownBy g s.conclusions) (whole_said s.says) s.shown in
     let one = one_number (conclusions lines) numbers (Sub (subject_of (context_of x)) e.0) (s.at ∙ ap Some fact_is) in
     let line = at_conclusion lines one.0 (Sub (subject_of (context_of x)) e.0) one.2 in
     record { place = one.0; number_is = one.1; line = line.0; there = line.1; says = line.2 }
 
-pub has_line : (b : Beginnings) (lines : List Line) (e : ExprId) (x : code_context.Context) → IsShown b lines (facts.In (classes.Expr e) x) → HasLine lines (Sub (subject_of (context_of x)) e.0)
+pub has_line : (b : Prefixes) (lines : List Line) (e : ExprId) (x : code_context.Context) → IsShown b lines (facts.In (classes.Expr e) x) → HasLine lines (Sub (subject_of (context_of x)) e.0)
 has_line b lines e x s =
     let l = line_of_fact b lines s.0 e x s.1 in
     (l.place, l.line, l.there, l.says)
@@ -121,7 +121,7 @@ pub record IsWantedLine (o : Ontology) (lines : List Line) (numbers : List ℕ) 
   pub there : slice_get lines place ≡ Some line
   pub wanted : IsWanted o line.conclusion
 
-pub wanted_line : (o : Ontology) (b : Beginnings) (lines : List Line) (numbers : List ℕ) (f : code.Fact) → IsWantedFact o f → AreShowing b lines numbers f → IsWantedLine o lines numbers
+pub wanted_line : (o : Ontology) (b : Prefixes) (lines : List Line) (numbers : List ℕ) (f : code.Fact) → IsWantedFact o f → AreShowing b lines numbers f → IsWantedLine o lines numbers
 wanted_line o b lines numbers (facts.In (classes.Expr e) x) w s =
     let l = line_of_fact b lines numbers e x s in
     record {
@@ -137,13 +137,13 @@ wanted_line o b lines numbers (facts.Edge x r y) w s = absurd w
 -- ---- what all lines say
 
 -- lines that show each wanted fact have the facts of the closure
-pub have_facts : (o : Ontology) (s : Saturated) (lines : List Line) → IsSaturated o s → ((n : ℕ) (f : code.Fact) → IsWantedFact o f → slice_get s.state.facts n ≡ Some f → IsShown (beginnings_of s.normal) lines f) → HaveFacts o [] lines
+pub have_facts : (o : Ontology) (s : Saturated) (lines : List Line) → IsSaturated o s → ((n : ℕ) (f : code.Fact) → IsWantedFact o f → slice_get s.state.facts n ≡ Some f → IsShown (prefixes_of s.normal) lines f) → HaveFacts o [] lines
 have_facts o s lines saturated shown x e root class fact =
     let f = saturated.facts.all (In (Whole e) x) fact in
     let g = whole_saying f.2 in
     let at = slice_get-from_Contains s.state.facts f.0 f.1 in
     let wanted : IsWantedFact o (facts.In (classes.Expr g.0) g.1) = (is_class (subst (λ c. IsRoot o [] (Expression c)) (sym g.3) class), is_named o g.1 (subst (IsRoot o []) (sym g.4) root)) in
-    let line = has_line (beginnings_of s.normal) lines g.0 g.1 (shown at.0 (facts.In (classes.Expr g.0) g.1) wanted (at.1 ∙ ap Some g.2)) in
+    let line = has_line (prefixes_of s.normal) lines g.0 g.1 (shown at.0 (facts.In (classes.Expr g.0) g.1) wanted (at.1 ∙ ap Some g.2)) in
     subst (λ y. HasLine lines (Sub (subject_of y) e)) g.4 (subst (λ c. HasLine lines (Sub (subject_of (context_of g.1)) c)) g.3 line)
 
 -- ---- contradictions
@@ -159,7 +159,7 @@ top_of : (o : Ontology) (x : code_context.Context) → IsTopContext o x → IsTo
 top_of o (contexts.Expr e) h = subst (λ d. IsTop (subjects.Expression d)) (sym h) IsTop.of_thing
 top_of o (contexts.Individual a) h = IsTop.of_individual
 
-shows_contradiction : (o : Ontology) (b : Beginnings) (lines : List Line) (f : code.Fact) → IsContradictoryFact o f → IsShown b lines f → ShowsContradiction lines
+shows_contradiction : (o : Ontology) (b : Prefixes) (lines : List Line) (f : code.Fact) → IsContradictoryFact o f → IsShown b lines f → ShowsContradiction lines
 shows_contradiction o b lines (facts.In (classes.Expr e) x) h s =
     (subject_of (context_of x), top_of o x h.1, subst (λ c. HasLine lines (Sub (subject_of (context_of x)) c)) h.0 (has_line b lines e x s))
 shows_contradiction o b lines (facts.In (classes.Partial n) x) h s = absurd h
@@ -202,7 +202,7 @@ no_contradiction o s saturated never = record { things = things; individuals = i
 pub contradiction_shown : (o : Ontology) (s : Saturated) (marks : List Bool) (lines : List Line) → IsSaturated o s → (IsConsistent o [] → ⊥) → length marks ≡ length s.state.facts
     → ((n : ℕ) (f : code.Fact) → slice_get s.state.facts n ≡ Some f → IsMarked marks n → IsContradictoryFact o f)
     → ((n : ℕ) (f : code.Fact) → slice_get s.state.facts n ≡ Some f → IsContradictoryFact o f → (m : ℕ) × IsMarked marks m)
-    → ((n : ℕ) (f : code.Fact) → IsMarked marks n → slice_get s.state.facts n ≡ Some f → IsShown (beginnings_of s.normal) lines f)
+    → ((n : ℕ) (f : code.Fact) → IsMarked marks n → slice_get s.state.facts n ≡ Some f → IsShown (prefixes_of s.normal) lines f)
     → ShowsContradiction lines
 contradiction_shown o s marks lines saturated contradictory long each found shown = elim (is_marked marks) [
   | inl m ↦ shown_at m.0 m.1
@@ -212,4 +212,4 @@ contradiction_shown o s marks lines saturated contradictory long each found show
     shown_at : (n : ℕ) → IsMarked marks n → ShowsContradiction lines
     shown_at n marked =
         let f = slice_get_there s.state.facts n (omega (arith, long, slice_get_within marks n true marked)) in
-        shows_contradiction o (beginnings_of s.normal) lines f.0 (each n f.0 f.1 marked) (shown n f.0 marked f.1)
+        shows_contradiction o (prefixes_of s.normal) lines f.0 (each n f.0 f.1 marked) (shown n f.0 marked f.1)

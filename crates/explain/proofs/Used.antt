@@ -4,11 +4,11 @@ use Rattle.std.proofs.lemmas.List.{append_assoc, length-append}
 use Rattle.std.proofs.lemmas.Option.{slice_get-get_or}
 use Rattle.std.proofs.lemmas.List.Elements.{Contains-append_left, Contains-append_right, Contains-append_cases}
 use Rattle.certificate.specs.Certificate.{Line}
-use Rattle.engine.specs.Saturated.{Saturated}
+use Rattle.engine.specs.Saturations.{Saturated}
 use Rattle.explain.proofs.Growing.{slice_get_grown}
-use Rattle.explain.specs.Older.{rests_on}
-use Rattle.explain.specs.Serving.{IsPremise, IsAmong, IsAmongThose, Uses, ShowsOlder, EachIsUsed}
-use Rattle.explain.specs.Shown.{Lengthens}
+use Rattle.explain.specs.OlderFacts.{rests_on}
+use Rattle.explain.specs.Uses.{IsPremise, IsAmong, IsAmongThose, Uses, ShowsOlder, EachIsUsed}
+use Rattle.explain.specs.LinesOfFacts.{Lengthens}
 use Rattle.facts.specs.Births.{Reason, numbers_of}
 use Rattle.facts.specs.declared.births.FactId.{FactId}
 use Rattle.facts.specs.declared.births.Older.{Older}

@@ -3,11 +3,11 @@ use Rattle.std.proofs.Common.{◌≡◌, ℕ, zero, suc, ◌+◌, ◌-◌, ◌<�
 use Rattle.std.proofs.lemmas.Option.{same_Some, none-some, slice_get-get_or}
 use Rattle.std.specs.Option.{option_map}
 use Rattle.lemmas.proofs.Places.{take_push}
-use Rattle.axioms.specs.Numbered.{Ontology, nothing}
-use Rattle.axioms.specs.WellFormed.{IsOntology}
+use Rattle.axioms.specs.Ontology.{Ontology, nothing}
+use Rattle.axioms.specs.WellFormedness.{IsOntology}
 use Rattle.axioms.specs.View.{at_number}
 use Rattle.certificate.specs.Certificate.{Subject, Conclusion, Sub, Edge, Line}
-use Rattle.certificate.specs.HasText.{IsConclusionOf}
+use Rattle.certificate.specs.Writability.{IsConclusionOf}
 use Rattle.certificate.specs.LineText.{source_of}
 use Rattle.certificate.specs.declared.line.Rule.TheVariants.{K11}
 use Rattle.cert_check.specs.Derivation.{IsDerivation, IsDerived, at_numbers}
@@ -16,7 +16,7 @@ use Rattle.exactness.proofs.Derivable.{conclusions, prepended_list_parts, at_con
 use Rattle.exactness.proofs.Rules.{nothing_within}
 use Rattle.explain.proofs.Births.{heads, tails}
 use Rattle.explain.proofs.Growing.{conclusions_grown, last_conclusion}
-use Rattle.explain.specs.Shown.{Lengthens}
+use Rattle.explain.specs.LinesOfFacts.{Lengthens}
 use Rattle.explain.specs.Walks.{LeadsToNothing}
 
 apart : {X : Type 0} {x : X} {xs : List X} → [] ≡ x ∷ xs → ⊥

@@ -3,19 +3,19 @@ use Rattle.std.proofs.Common.{◌≡◌, ℕ, zero, suc, ◌<◌, List, [], leng
 use Rattle.std.proofs.lemmas.Option.{same_Some, none-some, slice_get_within}
 use Rattle.lemmas.proofs.Mapped.{slice_get_map, slice_get_map_from}
 use Rattle.lemmas.proofs.Members.{Contains-from_slice_get}
-use Rattle.axioms.specs.Numbered.{Ontology, Axiom}
-use Rattle.axioms.specs.WellFormed.{IsOntology}
+use Rattle.axioms.specs.Ontology.{Ontology, Axiom}
+use Rattle.axioms.specs.WellFormedness.{IsOntology}
 use Rattle.axioms.specs.View.{at_number}
 use Rattle.certificate.specs.Certificate.{Conclusion, Sub}
 use Rattle.certificate.specs.Certificate as line
-use Rattle.certificate.specs.HasText.{IsConclusionOf, IsAxiomNumberOf}
+use Rattle.certificate.specs.Writability.{IsConclusionOf, IsAxiomNumberOf}
 use Rattle.closure.specs.Closure.{Fact}
-use Rattle.closure.specs.Said as said
-use Rattle.closure.specs.Said.{Beginnings, whole, beginning, property, steps, SaysFact, in_context, edge, n1, n2, n3, n4, n5, n6, n7, n8, n9, SaysForm}
-use Rattle.exactness.specs.Derivable.{FactIsDerivable}
+use Rattle.closure.specs.Denotations as said
+use Rattle.closure.specs.Denotations.{Prefixes, whole, prefix, property, steps, SaysFact, in_context, edge, n1, n2, n3, n4, n5, n6, n7, n8, n9, SaysForm}
+use Rattle.exactness.specs.Derivability.{FactIsDerivable}
 use Rattle.exactness.proofs.Facts.{fact_derivable}
 use Rattle.exactness.proofs.Rules.{derivable_within}
-use Rattle.engine.specs.Saturated.{Saturated, IsSaturated}
+use Rattle.engine.specs.Saturations.{Saturated, IsSaturated}
 use Rattle.explain.proofs.Conclusions.{said_subject}
 use Rattle.explain.specs.Step.{subject_in, said_by}
 use Rattle.facts.specs.declared.contexts.Fact as code
@@ -27,20 +27,20 @@ use Rattle.normal_forms.specs.declared.forms.Form as code_form
 use Rattle.normal_forms.specs.declared.forms.Form.TheVariants as forms
 use Rattle.normal_forms.specs.declared.forms.Origin.{Origin}
 use Rattle.normal_forms.specs.Forms.{Class2, Property2, Form}
-use Rattle.normal_forms.specs.Given.{GivenBy}
+use Rattle.normal_forms.specs.Origins.{GivenBy}
 use Rattle.normalise.specs.Entries.{form_in, origin_in}
-use Rattle.normalise.specs.Growing.{IsNormalFor}
+use Rattle.normalise.specs.Growth.{IsNormalFor}
 use Rattle.normalise.specs.Listing.{Listing}
 use Rattle.normalise.specs.View.{SaysClass, SaysProperty, Says}
 use Rattle.normalise.specs.declared.entries.Entry.{Entry}
-use Rattle.normalise.specs.Problem.{beginnings_of}
+use Rattle.normalise.specs.Problem.{prefixes_of}
 
 -- ---- conclusions
 
-said_within : (o : Ontology) (b : Beginnings) (f : code.Fact) (g : Fact) (c : Conclusion) → SaysFact b f g → FactIsDerivable o g → said_by f ≡ Some c → IsConclusionOf o c
+said_within : (o : Ontology) (b : Prefixes) (f : code.Fact) (g : Fact) (c : Conclusion) → SaysFact b f g → FactIsDerivable o g → said_by f ≡ Some c → IsConclusionOf o c
 said_within o b f g c (in_context (whole is) says_x) (source, derivable) said =
     subst (IsConclusionOf o) (ap₂ Sub (said_subject says_x) (sym is) ∙ same_Some _ c said) (derivable_within derivable)
-said_within o b f g c (in_context (beginning at) says_x) derivable said = absurd (none-some c said)
+said_within o b f g c (in_context (prefix at) says_x) derivable said = absurd (none-some c said)
 said_within o b f g c (edge {x = x} {y = y} says_x (property {r = q} is) says_y) (source, target, derivable) said =
     subst (IsConclusionOf o) (ap₂ (λ s t. line.Edge s q t) (said_subject says_x) (said_subject says_y) ∙ ap (λ n. line.Edge (subject_in x) n (subject_in y)) (sym is) ∙ same_Some _ c said) (derivable_within derivable)
 said_within o b f g c (edge says_x (steps at) says_y) derivable said = absurd (none-some c said)
@@ -49,7 +49,7 @@ said_within o b f g c (edge says_x (steps at) says_y) derivable said = absurd (n
 pub fact_within : (o : Ontology) (s : Saturated) (n : ℕ) (f : code.Fact) (c : Conclusion) → IsOntology o → IsSaturated o s → slice_get s.state.facts n ≡ Some f → said_by f ≡ Some c → IsConclusionOf o c
 fact_within o s n f c w saturated there said =
     let (g, says, fact) = saturated.facts.each f (Contains-from_slice_get s.state.facts n f there) in
-    said_within o (beginnings_of s.normal) f g c says (fact_derivable o [] w fact) said
+    said_within o (prefixes_of s.normal) f g c says (fact_derivable o [] w fact) said
 
 pub axiom_number_within : (o : Ontology) (n : ℕ) (a : Axiom) → at_number o.axioms n ≡ Some a → IsAxiomNumberOf o (Some n)
 axiom_number_within o zero a at = absurd (none-some a at)
@@ -57,10 +57,10 @@ axiom_number_within o (suc n) a at = let l : n < length o.axioms = slice_get_wit
 
 -- ---- forms
 
-module _ (b : Beginnings) where
+module _ (b : Prefixes) where
   says_class : (a : code_class.Class2) (c : Class2) → SaysClass b.operands a c → said.SaysClass b a c
   says_class (classes.Expr e) c is = subst (said.SaysClass b (classes.Expr e)) (sym is) (whole refl)
-  says_class (classes.Partial n) c (ds, at, is) = subst (said.SaysClass b (classes.Partial n)) (sym is) (beginning at)
+  says_class (classes.Partial n) c (ds, at, is) = subst (said.SaysClass b (classes.Partial n)) (sym is) (prefix at)
 
   says_property : (p : code_property.PropId2) (q : Property2) → SaysProperty b.steps p q → said.SaysProperty b p q
   says_property (properties.Property p) q is = subst (said.SaysProperty b (properties.Property p)) (sym is) (property refl)
@@ -87,10 +87,10 @@ form_there entries n origin by = go (slice_get entries n) refl by
 
 -- the form of that place says one that its origin gives
 pub form_said : (o : Ontology) (v : Listing) (n : ℕ) (form : code_form.Form) (origin : Origin) → IsNormalFor o v → slice_get (map form_in v.entries) n ≡ Some form → option_map origin_in (slice_get v.entries n) ≡ Some origin
-    → (g : Form) × SaysForm (beginnings_of v) form g × GivenBy o v.asked origin g
+    → (g : Form) × SaysForm (prefixes_of v) form g × GivenBy o v.asked origin g
 form_said o v n form origin normal at by =
     let (entry, at_entry, is) = slice_get_map_from form_in v.entries n form at in
     let (by', (g, (f, there, says), given)) = normal.each n (slice_get_within v.entries n entry at_entry) in
     let same : f ≡ form = same_Some f form (sym (slice_get_map form_in v.entries n _ there) ∙ at) in
     let same_origin : by' ≡ origin = same_Some by' origin (sym (ap (option_map origin_in) there) ∙ by) in
-    (g, subst (λ (x : code_form.Form). SaysForm (beginnings_of v) x g) same (says_form (beginnings_of v) f g says), subst (λ (x : Origin). GivenBy o v.asked x g) same_origin given)
+    (g, subst (λ (x : code_form.Form). SaysForm (prefixes_of v) x g) same (says_form (prefixes_of v) f g says), subst (λ (x : Origin). GivenBy o v.asked x g) same_origin given)

@@ -1,5 +1,5 @@
 -- The rules by which lines follow from axioms.
-use Rattle.axioms.specs.Numbered.{Axiom, SubClass, EquivalentClasses, DisjointClasses, SubProperty, EquivalentProperties, Domain, Transitive, Reflexive, ClassAssertion, PropertyAssertion}
+use Rattle.axioms.specs.Ontology.{Axiom, SubClass, EquivalentClasses, DisjointClasses, SubProperty, EquivalentProperties, Domain, Transitive, Reflexive, ClassAssertion, PropertyAssertion}
 use Rattle.certificate.specs.declared.line.Rule.{Rule}
 use Rattle.certificate.specs.declared.line.Rule.TheVariants.{K4, K7, K10, K12, K13, K14, K15, K16}
 

@@ -1,17 +1,17 @@
 -- Which facts are to have lines.
 use Rattle.std.specs.Prelude.{◌≡◌, ℕ, ◌<◌, ◌⊎◌, List, Bool, true, length, slice_get, Some}
-use Rattle.axioms.specs.Numbered.{Ontology, IsClassAt, thing, nothing}
+use Rattle.axioms.specs.Ontology.{Ontology, IsClassAt, thing, nothing}
 use Rattle.certificate.specs.Certificate.{Line}
-use Rattle.closure.specs.Said.{Beginnings}
-use Rattle.engine.specs.Saturated.{Saturated}
-use Rattle.explain.specs.Serving.{RestsOn}
-use Rattle.explain.specs.Shown.{AreShowing}
+use Rattle.closure.specs.Denotations.{Prefixes}
+use Rattle.engine.specs.Saturations.{Saturated}
+use Rattle.explain.specs.Uses.{RestsOn}
+use Rattle.explain.specs.LinesOfFacts.{AreShowing}
 use Rattle.facts.specs.declared.contexts.Context.{Context}
 use Rattle.facts.specs.declared.contexts.Context.TheVariants as contexts
 use Rattle.facts.specs.declared.contexts.Fact.{Fact}
 use Rattle.facts.specs.declared.contexts.Fact.TheVariants as facts
 use Rattle.normal_forms.specs.declared.forms.Class2.TheVariants as classes
-use Rattle.normalise.specs.Problem.{beginnings_of}
+use Rattle.normalise.specs.Problem.{prefixes_of}
 
 -- ---- facts that are wanted
 
@@ -58,9 +58,9 @@ abbrev pub EachIsCalledFor : Ontology → Saturated → List Bool → Type 0
 EachIsCalledFor o s marks = (n : ℕ) (f : Fact) → slice_get s.state.facts n ≡ Some f → IsMarked marks n → IsWantedFact o f ⊎ ServesLater s marks n
 
 -- some of the lines show the fact
-abbrev pub IsShown : Beginnings → List Line → Fact → Type 0
+abbrev pub IsShown : Prefixes → List Line → Fact → Type 0
 IsShown b lines f = (numbers : List ℕ) × AreShowing b lines numbers f
 
 -- some of the lines show each marked fact
 abbrev pub ShowsMarked : Saturated → List Bool → List Line → Type 0
-ShowsMarked s marks lines = (n : ℕ) (f : Fact) → IsMarked marks n → slice_get s.state.facts n ≡ Some f → IsShown (beginnings_of s.normal) lines f
+ShowsMarked s marks lines = (n : ℕ) (f : Fact) → IsMarked marks n → slice_get s.state.facts n ≡ Some f → IsShown (prefixes_of s.normal) lines f

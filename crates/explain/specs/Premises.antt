@@ -1,8 +1,8 @@
--- What the line of a fact takes: the older facts that it rests on, each edge led up to the property that the form names.
+-- What the line of a fact takes: the older facts that it rests on, each edge lifted to the property that the form names.
 use Rattle.std.specs.Prelude.{◌≡◌, ℕ, List, [], ◌∷◌, ◌++◌, Option, Some, None}
 use Rattle.certificate.specs.Certificate.{Line}
-use Rattle.closure.specs.Said.{Beginnings}
-use Rattle.explain.specs.Shown.{AreShowing}
+use Rattle.closure.specs.Denotations.{Prefixes}
+use Rattle.explain.specs.LinesOfFacts.{AreShowing}
 use Rattle.facts.specs.declared.contexts.Fact.{Fact}
 use Rattle.facts.specs.declared.contexts.Fact.TheVariants.{In, Edge}
 use Rattle.normal_forms.specs.declared.forms.Form.{Form}
@@ -35,31 +35,31 @@ second_property (N8 _ _) = None
 second_property (N9 _ _ _) = None
 
 -- an edge between the same contexts by that property
-abbrev pub led_up : Option PropId2 → Fact → Fact
-led_up None f = f
-led_up (Some s) (In a x) = In a x
-led_up (Some s) (Edge x r y) = Edge x s y
+abbrev pub lifted_to : Option PropId2 → Fact → Fact
+lifted_to None f = f
+lifted_to (Some s) (In a x) = In a x
+lifted_to (Some s) (Edge x r y) = Edge x s y
 
 -- the property of the edge is at that one or below it
-abbrev pub LeadsUp : List Form → Option PropId2 → Fact → Type 0
-LeadsUp forms None f = Unit {0}
-LeadsUp forms (Some s) (In a x) = Unit {0}
-LeadsUp forms (Some s) (Edge x r y) = IsAtOrBelow forms r s
+abbrev pub LiftsTo : List Form → Option PropId2 → Fact → Type 0
+LiftsTo forms None f = Unit {0}
+LiftsTo forms (Some s) (In a x) = Unit {0}
+LiftsTo forms (Some s) (Edge x r y) = IsAtOrBelow forms r s
 
 -- what the line takes from these facts
 abbrev pub taken : Form → List Fact → List Fact
 taken form [] = []
-taken form (f ∷ []) = led_up (first_property form) f ∷ []
-taken form (f ∷ g ∷ more) = led_up (first_property form) f ∷ led_up (second_property form) g ∷ more
+taken form (f ∷ []) = lifted_to (first_property form) f ∷ []
+taken form (f ∷ g ∷ more) = lifted_to (first_property form) f ∷ lifted_to (second_property form) g ∷ more
 
 -- the lines of these numbers, one behind the other, show the facts
-abbrev pub AreShowingEach : Beginnings → List Line → List ℕ → List Fact → Type 0
+abbrev pub AreShowingEach : Prefixes → List Line → List ℕ → List Fact → Type 0
 AreShowingEach b lines numbers [] = numbers ≡ []
 AreShowingEach b lines numbers (f ∷ fs) =
     (first : List ℕ) × (rest : List ℕ) × (numbers ≡ first ++ rest) × AreShowing b lines first f × AreShowingEach b lines rest fs
 
 -- each edge is of a property at or below the one that the form names for it
-abbrev pub LeadUp : List Form → Form → List Fact → Type 0
-LeadUp forms form [] = Unit {0}
-LeadUp forms form (f ∷ []) = LeadsUp forms (first_property form) f
-LeadUp forms form (f ∷ g ∷ more) = LeadsUp forms (first_property form) f × LeadsUp forms (second_property form) g
+abbrev pub LiftTo : List Form → Form → List Fact → Type 0
+LiftTo forms form [] = Unit {0}
+LiftTo forms form (f ∷ []) = LiftsTo forms (first_property form) f
+LiftTo forms form (f ∷ g ∷ more) = LiftsTo forms (first_property form) f × LiftsTo forms (second_property form) g

@@ -1,12 +1,12 @@
 -- What a line says of a fact, and what leads to it.
 use Rattle.std.specs.Prelude.{◌≡◌, ℕ, List, Option, Some, None}
-use Rattle.axioms.specs.Numbered.{Ontology}
+use Rattle.axioms.specs.Ontology.{Ontology}
 use Rattle.certificate.specs.Certificate.{Subject, Expression, Individual, Conclusion, Sub, Edge, Line}
 use Rattle.certificate.specs.declared.line.Rule.{Rule}
 use Rattle.certificate.specs.declared.line.Rule.TheVariants.{K5, K6, K8, K9}
 use Rattle.cert_check.specs.Derivation.{IsDerived}
-use Rattle.closure.specs.Said.{Beginnings}
-use Rattle.explain.specs.Shown.{AreShowing}
+use Rattle.closure.specs.Denotations.{Prefixes}
+use Rattle.explain.specs.LinesOfFacts.{AreShowing}
 use Rattle.facts.specs.declared.contexts.Context as code_context
 use Rattle.facts.specs.declared.contexts.Context.TheVariants as contexts
 use Rattle.facts.specs.declared.contexts.Fact as code
@@ -21,17 +21,17 @@ abbrev pub subject_in : code_context.Context → Subject
 subject_in (contexts.Expr e) = Expression e.0
 subject_in (contexts.Individual a) = Individual a.0
 
--- what a line says of a fact, where the fact is not of a beginning
+-- what a line says of a fact, where the fact is not of a prefix
 abbrev pub said_by : code.Fact → Option Conclusion
 said_by (facts.In (classes.Expr e) x) = Some (Sub (subject_in x) e.0)
 said_by (facts.In (classes.Partial n) x) = None
 said_by (facts.Edge x (properties.Property r) y) = Some (Edge (subject_in x) r.0 (subject_in y))
 said_by (facts.Edge x (properties.Partial n) y) = None
 
--- the lines of these numbers give the fact: a line by the rule, with the axiom, from them; where it is of a beginning, they show it
-pub record LeadTo (o : Ontology) (b : Beginnings) (lines : List Line) (rule : Rule) (axiom' : Option ℕ) (numbers : List ℕ) (f : code.Fact) : Type 0 where
+-- the lines of these numbers give the fact: a line by the rule, with the axiom, from them; where it is of a prefix, they show it
+pub record LeadTo (o : Ontology) (b : Prefixes) (lines : List Line) (rule : Rule) (axiom' : Option ℕ) (numbers : List ℕ) (f : code.Fact) : Type 0 where
   pub line : (c : Conclusion) → said_by f ≡ Some c → IsDerived o lines (record { conclusion = c; rule = rule; axiom' = axiom'; premises = numbers })
-  pub beginning : said_by f ≡ None → AreShowing b lines numbers f
+  pub prefix : said_by f ≡ None → AreShowing b lines numbers f
 
 -- the rule for a form that an expression gave
 abbrev pub expression_rule : Form → Rule

@@ -1,6 +1,6 @@
 -- Walks into owl:Nothing.
 use Rattle.std.specs.Prelude.{◌≡◌, ℕ, List, map, Some}
-use Rattle.axioms.specs.Numbered.{nothing}
+use Rattle.axioms.specs.Ontology.{nothing}
 use Rattle.axioms.specs.View.{at_number}
 use Rattle.certificate.specs.Certificate.{Subject, Conclusion, Sub, Line}
 use Rattle.cert_check.specs.Derivation.{at_numbers}

@@ -1,11 +1,11 @@
 //! What a form that an axiom gave leads to.
 ghost use Rattle.axioms.specs.View.{axiom_of};
 ghost use Rattle.cert_check.specs.Derivation.{IsDerivation};
-ghost use Rattle.engine.specs.Saturated.{IsSaturated};
+ghost use Rattle.engine.specs.Saturations.{IsSaturated};
 ghost use Rattle.explain.specs.AxiomRule.{axiom_rule};
-ghost use Rattle.explain.specs.Older.{AreOlderShown, IsFormOf};
-ghost use Rattle.explain.specs.Serving.{EachIsUsed};
-ghost use Rattle.explain.specs.Shown.{Lengthens, ShowsFact};
+ghost use Rattle.explain.specs.OlderFacts.{AreOlderShown, IsFormOf};
+ghost use Rattle.explain.specs.Uses.{EachIsUsed};
+ghost use Rattle.explain.specs.LinesOfFacts.{Lengthens, ShowsFact};
 ghost use Rattle.facts.specs.Births.{reason};
 ghost use Rattle.normal_forms.specs.declared.forms.Origin.TheVariants as origins;
 ghost use Rattle.std.specs.Prelude.{◌≡◌, ◌<◌, IfOk, OnOk, Some, length, slice_get};

@@ -1,9 +1,9 @@
 //! What a form that an expression gave leads to.
 ghost use Rattle.cert_check.specs.Derivation.{IsDerivation};
-ghost use Rattle.engine.specs.Saturated.{IsSaturated};
-ghost use Rattle.explain.specs.Older.{AreOlderShown, IsFormOf};
-ghost use Rattle.explain.specs.Serving.{EachIsUsed};
-ghost use Rattle.explain.specs.Shown.{Lengthens, ShowsFact};
+ghost use Rattle.engine.specs.Saturations.{IsSaturated};
+ghost use Rattle.explain.specs.OlderFacts.{AreOlderShown, IsFormOf};
+ghost use Rattle.explain.specs.Uses.{EachIsUsed};
+ghost use Rattle.explain.specs.LinesOfFacts.{Lengthens, ShowsFact};
 ghost use Rattle.explain.specs.Step.{expression_rule};
 ghost use Rattle.facts.specs.Births.{reason};
 ghost use Rattle.normal_forms.specs.declared.forms.Origin.TheVariants as origins;

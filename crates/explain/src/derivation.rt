@@ -1,5 +1,5 @@
 //! A derivation that grows line by line.
-ghost use Rattle.axioms.specs.Numbered.{Ontology as Ontology2};
+ghost use Rattle.axioms.specs.Ontology.{Ontology as Ontology2};
 ghost use Rattle.axioms.specs.View.{at_number};
 ghost use Rattle.cert_check.specs.Derivation.{IsDerivation, IsDerived};
 ghost use Rattle.certificate.specs.LineText.{source_of};

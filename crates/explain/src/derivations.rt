@@ -1,10 +1,10 @@
 //! The lines of a saturation.
 ghost use Rattle.cert_check.specs.Derivation.{IsDerivation};
 ghost use Rattle.certificate.specs.View.{lines_of};
-ghost use Rattle.exactness.specs.Listed.{IsConsistent};
-ghost use Rattle.engine.specs.Saturated.{IsSaturated};
+ghost use Rattle.exactness.specs.ListedInterpretation.{IsConsistent};
+ghost use Rattle.engine.specs.Saturations.{IsSaturated};
 ghost use Rattle.exactness.specs.Theorems.{HaveFacts};
-ghost use Rattle.explain.specs.Needed.{EachIsNeeded, ShowsContradiction};
+ghost use Rattle.explain.specs.Needs.{EachIsNeeded, ShowsContradiction};
 ghost use Rattle.std.specs.Prelude.{◌≡◌, [], IfOk, OnOk};
 
 use crate::derivation::Derivation;

@@ -1,7 +1,7 @@
 //! Marked lines, with premises by the numbers that they then have.
 ghost use Rattle.certificate.specs.View.{lines_of};
 ghost use Rattle.std.specs.Prelude.{◌<◌, ◌≤◌, ◌≡◌, All, Contains, IfOk, Some, length, map, slice_get, suc, ℕ};
-ghost use Rattle.explain.specs.Resting.{AreKept, ArePremisesMarked};
+ghost use Rattle.explain.specs.LineMarks.{AreKept, ArePremisesMarked};
 
 use axioms::Memory;
 use certificate::Line;

@@ -1,10 +1,10 @@
 //! What is left of a derivation for one of its lines.
-ghost use Rattle.axioms.specs.Numbered.{Ontology as Ontology2};
+ghost use Rattle.axioms.specs.Ontology.{Ontology as Ontology2};
 ghost use Rattle.axioms.specs.View.{at_number};
 ghost use Rattle.cert_check.specs.Derivation.{IsDerivation};
 ghost use Rattle.certificate.specs.Certificate.{Line as Line2};
 ghost use Rattle.certificate.specs.View.{lines_of};
-ghost use Rattle.exactness.specs.Trimmed.{EachServes, EndsWith, IsTrimmed};
+ghost use Rattle.exactness.specs.Trimming.{EachServes, EndsWith, IsTrimmed};
 ghost use Rattle.std.specs.Prelude.{◌<◌, ◌≤◌, ◌≡◌, IfOk, Some, length};
 
 use crate::kept::kept;

@@ -1,14 +1,14 @@
-//! Edges led up to properties above their own.
+//! Edges lifted to properties above their own.
 ghost use Rattle.axioms.specs.declared.ids.PropId.{PropId as Prop};
 ghost use Rattle.cert_check.specs.Derivation.{IsDerivation};
-ghost use Rattle.engine.specs.Saturated.{IsSaturated};
-ghost use Rattle.explain.specs.Lifted.{GivesStep, LeadsUpTo};
-ghost use Rattle.explain.specs.Serving.{IsAmong, Uses};
-ghost use Rattle.explain.specs.Shown.{AreShowing, Lengthens};
+ghost use Rattle.engine.specs.Saturations.{IsSaturated};
+ghost use Rattle.explain.specs.LiftedEdges.{GivesStep, LiftsEdgeTo};
+ghost use Rattle.explain.specs.Uses.{IsAmong, Uses};
+ghost use Rattle.explain.specs.LinesOfFacts.{AreShowing, Lengthens};
 ghost use Rattle.facts.specs.declared.contexts.Fact.TheVariants.{Edge};
 ghost use Rattle.normal_forms.specs.Properties.{IsAtOrBelow};
 ghost use Rattle.normal_forms.specs.declared.forms.PropId2.TheVariants.{Property};
-ghost use Rattle.normalise.specs.Problem.{beginnings_of};
+ghost use Rattle.normalise.specs.Problem.{prefixes_of};
 ghost use Rattle.std.specs.Prelude.{◌≡◌, IfOk, MatchOption, OnOk, ℕ};
 
 use crate::derivation::Derivation;
@@ -37,12 +37,12 @@ fn step(normal: &Normal, form: usize) -> Option<(PropId, usize)>
     }
 }
 
-/// The numbers of the lines that show an edge led up by the plain form of that number.
+/// The numbers of the lines that show an edge lifted by the plain form of that number.
 ///
 /// # Errors
 ///
 /// `Memory` where memory was refused.
-fn led_on<L: LineSink>(
+fn lifted_by<L: LineSink>(
     alloc: Global,
     ontology: &Ontology,
     saturation: &Saturation,
@@ -54,10 +54,10 @@ fn led_on<L: LineSink>(
 ) -> Result<Vec<u64>, Memory>
     requires saturated { IsSaturated ontology.now saturation.now }
     requires derivation { IsDerivation ontology.now derivation.old }
-    requires leads { (r : Prop) × (s : Prop) × LeadsUpTo saturation.now derivation.old numbers.items source target form r s }
+    requires leads { (r : Prop) × (s : Prop) × LiftsEdgeTo saturation.now derivation.old numbers.items source target form r s }
     ensures derivation { OnOk result (IsDerivation ontology.now derivation.new) }
     ensures longer { OnOk result (Lengthens derivation.old derivation.new) }
-    ensures shown { IfOk result (λ v. (r s : Prop) → LeadsUpTo saturation.now derivation.old numbers.items source target form r s → AreShowing (beginnings_of saturation.now.normal) derivation.new v.items (Edge source (Property s) target)) }
+    ensures shown { IfOk result (λ v. (r s : Prop) → LiftsEdgeTo saturation.now derivation.old numbers.items source target form r s → AreShowing (prefixes_of saturation.now.normal) derivation.new v.items (Edge source (Property s) target)) }
     ensures used { IfOk result (λ v. Uses derivation.old derivation.new (IsAmong numbers.items) v.items) }
 {
     ontology.well_formed();
@@ -69,7 +69,7 @@ fn led_on<L: LineSink>(
     Ok(shown)
 }
 
-/// The numbers of the lines that show an edge led up to a property above its own.
+/// The numbers of the lines that show an edge lifted to a property above its own.
 ///
 /// # Errors
 ///
@@ -89,11 +89,11 @@ pub(crate) fn lifted<L: LineSink>(
     requires saturated { IsSaturated ontology.now saturation.now }
     requires paths { paths.now ≡ saturation.now.state.problem.forms }
     requires derivation { IsDerivation ontology.now derivation.old }
-    requires shown { AreShowing (beginnings_of saturation.now.normal) derivation.old numbers.now (Edge source property target) }
+    requires shown { AreShowing (prefixes_of saturation.now.normal) derivation.old numbers.now (Edge source property target) }
     requires below { IsAtOrBelow saturation.now.state.problem.forms property above }
     ensures derivation { OnOk result (IsDerivation ontology.now derivation.new) }
     ensures longer { OnOk result (Lengthens derivation.old derivation.new) }
-    ensures shown { IfOk result (λ v. AreShowing (beginnings_of saturation.now.normal) derivation.new v.items (Edge source above target)) }
+    ensures shown { IfOk result (λ v. AreShowing (prefixes_of saturation.now.normal) derivation.new v.items (Edge source above target)) }
     ensures used { IfOk result (λ v. Uses derivation.old derivation.new (IsAmong numbers.now) v.items) }
 {
     let mut lines = Vec::new(alloc);
@@ -105,7 +105,7 @@ pub(crate) fn lifted<L: LineSink>(
         unreachable!()
     };
     for form in &path {
-        lines = led_on(
+        lines = lifted_by(
             alloc, ontology, saturation, derivation, lines, source, target, *form,
         )?;
     }

@@ -1,10 +1,10 @@
 //! The line of a fact.
-ghost use Rattle.axioms.specs.Numbered.{Ontology as Ontology2};
+ghost use Rattle.axioms.specs.Ontology.{Ontology as Ontology2};
 ghost use Rattle.cert_check.specs.Derivation.{IsDerivation};
 ghost use Rattle.certificate.specs.View.{conclusion_of, subject_of};
-ghost use Rattle.closure.specs.Said.{Beginnings};
-ghost use Rattle.explain.specs.Serving.{IsAmong, Uses};
-ghost use Rattle.explain.specs.Shown.{AreShowing, Lengthens};
+ghost use Rattle.closure.specs.Denotations.{Prefixes};
+ghost use Rattle.explain.specs.Uses.{IsAmong, Uses};
+ghost use Rattle.explain.specs.LinesOfFacts.{AreShowing, Lengthens};
 ghost use Rattle.explain.specs.Step.{LeadTo, said_by, subject_in};
 ghost use Rattle.std.specs.Prelude.{◌≡◌, ◌<◌, IfOk, OnOk, Some, length, option_map, slice_get};
 
@@ -34,7 +34,7 @@ fn subject(context: Context) -> Subject
     }
 }
 
-/// What a line says of the fact, where the fact is not of a beginning.
+/// What a line says of the fact, where the fact is not of a prefix.
 pub(crate) fn conclusion(fact: Fact) -> Option<Conclusion>
     ensures { option_map conclusion_of result ≡ said_by fact }
 {
@@ -48,7 +48,7 @@ pub(crate) fn conclusion(fact: Fact) -> Option<Conclusion>
 }
 
 /// Adds the line of a fact, by the rule, with the axiom, from lines of these numbers, and gives its number; where the fact is of a
-/// beginning, these lines show it.
+/// prefix, these lines show it.
 ///
 /// # Errors
 ///
@@ -62,8 +62,8 @@ pub(crate) fn concluded<L: LineSink>(
     premises: Vec<u64>,
 ) -> Result<Vec<u64>, Memory>
     ensures longer { OnOk result (Lengthens derivation.old derivation.new) }
-    ensures derivation { OnOk result ((o : Ontology2) (b : Beginnings) → IsDerivation o derivation.old → LeadTo o b derivation.old rule axiom_number premises.items fact → IsDerivation o derivation.new) }
-    ensures shown { IfOk result (λ numbers. (o : Ontology2) (b : Beginnings) → LeadTo o b derivation.old rule axiom_number premises.items fact → AreShowing b derivation.new numbers.items fact) }
+    ensures derivation { OnOk result ((o : Ontology2) (b : Prefixes) → IsDerivation o derivation.old → LeadTo o b derivation.old rule axiom_number premises.items fact → IsDerivation o derivation.new) }
+    ensures shown { IfOk result (λ numbers. (o : Ontology2) (b : Prefixes) → LeadTo o b derivation.old rule axiom_number premises.items fact → AreShowing b derivation.new numbers.items fact) }
     ensures used { IfOk result (λ numbers. Uses derivation.old derivation.new (IsAmong premises.items) numbers.items) }
 {
     let Some(conclusion) = conclusion(fact) else {

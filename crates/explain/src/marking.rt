@@ -1,6 +1,6 @@
 //! Marks on the facts that the lines of marked facts rest on.
 ghost use Rattle.explain.specs.Marks.{AreClosed, IsMarked, ServesLater};
-ghost use Rattle.explain.specs.Serving.{RestsOn};
+ghost use Rattle.explain.specs.Uses.{RestsOn};
 ghost use Rattle.std.specs.Prelude.{◌↔◌, ◌<◌, ◌≡◌, ◌⊎◌, length, ℕ};
 
 use crate::older::rests_on;

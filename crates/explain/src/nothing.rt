@@ -2,8 +2,8 @@
 ghost use Rattle.cert_check.specs.Derivation.{IsDerivation};
 ghost use Rattle.certificate.specs.Certificate.{Sub, Subject as Subject2};
 ghost use Rattle.explain.specs.Walks.{LeadsToNothing, PutsIntoNothing};
-ghost use Rattle.explain.specs.Serving.{IsAmong, Uses};
-ghost use Rattle.explain.specs.Shown.{Lengthens};
+ghost use Rattle.explain.specs.Uses.{IsAmong, Uses};
+ghost use Rattle.explain.specs.LinesOfFacts.{Lengthens};
 ghost use Rattle.std.specs.Prelude.{◌++◌, ◌∷◌, [], IfOk, OnOk, Some};
 
 use crate::derivation::Derivation;

@@ -1,5 +1,5 @@
 //! Which older facts the line of a fact rests on.
-ghost use Rattle.explain.specs.Older.{by_axiom, rests_on};
+ghost use Rattle.explain.specs.OlderFacts.{by_axiom, rests_on};
 ghost use Rattle.facts.specs.Births.{numbers_of, reason};
 ghost use Rattle.std.specs.Prelude.{◌≡◌, take};
 

@@ -1,14 +1,14 @@
 //! What the line of a fact takes.
 ghost use Rattle.cert_check.specs.Derivation.{IsDerivation};
-ghost use Rattle.engine.specs.Saturated.{IsSaturated};
+ghost use Rattle.engine.specs.Saturations.{IsSaturated};
 ghost use Rattle.explain.specs.Premises as spec;
-ghost use Rattle.explain.specs.Premises.{AreShowingEach, LeadUp, LeadsUp, taken};
-ghost use Rattle.explain.specs.Serving.{IsAmong, IsAmongThose, Uses};
-ghost use Rattle.explain.specs.Shown.{AreShowing, Lengthens, ShowsFact};
+ghost use Rattle.explain.specs.Premises.{AreShowingEach, LiftTo, LiftsTo, taken};
+ghost use Rattle.explain.specs.Uses.{IsAmong, IsAmongThose, Uses};
+ghost use Rattle.explain.specs.LinesOfFacts.{AreShowing, Lengthens, ShowsFact};
 ghost use Rattle.facts.specs.Births.{numbers_of};
 ghost use Rattle.facts.specs.declared.contexts.Fact.{Fact as Fact2};
 ghost use Rattle.number_sets.specs.Pieces.{list_at};
-ghost use Rattle.normalise.specs.Problem.{beginnings_of};
+ghost use Rattle.normalise.specs.Problem.{prefixes_of};
 ghost use Rattle.std.specs.List.{Contains};
 ghost use Rattle.std.specs.Prelude.{◌≡◌, ◌<◌, IfOk, List, OnOk, Some, length, map, slice_get, ℕ};
 
@@ -54,8 +54,8 @@ fn copied(alloc: Global, numbers: &[u64]) -> Result<Vec<u64>, Memory>
     Ok(all)
 }
 
-// The numbers of the lines that show an older fact; an edge is led up to the property, where there is one.
-fn led_up<L: LineSink>(
+// The numbers of the lines that show an older fact; an edge is lifted to the property, where there is one.
+fn lifted_to<L: LineSink>(
     alloc: Global,
     ontology: &Ontology,
     saturation: &Saturation,
@@ -70,10 +70,10 @@ fn led_up<L: LineSink>(
     requires derivation { IsDerivation ontology.now derivation.old }
     requires there { older.0 < length saturation.now.state.facts }
     requires shown { ShowsFact saturation.now derivation.old older.0 (list_at shown.now older.0) }
-    requires below { (f : Fact2) → slice_get saturation.now.state.facts older.0 ≡ Some f → LeadsUp saturation.now.state.problem.forms property f }
+    requires below { (f : Fact2) → slice_get saturation.now.state.facts older.0 ≡ Some f → LiftsTo saturation.now.state.problem.forms property f }
     ensures derivation { OnOk result (IsDerivation ontology.now derivation.new) }
     ensures longer { OnOk result (Lengthens derivation.old derivation.new) }
-    ensures shown { IfOk result (λ v. (f : Fact2) → slice_get saturation.now.state.facts older.0 ≡ Some f → AreShowing (beginnings_of saturation.now.normal) derivation.new v.items (spec.led_up property f)) }
+    ensures shown { IfOk result (λ v. (f : Fact2) → slice_get saturation.now.state.facts older.0 ≡ Some f → AreShowing (prefixes_of saturation.now.normal) derivation.new v.items (spec.lifted_to property f)) }
     ensures used { IfOk result (λ v. Uses derivation.old derivation.new (IsAmong (list_at shown.now older.0)) v.items) }
 {
     let known = shown.at(older.0 as usize);
@@ -91,7 +91,7 @@ fn led_up<L: LineSink>(
     }
 }
 
-/// The numbers of the lines that show what the line of a fact takes, one behind the other: the older facts, each edge led up to the
+/// The numbers of the lines that show what the line of a fact takes, one behind the other: the older facts, each edge lifted to the
 /// property that the form names.
 ///
 /// # Errors
@@ -112,28 +112,28 @@ pub(crate) fn premises<L: LineSink>(
     requires derivation { IsDerivation ontology.now derivation.old }
     requires there { (m : ℕ) → Contains (numbers_of older) m → m < length saturation.now.state.facts }
     requires shown { (m : ℕ) → Contains (numbers_of older) m → ShowsFact saturation.now derivation.old m (list_at shown.now m) }
-    requires below { (fs : List Fact2) → map (slice_get saturation.now.state.facts) (numbers_of older) ≡ map Some fs → LeadUp saturation.now.state.problem.forms form.now fs }
+    requires below { (fs : List Fact2) → map (slice_get saturation.now.state.facts) (numbers_of older) ≡ map Some fs → LiftTo saturation.now.state.problem.forms form.now fs }
     ensures derivation { OnOk result (IsDerivation ontology.now derivation.new) }
     ensures longer { OnOk result (Lengthens derivation.old derivation.new) }
-    ensures shown { IfOk result (λ v. (fs : List Fact2) → map (slice_get saturation.now.state.facts) (numbers_of older) ≡ map Some fs → AreShowingEach (beginnings_of saturation.now.normal) derivation.new v.items (taken form.now fs)) }
+    ensures shown { IfOk result (λ v. (fs : List Fact2) → map (slice_get saturation.now.state.facts) (numbers_of older) ≡ map Some fs → AreShowingEach (prefixes_of saturation.now.normal) derivation.new v.items (taken form.now fs)) }
     ensures used { IfOk result (λ v. Uses derivation.old derivation.new (IsAmongThose shown.now (numbers_of older)) v.items) }
 {
     match older {
         Older::None => Ok(Vec::new(alloc)),
         Older::One(only) => {
             let property = first_property(form);
-            let numbers = led_up(
+            let numbers = lifted_to(
                 alloc, ontology, saturation, paths, derivation, shown, only, property,
             )?;
             Ok(numbers)
         }
         Older::Two(first, second) => {
             let property = first_property(form);
-            let mut numbers = led_up(
+            let mut numbers = lifted_to(
                 alloc, ontology, saturation, paths, derivation, shown, first, property,
             )?;
             let property = second_property(form);
-            let more = led_up(
+            let more = lifted_to(
                 alloc, ontology, saturation, paths, derivation, shown, second, property,
             )?;
             numbers.extend_from_slice(&more)?;

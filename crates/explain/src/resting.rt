@@ -1,7 +1,7 @@
 //! Marks on the lines that a line rests on.
 ghost use Rattle.certificate.specs.View.{lines_of};
 ghost use Rattle.std.specs.Prelude.{◌↔◌, ◌<◌, ◌≤◌, ◌≡◌, ◌⊎◌, All, Contains, IfOk, length, suc, ℕ};
-ghost use Rattle.explain.specs.Resting.{ArePremisesBefore, IsMarked, MarksRests};
+ghost use Rattle.explain.specs.LineMarks.{ArePremisesBefore, IsMarked, MarksRests};
 
 use axioms::Memory;
 use certificate::Line;

@@ -1,10 +1,10 @@
 //! What shows a fact.
 ghost use Rattle.cert_check.specs.Derivation.{IsDerivation};
-ghost use Rattle.engine.specs.Saturated.{IsSaturated};
-ghost use Rattle.explain.specs.Older.{AreOlderShown};
+ghost use Rattle.engine.specs.Saturations.{IsSaturated};
+ghost use Rattle.explain.specs.OlderFacts.{AreOlderShown};
 ghost use Rattle.explain.specs.ContextRule.{context_rule};
-ghost use Rattle.explain.specs.Serving.{EachIsUsed};
-ghost use Rattle.explain.specs.Shown.{Lengthens, ShowsFact};
+ghost use Rattle.explain.specs.Uses.{EachIsUsed};
+ghost use Rattle.explain.specs.LinesOfFacts.{Lengthens, ShowsFact};
 ghost use Rattle.facts.specs.Births.{reason};
 ghost use Rattle.std.specs.Prelude.{◌≡◌, ◌<◌, IfOk, List, None, OnOk, Some, length, slice_get, ℕ};
 

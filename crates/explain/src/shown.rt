@@ -1,9 +1,9 @@
 //! The lines of marked facts.
 ghost use Rattle.cert_check.specs.Derivation.{IsDerivation};
-ghost use Rattle.engine.specs.Saturated.{IsSaturated};
+ghost use Rattle.engine.specs.Saturations.{IsSaturated};
 ghost use Rattle.explain.specs.Marks.{IsMarked, IsWantedFact, ShowsMarked};
-ghost use Rattle.explain.specs.Needed.{EachIsNeeded};
-ghost use Rattle.explain.specs.ShownInOrder.{AreReady, IsShowing};
+ghost use Rattle.explain.specs.Needs.{EachIsNeeded};
+ghost use Rattle.explain.specs.LineOrder.{AreReady, IsShowing};
 ghost use Rattle.facts.specs.declared.contexts.Fact.{Fact as Fact2};
 ghost use Rattle.std.specs.Prelude.{◌+◌, ◌<◌, ◌≡◌, [], IfOk, OnOk, Some, length, slice_get, ℕ};
 

@@ -14,7 +14,7 @@ use Rattle.facts.specs.declared.slots.Found.TheVariants.{At, Free}
 use Rattle.facts.specs.declared.slots.Slots.{Slots}
 use Rattle.facts.specs.declared.slots.Slots.TheVariants.{Few, Several, Many}
 use Rattle.facts.specs.Slots.{home_of, bucket_of, buckets_of, numbers_of, Stands, IsFirstFree, IsFound, AreFound, HasSlots, HasRoom, CanHold, HaveSlots, IfFree, Holds, IsFreeFor, IsTable}
-use Rattle.axioms.specs.WellFormed.{AreDistinct}
+use Rattle.axioms.specs.WellFormedness.{AreDistinct}
 use Rattle.facts.proofs.Facts.{distinct_push, distinct_take}
 
 pub set_here : {X : Type 0} (xs : List X) (i : ℕ) (x y : X) → slice_get xs i ≡ Some y → slice_get (set xs i x) i ≡ Some x

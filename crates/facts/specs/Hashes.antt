@@ -5,7 +5,7 @@ use Rattle.std.specs.Hash.DefaultHasher as sip
 use Rattle.std.specs.List.{fold}
 use Rattle.std.specs.RandomState.{initial_hasher}
 use Rattle.std.specs.declared.hash.RandomState.{RandomState}
-use Rattle.facts.specs.Writes.{class_word, context_word, property_word}
+use Rattle.facts.specs.HashInput.{class_word, context_word, property_word}
 use Rattle.facts.specs.declared.contexts.Fact.{Fact}
 use Rattle.facts.specs.declared.contexts.Fact.TheVariants as facts
 use Rattle.facts.specs.declared.seeds.Seeds.{Seeds}

@@ -1,7 +1,7 @@
 pub mod Births
 pub mod Closure
-pub mod Stored
+pub mod StoredFacts
 pub mod Theorems
-pub mod Writes
+pub mod HashInput
 pub mod Hashes
 pub mod Slots

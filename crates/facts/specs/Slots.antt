@@ -1,7 +1,7 @@
 -- Where facts are found by their hashes: in slots, which hold one more than the place of a fact, or 0 where they are free. The facts
 -- of contexts with one number share slots, since they are sought one after the other.
 use Rattle.std.specs.Prelude.{◌≡◌, ℕ, suc, ◌-◌, ◌%◌, ◌^◌, ◌<◌, ◌≤◌, List, length, slice_index, slice_get, Some, bit_and}
-use Rattle.axioms.specs.WellFormed.{AreDistinct}
+use Rattle.axioms.specs.WellFormedness.{AreDistinct}
 use Rattle.facts.specs.declared.contexts.Context.{Context}
 use Rattle.facts.specs.declared.contexts.Context.TheVariants as contexts
 use Rattle.facts.specs.declared.contexts.Fact.{Fact}

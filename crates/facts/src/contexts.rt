@@ -1,5 +1,5 @@
 //! Contexts, and the facts that speak of them.
-ghost use Rattle.facts.specs.Writes.{class_word, context_word, property_word};
+ghost use Rattle.facts.specs.HashInput.{class_word, context_word, property_word};
 ghost use Rattle.std.specs.Prelude.{◌≡◌};
 
 use axioms::{ExprId, IndId, PropId};

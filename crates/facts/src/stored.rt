@@ -1,5 +1,5 @@
 //! Facts as they are kept.
-ghost use Rattle.facts.specs.Stored.{class_from, context_from, property_from};
+ghost use Rattle.facts.specs.StoredFacts.{class_from, context_from, property_from};
 ghost use Rattle.std.specs.Prelude.{◌≡◌};
 
 use crate::contexts::{Context, Fact};
@@ -24,7 +24,7 @@ pub struct StoredFact {
 }
 
 impl Model for StoredFact {
-    ghost use Rattle.facts.specs.Stored.{fact_of};
+    ghost use Rattle.facts.specs.StoredFacts.{fact_of};
     ghost use Rattle.facts.specs.declared.contexts.Fact.{Fact};
 
     ghost Value = { Fact };

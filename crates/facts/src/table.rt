@@ -1,5 +1,5 @@
 //! Facts in order, each once, found by their hashes.
-ghost use Rattle.axioms.specs.WellFormed.{AreDistinct};
+ghost use Rattle.axioms.specs.WellFormedness.{AreDistinct};
 ghost use Rattle.std.specs.Prelude.{◌≡◌, ◌↔◌, ◌<◌, ◌^◌, ◌++◌, ◌∷◌, [], true, false, length, take, Contains, Ok, IfSome, IsNone, OnErr, Some, slice_get};
 
 use crate::contexts::Fact;

@@ -2,4 +2,4 @@ pub mod Spelling
 pub mod Reading
 pub mod Views
 pub mod Faults
-pub mod Printed
+pub mod Messages

@@ -62,7 +62,7 @@ pub enum LexFault {
 
 impl fmt::Display for LexFault {
     ghost use Rattle.std.specs.Prelude.{Some};
-    ghost use Rattle.fs_lexer.specs.Printed.{fault_text};
+    ghost use Rattle.fs_lexer.specs.Messages.{fault_text};
 
     ghost output = { λ fault. Some (fault_text fault) };
 

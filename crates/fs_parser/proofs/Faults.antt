@@ -19,7 +19,7 @@ use Rattle.fs_parser.specs.Front.{BeginsWith, IsTaken}
 use Rattle.fs_parser.specs.Laws.{TokensEndInText}
 use Rattle.fs_parser.specs.Machine.{Pending, Nothing, Word, Text, Typed, Frame, State, ends, ends_at, finish_at, finish_before, if_named, enter_if, enter, leave, plain, behind_text, behind_word, step_at, step}
 use Rattle.fs_parser.specs.Name.{Prefixes, standard_prefixes, IsNameOf, IsShort}
-use Rattle.fs_parser.specs.Said.{IsEnd, IsSaid, IsSaidOfTrees, IsSaidOfToken, IsSaidOfName, IsSaidOfIri, IsPlain}
+use Rattle.fs_parser.specs.FaultMeanings.{IsEnd, IsSaid, IsSaidOfTrees, IsSaidOfToken, IsSaidOfName, IsSaidOfIri, IsPlain}
 use Rattle.fs_parser.specs.State.{Fails, Gives, frames_of, name_of_code}
 use Rattle.fs_parser.specs.Tree.{Tree, Name, PlainLiteral, TypedLiteral}
 use Rattle.fs_parser.specs.View.{tokens_of, iri_of}

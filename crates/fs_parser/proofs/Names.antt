@@ -32,7 +32,7 @@ to_option {P} (no none) x h one = absurd (none x h)
 
 -- ---- texts
 
--- what stands behind a beginning
+-- what stands behind a prefix
 pub behind : (front text : List ℕ) → Decided (λ rest. text ≡ front ++ rest)
 behind [] text = yes text refl
 behind (a ∷ front) [] = no (λ x e. cc)

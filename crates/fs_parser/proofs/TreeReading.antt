@@ -11,7 +11,7 @@ use Rattle.fs_parser.specs.Name.{Prefixes, StandForOne, IsNameOf, standard_prefi
 use Rattle.fs_parser.specs.State.{name_of_code}
 use Rattle.fs_parser.specs.Stream.{AreTreesBehind, BeginText, IsHeader}
 use Rattle.fs_parser.specs.Tree.{Tree, Empty, depth}
-use Rattle.fs_parser.specs.TreesLeft.{IsFirst, IsStartOf, IsTreeAt, text_left}
+use Rattle.fs_parser.specs.Rest.{IsFirst, IsStartOf, IsTreeAt, text_left}
 use Rattle.fs_parser.specs.View.{trees_from, iri_of}
 use Rattle.fs_parser.specs.declared.iri.Iri as code_iri
 use Rattle.fs_parser.proofs.Run.{start}

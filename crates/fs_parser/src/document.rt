@@ -8,10 +8,10 @@ ghost use Rattle.fs_parser.specs.Document as spec;
 ghost use Rattle.fs_parser.specs.Faults.{IsPlaced, last_place};
 ghost use Rattle.fs_parser.specs.Front.{BeginsWith, BeginsWithKind, IsWord, MayBeNamed, MayStandFor};
 ghost use Rattle.fs_parser.specs.Name.{StandForOne, IsBracketed};
-ghost use Rattle.fs_parser.specs.Said.{IsPlain, IsSaid, IsSaidOfIri, IsSaidOfName};
+ghost use Rattle.fs_parser.specs.FaultMeanings.{IsPlain, IsSaid, IsSaidOfIri, IsSaidOfName};
 ghost use Rattle.fs_parser.specs.State.{Gives, IsRefusal};
 ghost use Rattle.fs_parser.specs.Tree.{Trees};
-ghost use Rattle.fs_parser.specs.Known.{known_of};
+ghost use Rattle.fs_parser.specs.KnownPrefixes.{known_of};
 ghost use Rattle.fs_parser.specs.View.{tokens_of, prefix_of, prefixes_of_code, trees_of, document_of};
 
 use crate::fault::ParseFault;

@@ -28,7 +28,7 @@ pub enum ParseFault {
 
 impl fmt::Display for ParseFault {
     ghost use Rattle.std.specs.Prelude.{Some};
-    ghost use Rattle.fs_parser.specs.Printed.{fault_text};
+    ghost use Rattle.fs_parser.specs.Messages.{fault_text};
 
     ghost output = { λ fault. Some (fault_text fault) };
 

@@ -12,7 +12,7 @@ pub struct Iri<'a> {
     pub local: &'a str,
 }
 
-/// What stands behind a beginning.
+/// What stands behind a prefix.
 fn behind<'a>(text: &'a str, front: &str) -> Option<&'a str>
     ensures some { IfSome result (λ rest. text.now ≡ front.now ++ rest.now) }
     ensures none { IfNone result ((rest : List ℕ) → text.now ≡ front.now ++ rest → ⊥) }

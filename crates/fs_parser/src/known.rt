@@ -21,7 +21,7 @@ impl<'a> Known<'a> {
     ghost use Rattle.std.specs.Prelude.{◌++◌, ◌∷◌, [], IfOk, map};
     ghost use Rattle.std.specs.List.{Contains};
     ghost use Rattle.std.specs.Option.{IfSome, IfNone};
-    ghost use Rattle.fs_parser.specs.Known.{known_of};
+    ghost use Rattle.fs_parser.specs.KnownPrefixes.{known_of};
     ghost use Rattle.fs_parser.specs.View.{prefix_of};
 
     /// The standard prefixes alone.

@@ -1,7 +1,7 @@
 //! Reading trees that stand alone, with the prefixes of a document.
 ghost use Rattle.std.specs.Prelude.{IfErr, IfOk};
 ghost use Rattle.fs_parser.specs.Faults.{last_place};
-ghost use Rattle.fs_parser.specs.Said.{IsSaidOfTrees};
+ghost use Rattle.fs_parser.specs.FaultMeanings.{IsSaidOfTrees};
 ghost use Rattle.fs_parser.specs.State.{IsRefusal};
 ghost use Rattle.fs_parser.specs.Tree as spec;
 ghost use Rattle.fs_parser.specs.View.{tokens_of, tree_of, trees_of};

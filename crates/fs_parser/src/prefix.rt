@@ -5,7 +5,7 @@ ghost use Rattle.std.specs.List.{Contains};
 ghost use Rattle.std.specs.Option.{IfSome, IfNone};
 ghost use Rattle.fs_lexer.specs.Views.{token_of};
 ghost use Rattle.fs_parser.specs.Name.{IsNameOf, IsShort, IsBracketed, standard_prefixes};
-ghost use Rattle.fs_parser.specs.Known.{known_of};
+ghost use Rattle.fs_parser.specs.KnownPrefixes.{known_of};
 ghost use Rattle.fs_parser.specs.View.{iri_of};
 
 use crate::iri::Iri;

@@ -1,8 +1,8 @@
 //! Prefixes that own their texts.
 ghost use Rattle.std.specs.Prelude.{◌≡◌, ◌++◌, IfOk, map};
-ghost use Rattle.fs_parser.specs.Known.{known_of};
+ghost use Rattle.fs_parser.specs.KnownPrefixes.{known_of};
 ghost use Rattle.fs_parser.specs.Name.{StandForOne, standard_prefixes};
-ghost use Rattle.fs_parser.specs.Owned.{owned_prefix};
+ghost use Rattle.fs_parser.specs.OwnedPrefixes.{owned_prefix};
 ghost use Rattle.fs_parser.specs.View.{prefix_of, prefixes_of_code};
 
 use crate::known::Known;
@@ -26,7 +26,7 @@ pub struct Prefixes {
 
 impl Model for Prefixes {
     ghost use Rattle.fs_parser.specs.Name as names;
-    ghost use Rattle.fs_parser.specs.Owned.{owned_prefixes, IsOwned};
+    ghost use Rattle.fs_parser.specs.OwnedPrefixes.{owned_prefixes, IsOwned};
 
     ghost Value = { names.Prefixes };
 

@@ -8,11 +8,11 @@ ghost use Rattle.fs_parser.specs.declared.fault.ParseFault.TheVariants as faults
 ghost use Rattle.fs_parser.specs.Machine as machine;
 ghost use Rattle.fs_parser.specs.Machine.{add, enter, leave, plain, behind_text, begins_second, step, ends, finish, finish_before, only_one};
 ghost use Rattle.fs_parser.specs.Name.{StandForOne};
-ghost use Rattle.fs_parser.specs.Said.{IsEnd, IsMemory, IsPlain, IsPlainAt, IsSaidOfToken, IsSaidOfTrees, IsTooDeepAt};
+ghost use Rattle.fs_parser.specs.FaultMeanings.{IsEnd, IsMemory, IsPlain, IsPlainAt, IsSaidOfToken, IsSaidOfTrees, IsTooDeepAt};
 ghost use Rattle.fs_parser.specs.State.{Gives, Fails, whole_of, frames_of, keyword_of, name_of_code, state_of};
 ghost use Rattle.fs_parser.specs.Tree as spec;
 ghost use Rattle.fs_parser.specs.Tree.{Trees, AreClosed, AreShallow, IsShallow};
-ghost use Rattle.fs_parser.specs.Known.{known_of};
+ghost use Rattle.fs_parser.specs.KnownPrefixes.{known_of};
 ghost use Rattle.fs_parser.specs.View.{tokens_of, tree_of, trees_of};
 
 use crate::fault::ParseFault;

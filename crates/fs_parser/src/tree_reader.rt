@@ -1,13 +1,13 @@
 //! Reading the trees of a document one by one.
 ghost use Rattle.std.specs.Prelude.{◌≡◌, ◌≤◌, ◌∷◌, [], IfNone, IfOk, IfSome, IsTrue, OnErr, Some, length, option_map};
-ghost use Rattle.fs_parser.specs.Known.{known_of};
+ghost use Rattle.fs_parser.specs.KnownPrefixes.{known_of};
 ghost use Rattle.fs_parser.specs.Machine as machine;
 ghost use Rattle.fs_parser.specs.Machine.{finish};
 ghost use Rattle.fs_parser.specs.Name.{Prefixes, StandForOne};
 ghost use Rattle.fs_parser.specs.State.{state_of};
 ghost use Rattle.fs_parser.specs.Stream.{AreTreesBehind};
 ghost use Rattle.fs_parser.specs.Tree.{Empty};
-ghost use Rattle.fs_parser.specs.TreesLeft.{IsNext, IsStartOf, IsTreeAt};
+ghost use Rattle.fs_parser.specs.Rest.{IsNext, IsStartOf, IsTreeAt};
 ghost use Rattle.fs_parser.specs.View.{tree_of};
 
 use crate::document::DEEPEST;
@@ -36,11 +36,11 @@ pub struct TreeReader<'a> {
 
 impl<'a> Model for TreeReader<'a> {
     ghost use Rattle.std.specs.Prelude.{◌≤◌, length};
-    ghost use Rattle.fs_parser.specs.TreesLeft.{TextLeft, text_left};
+    ghost use Rattle.fs_parser.specs.Rest.{TextLeft, text_left};
 
     ghost Value = { TextLeft };
 
-    ghost use Rattle.fs_parser.specs.Known.{known_of};
+    ghost use Rattle.fs_parser.specs.KnownPrefixes.{known_of};
     ghost use Rattle.fs_parser.specs.Name.{StandForOne};
     ghost use Rattle.fs_parser.specs.View.{prefixes_of_code};
 

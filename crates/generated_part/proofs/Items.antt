@@ -4,7 +4,7 @@ use Rattle.std.specs.Prelude.{slice_set}
 use Rattle.std.proofs.lemmas.Bool.{cases_eq}
 use Rattle.std.proofs.lemmas.List.{length-set, get_or-set_other, length-replicate}
 use Rattle.lemmas.proofs.Members.{Contains-none}
-use Rattle.axioms.specs.Numbered.{Ontology, IsClassAt}
+use Rattle.axioms.specs.Ontology.{Ontology, IsClassAt}
 use Rattle.axioms.specs.declared.ids.ClassId.{ClassId}
 use Rattle.axioms.specs.declared.ids.PropId.{PropId}
 use Rattle.axioms.proofs.Trees.{one_class}
@@ -12,7 +12,7 @@ use Rattle.cert_check.specs.Additions.{SomeRow}
 use Rattle.cert_check.proofs.Additions.{some_none, some_next, contains_next, step_both}
 use Rattle.number_sets.specs.Pieces.{list_at}
 use Rattle.property_closure.proofs.Members.{one_more_item, list_at_none, none_taken}
-use Rattle.generated_part.specs.ByElement.{class_id, prop_id}
+use Rattle.generated_part.specs.Elements.{class_id, prop_id}
 use Rattle.generated_part.specs.Items.{AddsItems, AreItems}
 
 -- ---- one item more

@@ -8,12 +8,12 @@ use Rattle.lemmas.proofs.Mapped.{All-from_map}
 use Rattle.lemmas.proofs.Members.{Contains-from_slice_get, slice_get-from_Contains}
 use Rattle.lemmas.proofs.Places.{slice_get_there}
 use Rattle.axioms.specs.Axiom as tree
-use Rattle.axioms.specs.Numbered.{Ontology, Axiom, Node, Class, And, Exists, SubClass, EquivalentClasses, DisjointClasses, SubProperty, EquivalentProperties, Domain, Transitive, Reflexive, ClassAssertion, PropertyAssertion, IsPart, expression, expressions, property_name, individual_name, axiom_tree, axiom_trees}
-use Rattle.axioms.specs.WellFormed.{IsOntology, IsAxiomOf}
+use Rattle.axioms.specs.Ontology.{Ontology, Axiom, Node, Class, And, Exists, SubClass, EquivalentClasses, DisjointClasses, SubProperty, EquivalentProperties, Domain, Transitive, Reflexive, ClassAssertion, PropertyAssertion, IsPart, expression, expressions, property_name, individual_name, axiom_tree, axiom_trees}
+use Rattle.axioms.specs.WellFormedness.{IsOntology, IsAxiomOf}
 use Rattle.axioms.proofs.Trees.{class_tree, some_tree, and_tree, by_nodes}
 use Rattle.interpretation_spec.specs.Interpretation.{Interpretation, IsInterpretation, IsModel, IsIn, HasPath, IsSame, IsApart, IsSameProperty, Satisfies}
 use Rattle.interpretation_spec.proofs.Extensions.{in_intersection, each_of_intersection}
-use Rattle.generated_part.specs.Generated.{IsReached, start, individual, step, IsGenerated}
+use Rattle.generated_part.specs.GeneratedPart.{IsReached, start, individual, step, IsGenerated}
 
 -- two places of a list whose images agree by pairs
 pair_of : {B : Type 0} (R : B → B → Type 0) (f : ℕ → B) (xs : List ℕ) → AllPairs R (map f xs) → (m n c d : ℕ) → m < n → slice_get xs m ≡ Some c → slice_get xs n ≡ Some d → R (f c) (f d)

@@ -2,20 +2,20 @@
 use Rattle.std.proofs.Common.{◌≡◌, ◌↔◌, ℕ, zero, suc, ◌<◌, ◌≤◌, true, List, length, slice_get, Some, sym, ap, ◌∙◌, subst, arith}
 use Rattle.std.proofs.lemmas.List.Elements.{All-contains}
 use Rattle.lemmas.proofs.Members.{Contains-from_slice_get}
-use Rattle.axioms.specs.Numbered.{Ontology, Class, IsClassAt, name_at, property_name}
-use Rattle.axioms.specs.WellFormed.{IsOntology}
+use Rattle.axioms.specs.Ontology.{Ontology, Class, IsClassAt, name_at, property_name}
+use Rattle.axioms.specs.WellFormedness.{IsOntology}
 use Rattle.axioms.specs.declared.ids.ClassId.{ClassId}
 use Rattle.axioms.specs.declared.ids.PropId.{PropId}
 use Rattle.axioms.proofs.Trees.{one_class}
 use Rattle.certificate.specs.Certificate.{Listed}
-use Rattle.certificate.specs.HasText.{IsListedOf, IsNamedClass, AreElements}
+use Rattle.certificate.specs.Writability.{IsListedOf, IsNamedClass, AreElements}
 use Rattle.cert_check.specs.Additions.{IsListedMember, IsListedPair}
 use Rattle.cert_check.proofs.ListedRows.{listed_member, listed_target, member_by_class, class_behind}
 use Rattle.interpretation_spec.specs.Interpretation.{Interpretation}
-use Rattle.listed_model.specs.Interpreted.{listed_interpretation}
+use Rattle.listed_model.specs.Interpretations.{listed_interpretation}
 use Rattle.listed_model.specs.Listing.{IsListing}
 use Rattle.listed_model.proofs.Interpreted.{size_is, listing_is}
-use Rattle.generated_part.specs.ByElement.{IsByElement}
+use Rattle.generated_part.specs.Elements.{IsByElement}
 use Rattle.generated_part.specs.Items.{AreItems}
 use Rattle.generated_part.specs.declared.by_element.ByElement.{ByElement}
 

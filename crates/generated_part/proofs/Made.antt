@@ -5,18 +5,18 @@ use Rattle.std.proofs.lemmas.Bool.{cases_Bool, both_ways}
 use Rattle.std.proofs.lemmas.Option.{same_Some, slice_get_within, slice_get-get_or, get_or_from_slice_get}
 use Rattle.lemmas.proofs.Members.{Contains-first, Contains-later, Contains-cons_cases, Contains-from_slice_get, slice_get-from_Contains}
 use Rattle.axioms.specs.Expression.{owl_thing, owl_nothing}
-use Rattle.axioms.specs.Numbered.{Ontology, name_at, property_name, individual_name}
-use Rattle.axioms.specs.WellFormed.{IsOntology}
+use Rattle.axioms.specs.Ontology.{Ontology, name_at, property_name, individual_name}
+use Rattle.axioms.specs.WellFormedness.{IsOntology}
 use Rattle.axioms.specs.declared.ids.PropId.{PropId}
-use Rattle.interpretation_spec.specs.ByName.{interpretation_of, is_target}
+use Rattle.interpretation_spec.specs.NamedInterpretation.{interpretation_of, is_target}
 use Rattle.interpretation_spec.specs.Interpretation.{Interpretation, IsInterpretation}
-use Rattle.interpretation_spec.specs.Numbered.{NumberedInterpretation, IsNumberedInterpretation, IsMadeFor, members_of}
+use Rattle.interpretation_spec.specs.NumberedInterpretation.{NumberedInterpretation, IsNumberedInterpretation, IsMadeFor, members_of}
 use Rattle.interpretation_spec.proofs.Names.{StandsFor, stands}
 use Rattle.number_sets.specs.Members.{has}
 use Rattle.number_sets.specs.Pieces.{list_at}
 use Rattle.property_closure.proofs.Members.{nothing_past}
-use Rattle.generated_part.specs.ByElement.{class_id, prop_id, IsByElement}
-use Rattle.generated_part.specs.Generated.{IsReached, start, individual, step, IsGenerated}
+use Rattle.generated_part.specs.Elements.{class_id, prop_id, IsByElement}
+use Rattle.generated_part.specs.GeneratedPart.{IsReached, start, individual, step, IsGenerated}
 use Rattle.generated_part.specs.Part.{AreChosen, IsPart}
 use Rattle.generated_part.specs.Search.{IsFound, itself, onward, IsBounded}
 use Rattle.generated_part.specs.declared.by_element.ByElement.{ByElement}

@@ -6,8 +6,8 @@ use Rattle.std.proofs.lemmas.Bool.{cases_eq, false≢true}
 use Rattle.std.proofs.lemmas.Option.{same_Some, slice_get_within, none-some}
 use Rattle.lemmas.proofs.Mapped.{slice_get_map}
 use Rattle.lemmas.proofs.Places.{take_push, slice_get_take, take_slice_get}
-use Rattle.axioms.specs.Numbered.{Ontology}
-use Rattle.axioms.specs.WellFormed.{IsOntology}
+use Rattle.axioms.specs.Ontology.{Ontology}
+use Rattle.axioms.specs.WellFormedness.{IsOntology}
 use Rattle.axioms.specs.declared.ids.ClassId.{ClassId}
 use Rattle.axioms.specs.declared.ids.PropId.{PropId}
 use Rattle.cert_check.specs.Additions.{AddsMembers, AddsPairs, PutsIndividuals}
@@ -15,11 +15,11 @@ use Rattle.cert_check.proofs.Additions.{contains_more, one_member, more_members,
 use Rattle.cert_check.proofs.Made.{empty_is_made_for}
 use Rattle.cert_check.proofs.Rowwise.{no_number}
 use Rattle.taxonomy.specs.Relation.{lies_below}
-use Rattle.interpretation_spec.specs.ByName.{is_target}
-use Rattle.interpretation_spec.specs.Numbered.{NumberedInterpretation, IsNumberedInterpretation, IsMadeFor, empty_interpretation, members_of, with_member, with_pair, with_individual}
+use Rattle.interpretation_spec.specs.NamedInterpretation.{is_target}
+use Rattle.interpretation_spec.specs.NumberedInterpretation.{NumberedInterpretation, IsNumberedInterpretation, IsMadeFor, empty_interpretation, members_of, with_member, with_pair, with_individual}
 use Rattle.number_sets.specs.Members.{has}
 use Rattle.number_sets.specs.Pieces.{list_at}
-use Rattle.generated_part.specs.ByElement.{class_id, prop_id}
+use Rattle.generated_part.specs.Elements.{class_id, prop_id}
 use Rattle.generated_part.specs.Part.{IsMemberAt, LeadsFrom, IsPairAt, IsPart}
 use Rattle.generated_part.specs.declared.by_element.ByElement.{ByElement}
 

@@ -5,19 +5,19 @@ use Rattle.std.proofs.lemmas.List.Elements.{Contains-append_left, Contains-push,
 use Rattle.std.proofs.lemmas.Option.{get_or_from_slice_get, slice_get-get_or, slice_get_within, none-some}
 use Rattle.lemmas.proofs.Members.{Contains-none, slice_get-from_Contains}
 use Rattle.lemmas.proofs.Places.{slice_get_push, keeps_push}
-use Rattle.axioms.specs.Numbered.{Ontology, name_at, property_name, individual_name}
-use Rattle.axioms.specs.WellFormed.{IsOntology}
+use Rattle.axioms.specs.Ontology.{Ontology, name_at, property_name, individual_name}
+use Rattle.axioms.specs.WellFormedness.{IsOntology}
 use Rattle.axioms.specs.declared.ids.ClassId.{ClassId}
 use Rattle.axioms.specs.declared.ids.PropId.{PropId}
-use Rattle.interpretation_spec.specs.ByName.{interpretation_of, is_target}
+use Rattle.interpretation_spec.specs.NamedInterpretation.{interpretation_of, is_target}
 use Rattle.interpretation_spec.specs.Interpretation.{Interpretation}
-use Rattle.interpretation_spec.specs.Numbered.{NumberedInterpretation, IsNumberedInterpretation, IsMadeFor, members_of, targets_of}
+use Rattle.interpretation_spec.specs.NumberedInterpretation.{NumberedInterpretation, IsNumberedInterpretation, IsMadeFor, members_of, targets_of}
 use Rattle.interpretation_spec.proofs.Names.{stands}
 use Rattle.listed_model.proofs.Members.{holds_from_Contains, Contains_from_holds}
 use Rattle.number_sets.specs.Members.{has}
 use Rattle.number_sets.specs.Pieces.{list_at}
 use Rattle.property_closure.proofs.Members.{one_more_taken, none_taken, all_taken}
-use Rattle.generated_part.specs.ByElement.{class_id, prop_id, AreClassesAt, ArePairsAt, IsByElement}
+use Rattle.generated_part.specs.Elements.{class_id, prop_id, AreClassesAt, ArePairsAt, IsByElement}
 use Rattle.generated_part.specs.declared.by_element.ByElement.{ByElement}
 
 -- ---- classes

@@ -1,6 +1,6 @@
-pub mod Generated
+pub mod GeneratedPart
 pub mod Theorems
-pub mod ByElement
+pub mod Elements
 pub mod Search
 pub mod Part
 pub mod Items

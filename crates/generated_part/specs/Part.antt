@@ -4,10 +4,10 @@ use Rattle.std.specs.List.{Contains}
 use Rattle.std.specs.List.Sorted.{IsStrictlyIncreasing}
 use Rattle.axioms.specs.declared.ids.ClassId.{ClassId}
 use Rattle.axioms.specs.declared.ids.PropId.{PropId}
-use Rattle.generated_part.specs.ByElement.{class_id, prop_id}
+use Rattle.generated_part.specs.Elements.{class_id, prop_id}
 use Rattle.generated_part.specs.declared.by_element.ByElement.{ByElement}
-use Rattle.interpretation_spec.specs.ByName.{is_target}
-use Rattle.interpretation_spec.specs.Numbered.{NumberedInterpretation, members_of}
+use Rattle.interpretation_spec.specs.NamedInterpretation.{is_target}
+use Rattle.interpretation_spec.specs.NumberedInterpretation.{NumberedInterpretation, members_of}
 use Rattle.number_sets.specs.Members.{has}
 use Rattle.number_sets.specs.Pieces.{list_at}
 

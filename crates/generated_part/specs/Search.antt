@@ -1,7 +1,7 @@
 -- The search for what pairs lead to from some numbers.
 use Rattle.std.specs.Prelude.{◌≡◌, ℕ, ◌<◌, ◌≤◌, ◌↔◌, Bool, true, List, [], ◌∷◌, ◌++◌, if◌then◌else◌, length, fold, slice_get, slice_set, Some}
 use Rattle.std.specs.List.{Contains}
-use Rattle.axioms.specs.WellFormed.{AreDistinct}
+use Rattle.axioms.specs.WellFormedness.{AreDistinct}
 use Rattle.axioms.specs.declared.ids.PropId.{PropId}
 use Rattle.generated_part.specs.declared.search.Search as code
 use Rattle.number_sets.specs.Members.{has}

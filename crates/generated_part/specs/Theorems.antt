@@ -1,9 +1,9 @@
 -- What a generated part keeps.
 use Rattle.std.specs.Prelude.{◌≡◌, ℕ, ◌<◌, ◌↔◌, length, slice_get, Some}
-use Rattle.axioms.specs.Numbered.{Ontology, Axiom, expression, axiom_tree, axiom_trees}
-use Rattle.axioms.specs.WellFormed.{IsOntology, IsAxiomOf}
+use Rattle.axioms.specs.Ontology.{Ontology, Axiom, expression, axiom_tree, axiom_trees}
+use Rattle.axioms.specs.WellFormedness.{IsOntology, IsAxiomOf}
 use Rattle.interpretation_spec.specs.Interpretation.{Interpretation, IsInterpretation, IsIn, Satisfies, IsModel}
-use Rattle.generated_part.specs.Generated.{IsGenerated}
+use Rattle.generated_part.specs.GeneratedPart.{IsGenerated}
 
 -- each element is in the same expressions as in the whole
 abbrev pub GeneratedHoldsSame : Type 0

@@ -1,7 +1,7 @@
 //! Interpretations by their elements.
-ghost use Rattle.generated_part.specs.ByElement.{AreClassesAt, ArePairsAt, IsByElement};
-ghost use Rattle.interpretation_spec.specs.ByName.{interpretation_of};
-ghost use Rattle.interpretation_spec.specs.Numbered.{IsMadeFor, members_of, targets_of as targets_by};
+ghost use Rattle.generated_part.specs.Elements.{AreClassesAt, ArePairsAt, IsByElement};
+ghost use Rattle.interpretation_spec.specs.NamedInterpretation.{interpretation_of};
+ghost use Rattle.interpretation_spec.specs.NumberedInterpretation.{IsMadeFor, members_of, targets_of as targets_by};
 ghost use Rattle.number_sets.specs.Members.{has};
 ghost use Rattle.std.specs.Prelude.{◌<◌, ◌≡◌, ◌≤◌, ◌^◌, ◌⊎◌, ◌↔◌, Contains, IfOk, OnOk, length, slice_index, ℕ};
 ghost use Rattle.axioms.specs.declared.ids.PropId.{PropId as PropId2};

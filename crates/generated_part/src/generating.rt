@@ -1,12 +1,12 @@
 //! Generated parts.
-ghost use Rattle.certificate.specs.HasText.{IsListedOf};
+ghost use Rattle.certificate.specs.Writability.{IsListedOf};
 ghost use Rattle.certificate.specs.View.{listed_of};
-ghost use Rattle.generated_part.specs.ByElement.{IsByElement};
-ghost use Rattle.generated_part.specs.Generated.{IsGenerated};
-ghost use Rattle.interpretation_spec.specs.ByName.{interpretation_of};
+ghost use Rattle.generated_part.specs.Elements.{IsByElement};
+ghost use Rattle.generated_part.specs.GeneratedPart.{IsGenerated};
+ghost use Rattle.interpretation_spec.specs.NamedInterpretation.{interpretation_of};
 ghost use Rattle.interpretation_spec.specs.Interpretation.{Interpretation as Interpretation2, IsInterpretation};
-ghost use Rattle.interpretation_spec.specs.Numbered.{IsMadeFor};
-ghost use Rattle.listed_model.specs.Interpreted.{listed_interpretation};
+ghost use Rattle.interpretation_spec.specs.NumberedInterpretation.{IsMadeFor};
+ghost use Rattle.listed_model.specs.Interpretations.{listed_interpretation};
 ghost use Rattle.std.specs.Prelude.{◌<◌, IfOk};
 
 use crate::by_element::ByElement;

@@ -1,10 +1,10 @@
 //! Listed interpretations by their elements.
 ghost use Rattle.cert_check.specs.Additions.{IsListedMember, IsListedPair, ListsMember, ListsPair};
-ghost use Rattle.certificate.specs.HasText.{IsListedOf};
+ghost use Rattle.certificate.specs.Writability.{IsListedOf};
 ghost use Rattle.certificate.specs.View.{class_row_of, listed_of, pair_row_of};
-ghost use Rattle.generated_part.specs.ByElement.{IsByElement};
+ghost use Rattle.generated_part.specs.Elements.{IsByElement};
 ghost use Rattle.generated_part.specs.Items.{AddsItems, AreItems};
-ghost use Rattle.listed_model.specs.Interpreted.{listed_interpretation};
+ghost use Rattle.listed_model.specs.Interpretations.{listed_interpretation};
 ghost use Rattle.std.specs.Prelude.{◌≡◌, IfOk, OnOk, map};
 
 use crate::by_element::ByElement;

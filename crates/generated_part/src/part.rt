@@ -1,9 +1,9 @@
 //! The interpretation that is made of chosen elements.
 ghost use Rattle.axioms.specs.declared.ids.PropId.{PropId as PropId2};
 ghost use Rattle.cert_check.specs.Additions.{AddsMembers, AddsPairs, PutsIndividuals};
-ghost use Rattle.generated_part.specs.ByElement.{class_id};
+ghost use Rattle.generated_part.specs.Elements.{class_id};
 ghost use Rattle.generated_part.specs.Part.{IsMemberAt, IsPairAt, IsPart, LeadsFrom};
-ghost use Rattle.interpretation_spec.specs.Numbered.{IsMadeFor};
+ghost use Rattle.interpretation_spec.specs.NumberedInterpretation.{IsMadeFor};
 ghost use Rattle.number_sets.specs.Pieces.{list_at};
 ghost use Rattle.std.specs.Prelude.{◌<◌, ◌≡◌, ◌≤◌, ◌^◌, All, Contains, IfOk, OnOk, Some, length, map, slice_get, slice_index, ℕ};
 

@@ -9,7 +9,7 @@ use Rattle.facts.specs.declared.contexts.Fact.{Fact}
 use Rattle.indexes.specs.Tables.{at, Adds, PutsLast}
 use Rattle.indexes.specs.declared.by_context.ByContext.{ByContext}
 use Rattle.indexes.specs.Contexts.{at_context, AddsAt, EndsAt, IsLast, IsSameAt, PutsLastAt}
-use Rattle.indexes.specs.Indexed.{MayListIn}
+use Rattle.indexes.specs.FactIndex.{MayListIn}
 
 pub adds_expression : (old new : ByContext) (e : ExprId) (number : ℕ) → Adds old.expressions new.expressions e.0 number → new.individuals ≡ old.individuals → AddsAt old new (Expr e) number
 adds_expression old new e number adds same (Expr d) n = (

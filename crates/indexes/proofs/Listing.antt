@@ -7,7 +7,7 @@ use Rattle.indexes.specs.declared.key_lists.KeyLists.{KeyLists}
 use Rattle.indexes.specs.declared.key_pairs.KeyPairs.{KeyPairs}
 use Rattle.indexes.specs.Lists.{AreLists}
 use Rattle.indexes.specs.Pairs.{ArePairsOf}
-use Rattle.indexes.specs.Listed.{ListsForms}
+use Rattle.indexes.specs.FormIndex.{ListsForms}
 
 -- the lists of the pairs of forms
 pub lists_of_pairs : (key : Form → Option Key) (forms : List Form) (pairs : KeyPairs) (lists : KeyLists) → ArePairsOf key forms pairs

@@ -2,7 +2,7 @@
 use Rattle.std.proofs.Common.{◌≡◌, ℕ, zero, suc, ◌⊎◌, inl, inr, List, [], ◌∷◌, ◌++◌, Some, Contains, refl, sym, ap, ◌∙◌, arith}
 use Rattle.std.proofs.lemmas.Option.{same_Some}
 use Rattle.lemmas.proofs.Members.{Contains-from_slice_get, slice_get-from_Contains, Contains-later, Contains-cons_cases}
-use Rattle.axioms.specs.WellFormed.{AreDistinct}
+use Rattle.axioms.specs.WellFormedness.{AreDistinct}
 use Rattle.indexes.specs.Parts.{ArePartOf, none, taken, left_out}
 
 pub part_empty : (xs : List ℕ) → ArePartOf [] xs

@@ -37,5 +37,5 @@ pub record IsEmptyIndex (index : Index) : Type 0 where
   pub classes : IsEmptyTable index.classes
   pub from : IsEmptyTable index.from
   pub into : IsEmptyTable index.into
-  pub seconds : IsEmptyTable index.seconds
+  pub second_premises : IsEmptyTable index.second_premises
   pub fillers : IsEmptyTable index.fillers

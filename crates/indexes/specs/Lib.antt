@@ -1,10 +1,10 @@
 pub mod Tables
 pub mod Contexts
 pub mod Parts
-pub mod Indexed
-pub mod Named
+pub mod FactIndex
+pub mod Keys
 pub mod Roles
-pub mod Under
+pub mod FormsUnderKeys
 pub mod Pairs
 pub mod Lists
-pub mod Listed
+pub mod FormIndex

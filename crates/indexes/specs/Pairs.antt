@@ -5,7 +5,7 @@ use Rattle.normal_forms.specs.declared.forms.Form.{Form}
 use Rattle.indexes.specs.declared.keys.Key.{Key}
 use Rattle.indexes.specs.declared.keys.Key.TheVariants.{Whole, Partial}
 use Rattle.indexes.specs.declared.key_pairs.KeyPairs.{KeyPairs}
-use Rattle.indexes.specs.Under.{IsUnder}
+use Rattle.indexes.specs.FormsUnderKeys.{IsUnder}
 
 -- the number stands with the key
 abbrev pub HasPair : KeyPairs → Key → ℕ → Type 0

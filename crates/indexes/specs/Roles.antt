@@ -4,7 +4,7 @@ use Rattle.normal_forms.specs.declared.forms.Form.{Form}
 use Rattle.indexes.specs.declared.keys.Key.{Key}
 use Rattle.indexes.specs.declared.roles.Role.{Role}
 use Rattle.indexes.specs.declared.roles.Role.TheVariants as role
-use Rattle.indexes.specs.Named.{by_kind, by_alone, by_first, by_second, by_filler, by_chain, by_end, by_plain}
+use Rattle.indexes.specs.Keys.{by_kind, by_alone, by_first, by_second, by_filler, by_chain, by_end, by_plain}
 
 abbrev pub key_by : Role → Form → Option Key
 key_by role.Kind = by_kind

@@ -1,6 +1,6 @@
 //! Lists of forms by key.
 ghost use Rattle.std.specs.Prelude.{◌≡◌, ◌≤◌, IfOk, [], length};
-ghost use Rattle.indexes.specs.Listed.{IsFormIndex};
+ghost use Rattle.indexes.specs.FormIndex.{IsFormIndex};
 
 use crate::key_lists::KeyLists;
 use crate::roles::Role;

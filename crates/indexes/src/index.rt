@@ -1,19 +1,19 @@
 //! The index.
 ghost use Rattle.std.specs.Prelude.{◌≡◌, OnOk};
 ghost use Rattle.indexes.specs.Contexts.{at_context, IsEmptyIndex};
-ghost use Rattle.indexes.specs.Indexed.{MayList, Lists};
+ghost use Rattle.indexes.specs.FactIndex.{MayList, Lists};
 
 use crate::by_context::ByContext;
 use facts::{Context, Fact};
 use std::alloc::{AllocError, Global};
 
-/// The numbers of facts, by context: classes in it, edges from it, edges into it, those of the edges from it that are seconds, and
+/// The numbers of facts, by context: classes in it, edges from it, edges into it, those of the edges from it that are second premises, and
 /// those of the classes in it that are fillers.
 pub struct Index {
     classes: ByContext,
     from: ByContext,
     into: ByContext,
-    seconds: ByContext,
+    second_premises: ByContext,
     fillers: ByContext,
 }
 
@@ -24,7 +24,7 @@ impl Drop for Index {
             classes: _,
             from: _,
             into: _,
-            seconds: _,
+            second_premises: _,
             fillers: _,
         } = self;
     }
@@ -39,7 +39,7 @@ impl Index {
             classes: ByContext::new(alloc),
             from: ByContext::new(alloc),
             into: ByContext::new(alloc),
-            seconds: ByContext::new(alloc),
+            second_premises: ByContext::new(alloc),
             fillers: ByContext::new(alloc),
         }
     }
@@ -65,11 +65,11 @@ impl Index {
         self.into.of(context)
     }
 
-    /// Those edges from the context that were added as seconds.
-    pub fn seconds_from(&self, context: Context) -> &[u32]
-        ensures { result.now ≡ at_context self.now.seconds context }
+    /// Those edges from the context that were added as second premises.
+    pub fn second_premises_from(&self, context: Context) -> &[u32]
+        ensures { result.now ≡ at_context self.now.second_premises context }
     {
-        self.seconds.of(context)
+        self.second_premises.of(context)
     }
 
     /// Those facts that put a class into the context that were added as fillers.
@@ -88,7 +88,7 @@ impl Index {
         }
     }
 
-    /// Lists a fact, once where it was the last to be listed; an edge among the seconds too, where it is one, and a class among the
+    /// Lists a fact, once where it was the last to be listed; an edge among the second premises too, where it is one, and a class among the
     /// fillers. Where memory is refused it may be listed in part.
     pub fn add(
         &mut self,
@@ -111,7 +111,7 @@ impl Index {
                 self.from.add(x, number)?;
                 self.into.add(y, number)?;
                 if is_second {
-                    self.seconds.add(x, number)?;
+                    self.second_premises.add(x, number)?;
                 }
             }
         }

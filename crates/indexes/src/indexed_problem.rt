@@ -1,8 +1,8 @@
 //! A problem whose forms are found by key.
 ghost use Rattle.std.specs.Prelude.{◌≡◌, ◌↔◌, ◌++◌, [], ℕ, Contains, IfOk, slice_get};
 ghost use Rattle.indexes.specs.declared.keys.Key.TheVariants as keys;
-ghost use Rattle.indexes.specs.Named.{class_key, property_key, by_kind, by_alone, by_first, by_second, by_filler, by_chain, by_end, by_plain};
-ghost use Rattle.indexes.specs.Under.{IsUnder};
+ghost use Rattle.indexes.specs.Keys.{class_key, property_key, by_kind, by_alone, by_first, by_second, by_filler, by_chain, by_end, by_plain};
+ghost use Rattle.indexes.specs.FormsUnderKeys.{IsUnder};
 
 use crate::form_index::FormIndex;
 use crate::keys::Key;
@@ -34,7 +34,7 @@ impl Drop for IndexedProblem {
 
 impl Model for IndexedProblem {
     ghost use Rattle.facts.specs.Closure.{Problem};
-    ghost use Rattle.indexes.specs.Listed.{IsFormIndex};
+    ghost use Rattle.indexes.specs.FormIndex.{IsFormIndex};
 
     ghost Value = { Problem };
 

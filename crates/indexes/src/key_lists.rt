@@ -1,6 +1,6 @@
 //! Lists of the numbers of forms, by keys of two kinds.
 ghost use Rattle.std.specs.Prelude.{◌≡◌, ◌≤◌, IfOk, length};
-ghost use Rattle.indexes.specs.Listed.{at_key, ListsForms, ListsNothing};
+ghost use Rattle.indexes.specs.FormIndex.{at_key, ListsForms, ListsNothing};
 ghost use Rattle.indexes.specs.Roles.{key_by};
 
 use crate::key_pairs::KeyPairs;

@@ -1,6 +1,6 @@
 //! The keys of a form: one for each table.
 ghost use Rattle.std.specs.Prelude.{◌≡◌};
-ghost use Rattle.indexes.specs.Named.{class_key, property_key, by_kind, by_alone, by_first, by_second, by_filler, by_chain, by_end, by_plain};
+ghost use Rattle.indexes.specs.Keys.{class_key, property_key, by_kind, by_alone, by_first, by_second, by_filler, by_chain, by_end, by_plain};
 
 use crate::keys::Key;
 use normal_forms::{Class2, Form, PropId2};

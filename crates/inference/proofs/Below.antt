@@ -8,7 +8,7 @@ use Rattle.normal_forms.specs.declared.forms.Form.{Form}
 use Rattle.normal_forms.specs.declared.forms.Form.TheVariants.{N5}
 use Rattle.normal_forms.specs.Properties.{IsAtOrBelow, IsPropertyFormOf, property_forms, same, step}
 use Rattle.normal_forms.proofs.Suffice.{suffice}
-use Rattle.property_closure.specs.Closed.{Known, Has}
+use Rattle.property_closure.specs.PropertyClosures.{Known, Has}
 
 itself_or_there : (k : Known) → All (IsPropertyFormOf k.properties k.partials) k.forms → (p q : PropId2) → IsAtOrBelow k.forms p q → (p ≡ q) ⊎ Has k p
 itself_or_there k all p _ same = inl refl

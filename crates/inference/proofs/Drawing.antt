@@ -9,11 +9,11 @@ use Rattle.facts.specs.declared.contexts.Context.{Context}
 use Rattle.facts.specs.declared.contexts.Context.TheVariants.{Expr}
 use Rattle.facts.specs.declared.contexts.Fact.{Fact}
 use Rattle.facts.specs.Closure.{Problem, CarriesBack, IsContextBy, IsLoop, in_thing, in_itself, by_form, unsatisfiable, loop}
-use Rattle.inference.specs.Derived.{Keeps, Derived, Grows}
-use Rattle.inference.specs.Begun.{LoopIsDrawn}
-use Rattle.inference.specs.Working.{AreAt, IsContextAt, AllDrawn, DrawnAt, AreDrawn, IsEntered, Drawn, MeetEachOther, AreMet, AreMetBefore, AreMetBehind}
+use Rattle.inference.specs.Derivations.{Keeps, Derived, Grows}
+use Rattle.inference.specs.Entry.{LoopIsDrawn}
+use Rattle.inference.specs.Completeness.{AreAt, IsContextAt, AllDrawn, DrawnAt, AreDrawn, IsEntered, Drawn, MeetEachOther, AreMet, AreMetBefore, AreMetBehind}
 use Rattle.inference.proofs.Growth.{there_still}
-use Rattle.inference.proofs.Sparing.{but_spared_still}
+use Rattle.inference.proofs.Redundancy.{up_to_redundancy_still}
 use Rattle.inference.proofs.Lists.{Contains-from_slice_get, one_value, take_push}
 
 -- facts stay where they are
@@ -72,7 +72,7 @@ pub entered_still : {k : Problem} {most : ℕ} {a b : Derived} → Grows k most 
 entered_still s x w = record { top = there_still s _ w.top; itself = λ e h. there_still s _ (w.itself e h); loops = all_still s _ _ w.loops }
 
 pub met_still : {k : Problem} {most : ℕ} {a b : Derived} → Grows k most a b → (f g : Fact) → MeetEachOther k f g a → MeetEachOther k f g b
-met_still s f g w = record { first = but_spared_still s (f ∷ g ∷ []) w.first; second = but_spared_still s (g ∷ f ∷ []) w.second }
+met_still s f g w = record { first = up_to_redundancy_still s (f ∷ g ∷ []) w.first; second = up_to_redundancy_still s (g ∷ f ∷ []) w.second }
 
 pub all_met_still : {k : Problem} {most : ℕ} {a b : Derived} → Grows k most a b → (f : Fact) (old : List Fact) (numbers : List ℕ) → AreMet k f old numbers a → AreMet k f old numbers b
 all_met_still s f old numbers met n there g at = met_still s f g (met n there g at)
@@ -81,12 +81,12 @@ all_met_still s f old numbers met n there g at = met_still s f g (met n there g 
 pub met_earlier : {k : Problem} {most : ℕ} {a b : Derived} → Grows k most a b → (f : Fact) (numbers : List ℕ) (new : Derived) → AreMet k f b.facts numbers new → AreMet k f a.facts numbers new
 met_earlier s f numbers new met n there g at = met n there g (s.facts n g at)
 
--- what the fact gives as the first of two is there or spared still
+-- what the fact gives as the first of two is there or redundant still
 pub before_still : {k : Problem} {most : ℕ} {a b : Derived} → Grows k most a b → (f : Fact) (old : List Fact) (numbers : List ℕ) → AreMetBefore k f old numbers a → AreMetBefore k f old numbers b
-before_still s f old numbers met n there g at = but_spared_still s (f ∷ g ∷ []) (met n there g at)
+before_still s f old numbers met n there g at = up_to_redundancy_still s (f ∷ g ∷ []) (met n there g at)
 
 pub behind_still : {k : Problem} {most : ℕ} {a b : Derived} → Grows k most a b → (f : Fact) (old : List Fact) (numbers : List ℕ) → AreMetBehind k f old numbers a → AreMetBehind k f old numbers b
-behind_still s f old numbers met n there g at = but_spared_still s (g ∷ f ∷ []) (met n there g at)
+behind_still s f old numbers met n there g at = up_to_redundancy_still s (g ∷ f ∷ []) (met n there g at)
 
 pub before_earlier : {k : Problem} {most : ℕ} {a b : Derived} → Grows k most a b → (f : Fact) (numbers : List ℕ) (new : Derived) → AreMetBefore k f b.facts numbers new → AreMetBefore k f a.facts numbers new
 before_earlier s f numbers new met n there g at = met n there g (s.facts n g at)

@@ -8,11 +8,11 @@ use Rattle.facts.specs.declared.contexts.Context.{Context}
 use Rattle.facts.specs.declared.contexts.Fact.{Fact}
 use Rattle.facts.specs.declared.contexts.Fact.TheVariants.{In, Edge}
 use Rattle.facts.specs.Closure.{Problem, FromNone, FromOne, FromTwo, Concludes, Carries, CarriesBack, IsLoop, Gives, in_thing, in_itself, by_form, unsatisfiable, loop}
-use Rattle.property_closure.specs.Closed.{Known, Has}
-use Rattle.inference.specs.Closed.{PutsOnEdges, IsClosureOf}
-use Rattle.inference.specs.Derived.{Derived, IsDerived}
-use Rattle.inference.specs.Working.{AreAt}
-use Rattle.inference.specs.Visited.{chained_property, HasProperty, IsBy}
+use Rattle.property_closure.specs.PropertyClosures.{Known, Has}
+use Rattle.inference.specs.PropertyClosures.{PutsOnEdges, IsClosureOf}
+use Rattle.inference.specs.Derivations.{Derived, IsDerived}
+use Rattle.inference.specs.Completeness.{AreAt}
+use Rattle.inference.specs.Visits.{chained_property, HasProperty, IsBy}
 use Rattle.inference.proofs.Lists.{Contains-from_slice_get, slice_get_there}
 
 -- the property of the fact, where it is an edge, is one that the form puts there

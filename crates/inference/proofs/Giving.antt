@@ -9,10 +9,10 @@ use Rattle.facts.specs.declared.contexts.Context.{Context}
 use Rattle.facts.specs.declared.contexts.Fact.{Fact}
 use Rattle.facts.specs.declared.contexts.Fact.TheVariants.{In, Edge}
 use Rattle.facts.specs.Closure.{Problem, FromTwo, Carries, in_thing, in_itself, by_form, unsatisfiable, loop, nothing}
-use Rattle.indexes.specs.Named.{class_key, property_key, by_first, by_second, by_filler, by_chain}
-use Rattle.inference.specs.Visited.{GiveNothing, NoneUnder, IsEdge, IsBy, IsNotCarried}
-use Rattle.inference.specs.Derived.{Derived}
-use Rattle.inference.specs.Working.{DrawnButSpared}
+use Rattle.indexes.specs.Keys.{class_key, property_key, by_first, by_second, by_filler, by_chain}
+use Rattle.inference.specs.Visits.{GiveNothing, NoneUnder, IsEdge, IsBy, IsNotCarried}
+use Rattle.inference.specs.Derivations.{Derived}
+use Rattle.inference.specs.Completeness.{DrawnUpToRedundancy}
 
 -- two facts give something by a form, or owl:Nothing is carried back
 by_form_or_back : (k : Problem) (f g : Fact) → ((n : ℕ) (form : Form) (h : Fact) → slice_get k.forms n ≡ Some form → FromTwo k form f g h → ⊥) → ((h : Fact) → Carries f g h → ⊥) → GiveNothing k f g
@@ -58,16 +58,16 @@ filler k (N8 _ _) x y z r c h w = absurd w
 filler k (N9 _ _ _) x y z r c h w = absurd w
 
 -- from two edges, a property at or above that of the first
-pub beginning : (k : Problem) (form : Form) (x y z v : Context) (p q : PropId2) (h : Fact) → FromTwo k form (Edge x p y) (Edge z q v) h → (r : PropId2) × IsAtOrBelow k.forms p r × (by_chain form ≡ Some (property_key r))
-beginning k (N1 _ _) x y z v p q h w = absurd w
-beginning k (N2 _ _ _) x y z v p q h w = absurd w
-beginning k (N3 _ _ _) x y z v p q h w = absurd w
-beginning k (N4 _ _ _) x y z v p q h w = absurd w
-beginning k (N5 _ _) x y z v p q h w = absurd w
-beginning k (N6 r s t) x y z v p q h w = (r, w.0, refl)
-beginning k (N7 _) x y z v p q h w = absurd w
-beginning k (N8 _ _) x y z v p q h w = absurd w
-beginning k (N9 _ _ _) x y z v p q h w = absurd w
+pub prefix : (k : Problem) (form : Form) (x y z v : Context) (p q : PropId2) (h : Fact) → FromTwo k form (Edge x p y) (Edge z q v) h → (r : PropId2) × IsAtOrBelow k.forms p r × (by_chain form ≡ Some (property_key r))
+prefix k (N1 _ _) x y z v p q h w = absurd w
+prefix k (N2 _ _ _) x y z v p q h w = absurd w
+prefix k (N3 _ _ _) x y z v p q h w = absurd w
+prefix k (N4 _ _ _) x y z v p q h w = absurd w
+prefix k (N5 _ _) x y z v p q h w = absurd w
+prefix k (N6 r s t) x y z v p q h w = (r, w.0, refl)
+prefix k (N7 _) x y z v p q h w = absurd w
+prefix k (N8 _ _) x y z v p q h w = absurd w
+prefix k (N9 _ _ _) x y z v p q h w = absurd w
 
 -- from a class and an edge, in this order, none
 no_edge_behind : (k : Problem) (form : Form) (a : Class2) (x y z : Context) (r : PropId2) (h : Fact) → FromTwo k form (In a x) (Edge y r z) h → ⊥
@@ -93,7 +93,7 @@ pub no_filler : (k : Problem) (x y z : Context) (r : PropId2) (c : Class2) → (
 no_filler k x y z r c other none = by_form_or_back k (Edge x r y) (In c z) (λ n form h at w. none n (form, at, filler k form x y z r c h w)) (λ h b. other b.0)
 
 pub no_chain : (k : Problem) (x y z v : Context) (p q : PropId2) → ((r : PropId2) → IsAtOrBelow k.forms p r → NoneUnder by_chain k.forms (property_key r)) → GiveNothing k (Edge x p y) (Edge z q v)
-no_chain k x y z v p q none = by_form_or_back k (Edge x p y) (Edge z q v) (λ n form h at w. let b = beginning k form x y z v p q h w in none b.0 b.1 n (form, at, b.2)) (λ h b. b)
+no_chain k x y z v p q none = by_form_or_back k (Edge x p y) (Edge z q v) (λ n form h at w. let b = prefix k form x y z v p q h w in none b.0 b.1 n (form, at, b.2)) (λ h b. b)
 
 pub no_order : (k : Problem) (a : Class2) (x y z : Context) (r : PropId2) → GiveNothing k (In a x) (Edge y r z)
 no_order k a x y z r = by_form_or_back k (In a x) (Edge y r z) (λ n form h at w. no_edge_behind k form a x y z r h w) (λ h c. c)
@@ -104,16 +104,16 @@ uncarried k c z other none (Edge x r y) is = no_filler k x y z r c other none
 
 -- ---- so nothing is missing
 
-pub nothing_missing : (k : Problem) (f g : Fact) (facts : Derived) → GiveNothing k f g → DrawnButSpared k (f ∷ g ∷ []) facts
+pub nothing_missing : (k : Problem) (f g : Fact) (facts : Derived) → GiveNothing k f g → DrawnUpToRedundancy k (f ∷ g ∷ []) facts
 nothing_missing k f g facts none condition form h gives = absurd (none condition form h gives)
 
 -- nothing is carried for a class along an edge
-pub not_carried : (k : Problem) (c : Class2) (z : Context) (g : Fact) (facts : Derived) → (c ≡ nothing → ⊥) → NoneUnder by_filler k.forms (class_key c) → IsEdge g → DrawnButSpared k (g ∷ In c z ∷ []) facts
+pub not_carried : (k : Problem) (c : Class2) (z : Context) (g : Fact) (facts : Derived) → (c ≡ nothing → ⊥) → NoneUnder by_filler k.forms (class_key c) → IsEdge g → DrawnUpToRedundancy k (g ∷ In c z ∷ []) facts
 not_carried k c z g facts other none is = nothing_missing k g (In c z) facts (uncarried k c z other none g is)
 
 -- no chain begins with an edge
-pub no_beginning : (k : Problem) (p : PropId2) (f g : Fact) (facts : Derived) → IsBy p f → ((r : PropId2) → IsAtOrBelow k.forms p r → NoneUnder by_chain k.forms (property_key r)) → IsEdge g → DrawnButSpared k (f ∷ g ∷ []) facts
-no_beginning k p (In a x) g facts by none is = absurd by
-no_beginning k p (Edge x r y) (In b z) facts by none is = absurd is
-no_beginning k p (Edge x r y) (Edge z q v) facts by none is =
+pub no_prefix : (k : Problem) (p : PropId2) (f g : Fact) (facts : Derived) → IsBy p f → ((r : PropId2) → IsAtOrBelow k.forms p r → NoneUnder by_chain k.forms (property_key r)) → IsEdge g → DrawnUpToRedundancy k (f ∷ g ∷ []) facts
+no_prefix k p (In a x) g facts by none is = absurd by
+no_prefix k p (Edge x r y) (In b z) facts by none is = absurd is
+no_prefix k p (Edge x r y) (Edge z q v) facts by none is =
     nothing_missing k (Edge x r y) (Edge z q v) facts (no_chain k x y z v r q (subst (λ s. (t : PropId2) → IsAtOrBelow k.forms s t → NoneUnder by_chain k.forms (property_key t)) (sym by) none))

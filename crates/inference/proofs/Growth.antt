@@ -5,7 +5,7 @@ use Rattle.std.proofs.lemmas.Option.{slice_get_within, slice_get-get_or}
 use Rattle.facts.specs.declared.contexts.Fact.{Fact}
 use Rattle.facts.specs.Closure.{Problem, IsFact, AreFacts, given, none, more}
 use Rattle.facts.specs.Births.{Reason, IsBirth}
-use Rattle.inference.specs.Derived.{Derived, IsDerived, Grows, HasMoreFactsThan, AreDistinct}
+use Rattle.inference.specs.Derivations.{Derived, IsDerived, Grows, HasMoreFactsThan, AreDistinct}
 use Rattle.inference.proofs.Lists.{Contains-from_slice_get, slice_get_there, slice_get_push_cases, keeps_push, slice_get_take}
 
 pub grows_same : {k : Problem} {most : ℕ} {d : Derived} → IsDerived k d → Grows k most d d

@@ -7,9 +7,9 @@ use Rattle.facts.specs.declared.contexts.Context.{Context}
 use Rattle.facts.specs.declared.contexts.Fact.{Fact}
 use Rattle.facts.specs.declared.contexts.Fact.TheVariants.{In, Edge}
 use Rattle.facts.specs.Closure.{Problem, Concludes, FromTwo, in_thing, in_itself, by_form, unsatisfiable, loop}
-use Rattle.inference.specs.Derived.{Derived, Grows}
-use Rattle.inference.specs.Visited.{IsClassFact}
-use Rattle.inference.specs.Working.{DrawnAt, IsDrawnIn, MeetsOperands, MeetEachOther, DrawnButSpared}
+use Rattle.inference.specs.Derivations.{Derived, Grows}
+use Rattle.inference.specs.Visits.{IsClassFact}
+use Rattle.inference.specs.Completeness.{DrawnAt, IsDrawnIn, MeetsOperands, MeetEachOther, DrawnUpToRedundancy}
 use Rattle.inference.proofs.Drawing.{drawn_at_still}
 use Rattle.inference.proofs.Giving.{first_operand, second_operand}
 use Rattle.inference.proofs.Growth.{there_still}
@@ -61,7 +61,7 @@ pub drawn_in_earlier : {k : Problem} {most : ℕ} {a b : Derived} → Grows k mo
 drawn_in_earlier s new x n drawn c d inc ind = drawn c d (there_still s _ inc) (there_still s _ ind)
 
 -- two classes give nothing but by intersections
-pub by_intersections : (k : Problem) (a b : Class2) (x y : Context) (new : Derived) → ((n : ℕ) (form : Form) (h : Fact) → slice_get k.forms n ≡ Some form → FromTwo k form (In a x) (In b y) h → Contains new.facts h) → DrawnButSpared k (In a x ∷ In b y ∷ []) new
+pub by_intersections : (k : Problem) (a b : Class2) (x y : Context) (new : Derived) → ((n : ℕ) (form : Form) (h : Fact) → slice_get k.forms n ≡ Some form → FromTwo k form (In a x) (In b y) h → Contains new.facts h) → DrawnUpToRedundancy k (In a x ∷ In b y ∷ []) new
 by_intersections k a b x y new forms _ _ h (in_thing c) = absurd c
 by_intersections k a b x y new forms _ _ h (in_itself c) = absurd c
 by_intersections k a b x y new forms _ _ h (by_form n form at gives) = inl (forms n form h at gives)

@@ -1,6 +1,6 @@
 pub mod Lists
 pub mod Growth
-pub mod Sparing
+pub mod Redundancy
 pub mod Drawing
 pub mod Giving
 pub mod Intersections

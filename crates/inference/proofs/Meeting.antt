@@ -9,11 +9,11 @@ use Rattle.facts.specs.declared.contexts.Fact.TheVariants.{In, Edge}
 use Rattle.facts.specs.Closure.{Problem}
 use Rattle.indexes.specs.declared.index.Index.{Index}
 use Rattle.indexes.specs.Contexts.{at_context}
-use Rattle.indexes.specs.Indexed.{IsIn, IsFrom, IsInto}
-use Rattle.inference.specs.Derived.{Derived, Grows}
-use Rattle.inference.specs.Working.{AreMet, AreMetBefore, AreMetBehind}
-use Rattle.inference.specs.Visited.{AreAll, IsClassFact, IsEdge}
-use Rattle.inference.specs.Met.{IsWithin, AllListedAreMet}
+use Rattle.indexes.specs.FactIndex.{IsIn, IsFrom, IsInto}
+use Rattle.inference.specs.Derivations.{Derived, Grows}
+use Rattle.inference.specs.Completeness.{AreMet, AreMetBefore, AreMetBehind}
+use Rattle.inference.specs.Visits.{AreAll, IsClassFact, IsEdge}
+use Rattle.inference.specs.Meetings.{IsWithin, AllListedAreMet}
 use Rattle.inference.proofs.Lists.{one_value}
 
 -- what holds of the numbers of one list holds of those of another that is the same
@@ -27,7 +27,7 @@ module _ (k : Problem) (old : List Fact) (index : Index) (new : Derived) where
     same_list (λ ns. AreMetBehind k (In a x) old ns new) m _ d q,
   )
 
-  pub met_edge : (x : Context) (r : PropId2) (y : Context) (l m o : List ℕ) → l ≡ at_context index.fillers y → m ≡ at_context index.seconds y → o ≡ at_context index.into x → AreMetBefore k (Edge x r y) old l new → AreMetBefore k (Edge x r y) old m new → AreMetBehind k (Edge x r y) old o new → AllListedAreMet k (Edge x r y) old index new
+  pub met_edge : (x : Context) (r : PropId2) (y : Context) (l m o : List ℕ) → l ≡ at_context index.fillers y → m ≡ at_context index.second_premises y → o ≡ at_context index.into x → AreMetBefore k (Edge x r y) old l new → AreMetBefore k (Edge x r y) old m new → AreMetBehind k (Edge x r y) old o new → AllListedAreMet k (Edge x r y) old index new
   met_edge x r y l m o e d b p q t = (
     same_list (λ ns. AreMetBefore k (Edge x r y) old ns new) l _ e p,
     same_list (λ ns. AreMetBefore k (Edge x r y) old ns new) m _ d q,
@@ -49,8 +49,8 @@ fillers_listed w x numbers e n c = let o = w.fillers x n (subst (λ ns. Contains
     kind (In a y) h = tt
     kind (Edge y r z) h = absurd h
 
-pub seconds_listed : {facts : List Fact} {index : Index} → IsWithin facts index → (x : Context) (numbers : List ℕ) → numbers ≡ at_context index.seconds x → AreAll IsEdge facts numbers
-seconds_listed w x numbers e n c = let o = w.seconds x n (subst (λ ns. Contains ns n) e c) in (o.0, o.1, kind o.0 o.2)
+pub second_premises_listed : {facts : List Fact} {index : Index} → IsWithin facts index → (x : Context) (numbers : List ℕ) → numbers ≡ at_context index.second_premises x → AreAll IsEdge facts numbers
+second_premises_listed w x numbers e n c = let o = w.second_premises x n (subst (λ ns. Contains ns n) e c) in (o.0, o.1, kind o.0 o.2)
   where
     kind : (f : Fact) → IsFrom x f → IsEdge f
     kind (In a y) h = absurd h
@@ -66,7 +66,7 @@ into_listed w x numbers e n c = let o = w.into x n (subst (λ ns. Contains ns n)
 pub within_still : {k : Problem} {most : ℕ} {a b : Derived} {index : Index} → Grows k most a b → IsWithin a.facts index → IsWithin b.facts index
 within_still s w = record {
   classes = λ x n c. let o = w.classes x n c in (o.0, s.facts n o.0 o.1, o.2);
-  seconds = λ x n c. let o = w.seconds x n c in (o.0, s.facts n o.0 o.1, o.2);
+  second_premises = λ x n c. let o = w.second_premises x n c in (o.0, s.facts n o.0 o.1, o.2);
   fillers = λ x n c. let o = w.fillers x n c in (o.0, s.facts n o.0 o.1, o.2);
   into = λ x n c. let o = w.into x n c in (o.0, s.facts n o.0 o.1, o.2);
 }

@@ -9,9 +9,9 @@ use Rattle.facts.specs.declared.contexts.Fact.TheVariants.{In, Edge}
 use Rattle.normal_forms.specs.Properties.{IsAtOrBelow}
 use Rattle.facts.specs.Closure.{Problem, FromNone, FromOne, FromTwo, Concludes, IsLoop}
 use Rattle.indexes.specs.declared.keys.Key.TheVariants.{Whole}
-use Rattle.indexes.specs.Named.{class_key, by_kind, by_alone, by_first, by_second, by_filler, by_chain}
-use Rattle.inference.specs.Visited.{chained_property, ChainsDrawn}
-use Rattle.inference.specs.Working.{AreDrawn, AllDrawn, DrawnAt}
+use Rattle.indexes.specs.Keys.{class_key, by_kind, by_alone, by_first, by_second, by_filler, by_chain}
+use Rattle.inference.specs.Visits.{chained_property, ChainsDrawn}
+use Rattle.inference.specs.Completeness.{AreDrawn, AllDrawn, DrawnAt}
 use Rattle.inference.proofs.Lists.{slice_get-from_Contains}
 
 pub kind_given : (form : Form) (f : Fact) → FromNone form f → by_kind form ≡ Some (Whole 0)

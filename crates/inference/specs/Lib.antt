@@ -1,6 +1,6 @@
-pub mod Closed
-pub mod Derived
-pub mod Working
-pub mod Visited
-pub mod Met
-pub mod Begun
+pub mod PropertyClosures
+pub mod Derivations
+pub mod Completeness
+pub mod Visits
+pub mod Meetings
+pub mod Entry

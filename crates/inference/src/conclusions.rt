@@ -2,7 +2,7 @@
 ghost use Rattle.std.specs.Prelude.{◌≡◌, ◌↔◌, Some};
 ghost use Rattle.facts.specs.Closure.{Problem, Concludes, CarriesBack, FromNone, FromOne, FromTwo, Carries, IsLoop, condition};
 ghost use Rattle.facts.specs.declared.contexts.Fact.{Fact as Fact2};
-ghost use Rattle.inference.specs.Closed.{IsClosureOf};
+ghost use Rattle.inference.specs.PropertyClosures.{IsClosureOf};
 
 use crate::properties::is_below;
 use axioms::ExprId;

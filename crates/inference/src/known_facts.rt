@@ -1,6 +1,6 @@
 //! The facts so far, and what gave them.
 ghost use Rattle.facts.specs.Births.{reason};
-ghost use Rattle.inference.specs.Derived.{with_fact};
+ghost use Rattle.inference.specs.Derivations.{with_fact};
 ghost use Rattle.inference.specs.declared.known_facts.Stop.TheVariants as stops;
 ghost use Rattle.std.specs.Prelude.{◌≡◌, ◌↔◌, ◌<◌, ◌^◌, ◌++◌, ◌∷◌, Some, [], length, map, take, slice_get, Contains, Ok, IfOk, IfSome, IsNone, OnErr, false, true};
 
@@ -36,7 +36,7 @@ pub struct KnownFacts {
 
 impl Model for KnownFacts {
     ghost use Rattle.facts.specs.Births.{reason};
-    ghost use Rattle.inference.specs.Derived.{Derived};
+    ghost use Rattle.inference.specs.Derivations.{Derived};
     ghost use Rattle.std.specs.Prelude.{map};
 
     ghost Value = { Derived };

@@ -6,10 +6,10 @@ mod known_facts;
 mod pairing;
 mod properties;
 mod rules;
-mod seconds;
+mod second_premises;
 mod visits;
 
 pub use known_facts::{KnownFacts, Stop};
 pub use rules::Rules;
-pub use seconds::stands_second;
+pub use second_premises::is_second_premise;
 pub use visits::is_filler;

@@ -1,11 +1,11 @@
 //! What two facts give, added to the facts.
 ghost use Rattle.std.specs.Prelude.{◌≡◌, ◌<◌, ℕ, [], ◌∷◌, false, Some, Err, length, slice_get, Contains, OnOk};
 ghost use Rattle.facts.specs.declared.contexts.Fact.TheVariants as the_facts;
-ghost use Rattle.inference.specs.Derived.{IsDerived, Grows, HasMoreFactsThan};
-ghost use Rattle.inference.specs.Closed.{IsClosureOf};
-ghost use Rattle.inference.specs.Working.{IsSparedAsSecond, Drawn, IsDrawnIn, AreDrawnIn, MeetsOperands, MeetEachOther, AreMet, AreMetBefore, AreMetBehind};
-ghost use Rattle.inference.specs.Visited.{AreAll, GiveNothing, HasProperty, IsBy, IsClassFact, IsEdge};
-ghost use Rattle.inference.specs.Met.{IsWithin, AllListedAreMet};
+ghost use Rattle.inference.specs.Derivations.{IsDerived, Grows, HasMoreFactsThan};
+ghost use Rattle.inference.specs.PropertyClosures.{IsClosureOf};
+ghost use Rattle.inference.specs.Completeness.{IsRedundantAsSecond, Drawn, IsDrawnIn, AreDrawnIn, MeetsOperands, MeetEachOther, AreMet, AreMetBefore, AreMetBehind};
+ghost use Rattle.inference.specs.Visits.{AreAll, GiveNothing, HasProperty, IsBy, IsClassFact, IsEdge};
+ghost use Rattle.inference.specs.Meetings.{IsWithin, AllListedAreMet};
 
 use crate::known_facts::{KnownFacts, Stop};
 use crate::rules::Rules;
@@ -284,7 +284,7 @@ impl Rules<'_> {
     }
 
     /// Adds what the edge gives as the second of two, with the edges into its source, which have those numbers: nothing where it need
-    /// not stand second.
+    /// not be a second premise.
     fn lead_up(
         &self,
         facts: &mut KnownFacts,
@@ -296,7 +296,7 @@ impl Rules<'_> {
         requires closed { IsClosureOf self.now.problem.now.forms self.now.closure.now }
         requires derived { IsDerived self.now.problem.now facts.old }
         requires hand { slice_get facts.old.facts hand ≡ Some edge }
-        requires second { is_second ≡ false → IsSparedAsSecond self.now.problem.now facts.old edge }
+        requires second { is_second ≡ false → IsRedundantAsSecond self.now.problem.now facts.old edge }
         requires numbers { (n : ℕ) → Contains numbers.now n → n < length facts.old.facts }
         ensures grows { Grows self.now.problem.now self.now.max_facts facts.old facts.new }
         ensures limit { result ≡ Err Stop.Limit → HasMoreFactsThan self.now.problem.now self.now.max_facts }
@@ -321,7 +321,7 @@ impl Rules<'_> {
         requires derived { IsDerived self.now.problem.now facts.old }
         requires hand { slice_get facts.old.facts hand ≡ Some fact }
         requires index { IsWithin facts.old.facts index.now }
-        requires second { is_second ≡ false → IsSparedAsSecond self.now.problem.now facts.old fact }
+        requires second { is_second ≡ false → IsRedundantAsSecond self.now.problem.now facts.old fact }
         ensures grows { Grows self.now.problem.now self.now.max_facts facts.old facts.new }
         ensures limit { result ≡ Err Stop.Limit → HasMoreFactsThan self.now.problem.now self.now.max_facts }
         ensures met { OnOk result (AllListedAreMet self.now.problem.now fact facts.old.facts index.now facts.new) }
@@ -333,7 +333,7 @@ impl Rules<'_> {
             }
             Fact::Edge(x, property, y) => {
                 self.meet_before(facts, hand, fact, index.fillers_in(y))?;
-                self.lead_on(facts, hand, fact, property, index.seconds_from(y))?;
+                self.lead_on(facts, hand, fact, property, index.second_premises_from(y))?;
                 self.lead_up(facts, hand, fact, is_second, index.edges_into(x))?;
             }
         }
@@ -341,7 +341,7 @@ impl Rules<'_> {
     }
 
     /// Adds what the fact of that number gives, alone and with those that the index lists for it; as the second of two only where it has
-    /// to stand second.
+    /// to be a second premise.
     pub fn serve(
         &self,
         facts: &mut KnownFacts,
@@ -354,7 +354,7 @@ impl Rules<'_> {
         requires derived { IsDerived self.now.problem.now facts.old }
         requires hand { slice_get facts.old.facts hand ≡ Some fact }
         requires index { IsWithin facts.old.facts index.now }
-        requires second { is_second ≡ false → IsSparedAsSecond self.now.problem.now facts.old fact }
+        requires second { is_second ≡ false → IsRedundantAsSecond self.now.problem.now facts.old fact }
         ensures grows { Grows self.now.problem.now self.now.max_facts facts.old facts.new }
         ensures limit { result ≡ Err Stop.Limit → HasMoreFactsThan self.now.problem.now self.now.max_facts }
         ensures alone { OnOk result (Drawn self.now.problem.now (fact ∷ []) facts.new.facts) }

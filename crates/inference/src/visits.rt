@@ -7,11 +7,11 @@ ghost use Rattle.normal_forms.specs.declared.forms.Class2.{Class2 as Class3};
 ghost use Rattle.normal_forms.specs.declared.forms.Form.TheVariants as forms;
 ghost use Rattle.normal_forms.specs.Properties.{IsAtOrBelow};
 ghost use Rattle.normal_forms.specs.declared.forms.PropId2.{PropId2 as PropId3};
-ghost use Rattle.indexes.specs.Named.{by_chain, by_filler, by_first, by_second, class_key, property_key};
-ghost use Rattle.indexes.specs.Under.{IsUnder};
-ghost use Rattle.property_closure.specs.Closed.{Has};
-ghost use Rattle.inference.specs.Closed.{IsClosureOf};
-ghost use Rattle.inference.specs.Visited.{IsNotCarried, NoneUnder, chained_pair, chained_property};
+ghost use Rattle.indexes.specs.Keys.{by_chain, by_filler, by_first, by_second, class_key, property_key};
+ghost use Rattle.indexes.specs.FormsUnderKeys.{IsUnder};
+ghost use Rattle.property_closure.specs.PropertyClosures.{Has};
+ghost use Rattle.inference.specs.PropertyClosures.{IsClosureOf};
+ghost use Rattle.inference.specs.Visits.{IsNotCarried, NoneUnder, chained_pair, chained_property};
 
 use crate::conclusions::NOTHING;
 use facts::Fact;

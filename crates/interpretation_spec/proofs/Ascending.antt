@@ -6,7 +6,7 @@ use Rattle.std.proofs.lemmas.Bool.{cases_lt, cases_order, lt-ltb, le-ltb, eq-eqb
 use Rattle.std.proofs.lemmas.List.Elements.{All-nil, All-cons, All-head, All-tail}
 use Rattle.std.proofs.lemmas.List.Kept.{AllPairs-from_increasing, AllPairs-cons}
 use Rattle.lemmas.proofs.Pairs.{AllPairs-head, AllPairs-tail}
-use Rattle.interpretation_spec.specs.Numbered.{with_number, AreElements}
+use Rattle.interpretation_spec.specs.NumberedInterpretation.{with_number, AreElements}
 
 abbrev Rises : List ℕ → Type 0
 Rises xs = AllPairs (λ x y. x < y) xs

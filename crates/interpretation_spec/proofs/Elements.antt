@@ -6,12 +6,12 @@ use Rattle.std.proofs.lemmas.List.{length-map}
 use Rattle.std.proofs.lemmas.List.Elements.{All-map}
 use Rattle.std.proofs.lemmas.List.Folds.{Any-from_list_any, list_any-from_Any}
 use Rattle.lemmas.proofs.Mapped.{All-from_map}
-use Rattle.axioms.specs.Numbered.{Ontology, Class, And, Exists, IsClassAt, expression, expressions}
-use Rattle.axioms.specs.WellFormed.{IsOntology}
+use Rattle.axioms.specs.Ontology.{Ontology, Class, And, Exists, IsClassAt, expression, expressions}
+use Rattle.axioms.specs.WellFormedness.{IsOntology}
 use Rattle.axioms.proofs.Trees.{class_tree, some_tree, and_tree}
 use Rattle.interpretation_spec.specs.Interpretation.{IsIn}
-use Rattle.interpretation_spec.specs.Numbered.{NumberedInterpretation, IsNumberedInterpretation, IsMadeFor, members_of, targets_of}
-use Rattle.interpretation_spec.specs.ByName.{interpretation_of, IsExtension}
+use Rattle.interpretation_spec.specs.NumberedInterpretation.{NumberedInterpretation, IsNumberedInterpretation, IsMadeFor, members_of, targets_of}
+use Rattle.interpretation_spec.specs.NamedInterpretation.{interpretation_of, IsExtension}
 use Rattle.number_sets.specs.Members.{has}
 use Rattle.interpretation_spec.proofs.Extensions.{in_intersection, each_of_intersection}
 use Rattle.interpretation_spec.proofs.Names.{StandsFor, stands}

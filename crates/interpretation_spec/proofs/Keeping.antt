@@ -4,8 +4,8 @@ use Rattle.std.specs.BTreeMap.{BTreeMap}
 use Rattle.std.specs.Global.{Vec}
 use Rattle.std.proofs.lemmas.Bool.{eq-eqb, ne_eqb}
 use Rattle.std.proofs.lemmas.List.{map-set, get_or-map, set-get_or}
-use Rattle.interpretation_spec.specs.Kept.{kept_targets, kept_pairs}
-use Rattle.interpretation_spec.specs.Numbered.{with_number}
+use Rattle.interpretation_spec.specs.Fields.{kept_targets, kept_pairs}
+use Rattle.interpretation_spec.specs.NumberedInterpretation.{with_number}
 use Rattle.number_sets.proofs.Tables.{table_set, table_same, get_or-table}
 
 module _ (size : ℕ) (all : List (BTreeMap ℕ (Vec ℕ))) (p : ℕ) (old new : BTreeMap ℕ (Vec ℕ)) (within : p < length all) (read : old ≡ get_or all p old) where

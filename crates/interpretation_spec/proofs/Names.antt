@@ -7,11 +7,11 @@ use Rattle.std.proofs.lemmas.Slice.Eq.{bytes_eq-Decides}
 use Rattle.std.specs.Str.{bytes_eq}
 use Rattle.lemmas.proofs.Places.{slice_get_there}
 use Rattle.axioms.specs.Expression.{Iri, owl_thing, owl_nothing}
-use Rattle.axioms.specs.Numbered.{Names, Ontology, name_at}
-use Rattle.axioms.specs.WellFormed.{IsOntology, AreDistinct}
+use Rattle.axioms.specs.Ontology.{Names, Ontology, name_at}
+use Rattle.axioms.specs.WellFormedness.{IsOntology, AreDistinct}
 use Rattle.interpretation_spec.specs.Interpretation.{Interpretation, IsInterpretation}
-use Rattle.interpretation_spec.specs.Numbered.{NumberedInterpretation, IsNumberedInterpretation, members_of}
-use Rattle.interpretation_spec.specs.ByName.{number_of, is_target, interpretation_of}
+use Rattle.interpretation_spec.specs.NumberedInterpretation.{NumberedInterpretation, IsNumberedInterpretation, members_of}
+use Rattle.interpretation_spec.specs.NamedInterpretation.{number_of, is_target, interpretation_of}
 use Rattle.number_sets.specs.Members.{has}
 
 -- the number of the name that stands at a place, and at no other

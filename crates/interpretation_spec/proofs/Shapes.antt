@@ -10,11 +10,11 @@ use Rattle.std.proofs.lemmas.Simd.{map-map}
 use Rattle.lemmas.proofs.Pairs.{AllPairs-map, AllPairs-from_map, AllPairs-head, AllPairs-tail}
 use Rattle.axioms.specs.Axiom as tree
 use Rattle.axioms.specs.Expression.{ClassExpression}
-use Rattle.axioms.specs.Numbered.{Ontology, property_name, individual_name}
-use Rattle.axioms.specs.WellFormed.{IsOntology}
+use Rattle.axioms.specs.Ontology.{Ontology, property_name, individual_name}
+use Rattle.axioms.specs.WellFormedness.{IsOntology}
 use Rattle.interpretation_spec.specs.Interpretation.{Interpretation, IsIn, IsWithin, IsSubProperty, IsSameProperty, HasPath, Satisfies}
-use Rattle.interpretation_spec.specs.Numbered.{NumberedInterpretation, IsNumberedInterpretation, targets_of}
-use Rattle.interpretation_spec.specs.ByName.{is_target, interpretation_of, IsExtension, HasNumberedPath}
+use Rattle.interpretation_spec.specs.NumberedInterpretation.{NumberedInterpretation, IsNumberedInterpretation, targets_of}
+use Rattle.interpretation_spec.specs.NamedInterpretation.{is_target, interpretation_of, IsExtension, HasNumberedPath}
 use Rattle.number_sets.specs.Members.{has}
 use Rattle.interpretation_spec.proofs.Names.{StandsFor, stands}
 use Rattle.interpretation_spec.proofs.Elements.{target_within}

@@ -2,7 +2,7 @@
 use Rattle.std.proofs.Common.{◌≡◌, ℕ, ◌<◌, List, [], length, get_or, set, sym, ◌∙◌, subst, arith, inl, inr}
 use Rattle.std.proofs.lemmas.Bool.{cases_eq}
 use Rattle.std.proofs.lemmas.List.{length-set, get_or-set_same, get_or-set_other}
-use Rattle.interpretation_spec.specs.Numbered.{NumberedInterpretation, IsNumberedInterpretation, AreElements, with_pair, with_number}
+use Rattle.interpretation_spec.specs.NumberedInterpretation.{NumberedInterpretation, IsNumberedInterpretation, AreElements, with_pair, with_number}
 use Rattle.interpretation_spec.proofs.Ascending.{AreElements-with_number}
 
 -- a list at a place, or the lists as they were

@@ -1,9 +1,9 @@
 //! The elements of class expressions.
 ghost use Rattle.std.specs.Prelude.{◌≡◌, ℕ, ◌<◌, IfOk, length};
 ghost use Rattle.std.specs.List.{list_any};
-ghost use Rattle.axioms.specs.Numbered.{expression as expression_of};
-ghost use Rattle.interpretation_spec.specs.ByName.{IsExtension, interpretation_of};
-ghost use Rattle.interpretation_spec.specs.Numbered.{IsMadeFor, targets_of};
+ghost use Rattle.axioms.specs.Ontology.{expression as expression_of};
+ghost use Rattle.interpretation_spec.specs.NamedInterpretation.{IsExtension, interpretation_of};
+ghost use Rattle.interpretation_spec.specs.NumberedInterpretation.{IsMadeFor, targets_of};
 ghost use Rattle.number_sets.specs.Members.{has};
 
 use crate::interpretation::Interpretation;

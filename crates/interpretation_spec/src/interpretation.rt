@@ -1,7 +1,7 @@
 //! A finite interpretation of an ontology's names.
 ghost use Rattle.std.specs.Prelude.{◌≡◌, ◌<◌, ◌↔◌, IfOk, IfErr, IsOk, OnOk, OnErr, if◌then◌else◌, nat_lt, ◌==◌, ◌&&◌, length, slice_get, option_map, option_and_then, replicate, true, false, ◌∷◌, ◌-◌};
 ghost use Rattle.interpretation_spec.specs.declared.fault.InterpretationFault.TheVariants as faults;
-ghost use Rattle.interpretation_spec.specs.Numbered.{IsNumberedInterpretation, empty_interpretation, with_individual, with_member, with_pair};
+ghost use Rattle.interpretation_spec.specs.NumberedInterpretation.{IsNumberedInterpretation, empty_interpretation, with_individual, with_member, with_pair};
 
 use crate::fault::InterpretationFault;
 use crate::pairs::{put_target, targets_in, without_pairs};
@@ -36,12 +36,12 @@ impl Drop for Interpretation {
 }
 
 impl Model for Interpretation {
-    ghost use Rattle.interpretation_spec.specs.Numbered.{NumberedInterpretation};
+    ghost use Rattle.interpretation_spec.specs.NumberedInterpretation.{NumberedInterpretation};
 
     ghost Value = { NumberedInterpretation };
 
-    ghost use Rattle.interpretation_spec.specs.Numbered.{IsNumberedInterpretation};
-    ghost use Rattle.interpretation_spec.specs.Kept.{kept_interpretation};
+    ghost use Rattle.interpretation_spec.specs.NumberedInterpretation.{IsNumberedInterpretation};
+    ghost use Rattle.interpretation_spec.specs.Fields.{kept_interpretation};
 
     ghost view = { kept_interpretation };
 

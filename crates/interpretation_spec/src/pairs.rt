@@ -2,8 +2,8 @@
 ghost use Rattle.std.specs.Prelude.{◌≡◌, ℕ, [], IfOk, OnErr, OnOk, if◌then◌else◌, map, replicate, ◌==◌, ◌<◌, length, ◌||◌};
 ghost use Rattle.std.specs.List.{list_any};
 ghost use Rattle.std.specs.List.Sorted.{IsStrictlyIncreasing};
-ghost use Rattle.interpretation_spec.specs.Kept.{kept_pairs, kept_targets};
-ghost use Rattle.interpretation_spec.specs.Numbered.{with_number};
+ghost use Rattle.interpretation_spec.specs.Fields.{kept_pairs, kept_targets};
+ghost use Rattle.interpretation_spec.specs.NumberedInterpretation.{with_number};
 ghost use Rattle.number_sets.specs.Members.{has};
 
 use axioms::Memory;

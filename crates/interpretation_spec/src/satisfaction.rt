@@ -1,11 +1,11 @@
 //! Which axioms hold.
 ghost use Rattle.std.specs.Prelude.{◌≡◌, ℕ, ◌<◌, ◌↔◌, IfOk, IsNone, IfSome, IsTrue, length, AllPairs, All, true, slice_index_or};
-ghost use Rattle.axioms.specs.Numbered.{axiom_tree, axiom_trees, expression as expression_of, expressions};
+ghost use Rattle.axioms.specs.Ontology.{axiom_tree, axiom_trees, expression as expression_of, expressions};
 ghost use Rattle.axioms.specs.View.{axiom_of, expr_numbers, prop_numbers};
-ghost use Rattle.axioms.specs.WellFormed.{IsAxiomOf};
-ghost use Rattle.interpretation_spec.specs.ByName.{HasNumberedPath, IsFirstUnsatisfied, interpretation_of, is_target};
+ghost use Rattle.axioms.specs.WellFormedness.{IsAxiomOf};
+ghost use Rattle.interpretation_spec.specs.NamedInterpretation.{HasNumberedPath, IsFirstUnsatisfied, interpretation_of, is_target};
 ghost use Rattle.interpretation_spec.specs.Interpretation.{IsApart, IsModel, IsSame, IsWithin, Satisfies};
-ghost use Rattle.interpretation_spec.specs.Numbered.{IsMadeFor, targets_of};
+ghost use Rattle.interpretation_spec.specs.NumberedInterpretation.{IsMadeFor, targets_of};
 ghost use Rattle.number_sets.specs.Members.{has};
 
 use crate::interpretation::Interpretation;

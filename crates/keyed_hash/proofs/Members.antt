@@ -4,7 +4,7 @@ use Rattle.std.proofs.lemmas.Option.{none-some, same_Some}
 use Rattle.std.proofs.lemmas.Bool.{or_left, or_right}
 use Rattle.std.specs.List.{list_any}
 use Rattle.std.specs.declared.option.Option.{Option}
-use Rattle.keyed_hash.specs.Numbered.{AreFound, insert_key, passes, passes_at}
+use Rattle.keyed_hash.specs.Numbering.{AreFound, insert_key, passes, passes_at}
 use Rattle.keyed_hash.specs.Slots.{Leads}
 use Rattle.keyed_hash.specs.declared.slots.Slots.{Slots}
 

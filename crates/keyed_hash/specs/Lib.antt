@@ -1,4 +1,4 @@
-pub mod Keyed
+pub mod Hasher
 pub mod States
 pub mod Slots
-pub mod Numbered
+pub mod Numbering

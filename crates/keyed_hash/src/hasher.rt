@@ -1,5 +1,5 @@
 //! The hasher: it multiplies up to sixteen bytes at a time to 128 bits, with a secret factor.
-ghost use Rattle.keyed_hash.specs.Keyed as keyed;
+ghost use Rattle.keyed_hash.specs.Hasher as keyed;
 ghost use Rattle.std.specs.Prelude.{◌≡◌, ◌<◌, length};
 
 use crate::numbers::{eight_bytes, few_bytes, folded_product};

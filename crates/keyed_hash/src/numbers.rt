@@ -1,5 +1,5 @@
 //! Numbers out of bytes, and the product that mixes two of them.
-ghost use Rattle.keyed_hash.specs.Keyed as keyed;
+ghost use Rattle.keyed_hash.specs.Hasher as keyed;
 ghost use Rattle.std.specs.Prelude.{◌≡◌, ◌+◌, ◌≤◌, length};
 
 /// The two halves of the 128 bits of the product, joined by exclusive or.

@@ -1,5 +1,5 @@
 //! Members in order, found by their hashes.
-ghost use Rattle.keyed_hash.specs.Numbered.{AreFound, hash_of, insert_key, passes_at, room_in};
+ghost use Rattle.keyed_hash.specs.Numbering.{AreFound, hash_of, insert_key, passes_at, room_in};
 ghost use Rattle.keyed_hash.specs.Slots.{HasSlots, Leads};
 ghost use Rattle.std.specs.List.{list_any, AllZip};
 ghost use Rattle.std.specs.Prelude.{◌≡◌, ◌+◌, ◌<◌, ◌^◌, ℕ, true, false, not, [], ◌∷◌, ◌++◌, length, if◌then◌else◌, option_copied, slice_get, vec_capacity, IfNone, IfOk, IfSome, OnErr, OnOk, Some};
@@ -33,7 +33,7 @@ impl<T: Eq + Hash + Drop> Drop for NumberedSet<T> {
 }
 
 impl<T: Eq + Hash> Model for NumberedSet<T> {
-    ghost use Rattle.keyed_hash.specs.Numbered.{AreFound, hash_of, room_in, Numbered, numbered_code};
+    ghost use Rattle.keyed_hash.specs.Numbering.{AreFound, hash_of, room_in, Numbered, numbered_code};
     ghost use Rattle.keyed_hash.specs.Slots.{HasSlots};
     ghost use Rattle.std.specs.Prelude.{length, vec_capacity};
 

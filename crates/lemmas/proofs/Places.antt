@@ -1,4 +1,4 @@
--- What stands at a place of a list: in range, behind one more element, and in a beginning.
+-- What stands at a place of a list: in range, behind one more element, and in a prefix.
 use Rattle.std.proofs.Common.{◌≡◌, ℕ, zero, suc, ◌+◌, ◌<◌, ◌⊎◌, inl, inr, List, [], ◌∷◌, ◌++◌, length, take, slice_get, Some, refl, ap, ◌∙◌, arith}
 use Rattle.std.proofs.lemmas.Option.{none-some, same_Some, slice_get_within, get_or_from_slice_get}
 use Rattle.std.proofs.lemmas.List.{take_more}
@@ -34,20 +34,20 @@ keeps_push [] x n y e = absurd (none-some y e)
 keeps_push (z ∷ xs) x zero y e = e
 keeps_push (z ∷ xs) x (suc n) y e = keeps_push xs x n y e
 
--- ---- beginnings and ends
+-- ---- prefixes and ends
 
--- a beginning that is one longer has the element at its old end
+-- a prefix that is one longer has the element at its old end
 pub take_push : {X : Type 0} (xs : List X) (n : ℕ) (x : X) → slice_get xs n ≡ Some x → take (n + 1) xs ≡ take n xs ++ x ∷ []
 take_push xs n x e = take_more xs n x (slice_get_within xs n x e) ∙ ap (λ y. take n xs ++ y ∷ []) (get_or_from_slice_get xs n x x e)
 
--- what a beginning has at a place, the list has there
+-- what a prefix has at a place, the list has there
 pub slice_get_take : {X : Type 0} (m : ℕ) (xs : List X) (n : ℕ) (x : X) → slice_get (take m xs) n ≡ Some x → (n < m) × (slice_get xs n ≡ Some x)
 slice_get_take zero xs n x e = absurd (none-some x e)
 slice_get_take (suc m) [] n x e = absurd (none-some x e)
 slice_get_take (suc m) (y ∷ xs) zero x e = (omega arith, e)
 slice_get_take (suc m) (y ∷ xs) (suc n) x e = let h = slice_get_take m xs n x e in (omega arith, h.1)
 
--- what the list has at a place before the end of a beginning, the beginning has there
+-- what the list has at a place before the end of a prefix, the prefix has there
 pub take_slice_get : {X : Type 0} (m : ℕ) (xs : List X) (n : ℕ) (x : X) → n < m → slice_get xs n ≡ Some x → slice_get (take m xs) n ≡ Some x
 take_slice_get zero xs n x l e = absurd (omega arith)
 take_slice_get (suc m) [] n x l e = e

@@ -11,18 +11,18 @@ use Rattle.std.proofs.lemmas.List.FromFn.{get_or-range_with_len, length-range_wi
 use Rattle.std.proofs.lemmas.Option.{slice_get_within, slice_get-get_or, same_Some}
 use Rattle.lemmas.proofs.Mapped.{All-from_map}
 use Rattle.lemmas.proofs.Members.{slice_get-from_Contains, Contains-from_slice_get}
-use Rattle.axioms.specs.Numbered.{Ontology, And, Exists, IsClassAt, expression, expressions}
-use Rattle.axioms.specs.WellFormed.{IsOntology}
+use Rattle.axioms.specs.Ontology.{Ontology, And, Exists, IsClassAt, expression, expressions}
+use Rattle.axioms.specs.WellFormedness.{IsOntology}
 use Rattle.axioms.proofs.Trees.{class_tree, some_tree, and_tree}
 use Rattle.certificate.specs.Certificate.{Listed}
-use Rattle.certificate.specs.HasText.{IsListedOf, AreElements, IsNamedClass}
+use Rattle.certificate.specs.Writability.{IsListedOf, AreElements, IsNamedClass}
 use Rattle.certificate.specs.View.{pair_row_of}
 use Rattle.certificate.specs.declared.listed.PairRow.{PairRow}
 use Rattle.interpretation_spec.specs.Interpretation.{IsIn}
 use Rattle.interpretation_spec.proofs.Extensions.{in_intersection, each_of_intersection}
 use Rattle.number_sets.specs.Pieces.{list_at}
 use Rattle.listed_model.specs.Listing.{targets_of}
-use Rattle.listed_model.specs.Interpreted.{class_members, listed_interpretation}
+use Rattle.listed_model.specs.Interpretations.{class_members, listed_interpretation}
 use Rattle.listed_model.specs.Members.{holds}
 use Rattle.listed_model.specs.Extensions.{IsExtension, AreExtensions}
 use Rattle.listed_model.specs.Rows.{SomeBefore, ArePairRows, Joined}

@@ -8,7 +8,7 @@ use Rattle.lemmas.proofs.Places.{slice_get_there}
 use Rattle.std.proofs.lemmas.List.{length-take-le, length-drop, get_or-take, get_or-drop}
 use Rattle.certificate.specs.declared.listed.ClassRow.{ClassRow}
 use Rattle.certificate.specs.declared.listed.PairRow.{PairRow}
-use Rattle.certificate.specs.HasText.{IsPairBefore}
+use Rattle.certificate.specs.Writability.{IsPairBefore}
 use Rattle.certificate.specs.View.{pair_row_of, class_row_of}
 use Rattle.listed_model.specs.Listing.{elements_of, targets_of}
 use Rattle.listed_model.specs.Members.{holds}

@@ -6,8 +6,8 @@ use Rattle.std.proofs.lemmas.List.Elements.{All-nil, All-cons, All-head, All-tai
 use Rattle.std.proofs.lemmas.List.Kept.{AllPairs-cons}
 use Rattle.lemmas.proofs.Mapped.{All-from_map}
 use Rattle.lemmas.proofs.Pairs.{AllPairs-from_map}
-use Rattle.axioms.specs.Numbered.{Ontology}
-use Rattle.certificate.specs.HasText.{IsListedOf, AreElements, Ascends, IsNamedClass, IsPairBefore}
+use Rattle.axioms.specs.Ontology.{Ontology}
+use Rattle.certificate.specs.Writability.{IsListedOf, AreElements, Ascends, IsNamedClass, IsPairBefore}
 use Rattle.certificate.specs.View.{class_row_of, pair_row_of, listed_of}
 use Rattle.certificate.specs.declared.listed.Listed as code
 use Rattle.listed_model.specs.Listing.{elements_of, targets_of}

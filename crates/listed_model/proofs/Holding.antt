@@ -11,7 +11,7 @@ use Rattle.lemmas.proofs.Places.{slice_get_there}
 use Rattle.certificate.specs.View.{pair_row_of}
 use Rattle.certificate.specs.declared.listed.PairRow.{PairRow}
 use Rattle.number_sets.specs.Pieces.{list_at}
-use Rattle.number_sets.specs.Turned.{copies, holders, holders_below}
+use Rattle.number_sets.specs.Transposition.{copies, holders, holders_below}
 use Rattle.number_sets.proofs.Growing.{holders_more}
 use Rattle.listed_model.specs.Listing.{targets_of}
 use Rattle.listed_model.specs.Members.{holds}

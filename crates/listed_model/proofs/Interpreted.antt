@@ -9,15 +9,15 @@ use Rattle.std.proofs.lemmas.Option.{none-some, same_Some, get_or_from_slice_get
 use Rattle.std.proofs.lemmas.Slice.Eq.{bytes_eq-Decides}
 use Rattle.lemmas.proofs.Places.{slice_get_there}
 use Rattle.axioms.specs.Expression.{Iri, owl_thing, owl_nothing}
-use Rattle.axioms.specs.Numbered.{Ontology, Node, Class, And, Exists, IsClassAt, name_at, property_name, individual_name}
-use Rattle.axioms.specs.WellFormed.{IsOntology, AreDistinct}
+use Rattle.axioms.specs.Ontology.{Ontology, Node, Class, And, Exists, IsClassAt, name_at, property_name, individual_name}
+use Rattle.axioms.specs.WellFormedness.{IsOntology, AreDistinct}
 use Rattle.axioms.proofs.Trees.{class_number}
 use Rattle.certificate.specs.Certificate.{Listed}
-use Rattle.certificate.specs.HasText.{IsListedOf}
+use Rattle.certificate.specs.Writability.{IsListedOf}
 use Rattle.interpretation_spec.specs.Interpretation.{IsInterpretation}
-use Rattle.interpretation_spec.specs.ByName.{number_of}
+use Rattle.interpretation_spec.specs.NamedInterpretation.{number_of}
 use Rattle.listed_model.specs.Listing.{IsListing, elements_of, targets_of}
-use Rattle.listed_model.specs.Interpreted.{class_place, class_members, listed_interpretation}
+use Rattle.listed_model.specs.Interpretations.{class_place, class_members, listed_interpretation}
 use Rattle.listed_model.specs.Members.{holds}
 use Rattle.listed_model.proofs.Members.{holds_from_Contains, Contains_from_holds}
 

@@ -9,14 +9,14 @@ use Rattle.std.proofs.lemmas.Option.{slice_get_within, get_or_from_slice_get}
 use Rattle.lemmas.proofs.Members.{Contains-first, Contains-later, Contains-cons_cases}
 use Rattle.lemmas.proofs.Pairs.{AllPairs-head, AllPairs-tail, AllPairs-map, AllPairs-from_map}
 use Rattle.axioms.specs.Axiom as tree
-use Rattle.axioms.specs.Numbered.{Ontology, expression, expressions, property_name, individual_name}
-use Rattle.axioms.specs.WellFormed.{IsOntology}
+use Rattle.axioms.specs.Ontology.{Ontology, expression, expressions, property_name, individual_name}
+use Rattle.axioms.specs.WellFormedness.{IsOntology}
 use Rattle.certificate.specs.Certificate.{Listed}
-use Rattle.certificate.specs.HasText.{IsListedOf}
+use Rattle.certificate.specs.Writability.{IsListedOf}
 use Rattle.interpretation_spec.specs.Interpretation.{IsIn, IsWithin, IsSame, IsApart, HasPath, IsSubProperty, IsSameProperty, Satisfies}
 use Rattle.number_sets.specs.Pieces.{list_at}
 use Rattle.listed_model.specs.Listing.{targets_of}
-use Rattle.listed_model.specs.Interpreted.{listed_interpretation}
+use Rattle.listed_model.specs.Interpretations.{listed_interpretation}
 use Rattle.listed_model.specs.Members.{holds}
 use Rattle.listed_model.specs.Extensions.{IsExtension, AreExtensions}
 use Rattle.listed_model.specs.Rows.{HasListedPath}

@@ -30,7 +30,7 @@ list_all_means list xs = (
   λ h. list_all_from (holds list) xs (λ k d l. h (get_or xs k d) (holds_from_Contains xs (get_or xs k d) (Contains-get_or xs k d l))),
 )
 
--- a member of a beginning that is one longer
+-- a member of a prefix that is one longer
 pub holds_next : (xs : List ℕ) (i d x : ℕ) → i < length xs → (holds (take (i + 1) xs) x ≡ true) ↔ ((holds (take i xs) x ≡ true) ⊎ (get_or xs i d ≡ x))
 holds_next xs i d x l = rw (take_more xs i d l) (holds_push (take i xs) (get_or xs i d) x)
 

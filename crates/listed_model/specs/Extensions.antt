@@ -1,11 +1,11 @@
 -- The elements of expressions in a listed interpretation.
 use Rattle.std.specs.Prelude.{◌≡◌, ℕ, ◌<◌, ◌↔◌, List, true, length}
 use Rattle.std.specs.List.Sorted.{IsStrictlyIncreasing}
-use Rattle.axioms.specs.Numbered.{Ontology, expression}
+use Rattle.axioms.specs.Ontology.{Ontology, expression}
 use Rattle.certificate.specs.Certificate.{Listed}
 use Rattle.interpretation_spec.specs.Interpretation.{IsIn}
 use Rattle.number_sets.specs.Pieces.{list_at}
-use Rattle.listed_model.specs.Interpreted.{listed_interpretation}
+use Rattle.listed_model.specs.Interpretations.{listed_interpretation}
 use Rattle.listed_model.specs.Members.{holds}
 
 -- the list has exactly the elements of the expression of that number, ascending

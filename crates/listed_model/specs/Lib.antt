@@ -1,6 +1,6 @@
 pub mod Listing
-pub mod Interpreted
+pub mod Interpretations
 pub mod Members
 pub mod Rows
 pub mod Extensions
-pub mod Shown
+pub mod PropertyTests

@@ -1,7 +1,7 @@
 -- Interpretations that a list of members lists.
 use Rattle.std.specs.Prelude.{◌≡◌, ℕ, ◌<◌, ◌↔◌, ◌≤◌, List, [], ◌∷◌, true, length, slice_get, Some, if◌then◌else◌, ◌==◌, ◌&&◌}
 use Rattle.std.specs.List.{Contains}
-use Rattle.axioms.specs.Numbered.{Ontology, IsClassAt, name_at, individual_name}
+use Rattle.axioms.specs.Ontology.{Ontology, IsClassAt, name_at, individual_name}
 use Rattle.interpretation_spec.specs.Interpretation.{Interpretation}
 use Rattle.certificate.specs.Certificate.{Listed}
 

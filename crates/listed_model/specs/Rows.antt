@@ -4,7 +4,7 @@ use Rattle.std.specs.List.{AllPairs}
 use Rattle.std.specs.List.Sorted.{IsNonDecreasing, IsStrictlyIncreasing}
 use Rattle.certificate.specs.declared.listed.ClassRow.{ClassRow}
 use Rattle.certificate.specs.declared.listed.PairRow.{PairRow}
-use Rattle.certificate.specs.HasText.{IsPairBefore}
+use Rattle.certificate.specs.Writability.{IsPairBefore}
 use Rattle.certificate.specs.View.{pair_row_of}
 use Rattle.number_sets.specs.Pieces.{list_at}
 use Rattle.listed_model.specs.Listing.{targets_of}

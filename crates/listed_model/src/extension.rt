@@ -1,9 +1,9 @@
 //! The elements of class expressions.
-ghost use Rattle.certificate.specs.HasText.{IsListedOf};
+ghost use Rattle.certificate.specs.Writability.{IsListedOf};
 ghost use Rattle.certificate.specs.View.{listed_of, pair_row_of};
 ghost use Rattle.listed_model.specs.Extensions.{AreExtensions, IsExtension};
 ghost use Rattle.listed_model.specs.Rows.{AreClassRows, AreHolders};
-ghost use Rattle.listed_model.specs.Interpreted.{class_members};
+ghost use Rattle.listed_model.specs.Interpretations.{class_members};
 ghost use Rattle.listed_model.specs.Listing.{targets_of};
 ghost use Rattle.listed_model.specs.Members.{holds};
 ghost use Rattle.axioms.specs.View.{expr_numbers};

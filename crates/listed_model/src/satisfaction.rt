@@ -1,17 +1,17 @@
 //! Which axioms a listed interpretation satisfies.
-ghost use Rattle.axioms.specs.Numbered.{axiom_tree, axiom_trees};
+ghost use Rattle.axioms.specs.Ontology.{axiom_tree, axiom_trees};
 ghost use Rattle.axioms.specs.View.{axiom_of, prop_numbers};
-ghost use Rattle.axioms.specs.WellFormed.{IsAxiomOf};
-ghost use Rattle.certificate.specs.HasText.{IsListedOf};
+ghost use Rattle.axioms.specs.WellFormedness.{IsAxiomOf};
+ghost use Rattle.certificate.specs.Writability.{IsListedOf};
 ghost use Rattle.certificate.specs.View.{listed_of, pair_row_of};
-ghost use Rattle.interpretation_spec.specs.ByName.{IsFirstUnsatisfied};
+ghost use Rattle.interpretation_spec.specs.NamedInterpretation.{IsFirstUnsatisfied};
 ghost use Rattle.interpretation_spec.specs.Interpretation.{Interpretation, IsInterpretation, IsModel, Satisfies};
 ghost use Rattle.listed_model.specs.Extensions.{AreExtensions};
-ghost use Rattle.listed_model.specs.Interpreted.{listed_interpretation};
+ghost use Rattle.listed_model.specs.Interpretations.{listed_interpretation};
 ghost use Rattle.listed_model.specs.Listing.{IsListing, targets_of};
 ghost use Rattle.listed_model.specs.Members.{holds};
 ghost use Rattle.listed_model.specs.Rows.{ArePairRows, HasListedPath};
-ghost use Rattle.listed_model.specs.Shown.{AreShown};
+ghost use Rattle.listed_model.specs.PropertyTests.{AreShown};
 ghost use Rattle.std.specs.Prelude.{◌≡◌, ◌↔◌, ◌<◌, IfOk, IsNone, IfSome, IsTrue, List, MatchOption, OnOk, length, map, true, ℕ};
 
 use crate::ascending::stands_in;

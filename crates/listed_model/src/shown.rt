@@ -1,7 +1,7 @@
 //! What tests have shown of properties, so that what is said many times is tested once.
 ghost use Rattle.certificate.specs.View.{pair_row_of};
 ghost use Rattle.listed_model.specs.Rows.{ArePairRows, ClosedAt, LiesWithin};
-ghost use Rattle.listed_model.specs.Shown.{AreShown};
+ghost use Rattle.listed_model.specs.PropertyTests.{AreShown};
 ghost use Rattle.std.specs.Prelude.{◌≡◌, ◌↔◌, IfOk, IsTrue, List, OnOk, length, map, ℕ};
 
 use crate::property_axioms::are_pairs_within;

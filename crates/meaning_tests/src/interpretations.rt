@@ -1,6 +1,6 @@
 //! Rows and interpretations of a few elements, worked out by hand.
 ghost use Rattle.std.specs.Prelude.{IfOk};
-ghost use Rattle.interpretation_spec.specs.Numbered.{IsMadeFor};
+ghost use Rattle.interpretation_spec.specs.NumberedInterpretation.{IsMadeFor};
 
 use axioms::{Axiom, BuildFault, Builder, ClassId, ExprId, IndId, Kind, Memory, Ontology, PropId};
 use interpretation_spec::{Interpretation, InterpretationFault, Row, extensions_and_names};

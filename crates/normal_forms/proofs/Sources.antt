@@ -2,14 +2,14 @@
 use Rattle.std.proofs.Common.{◌≡◌, ℕ, zero, suc, inl, inr, List, [], ◌∷◌, slice_get, Some, Contains, refl, sym, subst}
 use Rattle.std.proofs.lemmas.Option.{none-some}
 use Rattle.lemmas.proofs.Members.{Contains-from_slice_get, slice_get-from_Contains}
-use Rattle.axioms.specs.Numbered.{Ontology, Axiom, Node, Class, And, Exists, SubClass, EquivalentClasses, DisjointClasses, SubProperty, EquivalentProperties, Domain, Transitive, Reflexive, ClassAssertion, PropertyAssertion}
+use Rattle.axioms.specs.Ontology.{Ontology, Axiom, Node, Class, And, Exists, SubClass, EquivalentClasses, DisjointClasses, SubProperty, EquivalentProperties, Domain, Transitive, Reflexive, ClassAssertion, PropertyAssertion}
 use Rattle.normal_forms.specs.declared.forms.Origin.{Origin}
 use Rattle.normal_forms.specs.declared.forms.Origin.TheVariants as origins
 use Rattle.normal_forms.specs.Forms as forms
 use Rattle.normal_forms.specs.Forms.{Form, IsForm}
-use Rattle.normal_forms.specs.Occurring as occurring
-use Rattle.normal_forms.specs.Occurring.{OccursRight, OccursLeft, Occurs, AtRight, AtLeft, itself, part}
-use Rattle.normal_forms.specs.Given.{AxiomGives, RightGives, LeftGives, GivenBy}
+use Rattle.normal_forms.specs.Occurrences as occurring
+use Rattle.normal_forms.specs.Occurrences.{OccursRight, OccursLeft, Occurs, AtRight, AtLeft, itself, part}
+use Rattle.normal_forms.specs.Origins.{AxiomGives, RightGives, LeftGives, GivenBy}
 
 -- ---- sides
 

@@ -1,15 +1,15 @@
--- Normal forms: what each axiom gives, over expressions and over beginnings of intersections and chains.
+-- Normal forms: what each axiom gives, over expressions and over prefixes of intersections and chains.
 use Rattle.std.specs.Prelude.{◌≡◌, ℕ, ◌+◌, ◌<◌, ◌⊎◌, List, [], ◌∷◌, length, slice_get, slice_index, Some, take, if◌then◌else◌, ◌==◌}
 use Rattle.std.specs.List.{Contains}
-use Rattle.axioms.specs.Numbered.{Ontology, And, Exists, thing, nothing, SubClass, EquivalentClasses, DisjointClasses, SubProperty, EquivalentProperties, Domain, Transitive, Reflexive, ClassAssertion, PropertyAssertion}
-use Rattle.normal_forms.specs.Occurring.{OccursRight, OccursLeft}
+use Rattle.axioms.specs.Ontology.{Ontology, And, Exists, thing, nothing, SubClass, EquivalentClasses, DisjointClasses, SubProperty, EquivalentProperties, Domain, Transitive, Reflexive, ClassAssertion, PropertyAssertion}
+use Rattle.normal_forms.specs.Occurrences.{OccursRight, OccursLeft}
 
--- a class of a normal form: an expression, or the beginning of an intersection, of two or more operands
+-- a class of a normal form: an expression, or a prefix of an intersection, of two or more operands
 pub data Class2 : Type 0 where
   Whole : (expression : ℕ) → Class2
-  Beginning : (operands : List ℕ) → Class2
+  Prefix : (operands : List ℕ) → Class2
 
--- likewise a property, or the beginning of a chain
+-- likewise a property, or a prefix of a chain
 pub data Property2 : Type 0 where
   Property : (property : ℕ) → Property2
   Steps : (properties : List ℕ) → Property2
@@ -26,9 +26,9 @@ pub data Form : Type 0 where
   N8 : (individual : ℕ) (a : Class2) → Form
   N9 : (source property target : ℕ) → Form
 
--- the first n operands of a list: an operand alone, a beginning, or the whole intersection e
+-- the first n operands of a list: an operand alone, a prefix, or the whole intersection e
 abbrev pub first_of : List ℕ → ℕ → ℕ → Class2
-first_of ds e n = if n == length ds then Whole e else (if n == 1 then Whole (slice_index ds 0) else Beginning (take n ds))
+first_of ds e n = if n == length ds then Whole e else (if n == 1 then Whole (slice_index ds 0) else Prefix (take n ds))
 
 -- the first n properties of a chain, likewise, where s stands for the whole
 abbrev pub first_steps : List ℕ → Property2 → ℕ → Property2

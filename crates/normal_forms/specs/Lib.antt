@@ -1,7 +1,7 @@
-pub mod Occurring
+pub mod Occurrences
 pub mod Forms
-pub mod Given
+pub mod Origins
 pub mod Properties
 pub mod Theorems
-pub mod Stored
+pub mod StoredForms
 pub mod Lists

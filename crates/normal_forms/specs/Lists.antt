@@ -1,6 +1,6 @@
 -- The forms of a list.
 use Rattle.std.specs.Prelude.{List, map}
-use Rattle.normal_forms.specs.Stored.{form_of}
+use Rattle.normal_forms.specs.StoredForms.{form_of}
 use Rattle.normal_forms.specs.declared.list.Forms.{Forms}
 use Rattle.normal_forms.specs.declared.list.Forms.TheVariants as the
 use Rattle.normal_forms.specs.declared.stored.StoredForm.{StoredForm}

@@ -20,12 +20,12 @@ IsReflexive forms r = (q : PropId) × Contains forms (N7 q) × IsAtOrBelow forms
 abbrev pub IsChainFrom : List Form → PropId2 → PropId2 × PropId2 → Type 0
 IsChainFrom forms r chain = Contains forms (N6 r chain.0 chain.1)
 
--- a property below the first number, or a beginning of chains below the second
+-- a property below the first number, or a prefix of chains below the second
 abbrev pub IsPropertyOf : ℕ → ℕ → PropId2 → Type 0
 IsPropertyOf properties partials (Property p) = p.0 < properties
 IsPropertyOf properties partials (Partial n) = n < partials
 
--- every property comes before every beginning of chains, and of one kind the smaller number comes first
+-- every property comes before every prefix of chains, and of one kind the smaller number comes first
 abbrev pub ComesBefore : PropId2 → PropId2 → Type 0
 ComesBefore (Property p) (Property q) = p.0 < q.0
 ComesBefore (Property p) (Partial n) = Unit {0}

@@ -1,12 +1,12 @@
 -- What is proved of the forms.
 use Rattle.std.specs.Prelude.{ℕ, ◌↔◌, List}
-use Rattle.axioms.specs.Numbered.{Ontology}
+use Rattle.axioms.specs.Ontology.{Ontology}
 use Rattle.normal_forms.specs.declared.forms.Form as code
 use Rattle.normal_forms.specs.declared.forms.Origin.{Origin}
 use Rattle.normal_forms.specs.declared.forms.PropId2.{PropId2}
-use Rattle.normal_forms.specs.Occurring.{Occurs, OccursRight, OccursLeft, AtRight, AtLeft}
+use Rattle.normal_forms.specs.Occurrences.{Occurs, OccursRight, OccursLeft, AtRight, AtLeft}
 use Rattle.normal_forms.specs.Forms.{Form, IsForm}
-use Rattle.normal_forms.specs.Given.{GivenBy}
+use Rattle.normal_forms.specs.Origins.{GivenBy}
 use Rattle.normal_forms.specs.Properties.{IsAtOrBelow, IsReflexive, IsChainFrom, property_forms}
 
 -- the forms that something gives are those of the definition

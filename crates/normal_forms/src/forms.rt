@@ -4,7 +4,7 @@ ghost use Rattle.std.specs.Prelude.{◌↔◌, ◌≡◌, IsTrue};
 
 use axioms::{ExprId, IndId, PropId};
 
-/// A class of a normal form: an expression, or the fresh name of a beginning of intersections, of two or more operands, by its
+/// A class of a normal form: an expression, or the fresh name of a prefix of intersections, of two or more operands, by its
 /// number.
 #[derive(Clone, Copy, Debug, PartialEq, Eq, Hash)]
 pub enum Class2 {
@@ -12,7 +12,7 @@ pub enum Class2 {
     Partial(u32),
 }
 
-/// Likewise a property, or the fresh name of a beginning of property chains. Every property comes before every beginning.
+/// Likewise a property, or the fresh name of a prefix of property chains. Every property comes before every prefix.
 #[derive(Clone, Copy, Debug, PartialEq, Eq, PartialOrd, Ord, Hash)]
 pub enum PropId2 {
     Property(PropId),

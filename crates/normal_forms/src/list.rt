@@ -1,6 +1,6 @@
 //! A list of forms.
 ghost use Rattle.normal_forms.specs.Lists.{items_of};
-ghost use Rattle.normal_forms.specs.Stored.{form_of};
+ghost use Rattle.normal_forms.specs.StoredForms.{form_of};
 ghost use Rattle.std.specs.Prelude.{◌≡◌, ◌<◌, ◌++◌, ◌∷◌, [], IfErr, IfOk, OnErr, OnOk, Some, length, map, slice_get};
 
 use crate::forms::Form;

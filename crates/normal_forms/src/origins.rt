@@ -1,5 +1,5 @@
 //! What gave a form, as it is kept.
-ghost use Rattle.normal_forms.specs.Stored.{HasLargeNumber, origin_of};
+ghost use Rattle.normal_forms.specs.StoredForms.{HasLargeNumber, origin_of};
 ghost use Rattle.std.specs.Prelude.{◌≡◌, IfSome, IsNone};
 
 use crate::forms::Origin;

@@ -1,5 +1,5 @@
 //! Normal forms as they are kept.
-ghost use Rattle.normal_forms.specs.Stored.{class_from, form_of, form_from, property_from};
+ghost use Rattle.normal_forms.specs.StoredForms.{class_from, form_of, form_from, property_from};
 ghost use Rattle.std.specs.Prelude.{◌≡◌};
 
 use crate::forms::{Class2, Form, PropId2};

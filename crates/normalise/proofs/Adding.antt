@@ -6,7 +6,7 @@ use Rattle.lemmas.proofs.Choices.{one_value}
 use Rattle.lemmas.proofs.Members.{Contains-from_slice_get}
 use Rattle.lemmas.proofs.Places.{slice_get_there, slice_get_push, slice_get_push_cases, keeps_push}
 use Rattle.axioms.specs.Growth.{Numbers}
-use Rattle.axioms.specs.WellFormed.{AreDistinct}
+use Rattle.axioms.specs.WellFormedness.{AreDistinct}
 use Rattle.normal_forms.specs.declared.forms.Class2 as code_class
 use Rattle.normal_forms.specs.declared.forms.Class2.TheVariants as classes
 use Rattle.normal_forms.specs.declared.forms.PropId2 as code_property
@@ -14,7 +14,7 @@ use Rattle.normal_forms.specs.declared.forms.PropId2.TheVariants as properties
 use Rattle.normal_forms.specs.declared.forms.Form as code_form
 use Rattle.normal_forms.specs.declared.forms.Form.TheVariants as forms
 use Rattle.normal_forms.specs.declared.forms.Origin.{Origin}
-use Rattle.normal_forms.specs.Forms.{Class2, Property2, Form, Beginning, Steps, N1, N2, N3, N4, N6, N8}
+use Rattle.normal_forms.specs.Forms.{Class2, Property2, Form, Prefix, Steps, N1, N2, N3, N4, N6, N8}
 use Rattle.normalise.specs.declared.entries.Entry.{Entry}
 use Rattle.normalise.specs.declared.made.Made.{Made}
 use Rattle.normalise.specs.View.{Lists, SaysClass, SaysProperty, Says, Keeps, Lengthens, IsAt, Listed, HasClass, HasProperty, Adds, IsOne, From, Below}
@@ -83,7 +83,7 @@ says_more t t' u u' k l (forms.N9 a r b) g h = h
 
 class_one : (t : Lists) (a : code_class.Class2) (x y : Class2) → SaysClass t a x → SaysClass t a y → x ≡ y
 class_one t (classes.Expr e) x y h i = h ∙ sym i
-class_one t (classes.Partial n) x y h i = h.2 ∙ ap Beginning (one_value _ h.0 i.0 h.1 i.1) ∙ sym i.2
+class_one t (classes.Partial n) x y h i = h.2 ∙ ap Prefix (one_value _ h.0 i.0 h.1 i.1) ∙ sym i.2
 
 property_one : (t : Lists) (a : code_property.PropId2) (x y : Property2) → SaysProperty t a x → SaysProperty t a y → x ≡ y
 property_one t (properties.Property e) x y h i = h ∙ sym i
@@ -128,7 +128,7 @@ adds_none s G none = record {
   properties = λ n rs g. inl g;
 }
 
--- names alone are made before, for beginnings that the forms have last
+-- names alone are made before, for prefixes that the forms have last
 pub adds_behind_names : (s u t : Made) (G : Origin → Form → Type 0) → u.entries ≡ s.entries → Lengthens s.operands u.operands → Lengthens s.steps u.steps
     → ((n : ℕ) (ds : List ℕ) → slice_get u.operands n ≡ Some ds → (slice_get s.operands n ≡ Some ds) ⊎ HasClass G ds)
     → ((n : ℕ) (rs : List ℕ) → slice_get u.steps n ≡ Some rs → (slice_get s.steps n ≡ Some rs) ⊎ HasProperty G rs)

@@ -5,14 +5,14 @@ use Rattle.std.proofs.lemmas.List.Elements.{All-contains, Contains-push, Contain
 use Rattle.std.specs.List.{All}
 use Rattle.lemmas.proofs.Mapped.{Contains-map, slice_get_map_from}
 use Rattle.lemmas.proofs.Members.{Contains-from_slice_get, slice_get-from_Contains}
-use Rattle.axioms.specs.Numbered.{Ontology, Class, IsClassAt}
-use Rattle.axioms.specs.WellFormed.{IsOntology}
+use Rattle.axioms.specs.Ontology.{Ontology, Class, IsClassAt}
+use Rattle.axioms.specs.WellFormedness.{IsOntology}
 use Rattle.axioms.specs.declared.ids.ExprId.{ExprId}
 use Rattle.axioms.specs.declared.ids.IndId.{IndId}
 use Rattle.facts.specs.declared.contexts.Context as code
 use Rattle.facts.specs.declared.contexts.Context.TheVariants as contexts
 use Rattle.closure.specs.Closure.{Context, Expression, Individual, IsRoot}
-use Rattle.closure.specs.Said.{SaysContext, expression, individual}
+use Rattle.closure.specs.Denotations.{SaysContext, expression, individual}
 use Rattle.normalise.specs.Roots.{AddsThose, AreRoots, IsIndividual, IsIndividualBelow, IsNamed, IsNamedBelow}
 
 -- nothing is added

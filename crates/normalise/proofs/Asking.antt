@@ -6,15 +6,15 @@ use Rattle.lemmas.proofs.Mapped.{slice_get_map}
 use Rattle.lemmas.proofs.Members.{slice_get-from_Contains, Contains-from_slice_get}
 use Rattle.lemmas.proofs.Places.{keeps_push}
 use Rattle.axioms.specs.Growth.{Numbers}
-use Rattle.axioms.specs.Numbered.{Ontology}
+use Rattle.axioms.specs.Ontology.{Ontology}
 use Rattle.axioms.specs.View.{expr_numbers}
 use Rattle.axioms.specs.declared.ids.ExprId.{ExprId}
 use Rattle.normal_forms.specs.declared.forms.Origin.{Origin}
 use Rattle.normal_forms.specs.declared.forms.Origin.TheVariants as origins
 use Rattle.normal_forms.specs.Forms.{Form}
-use Rattle.normal_forms.specs.Given.{GivenBy}
+use Rattle.normal_forms.specs.Origins.{GivenBy}
 use Rattle.normalise.proofs.FreshNames.{no_chains}
-use Rattle.normalise.specs.Growing.{Grows, IsNormalFor}
+use Rattle.normalise.specs.Growth.{Grows, IsNormalFor}
 
 -- it is none of those before k, nor that at k
 pub not_yet : (asked : List ExprId) (x k : ℕ) (e : ExprId) → slice_get asked k ≡ Some e → (e.0 ≡ x → ⊥) → ((n : ℕ) → n < k → slice_get (expr_numbers asked) n ≡ Some x → ⊥) → (n : ℕ) → n < k + 1 → slice_get (expr_numbers asked) n ≡ Some x → ⊥

@@ -2,8 +2,8 @@
 use Rattle.std.proofs.Common.{◌≡◌, ℕ, List, slice_get, Some, subst}
 use Rattle.std.proofs.lemmas.List.Elements.{All-contains}
 use Rattle.lemmas.proofs.Members.{Contains-from_slice_get}
-use Rattle.axioms.specs.Numbered.{Ontology, Axiom, Node, Class, And, Exists, SubClass, EquivalentClasses, DisjointClasses, SubProperty, EquivalentProperties, Domain, Transitive, Reflexive, ClassAssertion, PropertyAssertion}
-use Rattle.axioms.specs.WellFormed.{IsAxiomOf, IsNodeOf, IsOntology}
+use Rattle.axioms.specs.Ontology.{Ontology, Axiom, Node, Class, And, Exists, SubClass, EquivalentClasses, DisjointClasses, SubProperty, EquivalentProperties, Domain, Transitive, Reflexive, ClassAssertion, PropertyAssertion}
+use Rattle.axioms.specs.WellFormedness.{IsAxiomOf, IsNodeOf, IsOntology}
 use Rattle.normalise.specs.Steps.{OperandsDiffer, PartsDiffer}
 
 pub parts_differ : (o : Ontology) (e : ℕ) (node : Node) → IsNodeOf o e node → PartsDiffer node

@@ -9,14 +9,14 @@ use Rattle.std.proofs.lemmas.Option.{none-some, same_Some, slice_get_within}
 use Rattle.lemmas.proofs.Members.{Contains-from_slice_get, slice_get-from_Contains, Contains-none, Contains-first, Contains-later, Contains-cons_cases}
 use Rattle.lemmas.proofs.Places.{slice_get_there, slice_get_push, slice_get_push_cases, keeps_push}
 use Rattle.axioms.specs.Growth.{Numbers}
-use Rattle.axioms.specs.Numbered.{Ontology, Axiom, Node, Class, And, Exists, SubClass, EquivalentClasses, DisjointClasses, SubProperty, EquivalentProperties, Domain, Transitive, Reflexive, ClassAssertion, PropertyAssertion, nothing, thing}
+use Rattle.axioms.specs.Ontology.{Ontology, Axiom, Node, Class, And, Exists, SubClass, EquivalentClasses, DisjointClasses, SubProperty, EquivalentProperties, Domain, Transitive, Reflexive, ClassAssertion, PropertyAssertion, nothing, thing}
 use Rattle.normal_forms.specs.declared.forms.Origin.{Origin}
 use Rattle.normal_forms.specs.declared.forms.Origin.TheVariants as origins
-use Rattle.normal_forms.specs.Forms.{Class2, Property2, Form, Whole, Beginning, Property, Steps, N1, N2, N3, N4, N5, N6, N7, N8, N9, first_of, first_steps}
-use Rattle.normal_forms.specs.Occurring.{Occurs, AtLeft}
-use Rattle.normal_forms.specs.Given.{GivenBy, AxiomGives, RightGives, LeftGives}
+use Rattle.normal_forms.specs.Forms.{Class2, Property2, Form, Whole, Prefix, Property, Steps, N1, N2, N3, N4, N5, N6, N7, N8, N9, first_of, first_steps}
+use Rattle.normal_forms.specs.Occurrences.{Occurs, AtLeft}
+use Rattle.normal_forms.specs.Origins.{GivenBy, AxiomGives, RightGives, LeftGives}
 use Rattle.normalise.specs.declared.made.Made.{Made}
-use Rattle.normalise.specs.Named.{AreNumberedByFirstPlace, BeginsIntersection, IsBeginningOf, NameChains, all_chain_beginnings, beginnings_below, beginnings_of, chain_beginnings}
+use Rattle.normalise.specs.FreshNames.{AreNumberedByFirstPlace, BeginsIntersection, IsPrefixOf, NameChains, all_chain_prefixes, prefixes_below, prefixes_of, chain_prefixes}
 use Rattle.normalise.specs.Steps.{ExpressedTo, Names, NamesTo, NumbersBehind}
 use Rattle.normalise.specs.View.{Lists, Keeps, HasClass, HasProperty, Adds, From}
 use Rattle.normalise.proofs.Giving.{first_whole, first_more, steps_more, take_long}
@@ -87,12 +87,12 @@ behind_one old x new n numbers = λ places h. numbered_more places old x new n n
 behind_both : (a b c p q : Lists) → NumbersBehind a p b → NumbersBehind b q c → NumbersBehind a (p ++ q) c
 behind_both a b c p q f g = λ places h. subst (λ ps. AreNumberedByFirstPlace ps c) (append_assoc places p q) (g (places ++ p) (f places h))
 
--- ---- the beginnings of a list
+-- ---- the prefixes of a list
 
-below_more : (k : ℕ) (list : List ℕ) → 2 ≤ k → beginnings_below (k + 1) list ≡ beginnings_below k list ++ take k list ∷ []
+below_more : (k : ℕ) (list : List ℕ) → 2 ≤ k → prefixes_below (k + 1) list ≡ prefixes_below k list ++ take k list ∷ []
 below_more k list l = rw add-one (grind (arith, nat_tests))
 
-below_two : (k : ℕ) (list : List ℕ) → k ≤ 2 → beginnings_below k list ≡ []
+below_two : (k : ℕ) (list : List ℕ) → k ≤ 2 → prefixes_below k list ≡ []
 below_two zero list l = refl
 below_two (suc zero) list l = refl
 below_two (suc (suc zero)) list l = refl
@@ -109,15 +109,15 @@ names_more old mid new list k pos within to names = record {
   some = λ l. (
       let m = names.some l in
       subst (λ ps. NumbersBehind old ps new) (sym (below_more (k + 1) list (omega arith)))
-      (behind_both old mid new (beginnings_below (k + 1) list) (take (k + 1) list ∷ []) (to.some within) (behind_one mid (take (k + 1) list) new m.0 m.1))
+      (behind_both old mid new (prefixes_below (k + 1) list) (take (k + 1) list ∷ []) (to.some within) (behind_one mid (take (k + 1) list) new m.0 m.1))
       );
   all = λ l. (
       let e : k + 1 ≡ length list = omega arith in
-      subst (λ n. NumbersBehind old (beginnings_below n list) new) e (subst (NumbersBehind old (beginnings_below (k + 1) list)) (sym (names.all e)) (to.some within))
+      subst (λ n. NumbersBehind old (prefixes_below n list) new) e (subst (NumbersBehind old (prefixes_below (k + 1) list)) (sym (names.all e)) (to.some within))
       );
 }
 
-pub none_to_name : (old new : Lists) (list : List ℕ) → length list ≤ 1 → new ≡ old → NumbersBehind old (beginnings_of list) new
+pub none_to_name : (old new : Lists) (list : List ℕ) → length list ≤ 1 → new ≡ old → NumbersBehind old (prefixes_of list) new
 none_to_name old new list l same = subst (λ ps. NumbersBehind old ps new) (sym (below_two (length list) list (omega arith))) (behind_none old new same)
 
 -- ---- where no chain is given
@@ -148,22 +148,22 @@ gives_no_chain (Reflexive r) none p q rs e = let f : N6 p q (Steps rs) ≡ N7 r 
 gives_no_chain (ClassAssertion c a) none p q rs e = let f : N6 p q (Steps rs) ≡ N8 a (Whole c) = e in cc
 gives_no_chain (PropertyAssertion r a b) none p q rs e = let f : N6 p q (Steps rs) ≡ N9 a r b = e in cc
 
-no_beginnings : (a : Axiom) → NamesNone a → chain_beginnings a ≡ []
-no_beginnings (SubClass c d) none = refl
-no_beginnings (EquivalentClasses cs) none = refl
-no_beginnings (DisjointClasses cs) none = refl
-no_beginnings (SubProperty rs s) none = absurd none
-no_beginnings (EquivalentProperties rs) none = refl
-no_beginnings (Domain r c) none = refl
-no_beginnings (Transitive r) none = refl
-no_beginnings (Reflexive r) none = refl
-no_beginnings (ClassAssertion c a) none = refl
-no_beginnings (PropertyAssertion r a b) none = refl
+no_prefixes : (a : Axiom) → NamesNone a → chain_prefixes a ≡ []
+no_prefixes (SubClass c d) none = refl
+no_prefixes (EquivalentClasses cs) none = refl
+no_prefixes (DisjointClasses cs) none = refl
+no_prefixes (SubProperty rs s) none = absurd none
+no_prefixes (EquivalentProperties rs) none = refl
+no_prefixes (Domain r c) none = refl
+no_prefixes (Transitive r) none = refl
+no_prefixes (Reflexive r) none = refl
+no_prefixes (ClassAssertion c a) none = refl
+no_prefixes (PropertyAssertion r a b) none = refl
 
 -- an axiom that is no chain names nothing
-pub names_none : (s t : Made) (p : Origin) (a : Axiom) → NamesNone a → Adds s t (From p (AxiomGives a)) → NumbersBehind s.steps (chain_beginnings a) t.steps
+pub names_none : (s t : Made) (p : Origin) (a : Axiom) → NamesNone a → Adds s t (From p (AxiomGives a)) → NumbersBehind s.steps (chain_prefixes a) t.steps
 names_none s t p a none adds =
-    subst (λ ps. NumbersBehind s.steps ps t.steps) (sym (no_beginnings a none))
+    subst (λ ps. NumbersBehind s.steps ps t.steps) (sym (no_prefixes a none))
     (behind_none s.steps t.steps (steps_stay s t (From p (AxiomGives a)) adds (λ rs h. gives_no_chain a none h.1 h.2 rs h.3.1)))
 
 right_no_chain : (e : ℕ) (node : Node) (p q : Property2) (rs : List ℕ) → RightGives e node (N6 p q (Steps rs)) → ⊥
@@ -185,10 +185,10 @@ expressions_name_none s t nodes right left k adds = steps_stay s t (ExpressedTo 
 
 -- ---- axiom by axiom
 
-pub chains_more : (axioms : List Axiom) (a : Axiom) (old new : Lists) → NameChains axioms old → NumbersBehind old (chain_beginnings a) new → NameChains (axioms ++ a ∷ []) new
+pub chains_more : (axioms : List Axiom) (a : Axiom) (old new : Lists) → NameChains axioms old → NumbersBehind old (chain_prefixes a) new → NameChains (axioms ++ a ∷ []) new
 chains_more axioms a old new h behind =
-    let one : all_chain_beginnings (a ∷ []) ≡ chain_beginnings a = append-nil (chain_beginnings a) in
-    subst (λ ps. AreNumberedByFirstPlace ps new) (sym (flat_map-append chain_beginnings axioms (a ∷ []) ∙ ap (λ ps. all_chain_beginnings axioms ++ ps) one)) (behind (all_chain_beginnings axioms) h)
+    let one : all_chain_prefixes (a ∷ []) ≡ chain_prefixes a = append-nil (chain_prefixes a) in
+    subst (λ ps. AreNumberedByFirstPlace ps new) (sym (flat_map-append chain_prefixes axioms (a ∷ []) ∙ ap (λ ps. all_chain_prefixes axioms ++ ps) one)) (behind (all_chain_prefixes axioms) h)
 
 -- a list keeps its members at the front of a longer one
 pub kept_front : {X : Type 0} (xs ys : List X) → Keeps xs ys → take (length xs) ys ≡ xs
@@ -202,14 +202,14 @@ all_taken n xs e = ap (λ k. take k xs) e ∙ kept_front xs xs (λ n x g. g)
 pub no_chains : NameChains [] []
 no_chains = record { each = λ x c. c; all = λ x c. c; order = λ m n x y l g. absurd (none-some x g) }
 
--- ---- beginnings and the forms that have them last
+-- ---- prefixes and the forms that have them last
 
-begins_last : (e : ℕ) (ds : List ℕ) (n d : ℕ) (list : List ℕ) → 0 < n → slice_get ds n ≡ Some d → Beginning list ≡ first_of ds e (n + 1) → IsBeginningOf ds list
+begins_last : (e : ℕ) (ds : List ℕ) (n d : ℕ) (list : List ℕ) → 0 < n → slice_get ds n ≡ Some d → Prefix list ≡ first_of ds e (n + 1) → IsPrefixOf ds list
 begins_last e ds n d list pos gd i = elim (cases_eq (n + 1) (length ds)) [
-  | inl w ↦ (let f : Beginning list ≡ Whole e = i ∙ first_whole ds e (n + 1) w in absurd cc)
+  | inl w ↦ (let f : Prefix list ≡ Whole e = i ∙ first_whole ds e (n + 1) w in absurd cc)
   | inr ne ↦ (
       let within : n < length ds = slice_get_within ds n d gd in
-      let f : Beginning list ≡ Beginning (take (n + 1) ds) = i ∙ first_more ds e (n + 1) (omega arith) (omega arith) in
+      let f : Prefix list ≡ Prefix (take (n + 1) ds) = i ∙ first_more ds e (n + 1) (omega arith) (omega arith) in
       let same : list ≡ take (n + 1) ds = cc in let long : length list ≡ n + 1 = ap length same ∙ take_long (n + 1) ds (omega arith) in
       record { many = omega arith; shorter = omega arith; first = same ∙ ap (λ k. take k ds) (sym long) }
       )
@@ -218,36 +218,36 @@ begins_last e ds n d list pos gd i = elim (cases_eq (n + 1) (length ds)) [
 n2_last : (a b c a' b' c' : Class2) → N2 a b c ≡ N2 a' b' c' → c ≡ c'
 n2_last a b c a' b' c' e = cc
 
-axiom_no_class : (x : Axiom) (a b : Class2) (ds : List ℕ) → AxiomGives x (N2 a b (Beginning ds)) → ⊥
-axiom_no_class (SubClass c d) a b ds e = let f : N2 a b (Beginning ds) ≡ N1 (Whole c) (Whole d) = e in cc
-axiom_no_class (EquivalentClasses cs) a b ds (n, (c, d, _, _, e)) = let f : N2 a b (Beginning ds) ≡ N1 (Whole c) (Whole d) = e in cc
-axiom_no_class (DisjointClasses cs) a b ds (m, (n, (c, d, _, _, _, e))) = let f : N2 a b (Beginning ds) ≡ N2 (Whole c) (Whole d) (Whole nothing) = e in cc
-axiom_no_class (SubProperty rs s) a b ds (inl (r, _, e)) = let f : N2 a b (Beginning ds) ≡ N5 r s = e in cc
-axiom_no_class (SubProperty rs s) a b ds (inr (n, (r, _, _, e))) = let f : N2 a b (Beginning ds) ≡ N6 (first_steps rs (Property s) n) (Property r) (first_steps rs (Property s) (n + 1)) = e in cc
-axiom_no_class (EquivalentProperties rs) a b ds (n, (r, s, _, _, e)) = let f : N2 a b (Beginning ds) ≡ N5 r s = e in cc
-axiom_no_class (Domain r c) a b ds e = let f : N2 a b (Beginning ds) ≡ N4 r (Whole thing) (Whole c) = e in cc
-axiom_no_class (Transitive r) a b ds e = let f : N2 a b (Beginning ds) ≡ N6 (Property r) (Property r) (Property r) = e in cc
-axiom_no_class (Reflexive r) a b ds e = let f : N2 a b (Beginning ds) ≡ N7 r = e in cc
-axiom_no_class (ClassAssertion c i) a b ds e = let f : N2 a b (Beginning ds) ≡ N8 i (Whole c) = e in cc
-axiom_no_class (PropertyAssertion r i j) a b ds e = let f : N2 a b (Beginning ds) ≡ N9 i r j = e in cc
+axiom_no_class : (x : Axiom) (a b : Class2) (ds : List ℕ) → AxiomGives x (N2 a b (Prefix ds)) → ⊥
+axiom_no_class (SubClass c d) a b ds e = let f : N2 a b (Prefix ds) ≡ N1 (Whole c) (Whole d) = e in cc
+axiom_no_class (EquivalentClasses cs) a b ds (n, (c, d, _, _, e)) = let f : N2 a b (Prefix ds) ≡ N1 (Whole c) (Whole d) = e in cc
+axiom_no_class (DisjointClasses cs) a b ds (m, (n, (c, d, _, _, _, e))) = let f : N2 a b (Prefix ds) ≡ N2 (Whole c) (Whole d) (Whole nothing) = e in cc
+axiom_no_class (SubProperty rs s) a b ds (inl (r, _, e)) = let f : N2 a b (Prefix ds) ≡ N5 r s = e in cc
+axiom_no_class (SubProperty rs s) a b ds (inr (n, (r, _, _, e))) = let f : N2 a b (Prefix ds) ≡ N6 (first_steps rs (Property s) n) (Property r) (first_steps rs (Property s) (n + 1)) = e in cc
+axiom_no_class (EquivalentProperties rs) a b ds (n, (r, s, _, _, e)) = let f : N2 a b (Prefix ds) ≡ N5 r s = e in cc
+axiom_no_class (Domain r c) a b ds e = let f : N2 a b (Prefix ds) ≡ N4 r (Whole thing) (Whole c) = e in cc
+axiom_no_class (Transitive r) a b ds e = let f : N2 a b (Prefix ds) ≡ N6 (Property r) (Property r) (Property r) = e in cc
+axiom_no_class (Reflexive r) a b ds e = let f : N2 a b (Prefix ds) ≡ N7 r = e in cc
+axiom_no_class (ClassAssertion c i) a b ds e = let f : N2 a b (Prefix ds) ≡ N8 i (Whole c) = e in cc
+axiom_no_class (PropertyAssertion r i j) a b ds e = let f : N2 a b (Prefix ds) ≡ N9 i r j = e in cc
 
-right_no_class : (e : ℕ) (node : Node) (a b : Class2) (ds : List ℕ) → RightGives e node (N2 a b (Beginning ds)) → ⊥
+right_no_class : (e : ℕ) (node : Node) (a b : Class2) (ds : List ℕ) → RightGives e node (N2 a b (Prefix ds)) → ⊥
 right_no_class e (Class c) a b ds h = h
-right_no_class e (And cs) a b ds (d, _, i) = let f : N2 a b (Beginning ds) ≡ N1 (Whole e) (Whole d) = i in cc
-right_no_class e (Exists r c) a b ds i = let f : N2 a b (Beginning ds) ≡ N3 (Whole e) r c = i in cc
+right_no_class e (And cs) a b ds (d, _, i) = let f : N2 a b (Prefix ds) ≡ N1 (Whole e) (Whole d) = i in cc
+right_no_class e (Exists r c) a b ds i = let f : N2 a b (Prefix ds) ≡ N3 (Whole e) r c = i in cc
 
-left_begins : (o : Ontology) (asked : List ℕ) (e : ℕ) (node : Node) (a b : Class2) (ds : List ℕ) → slice_get o.nodes e ≡ Some node → Occurs AtLeft o asked e → LeftGives e node (N2 a b (Beginning ds)) → BeginsIntersection o asked ds
+left_begins : (o : Ontology) (asked : List ℕ) (e : ℕ) (node : Node) (a b : Class2) (ds : List ℕ) → slice_get o.nodes e ≡ Some node → Occurs AtLeft o asked e → LeftGives e node (N2 a b (Prefix ds)) → BeginsIntersection o asked ds
 left_begins o asked e (Class c) a b ds at occurs h = absurd h
 left_begins o asked e (And cs) a b ds at occurs (n, (d, pos, gd, i)) = record {
   expression = e;
   operands = cs;
   occurs = occurs;
   there = at;
-  beginning = begins_last e cs n d ds pos gd (n2_last a b (Beginning ds) (first_of cs e n) (Whole d) (first_of cs e (n + 1)) i);
+  prefix = begins_last e cs n d ds pos gd (n2_last a b (Prefix ds) (first_of cs e n) (Whole d) (first_of cs e (n + 1)) i);
 }
-left_begins o asked e (Exists r c) a b ds at occurs i = let f : N2 a b (Beginning ds) ≡ N4 r (Whole c) (Whole e) = i in absurd cc
+left_begins o asked e (Exists r c) a b ds at occurs i = let f : N2 a b (Prefix ds) ≡ N4 r (Whole c) (Whole e) = i in absurd cc
 
--- a beginning that a given form has last is that of an intersection
+-- a prefix that a given form has last is that of an intersection
 pub given_begins : (o : Ontology) (asked : List ℕ) (ds : List ℕ) → HasClass (GivenBy o asked) ds → BeginsIntersection o asked ds
 given_begins o asked ds (origins.Axiom n, a, b, (x, _, h)) = absurd (axiom_no_class x a b ds h)
 given_begins o asked ds (origins.Expr e, a, b, (node, at, h)) = elim h [
@@ -255,28 +255,28 @@ given_begins o asked ds (origins.Expr e, a, b, (node, at, h)) = elim h [
   | inr y ↦ left_begins o asked e.0 node a b ds at y.0 y.1
 ]
 
--- each beginning of an intersection is one that a given form has last
+-- each prefix of an intersection is one that a given form has last
 pub begins_given : (o : Ontology) (asked : List ℕ) (ds : List ℕ) → BeginsIntersection o asked ds → HasClass (GivenBy o asked) ds
 begins_given o asked ds h =
     let e = h.expression in let n = length ds - 1 in
-    let many : 2 ≤ length ds = h.beginning.many in let shorter : length ds < length h.operands = h.beginning.shorter in
+    let many : 2 ≤ length ds = h.prefix.many in let shorter : length ds < length h.operands = h.prefix.shorter in
     let d = slice_get_there h.operands n (omega arith) in
     let long : n + 1 ≡ length ds = omega arith in
-    let last : Beginning ds ≡ first_of h.operands e (n + 1) = ap Beginning (h.beginning.first ∙ ap (λ k. take k h.operands) (sym long)) ∙ sym (first_more h.operands e (n + 1) (omega arith) (omega arith)) in
+    let last : Prefix ds ≡ first_of h.operands e (n + 1) = ap Prefix (h.prefix.first ∙ ap (λ k. take k h.operands) (sym long)) ∙ sym (first_more h.operands e (n + 1) (omega arith) (omega arith)) in
     (origins.Expr (record { 0 = e }), first_of h.operands e n, Whole d.0, (And h.operands, h.there, inr (h.occurs, (n, (d.0, omega arith, d.1, ap (N2 (first_of h.operands e n) (Whole d.0)) last)))))
 
 -- ---- the same of chains
 
-below_begins : (k : ℕ) (rs list : List ℕ) → k ≤ length rs → Contains (beginnings_below k rs) list → IsBeginningOf rs list
+below_begins : (k : ℕ) (rs list : List ℕ) → k ≤ length rs → Contains (prefixes_below k rs) list → IsPrefixOf rs list
 below_begins k rs list l c = elim (cases_order k 2) [
   | inl e ↦ absurd (Contains-none list (subst (λ ps. Contains ps list) (below_two k rs (omega arith)) c))
   | inr (inl lt) ↦ absurd (Contains-none list (subst (λ ps. Contains ps list) (below_two k rs (omega arith)) c))
   | inr (inr gt) ↦ go k l gt c
 ]
   where
-    go : (k : ℕ) → k ≤ length rs → 2 < k → Contains (beginnings_below k rs) list → IsBeginningOf rs list
+    go : (k : ℕ) → k ≤ length rs → 2 < k → Contains (prefixes_below k rs) list → IsPrefixOf rs list
     go zero l gt c = absurd (omega arith)
-    go (suc k) l gt c = elim (pushed_cases (beginnings_below k rs) (take k rs) list (subst (λ ps. Contains ps list) (ap (λ m. beginnings_below m rs) (sym (add-one k)) ∙ below_more k rs (omega arith)) c)) [
+    go (suc k) l gt c = elim (pushed_cases (prefixes_below k rs) (take k rs) list (subst (λ ps. Contains ps list) (ap (λ m. prefixes_below m rs) (sym (add-one k)) ∙ below_more k rs (omega arith)) c)) [
       | inl h ↦ elim (cases_eq k 2) [
         | inl e ↦ absurd (Contains-none list (subst (λ ps. Contains ps list) (below_two k rs (omega arith)) h))
         | inr ne ↦ go k (omega arith) (omega arith) h
@@ -299,7 +299,7 @@ flat_contains f (x ∷ xs) y c = elim (either (f x) (flat_map f xs) y c) [
       | inr h ↦ elim (either us bs z h) [ inl i ↦ inl (Contains-later a z us i) | inr i ↦ inr i ]
     ]
 
-chain_given : (o : Ontology) (asked : List ℕ) (n : ℕ) (a : Axiom) (rs : List ℕ) → slice_get o.axioms n ≡ Some a → Contains (chain_beginnings a) rs → HasProperty (GivenBy o asked) rs
+chain_given : (o : Ontology) (asked : List ℕ) (n : ℕ) (a : Axiom) (rs : List ℕ) → slice_get o.axioms n ≡ Some a → Contains (chain_prefixes a) rs → HasProperty (GivenBy o asked) rs
 chain_given o asked n (SubProperty whole s) rs at c =
     let h = below_begins (length whole) whole rs (omega arith) c in let k = length rs - 1 in
     let many : 2 ≤ length rs = h.many in let shorter : length rs < length whole = h.shorter in
@@ -317,8 +317,8 @@ chain_given o asked n (Reflexive r) rs at h = absurd (Contains-none rs h)
 chain_given o asked n (ClassAssertion c a) rs at h = absurd (Contains-none rs h)
 chain_given o asked n (PropertyAssertion r a b) rs at h = absurd (Contains-none rs h)
 
--- what stands for the beginning of a chain is the last of a form
+-- what stands for a prefix of a chain is the last of a form
 pub chains_given : (o : Ontology) (asked : List ℕ) (steps : Lists) → NameChains o.axioms steps → (n : ℕ) (rs : List ℕ) → slice_get steps n ≡ Some rs → HasProperty (GivenBy o asked) rs
 chains_given o asked steps h n rs g =
-    let r = flat_contains chain_beginnings o.axioms rs (h.each rs (Contains-from_slice_get steps n rs g)) in
+    let r = flat_contains chain_prefixes o.axioms rs (h.each rs (Contains-from_slice_get steps n rs g)) in
     chain_given o asked r.0 r.1 rs r.2 r.3

@@ -8,11 +8,11 @@ use Rattle.std.proofs.Math.Seq.{take-append_seam}
 use Rattle.lemmas.proofs.Choices.{one_value}
 use Rattle.lemmas.proofs.Places.{slice_get_push_cases}
 use Rattle.axioms.specs.Growth.{Numbers}
-use Rattle.axioms.specs.Numbered.{Axiom, Node, Class, And, Exists, SubProperty}
-use Rattle.axioms.specs.WellFormed.{AreDistinct}
+use Rattle.axioms.specs.Ontology.{Axiom, Node, Class, And, Exists, SubProperty}
+use Rattle.axioms.specs.WellFormedness.{AreDistinct}
 use Rattle.axioms.specs.declared.ids.ExprId.{ExprId}
 use Rattle.axioms.specs.declared.ids.PropId.{PropId}
-use Rattle.normalise.specs.Shorter.{IsShorter}
+use Rattle.normalise.specs.Lengths.{IsShorter}
 use Rattle.normal_forms.specs.declared.forms.Class2 as code_class
 use Rattle.normal_forms.specs.declared.forms.Class2.TheVariants as classes
 use Rattle.normal_forms.specs.declared.forms.PropId2 as code_property
@@ -20,8 +20,8 @@ use Rattle.normal_forms.specs.declared.forms.PropId2.TheVariants as properties
 use Rattle.normal_forms.specs.declared.forms.Form.TheVariants as forms
 use Rattle.normal_forms.specs.declared.forms.Origin.{Origin}
 use Rattle.normal_forms.specs.declared.forms.Origin.TheVariants as origins
-use Rattle.normal_forms.specs.Forms.{Class2, Property2, Form, Whole, Beginning, Property, Steps, N1, N2, N3, N4, N5, N6, first_of, first_steps}
-use Rattle.normal_forms.specs.Given.{AndGives, AxiomGives, ChainGives, CircleGives, LeftGives, PairGives, RightGives, disjoint, subsumed}
+use Rattle.normal_forms.specs.Forms.{Class2, Property2, Form, Whole, Prefix, Property, Steps, N1, N2, N3, N4, N5, N6, first_of, first_steps}
+use Rattle.normal_forms.specs.Origins.{AndGives, AxiomGives, ChainGives, CircleGives, LeftGives, PairGives, RightGives, disjoint, subsumed}
 use Rattle.normalise.specs.declared.made.Made.{Made}
 use Rattle.normalise.specs.View.{Lists, SaysClass, SaysProperty, Says, StartsClass, StartsProperty, class_number, property_number, Keeps, HasClass, HasProperty, Adds, IsOne, From}
 use Rattle.normalise.specs.Steps.{BelowOperand, ChainStep, ExpressedAt, MoreOperands, MoreSteps, Names, OperandStep, SideGives, StatedAt, Within}
@@ -79,7 +79,7 @@ row_once cs one m n g (_, (c, d, _, gc, _, e)) (_, (c', d', _, gc', _, e')) = at
 pub operand_once : (ds : List ℕ) (e : ℕ) → AreDistinct ds → (m n : ℕ) (g : Form) → BelowOperand ds e m g → BelowOperand ds e n g → m ≡ n
 operand_once ds e one m n g (d, gd, i) (d', gd', i') = at_one_place ds one m n d d' gd gd' (let f : N1 (Whole e) (Whole d) ≡ N1 (Whole e) (Whole d') = sym i ∙ i' in let j : d ≡ d' = cc in j)
 
--- ---- beginnings
+-- ---- prefixes
 
 pub take_long : (k : ℕ) (ds : List ℕ) → k ≤ length ds → length (take k ds) ≡ k
 take_long zero ds l = refl
@@ -99,7 +99,7 @@ first_whole ds e n i = grind (arith, nat_tests)
 pub first_one : (ds : List ℕ) (e n : ℕ) → n ≡ 1 → n < length ds → first_of ds e n ≡ Whole (slice_index ds 0)
 first_one ds e n i l = grind (arith, nat_tests)
 
-pub first_more : (ds : List ℕ) (e n : ℕ) → 2 ≤ n → n < length ds → first_of ds e n ≡ Beginning (take n ds)
+pub first_more : (ds : List ℕ) (e n : ℕ) → 2 ≤ n → n < length ds → first_of ds e n ≡ Prefix (take n ds)
 first_more ds e n i l = grind (arith, nat_tests)
 
 steps_whole : (ds : List ℕ) (s : Property2) (n : ℕ) → n ≡ length ds → first_steps ds s n ≡ s
@@ -111,16 +111,16 @@ steps_one ds s n i l = grind (arith, nat_tests)
 pub steps_more : (ds : List ℕ) (s : Property2) (n : ℕ) → 2 ≤ n → n < length ds → first_steps ds s n ≡ Steps (take n ds)
 steps_more ds s n i l = grind (arith, nat_tests)
 
--- beginnings of different lengths are different
+-- prefixes of different lengths are different
 first_apart : (ds : List ℕ) (e m n : ℕ) → 2 ≤ m → m ≤ length ds → 2 ≤ n → n ≤ length ds → first_of ds e m ≡ first_of ds e n → m ≡ n
 first_apart ds e m n pm lm pn ln h = elim (cases_eq m (length ds)) [
   | inl i ↦ elim (cases_eq n (length ds)) [
     | inl j ↦ i ∙ sym j
-    | inr j ↦ (let f : Whole e ≡ Beginning (take n ds) = sym (first_whole ds e m i) ∙ h ∙ first_more ds e n pn (omega arith) in absurd cc)
+    | inr j ↦ (let f : Whole e ≡ Prefix (take n ds) = sym (first_whole ds e m i) ∙ h ∙ first_more ds e n pn (omega arith) in absurd cc)
   ]
   | inr i ↦ elim (cases_eq n (length ds)) [
-    | inl j ↦ (let f : Beginning (take m ds) ≡ Whole e = sym (first_more ds e m pm (omega arith)) ∙ h ∙ first_whole ds e n j in absurd cc)
-    | inr j ↦ (let f : Beginning (take m ds) ≡ Beginning (take n ds) = sym (first_more ds e m pm (omega arith)) ∙ h ∙ first_more ds e n pn (omega arith) in
+    | inl j ↦ (let f : Prefix (take m ds) ≡ Whole e = sym (first_more ds e m pm (omega arith)) ∙ h ∙ first_whole ds e n j in absurd cc)
+    | inr j ↦ (let f : Prefix (take m ds) ≡ Prefix (take n ds) = sym (first_more ds e m pm (omega arith)) ∙ h ∙ first_more ds e n pn (omega arith) in
         let k : take m ds ≡ take n ds = cc in sym (take_long m ds lm) ∙ ap length k ∙ take_long n ds ln)
   ]
 ]
@@ -191,7 +191,7 @@ some_name old new list k n l numbers = record { some = λ _. (n, numbers); all =
 no_name : (old : Lists) (list : List ℕ) (k : ℕ) → k + 1 ≡ length list → Names old old list k
 no_name old list k e = record { some = λ l. absurd (omega arith); all = λ _. refl }
 
--- a list with a number was there, or is the beginning that got it
+-- a list with a number was there, or is the prefix that got it
 named_cases : (old new : Lists) (list : List ℕ) (k : ℕ) → k < length list → Names old new list k → (n : ℕ) (xs : List ℕ) → slice_get new n ≡ Some xs → (slice_get old n ≡ Some xs) ⊎ ((k + 1 < length list) × (xs ≡ take (k + 1) list))
 named_cases old new list k within names n xs g = elim (cases_eq (k + 1) (length list)) [
   | inl e ↦ inl (ap (λ ys. slice_get ys n) (sym (names.all e)) ∙ g)
@@ -245,7 +245,7 @@ operand_step s u t ds e k origin shorter c x pos st gd more adds = record {
     classes : (n : ℕ) (list : List ℕ) → slice_get u.operands n ≡ Some list → (slice_get s.operands n ≡ Some list) ⊎ HasClass (IsOne origin form) list
     classes n list g = elim (named_cases s.operands u.operands ds k within more.names n list g) [
       | inl h ↦ inl h
-      | inr h ↦ inr (origin, first_of ds e k, Whole x.0, (refl, ap (N2 (first_of ds e k) (Whole x.0)) (ap Beginning h.1 ∙ sym (first_more ds e (k + 1) (omega arith) h.0))))
+      | inr h ↦ inr (origin, first_of ds e k, Whole x.0, (refl, ap (N2 (first_of ds e k) (Whole x.0)) (ap Prefix h.1 ∙ sym (first_more ds e (k + 1) (omega arith) h.0))))
     ]
 
     only : (g : Form) → AndGives ds e k g → g ≡ form

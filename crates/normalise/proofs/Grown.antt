@@ -5,17 +5,17 @@ use Rattle.std.proofs.lemmas.Option.{none-some, slice_get_within}
 use Rattle.lemmas.proofs.Choices.{one_value}
 use Rattle.lemmas.proofs.Members.{Contains-from_slice_get, slice_get-from_Contains}
 use Rattle.lemmas.proofs.Places.{slice_get_there}
-use Rattle.axioms.specs.Numbered.{Ontology, Axiom, Node}
+use Rattle.axioms.specs.Ontology.{Ontology, Axiom, Node}
 use Rattle.axioms.specs.View.{at_number}
 use Rattle.normal_forms.specs.declared.forms.Origin.{Origin}
 use Rattle.normal_forms.specs.declared.forms.Origin.TheVariants as origins
 use Rattle.normal_forms.specs.Forms.{Form, IsForm}
-use Rattle.normal_forms.specs.Given.{GivenBy, RightGives, LeftGives}
-use Rattle.normal_forms.specs.Occurring.{Occurs, itself, part, AtRight, AtLeft}
+use Rattle.normal_forms.specs.Origins.{GivenBy, RightGives, LeftGives}
+use Rattle.normal_forms.specs.Occurrences.{Occurs, itself, part, AtRight, AtLeft}
 use Rattle.normal_forms.proofs.Sources.{forms_given, given_forms}
 use Rattle.normalise.specs.declared.entries.Entry.{Entry}
 use Rattle.normalise.specs.declared.made.Made.{Made}
-use Rattle.normalise.specs.Growing.{Grown, Grows, Has, IsNormalFor, FreshTo}
+use Rattle.normalise.specs.Growth.{Grown, Grows, Has, IsNormalFor, FreshTo}
 use Rattle.normalise.specs.Listing.{Listing}
 use Rattle.normalise.specs.Marks.{IsMarked, MarksOccurring}
 use Rattle.normalise.specs.Steps.{ExpressedTo, StatedFrom}
@@ -23,7 +23,7 @@ use Rattle.normalise.specs.View.{Adds, Keeps, Lengthens}
 use Rattle.normalise.proofs.Adding.{adds_behind, adds_both, adds_same, before}
 use Rattle.normalise.proofs.FreshNames.{begins_given, chains_given, expressions_name_none, given_begins, kept_front}
 use Rattle.normalise.proofs.Giving.{sides_apart}
-use Rattle.normalise.specs.Named.{NameChains}
+use Rattle.normalise.specs.FreshNames.{NameChains}
 
 number_at : (xs : List Axiom) (n : ℕ) → at_number xs (n + 1) ≡ slice_get xs n
 number_at xs n = rw add-one refl

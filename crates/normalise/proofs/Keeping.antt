@@ -5,14 +5,14 @@ use Rattle.std.specs.declared.option.Option.{Option}
 use Rattle.std.proofs.lemmas.List.{length-append, length-map, map-append}
 use Rattle.std.proofs.lemmas.Option.{none-some, slice_get_within, slice_get-get_or}
 use Rattle.axioms.specs.Growth.{Numbers}
-use Rattle.axioms.specs.WellFormed.{AreDistinct}
+use Rattle.axioms.specs.WellFormedness.{AreDistinct}
 use Rattle.lemmas.proofs.Choices.{one_value}
 use Rattle.lemmas.proofs.Mapped.{slice_get_map, slice_get_map_from}
 use Rattle.lemmas.proofs.Members.{Contains-from_slice_get, slice_get-from_Contains}
 use Rattle.lemmas.proofs.Places.{Keeps, keeps_push, slice_get_push, slice_get_push_cases, slice_get_there}
 use Rattle.normalise.specs.declared.start.Start.{Start}
 use Rattle.normalise.specs.declared.spans.Span.{Span}
-use Rattle.normalise.specs.Shorter.{IsShorter}
+use Rattle.normalise.specs.Lengths.{IsShorter}
 use Rattle.normalise.specs.Spans.{IsListAt, IsSpanOf, list_at}
 use Rattle.normalise.specs.Tables.{Table, Spells, Starts, IsKept, start_in, key_in}
 use Rattle.normalise.proofs.Placing.{range-append, lists_stay, all_but_last}

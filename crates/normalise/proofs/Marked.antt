@@ -4,8 +4,8 @@ use Rattle.std.specs.Prelude.{◌↔◌}
 use Rattle.std.proofs.lemmas.Bool.{cases_eq}
 use Rattle.std.proofs.lemmas.Option.{same_Some}
 use Rattle.lemmas.proofs.Places.{slice_get_push, slice_get_push_cases, keeps_push}
-use Rattle.normalise.specs.Growing.{IsFreshAt, FreshTo}
-use Rattle.axioms.specs.Numbered.{Node}
+use Rattle.normalise.specs.Growth.{IsFreshAt, FreshTo}
+use Rattle.axioms.specs.Ontology.{Node}
 use Rattle.normalise.specs.Marks.{IsMarked}
 use Rattle.normalise.specs.declared.made.Made.{Made}
 use Rattle.normalise.specs.Steps.{ExpressedTo}

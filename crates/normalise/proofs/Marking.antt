@@ -3,10 +3,10 @@ use Rattle.std.proofs.Common.{◌≡◌, ℕ, zero, suc, ◌+◌, ◌<◌, ◌�
 use Rattle.std.proofs.lemmas.Bool.{cases_eq}
 use Rattle.std.proofs.lemmas.Option.{same_Some, slice_get_within}
 use Rattle.std.proofs.lemmas.List.Elements.{All-contains}
-use Rattle.axioms.specs.Numbered.{Ontology, Node, Class, And, Exists, IsPart}
-use Rattle.axioms.specs.WellFormed.{IsOntology}
+use Rattle.axioms.specs.Ontology.{Ontology, Node, Class, And, Exists, IsPart}
+use Rattle.axioms.specs.WellFormedness.{IsOntology}
 use Rattle.lemmas.proofs.Members.{Contains-from_slice_get, slice_get-from_Contains}
-use Rattle.normal_forms.specs.Occurring.{Reached, itself, part}
+use Rattle.normal_forms.specs.Occurrences.{Reached, itself, part}
 use Rattle.normalise.specs.Marks.{IsMarked, Marks, Closes, ClosesAt, EachOf}
 
 set_same : {X : Type 0} (xs : List X) (n : ℕ) (x : X) → n < length xs → slice_get (set xs n x) n ≡ Some x

@@ -7,8 +7,8 @@ use Rattle.std.proofs.lemmas.Option.{none-some, slice_get_within, slice_get-get_
 use Rattle.lemmas.proofs.Choices.{one_value}
 use Rattle.lemmas.proofs.Mapped.{slice_get_map_from}
 use Rattle.lemmas.proofs.Members.{Contains-from_slice_get}
-use Rattle.axioms.specs.Numbered.{Ontology, Axiom, Node, Class, And, Exists, SubClass, EquivalentClasses, DisjointClasses, SubProperty, EquivalentProperties, Domain, Transitive, Reflexive, ClassAssertion, PropertyAssertion}
-use Rattle.axioms.specs.WellFormed.{IsAxiomOf, IsOntology}
+use Rattle.axioms.specs.Ontology.{Ontology, Axiom, Node, Class, And, Exists, SubClass, EquivalentClasses, DisjointClasses, SubProperty, EquivalentProperties, Domain, Transitive, Reflexive, ClassAssertion, PropertyAssertion}
+use Rattle.axioms.specs.WellFormedness.{IsAxiomOf, IsOntology}
 use Rattle.normal_forms.specs.declared.forms.PropId2 as code_property
 use Rattle.normal_forms.specs.declared.forms.PropId2.TheVariants as properties
 use Rattle.normal_forms.specs.declared.forms.Form as code_form
@@ -16,10 +16,10 @@ use Rattle.normal_forms.specs.declared.forms.Form.TheVariants as forms
 use Rattle.normal_forms.specs.declared.forms.Origin.{Origin}
 use Rattle.normal_forms.specs.declared.forms.Origin.TheVariants as origins
 use Rattle.normal_forms.specs.Forms.{Property2, Form, Property, Steps, N1, N2, N3, N4, N5, N6, N7, N8, N9, first_steps}
-use Rattle.normal_forms.specs.Given.{GivenBy, AxiomGives, RightGives, LeftGives}
+use Rattle.normal_forms.specs.Origins.{GivenBy, AxiomGives, RightGives, LeftGives}
 use Rattle.normal_forms.specs.Properties.{IsPropertyOf, IsPropertyFormOf}
 use Rattle.normalise.specs.Entries.{form_in}
-use Rattle.normalise.specs.Growing.{IsNormalFor}
+use Rattle.normalise.specs.Growth.{IsNormalFor}
 use Rattle.normalise.specs.Listing.{Listing}
 use Rattle.normalise.specs.View.{Lists, Says, SaysProperty}
 

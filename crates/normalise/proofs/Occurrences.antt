@@ -1,8 +1,8 @@
 -- What marks say of a whole ontology.
 use Rattle.std.proofs.Common.{◌≡◌, ℕ, zero, suc, ◌<◌, ◌⊎◌, inl, inr, Bool, true, false, List, length, slice_get, replicate, Some, Contains, ◌∙◌, arith}
 use Rattle.std.proofs.lemmas.Option.{none-some, slice_get_within}
-use Rattle.axioms.specs.Numbered.{Ontology, Axiom, Node}
-use Rattle.normal_forms.specs.Occurring.{Reached, itself, part, AtSome}
+use Rattle.axioms.specs.Ontology.{Ontology, Axiom, Node}
+use Rattle.normal_forms.specs.Occurrences.{Reached, itself, part, AtSome}
 use Rattle.normalise.specs.Marks.{IsMarked, Marks, Closes, MarksOccurring}
 
 reached_same : (nodes : List Node) (P Q : ℕ → Type 0) → ((e : ℕ) → P e → Q e) → (e : ℕ) → Reached nodes P e → Reached nodes Q e

@@ -2,7 +2,7 @@
 use Rattle.std.proofs.Common.{◌≡◌, ℕ, zero, suc, List, [], ◌∷◌, ◌++◌, length, map, slice_get, refl, ap, ◌∙◌, arith}
 use Rattle.std.specs.Option.{option_map}
 use Rattle.std.proofs.lemmas.List.{length-map, map-append}
-use Rattle.normal_forms.specs.Stored.{origin_of}
+use Rattle.normal_forms.specs.StoredForms.{origin_of}
 use Rattle.normal_forms.specs.declared.origins.StoredOrigin.{StoredOrigin}
 use Rattle.normal_forms.specs.declared.forms.Form.{Form}
 use Rattle.normal_forms.specs.declared.forms.Origin.{Origin}

@@ -1,9 +1,9 @@
--- An entry of a table of beginnings is its two parts.
+-- An entry of a table of prefixes is its two parts.
 use Rattle.std.proofs.Common.{◌≡◌, ℕ, Bool, true, ◌&&◌, List, [], ◌∷◌, map, slice_get, Some, refl, sym, ap, ap₂, subst₂, nat_eq}
 use Rattle.std.specs.Bool.{Decides}
 use Rattle.std.proofs.lemmas.Bool.{true≢false}
 use Rattle.std.proofs.lemmas.Bool.Decides.{Decides-eqb, Decides-like, Decides-and}
-use Rattle.keyed_hash.specs.Numbered.{insert_key}
+use Rattle.keyed_hash.specs.Numbering.{insert_key}
 use Rattle.axioms.specs.Growth.{Numbers}
 use Rattle.axioms.proofs.Insertions.{inserted}
 use Rattle.normalise.specs.contracts.start.StartPartialEq.TheImpl.{ghosts}

@@ -3,7 +3,7 @@ use Rattle.std.proofs.Common.{◌≡◌, ℕ, List, map, slice_get, Some, Contai
 use Rattle.std.proofs.lemmas.Option.{same_Some, slice_get_within}
 use Rattle.lemmas.proofs.Mapped.{slice_get_map, slice_get_map_from}
 use Rattle.lemmas.proofs.Members.{Contains-from_slice_get, slice_get-from_Contains}
-use Rattle.axioms.specs.Numbered.{Ontology}
+use Rattle.axioms.specs.Ontology.{Ontology}
 use Rattle.normal_forms.specs.declared.forms.Class2 as code_class
 use Rattle.normal_forms.specs.declared.forms.Class2.TheVariants as classes
 use Rattle.normal_forms.specs.declared.forms.PropId2 as code_property
@@ -13,21 +13,21 @@ use Rattle.normal_forms.specs.declared.forms.Form.TheVariants as forms
 use Rattle.normal_forms.specs.declared.forms.Origin.{Origin}
 use Rattle.normal_forms.specs.Forms.{Class2, Property2, Form, IsForm}
 use Rattle.facts.specs.declared.contexts.Context.{Context}
-use Rattle.closure.specs.Said as closure
-use Rattle.closure.specs.Said.{Beginnings, whole, beginning, property, steps, n1, n2, n3, n4, n5, n6, n7, n8, n9, SaysForm, IsProblemOf}
+use Rattle.closure.specs.Denotations as closure
+use Rattle.closure.specs.Denotations.{Prefixes, whole, prefix, property, steps, n1, n2, n3, n4, n5, n6, n7, n8, n9, SaysForm, IsProblemOf}
 use Rattle.normalise.specs.declared.entries.Entry.{Entry}
 use Rattle.normalise.specs.Entries.{form_in}
-use Rattle.normalise.specs.Growing.{Has, IsNormalFor}
+use Rattle.normalise.specs.Growth.{Has, IsNormalFor}
 use Rattle.normalise.specs.Listing.{Listing}
 use Rattle.normalise.specs.View.{SaysClass, SaysProperty, Says}
 use Rattle.normalise.proofs.Grown.{listed_forms}
-use Rattle.normalise.specs.Problem.{beginnings_of, problem_of}
+use Rattle.normalise.specs.Problem.{prefixes_of, problem_of}
 use Rattle.normalise.specs.Roots.{AreRoots}
 
-module _ (b : Beginnings) where
+module _ (b : Prefixes) where
   says_class : (a : code_class.Class2) (c : Class2) → SaysClass b.operands a c → closure.SaysClass b a c
   says_class (classes.Expr e) c is = subst (closure.SaysClass b (classes.Expr e)) (sym is) (whole refl)
-  says_class (classes.Partial n) c (ds, at, is) = subst (closure.SaysClass b (classes.Partial n)) (sym is) (beginning at)
+  says_class (classes.Partial n) c (ds, at, is) = subst (closure.SaysClass b (classes.Partial n)) (sym is) (prefix at)
 
   says_property : (p : code_property.PropId2) (q : Property2) → SaysProperty b.steps p q → closure.SaysProperty b p q
   says_property (properties.Property p) q is = subst (closure.SaysProperty b (properties.Property p)) (sym is) (property refl)
@@ -46,25 +46,25 @@ module _ (b : Beginnings) where
 
 module _ (o : Ontology) (v : Listing) (normal : IsNormalFor o v) where
   -- the form of an entry says a form of the definition
-  entry_says : (n : ℕ) (entry : Entry) → slice_get v.entries n ≡ Some entry → (g : Form) × SaysForm (beginnings_of v) entry.form g × IsForm o v.asked g
+  entry_says : (n : ℕ) (entry : Entry) → slice_get v.entries n ≡ Some entry → (g : Form) × SaysForm (prefixes_of v) entry.form g × IsForm o v.asked g
   entry_says n entry at =
       let (by, (g, (f, there, says), form)) = (listed_forms o v normal).0 n (slice_get_within v.entries n entry at) in
       let same : f ≡ entry.form = ap form_in (same_Some _ entry (sym there ∙ at)) in
-      (g, subst (λ (x : code_form.Form). SaysForm (beginnings_of v) x g) same (says_form (beginnings_of v) f g says), form)
+      (g, subst (λ (x : code_form.Form). SaysForm (prefixes_of v) x g) same (says_form (prefixes_of v) f g says), form)
 
-  each_form : (f : code_form.Form) → Contains (map form_in v.entries) f → (g : Form) × SaysForm (beginnings_of v) f g × IsForm o v.asked g
+  each_form : (f : code_form.Form) → Contains (map form_in v.entries) f → (g : Form) × SaysForm (prefixes_of v) f g × IsForm o v.asked g
   each_form f there =
       let (n, at) = slice_get-from_Contains (map form_in v.entries) f there in
       let (entry, at_n, is) = slice_get_map_from form_in v.entries n f at in
       let (g, says, form) = entry_says n entry at_n in
-      (g, subst (λ (x : code_form.Form). SaysForm (beginnings_of v) x g) is says, form)
+      (g, subst (λ (x : code_form.Form). SaysForm (prefixes_of v) x g) is says, form)
 
-  all_forms : (g : Form) → IsForm o v.asked g → (f : code_form.Form) × Contains (map form_in v.entries) f × SaysForm (beginnings_of v) f g
+  all_forms : (g : Form) → IsForm o v.asked g → (f : code_form.Form) × Contains (map form_in v.entries) f × SaysForm (prefixes_of v) f g
   all_forms g form =
       let (n, (by, (f, at, says))) = (listed_forms o v normal).1 g form in
-      (f, Contains-from_slice_get (map form_in v.entries) n f (slice_get_map form_in v.entries n _ at), says_form (beginnings_of v) f g says)
+      (f, Contains-from_slice_get (map form_in v.entries) n f (slice_get_map form_in v.entries n _ at), says_form (prefixes_of v) f g says)
 
-  pub makes_the_problem : (roots : List Context) → AreRoots o v.asked roots → IsProblemOf o v.asked (beginnings_of v) (problem_of v roots)
+  pub makes_the_problem : (roots : List Context) → AreRoots o v.asked roots → IsProblemOf o v.asked (prefixes_of v) (problem_of v roots)
   makes_the_problem roots are = record {
     distinct_operands = normal.operands;
     distinct_steps = normal.steps;

@@ -2,11 +2,11 @@ pub mod Entries
 pub mod Listing
 pub mod Marks
 pub mod View
-pub mod Named
+pub mod FreshNames
 pub mod Steps
-pub mod Growing
-pub mod Joining
-pub mod Shorter
+pub mod Growth
+pub mod Additions
+pub mod Lengths
 pub mod Spans
 pub mod Tables
 pub mod Roots

@@ -1,7 +1,7 @@
 -- Marks on expressions, by their numbers.
 use Rattle.std.specs.Prelude.{◌≡◌, ℕ, ◌<◌, ◌⊎◌, ◌↔◌, Bool, true, List, length, slice_get, Some}
-use Rattle.axioms.specs.Numbered.{Ontology, Axiom, Node, IsPart}
-use Rattle.normal_forms.specs.Occurring.{Occurs, Reached}
+use Rattle.axioms.specs.Ontology.{Ontology, Axiom, Node, IsPart}
+use Rattle.normal_forms.specs.Occurrences.{Occurs, Reached}
 
 abbrev pub IsMarked : List Bool → ℕ → Type 0
 IsMarked marks e = slice_get marks e ≡ Some true

@@ -1,17 +1,17 @@
 -- What normal forms and roots make.
 use Rattle.std.specs.Prelude.{ℕ, List, map}
-use Rattle.axioms.specs.Numbered.{Ontology}
+use Rattle.axioms.specs.Ontology.{Ontology}
 use Rattle.facts.specs.declared.contexts.Context.{Context}
 use Rattle.facts.specs.Closure.{Problem}
-use Rattle.closure.specs.Said.{Beginnings, IsProblemOf}
+use Rattle.closure.specs.Denotations.{Prefixes, IsProblemOf}
 use Rattle.normalise.specs.Entries.{form_in}
-use Rattle.normalise.specs.Growing.{IsNormalFor}
+use Rattle.normalise.specs.Growth.{IsNormalFor}
 use Rattle.normalise.specs.Listing.{Listing}
 use Rattle.normalise.specs.Roots.{AreRoots}
 
--- what the numbers of beginnings stand for
-abbrev pub beginnings_of : Listing → Beginnings
-beginnings_of v = record { operands = v.operands; steps = v.steps }
+-- what the numbers of prefixes stand for
+abbrev pub prefixes_of : Listing → Prefixes
+prefixes_of v = record { operands = v.operands; steps = v.steps }
 
 -- the forms, with the roots
 abbrev pub problem_of : Listing → List Context → Problem
@@ -21,4 +21,4 @@ problem_of v roots = record { forms = map form_in v.entries; roots = roots }
 abbrev pub NormalFormsMakeTheProblem : Type 0
 NormalFormsMakeTheProblem =
     (o : Ontology) (v : Listing) (roots : List Context) → IsNormalFor o v → AreRoots o v.asked roots →
-    IsProblemOf o v.asked (beginnings_of v) (problem_of v roots)
+    IsProblemOf o v.asked (prefixes_of v) (problem_of v roots)

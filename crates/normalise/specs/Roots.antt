@@ -1,13 +1,13 @@
 -- The contexts that are there from the start.
 use Rattle.std.specs.Prelude.{◌≡◌, ◌↔◌, ◌⊎◌, ◌<◌, ℕ, List, length}
 use Rattle.std.specs.List.{Contains}
-use Rattle.axioms.specs.Numbered.{Ontology, IsClassAt}
+use Rattle.axioms.specs.Ontology.{Ontology, IsClassAt}
 use Rattle.axioms.specs.declared.ids.ExprId.{ExprId}
 use Rattle.axioms.specs.declared.ids.IndId.{IndId}
 use Rattle.facts.specs.declared.contexts.Context as code
 use Rattle.facts.specs.declared.contexts.Context.TheVariants as contexts
 use Rattle.closure.specs.Closure.{Context, IsRoot}
-use Rattle.closure.specs.Said.{SaysContext}
+use Rattle.closure.specs.Denotations.{SaysContext}
 
 -- the contexts are exactly the roots: named classes, individuals and what is asked about
 pub record AreRoots (o : Ontology) (asked : List ℕ) (roots : List code.Context) : Type 0 where

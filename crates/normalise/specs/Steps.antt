@@ -1,18 +1,18 @@
 -- What single steps of the code give.
 use Rattle.std.specs.Prelude.{◌≡◌, ℕ, ◌+◌, ◌<◌, ◌≤◌, ◌⊎◌, Bool, true, List, ◌++◌, length, take, slice_get, Some}
-use Rattle.axioms.specs.Numbered.{Axiom, Node, Class, And, Exists, EquivalentClasses, DisjointClasses, EquivalentProperties}
+use Rattle.axioms.specs.Ontology.{Axiom, Node, Class, And, Exists, EquivalentClasses, DisjointClasses, EquivalentProperties}
 use Rattle.axioms.specs.Growth.{Numbers}
-use Rattle.axioms.specs.WellFormed.{AreDistinct}
+use Rattle.axioms.specs.WellFormedness.{AreDistinct}
 use Rattle.axioms.specs.declared.ids.ExprId.{ExprId}
 use Rattle.normal_forms.specs.declared.forms.Class2 as code_class
 use Rattle.normal_forms.specs.declared.forms.PropId2 as code_property
 use Rattle.normal_forms.specs.declared.forms.Origin.{Origin}
 use Rattle.normal_forms.specs.declared.forms.Origin.TheVariants as origins
 use Rattle.normal_forms.specs.Forms.{Form, Whole, Property, N1, first_of, first_steps}
-use Rattle.normal_forms.specs.Given.{AndGives, AxiomGives, ChainGives, LeftGives, RightGives}
+use Rattle.normal_forms.specs.Origins.{AndGives, AxiomGives, ChainGives, LeftGives, RightGives}
 use Rattle.normalise.specs.declared.made.Made.{Made}
 use Rattle.normalise.specs.Marks.{IsMarked}
-use Rattle.normalise.specs.Named.{AreNumberedByFirstPlace, beginnings_below, beginnings_of}
+use Rattle.normalise.specs.FreshNames.{AreNumberedByFirstPlace, prefixes_below, prefixes_of}
 use Rattle.normalise.specs.View.{Adds, From, Lengthens, Lists, SaysClass, SaysProperty, StartsClass, StartsProperty}
 
 abbrev pub BelowOperand : List ℕ → ℕ → ℕ → Form → Type 0
@@ -39,10 +39,10 @@ pub record Names (old new : Lists) (list : List ℕ) (k : ℕ) : Type 0 where
 abbrev pub NumbersBehind : Lists → Lists → Lists → Type 0
 NumbersBehind old further new = (places : Lists) → AreNumberedByFirstPlace places old → AreNumberedByFirstPlace (places ++ further) new
 
--- where the old lists are numbered by places, the new ones are by these and behind them the beginnings of the list with at most k members
+-- where the old lists are numbered by places, the new ones are by these and behind them the prefixes of the list with at most k members
 pub record NamesTo (old new : Lists) (list : List ℕ) (k : ℕ) : Type 0 where
-  pub some : k < length list → NumbersBehind old (beginnings_below (k + 1) list) new
-  pub all : length list ≤ k → NumbersBehind old (beginnings_of list) new
+  pub some : k < length list → NumbersBehind old (prefixes_below (k + 1) list) new
+  pub all : length list ≤ k → NumbersBehind old (prefixes_of list) new
 
 -- c is the class of the first k + 1 operands; t is s with that in its lists
 pub record MoreOperands (s t : Made) (ds : List ℕ) (e k : ℕ) (c : code_class.Class2) : Type 0 where

@@ -1,17 +1,17 @@
--- Beginnings by a shorter one and a member more.
+-- Prefixes by a shorter one and a member more.
 use Rattle.std.specs.Prelude.{◌≡◌, ℕ, ◌-◌, ◌<◌, ◌^◌, List, [], ◌∷◌, ◌++◌, length, slice_get, slice_index, Some, None}
 use Rattle.std.specs.declared.option.Option.{Option}
-use Rattle.axioms.specs.WellFormed.{AreDistinct}
+use Rattle.axioms.specs.WellFormedness.{AreDistinct}
 use Rattle.normalise.specs.declared.start.Start.{Start}
 use Rattle.normalise.specs.declared.start.Start.TheVariants.{One, Longer}
 use Rattle.normalise.specs.declared.spans.Span.{Span}
 use Rattle.normalise.specs.Spans.{IsSpanOf, list_at}
 
--- each beginning is a shorter one, or a first member, with one member more
+-- each prefix is a shorter one, or a first member, with one member more
 abbrev pub Table : Type 0
 Table = List (Start × ℕ)
 
--- the beginning of that number is this list
+-- the prefix of that number is this list
 pub data Spells (table : Table) : ℕ → List ℕ → Type 0 where
   two : {n : ℕ} (c d : ℕ) → slice_get table n ≡ Some (One c, d) → Spells table n (c ∷ d ∷ [])
   longer : {n : ℕ} (m d : ℕ) (ds : List ℕ) → slice_get table n ≡ Some (Longer m, d) → Spells table m ds → Spells table n (ds ++ d ∷ [])

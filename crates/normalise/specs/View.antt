@@ -1,7 +1,7 @@
 -- The code's forms as those of the definitions: a fresh name stands for the list that has its number.
 use Rattle.std.specs.Prelude.{◌≡◌, ℕ, ◌<◌, ◌≤◌, ◌⊎◌, List, [], ◌∷◌, length, slice_get, Some, None}
 use Rattle.std.specs.declared.option.Option.{Option}
-use Rattle.axioms.specs.WellFormed.{AreDistinct}
+use Rattle.axioms.specs.WellFormedness.{AreDistinct}
 use Rattle.normal_forms.specs.declared.forms.Class2 as code_class
 use Rattle.normal_forms.specs.declared.forms.Class2.TheVariants as classes
 use Rattle.normal_forms.specs.declared.forms.PropId2 as code_property
@@ -9,7 +9,7 @@ use Rattle.normal_forms.specs.declared.forms.PropId2.TheVariants as properties
 use Rattle.normal_forms.specs.declared.forms.Form as code_form
 use Rattle.normal_forms.specs.declared.forms.Form.TheVariants as forms
 use Rattle.normal_forms.specs.declared.forms.Origin.{Origin}
-use Rattle.normal_forms.specs.Forms.{Class2, Property2, Form, Whole, Beginning, Property, Steps, N1, N2, N3, N4, N5, N6, N7, N8, N9}
+use Rattle.normal_forms.specs.Forms.{Class2, Property2, Form, Whole, Prefix, Property, Steps, N1, N2, N3, N4, N5, N6, N7, N8, N9}
 use Rattle.normalise.specs.declared.entries.Entry.{Entry}
 use Rattle.normalise.specs.declared.made.Made.{Made}
 
@@ -19,7 +19,7 @@ Lists = List (List ℕ)
 
 abbrev pub SaysClass : Lists → code_class.Class2 → Class2 → Type 0
 SaysClass operands (classes.Expr e) c = c ≡ Whole e.0
-SaysClass operands (classes.Partial n) c = (ds : List ℕ) × (slice_get operands n ≡ Some ds) × (c ≡ Beginning ds)
+SaysClass operands (classes.Partial n) c = (ds : List ℕ) × (slice_get operands n ≡ Some ds) × (c ≡ Prefix ds)
 
 abbrev pub SaysProperty : Lists → code_property.PropId2 → Property2 → Type 0
 SaysProperty steps (properties.Property p) q = q ≡ Property p.0
@@ -55,9 +55,9 @@ pub record Lengthens {X : Type 0} (xs ys : List X) : Type 0 where
 abbrev pub Listed : Made → ℕ → Origin → Form → Type 0
 Listed s n o g = IsAt s.entries s.operands s.steps n o g
 
--- one of the forms has the beginning last
+-- one of the forms has the prefix last
 abbrev pub HasClass : (Origin → Form → Type 0) → List ℕ → Type 0
-HasClass G ds = (o : Origin) × (a : Class2) × (b : Class2) × G o (N2 a b (Beginning ds))
+HasClass G ds = (o : Origin) × (a : Class2) × (b : Class2) × G o (N2 a b (Prefix ds))
 
 abbrev pub HasProperty : (Origin → Form → Type 0) → List ℕ → Type 0
 HasProperty G rs = (o : Origin) × (p : Property2) × (q : Property2) × G o (N6 p q (Steps rs))

@@ -1,12 +1,12 @@
 //! The forms of axioms.
 ghost use Rattle.std.specs.Prelude.{◌≡◌, ℕ, ◌+◌, ◌<◌, ◌≤◌, OnOk, length, map, slice_get, Some, take};
-ghost use Rattle.axioms.specs.Numbered.{Axiom as Stated, SubProperty};
+ghost use Rattle.axioms.specs.Ontology.{Axiom as Stated, SubProperty};
 ghost use Rattle.axioms.specs.View.{axiom_of, expr_numbers, prop_numbers};
-ghost use Rattle.axioms.specs.WellFormed.{AreDistinct};
+ghost use Rattle.axioms.specs.WellFormedness.{AreDistinct};
 ghost use Rattle.normal_forms.specs.declared.forms.Origin.TheVariants as origins;
 ghost use Rattle.normal_forms.specs.Forms.{N5};
-ghost use Rattle.normal_forms.specs.Given.{AxiomGives, ChainGives, CircleGives, PairGives, subsumed};
-ghost use Rattle.normalise.specs.Named.{NameChains, beginnings_of, chain_beginnings};
+ghost use Rattle.normal_forms.specs.Origins.{AxiomGives, ChainGives, CircleGives, PairGives, subsumed};
+ghost use Rattle.normalise.specs.FreshNames.{NameChains, prefixes_of, chain_prefixes};
 ghost use Rattle.normalise.specs.Steps.{NumbersBehind, OperandsDiffer, StatedFrom};
 ghost use Rattle.normalise.specs.View.{Adds, From};
 
@@ -103,7 +103,7 @@ impl Made {
         origin: Origin,
     ) -> Result<(), Memory>
         ensures forms { OnOk result (Adds self.old self.new (From origin (AxiomGives (SubProperty (prop_numbers steps.now) whole.0)))) }
-        ensures names { OnOk result (NumbersBehind self.old.steps (beginnings_of (prop_numbers steps.now)) self.new.steps) }
+        ensures names { OnOk result (NumbersBehind self.old.steps (prefixes_of (prop_numbers steps.now)) self.new.steps) }
     {
         if steps.len() == 1 {
             self.add(Form::N5(prop_at(steps, 0), whole), origin)?;
@@ -117,7 +117,7 @@ impl Made {
     fn state(&mut self, axiom: &Axiom, origin: Origin) -> Result<(), Memory>
         requires { OperandsDiffer (axiom_of «axiom».now) }
         ensures forms { OnOk result (Adds self.old self.new (From origin (AxiomGives (axiom_of «axiom».now)))) }
-        ensures names { OnOk result (NumbersBehind self.old.steps (chain_beginnings (axiom_of «axiom».now)) self.new.steps) }
+        ensures names { OnOk result (NumbersBehind self.old.steps (chain_prefixes (axiom_of «axiom».now)) self.new.steps) }
     {
         match axiom {
             Axiom::SubClass(sub, sup) => {

@@ -1,5 +1,5 @@
 //! Forms in a row, each with what gave it.
-ghost use Rattle.normal_forms.specs.Stored.{origin_of};
+ghost use Rattle.normal_forms.specs.StoredForms.{origin_of};
 ghost use Rattle.std.specs.Prelude.{◌≡◌, [], ◌∷◌, ◌++◌, IfOk, OnErr, OnOk, length, map, option_map, slice_get};
 ghost use Rattle.normalise.specs.Entries.{form_in, origin_in};
 
@@ -33,7 +33,7 @@ impl Drop for Entries {
 }
 
 impl Model for Entries {
-    ghost use Rattle.normal_forms.specs.Stored.{origin_of};
+    ghost use Rattle.normal_forms.specs.StoredForms.{origin_of};
     ghost use Rattle.std.specs.Prelude.{◌≡◌, List, length, map};
     ghost use Rattle.normalise.specs.declared.entries.Entry.{Entry};
     ghost use Rattle.normalise.specs.Entries.{paired};

@@ -1,10 +1,10 @@
 //! The forms of expressions that occur.
 ghost use Rattle.std.specs.Prelude.{◌≡◌, ◌<◌, ◌≤◌, ◌^◌, OnOk, length, true};
-ghost use Rattle.axioms.specs.Numbered.{And};
+ghost use Rattle.axioms.specs.Ontology.{And};
 ghost use Rattle.axioms.specs.View.{expr_numbers, node_of};
-ghost use Rattle.axioms.specs.WellFormed.{AreDistinct, IsOntology};
+ghost use Rattle.axioms.specs.WellFormedness.{AreDistinct, IsOntology};
 ghost use Rattle.normal_forms.specs.declared.forms.Origin.TheVariants as origins;
-ghost use Rattle.normal_forms.specs.Given.{LeftGives, RightGives};
+ghost use Rattle.normal_forms.specs.Origins.{LeftGives, RightGives};
 ghost use Rattle.normalise.specs.Steps.{BelowOperand, ExpressedAt, ExpressedTo, PartsDiffer, SideGives};
 ghost use Rattle.normalise.specs.View.{Adds, From};
 

@@ -1,10 +1,10 @@
 //! Normal forms of an ontology that grows at its end, and of further expressions.
 ghost use Rattle.std.specs.Prelude.{◌≡◌, ℕ, List, [], ◌∷◌, ◌++◌, ◌↔◌, ◌<◌, ◌≤◌, IfOk, IsTrue, OnErr, OnOk, length, Contains};
 ghost use Rattle.axioms.specs.Growth.{Numbers};
-ghost use Rattle.axioms.specs.Numbered.{Ontology as Numbered};
+ghost use Rattle.axioms.specs.Ontology.{Ontology as Numbered};
 ghost use Rattle.axioms.specs.View.{expr_numbers};
-ghost use Rattle.normalise.specs.Joining.{joined};
-ghost use Rattle.normalise.specs.Growing.{Grows, Grown, IsNormalFor};
+ghost use Rattle.normalise.specs.Additions.{joined};
+ghost use Rattle.normalise.specs.Growth.{Grows, Grown, IsNormalFor};
 ghost use Rattle.normalise.specs.Listing.{Listing};
 
 use crate::made::Made;

@@ -1,10 +1,10 @@
-//! A list of forms that grows, with its tables of beginnings.
+//! A list of forms that grows, with its tables of prefixes.
 ghost use Rattle.std.specs.Prelude.{◌≡◌, ◌++◌, [], IfOk, OnErr, OnOk};
 ghost use Rattle.normal_forms.specs.Forms.{Form as Formed};
 ghost use Rattle.normalise.specs.View.{Adds, IsOne, Says};
 
 use crate::entries::{Entries, Entry};
-use crate::table::Beginnings;
+use crate::table::Prefixes;
 use axioms::{ExprId, Memory, PropId};
 use normal_forms::{Form, Origin};
 use std::alloc::Global;
@@ -13,8 +13,8 @@ use std::hash::RandomState;
 /// Forms, each with what gave it, and the lists that their fresh names stand for.
 pub(crate) struct Made {
     pub(crate) entries: Entries,
-    pub(crate) operands: Beginnings<ExprId>,
-    pub(crate) steps: Beginnings<PropId>,
+    pub(crate) operands: Prefixes<ExprId>,
+    pub(crate) steps: Prefixes<PropId>,
 }
 
 // A value is let go by one call, where each way out would else let each field go.
@@ -37,8 +37,8 @@ impl Made {
     {
         Made {
             entries: Entries::new(alloc),
-            operands: Beginnings::new(alloc, state),
-            steps: Beginnings::new(alloc, state),
+            operands: Prefixes::new(alloc, state),
+            steps: Prefixes::new(alloc, state),
         }
     }
 

@@ -1,10 +1,10 @@
 //! Which expressions occur on a side, for a whole list of axioms at once.
 ghost use Rattle.std.specs.Prelude.{◌≡◌, ◌<◌, ◌≤◌, ◌^◌, length, map};
 ghost use Rattle.std.specs.List.{Contains};
-ghost use Rattle.axioms.specs.Numbered.{IsPart};
+ghost use Rattle.axioms.specs.Ontology.{IsPart};
 ghost use Rattle.axioms.specs.View.{axiom_of, expr_numbers, node_of};
-ghost use Rattle.axioms.specs.WellFormed.{IsOntology};
-ghost use Rattle.normal_forms.specs.Occurring.{AtLeft, AtRight, AtSome};
+ghost use Rattle.axioms.specs.WellFormedness.{IsOntology};
+ghost use Rattle.normal_forms.specs.Occurrences.{AtLeft, AtRight, AtSome};
 ghost use Rattle.normalise.specs.Marks.{Closes, ClosesAt, Marks};
 
 use axioms::{Axiom, Expr, ExprId, Ontology};

@@ -1,6 +1,6 @@
 //! What occurs now and did not before.
 ghost use Rattle.std.specs.Prelude.{◌↔◌, ◌<◌, IfOk, IsTrue, length};
-ghost use Rattle.normalise.specs.Growing.{FreshTo, IsFreshAt};
+ghost use Rattle.normalise.specs.Growth.{FreshTo, IsFreshAt};
 
 use axioms::Memory;
 use std::alloc::Global;

@@ -84,7 +84,7 @@ impl Normal {
         self.made.steps.get(number)
     }
 
-    /// How many fresh names of beginnings of intersections there are, fewer than 2^32.
+    /// How many fresh names of prefixes of intersections there are, fewer than 2^32.
     pub fn partial_intersections(&self) -> usize
         ensures count { result ≡ length self.now.operands }
         ensures small { result < 2 ^ 32 }
@@ -92,7 +92,7 @@ impl Normal {
         self.made.operands.len()
     }
 
-    /// How many fresh names of beginnings of chains there are, fewer than 2^32.
+    /// How many fresh names of prefixes of chains there are, fewer than 2^32.
     pub fn partial_chains(&self) -> usize
         ensures count { result ≡ length self.now.steps }
         ensures small { result < 2 ^ 32 }

@@ -2,8 +2,8 @@
 ghost use Rattle.std.specs.Prelude.{◌≡◌, ℕ, IfOk, length};
 ghost use Rattle.axioms.specs.Growth.{IsBounded};
 ghost use Rattle.axioms.specs.View.{expr_numbers};
-ghost use Rattle.axioms.specs.WellFormed.{IsOntology};
-ghost use Rattle.normal_forms.specs.Occurring.{AtLeft, AtRight};
+ghost use Rattle.axioms.specs.WellFormedness.{IsOntology};
+ghost use Rattle.normal_forms.specs.Occurrences.{AtLeft, AtRight};
 ghost use Rattle.normalise.specs.Marks.{IsMarked, MarksOccurring};
 
 use crate::marks::{close, mark_all, mark_axioms_left, mark_axioms_right};

@@ -1,6 +1,6 @@
-//! What a beginning is longer than.
+//! What a prefix is longer than.
 
-/// What a beginning is longer than by one member: a member alone, or another beginning.
+/// What a prefix is longer than by one member: a member alone, or another prefix.
 #[derive(Clone, Copy, PartialEq, Eq, Hash)]
 pub(crate) enum Start {
     One(u32),

@@ -1,8 +1,8 @@
-//! The forms of intersections that occur left and of chains, step by step over their beginnings.
+//! The forms of intersections that occur left and of chains, step by step over their prefixes.
 ghost use Rattle.std.specs.Prelude.{◌≡◌, ℕ, ◌+◌, ◌<◌, IfOk, OnOk, length, take};
 ghost use Rattle.axioms.specs.View.{expr_numbers, prop_numbers};
-ghost use Rattle.normal_forms.specs.Given.{AndGives, ChainGives};
-ghost use Rattle.normalise.specs.Named.{beginnings_of};
+ghost use Rattle.normal_forms.specs.Origins.{AndGives, ChainGives};
+ghost use Rattle.normalise.specs.FreshNames.{prefixes_of};
 ghost use Rattle.normalise.specs.Steps.{ChainStep, MoreOperands, MoreSteps, NumbersBehind, OperandStep};
 ghost use Rattle.normalise.specs.View.{Adds, From, StartsClass, StartsProperty, class_number, property_number};
 
@@ -143,7 +143,7 @@ impl Made {
         origin: Origin,
     ) -> Result<(), Memory>
         ensures forms { OnOk result (Adds self.old self.new (From origin (λ g. (n : ℕ) × ChainGives (prop_numbers steps.now) whole.0 n g))) }
-        ensures names { OnOk result (NumbersBehind self.old.steps (beginnings_of (prop_numbers steps.now)) self.new.steps) }
+        ensures names { OnOk result (NumbersBehind self.old.steps (prefixes_of (prop_numbers steps.now)) self.new.steps) }
     {
         if steps.is_empty() {
             return Ok(());

@@ -1,7 +1,7 @@
 //! A table of lists.
 ghost use Rattle.std.specs.Prelude.{◌≡◌, ◌<◌, ◌^◌, ◌≤◌, [], IfOk, OnErr, length, map, option_and_then, option_map, slice_get};
 ghost use Rattle.axioms.specs.Growth.{Numbers};
-ghost use Rattle.normalise.specs.Shorter.{IsShorter};
+ghost use Rattle.normalise.specs.Lengths.{IsShorter};
 ghost use Rattle.normalise.specs.Tables.{key_in};
 
 use crate::member::Member;
@@ -14,16 +14,16 @@ use std::hash::RandomState;
 use std::marker::Model;
 
 /// Lists of two or more members, numbered from 0, no two of them equal. Each is kept as a shorter one and a member more, so that all
-/// beginnings of a list take no more room than the list.
+/// prefixes of a list take no more room than the list.
 #[derive(Drop)]
-pub(crate) struct Beginnings<T: Member> {
+pub(crate) struct Prefixes<T: Member> {
     table: NumberedSet<(Start, u32)>,
     // where each stands among the members
     spans: Vec<Span>,
     members: Vec<T>,
 }
 
-impl<T: Member> Model for Beginnings<T> {
+impl<T: Member> Model for Prefixes<T> {
     ghost use Rattle.std.specs.Prelude.{List, ℕ, map};
     ghost use Rattle.normalise.specs.Spans.{list_at};
     ghost use Rattle.normalise.specs.Tables.{IsKept};
@@ -57,12 +57,12 @@ fn span_of(spans: &[Span], shorter: Option<u32>) -> Option<Span>
     }
 }
 
-impl<T: Member> Beginnings<T> {
+impl<T: Member> Prefixes<T> {
     /// No lists. They are found by hashes that the state makes.
-    pub(crate) fn new(alloc: Global, state: RandomState) -> Beginnings<T>
+    pub(crate) fn new(alloc: Global, state: RandomState) -> Prefixes<T>
         ensures { result ≡ [] }
     {
-        Beginnings {
+        Prefixes {
             table: NumberedSet::new(alloc, KeyedState::new(&state)),
             spans: Vec::new(alloc),
             members: Vec::new(alloc),
@@ -117,7 +117,7 @@ impl<T: Member> Beginnings<T> {
     /// # Errors
     ///
     /// `Memory` where memory was refused.
-    pub(crate) fn copy(&self, alloc: Global) -> Result<Beginnings<T>, Memory>
+    pub(crate) fn copy(&self, alloc: Global) -> Result<Prefixes<T>, Memory>
         ensures { IfOk result (λ b. b ≡ self.now) }
     {
         let table = self.table.copy()?;
@@ -125,7 +125,7 @@ impl<T: Member> Beginnings<T> {
         spans.extend_from_slice(&self.spans)?;
         let mut members = Vec::new(alloc);
         members.extend_from_slice(&self.members)?;
-        Ok(Beginnings {
+        Ok(Prefixes {
             table,
             spans,
             members,

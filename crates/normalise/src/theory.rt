@@ -1,5 +1,5 @@
 //! What is proved of the forms that are listed.
-ghost use Rattle.normalise.specs.Growing.{NormalFormsAreListed, PropertyFormsAreNamed};
+ghost use Rattle.normalise.specs.Growth.{NormalFormsAreListed, PropertyFormsAreNamed};
 
 /// Where the forms are normal for an ontology, each is a form of the definition, and each form of the definition is there. This runs
 /// nothing.

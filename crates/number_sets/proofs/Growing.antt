@@ -5,7 +5,7 @@ use Rattle.std.specs.List.{flat_map, range_with_len}
 use Rattle.std.proofs.lemmas.List.{append-nil, map-set, set-get_or, map-append, get_or-map, replicate-append-replicate}
 use Rattle.std.proofs.lemmas.List.Concat.{flat_map-append}
 use Rattle.number_sets.specs.Pieces.{list_at}
-use Rattle.number_sets.specs.Turned.{copies, holders_below}
+use Rattle.number_sets.specs.Transposition.{copies, holders_below}
 
 pub list_at-items : {X V : Type 0} (items : V → List X) (vs : List V) (k : ℕ) (d : V) → k < length vs → list_at (map items vs) k ≡ items (get_or vs k d)
 list_at-items items vs k d l = get_or-map items vs k d [] l

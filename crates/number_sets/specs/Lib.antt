@@ -1,6 +1,6 @@
 pub mod Members
 pub mod Marks
 pub mod Pieces
-pub mod Turned
+pub mod Transposition
 pub mod Words
 pub mod Numbers

@@ -1,6 +1,6 @@
 //! Lists that grow in any order.
 ghost use Rattle.number_sets.specs.Pieces.{list_at};
-ghost use Rattle.number_sets.specs.Turned.{copies};
+ghost use Rattle.number_sets.specs.Transposition.{copies};
 ghost use Rattle.std.specs.Prelude.{◌<◌, ◌≡◌, ◌++◌, ◌∷◌, [], IfOk, OnErr, OnOk, length, replicate, slice_set, ℕ};
 
 use crate::packed_lists::PackedLists;

@@ -1,6 +1,6 @@
 //! Lists turned around: which lists have a number.
 ghost use Rattle.number_sets.specs.Pieces.{list_at};
-ghost use Rattle.number_sets.specs.Turned.{holders};
+ghost use Rattle.number_sets.specs.Transposition.{holders};
 ghost use Rattle.std.specs.Prelude.{◌<◌, ◌≡◌, ◌^◌, ◌≤◌, IfOk, length, ℕ};
 
 use crate::open_lists::OpenLists;

@@ -7,9 +7,9 @@ use Rattle.std.proofs.lemmas.List.Elements.{filter_map-append}
 use Rattle.axioms.specs.Axiom as tree
 use Rattle.axioms.specs.Expression.{Iri, ClassExpression, Named, owl_thing, owl_nothing}
 use Rattle.axioms.specs.Growth.{empty_ontology}
-use Rattle.axioms.specs.Numbered.{Ontology, trees}
+use Rattle.axioms.specs.Ontology.{Ontology, trees}
 use Rattle.axioms.specs.Numbering.{Statement, IsOntologyOf, class_name, first_places, same_expression, logical_axiom, statement_expressions, statement_properties, statement_individuals}
-use Rattle.axioms.specs.WellFormed.{IsOntology}
+use Rattle.axioms.specs.WellFormedness.{IsOntology}
 use Rattle.profile.specs.Additions.{Adds, AddsStatements, Appends, AreTooMany, Overflows, StatementsOverflow}
 use Rattle.profile.proofs.Appending.{places_join}
 use Rattle.profile.proofs.Overflowing.{overflow_later, overflow_more}

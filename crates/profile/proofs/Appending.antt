@@ -6,7 +6,7 @@ use Rattle.std.proofs.lemmas.List.{append-nil}
 use Rattle.lemmas.proofs.Members.{Contains-from_slice_get, Contains-cons_cases}
 use Rattle.axioms.specs.Growth.{Numbers}
 use Rattle.axioms.specs.Numbering.{first_places, first_places_from}
-use Rattle.axioms.specs.WellFormed.{AreDistinct}
+use Rattle.axioms.specs.WellFormedness.{AreDistinct}
 use Rattle.profile.specs.Additions.{Appends}
 use Rattle.profile.proofs.FirstPlaces.{seen_after, found, grows}
 

@@ -8,9 +8,9 @@ use Rattle.axioms.proofs.Trees.{length_trees}
 use Rattle.axioms.specs.Axiom as tree
 use Rattle.axioms.specs.Expression.{Iri, ClassExpression, Named}
 use Rattle.axioms.specs.Growth.{with_axiom}
-use Rattle.axioms.specs.Numbered.{Ontology, Axiom, SubClass, EquivalentClasses, DisjointClasses, Domain, Transitive, Reflexive, ClassAssertion, PropertyAssertion, EquivalentProperties, SubProperty, name_at, trees, expression, axiom_tree}
+use Rattle.axioms.specs.Ontology.{Ontology, Axiom, SubClass, EquivalentClasses, DisjointClasses, Domain, Transitive, Reflexive, ClassAssertion, PropertyAssertion, EquivalentProperties, SubProperty, name_at, trees, expression, axiom_tree}
 use Rattle.axioms.specs.Numbering.{DeclaresClass, DeclaresIndividual, DeclaresProperty, States, parts, properties_in, axiom_expressions, axiom_properties, axiom_individuals}
-use Rattle.axioms.specs.WellFormed.{AreDistinct, IsAxiomOf, IsOntology}
+use Rattle.axioms.specs.WellFormedness.{AreDistinct, IsAxiomOf, IsOntology}
 use Rattle.axioms.specs.declared.fault.BuildFault.{BuildFault}
 use Rattle.axioms.specs.declared.fault.BuildFault.TheVariants.{TooManyNames, Memory}
 use Rattle.profile.specs.Additions.{Adds, AxiomRead, ClassRead, ClassesRead, IndividualRead, Overflows, PropertiesRead, PropertyRead, ReadsClass, ReadsClasses, ReadsIndividual, ReadsProperties, ReadsProperty, StatementRead}

@@ -2,7 +2,7 @@
 use Rattle.std.proofs.Common.{ℕ, ◌+◌, ◌<◌, ◌≤◌, inl, inr, List, [], ◌∷◌, ◌++◌, length, Option, Some, None, sym, ap, arith, length-append, true≢false}
 use Rattle.std.specs.List.{cons_option, filter_map}
 use Rattle.std.proofs.lemmas.List.{length-map}
-use Rattle.axioms.specs.Numbered.{axiom_tree}
+use Rattle.axioms.specs.Ontology.{axiom_tree}
 use Rattle.axioms.specs.Numbering.{logical_axiom}
 use Rattle.profile.specs.DocumentTheorems.{AxiomsTakeBytes}
 use Rattle.fs_lexer.specs.Spelling.{IsOfKind, IsPrefixName, SpellsFrom, Token}
@@ -14,7 +14,7 @@ use Rattle.fs_parser.specs.Tree.{AreTrees, IsTree, Tree, Trees, Empty, Then, Nam
 use Rattle.shapes.specs.Faults.{count_of}
 use Rattle.shapes.specs.declared.version.Version.TheVariants.{One}
 use Rattle.shapes.specs.Shapes.{Says, row}
-use Rattle.shapes.specs.Stated.{Stated, meaning, said, statement_in}
+use Rattle.shapes.specs.TreeStatements.{Stated, meaning, said, statement_in}
 use Rattle.profile.specs.Statements.{statement_of, statements}
 
 -- ---- tokens take bytes

@@ -4,7 +4,7 @@ use Rattle.std.proofs.lemmas.Bool.{eqb-true}
 use Rattle.std.proofs.lemmas.Option.{none-some, same_Some}
 use Rattle.std.proofs.lemmas.Slice.Eq.{bytes_eq-Decides}
 use Rattle.axioms.specs.Expression.{Iri, ClassExpression as Class, Named, Intersection, SomeValues, operand_list}
-use Rattle.axioms.specs.Numbered.{intersection, operands_of as parts_of}
+use Rattle.axioms.specs.Ontology.{intersection, operands_of as parts_of}
 use Rattle.fs_parser.specs.Tree.{Trees, Form, Empty, Then}
 use Rattle.shapes.specs.declared.version.Version.{Version}
 use Rattle.shapes.specs.Faults.{count_of, faults, faults_in}

@@ -9,9 +9,9 @@ use Rattle.std.proofs.lemmas.Grind.{flat_map-append}
 use Rattle.axioms.proofs.Trees.{length_trees}
 use Rattle.lemmas.proofs.Places.{Keeps}
 use Rattle.axioms.specs.Expression.{Iri, ClassExpression, Named, SomeValues}
-use Rattle.axioms.specs.Numbered.{Ontology, And, Exists, tree_of, trees, intersection, operands_of}
+use Rattle.axioms.specs.Ontology.{Ontology, And, Exists, tree_of, trees, intersection, operands_of}
 use Rattle.axioms.specs.Numbering.{parts, parts_of_each, properties_in, properties_in_each, class_name}
-use Rattle.axioms.specs.WellFormed.{AreDistinct, IsNodeOf, IsOntology}
+use Rattle.axioms.specs.WellFormedness.{AreDistinct, IsNodeOf, IsOntology}
 use Rattle.profile.specs.Additions.{Adds, AreNumbers, HasAdded, Overflows, ReadsClass, ReadsClasses, ReadsProperty}
 use Rattle.profile.proofs.Overflowing.{overflow_more, overflow_later}
 use Rattle.profile.proofs.Steps.{adds_join, adds_nothing, keeps_of}

@@ -5,12 +5,12 @@ use Rattle.std.proofs.lemmas.Bool.{both_ways, or_parts}
 use Rattle.std.proofs.lemmas.List.{append-nil, append_assoc, map-append}
 use Rattle.std.proofs.lemmas.Option.{none-some, same_Some}
 use Rattle.lemmas.proofs.Members.{slice_get-from_Contains}
-use Rattle.axioms.specs.WellFormed.{AreDistinct}
+use Rattle.axioms.specs.WellFormedness.{AreDistinct}
 use Rattle.axioms.proofs.Growing.{AreDistinct-push}
 use Rattle.fs_parser.specs.Tree.{Tree, Trees, Empty, Then}
 use Rattle.shapes.specs.declared.version.Version.{Version}
 use Rattle.shapes.specs.Faults.{faults, faults_in}
-use Rattle.shapes.specs.SameTree.{same_tree}
+use Rattle.shapes.specs.TreeEquality.{same_tree}
 use Rattle.shapes.specs.Shapes.{Many}
 use Rattle.shapes.specs.declared.expected.Expected.{Expected}
 use Rattle.shapes.specs.declared.expected.Expected.TheVariants.{ClassExpression, Property}

@@ -1,7 +1,7 @@
 -- Trees without faults, taken apart: a form has as many operands as its shape says, and each operand has no fault.
 use Rattle.std.proofs.Common.{◌≡◌, ℕ, Bool, true, false, List, [], ◌∷◌, ◌++◌, Option, Some, None, refl, sym, ap, ◌∙◌}
 use Rattle.fs_parser.specs.Tree.{Tree, Trees, Form, Then, place_of}
-use Rattle.axioms.specs.Numbered.{Names}
+use Rattle.axioms.specs.Ontology.{Names}
 use Rattle.shapes.specs.Faults.{Fault, WrongShape, RepeatedOperand, misplaced, count_of, faults, faults_among, faults_in, faults_inside, front_faults, is_repeated, own_trees}
 use Rattle.shapes.specs.declared.version.Version.{Version}
 use Rattle.shapes.specs.Shapes.{Operands, fits_count, later_expected, may_be_annotated, next_expected, operands_of}

@@ -5,9 +5,9 @@ use Rattle.std.proofs.lemmas.List.{map-append, take_all}
 use Rattle.std.proofs.lemmas.Option.{slice_get-get_or}
 use Rattle.lemmas.proofs.Places.{take_push}
 use Rattle.axioms.specs.Expression.{ClassExpression, Named, SomeValues}
-use Rattle.axioms.specs.Numbered.{Ontology, Exists, intersection, trees, tree_of as node_tree}
+use Rattle.axioms.specs.Ontology.{Ontology, Exists, intersection, trees, tree_of as node_tree}
 use Rattle.axioms.specs.View.{expr_numbers}
-use Rattle.axioms.specs.WellFormed.{IsNodeOf, IsOntology}
+use Rattle.axioms.specs.WellFormedness.{IsNodeOf, IsOntology}
 use Rattle.axioms.specs.declared.fault.BuildFault.{BuildFault}
 use Rattle.axioms.specs.declared.fault.BuildFault.TheVariants.{TooManyNames, Memory}
 use Rattle.axioms.specs.declared.ids.ExprId.{ExprId}

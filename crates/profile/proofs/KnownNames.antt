@@ -7,9 +7,9 @@ use Rattle.std.proofs.lemmas.List.Elements.{filter_map-append}
 use Rattle.std.proofs.lemmas.Slice.Eq.{bytes_eq-Decides}
 use Rattle.axioms.specs.Expression.{Iri, ClassExpression as Class, SomeValues}
 use Rattle.axioms.specs.Growth.{IsBounded, most_names}
-use Rattle.axioms.specs.Numbered.{Names, Ontology, axiom_trees, intersection}
+use Rattle.axioms.specs.Ontology.{Names, Ontology, axiom_trees, intersection}
 use Rattle.axioms.specs.Numbering.{class_name, first_places, parts, properties_in}
-use Rattle.axioms.specs.WellFormed.{AreDistinct, IsOntology}
+use Rattle.axioms.specs.WellFormedness.{AreDistinct, IsOntology}
 use Rattle.fs_parser.specs.Tree.{Tree, Trees, Name, Form, Empty, Then, place_of}
 use Rattle.shapes.specs.Faults.{Fault, WrongShape, RepeatedOperand, ReservedName, UnknownName, count_of, expression_faults, faults, faults_among, faults_in, faults_inside, form_faults, is_annotation, is_repeated, operands_or_none, own_trees}
 use Rattle.shapes.specs.declared.version.Version.{Version}
@@ -23,7 +23,7 @@ use Rattle.profile.specs.Statements.{class_of, classes_of, iri_of, some_values}
 use Rattle.profile.proofs.Appending.{appends_join, appends_nothing, appends_old, once}
 use Rattle.profile.proofs.ClassReading.{whole_of}
 use Rattle.profile.proofs.FirstPlaces.{found}
-use Rattle.profile.specs.Grown.{IsAddedAs}
+use Rattle.profile.specs.Growth.{IsAddedAs}
 use Rattle.profile.proofs.ClassForms.{ArePlainSome, IsPlainForm, intersection_is, plain, some_is}
 use Rattle.profile.proofs.ClassTrees.{class_tree}
 use Rattle.profile.proofs.Faultless.{inside_of, none_first, none_second, operand_parts_among}

@@ -2,8 +2,8 @@
 use Rattle.std.proofs.Common.{◌≡◌, inl, inr, ℕ, List, [], ◌∷◌, ◌++◌, append-nil, length, arith, sym, OnOk, Ok, Err, Result, refl, subst}
 use Rattle.axioms.specs.Expression.{Iri, Named}
 use Rattle.axioms.specs.Growth.{Declares, IsFull, names_of}
-use Rattle.axioms.specs.Numbered.{Ontology}
-use Rattle.axioms.specs.WellFormed.{IsOntology}
+use Rattle.axioms.specs.Ontology.{Ontology}
+use Rattle.axioms.specs.WellFormedness.{IsOntology}
 use Rattle.axioms.specs.declared.fault.BuildFault.{BuildFault}
 use Rattle.axioms.specs.declared.fault.BuildFault.TheVariants.{TooManyNames, Memory}
 use Rattle.axioms.specs.declared.ids.ClassId.{ClassId}

@@ -3,23 +3,23 @@ use Rattle.std.proofs.Common.{◌≡◌, ℕ, List, [], ◌∷◌, ◌++◌, Res
 use Rattle.std.proofs.lemmas.List.{append-nil}
 use Rattle.std.specs.Result.{IfErr, IfOk}
 use Rattle.std.specs.Str.{IsUtf8}
-use Rattle.axioms.specs.Numbered.{Ontology}
-use Rattle.axioms.specs.WellFormed.{IsOntology}
+use Rattle.axioms.specs.Ontology.{Ontology}
+use Rattle.axioms.specs.WellFormedness.{IsOntology}
 use Rattle.fs_parser.specs.Stream.{AreFormsOf}
 use Rattle.fs_parser.specs.Document.{Document}
 use Rattle.fs_parser.specs.Tree.{Tree}
-use Rattle.fs_parser.specs.TreesLeft.{AreLeft, IsFirst, IsStartOf, TextLeft}
+use Rattle.fs_parser.specs.Rest.{AreLeft, IsFirst, IsStartOf, TextLeft}
 use Rattle.fs_parser.specs.View.{trees_from}
 use Rattle.profile.specs.Reading.{AreReadAs}
 use Rattle.profile.specs.Reading as profile
-use Rattle.profile.specs.Taking.{AreTaken, AreTakenBehind, Taken, of_document}
+use Rattle.profile.specs.Intake.{AreTaken, AreTakenBehind, Taken, of_document}
 use Rattle.shapes.specs.declared.version.Version.{Version}
 use Rattle.shapes.specs.declared.version.Version.TheVariants.{One}
 use Rattle.profile.specs.declared.acceptance.Refusal.{Refusal}
 use Rattle.profile.specs.declared.acceptance.Refusal.TheVariants as refusing
 use Rattle.profile.specs.Documents.{AreTextOf, IsTaken, ReadsAs}
 use Rattle.profile.specs.Faults.{Refuses, of_refusal}
-use Rattle.profile.specs.Streaming.{AllTaken, IsAnswerTo}
+use Rattle.profile.specs.Streams.{AllTaken, IsAnswerTo}
 
 -- ---- trees, one after another
 

@@ -8,9 +8,9 @@ use Rattle.std.proofs.lemmas.Bool.{cases_lt}
 use Rattle.axioms.specs.Axiom as tree
 use Rattle.axioms.specs.Expression.{Iri, ClassExpression}
 use Rattle.axioms.specs.Growth.{IsFull, Numbers, most_names}
-use Rattle.axioms.specs.Numbered.{Ontology}
+use Rattle.axioms.specs.Ontology.{Ontology}
 use Rattle.axioms.specs.Numbering.{first_places, first_places_from, class_name}
-use Rattle.axioms.specs.WellFormed.{AreDistinct}
+use Rattle.axioms.specs.WellFormedness.{AreDistinct}
 use Rattle.profile.specs.Additions.{Appends, Adds, AreTooMany, Overflows}
 use Rattle.profile.proofs.FirstPlaces.{seen_after}
 use Rattle.profile.proofs.Appending.{appends_new, places_append, places_join}

@@ -4,9 +4,9 @@ use Rattle.std.proofs.lemmas.List.{map-append, take_all}
 use Rattle.std.proofs.lemmas.Option.{slice_get-get_or}
 use Rattle.lemmas.proofs.Places.{take_push}
 use Rattle.axioms.specs.Expression.{Iri}
-use Rattle.axioms.specs.Numbered.{Ontology}
+use Rattle.axioms.specs.Ontology.{Ontology}
 use Rattle.axioms.specs.View.{prop_numbers}
-use Rattle.axioms.specs.WellFormed.{IsOntology}
+use Rattle.axioms.specs.WellFormedness.{IsOntology}
 use Rattle.axioms.specs.declared.fault.BuildFault.{BuildFault}
 use Rattle.axioms.specs.declared.fault.BuildFault.TheVariants.{TooManyNames, Memory}
 use Rattle.axioms.specs.declared.ids.PropId.{PropId}

@@ -1,7 +1,7 @@
 -- What is refused reads as no ontology.
 use Rattle.std.proofs.Common.{◌≡◌, ℕ, inl, inr, List, [], ◌∷◌, length, refl, sym, ap, ◌∙◌, subst, arith}
 use Rattle.std.specs.List.{filter_map}
-use Rattle.axioms.specs.Numbered.{Ontology}
+use Rattle.axioms.specs.Ontology.{Ontology}
 use Rattle.axioms.specs.Numbering.{IsOntologyOf, Statement, class_name}
 use Rattle.fs_lexer.proofs.Whole.{one_spelling}
 use Rattle.fs_lexer.specs.Spelling.{Token}

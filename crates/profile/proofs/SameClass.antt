@@ -3,11 +3,11 @@ use Rattle.std.proofs.Common.{◌≡◌, ℕ, true, false, inl, inr, List, [], �
 use Rattle.std.proofs.lemmas.Bool.{and_from}
 use Rattle.std.proofs.lemmas.Slice.Eq.{bytes_eq-Decides}
 use Rattle.axioms.specs.Expression.{Iri, Named, SomeValues}
-use Rattle.axioms.specs.Numbered.{intersection}
+use Rattle.axioms.specs.Ontology.{intersection}
 use Rattle.fs_parser.specs.Tree.{Tree, Trees, Name, Form, Empty, Then}
 use Rattle.shapes.specs.declared.version.Version.{Version}
 use Rattle.shapes.specs.Faults.{faults, faults_in}
-use Rattle.shapes.specs.SameTree.{same_tree, same_trees}
+use Rattle.shapes.specs.TreeEquality.{same_tree, same_trees}
 use Rattle.shapes.specs.Shapes.{Many}
 use Rattle.shapes.specs.declared.expected.Expected.TheVariants.{ClassExpression}
 use Rattle.profile.specs.Statements.{class_of, classes_of, iri_of, operand, some_values}

@@ -6,7 +6,7 @@ use Rattle.std.proofs.lemmas.List.{append-nil}
 use Rattle.std.proofs.lemmas.List.Elements.{filter_map-append}
 use Rattle.std.proofs.lemmas.Grind.{flat_map-append}
 use Rattle.axioms.specs.Expression.{Iri, ClassExpression, Named, Intersection, SomeValues, owl_thing, owl_nothing}
-use Rattle.axioms.specs.Numbered.{trees}
+use Rattle.axioms.specs.Ontology.{trees}
 use Rattle.axioms.specs.Numbering.{Statement, first_places, first_places_from, same_expression, class_name, logical_axiom, statement_expressions, statement_properties, statement_individuals}
 use Rattle.profile.specs.Additions.{Appends}
 use Rattle.profile.specs.Theorems.{AdditionsChangeNoNumber, OneMoreStatement}

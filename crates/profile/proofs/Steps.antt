@@ -12,9 +12,9 @@ use Rattle.lemmas.proofs.Places.{slice_get_push, Keeps}
 use Rattle.axioms.specs.Axiom as tree
 use Rattle.axioms.specs.Expression.{Iri, ClassExpression, Named}
 use Rattle.axioms.specs.Growth.{IsFull, Numbers, most_names, DeclaresClass, DeclaresProperty, DeclaresIndividual, with_axiom}
-use Rattle.axioms.specs.Numbered.{Ontology, Names, Axiom, Node, Class, name_at, tree_of, trees_from, trees, expression, axiom_tree, axiom_trees}
+use Rattle.axioms.specs.Ontology.{Ontology, Names, Axiom, Node, Class, name_at, tree_of, trees_from, trees, expression, axiom_tree, axiom_trees}
 use Rattle.axioms.specs.Numbering.{same_expression, class_name}
-use Rattle.axioms.specs.WellFormed.{AreDistinct, IsOntology}
+use Rattle.axioms.specs.WellFormedness.{AreDistinct, IsOntology}
 use Rattle.axioms.proofs.Trees.{node_tree, class_named, length_trees}
 use Rattle.axioms.proofs.Growing.{keeps_numbers, new_class_node}
 use Rattle.device.specs.declared.fault.Memory.{Memory}

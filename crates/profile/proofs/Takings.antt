@@ -4,15 +4,15 @@ use Rattle.std.proofs.lemmas.List.{append-nil, map-append, take_all}
 use Rattle.std.proofs.lemmas.Option.{slice_get-get_or}
 use Rattle.lemmas.proofs.Places.{take_push}
 use Rattle.axioms.specs.Growth.{IsBounded}
-use Rattle.axioms.specs.Numbered.{Ontology}
+use Rattle.axioms.specs.Ontology.{Ontology}
 use Rattle.axioms.specs.Numbering.{IsOntologyOf, Statement}
-use Rattle.axioms.specs.WellFormed.{IsOntology}
+use Rattle.axioms.specs.WellFormedness.{IsOntology}
 use Rattle.fs_parser.specs.Tree.{Tree}
 use Rattle.fs_parser.specs.View.{tree_of, trees_from, trees_of}
 use Rattle.fs_parser.specs.declared.tree.Tree as parsed
 use Rattle.shapes.specs.Faults.{Fault}
 use Rattle.shapes.specs.Places.{faults_at, faults_from, place_behind}
-use Rattle.shapes.specs.Stated.{Stated, meaning, stated, statement_in}
+use Rattle.shapes.specs.TreeStatements.{Stated, meaning, stated, statement_in}
 use Rattle.shapes.specs.declared.statement.Statement.{Statement as Statement'}
 use Rattle.shapes.specs.View.{faults_of}
 use Rattle.shapes.specs.declared.fault.Fault as code
@@ -20,12 +20,12 @@ use Rattle.shapes.specs.declared.place.Place.{Place}
 use Rattle.shapes.specs.declared.version.Version.{Version}
 use Rattle.shapes.proofs.Places.{none_from, one_by_one}
 use Rattle.profile.specs.Additions.{AddsStatements, HasFewNames, StatementsOverflow}
-use Rattle.profile.specs.Fitting.{IsFitting}
-use Rattle.profile.specs.Grown.{AreAddedAs, RefusesStatements}
+use Rattle.profile.specs.Operands.{IsFitting}
+use Rattle.profile.specs.Growth.{AreAddedAs, RefusesStatements}
 use Rattle.profile.specs.Reading.{AreReadAs, HaveTooManyNames, Refuses}
 use Rattle.profile.specs.declared.acceptance.Refusal.{Refusal}
 use Rattle.profile.specs.Statements.{statement_of, statements}
-use Rattle.profile.specs.Taking.{AreStated, AreTaken, AreTakenBehind, Start, Taken, of_document, of_growth, taken}
+use Rattle.profile.specs.Intake.{AreStated, AreTaken, AreTakenBehind, Start, Taken, of_document, of_growth, taken}
 use Rattle.profile.proofs.Adding.{adds_more, is_ontology_of, joined, none_read, overflows_later, overflows_with_more, too_many}
 use Rattle.profile.proofs.Faultless.{none_first, none_second}
 use Rattle.profile.proofs.Stated.{part_fits}

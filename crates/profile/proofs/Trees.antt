@@ -7,8 +7,8 @@ use Rattle.axioms.proofs.Trees.{length_trees}
 use Rattle.lemmas.proofs.Places.{slice_get_there, Keeps}
 use Rattle.axioms.specs.Axiom as tree
 use Rattle.axioms.specs.Expression.{Iri, ClassExpression, Named, SomeValues}
-use Rattle.axioms.specs.Numbered.{Ontology, Names, Axiom, Node, Class, And, Exists, SubClass, EquivalentClasses, DisjointClasses, SubProperty, EquivalentProperties, Domain, Transitive, Reflexive, ClassAssertion, PropertyAssertion, name_at, tree_at, tree_of, trees_from, trees, expression, expressions, property_name, individual_name, axiom_tree, axiom_trees}
-use Rattle.axioms.specs.WellFormed.{AreDistinct, IsNodeOf, IsAxiomOf, IsOntology}
+use Rattle.axioms.specs.Ontology.{Ontology, Names, Axiom, Node, Class, And, Exists, SubClass, EquivalentClasses, DisjointClasses, SubProperty, EquivalentProperties, Domain, Transitive, Reflexive, ClassAssertion, PropertyAssertion, name_at, tree_at, tree_of, trees_from, trees, expression, expressions, property_name, individual_name, axiom_tree, axiom_trees}
+use Rattle.axioms.specs.WellFormedness.{AreDistinct, IsNodeOf, IsAxiomOf, IsOntology}
 use Rattle.axioms.proofs.Unique.{expression_determined}
 
 -- the node speaks of names that are there

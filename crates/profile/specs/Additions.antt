@@ -6,8 +6,8 @@ use Rattle.std.specs.List.{filter_map, flat_map}
 use Rattle.axioms.specs.Axiom.{Axiom}
 use Rattle.axioms.specs.Expression.{Iri, ClassExpression}
 use Rattle.axioms.specs.Growth.{most_names}
-use Rattle.axioms.specs.Numbered as numbered
-use Rattle.axioms.specs.Numbered.{Ontology, trees, axiom_tree, axiom_trees}
+use Rattle.axioms.specs.Ontology as numbered
+use Rattle.axioms.specs.Ontology.{Ontology, trees, axiom_tree, axiom_trees}
 use Rattle.axioms.specs.Numbering.{Statement, first_places, same_expression, class_name, parts, properties_in, logical_axiom, statement_expressions, statement_properties, statement_individuals}
 use Rattle.axioms.specs.View.{expr_numbers, prop_numbers}
 use Rattle.axioms.specs.declared.fault.BuildFault.{BuildFault}

@@ -1,7 +1,7 @@
 -- Trees that are class expressions: names, intersections of two or more different expressions, and things with a successor.
 use Rattle.std.specs.Prelude.{◌≤◌, ◌∷◌, length, Bool, true, false, codes}
 use Rattle.std.specs.Str.{bytes_eq}
-use Rattle.axioms.specs.WellFormed.{AreDistinct}
+use Rattle.axioms.specs.WellFormedness.{AreDistinct}
 use Rattle.fs_parser.specs.Tree.{Tree, Trees, Name, Form, Empty, Then}
 use Rattle.shapes.specs.Shapes.{Operands, Each, Many}
 use Rattle.shapes.specs.declared.expected.Expected.{Expected}

@@ -1,7 +1,7 @@
 -- What a fault says of a document.
 use Rattle.std.specs.Prelude.{◌≡◌, List, [], ℕ, ◌<◌, ◌≤◌, length, Option, Some, None}
 use Rattle.std.specs.Str.{IsUtf8, IsValidUpTo}
-use Rattle.axioms.specs.Numbered.{Ontology}
+use Rattle.axioms.specs.Ontology.{Ontology}
 use Rattle.fs_lexer.specs.Faults as lexer
 use Rattle.fs_lexer.specs.Spelling.{Token, Spells}
 use Rattle.fs_lexer.specs.declared.token.LexFault.{LexFault}

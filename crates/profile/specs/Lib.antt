@@ -3,11 +3,11 @@ pub mod ClassTrees
 pub mod Additions
 pub mod Theorems
 pub mod Reading
-pub mod Fitting
-pub mod Grown
-pub mod Taking
+pub mod Operands
+pub mod Growth
+pub mod Intake
 pub mod Documents
 pub mod Faults
 pub mod DocumentTheorems
-pub mod Printed
-pub mod Streaming
+pub mod Messages
+pub mod Streams

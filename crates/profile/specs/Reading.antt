@@ -4,7 +4,7 @@ use Rattle.std.specs.Prelude.{◌≡◌, ◌⊎◌, List, [], ◌∷◌}
 use Rattle.std.specs.Str.{bytes_eq}
 use Rattle.std.specs.List.{filter_map, flat_map}
 use Rattle.axioms.specs.Expression.{Iri, Named, owl_thing, owl_nothing}
-use Rattle.axioms.specs.Numbered.{Ontology}
+use Rattle.axioms.specs.Ontology.{Ontology}
 use Rattle.axioms.specs.Numbering.{Statement, IsOntologyOf, first_places, same_expression, class_name, statement_expressions, statement_properties, statement_individuals}
 use Rattle.fs_parser.specs.Tree.{Trees}
 use Rattle.shapes.specs.Faults.{document_faults}

@@ -3,7 +3,7 @@
 use Rattle.std.specs.Prelude.{List, [], ◌++◌}
 use Rattle.axioms.specs.Numbering.{Statement}
 use Rattle.fs_parser.specs.Tree.{Tree, Trees, Empty, Then}
-use Rattle.shapes.specs.Stated.{meaning, statement_in}
+use Rattle.shapes.specs.TreeStatements.{meaning, statement_in}
 use Rattle.shapes.specs.declared.version.Version.{Version}
 pub use Rattle.shapes.specs.Meanings.{operand, iri_of, iris_of, some_values, class_of, classes_of, chain_of}
 

@@ -2,7 +2,7 @@
 use Rattle.std.specs.Prelude.{◌≡◌, List, [], ◌∷◌, ◌++◌}
 use Rattle.std.specs.List.{filter_map}
 use Rattle.axioms.specs.Expression.{ClassExpression}
-use Rattle.axioms.specs.Numbered.{Ontology, trees, axiom_trees}
+use Rattle.axioms.specs.Ontology.{Ontology, trees, axiom_trees}
 use Rattle.axioms.specs.Numbering.{Statement, IsOntologyOf, first_places, same_expression, logical_axiom, statement_expressions, statement_properties, statement_individuals}
 use Rattle.profile.specs.Additions.{Grows}
 
@@ -17,18 +17,18 @@ OneMoreStatement =
     Grows (statement_expressions statement) (statement_properties statement) (statement_individuals statement) (filter_map logical_axiom (statement ∷ [])) o p →
     IsOntologyOf (statements ++ statement ∷ []) p
 
--- the first list is the beginning of the second
-abbrev pub IsBeginning : {A : Type 0} → List A → List A → Type 0
-IsBeginning {A} xs ys = (rest : List A) × (ys ≡ xs ++ rest)
+-- the first list is the prefix of the second
+abbrev pub IsPrefix : {A : Type 0} → List A → List A → Type 0
+IsPrefix {A} xs ys = (rest : List A) × (ys ≡ xs ++ rest)
 
 -- names, expressions and what axioms say have the same numbers in the second ontology
-pub record AreBeginnings (o p : Ontology) : Type 0 where
-  pub expressions : IsBeginning (trees o) (trees p)
-  pub classes : IsBeginning o.names.classes p.names.classes
-  pub properties : IsBeginning o.names.properties p.names.properties
-  pub individuals : IsBeginning o.names.individuals p.names.individuals
-  pub axioms : IsBeginning (axiom_trees o) (axiom_trees p)
+pub record ArePrefixes (o p : Ontology) : Type 0 where
+  pub expressions : IsPrefix (trees o) (trees p)
+  pub classes : IsPrefix o.names.classes p.names.classes
+  pub properties : IsPrefix o.names.properties p.names.properties
+  pub individuals : IsPrefix o.names.individuals p.names.individuals
+  pub axioms : IsPrefix (axiom_trees o) (axiom_trees p)
 
 -- statements that are added at the end change no number
 abbrev pub AdditionsChangeNoNumber : Type 0
-AdditionsChangeNoNumber = (statements more : List Statement) (o p : Ontology) → IsOntologyOf statements o → IsOntologyOf (statements ++ more) p → AreBeginnings o p
+AdditionsChangeNoNumber = (statements more : List Statement) (o p : Ontology) → IsOntologyOf statements o → IsOntologyOf (statements ++ more) p → ArePrefixes o p

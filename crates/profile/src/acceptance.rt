@@ -1,7 +1,7 @@
 //! From a document's trees to an ontology.
 ghost use Rattle.fs_parser.specs.View.{tree_of, trees_of};
 ghost use Rattle.profile.specs.Reading.{AreReadAs, Refuses};
-ghost use Rattle.profile.specs.Taking.{AreTakenBehind};
+ghost use Rattle.profile.specs.Intake.{AreTakenBehind};
 ghost use Rattle.std.specs.Prelude.{IfErr, IfOk, OnOk, map};
 
 use crate::ontology_reader::OntologyReader;

@@ -2,7 +2,7 @@
 ghost use Rattle.axioms.specs.Axiom.{SubClassOf, EquivalentClasses, DisjointClasses, PropertyDomain, TransitiveProperty, ReflexiveProperty, ClassAssertion, PropertyAssertion, EquivalentProperties, SubPropertyOf};
 ghost use Rattle.axioms.specs.Numbering.{States};
 ghost use Rattle.axioms.specs.View.{axiom_of};
-ghost use Rattle.axioms.specs.WellFormed.{IsAxiomOf};
+ghost use Rattle.axioms.specs.WellFormedness.{IsAxiomOf};
 ghost use Rattle.fs_parser.specs.View.{tree_of, trees_of};
 ghost use Rattle.profile.specs.Additions.{AxiomRead, StatementRead};
 ghost use Rattle.profile.specs.ClassTrees.{AreClassTrees, AreManyDistinct, AreManyDistinctNames, IsChain, IsClassTree};

@@ -1,5 +1,5 @@
 //! Class expressions, each behind its parts.
-ghost use Rattle.axioms.specs.Numbered.{intersection};
+ghost use Rattle.axioms.specs.Ontology.{intersection};
 ghost use Rattle.fs_parser.specs.View.{tree_of, trees_of};
 ghost use Rattle.profile.specs.Additions.{ClassRead, ClassesRead};
 ghost use Rattle.profile.specs.ClassTrees.{AreClassTrees, AreManyDistinct, AreSomeTrees, IsClassTree};

@@ -12,7 +12,7 @@ use std::fmt;
 /// Why a document is not read as an ontology. Places count the bytes before them.
 #[derive(Debug, Drop)]
 pub enum DocumentFault {
-    /// The bytes are not UTF-8: the length of the longest beginning that is.
+    /// The bytes are not UTF-8: the length of the longest prefix that is.
     NotUtf8 { at: usize },
     /// There are more bytes than the limit.
     TooLarge,
@@ -31,7 +31,7 @@ pub enum DocumentFault {
 }
 
 impl DocumentFault {
-    ghost use Rattle.profile.specs.Printed.{status_of};
+    ghost use Rattle.profile.specs.Messages.{status_of};
 
     /// The status of a program that is stopped by this fault.
     pub fn status(&self) -> Status
@@ -51,7 +51,7 @@ impl DocumentFault {
 
 impl fmt::Display for DocumentFault {
     ghost use Rattle.std.specs.Prelude.{Some};
-    ghost use Rattle.profile.specs.Printed.{fault_text};
+    ghost use Rattle.profile.specs.Messages.{fault_text};
 
     ghost output = { λ fault. Some (fault_text fault) };
 
@@ -83,7 +83,7 @@ struct LaterLines<'a>(&'a [Fault]);
 
 impl fmt::Display for LaterLines<'_> {
     ghost use Rattle.std.specs.Prelude.{Some, flat_map};
-    ghost use Rattle.profile.specs.Printed.{later_line};
+    ghost use Rattle.profile.specs.Messages.{later_line};
 
     ghost output = { λ lines. Some (flat_map later_line lines.0.now) };
 

@@ -1,6 +1,6 @@
 //! From an ontology to one that has grown.
 ghost use Rattle.fs_parser.specs.View.{tree_of, trees_of};
-ghost use Rattle.profile.specs.Grown.{AreAddedAs, IsAddedAs, RefusesExpression, RefusesStatements};
+ghost use Rattle.profile.specs.Growth.{AreAddedAs, IsAddedAs, RefusesExpression, RefusesStatements};
 ghost use Rattle.std.specs.Prelude.{IfErr, IfOk};
 
 use crate::acceptance::{Refusal, take_all};

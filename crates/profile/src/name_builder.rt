@@ -3,7 +3,7 @@ ghost use Rattle.std.specs.Prelude.{◌≡◌, length, Err, IfOk, OnOk, OnErr};
 ghost use Rattle.axioms.specs.declared.fault.BuildFault.TheVariants as faults;
 ghost use Rattle.axioms.specs.Growth.{empty_ontology, names_of, Numbers, IsFull, Declares, with_axiom};
 ghost use Rattle.axioms.specs.View.{axiom_of, node_of};
-ghost use Rattle.axioms.specs.WellFormed.{IsAxiomOf, IsNodeOf, IsOntology};
+ghost use Rattle.axioms.specs.WellFormedness.{IsAxiomOf, IsNodeOf, IsOntology};
 ghost use Rattle.fs_parser.specs.View.{iri_of};
 
 use axioms::{Axiom, BuildFault, Builder, Expr, ExprId, Kind, Memory, Name, Ontology};
@@ -21,7 +21,7 @@ pub(crate) struct NameBuilder {
 }
 
 impl Model for NameBuilder {
-    ghost use Rattle.axioms.specs.Numbered as numbered;
+    ghost use Rattle.axioms.specs.Ontology as numbered;
 
     ghost Value = { numbered.Ontology };
 

@@ -1,12 +1,12 @@
 //! From trees, taken one by one, to an ontology.
 ghost use Rattle.fs_parser.specs.Tree.{Tree as SpecTree};
 ghost use Rattle.fs_parser.specs.View.{tree_of, trees_from};
-ghost use Rattle.axioms.specs.Numbered.{Ontology as SpecOntology};
-ghost use Rattle.profile.specs.Fitting.{IsFitting};
-ghost use Rattle.profile.specs.Grown.{AreAddedAs, RefusesStatements};
+ghost use Rattle.axioms.specs.Ontology.{Ontology as SpecOntology};
+ghost use Rattle.profile.specs.Operands.{IsFitting};
+ghost use Rattle.profile.specs.Growth.{AreAddedAs, RefusesStatements};
 ghost use Rattle.profile.specs.Reading.{AreReadAs, Refuses};
-ghost use Rattle.profile.specs.Taking.{AreStated, AreTaken, AreTakenBehind, of_document, of_growth};
-ghost use Rattle.shapes.specs.Stated.{meaning, stated};
+ghost use Rattle.profile.specs.Intake.{AreStated, AreTaken, AreTakenBehind, of_document, of_growth};
+ghost use Rattle.shapes.specs.TreeStatements.{meaning, stated};
 ghost use Rattle.std.specs.Prelude.{◌∷◌, [], List, IfErr, IfOk, OnOk, option_map};
 
 use crate::acceptance::Refusal;
@@ -33,7 +33,7 @@ pub struct OntologyReader {
 }
 
 impl Model for OntologyReader {
-    ghost use Rattle.profile.specs.Taking.{Taken, taken};
+    ghost use Rattle.profile.specs.Intake.{Taken, taken};
 
     ghost Value = { Taken };
 

@@ -1,10 +1,10 @@
 //! Names of trees, and expressions over parts that are there.
 ghost use Rattle.std.specs.Prelude.{◌≡◌, None, IfOk, length};
 ghost use Rattle.axioms.specs.Expression.{Named};
-ghost use Rattle.axioms.specs.Numbered.{tree_of as node_tree, trees};
+ghost use Rattle.axioms.specs.Ontology.{tree_of as node_tree, trees};
 ghost use Rattle.axioms.specs.Numbering.{class_name};
 ghost use Rattle.axioms.specs.View.{node_of};
-ghost use Rattle.axioms.specs.WellFormed.{IsNodeOf};
+ghost use Rattle.axioms.specs.WellFormedness.{IsNodeOf};
 ghost use Rattle.fs_parser.specs.View.{tree_of, iri_of};
 ghost use Rattle.profile.specs.Additions.{ClassRead, HasAdded, IndividualRead, PropertyRead};
 ghost use Rattle.profile.specs.Statements.{iri_of as tree_iri};

@@ -1,6 +1,6 @@
 //! Statements, each added to an ontology.
 ghost use Rattle.shapes.specs.Shapes.{row};
-ghost use Rattle.shapes.specs.Stated.{form_stated, meaning, stated, trees_stated};
+ghost use Rattle.shapes.specs.TreeStatements.{form_stated, meaning, stated, trees_stated};
 ghost use Rattle.profile.specs.Additions.{StatementsRead};
 ghost use Rattle.profile.specs.ClassTrees.{AreOperands};
 ghost use Rattle.std.specs.Prelude.{Some};

@@ -1,7 +1,7 @@
 //! Reading a text without all its trees at once.
 ghost use Rattle.profile.specs.Documents.{IsTaken, ReadsAs};
 ghost use Rattle.profile.specs.Faults.{Refuses};
-ghost use Rattle.profile.specs.Streaming.{AllTaken, IsAnswerTo};
+ghost use Rattle.profile.specs.Streams.{AllTaken, IsAnswerTo};
 ghost use Rattle.std.specs.Prelude.{IfErr, IfOk, IfSome};
 
 use crate::acceptance::Refusal;

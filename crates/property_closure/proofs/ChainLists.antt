@@ -18,7 +18,7 @@ use Rattle.normal_forms.specs.contracts.forms.PropId2Ord.TheImpl as order
 use Rattle.number_sets.specs.Pieces.{list_at}
 use Rattle.property_closure.specs.declared.chains.OpenChains.{OpenChains}
 use Rattle.property_closure.specs.Chains.{AddsChain, AreChains, AreChainsOf, ArePacked, chains_at, open_chains_at}
-use Rattle.property_closure.specs.Related.{as_property}
+use Rattle.property_closure.specs.Relations.{as_property}
 use Rattle.property_closure.proofs.Members.{one_more_item, one_more_taken, all_taken}
 use Rattle.property_closure.proofs.Reflexives.{number_of}
 

@@ -11,9 +11,9 @@ use Rattle.normal_forms.specs.declared.forms.Form.{Form}
 use Rattle.normal_forms.specs.declared.forms.Form.TheVariants.{N1, N2, N3, N4, N5, N6, N7, N8, N9}
 use Rattle.normal_forms.specs.Properties.{ComesBefore, IsAtOrBelow, IsPropertyOf, IsPropertyFormOf, same, step}
 use Rattle.property_closure.specs.declared.related.Related.{Related}
-use Rattle.property_closure.specs.Related.{as_id, as_property, Tells, ArePlainWithin, AreReflexiveWithin}
+use Rattle.property_closure.specs.Relations.{as_id, as_property, Tells, ArePlainWithin, AreReflexiveWithin}
 use Rattle.property_closure.specs.Chains.{AreChainsWithin}
-use Rattle.property_closure.specs.Closed.{IsRelated}
+use Rattle.property_closure.specs.PropertyClosures.{IsRelated}
 use Rattle.property_closure.proofs.Reflexives.{number_of}
 
 -- ---- what forms name
@@ -65,7 +65,7 @@ alone_above forms p none _ (step s t h f) =
     let e : s.0 ≡ p = ap number_of (alone_above forms p none (Property s) h) in
     absurd (none t.0 (subst (λ (x : ℕ). Tells forms x t.0) e f))
 
--- and so is a beginning of chains
+-- and so is a prefix of chains
 pub partial_above : (forms : List Form) (n : ℕ) (q : PropId2) → IsAtOrBelow forms (Partial n) q → q ≡ Partial n
 partial_above forms n _ same = refl
 partial_above forms n _ (step s t h f) = absurd (let e : Property s ≡ Partial n = partial_above forms n (Property s) h in cc)

@@ -10,7 +10,7 @@ use Rattle.std.proofs.lemmas.Map.Keys.{IsDistinct-from_apart}
 use Rattle.std.proofs.lemmas.Map.Steps.{length-le_from_distinct_below}
 use Rattle.lemmas.proofs.Members.{Contains-from_slice_get}
 use Rattle.lemmas.proofs.Places.{slice_get_push_cases}
-use Rattle.axioms.specs.WellFormed.{AreDistinct}
+use Rattle.axioms.specs.WellFormedness.{AreDistinct}
 use Rattle.number_sets.specs.Members.{has}
 use Rattle.number_sets.specs.Pieces.{list_at}
 
@@ -58,7 +58,7 @@ list_at_none {X} n k = elim (cases_lt k n) [
   | inr l ↦ get_or_past (replicate n []) k [] (omega (arith, length-replicate {A = List X} n []))
 ]
 
--- ---- beginnings of lists
+-- ---- prefixes of lists
 
 -- one element more of a list
 pub one_more_taken : {X : Type 0} (xs : List X) (k : ℕ) (d y : X) → k < length xs → Contains (take (k + 1) xs) y ↔ (Contains (take k xs) y ⊎ (get_or xs k d ≡ y))

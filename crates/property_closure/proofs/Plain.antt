@@ -19,7 +19,7 @@ use Rattle.normal_forms.specs.declared.forms.Form.TheVariants.{N5}
 use Rattle.normal_forms.specs.Properties.{ComesBefore, IsAtOrBelow, same, step}
 use Rattle.number_sets.specs.Pieces.{list_at}
 use Rattle.property_closure.specs.Search.{LeadsTo, itself, onward, IsBounded, AreReached}
-use Rattle.property_closure.specs.Related.{as_id, as_property, Tells, ArePlainWithin, IsAdjacency, AreAbove}
+use Rattle.property_closure.specs.Relations.{as_id, as_property, Tells, ArePlainWithin, IsAdjacency, AreAbove}
 use Rattle.property_closure.proofs.Members.{one_more_item, one_more_taken}
 
 -- ---- lists of what forms tell
@@ -68,9 +68,9 @@ told_same forms k form lists low other before a b = (
 pub bounded : (n : ℕ) (forms : List Form) (lists : List (List ℕ)) → ArePlainWithin n forms → IsAdjacency n forms lists → IsBounded lists
 bounded n forms lists within told b d c = omega (arith, (within b d ((told.exact b d).0 c)).1, told.long)
 
-leads_up : (n : ℕ) (forms : List Form) (lists : List (List ℕ)) → IsAdjacency n forms lists → (c d : ℕ) → LeadsTo lists c d → IsAtOrBelow forms (as_property c) (as_property d)
-leads_up n forms lists told c _ itself = same
-leads_up n forms lists told c d (onward b h t) = step (as_id b) (as_id d) (leads_up n forms lists told c b h) ((told.exact b d).0 t)
+lifts : (n : ℕ) (forms : List Form) (lists : List (List ℕ)) → IsAdjacency n forms lists → (c d : ℕ) → LeadsTo lists c d → IsAtOrBelow forms (as_property c) (as_property d)
+lifts n forms lists told c _ itself = same
+lifts n forms lists told c d (onward b h t) = step (as_id b) (as_id d) (lifts n forms lists told c b h) ((told.exact b d).0 t)
 
 -- the number of a property
 number_of : PropId2 → ℕ
@@ -99,7 +99,7 @@ above n forms lists p found sorted list told reached up like is = record {
     λ c.
         let at = slice_get-from_Contains (map as_property sorted) q (subst (λ (l : List PropId2). Contains l q) is c) in
         let from = slice_get_map_from as_property sorted at.0 q at.1 in
-        subst (IsAtOrBelow forms (as_property p)) from.2 (leads_up n forms lists told p from.0 ((reached from.0).0 ((like from.0).0 (Contains-from_slice_get sorted at.0 from.0 from.1)))),
+        subst (IsAtOrBelow forms (as_property p)) from.2 (lifts n forms lists told p from.0 ((reached from.0).0 ((like from.0).0 (Contains-from_slice_get sorted at.0 from.0 from.1)))),
     λ h.
         let up_there = below_leads n forms lists told p q h in
         subst (λ (l : List PropId2). Contains l q) (sym is) (subst (Contains (map as_property sorted)) (sym up_there.1) (Contains-map as_property sorted up_there.0 ((like up_there.0).1 ((reached up_there.0).1 up_there.2)))),

@@ -8,7 +8,7 @@ use Rattle.normal_forms.specs.declared.forms.Form.{Form}
 use Rattle.normal_forms.specs.declared.forms.Form.TheVariants.{N7}
 use Rattle.normal_forms.specs.Properties.{IsAtOrBelow, IsReflexive, same, step}
 use Rattle.number_sets.specs.Members.{has}
-use Rattle.property_closure.specs.Related.{as_id, as_property, ArePlainWithin, AreAbove}
+use Rattle.property_closure.specs.Relations.{as_id, as_property, ArePlainWithin, AreAbove}
 use Rattle.property_closure.proofs.Members.{one_more_taken, all_taken, has_within, has_set_same, has_set_grows, has_set_cases}
 
 -- ---- properties put into a set

@@ -1,4 +1,4 @@
 pub mod Search
-pub mod Related
+pub mod Relations
 pub mod Chains
-pub mod Closed
+pub mod PropertyClosures

@@ -1,7 +1,7 @@
 -- The search for what lists of numbers lead to from one number.
 use Rattle.std.specs.Prelude.{◌≡◌, ℕ, ◌<◌, ◌≤◌, ◌↔◌, Bool, true, List, [], ◌∷◌, ◌++◌, if◌then◌else◌, length, fold, slice_get, slice_set, Some}
 use Rattle.std.specs.List.{Contains}
-use Rattle.axioms.specs.WellFormed.{AreDistinct}
+use Rattle.axioms.specs.WellFormedness.{AreDistinct}
 use Rattle.number_sets.specs.Members.{has}
 use Rattle.number_sets.specs.Pieces.{list_at}
 use Rattle.property_closure.specs.declared.search.Search as code

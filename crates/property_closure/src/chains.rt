@@ -13,7 +13,7 @@ use std::alloc::Global;
 /// What follows the first property of a chain, and what is above both.
 pub(crate) type Chain = (PropId2, PropId2);
 
-/// The chains of each property and of each beginning of chains, in any order.
+/// The chains of each property and of each prefix of chains, in any order.
 #[derive(Drop)]
 struct OpenChains {
     properties: OpenLists<Chain>,
@@ -34,7 +34,7 @@ impl OpenChains {
     }
 }
 
-/// The chains of each property and of each beginning of chains, ascending.
+/// The chains of each property and of each prefix of chains, ascending.
 #[derive(Drop)]
 pub(crate) struct Chains {
     pub properties: PackedLists<Chain>,

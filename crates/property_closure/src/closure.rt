@@ -1,7 +1,7 @@
 //! The closure of properties.
 ghost use Rattle.normal_forms.specs.Properties.{ChainComesBefore, ComesBefore, IsAtOrBelow, IsChainFrom, IsPropertyFormOf, IsReflexive, property_forms};
-ghost use Rattle.property_closure.specs.Closed.{AreBeginnings, AreProperties, Has};
-ghost use Rattle.property_closure.specs.Related.{as_property};
+ghost use Rattle.property_closure.specs.PropertyClosures.{ArePrefixes, AreProperties, Has};
+ghost use Rattle.property_closure.specs.Relations.{as_property};
 ghost use Rattle.std.specs.List.{All, AllPairs};
 ghost use Rattle.std.specs.Prelude.{◌++◌, ◌<◌, ◌↔◌, ◌≡◌, ◌≤◌, ◌^◌, ◌∷◌, [], Contains, IfOk, IsTrue, OnErr, OnOk, Some, false, length, slice_get, vec_capacity, ℕ};
 
@@ -12,10 +12,10 @@ use std::alloc::Global;
 use std::marker::Model;
 
 /// Which properties lie below which, which are reflexive and which chains they begin, by normal forms. Contracts see how many
-/// properties and how many beginnings of chains it has, and its forms of properties.
+/// properties and how many prefixes of chains it has, and its forms of properties.
 pub struct PropertyClosure {
     alloc: Global,
-    // each property, by its number, and each beginning of chains: what is above it where no form puts anything there
+    // each property, by its number, and each prefix of chains: what is above it where no form puts anything there
     properties: Vec<PropId2>,
     partials: Vec<PropId2>,
     related: Related,
@@ -34,7 +34,7 @@ impl Drop for PropertyClosure {
 }
 
 impl Model for PropertyClosure {
-    ghost use Rattle.property_closure.specs.Closed.{Known, IsKept, known_by};
+    ghost use Rattle.property_closure.specs.PropertyClosures.{Known, IsKept, known_by};
 
     ghost Value = { Known };
 
@@ -80,13 +80,13 @@ fn add_properties(list: &mut Vec<PropId2>, n: usize)
     }
 }
 
-// Adds beginnings of chains until there are `n`, for which there is room.
+// Adds prefixes of chains until there are `n`, for which there is room.
 fn add_partials(list: &mut Vec<PropId2>, n: usize)
     requires numbers { n ≤ 2 ^ 32 }
     requires room { n ≤ vec_capacity list.old }
     requires fewer { length list.old.items ≤ n }
-    requires before { AreBeginnings list.old.items }
-    ensures partials { AreBeginnings list.new.items }
+    requires before { ArePrefixes list.old.items }
+    ensures partials { ArePrefixes list.new.items }
     ensures length { length list.new.items ≡ n }
 {
     for number in list.len()..n {
@@ -107,7 +107,7 @@ impl PropertyClosure {
         })
     }
 
-    /// Closes again with more forms, and as many properties and beginnings of chains in all. Where no form is of properties,
+    /// Closes again with more forms, and as many properties and prefixes of chains in all. Where no form is of properties,
     /// nothing is worked out again.
     ///
     /// # Errors
@@ -181,7 +181,7 @@ impl PropertyClosure {
     }
 }
 
-/// The closure of so many properties and beginnings of chains by these forms.
+/// The closure of so many properties and prefixes of chains by these forms.
 ///
 /// # Errors
 ///

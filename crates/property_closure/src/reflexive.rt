@@ -1,7 +1,7 @@
 //! The reflexive properties.
 ghost use Rattle.number_sets.specs.Members.{has};
 ghost use Rattle.number_sets.specs.Pieces.{list_at};
-ghost use Rattle.property_closure.specs.Related.{AreAbove, ArePlainWithin, AreReflexiveWithin, as_property};
+ghost use Rattle.property_closure.specs.Relations.{AreAbove, ArePlainWithin, AreReflexiveWithin, as_property};
 ghost use Rattle.normal_forms.specs.Properties.{IsReflexive};
 ghost use Rattle.std.specs.Prelude.{◌<◌, ◌↔◌, ◌≡◌, ◌⊎◌, Contains, IfOk, length, true, ℕ};
 

@@ -1,6 +1,6 @@
 //! What forms say of properties, worked out.
 ghost use Rattle.normal_forms.specs.Properties.{IsPropertyFormOf, property_forms};
-ghost use Rattle.property_closure.specs.Closed.{IsRelated};
+ghost use Rattle.property_closure.specs.PropertyClosures.{IsRelated};
 ghost use Rattle.std.specs.List.{All};
 ghost use Rattle.std.specs.Prelude.{◌++◌, ◌≡◌, ◌≤◌, ◌^◌, [], IfOk};
 

@@ -1,6 +1,6 @@
 //! The properties above each property.
 ghost use Rattle.number_sets.specs.Pieces.{list_at};
-ghost use Rattle.property_closure.specs.Related.{AreAbove, ArePlainWithin, IsAdjacency, as_property};
+ghost use Rattle.property_closure.specs.Relations.{AreAbove, ArePlainWithin, IsAdjacency, as_property};
 ghost use Rattle.std.specs.Prelude.{◌<◌, ◌≡◌, ◌≤◌, ◌^◌, IfOk, length, map, ℕ};
 
 use crate::search::Search;

@@ -93,7 +93,7 @@ const INTERSECTIONS: &[Row] = &[
         "SubClassOf(ObjectIntersectionOf(:A ObjectIntersectionOf(:B :C)) ObjectIntersectionOf(:A :B :C))",
         "[5, 0, 0, 8, 1]",
     ),
-    // An intersection's beginning is a part of it only where it stands there.
+    // An intersection's prefix is a part of it only where it stands there.
     (
         "SubClassOf(ObjectIntersectionOf(:A :B :C) ObjectIntersectionOf(:A :B))",
         "[5, 0, 0, 7, 1]",

@@ -12,9 +12,9 @@ use Rattle.normal_forms.specs.Properties.{IsAtOrBelow}
 use Rattle.indexes.specs.declared.keys.Key.{Key}
 use Rattle.facts.specs.declared.contexts.Context.{Context}
 use Rattle.facts.specs.declared.contexts.Fact.TheVariants.{In, Edge}
-use Rattle.indexes.specs.Named.{class_key, property_key, by_alone, by_first, by_filler, by_chain, by_plain}
-use Rattle.indexes.specs.Under.{IsUnder}
-use Rattle.saturate.specs.Asked.{Asks, IsAsked, BeginsWith}
+use Rattle.indexes.specs.Keys.{class_key, property_key, by_alone, by_first, by_filler, by_chain, by_plain}
+use Rattle.indexes.specs.FormsUnderKeys.{IsUnder}
+use Rattle.saturate.specs.Requests.{Asks, IsAsked, BeginsWith}
 use Rattle.inference.proofs.Lists.{Contains-from_slice_get, slice_get-from_Contains}
 
 -- a list that is not empty has some number
@@ -124,16 +124,16 @@ chain (N7 _) p e = absurd (none-some _ e)
 chain (N8 _ _) p e = absurd (none-some _ e)
 chain (N9 _ _ _) p e = absurd (none-some _ e)
 
-beginning : (form : Form) (p : PropId2) → BeginsWith form p → (by_plain form ≡ Some (property_key p)) ⊎ (by_chain form ≡ Some (property_key p))
-beginning (N5 r s) p h = inl (ap (λ q. Some (property_key q)) (sym h))
-beginning (N6 r s t) p h = inr (ap (λ q. Some (property_key q)) (sym h))
-beginning (N1 _ _) p h = absurd h
-beginning (N2 _ _ _) p h = absurd h
-beginning (N3 _ _ _) p h = absurd h
-beginning (N4 _ _ _) p h = absurd h
-beginning (N7 _) p h = absurd h
-beginning (N8 _ _) p h = absurd h
-beginning (N9 _ _ _) p h = absurd h
+prefix : (form : Form) (p : PropId2) → BeginsWith form p → (by_plain form ≡ Some (property_key p)) ⊎ (by_chain form ≡ Some (property_key p))
+prefix (N5 r s) p h = inl (ap (λ q. Some (property_key q)) (sym h))
+prefix (N6 r s t) p h = inr (ap (λ q. Some (property_key q)) (sym h))
+prefix (N1 _ _) p h = absurd h
+prefix (N2 _ _ _) p h = absurd h
+prefix (N3 _ _ _) p h = absurd h
+prefix (N4 _ _ _) p h = absurd h
+prefix (N7 _) p h = absurd h
+prefix (N8 _ _) p h = absurd h
+prefix (N9 _ _ _) p h = absurd h
 
 pub begun_by : (by_kind : Form → Option Key) (added : List Form) (p : PropId2) → ((form : Form) → by_kind form ≡ Some (property_key p) → BeginsWith form p) → (n : ℕ) → IsUnder by_kind added (property_key p) n → (form : Form) × Contains added form × BeginsWith form p
 begun_by by_kind added p begins n under = (under.0, Contains-from_slice_get added n under.0 under.1, begins under.0 under.2)
@@ -141,7 +141,7 @@ begun_by by_kind added p begins n under = (under.0, Contains-from_slice_get adde
 pub not_begun : (added : List Form) (p : PropId2) → ((n : ℕ) → IsUnder by_plain added (property_key p) n → ⊥) → ((n : ℕ) → IsUnder by_chain added (property_key p) n → ⊥) → (form : Form) → Contains added form → BeginsWith form p → ⊥
 not_begun added p no_plain no_chain form there begins =
     let at = slice_get-from_Contains added form there in
-    ⊎_elim (λ e. no_plain at.0 (form, at.1, e)) (λ e. no_chain at.0 (form, at.1, e)) (beginning form p begins)
+    ⊎_elim (λ e. no_plain at.0 (form, at.1, e)) (λ e. no_chain at.0 (form, at.1, e)) (prefix form p begins)
 
 -- a form that begins with a property at or above that of an edge asks for the edge
 pub begins_above : (all : List Form) (form : Form) (x y : Context) (p r : PropId2) → IsAtOrBelow all p r → BeginsWith form r → Asks all form (Edge x p y)

@@ -8,8 +8,8 @@ use Rattle.std.proofs.lemmas.Option.{none-some, same_Some, slice_get_within, sli
 use Rattle.std.specs.List.{list_any}
 use Rattle.facts.specs.declared.contexts.Fact.{Fact}
 use Rattle.facts.specs.Closure.{Problem}
-use Rattle.inference.specs.Derived.{AreDistinct, HasMoreFactsThan}
-use Rattle.inference.specs.Working.{IsClosure}
+use Rattle.inference.specs.Derivations.{AreDistinct, HasMoreFactsThan}
+use Rattle.inference.specs.Completeness.{IsClosure}
 use Rattle.inference.proofs.Lists.{slice_get-from_Contains}
 
 pub Contains-first : {X : Type 0} (x : X) (xs : List X) → Contains (x ∷ xs) x

@@ -6,11 +6,11 @@ use Rattle.facts.specs.declared.contexts.Context.{Context}
 use Rattle.facts.specs.declared.contexts.Fact.{Fact}
 use Rattle.indexes.specs.declared.by_context.ByContext.{ByContext}
 use Rattle.indexes.specs.Contexts.{at_context}
-use Rattle.indexes.specs.Indexed.{ListsIn}
+use Rattle.indexes.specs.FactIndex.{ListsIn}
 use Rattle.indexes.specs.Parts.{ArePartOf}
 use Rattle.indexes.proofs.Parts.{part_cases, part_contains, part_distinct}
-use Rattle.saturate.specs.Queued.{Queued, IsServedOnce, IsWithoutHand, option_list}
-use Rattle.saturate.specs.Served.{AreExactly}
+use Rattle.saturate.specs.Turns.{Queued, IsServedOnce, IsWithoutHand, option_list}
+use Rattle.saturate.specs.ServedFacts.{AreExactly}
 use Rattle.saturate.specs.State.{Seen}
 
 -- the rest of what is listed is a part of the served numbers, and has each of these that is listed

@@ -13,17 +13,17 @@ use Rattle.facts.specs.declared.contexts.Fact.TheVariants.{In, Edge}
 use Rattle.facts.specs.Closure.{Problem, IsContextBy, FromOne, FromTwo, Concludes, Gives, in_thing, in_itself, by_form, unsatisfiable, loop}
 use Rattle.facts.specs.Births.{Reason}
 use Rattle.facts.proofs.Premises.{no_three}
-use Rattle.saturate.specs.Asked.{Asks, IsAsked}
-use Rattle.inference.specs.Derived.{Derived, IsDerived, Grows, Keeps}
-use Rattle.saturate.specs.Growing.{with_more, KeepsServed}
-use Rattle.inference.specs.Begun.{HasBegun}
-use Rattle.inference.specs.Working.{IsCompleteButSpared, IsServed, AreSpared, EndsAbove, GoesOn}
+use Rattle.saturate.specs.Requests.{Asks, IsAsked}
+use Rattle.inference.specs.Derivations.{Derived, IsDerived, Grows, Keeps}
+use Rattle.saturate.specs.Growth.{with_more, KeepsServed}
+use Rattle.inference.specs.Entry.{HasBegun}
+use Rattle.inference.specs.Completeness.{IsCompleteUpToRedundancy, IsServed, AreRedundant, EndsAbove, GoesOn}
 use Rattle.inference.proofs.Lists.{Contains-from_slice_get}
 use Rattle.inference.proofs.Growth.{there_still}
-use Rattle.inference.proofs.Sparing.{spared_still}
+use Rattle.inference.proofs.Redundancy.{redundant_still}
 use Rattle.saturate.specs.State.{IsUnderWay}
-use Rattle.saturate.specs.Listed.{ListsFacts, ListsServed}
-use Rattle.saturate.specs.Queued.{Queued, option_list}
+use Rattle.saturate.specs.IndexedFacts.{ListsFacts, ListsServed}
+use Rattle.saturate.specs.Turns.{Queued, option_list}
 use Rattle.indexes.specs.declared.index.Index.{Index}
 use Rattle.indexes.proofs.Parts.{part_same, part_more}
 use Rattle.saturate.proofs.Listing.{fewer}
@@ -53,7 +53,7 @@ below_more : (forms added : List Form) (p q : PropId2) → IsAtOrBelow forms p q
 below_more forms added p _ same = same
 below_more forms added p _ (step s t h c) = step s t (below_more forms added p (Property s) h) (Contains-append_left forms added (N5 s t) c)
 
--- a path that is new has a form that is added, whose lower property lies above its beginning
+-- a path that is new has a form that is added, whose lower property lies above its start
 below_cases : (forms added : List Form) (p q : PropId2) → IsAtOrBelow (forms ++ added) p q → IsAtOrBelow forms p q ⊎ ((x y : Context) → IsAsked (forms ++ added) added (Edge x p y))
 below_cases forms added p _ same = inl same
 below_cases forms added p _ (step s t h c) = ⊎_elim
@@ -165,7 +165,7 @@ module _ (k : Problem) (forms : List Form) (roots : List Context) where
   two_before (N8 _ _) g h f u v w = absurd w
   two_before (N9 _ _ _) g h f u v w = absurd w
 
-  -- ---- what was spared is spared still
+  -- ---- what was redundant is redundant still
 
   goes_on_more : (form : Form) → GoesOn k.forms form → GoesOn (k.forms ++ forms) form
   goes_on_more (N6 r s t) on = below_more k.forms forms t r on
@@ -189,11 +189,11 @@ module _ (k : Problem) (forms : List Form) (roots : List Context) where
   ends_more p (N8 _ _) low = low
   ends_more p (N9 _ _ _) low = low
 
-  spared_more : (d : Derived) (older : List Fact) (o : Option ℕ) → AreSpared k d older o → AreSpared (with_more k forms roots) d older o
-  spared_more d [] o w = w
-  spared_more d (g ∷ []) o w = w
-  spared_more d (g ∷ h ∷ []) None w = w
-  spared_more d (g ∷ h ∷ []) (Some n) w = (
+  redundant_more : (d : Derived) (older : List Fact) (o : Option ℕ) → AreRedundant k d older o → AreRedundant (with_more k forms roots) d older o
+  redundant_more d [] o w = w
+  redundant_more d (g ∷ []) o w = w
+  redundant_more d (g ∷ h ∷ []) None w = w
+  redundant_more d (g ∷ h ∷ []) (Some n) w = (
     w.0,
     slice_get_more k.forms forms n w.0 w.1,
     record {
@@ -211,12 +211,12 @@ module _ (k : Problem) (forms : List Form) (roots : List Context) where
       };
     },
   )
-  spared_more d (g ∷ h ∷ i ∷ more) o w = w
+  redundant_more d (g ∷ h ∷ i ∷ more) o w = w
 
   -- ---- so what served facts give is there still
 
   module _ {most : ℕ} {old new : Derived} (s : HasBegun (with_more k forms roots) most old new) (served : List ℕ)
-      (within : (n : ℕ) → Contains served n → n < length old.facts) (complete : IsCompleteButSpared k old served) (now : List ℕ) (keeps : KeepsServed (k.forms ++ forms) forms old.facts served now) where
+      (within : (n : ℕ) → Contains served n → n < length old.facts) (complete : IsCompleteUpToRedundancy k old served) (now : List ℕ) (keeps : KeepsServed (k.forms ++ forms) forms old.facts served now) where
     was_served : (f : Fact) → IsServed new.facts now f → (n : ℕ) × Contains served n × (slice_get old.facts n ≡ Some f) × Unasked f
     was_served f w =
         let before = (keeps w.0).0 w.1 in
@@ -224,7 +224,7 @@ module _ (k : Problem) (forms : List Form) (roots : List Context) where
         (w.0, before.0, at, λ asked. before.1 (f, at, asked))
 
     alone : (g f : Fact) {c : ℕ} {o : Option ℕ} → IsServed old.facts served g → Gives k c o (g ∷ []) f → Contains new.facts f
-    alone g f {c} {o} w gives = ⊎_elim (λ there. there_still s.grows f there) (λ spared. absurd spared) (complete (g ∷ []) (w, tt) c o f gives)
+    alone g f {c} {o} w gives = ⊎_elim (λ there. there_still s.grows f there) (λ redundant. absurd redundant) (complete (g ∷ []) (w, tt) c o f gives)
 
     one : (g f : Fact) {c : ℕ} {o : Option ℕ} → IsServed new.facts now g → Gives (with_more k forms roots) c o (g ∷ []) f → Contains new.facts f
     one g f w (in_thing c) = let v = was_served g w in alone g f (v.0, v.1, v.2) (in_thing c)
@@ -238,14 +238,14 @@ module _ (k : Problem) (forms : List Form) (roots : List Context) where
     one g f w (unsatisfiable b) = absurd b
     one g f w (loop x n form at l c) = let v = was_served g w in s.loops v.0 g x v.2 c form (Contains-from_slice_get (k.forms ++ forms) n form at) f l
 
-    -- what two facts were given is there still, or spared still
-    given_before : (g h f : Fact) {c : ℕ} {o : Option ℕ} → IsServed old.facts served g → IsServed old.facts served h → Gives k c o (g ∷ h ∷ []) f → Contains new.facts f ⊎ AreSpared (with_more k forms roots) new (g ∷ h ∷ []) o
+    -- what two facts gave is there still, or redundant still
+    given_before : (g h f : Fact) {c : ℕ} {o : Option ℕ} → IsServed old.facts served g → IsServed old.facts served h → Gives k c o (g ∷ h ∷ []) f → Contains new.facts f ⊎ AreRedundant (with_more k forms roots) new (g ∷ h ∷ []) o
     given_before g h f {c} {o} w v gives = ⊎_elim
         (λ there. inl (there_still s.grows f there))
-        (λ spared. inr (spared_still s.grows (g ∷ h ∷ []) o (spared_more old (g ∷ h ∷ []) o spared)))
+        (λ redundant. inr (redundant_still s.grows (g ∷ h ∷ []) o (redundant_more old (g ∷ h ∷ []) o redundant)))
         (complete (g ∷ h ∷ []) (w, (v, tt)) c o f gives)
 
-    two : (g h f : Fact) {c : ℕ} {o : Option ℕ} → IsServed new.facts now g → IsServed new.facts now h → Gives (with_more k forms roots) c o (g ∷ h ∷ []) f → Contains new.facts f ⊎ AreSpared (with_more k forms roots) new (g ∷ h ∷ []) o
+    two : (g h f : Fact) {c : ℕ} {o : Option ℕ} → IsServed new.facts now g → IsServed new.facts now h → Gives (with_more k forms roots) c o (g ∷ h ∷ []) f → Contains new.facts f ⊎ AreRedundant (with_more k forms roots) new (g ∷ h ∷ []) o
     two g h _ w v (in_thing c) = absurd c
     two g h _ w v (in_itself c) = absurd c
     two g h f w v (by_form n form at gives) =
@@ -261,7 +261,7 @@ module _ (k : Problem) (forms : List Form) (roots : List Context) where
         given_before g h f (a.0, a.1, a.2) (b.0, b.1, b.2) (unsatisfiable back)
     two g h f w v (loop x n form at l c) = absurd c
 
-    pub complete_still : IsCompleteButSpared (with_more k forms roots) new now
+    pub complete_still : IsCompleteUpToRedundancy (with_more k forms roots) new now
     complete_still [] all c o f gives = inl (s.given c o f gives)
     complete_still (g ∷ []) all c o f gives = inl (one g f all.0 gives)
     complete_still (g ∷ h ∷ []) all c o f gives = two g h f all.0 all.1.0 gives
@@ -278,7 +278,7 @@ module _ (k : Problem) (forms : List Form) (roots : List Context) {j : Problem} 
     derived = begun.grows.derived;
     queued = queued;
     within = λ n c. omega (arith, s.within n ((keeps n).0 c).0, begun.grows.longer);
-    complete = subst (λ (i : Problem). IsCompleteButSpared i new r.served) (sym same)
+    complete = subst (λ (i : Problem). IsCompleteUpToRedundancy i new r.served) (sym same)
         (complete_still k forms roots (subst (λ (i : Problem). HasBegun i most old new) same begun) q.served s.within s.complete r.served
         (subst (λ (i : Problem). KeepsServed i.forms forms old.facts q.served r.served) same keeps));
   }

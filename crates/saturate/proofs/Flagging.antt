@@ -8,9 +8,9 @@ use Rattle.std.proofs.lemmas.Option.{slice_get-get_or}
 use Rattle.normal_forms.specs.declared.forms.Form.{Form}
 use Rattle.facts.specs.declared.contexts.Fact.{Fact}
 use Rattle.normal_forms.proofs.Filters.{kept as is_kept_of, from_kept, passes}
-use Rattle.saturate.specs.Asked.{IsAsked}
-use Rattle.saturate.specs.Flagged.{IsFlagged, is_flagged, is_kept, kept}
-use Rattle.saturate.specs.Growing.{KeepsServed}
+use Rattle.saturate.specs.Requests.{IsAsked}
+use Rattle.saturate.specs.Flags.{IsFlagged, is_flagged, is_kept, kept}
+use Rattle.saturate.specs.Growth.{KeepsServed}
 use Rattle.inference.proofs.Lists.{one_value}
 
 -- one flag more

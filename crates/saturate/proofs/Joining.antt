@@ -1,4 +1,4 @@
--- What is spared is there, where all facts are served: by way of the older two that gave the second edge.
+-- What is redundant is there, where all facts are served: by way of the older two that gave the second edge.
 use Rattle.std.proofs.Common.{◌≡◌, ℕ, zero, suc, ◌<◌, ⊎_elim, List, [], ◌∷◌, map, take, slice_get, Some, None, Option, Contains, refl, sym, subst, arith}
 use Rattle.std.proofs.lemmas.Option.{none-some, same_Some}
 use Rattle.normal_forms.specs.declared.forms.Form.{Form}
@@ -10,8 +10,8 @@ use Rattle.facts.specs.declared.contexts.Context.{Context}
 use Rattle.facts.specs.declared.contexts.Fact.{Fact}
 use Rattle.facts.specs.declared.contexts.Fact.TheVariants.{In, Edge}
 use Rattle.facts.specs.Closure.{Problem, FromTwo, Concludes, IsLoop, Gives, in_thing, in_itself, by_form, unsatisfiable, loop}
-use Rattle.inference.specs.Derived.{Derived, IsDerived}
-use Rattle.inference.specs.Working.{AreSpared, Drawn, DrawnButSpared, EndsAbove, GoesOn}
+use Rattle.inference.specs.Derivations.{Derived, IsDerived}
+use Rattle.inference.specs.Completeness.{AreRedundant, Drawn, DrawnUpToRedundancy, EndsAbove, GoesOn}
 use Rattle.inference.proofs.Lists.{Contains-from_slice_get, one_value, slice_get_take, slice_get-from_Contains}
 
 -- the form of that number is a chain: what is given by it is given as by a chain
@@ -31,7 +31,7 @@ below_both : (forms : List Form) (p q r : PropId2) → IsAtOrBelow forms p q →
 below_both forms p q _ low same = low
 below_both forms p q _ low (step s t h there) = step s t (below_both forms p q (Property s) low h) there
 
-module _ {k : Problem} {d : Derived} (s : IsDerived k d) (complete : (f g : Fact) → Contains d.facts f → Contains d.facts g → DrawnButSpared k (f ∷ g ∷ []) d) where
+module _ {k : Problem} {d : Derived} (s : IsDerived k d) (complete : (f g : Fact) → Contains d.facts f → Contains d.facts g → DrawnUpToRedundancy k (f ∷ g ∷ []) d) where
   -- what a fact gives as the first of two is there, where the second stands at the place
   abbrev Joins : ℕ → Type 0
   Joins n = (f g : Fact) (c : ℕ) (o : Option ℕ) (h : Fact) → Contains d.facts f → slice_get d.facts n ≡ Some g → Gives k c o (f ∷ g ∷ []) h → Contains d.facts h
@@ -85,9 +85,9 @@ module _ {k : Problem} {d : Derived} (s : IsDerived k d) (complete : (f g : Fact
   by_chain n i (N8 _ _) e at on low joins f g h there places older are from gives = absurd on
   by_chain n i (N9 _ _ _) e at on low joins f g h there places older are from gives = absurd on
 
-  spared_is_there : (n : ℕ) → ((m : ℕ) → m < n → Joins m) → (f g : Fact) (c : ℕ) (o : Option ℕ) (h : Fact) → Contains d.facts f → slice_get d.facts n ≡ Some g → Gives k c o (f ∷ g ∷ []) h → AreSpared k d (f ∷ g ∷ []) o → Contains d.facts h
-  spared_is_there n joins f g c None h there at gives w = absurd w
-  spared_is_there n joins f g c (Some i) h there at gives w =
+  redundant_is_there : (n : ℕ) → ((m : ℕ) → m < n → Joins m) → (f g : Fact) (c : ℕ) (o : Option ℕ) (h : Fact) → Contains d.facts f → slice_get d.facts n ≡ Some g → Gives k c o (f ∷ g ∷ []) h → AreRedundant k d (f ∷ g ∷ []) o → Contains d.facts h
+  redundant_is_there n joins f g c None h there at gives w = absurd w
+  redundant_is_there n joins f g c (Some i) h there at gives w =
       let given = w.2.given in
       let place_is : given.place ≡ n = s.distinct given.place n g given.there at in
       let b = s.born given.place g given.birth given.there given.born in
@@ -99,7 +99,7 @@ module _ {k : Problem} {d : Derived} (s : IsDerived k d) (complete : (f g : Fact
   joined zero n l = absurd (omega arith)
   joined (suc bound) n l = λ f g c o h there at gives. ⊎_elim
       (λ drawn. drawn)
-      (λ spared. spared_is_there n (λ m low. joined bound m (omega (arith, low, l))) f g c o h there at gives spared)
+      (λ redundant. redundant_is_there n (λ m low. joined bound m (omega (arith, low, l))) f g c o h there at gives redundant)
       (complete f g there (Contains-from_slice_get d.facts n g at) c o h gives)
 
   pub all_joined : (f g : Fact) → Contains d.facts f → Contains d.facts g → Drawn k (f ∷ g ∷ []) d.facts

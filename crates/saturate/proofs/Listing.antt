@@ -13,15 +13,15 @@ use Rattle.indexes.specs.declared.index.Index.{Index}
 use Rattle.indexes.specs.Contexts.{at_context, IsLast, IsEmptyTable, IsEmptyIndex}
 use Rattle.indexes.specs.Parts.{ArePartOf}
 use Rattle.indexes.proofs.Parts.{part_empty, part_same, part_push, part_more, part_behind, part_within, part_cases, part_contains}
-use Rattle.indexes.specs.Indexed.{IsIn, IsFrom, IsInto, MayListIn, MayList, Lists, ListsIn}
-use Rattle.inference.specs.Derived.{Derived, Grows}
-use Rattle.saturate.specs.Queued.{Queued, option_list}
-use Rattle.inference.specs.Working.{MeetEachOther, IsSparedAsSecond}
-use Rattle.inference.specs.Visited.{IsNotCarried}
-use Rattle.saturate.specs.Listed.{ListsFacts, ListsNeeded, ListsServed}
-use Rattle.inference.specs.Met.{IsWithin, AllListedAreMet}
+use Rattle.indexes.specs.FactIndex.{IsIn, IsFrom, IsInto, MayListIn, MayList, Lists, ListsIn}
+use Rattle.inference.specs.Derivations.{Derived, Grows}
+use Rattle.saturate.specs.Turns.{Queued, option_list}
+use Rattle.inference.specs.Completeness.{MeetEachOther, IsRedundantAsSecond}
+use Rattle.inference.specs.Visits.{IsNotCarried}
+use Rattle.saturate.specs.IndexedFacts.{ListsFacts, ListsNeeded, ListsServed}
+use Rattle.inference.specs.Meetings.{IsWithin, AllListedAreMet}
 use Rattle.inference.proofs.Lists.{one_value}
-use Rattle.inference.proofs.Sparing.{second_still}
+use Rattle.inference.proofs.Redundancy.{second_still}
 use Rattle.saturate.proofs.States.{was_there}
 
 -- ---- tables
@@ -77,7 +77,7 @@ module _ (has : Context → Fact → Type 0) where
     order = λ x. rw (e x) (part_empty m);
   }
 
--- ---- seconds and fillers
+-- ---- second premises and fillers
 
 module _ (has : Context → Fact → Type 0) where
   -- where the flag is up
@@ -89,19 +89,19 @@ module _ (has : Context → Fact → Type 0) where
 
   may_need : {Not : Fact → Type 0} {facts : List Fact} {w : List ℕ} {old new : ByContext} {n : ℕ} {f : Fact} (flag : Bool) → ListsNeeded has Not facts w old → MayListIn (Flagged flag) old new n f → slice_get facts n ≡ Some f → ListsNeeded has Not facts w new
   may_need {facts = facts} {f = f} flag s t at = record {
-    all = λ x i g c at_i h. ⊎_elim (λ here. inl (t.kept x i here)) (λ spared. inr spared) (s.all x i g c at_i h);
+    all = λ x i g c at_i h. ⊎_elim (λ here. inl (t.kept x i here)) (λ redundant. inr redundant) (s.all x i g c at_i h);
     only = λ x i c. ⊎_elim (s.only x i) (λ v. (f, subst (λ (j : ℕ). slice_get facts j ≡ Some f) (sym v.1) at, v.0.1)) (t.only x i c);
   }
 
   all_needed : {Not : Fact → Type 0} {facts : List Fact} {w : List ℕ} {table : ByContext} {n : ℕ} {f : Fact} (flag : Bool) → ListsNeeded has Not facts w table → slice_get facts n ≡ Some f → ((x : Context) → Flagged flag x f → Contains (at_context table x) n) → (flag ≡ false → Not f)
       → ListsNeeded has Not facts (w ++ n ∷ []) table
-  all_needed {Not} {facts} {w} {table} {n} {f} flag s at t spared = record {
+  all_needed {Not} {facts} {w} {table} {n} {f} flag s at t redundant = record {
     all = λ x i g c at_i h. ⊎_elim
         (λ before. s.all x i g before at_i h)
         (λ e.
         let at_n : slice_get facts n ≡ Some g = subst (λ (j : ℕ). slice_get facts j ≡ Some g) (sym e) at_i in
         subst (λ (j : ℕ). Contains (at_context table x) j ⊎ Not g) e
-        (subst (λ (y : Fact). Contains (at_context table x) n ⊎ Not y) (one_value _ f g at at_n) (here flag t spared x (subst (has x) (one_value _ g f at_n at) h))))
+        (subst (λ (y : Fact). Contains (at_context table x) n ⊎ Not y) (one_value _ f g at at_n) (here flag t redundant x (subst (has x) (one_value _ g f at_n at) h))))
         (Contains-push_cases w n i c);
     only = s.only;
   }
@@ -112,7 +112,7 @@ module _ (has : Context → Fact → Type 0) where
 
   needed_grown : {k : Problem} {most : ℕ} {a b : Derived} {Not Nor : Fact → Type 0} {w : List ℕ} {table : ByContext} → Grows k most a b → ((f : Fact) → Not f → Nor f) → ((n : ℕ) → Contains w n → n < length a.facts) → ListsNeeded has Not a.facts w table → ListsNeeded has Nor b.facts w table
   needed_grown t still low s = record {
-    all = λ x n f c at h. ⊎_elim (λ here. inl here) (λ spared. inr (still f spared)) (s.all x n f c (was_there t n f (low n c) at) h);
+    all = λ x n f c at h. ⊎_elim (λ here. inl here) (λ redundant. inr (still f redundant)) (s.all x n f c (was_there t n f (low n c) at) h);
     only = λ x n c. let o = s.only x n c in (o.0, t.facts n o.0 o.1, o.2);
   }
 
@@ -131,7 +131,7 @@ fewer v l s low high = record {
     from = fewer_in IsFrom _ _ _ v l _ s.by_context.from low high;
     into = fewer_in IsInto _ _ _ v l _ s.by_context.into low high;
   };
-  seconds = few_needed IsFrom v s.seconds low;
+  second_premises = few_needed IsFrom v s.second_premises low;
   fillers = few_needed IsIn v s.fillers low;
 }
 
@@ -142,18 +142,18 @@ may {is_second = is_second} {is_filler = is_filler} s t at e = record {
     from = may_in IsFrom _ _ _ _ _ _ _ s.by_context.from t.from at e;
     into = may_in IsInto _ _ _ _ _ _ _ s.by_context.into t.into at e;
   };
-  seconds = may_need IsFrom is_second s.seconds t.seconds at;
+  second_premises = may_need IsFrom is_second s.second_premises t.second_premises at;
   fillers = may_need IsIn is_filler s.fillers t.fillers at;
 }
 
-pub listed : {k : Problem} {d : Derived} {w m : List ℕ} {new : Index} {n : ℕ} {f : Fact} {is_second is_filler : Bool} → ListsFacts k d w m new → slice_get d.facts n ≡ Some f → Lists new n f is_second is_filler → (is_second ≡ false → IsSparedAsSecond k d f) → (is_filler ≡ false → IsNotCarried k f) → ListsFacts k d (w ++ n ∷ []) m new
-listed {is_second = is_second} {is_filler = is_filler} s at t spared uncarried = record {
+pub listed : {k : Problem} {d : Derived} {w m : List ℕ} {new : Index} {n : ℕ} {f : Fact} {is_second is_filler : Bool} → ListsFacts k d w m new → slice_get d.facts n ≡ Some f → Lists new n f is_second is_filler → (is_second ≡ false → IsRedundantAsSecond k d f) → (is_filler ≡ false → IsNotCarried k f) → ListsFacts k d (w ++ n ∷ []) m new
+listed {is_second = is_second} {is_filler = is_filler} s at t redundant uncarried = record {
   by_context = record {
     classes = all_in IsIn _ _ _ _ _ _ s.by_context.classes at t.classes;
     from = all_in IsFrom _ _ _ _ _ _ s.by_context.from at t.from;
     into = all_in IsInto _ _ _ _ _ _ s.by_context.into at t.into;
   };
-  seconds = all_needed IsFrom is_second s.seconds at t.seconds spared;
+  second_premises = all_needed IsFrom is_second s.second_premises at t.second_premises redundant;
   fillers = all_needed IsIn is_filler s.fillers at t.fillers uncarried;
 }
 
@@ -164,17 +164,17 @@ still_listed t low s = record {
     from = grown_in IsFrom t _ _ _ low s.by_context.from;
     into = grown_in IsInto t _ _ _ low s.by_context.into;
   };
-  seconds = needed_grown IsFrom t (second_still t) low s.seconds;
+  second_premises = needed_grown IsFrom t (second_still t) low s.second_premises;
   fillers = needed_grown IsIn t (λ f not. not) low s.fillers;
 }
 
 pub all_within : {k : Problem} {d : Derived} {w m : List ℕ} {index : Index} → ListsFacts k d w m index → IsWithin d.facts index
-all_within s = record { classes = within_in IsIn _ _ _ _ s.by_context.classes; seconds = s.seconds.only; fillers = s.fillers.only; into = within_in IsInto _ _ _ _ s.by_context.into }
+all_within s = record { classes = within_in IsIn _ _ _ _ s.by_context.classes; second_premises = s.second_premises.only; fillers = s.fillers.only; into = within_in IsInto _ _ _ _ s.by_context.into }
 
 pub nothing_listed : (k : Problem) (d : Derived) (m : List ℕ) (index : Index) → IsEmptyIndex index → ListsFacts k d [] m index
 nothing_listed k d m index e = record {
   by_context = record { classes = empty_in IsIn d.facts m _ e.classes; from = empty_in IsFrom d.facts m _ e.from; into = empty_in IsInto d.facts m _ e.into };
-  seconds = none_needed IsFrom _ d.facts _ e.seconds;
+  second_premises = none_needed IsFrom _ d.facts _ e.second_premises;
   fillers = none_needed IsIn _ d.facts _ e.fillers;
 }
 
@@ -224,7 +224,7 @@ touch {k} {f = f} {g = g} {h = h} (by_form n form at gives) = from_two k form f 
 touch {f = f} {g = g} {h = h} (unsatisfiable b) = carried f g h b
 touch (loop x n form at l c) = absurd c
 
--- so what is listed for a fact is all that it gives something with, but for what need not stand second
+-- so what is listed for a fact is all that it gives something with, but for what need not be a second premise
 module _ {k : Problem} {d : Derived} {w m : List ℕ} {index : Index} (s : ListsFacts k d w m index) {most : ℕ} {new : Derived} (grows : Grows k most d new) (n : ℕ) (there : Contains w n) where
   pub all_met : (f g : Fact) → AllListedAreMet k f d.facts index new → slice_get d.facts n ≡ Some g → MeetEachOther k f g new
   all_met (In a x) (In b y) met at = record {
@@ -245,8 +245,8 @@ module _ {k : Problem} {d : Derived} {w m : List ℕ} {index : Index} (s : Lists
   all_met (Edge x p y) (Edge u r v) met at = record {
     first = λ c form h gives. ⊎_elim
         (λ second. met.1 n second (Edge u r v) at c form h gives)
-        (λ spared. inr (second_still grows (Edge u r v) spared (Edge x p y) h c form gives))
-        (s.seconds.all y n (Edge u r v) there at (touch gives));
+        (λ redundant. inr (second_still grows (Edge u r v) redundant (Edge x p y) h c form gives))
+        (s.second_premises.all y n (Edge u r v) there at (touch gives));
     second = λ c form h gives. met.2 n (s.by_context.into.all x n (Edge u r v) there at (sym (touch gives))) (Edge u r v) at c form h gives;
   }
 
@@ -254,12 +254,12 @@ pub in_most : (served : List ℕ) (hand : Option ℕ) (n : ℕ) → hand ≡ Som
 in_most served hand n e = ap (λ (o : Option ℕ). served ++ option_list o) e
 
 -- the fact in hand was listed, and is served
-pub finish_listed : {k : Problem} {most : ℕ} {old new : Derived} {index : Index} {n : ℕ} {f : Fact} {is_second is_filler : Bool} (q r : Queued) → ListsServed k old q index → q.hand ≡ Some n → slice_get old.facts n ≡ Some f → Lists index n f is_second is_filler → (is_second ≡ false → IsSparedAsSecond k old f) → (is_filler ≡ false → IsNotCarried k f) → Grows k most old new
+pub finish_listed : {k : Problem} {most : ℕ} {old new : Derived} {index : Index} {n : ℕ} {f : Fact} {is_second is_filler : Bool} (q r : Queued) → ListsServed k old q index → q.hand ≡ Some n → slice_get old.facts n ≡ Some f → Lists index n f is_second is_filler → (is_second ≡ false → IsRedundantAsSecond k old f) → (is_filler ≡ false → IsNotCarried k f) → Grows k most old new
     → ((i : ℕ) → Contains q.served i → i < length old.facts) → r.served ≡ q.served ++ n ∷ [] → ListsServed k new r index
-finish_listed {old = old} {n = n} {f = f} q r s hand at t spared uncarried grows within same =
+finish_listed {old = old} {n = n} {f = f} q r s hand at t redundant uncarried grows within same =
     let low : (i : ℕ) → Contains (q.served ++ n ∷ []) i → i < length old.facts = λ i c. ⊎_elim (within i) (λ e. subst (λ (j : ℕ). j < length old.facts) e (slice_get_within old.facts n f at)) (Contains-push_cases q.served n i c) in
-    fewer r.served (r.served ++ option_list r.hand) (still_listed grows low (listed s at t spared uncarried)) (λ i c. rw same at c) (rw (hand, same) (part_more (option_list r.hand) (part_same (q.served ++ n ∷ []))))
+    fewer r.served (r.served ++ option_list r.hand) (still_listed grows low (listed s at t redundant uncarried)) (λ i c. rw same at c) (rw (hand, same) (part_more (option_list r.hand) (part_same (q.served ++ n ∷ []))))
 
 -- one fact more is listed
-pub one_more : {k : Problem} {d : Derived} {w : List ℕ} {old new : Index} {n : ℕ} {f : Fact} {is_second is_filler : Bool} → ListsFacts k d w w old → MayList old new n f is_second is_filler → slice_get d.facts n ≡ Some f → Lists new n f is_second is_filler → (is_second ≡ false → IsSparedAsSecond k d f) → (is_filler ≡ false → IsNotCarried k f) → ListsFacts k d (w ++ n ∷ []) (w ++ n ∷ []) new
-one_more {w = w} {n = n} s m at t spared uncarried = listed (may (fewer w (w ++ n ∷ []) s (λ i c. c) (part_more (n ∷ []) (part_same w))) m at refl) at t spared uncarried
+pub one_more : {k : Problem} {d : Derived} {w : List ℕ} {old new : Index} {n : ℕ} {f : Fact} {is_second is_filler : Bool} → ListsFacts k d w w old → MayList old new n f is_second is_filler → slice_get d.facts n ≡ Some f → Lists new n f is_second is_filler → (is_second ≡ false → IsRedundantAsSecond k d f) → (is_filler ≡ false → IsNotCarried k f) → ListsFacts k d (w ++ n ∷ []) (w ++ n ∷ []) new
+one_more {w = w} {n = n} s m at t redundant uncarried = listed (may (fewer w (w ++ n ∷ []) s (λ i c. c) (part_more (n ∷ []) (part_same w))) m at refl) at t redundant uncarried

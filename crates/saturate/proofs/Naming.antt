@@ -10,8 +10,8 @@ use Rattle.normal_forms.specs.declared.forms.PropId2.TheVariants.{Property, Part
 use Rattle.normal_forms.specs.declared.forms.Form.{Form}
 use Rattle.normal_forms.specs.declared.forms.Form.TheVariants.{N1, N2, N3, N4, N5, N6, N7, N8, N9}
 use Rattle.normal_forms.specs.Properties.{IsPropertyFormOf, is_property_form, property_forms}
-use Rattle.property_closure.specs.Closed.{Known}
-use Rattle.inference.specs.Closed.{IsClosureOf}
+use Rattle.property_closure.specs.PropertyClosures.{Known}
+use Rattle.inference.specs.PropertyClosures.{IsClosureOf}
 use Rattle.saturate.specs.declared.counts.Counts.{Counts}
 use Rattle.saturate.specs.Counts.{HasNames, HasNamesBelow, HasProperty, IsMore}
 

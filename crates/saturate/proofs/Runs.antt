@@ -7,14 +7,14 @@ use Rattle.std.proofs.lemmas.List.Elements.{Contains-append_cases, Contains-push
 use Rattle.std.proofs.lemmas.List.FromFn.{length-range_with_len, get_or-range_with_len}
 use Rattle.std.proofs.lemmas.Option.{slice_get_within, get_or_from_slice_get}
 use Rattle.std.specs.List.{range_with_len}
-use Rattle.axioms.specs.WellFormed.{AreDistinct}
+use Rattle.axioms.specs.WellFormedness.{AreDistinct}
 use Rattle.axioms.proofs.Growing.{AreDistinct-push}
 use Rattle.facts.specs.declared.contexts.Fact.{Fact}
 use Rattle.facts.specs.Closure.{Problem, AreFacts, given, none, more as more_facts}
-use Rattle.inference.specs.Derived.{Derived, IsDerived, Grows}
-use Rattle.inference.specs.Working.{IsClosure, IsServed, IsCompleteButSpared}
+use Rattle.inference.specs.Derivations.{Derived, IsDerived, Grows}
+use Rattle.inference.specs.Completeness.{IsClosure, IsServed, IsCompleteUpToRedundancy}
 use Rattle.inference.proofs.Lists.{Contains-from_slice_get, slice_get-from_Contains, keeps_push}
-use Rattle.saturate.specs.Queued.{Queued}
+use Rattle.saturate.specs.Turns.{Queued}
 use Rattle.saturate.specs.State.{Seen, AreBorn, Extends, IsUnderWay}
 use Rattle.saturate.specs.Run.{IsState, IsStep, AreSteps, IsRun, IsLeft, IsRunUntil, IsFinished}
 use Rattle.saturate.proofs.Counting.{Contains-first, Contains-tail, length-le_from_below}

@@ -6,13 +6,13 @@ use Rattle.std.proofs.lemmas.Option.{none-some, slice_get_within, slice_get-get_
 use Rattle.facts.specs.declared.contexts.Fact.{Fact}
 use Rattle.facts.specs.Closure.{Problem, IsFact, AreFacts, given, none, more, in_thing, in_itself, by_form, unsatisfiable, loop}
 use Rattle.facts.proofs.Premises.{no_three}
-use Rattle.inference.specs.Derived.{Derived, IsDerived, Grows, HasMoreFactsThan}
-use Rattle.saturate.specs.Queued.{Queued}
-use Rattle.inference.specs.Working.{IsServed, IsClosure, IsCompleteButSpared, Drawn, DrawnButSpared, MeetEachOther}
+use Rattle.inference.specs.Derivations.{Derived, IsDerived, Grows, HasMoreFactsThan}
+use Rattle.saturate.specs.Turns.{Queued}
+use Rattle.inference.specs.Completeness.{IsServed, IsClosure, IsCompleteUpToRedundancy, Drawn, DrawnUpToRedundancy, MeetEachOther}
 use Rattle.saturate.specs.State.{IsUnderWay}
 use Rattle.inference.proofs.Lists.{one_value, slice_get_there, Contains-from_slice_get}
 use Rattle.inference.proofs.Growth.{sound}
-use Rattle.inference.proofs.Sparing.{all_drawn, but_spared_still}
+use Rattle.inference.proofs.Redundancy.{all_drawn, up_to_redundancy_still}
 use Rattle.saturate.proofs.Joining.{all_joined}
 
 -- a fact that is there still, and was there before
@@ -27,7 +27,7 @@ grown {k} {old = old} {new = new} {q = q} {r = r} s t low same = record {
   derived = t.derived;
   queued = omega (arith, low, t.longer);
   within = λ n c. omega (arith, within n c, t.longer);
-  complete = λ older served. but_spared_still t older (s.complete older (were older served));
+  complete = λ older served. up_to_redundancy_still t older (s.complete older (were older served));
 }
   where
     within : (n : ℕ) → Contains r.served n → n < length old.facts
@@ -52,18 +52,18 @@ module _ {k : Problem} {most : ℕ} {old new : Derived} {q : Queued} (s : IsUnde
       let before = was_there t w.0 g (within w.0 w.1) w.2 in
       ⊎_elim (λ c. inl (w.0, c, before)) (λ e. inr (one_value _ f g at (subst (λ (i : ℕ). slice_get old.facts i ≡ Some g) (sym e) before))) (Contains-push_cases q.served n w.0 w.1)
 
-  complete : (older : List Fact) → AllByRecursion (IsServed new.facts (q.served ++ n ∷ [])) older → DrawnButSpared k older new
-  complete [] all = but_spared_still t [] (s.complete [] tt)
+  complete : (older : List Fact) → AllByRecursion (IsServed new.facts (q.served ++ n ∷ [])) older → DrawnUpToRedundancy k older new
+  complete [] all = up_to_redundancy_still t [] (s.complete [] tt)
   complete (g ∷ []) all = ⊎_elim
-      (λ w. but_spared_still t (g ∷ []) (s.complete (g ∷ []) (w, tt)))
-      (λ e. subst (λ (x : Fact). DrawnButSpared k (x ∷ []) new) e (all_drawn k (f ∷ []) new alone))
+      (λ w. up_to_redundancy_still t (g ∷ []) (s.complete (g ∷ []) (w, tt)))
+      (λ e. subst (λ (x : Fact). DrawnUpToRedundancy k (x ∷ []) new) e (all_drawn k (f ∷ []) new alone))
       (cases g all.0)
   complete (g ∷ h ∷ []) all = ⊎_elim
       (λ w. ⊎_elim
-      (λ v. but_spared_still t (g ∷ h ∷ []) (s.complete (g ∷ h ∷ []) (w, (v, tt))))
-      (λ e. subst (λ (x : Fact). DrawnButSpared k (g ∷ x ∷ []) new) e (meets g all.0).second)
+      (λ v. up_to_redundancy_still t (g ∷ h ∷ []) (s.complete (g ∷ h ∷ []) (w, (v, tt))))
+      (λ e. subst (λ (x : Fact). DrawnUpToRedundancy k (g ∷ x ∷ []) new) e (meets g all.0).second)
       (cases h all.1.0))
-      (λ e. subst (λ (x : Fact). DrawnButSpared k (x ∷ h ∷ []) new) e (meets h all.1.0).first)
+      (λ e. subst (λ (x : Fact). DrawnUpToRedundancy k (x ∷ h ∷ []) new) e (meets h all.1.0).first)
       (cases g all.0)
   complete (g ∷ h ∷ i ∷ rest) all = λ c form new gives. absurd (no_three gives)
 
@@ -76,12 +76,12 @@ module _ {k : Problem} {most : ℕ} {old new : Derived} {q : Queued} (s : IsUnde
   }
 
 -- where all are served the facts are the closure
-module _ {k : Problem} {d : Derived} (ns : List ℕ) (derived : IsDerived k d) (complete_until : IsCompleteButSpared k d ns) (all : (n : ℕ) → n < length d.facts → Contains ns n) where
+module _ {k : Problem} {d : Derived} (ns : List ℕ) (derived : IsDerived k d) (complete_until : IsCompleteUpToRedundancy k d ns) (all : (n : ℕ) → n < length d.facts → Contains ns n) where
   served : (f : Fact) → Contains d.facts f → IsServed d.facts ns f
   served f c = (c.0, all c.0 c.1, slice_get-get_or d.facts c.0 f c.1 ∙ ap Some c.2)
 
-  -- what two give is there: what they are spared is given by others
-  pairs : (f g : Fact) → Contains d.facts f → Contains d.facts g → DrawnButSpared k (f ∷ g ∷ []) d
+  -- what two give is there: what is redundant is given by others
+  pairs : (f g : Fact) → Contains d.facts f → Contains d.facts g → DrawnUpToRedundancy k (f ∷ g ∷ []) d
   pairs f g c e = complete_until (f ∷ g ∷ []) (served f c, (served g e, tt))
 
   there : (f : Fact) → IsServed d.facts ns f → Contains d.facts f
@@ -131,7 +131,7 @@ module _ {k : Problem} (forms : k.forms ≡ []) (roots : k.roots ≡ []) where
     complete = complete;
   }
     where
-      complete : (older : List Fact) → AllByRecursion (IsServed d.facts q.served) older → DrawnButSpared k older d
+      complete : (older : List Fact) → AllByRecursion (IsServed d.facts q.served) older → DrawnUpToRedundancy k older d
       complete [] all = all_drawn k [] d (nothing_given d.facts)
       complete (f ∷ fs) all = absurd (no_member q.served empty all.0.0 all.0.1)
 

@@ -12,12 +12,12 @@ use Rattle.std.specs.List.Sorted.{IsPermutation}
 use Rattle.std.proofs.lemmas.List.Elements.{Contains-append_left, Contains-push, Contains-push_cases}
 use Rattle.work_list.specs.declared.item.Item.{Item}
 use Rattle.work_list.specs.Bag.{is_item, often, Adds}
-use Rattle.saturate.specs.Flagged.{asked, is_flagged, is_kept, kept}
-use Rattle.axioms.specs.WellFormed.{AreDistinct}
+use Rattle.saturate.specs.Flags.{asked, is_flagged, is_kept, kept}
+use Rattle.axioms.specs.WellFormedness.{AreDistinct}
 use Rattle.axioms.proofs.Growing.{AreDistinct-push}
 use Rattle.facts.specs.declared.contexts.Fact.{Fact}
-use Rattle.inference.specs.Derived.{Keeps}
-use Rattle.saturate.specs.Queued.{context_number, item, AreAmong, IsBeside, IsQueue, HasTurn, IsServedOnce, NameTheirContexts}
+use Rattle.inference.specs.Derivations.{Keeps}
+use Rattle.saturate.specs.Turns.{context_number, item, AreAmong, IsBeside, IsQueue, HasTurn, IsServedOnce, NameTheirContexts}
 use Rattle.inference.proofs.Lists.{one_value, Contains-from_slice_get, slice_get-from_Contains, slice_get_there, slice_get_push, slice_get_push_cases, slice_get_take, keeps_push}
 
 same_item : (n c : ℕ) → is_item (item n c) (item n c) ≡ true

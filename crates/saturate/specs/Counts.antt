@@ -1,9 +1,9 @@
--- How many properties and beginnings of chains there are.
+-- How many properties and prefixes of chains there are.
 use Rattle.std.specs.Prelude.{ℕ, ◌<◌, ◌≤◌, ◌^◌, List, slice_get, Some, ◌≡◌}
 use Rattle.normal_forms.specs.declared.forms.PropId2.{PropId2}
 use Rattle.normal_forms.specs.declared.forms.Form.{Form}
 use Rattle.normal_forms.specs.Properties.{IsPropertyOf, IsPropertyFormOf}
-use Rattle.inference.specs.Closed.{PutsOnEdges}
+use Rattle.inference.specs.PropertyClosures.{PutsOnEdges}
 use Rattle.saturate.specs.declared.counts.Counts.{Counts}
 
 -- what numbers of 32 bits can count

@@ -1,19 +1,19 @@
 -- Runs: facts are served one after the other, whichever of those that wait is next.
 use Rattle.std.specs.Prelude.{◌≡◌, ◌↔◌, ℕ, zero, suc, ◌+◌, ◌<◌, List, [], ◌∷◌, ◌++◌, length}
 use Rattle.std.specs.List.{Contains}
-use Rattle.axioms.specs.WellFormed.{AreDistinct}
+use Rattle.axioms.specs.WellFormedness.{AreDistinct}
 use Rattle.facts.specs.declared.contexts.Fact.{Fact}
-use Rattle.inference.specs.Working.{IsCompleteButSpared, IsClosure}
+use Rattle.inference.specs.Completeness.{IsCompleteUpToRedundancy, IsClosure}
 use Rattle.saturate.specs.State.{Seen, AreBorn, Extends}
 
 -- a state at any time: facts of the closure, each once and born of older ones, some of them served, each once; and what served facts
--- give, or no fact is needed for, is there, or a chain is spared it: the conclusion that is owed comes by the older two edges that gave
+-- give, or no fact is needed for, is there, or it is redundant: the conclusion that is owed comes by the older two edges that gave
 -- its second
 pub record IsState (s : Seen) : Type 0 where
   pub born : AreBorn s
   pub within : (n : ℕ) → Contains s.served n → n < length s.facts
   pub once : AreDistinct s.served
-  pub complete : IsCompleteButSpared s.problem (record { facts = s.facts; births = s.births }) s.served
+  pub complete : IsCompleteUpToRedundancy s.problem (record { facts = s.facts; births = s.births }) s.served
 
 -- the fact of that number is there, and was not served
 pub record IsPending (s : Seen) (n : ℕ) : Type 0 where
@@ -56,7 +56,7 @@ IsFinished s = length s.served ≡ length s.facts
 
 -- ---- laws
 
--- where nothing is pending, the facts are the closure, though conclusions were spared
+-- where nothing is pending, the facts are the closure, though redundant conclusions were not drawn
 abbrev pub FinishedIsClosure : Type 0
 FinishedIsClosure = (s : Seen) → IsState s → IsFinished s → IsClosure s.problem s.facts
 

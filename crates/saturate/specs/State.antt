@@ -4,9 +4,9 @@ use Rattle.std.specs.List.{Contains}
 use Rattle.facts.specs.declared.contexts.Fact.{Fact}
 use Rattle.facts.specs.Closure.{Problem}
 use Rattle.facts.specs.Births.{Reason}
-use Rattle.inference.specs.Derived.{Derived, IsDerived, Keeps}
-use Rattle.saturate.specs.Queued.{Queued}
-use Rattle.inference.specs.Working.{IsCompleteButSpared}
+use Rattle.inference.specs.Derivations.{Derived, IsDerived, Keeps}
+use Rattle.saturate.specs.Turns.{Queued}
+use Rattle.inference.specs.Completeness.{IsCompleteUpToRedundancy}
 
 -- what callers see: the problem, the facts in order of birth with what gave them, and the numbers of those served, in order
 pub record Seen : Type 0 where
@@ -19,12 +19,12 @@ pub record Seen : Type 0 where
 abbrev pub nothing_seen : Seen
 nothing_seen = record { problem = record { forms = []; roots = [] }; facts = []; births = []; served = [] }
 
--- what a state keeps: facts with reasons, of which some are queued; and what served facts give is there, but for what they are spared
+-- what a state keeps: facts with reasons, of which some are queued; and what served facts give is there, but for what is redundant
 pub record IsUnderWay (k : Problem) (d : Derived) (q : Queued) : Type 0 where
   pub derived : IsDerived k d
   pub queued : q.queued ≤ length d.facts
   pub within : (n : ℕ) → Contains q.served n → n < length d.facts
-  pub complete : IsCompleteButSpared k d q.served
+  pub complete : IsCompleteUpToRedundancy k d q.served
 
 -- facts, what gave them, and those that were served are kept, each at its place
 pub record Extends (old new : Seen) : Type 0 where

@@ -2,11 +2,11 @@
 ghost use Rattle.facts.specs.declared.contexts.Context.{Context as Context2};
 ghost use Rattle.facts.specs.declared.contexts.Fact.TheVariants as the_facts;
 ghost use Rattle.normal_forms.specs.declared.forms.Form.{Form as Form2};
-ghost use Rattle.indexes.specs.Named.{by_filler, by_first, class_key};
-ghost use Rattle.property_closure.specs.Closed.{Has};
-ghost use Rattle.saturate.specs.Asked.{BeginsWith, IsAsked};
-ghost use Rattle.inference.specs.Closed.{IsClosureOf};
-ghost use Rattle.inference.specs.Visited.{HasProperty, NoneUnder};
+ghost use Rattle.indexes.specs.Keys.{by_filler, by_first, class_key};
+ghost use Rattle.property_closure.specs.PropertyClosures.{Has};
+ghost use Rattle.saturate.specs.Requests.{BeginsWith, IsAsked};
+ghost use Rattle.inference.specs.PropertyClosures.{IsClosureOf};
+ghost use Rattle.inference.specs.Visits.{HasProperty, NoneUnder};
 ghost use Rattle.std.specs.Prelude.{◌≡◌, ℕ, List, Contains, false, true};
 
 use facts::Fact;

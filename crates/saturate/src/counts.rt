@@ -1,11 +1,11 @@
-//! How many properties and beginnings of chains forms name.
+//! How many properties and prefixes of chains forms name.
 ghost use Rattle.saturate.specs.Counts.{HasNames, HasProperty, IsMore, IsSmall};
 ghost use Rattle.normal_forms.specs.declared.forms.Form.{Form as Form2};
 ghost use Rattle.std.specs.Prelude.{Contains};
 
 use normal_forms::{Form, FormList, PropId2};
 
-/// A number of properties and one of beginnings of chains.
+/// A number of properties and one of prefixes of chains.
 #[derive(Clone, Copy)]
 pub(crate) struct Counts {
     pub properties: usize,

@@ -1,9 +1,9 @@
 //! Facts and their turns after forms and roots were added.
-ghost use Rattle.saturate.specs.Listed.{ListsFacts};
-ghost use Rattle.inference.specs.Derived.{IsDerived};
-ghost use Rattle.saturate.specs.Flagged.{IsFlagged, kept};
-ghost use Rattle.saturate.specs.Growing.{KeepsServed};
-ghost use Rattle.inference.specs.Begun.{HasBegun};
+ghost use Rattle.saturate.specs.IndexedFacts.{ListsFacts};
+ghost use Rattle.inference.specs.Derivations.{IsDerived};
+ghost use Rattle.saturate.specs.Flags.{IsFlagged, kept};
+ghost use Rattle.saturate.specs.Growth.{KeepsServed};
+ghost use Rattle.inference.specs.Entry.{HasBegun};
 ghost use Rattle.std.specs.Prelude.{◌≡◌, ◌<◌, ◌≤◌, ◌++◌, ◌∷◌, [], ℕ, List, Contains, IfOk, OnErr, OnOk, length};
 
 use crate::additions::asks_for;
@@ -11,7 +11,7 @@ use crate::ground::Ground;
 use crate::queue::{Queue, has_flag};
 use axioms::Memory;
 use indexes::{Index, IndexedProblem};
-use inference::{KnownFacts, Rules, is_filler, stands_second};
+use inference::{KnownFacts, Rules, is_filler, is_second_premise};
 use normal_forms::FormList;
 use std::alloc::Global;
 use work_list::WorkList;
@@ -72,7 +72,7 @@ fn index_kept(
     }
     let problem = ground.problem();
     let fact = facts.get(number);
-    let is_second = stands_second(problem, ground.closure(), facts, number);
+    let is_second = is_second_premise(problem, ground.closure(), facts, number);
     let is_filler = is_filler(problem, fact);
     index.add(number, fact, is_second, is_filler)?;
     Ok(())

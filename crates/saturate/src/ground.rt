@@ -1,7 +1,7 @@
 //! What facts are drawn from.
-ghost use Rattle.inference.specs.Closed.{IsClosureOf};
+ghost use Rattle.inference.specs.PropertyClosures.{IsClosureOf};
 ghost use Rattle.normal_forms.specs.Properties.{property_forms};
-ghost use Rattle.saturate.specs.Growing.{with_more};
+ghost use Rattle.saturate.specs.Growth.{with_more};
 ghost use Rattle.std.specs.Prelude.{◌≡◌, [], IfOk};
 
 use crate::counts::counted;
@@ -22,7 +22,7 @@ pub(crate) struct Ground {
 
 impl Model for Ground {
     ghost use Rattle.facts.specs.Closure.{Problem};
-    ghost use Rattle.inference.specs.Closed.{IsClosureOf};
+    ghost use Rattle.inference.specs.PropertyClosures.{IsClosureOf};
 
     ghost Value = { Problem };
 

@@ -2,10 +2,10 @@
 ghost use Rattle.std.specs.Prelude.{◌≡◌, ◌<◌, ◌≤◌, Err, IfNone, IfSome, OnOk, Some, length, slice_get, take};
 ghost use Rattle.facts.specs.Births.{IsBirth, reason};
 ghost use Rattle.facts.specs.declared.contexts.Fact.{Fact as Fact2};
-ghost use Rattle.inference.specs.Closed.{IsClosureOf};
-ghost use Rattle.inference.specs.Derived.{HasMoreFactsThan};
+ghost use Rattle.inference.specs.PropertyClosures.{IsClosureOf};
+ghost use Rattle.inference.specs.Derivations.{HasMoreFactsThan};
 ghost use Rattle.saturate.specs.Run.{IsRun, IsRunUntil, IsState};
-ghost use Rattle.inference.specs.Working.{IsClosure};
+ghost use Rattle.inference.specs.Completeness.{IsClosure};
 
 use crate::ground::Ground;
 use facts::{Birth, FactId, StoredFact};
@@ -26,7 +26,7 @@ impl Model for Kept {
     ghost use Rattle.std.specs.Prelude.{map};
     ghost use Rattle.facts.specs.Births.{reason};
     ghost use Rattle.saturate.specs.State.{Seen};
-    ghost use Rattle.saturate.specs.Kept.{served_all, IsKept};
+    ghost use Rattle.saturate.specs.FinishedStates.{served_all, IsKept};
 
     ghost Value = { Seen };
 

@@ -1,6 +1,6 @@
 //! The served facts that speak of a context, by number.
-ghost use Rattle.indexes.specs.Indexed.{IsFrom, IsIn, IsInto};
-ghost use Rattle.saturate.specs.Served.{AreExactly};
+ghost use Rattle.indexes.specs.FactIndex.{IsFrom, IsIn, IsInto};
+ghost use Rattle.saturate.specs.ServedFacts.{AreExactly};
 
 use crate::state::State;
 use facts::Context;

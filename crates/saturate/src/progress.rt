@@ -2,11 +2,11 @@
 ghost use Rattle.std.specs.Prelude.{◌≡◌, ◌≤◌, Err, OnErr, IfNone, IfSome, OnOk, Some, length, slice_get, take};
 ghost use Rattle.facts.specs.Births.{IsBirth, reason};
 ghost use Rattle.facts.specs.declared.contexts.Fact.{Fact as Fact2};
-ghost use Rattle.inference.specs.Closed.{IsClosureOf};
-ghost use Rattle.inference.specs.Derived.{HasMoreFactsThan};
+ghost use Rattle.inference.specs.PropertyClosures.{IsClosureOf};
+ghost use Rattle.inference.specs.Derivations.{HasMoreFactsThan};
 ghost use Rattle.saturate.specs.Run.{IsRun, IsRunUntil, IsState};
 ghost use Rattle.saturate.specs.State.{Extends};
-ghost use Rattle.inference.specs.Working.{IsClosure};
+ghost use Rattle.inference.specs.Completeness.{IsClosure};
 
 use crate::kept::Kept;
 use crate::state::State;

@@ -1,7 +1,7 @@
 //! Whose turn it is.
 ghost use Rattle.std.specs.Prelude.{◌≡◌, ◌<◌, ◌≤◌, ◌^◌, ◌+◌, ◌++◌, [], ℕ, None, Some, length, take, Contains, OnOk, OnErr, IfOk};
-ghost use Rattle.saturate.specs.Flagged.{asked, is_flagged, kept};
-ghost use Rattle.saturate.specs.Queued.{context_number, option_list, AreAmong, HasOneMore, HasTurn, IsServedOnce, IsWithoutHand, IsWithoutLast, NameTheirContexts};
+ghost use Rattle.saturate.specs.Flags.{asked, is_flagged, kept};
+ghost use Rattle.saturate.specs.Turns.{context_number, option_list, AreAmong, HasOneMore, HasTurn, IsServedOnce, IsWithoutHand, IsWithoutLast, NameTheirContexts};
 
 use axioms::Memory;
 use facts::{Context, Fact, StoredFact};
@@ -24,7 +24,7 @@ pub(crate) struct Queue<W: WorkList> {
 
 impl<W: WorkList> Model for Queue<W> {
     ghost use Rattle.std.specs.Prelude.{take, slice_get};
-    ghost use Rattle.saturate.specs.Queued.{Queued, IsQueue};
+    ghost use Rattle.saturate.specs.Turns.{Queued, IsQueue};
 
     ghost Value = { Queued };
 

@@ -1,13 +1,13 @@
 //! The state of a saturation.
 ghost use Rattle.std.specs.Prelude.{OnErr, ◌≡◌, ◌↔◌, ◌<◌, ◌≤◌, ◌+◌, Ok, Err, Some, true, false, [], length, take, slice_get, IfOk, OnOk, IfSome, IfNone};
 ghost use Rattle.facts.specs.Births.{IsBirth, reason};
-ghost use Rattle.inference.specs.Derived.{HasMoreFactsThan};
+ghost use Rattle.inference.specs.Derivations.{HasMoreFactsThan};
 ghost use Rattle.facts.specs.declared.contexts.Fact.{Fact as Fact2};
 ghost use Rattle.saturate.specs.State.{Extends, nothing_seen};
-ghost use Rattle.saturate.specs.Growing.{HasGrown, KeepsServed};
+ghost use Rattle.saturate.specs.Growth.{HasGrown, KeepsServed};
 ghost use Rattle.saturate.specs.Run.{IsLeft, IsRun, IsRunUntil, IsState, IsStep};
-ghost use Rattle.inference.specs.Closed.{IsClosureOf};
-ghost use Rattle.inference.specs.Working.{IsClosure};
+ghost use Rattle.inference.specs.PropertyClosures.{IsClosureOf};
+ghost use Rattle.inference.specs.Completeness.{IsClosure};
 
 use crate::extension::restart;
 use crate::ground::Ground;
@@ -16,7 +16,7 @@ use crate::queue::Queue;
 use axioms::Memory;
 use facts::{Birth, Context, FactId, StoredFact};
 use indexes::Index;
-use inference::{KnownFacts, Rules, Stop, is_filler, stands_second};
+use inference::{KnownFacts, Rules, Stop, is_filler, is_second_premise};
 use normal_forms::FormList;
 use property_closure::PropertyClosure;
 use std::alloc::Global;
@@ -48,8 +48,8 @@ impl<W: WorkList + Drop> Drop for State<W> {
 
 impl<W: WorkList> Model for State<W> {
     ghost use Rattle.saturate.specs.State.{Seen, IsUnderWay};
-    ghost use Rattle.saturate.specs.Listed.{ListsServed};
-    ghost use Rattle.saturate.specs.Queued.{NameTheirContexts};
+    ghost use Rattle.saturate.specs.IndexedFacts.{ListsServed};
+    ghost use Rattle.saturate.specs.Turns.{NameTheirContexts};
 
     ghost Value = { Seen };
 
@@ -156,7 +156,7 @@ impl<W: WorkList> State<W> {
         self.queue.served()
     }
 
-    /// At any time it is a state: each fact is there once, born of older ones, and what served facts give is there or spared; and
+    /// At any time it is a state: each fact is there once, born of older ones, and what served facts give is there or redundant; and
     /// where all are served, they are the closure.
     pub fn well_formed(&self)
         ensures state { IsState self.now }
@@ -218,7 +218,7 @@ impl<W: WorkList> State<W> {
         let fact = self.facts.get(hand);
         let problem = self.ground.problem();
         let closure = self.ground.closure();
-        let is_second = stands_second(problem, closure, &self.facts, hand);
+        let is_second = is_second_premise(problem, closure, &self.facts, hand);
         let is_filler = is_filler(problem, fact);
         let Ok(()) = self.index.add(hand, fact, is_second, is_filler) else {
             return Err(Stop::Memory);

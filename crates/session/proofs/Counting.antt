@@ -1,9 +1,9 @@
 -- How many facts a session that has run to its end shows the closure to have.
 use Rattle.std.proofs.Common.{◌≤◌, ℕ, length, Result, Ok, Err, IfOk}
-use Rattle.axioms.specs.Numbered.{Ontology}
+use Rattle.axioms.specs.Ontology.{Ontology}
 use Rattle.classification.proofs.Counting.{has_facts}
-use Rattle.engine.specs.Saturated.{Saturated, IsSaturated}
-use Rattle.session.specs.Counted.{HasNoMoreFactsThan}
+use Rattle.engine.specs.Saturations.{Saturated, IsSaturated}
+use Rattle.session.specs.FactCounts.{HasNoMoreFactsThan}
 
 -- all facts of the closure are at most n, so it has at most n
 pub no_more : (o : Ontology) (s : Saturated) (n : ℕ) → IsSaturated o s → length s.state.facts ≤ n → HasNoMoreFactsThan o n

@@ -1,11 +1,11 @@
 -- What is said of a session that was opened.
 use Rattle.std.proofs.Common.{◌≡◌, ℕ, List, Option, Some, None, Result, Ok, Err, IfOk, IfErr, OnOk, sym, subst}
 use Rattle.std.specs.Prelude.{IsErrOf}
-use Rattle.axioms.specs.Numbered.{Ontology}
+use Rattle.axioms.specs.Ontology.{Ontology}
 use Rattle.profile.specs.Faults.{RefusesKnown}
 use Rattle.profile.specs.declared.fault.DocumentFault.{DocumentFault}
 use Rattle.profile.specs.declared.fault.DocumentFault.TheVariants.{Io, Memory, TooLarge}
-use Rattle.session.specs.Opened.{Opened}
+use Rattle.session.specs.Sessions.{Opened}
 
 -- what holds of the ontology holds of that of its session
 pub of_ontology : {E : Type 0} (P : Ontology → Type 0) (o : Ontology) (r : Result Opened E) → P o → IfOk r (λ s. s.ontology ≡ o) → IfOk r (λ s. P s.ontology)

@@ -3,7 +3,7 @@ use Rattle.std.specs.Prelude.{◌≡◌, ℕ, List, Option}
 use Rattle.std.specs.Io.KnownBytes.{Appends, IsAtEnd}
 use Rattle.device.specs.declared.device.Sink as sinks
 use Rattle.device.specs.declared.device.Source as sources
-use Rattle.device.specs.Device.{AppendsBeginning, HasFailed, LosesFront}
+use Rattle.device.specs.Device.{AppendsPrefix, HasFailed, LosesFront}
 use Rattle.profile.specs.declared.fault.DocumentFault.{DocumentFault}
 use Rattle.profile.specs.declared.fault.DocumentFault.TheVariants.{Io}
 
@@ -21,9 +21,9 @@ seen S sink = (S.taken sink, S.failures sink)
 abbrev pub Takes : (old new : Device) → List ℕ → Type 0
 Takes old new text = Appends old.0 new.0 text × (new.1 ≡ old.1)
 
--- the sink failed, and has taken a beginning of the text
+-- the sink failed, and has taken a prefix of the text
 abbrev pub FailsIn : (old new : Device) → List ℕ → Type 0
-FailsIn old new text = AppendsBeginning old.0 new.0 text × HasFailed old.1 new.1
+FailsIn old new text = AppendsPrefix old.0 new.0 text × HasFailed old.1 new.1
 
 -- ---- sources
 

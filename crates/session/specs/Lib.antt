@@ -1,7 +1,7 @@
 pub mod Devices
-pub mod Written
-pub mod Opened
-pub mod Asking
-pub mod Counted
+pub mod WrittenTexts
+pub mod Sessions
+pub mod Answers
+pub mod FactCounts
 pub mod Texts
-pub mod Answered
+pub mod TextAnswers

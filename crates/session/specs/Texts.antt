@@ -2,18 +2,18 @@
 use Rattle.std.specs.Prelude.{ℕ, List}
 use Rattle.std.specs.List.{All}
 use Rattle.axioms.specs.Expression.{Iri}
-use Rattle.axioms.specs.Numbered.{Ontology}
+use Rattle.axioms.specs.Ontology.{Ontology}
 use Rattle.axioms.specs.declared.terms.Kind.{Kind}
-use Rattle.certificate.specs.HasText.{IsLineOf}
+use Rattle.certificate.specs.Writability.{IsLineOf}
 use Rattle.certificate.specs.View.{lines_of}
-use Rattle.engine.specs.Saturated.{HasMoreFactsThan}
-use Rattle.interpretation_spec.specs.Numbered.{IsMadeFor}
+use Rattle.engine.specs.Saturations.{HasMoreFactsThan}
+use Rattle.interpretation_spec.specs.NumberedInterpretation.{IsMadeFor}
 use Rattle.session.specs.declared.question_fault.QuestionFault.{QuestionFault}
 use Rattle.session.specs.declared.question_fault.QuestionFault.TheVariants.{Document, Limit, UnknownName, Memory}
 use Rattle.answers.specs.declared.explanation.Explanation.{Explanation}
 use Rattle.answers.specs.declared.explanation.Explanation.TheVariants.{Yes, No, Contradictory}
-use Rattle.session.specs.Asking.{IsFirstUnknown}
-use Rattle.session.specs.Counted.{HasNoMoreFactsThan}
+use Rattle.session.specs.Answers.{IsFirstUnknown}
+use Rattle.session.specs.FactCounts.{HasNoMoreFactsThan}
 
 -- its lines speak of what the ontology has, or its interpretation was made for the names of the ontology
 abbrev pub HasText : Ontology → Explanation → Type 0

@@ -1,9 +1,9 @@
 //! The answers to questions about a document.
-ghost use Rattle.engine.specs.Saturated.{IsFinished};
-ghost use Rattle.session.specs.Answered.{AnswersInstances, AnswersWhy, IsFaultOf, IsRead, ListsMembers, ShowsWhy};
-ghost use Rattle.session.specs.Counted.{HasNoMoreFactsThan};
+ghost use Rattle.engine.specs.Saturations.{IsFinished};
+ghost use Rattle.session.specs.TextAnswers.{AnswersInstances, AnswersExplanation, IsFaultOf, IsRead, ListsInstances, ShowsExplanation};
+ghost use Rattle.session.specs.FactCounts.{HasNoMoreFactsThan};
 ghost use Rattle.session.specs.Texts.{IsUnanswered};
-ghost use Rattle.session.specs.Asking.{class_name, subject_name};
+ghost use Rattle.session.specs.Answers.{class_name, subject_name};
 ghost use Rattle.session.specs.Devices.{source_state};
 ghost use Rattle.profile.specs.declared.fault.DocumentFault.TheVariants as document_faults;
 ghost use Rattle.session.specs.declared.question_fault.QuestionFault.TheVariants as question_faults;
@@ -29,7 +29,7 @@ fn members<'n>(
     class: &'n str,
 ) -> Result<Vec<u8>, QuestionFault<'n>>
     requires { IsFinished session.now.saturation }
-    ensures answered { IfOk result (λ v. ListsMembers session.now.ontology class.now v.items) }
+    ensures answered { IfOk result (λ v. ListsInstances session.now.ontology class.now v.items) }
     ensures fault { (most : ℕ) → HasNoMoreFactsThan session.now.ontology most → IfErr result (IsUnanswered session.now.ontology most (class_name class.now ∷ [])) }
 {
     let names = match session.instances(class) {
@@ -51,7 +51,7 @@ fn members_at_end<'n>(
     class: &'n str,
     max_facts: u32,
 ) -> Result<Vec<u8>, QuestionFault<'n>>
-    ensures answered { IfOk result (λ v. HasNoMoreFactsThan session.old.ontology max_facts × ListsMembers session.old.ontology class.now v.items) }
+    ensures answered { IfOk result (λ v. HasNoMoreFactsThan session.old.ontology max_facts × ListsInstances session.old.ontology class.now v.items) }
     ensures fault { IfErr result (IsUnanswered session.old.ontology max_facts (class_name class.now ∷ [])) }
 {
     match run_to_end(session, max_facts) {
@@ -69,7 +69,7 @@ fn why<'n>(
     form: Form,
 ) -> Result<Vec<u8>, QuestionFault<'n>>
     requires { IsFinished session.now.saturation }
-    ensures answered { IfOk result (λ v. ShowsWhy session.now.ontology asked.entry class.now form v.items) }
+    ensures answered { IfOk result (λ v. ShowsExplanation session.now.ontology asked.entry class.now form v.items) }
     ensures fault { (most : ℕ) → HasNoMoreFactsThan session.now.ontology most → IfErr result (IsUnanswered session.now.ontology most (subject_name asked.entry ∷ class_name class.now ∷ [])) }
 {
     let explanation = match session.explain(asked, class) {
@@ -93,7 +93,7 @@ fn why_at_end<'n>(
     form: Form,
     max_facts: u32,
 ) -> Result<Vec<u8>, QuestionFault<'n>>
-    ensures answered { IfOk result (λ v. HasNoMoreFactsThan session.old.ontology max_facts × ShowsWhy session.old.ontology asked.entry class.now form v.items) }
+    ensures answered { IfOk result (λ v. HasNoMoreFactsThan session.old.ontology max_facts × ShowsExplanation session.old.ontology asked.entry class.now form v.items) }
     ensures fault { IfErr result (IsUnanswered session.old.ontology max_facts (subject_name asked.entry ∷ class_name class.now ∷ [])) }
 {
     match run_to_end(session, max_facts) {
@@ -154,7 +154,7 @@ pub fn explanation_text<'n, S: Source>(
     state: RandomState,
 ) -> Result<Vec<u8>, QuestionFault<'n>>
     // The text answers the question, or the fault says why there is none; and what was read of the document.
-    ensures answered { IfOk result (λ v. AnswersWhy limits.now.max_bytes limits.now.max_facts (S.left source.old) asked.entry class.now form v.items) }
+    ensures answered { IfOk result (λ v. AnswersExplanation limits.now.max_bytes limits.now.max_facts (S.left source.old) asked.entry class.now form v.items) }
     ensures fault { IfErr result (IsFaultOf limits.now.max_bytes limits.now.max_facts (S.left source.old) (subject_name asked.entry ∷ class_name class.now ∷ [])) }
     // Of a source that does not tell its bytes, too: it gave more than the limit.
     ensures beyond { IsErrOf result (question_faults.Document document_faults.TooLarge) → S.most source.new + limits.now.max_bytes < S.most source.old }

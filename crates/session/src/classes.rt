@@ -1,7 +1,7 @@
 //! The classes above and below a class.
-ghost use Rattle.answers.specs.Follows.{LiesBelow};
+ghost use Rattle.answers.specs.Entailment.{LiesBelow};
 ghost use Rattle.answers.specs.Names.{AreThose};
-ghost use Rattle.session.specs.Asking.{HasClass, IsClassRefusal};
+ghost use Rattle.session.specs.Answers.{HasClass, IsClassRefusal};
 ghost use Rattle.std.specs.Prelude.{IfErr, IfOk, OnOk, map};
 
 use crate::fault::AskFault;

@@ -1,6 +1,6 @@
 //! Why a subject is in a class, or why not.
-ghost use Rattle.answers.specs.Explained.{Explains, IsKnown};
-ghost use Rattle.session.specs.Asking.{HasNames, IsFirstUnknown, IsQuestionRefusal, class_name, subject_name};
+ghost use Rattle.answers.specs.Explanations.{Explains, IsKnown};
+ghost use Rattle.session.specs.Answers.{HasNames, IsFirstUnknown, IsExplainRefusal, class_name, subject_name};
 ghost use Rattle.std.specs.Prelude.{◌↔◌, ◌≡◌, ◌∷◌, [], Contains, IfErr, IfOk, IsTrue, OnOk};
 
 use crate::fault::AskFault;
@@ -49,7 +49,7 @@ impl Session {
     pub fn explain<'n>(&self, asked: Asked<'n>, class: &'n str) -> Result<Explanation, AskFault<'n>>
         ensures exact { IfOk result (Explains self.now.ontology asked.entry class.now) }
         ensures asked { OnOk result (HasNames self.now asked.entry class.now) }
-        ensures refused { IfErr result (IsQuestionRefusal self.now asked.entry class.now) }
+        ensures refused { IfErr result (IsExplainRefusal self.now asked.entry class.now) }
     {
         if !self.saturation.is_finished() {
             return Err(AskFault::Unfinished);

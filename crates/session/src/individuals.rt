@@ -1,7 +1,7 @@
 //! The individuals of a class.
-ghost use Rattle.answers.specs.Follows.{BelongsTo};
+ghost use Rattle.answers.specs.Entailment.{BelongsTo};
 ghost use Rattle.answers.specs.Names.{AreThose};
-ghost use Rattle.session.specs.Asking.{HasClass, IsClassRefusal};
+ghost use Rattle.session.specs.Answers.{HasClass, IsClassRefusal};
 ghost use Rattle.std.specs.Prelude.{IfErr, IfOk, OnOk, map};
 
 use crate::fault::AskFault;

@@ -1,5 +1,5 @@
 //! Names as lines.
-ghost use Rattle.session.specs.Answered.{name_lines};
+ghost use Rattle.session.specs.TextAnswers.{name_lines};
 ghost use Rattle.std.specs.Prelude.{◌≡◌, IfOk, map};
 
 use axioms::Memory;

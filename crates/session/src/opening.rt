@@ -1,6 +1,6 @@
 //! Sessions that are run to their end.
-ghost use Rattle.engine.specs.Saturated.{IsFinished};
-ghost use Rattle.session.specs.Counted.{HasNoMoreFactsThan};
+ghost use Rattle.engine.specs.Saturations.{IsFinished};
+ghost use Rattle.session.specs.FactCounts.{HasNoMoreFactsThan};
 ghost use Rattle.session.specs.Texts.{IsUnanswered};
 ghost use Rattle.std.specs.Prelude.{◌≡◌, [], IfErr, OnOk};
 

@@ -2,7 +2,7 @@
 ghost use Rattle.device.specs.Device.{HasFailed, LosesFront};
 ghost use Rattle.profile.specs.Documents.{IsTaken};
 ghost use Rattle.profile.specs.Faults.{ReadsKnown, RefusesKnown};
-ghost use Rattle.engine.specs.Saturated.{HasMoreFactsThan, IsFinished, IsSaturated, IsSound};
+ghost use Rattle.engine.specs.Saturations.{HasMoreFactsThan, IsFinished, IsSaturated, IsSound};
 ghost use Rattle.saturate.specs.Run.{IsRun, IsRunUntil};
 ghost use Rattle.saturate.specs.State.{Extends};
 ghost use Rattle.inference.specs.declared.known_facts.Stop.TheVariants as stops;
@@ -26,8 +26,8 @@ pub struct Session {
 }
 
 impl Model for Session {
-    ghost use Rattle.engine.specs.Saturated.{IsSound};
-    ghost use Rattle.session.specs.Opened.{Opened};
+    ghost use Rattle.engine.specs.Saturations.{IsSound};
+    ghost use Rattle.session.specs.Sessions.{Opened};
 
     ghost Value = { Opened };
 

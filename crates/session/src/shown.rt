@@ -1,8 +1,8 @@
 //! Explanations as texts.
-ghost use Rattle.certificate.specs.HasText.{IsLineOf};
+ghost use Rattle.certificate.specs.Writability.{IsLineOf};
 ghost use Rattle.certificate.specs.View.{lines_of};
 ghost use Rattle.answer_texts.specs.Proof.{proof_text};
-ghost use Rattle.session.specs.Answered.{graph_text, lines_text, shown_text};
+ghost use Rattle.session.specs.TextAnswers.{graph_text, lines_text, shown_text};
 ghost use Rattle.session.specs.Texts.{HasText};
 ghost use Rattle.std.specs.Prelude.{◌≡◌, ◌++◌, All, IfOk};
 

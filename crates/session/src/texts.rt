@@ -1,6 +1,6 @@
 //! The texts of a session.
-ghost use Rattle.session.specs.Asking.{IsMade, IsUnmade, Writes};
-ghost use Rattle.session.specs.Written.{KeepPaths, texts_of};
+ghost use Rattle.session.specs.Answers.{IsMade, IsUnmade, Writes};
+ghost use Rattle.session.specs.WrittenTexts.{KeepPaths, texts_of};
 ghost use Rattle.std.specs.Prelude.{IfErr, IfOk};
 
 use crate::fault::TextFault;

@@ -1,5 +1,5 @@
 //! The three texts of a classification, written to sinks.
-ghost use Rattle.session.specs.Written.{AreWrittenAsFar, KeepPaths, all_seen, texts_of};
+ghost use Rattle.session.specs.WrittenTexts.{AreWrittenAsFar, KeepPaths, all_seen, texts_of};
 
 use classification::Classification;
 use device::{Sink, write_all};

@@ -42,11 +42,11 @@ bytes_eq-sym [] (y ∷ ys) = refl
 bytes_eq-sym (x ∷ xs) [] = refl
 bytes_eq-sym (x ∷ xs) (y ∷ ys) = ap₂ (λ s t. s && t) (nat_eq-sym x y) (bytes_eq-sym xs ys)
 
--- where the first piece of one text is the beginning of the other's
+-- where the first piece of one text is a prefix of the other's
 pub same_behind : (front rest more local : List ℕ) → bytes_eq local (rest ++ more) ≡ bytes_eq ((front ++ rest) ++ more) (front ++ local)
 same_behind front rest more local = bytes_eq-sym local (rest ++ more) ∙ sym (ap (λ t. bytes_eq t (front ++ local)) (append_assoc front rest more) ∙ behind_same front (rest ++ more) local)
 
--- where neither of the first pieces of two texts is the beginning of the other, the texts are not equal
+-- where neither of the first pieces of two texts is a prefix of the other, the texts are not equal
 pub other_before : (a b x y : List ℕ) → ((rest : List ℕ) → a ≡ b ++ rest → ⊥) → ((rest : List ℕ) → b ≡ a ++ rest → ⊥) → bytes_eq (a ++ x) (b ++ y) ≡ false
 other_before [] b x y h k = absurd (k b refl)
 other_before (a ∷ as') [] x y h k = absurd (h (a ∷ as') refl)

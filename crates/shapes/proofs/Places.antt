@@ -1,6 +1,6 @@
 -- The faults of trees, one after another.
 use Rattle.std.proofs.Common.{◌≡◌, ◌-◌, ◌++◌, ◌∷◌, Bool, true, false, [], Option, refl, if◌then◌else◌, nat_lt}
-use Rattle.axioms.specs.Numbered.{Names}
+use Rattle.axioms.specs.Ontology.{Names}
 use Rattle.fs_parser.specs.Tree.{Empty, Then, place_of}
 use Rattle.shapes.specs.Faults.{WrongShape, each_faults, faults_among, is_annotation, is_name, ontology_faults}
 use Rattle.shapes.specs.Places.{FaultsComeOneByOne, faults_from}

@@ -4,7 +4,7 @@ use Rattle.std.specs.List.{list_any}
 use Rattle.std.proofs.lemmas.List.Folds.{list_any-append}
 use Rattle.std.proofs.lemmas.Map.Steps.{list_any_congr}
 use Rattle.fs_parser.specs.Tree.{Tree}
-use Rattle.shapes.specs.SameTree.{same_tree}
+use Rattle.shapes.specs.TreeEquality.{same_tree}
 use Rattle.shapes.specs.TreeLaws.{same_tree_equiv}
 use Rattle.shapes.specs.View.{operand_tree, operand_trees}
 use Rattle.shapes.specs.declared.operand.Operand as code

@@ -9,9 +9,9 @@ use Rattle.shapes.specs.declared.expected.Expected.TheVariants.{Axiom, Annotatio
 use Rattle.shapes.specs.Shapes.{Operands, Each, operands_of, may_be_annotated, fits_count, next_expected, later_expected, wants_distinct}
 use Rattle.shapes.specs.Keywords.{is_refused, is_known}
 use Rattle.shapes.specs.declared.version.Version.{Version}
-use Rattle.axioms.specs.Numbered.{Names}
+use Rattle.axioms.specs.Ontology.{Names}
 use Rattle.shapes.specs.Names.{is_allowed, is_there, may_be_name}
-use Rattle.shapes.specs.SameTree.{same_tree}
+use Rattle.shapes.specs.TreeEquality.{same_tree}
 
 -- what is wrong, and where it stands
 pub data Fault : Type 0 where

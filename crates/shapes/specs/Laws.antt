@@ -2,7 +2,7 @@
 use Rattle.std.specs.Prelude.{◌≡◌, ℕ, List, true, false}
 use Rattle.fs_parser.specs.Tree.{Tree}
 use Rattle.shapes.specs.Keywords.{is_known, is_one_of, is_refused, refused_keywords}
-use Rattle.shapes.specs.SameTree.{same_tree}
+use Rattle.shapes.specs.TreeEquality.{same_tree}
 use Rattle.shapes.specs.declared.version.Version.{Version}
 use Rattle.shapes.specs.declared.version.Version.TheVariants.{One}
 

@@ -2,13 +2,13 @@ pub mod Meanings
 pub mod Shapes
 pub mod Keywords
 pub mod Names
-pub mod SameTree
-pub mod Writes
+pub mod TreeEquality
+pub mod HashInput
 pub mod TreeLaws
 pub mod Faults
 pub mod View
-pub mod Stated
+pub mod TreeStatements
 pub mod Examples
 pub mod Laws
-pub mod Printed
+pub mod Messages
 pub mod Places

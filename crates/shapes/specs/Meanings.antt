@@ -3,7 +3,7 @@
 use Rattle.std.specs.Prelude.{ℕ, zero, suc, List, [], ◌∷◌, if◌then◌else◌, codes}
 use Rattle.std.specs.Str.{bytes_eq}
 use Rattle.axioms.specs.Expression.{Iri, ClassExpression, Named, SomeValues}
-use Rattle.axioms.specs.Numbered.{intersection}
+use Rattle.axioms.specs.Ontology.{intersection}
 use Rattle.fs_parser.specs.Tree.{Tree, Name, Form, Trees, Empty, Then}
 
 -- the operand of that number, from 0

@@ -4,7 +4,7 @@ use Rattle.std.specs.List.{list_any, starts_with}
 use Rattle.std.specs.Str.{bytes_eq}
 use Rattle.axioms.specs.Expression.{owl_thing, owl_nothing}
 use Rattle.axioms.specs.Growth.{names_of}
-use Rattle.axioms.specs.Numbered.{Names}
+use Rattle.axioms.specs.Ontology.{Names}
 use Rattle.axioms.specs.declared.terms.Kind.{Kind}
 use Rattle.axioms.specs.declared.terms.Kind.TheVariants as kinds
 use Rattle.shapes.specs.declared.expected.Expected.{Expected}

@@ -1,6 +1,6 @@
 -- The faults of the trees of an ontology, one after another: names come first, then annotations, then axioms.
 use Rattle.std.specs.Prelude.{◌≡◌, ◌-◌, List, [], ◌∷◌, ◌++◌, Option, if◌then◌else◌, nat_lt}
-use Rattle.axioms.specs.Numbered.{Names}
+use Rattle.axioms.specs.Ontology.{Names}
 use Rattle.fs_parser.specs.Tree.{Tree, Trees, Then, place_of}
 use Rattle.shapes.specs.Faults.{Fault, WrongShape, each_faults, faults_among, is_annotation, is_name, ontology_faults}
 use Rattle.shapes.specs.declared.expected.Expected.TheVariants.{Annotation, Axiom}

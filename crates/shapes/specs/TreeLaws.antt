@@ -7,8 +7,8 @@ use Rattle.std.specs.Str.{bytes_eq}
 use Rattle.std.proofs.Common.{refl, ap, ap₂, ◌∙◌}
 use Rattle.std.proofs.lemmas.Bool.{false≢true}
 use Rattle.fs_parser.specs.Tree.{Tree, Trees, Name, PlainLiteral, TaggedLiteral, TypedLiteral, Anonymous, Number, Group, Form, Empty, Then}
-use Rattle.shapes.specs.SameTree.{same_tree, same_trees}
-use Rattle.shapes.specs.Writes.{name_writes, writes, writes_of}
+use Rattle.shapes.specs.TreeEquality.{same_tree, same_trees}
+use Rattle.shapes.specs.HashInput.{name_writes, writes, writes_of}
 
 text_itself : (a : List ℕ) → bytes_eq a a ≡ true
 text_itself = nat_list_eq_equiv.refl

@@ -1,6 +1,6 @@
 -- What the code's values are as the definitions': without where their texts lie in memory.
 use Rattle.std.specs.Prelude.{List, Option, map, option_map, string_bytes}
-use Rattle.axioms.specs.Numbered.{Names}
+use Rattle.axioms.specs.Ontology.{Names}
 use Rattle.shapes.specs.declared.context.Context as code_context
 use Rattle.shapes.specs.declared.fault.Fault as code
 use Rattle.shapes.specs.declared.fault.Fault.TheVariants as faults

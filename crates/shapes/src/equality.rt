@@ -3,7 +3,7 @@
 ghost use Rattle.std.specs.List.{list_any};
 ghost use Rattle.std.specs.Prelude.{◌≡◌, map};
 ghost use Rattle.fs_parser.specs.View.{tree_of, trees_of};
-ghost use Rattle.shapes.specs.SameTree.{same_tree, same_trees};
+ghost use Rattle.shapes.specs.TreeEquality.{same_tree, same_trees};
 
 use crate::names::same_iri;
 use fs_parser::Tree;

@@ -24,7 +24,7 @@ pub enum Fault {
 
 impl fmt::Display for Fault {
     ghost use Rattle.std.specs.Prelude.{Some};
-    ghost use Rattle.shapes.specs.Printed.{fault_text};
+    ghost use Rattle.shapes.specs.Messages.{fault_text};
     ghost use Rattle.shapes.specs.View.{fault_of};
 
     ghost output = { λ fault. Some (fault_text (fault_of fault)) };

@@ -11,7 +11,7 @@ use crate::expected::Expected;
 use axioms::{OWL_NOTHING, OWL_THING};
 use fs_parser::Iri;
 
-/// What stands behind a beginning.
+/// What stands behind a prefix.
 #[inline(always)]
 fn behind<'a>(text: &'a str, front: &str) -> Option<&'a str>
     ensures some { IfSome result (λ rest. text.now ≡ front.now ++ rest.now) }

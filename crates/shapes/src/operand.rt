@@ -6,9 +6,9 @@ ghost use Rattle.std.specs.Prelude.{◌≡◌, ◌||◌, IfOk, OnOk, fold, map, 
 ghost use Rattle.fs_parser.specs.Tree as trees;
 ghost use Rattle.fs_parser.specs.View.{iri_of, tree_of, trees_of};
 ghost use Rattle.shapes.specs.TreeLaws.{same_tree_equiv, same_tree_alike};
-ghost use Rattle.shapes.specs.SameTree.{same_tree};
+ghost use Rattle.shapes.specs.TreeEquality.{same_tree};
 ghost use Rattle.shapes.specs.View.{operand_trees};
-ghost use Rattle.shapes.specs.Writes.{name_writes, writes, writes_of};
+ghost use Rattle.shapes.specs.HashInput.{name_writes, writes, writes_of};
 
 use crate::equality::same_tree;
 use axioms::Memory;

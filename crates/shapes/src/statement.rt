@@ -4,7 +4,7 @@ ghost use Rattle.std.specs.Option.{IfNone, IfSome};
 ghost use Rattle.std.specs.Prelude.{◌≡◌, ◌==◌, [], ◌∷◌, Some, false, nat_lt, option_map, true};
 ghost use Rattle.fs_parser.specs.View.{tree_of, trees_of};
 ghost use Rattle.shapes.specs.Faults.{count_of};
-ghost use Rattle.shapes.specs.Stated.{axiom_by, entity_in, stated, stated_by};
+ghost use Rattle.shapes.specs.TreeStatements.{axiom_by, entity_in, stated, stated_by};
 
 use crate::expected::Expected;
 use crate::form::Form;

@@ -6,7 +6,7 @@ ghost use Rattle.fs_parser.specs.View.{iri_of, tree_of, trees_of};
 ghost use Rattle.shapes.specs.Faults.{WrongShape, behind_annotations, expression_faults, faults_among, faults_inside, front_faults, is_annotation, is_name, is_repeated, literal_faults, misplaced, name_faults, own_trees};
 ghost use Rattle.shapes.specs.Places.{faults_at, place_behind};
 ghost use Rattle.shapes.specs.Shapes.{Many, form_of};
-ghost use Rattle.shapes.specs.Stated.{stated, statement_in};
+ghost use Rattle.shapes.specs.TreeStatements.{stated, statement_in};
 ghost use Rattle.shapes.specs.View.{fault_of, faults_of, names_of, operands_view};
 
 use crate::context::Context;

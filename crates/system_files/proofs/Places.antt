@@ -8,7 +8,7 @@ use Rattle.std.proofs.lemmas.Slice.Eq.{bytes_eq-Decides}
 use Rattle.std.proofs.lemmas.Grind.{common_steps}
 use Rattle.std.specs.Global.{Vec}
 use Rattle.system_files.specs.Contents.{IsPut}
-use Rattle.system_files.specs.Stored.{file_at, has_place_at, is_at}
+use Rattle.system_files.specs.MemoryFiles.{file_at, has_place_at, is_at}
 use Rattle.system_files.specs.declared.memory.MemoryFile.{MemoryFile}
 
 -- ---- a place that is found is there, and one that is not found is not

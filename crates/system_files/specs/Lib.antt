@@ -1,2 +1,2 @@
 pub mod Contents
-pub mod Stored
+pub mod MemoryFiles

@@ -2,7 +2,7 @@
 ghost use Rattle.std.specs.Prelude.{◌≡◌, ◌≤◌, ℕ, List, true, OnOk, OnErr, find, option_map, position, vec_len, length, if◌then◌else◌};
 ghost use Rattle.std.specs.Option.{option_copied};
 ghost use Rattle.system_files.specs.Contents.{IsPut};
-ghost use Rattle.system_files.specs.Stored.{file_at, has_place_at, is_at};
+ghost use Rattle.system_files.specs.MemoryFiles.{file_at, has_place_at, is_at};
 
 use crate::files::{Files, OpenFault};
 use axioms::Memory;
@@ -134,7 +134,7 @@ impl MemoryFiles {
 impl Files for MemoryFiles {
     ghost use Rattle.std.specs.Prelude.{true, false, refl};
     ghost use Rattle.system_files.specs.Contents.{shut_is_untaken};
-    ghost use Rattle.system_files.specs.Stored.{file_at, has_place_at};
+    ghost use Rattle.system_files.specs.MemoryFiles.{file_at, has_place_at};
 
     type In = MemorySource;
 

@@ -4,7 +4,7 @@ use Rattle.std.specs.List.{list_any, range_with_len}
 use Rattle.std.specs.declared.cmp.Ordering.{Ordering}
 use Rattle.std.specs.Ordering.{is_lt}
 use Rattle.std.proofs.lemmas.List.Elements.{All-nil, All-cons, All-head, All-tail, All-push, All-filter}
-use Rattle.axioms.specs.Numbered.{name_at}
+use Rattle.axioms.specs.Ontology.{name_at}
 use Rattle.taxonomy.specs.Texts.{numbers_below, by_name, inserted, sorted, in_byte_order, is_same, group, firsts, groups, is_strictly_above, is_directly_above, listed, bracketed, group_line, line_feed, nothing_class, is_no_bottom, text_of_order, taxonomy_text, least_among, individual_line, instances_text}
 
 -- ---- lists made of numbers below a bound

@@ -7,7 +7,7 @@ use Rattle.std.proofs.lemmas.List.Sorted.{ranks_by}
 use Rattle.std.proofs.Math.Bool.{and-true, and_comm}
 use Rattle.number_sets.specs.Members.{has}
 use Rattle.number_sets.specs.Pieces.{list_at}
-use Rattle.taxonomy.specs.Marked.{Leads}
+use Rattle.taxonomy.specs.ClassMarks.{Leads}
 use Rattle.taxonomy.specs.Relation.{is_listed}
 use Rattle.taxonomy.specs.Superclasses.{is_among, AreOnce, AreSuperclasses, IsSetOf}
 use Rattle.taxonomy.specs.Texts.{by_name, firsts, group, groups, in_byte_order, is_directly_above, is_same, is_strictly_above, least_among, numbers_below, some_below, sorted}

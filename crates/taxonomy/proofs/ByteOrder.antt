@@ -10,7 +10,7 @@ use Rattle.std.specs.List.Sorted.{IsPermutation, IsSortedBy, IsSorted}
 use Rattle.std.proofs.lemmas.List.{get_or-map, length-map}
 use Rattle.std.proofs.lemmas.List.Sorted.{IsPermutation-map, All-permutation, ranks_by}
 use Rattle.std.proofs.lemmas.Cmp.{then_total, on_total, nat_list_cmp_total, nat_cmp_total, ranked, by_ranked}
-use Rattle.axioms.specs.Numbered.{name_at}
+use Rattle.axioms.specs.Ontology.{name_at}
 use Rattle.taxonomy.specs.Texts.{by_name, in_byte_order, sorted}
 use Rattle.taxonomy.proofs.Sorts.{is_sorted, Ascends-from_sort}
 

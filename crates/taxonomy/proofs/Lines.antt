@@ -2,7 +2,7 @@
 use Rattle.std.proofs.Common.{◌≡◌, ℕ, ◌+◌, ◌<◌, Bool, true, false, cond, List, [], ◌∷◌, ◌++◌, length, get_or, drop, sym, ap, ◌∙◌, refl}
 use Rattle.std.proofs.lemmas.List.{at_drop_more, append_assoc}
 use Rattle.std.specs.List.{filter, flat_map, list_any}
-use Rattle.axioms.specs.Numbered.{name_at}
+use Rattle.axioms.specs.Ontology.{name_at}
 use Rattle.taxonomy.specs.Texts.{firsts, is_same, listed, bracketed}
 
 -- c is in a group that is there

@@ -4,7 +4,7 @@ ghost use Rattle.number_sets.specs.Pieces.{list_at};
 ghost use Rattle.std.specs.List.{All, filter};
 ghost use Rattle.std.specs.Prelude.{◌<◌, ◌||◌, ◌≡◌, IfOk, length, map, nat_eq, nat_lt, ℕ};
 ghost use Rattle.std.specs.String.{string_bytes};
-ghost use Rattle.taxonomy.specs.Marked.{HasRoom, Leads};
+ghost use Rattle.taxonomy.specs.ClassMarks.{HasRoom, Leads};
 ghost use Rattle.taxonomy.specs.Relation.{is_listed};
 ghost use Rattle.taxonomy.specs.Superclasses.{AreSuperclasses, is_among, is_as_large};
 ghost use Rattle.taxonomy.specs.Texts.{group, groups, in_byte_order, is_directly_above, least_groups};

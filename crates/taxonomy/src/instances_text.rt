@@ -1,9 +1,9 @@
 //! The instances text of a consistent ontology.
-ghost use Rattle.axioms.specs.Numbered.{name_at};
+ghost use Rattle.axioms.specs.Ontology.{name_at};
 ghost use Rattle.std.specs.List.{flat_map};
 ghost use Rattle.std.specs.Prelude.{◌++◌, ◌≡◌, IfOk, OnOk, length, map};
 ghost use Rattle.std.specs.String.{string_bytes};
-ghost use Rattle.taxonomy.specs.Marked.{Leads};
+ghost use Rattle.taxonomy.specs.ClassMarks.{Leads};
 ghost use Rattle.taxonomy.specs.Relation.{is_listed, lies_below};
 ghost use Rattle.taxonomy.specs.Superclasses.{AreSuperclasses};
 ghost use Rattle.taxonomy.specs.Texts.{individual_line, instances_text, line_with};

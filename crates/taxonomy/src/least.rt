@@ -4,7 +4,7 @@ ghost use Rattle.std.specs.List.{filter, list_any};
 ghost use Rattle.std.specs.List.Sorted.{IsPermutation};
 ghost use Rattle.std.specs.Prelude.{◌<◌, ◌||◌, ◌≡◌, IfOk, false, length, map, not, replicate, ℕ};
 ghost use Rattle.taxonomy.specs.Relation.{is_listed};
-ghost use Rattle.taxonomy.specs.Marked.{HasRoom};
+ghost use Rattle.taxonomy.specs.ClassMarks.{HasRoom};
 ghost use Rattle.taxonomy.specs.Superclasses.{AreSuperclasses, is_larger};
 ghost use Rattle.taxonomy.specs.Texts.{is_strictly_above};
 

@@ -1,5 +1,5 @@
 //! Names as the texts show them.
-ghost use Rattle.axioms.specs.Numbered.{name_at};
+ghost use Rattle.axioms.specs.Ontology.{name_at};
 ghost use Rattle.std.specs.Prelude.{◌++◌, ◌≡◌, OnOk, map};
 ghost use Rattle.std.specs.String.{string_bytes};
 ghost use Rattle.taxonomy.specs.Texts.{bracketed, listed};

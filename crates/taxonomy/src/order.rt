@@ -5,7 +5,7 @@ ghost use Rattle.std.specs.List.Sorted.{IsPermutation, IsSortedBy};
 ghost use Rattle.std.specs.Ordering.{is_lt};
 ghost use Rattle.std.specs.Prelude.{◌≡◌, IfOk, map, length};
 ghost use Rattle.std.specs.String.{string_bytes};
-ghost use Rattle.axioms.specs.Numbered.{name_at};
+ghost use Rattle.axioms.specs.Ontology.{name_at};
 
 use crate::names::name_of;
 use axioms::Memory;

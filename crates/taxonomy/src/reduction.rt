@@ -1,6 +1,6 @@
 //! A preorder on classes, and what lies strictly above each class by it.
 ghost use Rattle.std.specs.Prelude.{◌≡◌, IfOk, length};
-ghost use Rattle.taxonomy.specs.Held.{IsHeld, held_rows};
+ghost use Rattle.taxonomy.specs.HeldRelations.{IsHeld, held_rows};
 ghost use Rattle.taxonomy.specs.Relation.{IsPreorder, lies_below};
 ghost use Rattle.taxonomy.specs.Superclasses.{AreSets, rows_of};
 ghost use Rattle.taxonomy.specs.Texts.{is_same, is_strictly_above};

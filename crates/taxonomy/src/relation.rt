@@ -27,7 +27,7 @@ pub struct Relation {
 
 impl Model for Relation {
     ghost use Rattle.std.specs.Prelude.{Bool, List};
-    ghost use Rattle.taxonomy.specs.Held.{IsHeld, held_rows};
+    ghost use Rattle.taxonomy.specs.HeldRelations.{IsHeld, held_rows};
 
     ghost Value = { List (List Bool) };
 

@@ -2,7 +2,7 @@
 ghost use Rattle.std.specs.List.{filter, flat_map};
 ghost use Rattle.std.specs.Prelude.{◌++◌, ◌≡◌, IfOk, OnOk, codes, length, map};
 ghost use Rattle.std.specs.String.{string_bytes};
-ghost use Rattle.taxonomy.specs.Marked.{HasRoom, Leads};
+ghost use Rattle.taxonomy.specs.ClassMarks.{HasRoom, Leads};
 ghost use Rattle.taxonomy.specs.Relation.{is_listed, lies_below};
 ghost use Rattle.taxonomy.specs.Superclasses.{AreSuperclasses};
 ghost use Rattle.taxonomy.specs.Texts.{group, group_line, groups, in_byte_order, is_no_bottom, line_feed, line_of, listed, nothing_class, taxonomy_text};

@@ -1,5 +1,5 @@
 //! The texts, written to a sink.
-ghost use Rattle.device.specs.Device.{AppendsBeginning, HasFailed};
+ghost use Rattle.device.specs.Device.{AppendsPrefix, HasFailed};
 ghost use Rattle.std.specs.Io.KnownBytes.{Appends, Keeps};
 ghost use Rattle.std.specs.Prelude.{◌≡◌, ◌≤◌, IsErrOf, OnOk};
 ghost use Rattle.taxonomy.specs.Outcome.{IsMadeFor, instances_of, taxonomy_of};
@@ -12,7 +12,7 @@ use std::alloc::Global;
 /// Writes the taxonomy text.
 ///
 /// `Io` comes only where the sink failed in this call. After `Memory` it did not fail and has taken nothing. After either
-/// it has taken a beginning of the text.
+/// it has taken a prefix of the text.
 pub fn write_taxonomy<S: Sink>(
     alloc: Global,
     ontology: &Ontology,
@@ -21,7 +21,7 @@ pub fn write_taxonomy<S: Sink>(
 ) -> Result<(), WriteFault>
     requires { IsMadeFor ontology.now outcome.now }
     ensures ok { OnOk result (Appends (S.taken sink.old) (S.taken sink.new) (taxonomy_of ontology.now outcome.now)) }
-    ensures begun { AppendsBeginning (S.taken sink.old) (S.taken sink.new) (taxonomy_of ontology.now outcome.now) }
+    ensures begun { AppendsPrefix (S.taken sink.old) (S.taken sink.new) (taxonomy_of ontology.now outcome.now) }
     ensures io { IsErrOf result WriteFault.Io → HasFailed (S.failures sink.old) (S.failures sink.new) }
     ensures untouched { IsErrOf result WriteFault.Memory → Keeps (S.taken sink.old) (S.taken sink.new) }
     ensures untried { IsErrOf result WriteFault.Memory → S.failures sink.new ≡ S.failures sink.old }
@@ -36,7 +36,7 @@ pub fn write_taxonomy<S: Sink>(
 /// Writes the instances text.
 ///
 /// `Io` comes only where the sink failed in this call. After `Memory` it did not fail and has taken nothing. After either
-/// it has taken a beginning of the text.
+/// it has taken a prefix of the text.
 pub fn write_instances<S: Sink>(
     alloc: Global,
     ontology: &Ontology,
@@ -45,7 +45,7 @@ pub fn write_instances<S: Sink>(
 ) -> Result<(), WriteFault>
     requires { IsMadeFor ontology.now outcome.now }
     ensures ok { OnOk result (Appends (S.taken sink.old) (S.taken sink.new) (instances_of ontology.now outcome.now)) }
-    ensures begun { AppendsBeginning (S.taken sink.old) (S.taken sink.new) (instances_of ontology.now outcome.now) }
+    ensures begun { AppendsPrefix (S.taken sink.old) (S.taken sink.new) (instances_of ontology.now outcome.now) }
     ensures io { IsErrOf result WriteFault.Io → HasFailed (S.failures sink.old) (S.failures sink.new) }
     ensures untouched { IsErrOf result WriteFault.Memory → Keeps (S.taken sink.old) (S.taken sink.new) }
     ensures untried { IsErrOf result WriteFault.Memory → S.failures sink.new ≡ S.failures sink.old }

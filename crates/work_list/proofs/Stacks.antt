@@ -7,7 +7,7 @@ use Rattle.std.proofs.lemmas.List.Elements.{Contains-append_cases}
 use Rattle.std.proofs.lemmas.List.Sums.{sum_by-append, sum_by_push}
 use Rattle.work_list.specs.declared.item.Item.{Item}
 use Rattle.work_list.specs.Bag.{Adds, is_item}
-use Rattle.work_list.specs.Stacked.{IsSame, IsStack, item_of, items_of, items_of_last, place_at, stacked}
+use Rattle.work_list.specs.Stacks.{IsSame, IsStack, item_of, items_of, items_of_last, place_at, stacked}
 
 -- ---- places
 

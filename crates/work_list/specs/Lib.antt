@@ -1,4 +1,4 @@
 pub mod Bag
-pub mod Grouped
+pub mod Groups
 pub mod Order
-pub mod Stacked
+pub mod Stacks

@@ -2,8 +2,8 @@
 ghost use Rattle.std.specs.Prelude.{◌≡◌, ◌++◌, ◌∷◌, [], None, Some, IfNone, IfSome, IsTrue, ◌↔◌, OnErr, OnOk, Contains, length};
 ghost use Rattle.work_list.specs.declared.item.Item.{Item as AnItem};
 ghost use Rattle.work_list.specs.Bag.{Adds};
-ghost use Rattle.work_list.specs.Grouped.{PopsTogether, PushesInto};
-ghost use Rattle.work_list.specs.Stacked.{IsApart, items_in, items_of_last, waiting};
+ghost use Rattle.work_list.specs.Groups.{PopsTogether, PushesInto};
+ghost use Rattle.work_list.specs.Stacks.{IsApart, items_in, items_of_last, waiting};
 
 use crate::groups::Groups;
 use crate::item::Item;
@@ -33,8 +33,8 @@ pub struct ByContext {
 
 impl Model for ByContext {
     ghost use Rattle.std.specs.Prelude.{◌≡◌, length};
-    ghost use Rattle.work_list.specs.Grouped.{Grouped};
-    ghost use Rattle.work_list.specs.Stacked.{IsApart, waiting};
+    ghost use Rattle.work_list.specs.Groups.{Grouped};
+    ghost use Rattle.work_list.specs.Stacks.{IsApart, waiting};
 
     ghost Value = { Grouped };
 

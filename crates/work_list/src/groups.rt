@@ -1,7 +1,7 @@
 //! Facts that wait in groups, one for each context.
 ghost use Rattle.std.specs.Prelude.{◌≡◌, ◌<◌, ◌++◌, ◌∷◌, [], IfNone, IfSome, OnErr, OnOk, length, slice_index_or, slice_set};
 ghost use Rattle.work_list.specs.Bag.{Adds};
-ghost use Rattle.work_list.specs.Stacked.{IsGrouped, IsSame, IsSameBut, items_in, items_of, place_at};
+ghost use Rattle.work_list.specs.Stacks.{IsGrouped, IsSame, IsSameBut, items_in, items_of, place_at};
 
 use crate::item::Item;
 use crate::room::{make_room, shrink};

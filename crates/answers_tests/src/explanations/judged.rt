@@ -1,7 +1,7 @@
 //! Explanations as others judge them: derivations as certificates of their own, by the checker; refutations by the axioms, one by one,
 //! and by what is in the two classes.
-ghost use Rattle.interpretation_spec.specs.Numbered.{IsMadeFor};
-ghost use Rattle.answers.specs.Explained.{Explains};
+ghost use Rattle.interpretation_spec.specs.NumberedInterpretation.{IsMadeFor};
+ghost use Rattle.answers.specs.Explanations.{Explains};
 ghost use Rattle.answers.specs.declared.asked.Asked.{Asked as Asked2};
 ghost use Rattle.std.specs.Prelude.{List, ℕ};
 

@@ -7,7 +7,7 @@ use Rattle.lemmas.proofs.Mapped.{All-from_map}
 use Rattle.lemmas.proofs.Places.{slice_get_there}
 use Rattle.axioms.specs.declared.ids.ExprId.{ExprId}
 use Rattle.axioms.specs.View.{expr_numbers, node_of}
-use Rattle.axioms.specs.Numbered.{And, Exists, expression, name_at, property_name}
+use Rattle.axioms.specs.Ontology.{And, Exists, expression, name_at, property_name}
 use Rattle.axioms.proofs.Trees.{class_tree, some_tree, and_tree}
 use Rattle.answer_texts.specs.Names.{expression_text, name_text}
 use Rattle.answer_texts.proofs.Expressions.{texts, five_pieces, intersection_text}

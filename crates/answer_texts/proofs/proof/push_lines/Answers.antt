@@ -2,7 +2,7 @@ use Rattle.std.proofs.Common.{◌+◌, map, take, get_or, arith, subst, sym, ap,
 use Rattle.certificate.specs.declared.line.Line.{Line}
 use Rattle.std.specs.List.{flat_map, enumerate_from}
 use Rattle.certificate.specs.View.{line_of}
-use Rattle.certificate.specs.HasText.{IsLineOf}
+use Rattle.certificate.specs.Writability.{IsLineOf}
 use Rattle.lemmas.proofs.Mapped.{All-from_map}
 use Rattle.answer_texts.specs.Proof as proof
 use Rattle.answer_texts.proofs.More.{added, numbered_more}

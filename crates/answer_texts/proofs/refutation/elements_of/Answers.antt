@@ -1,7 +1,7 @@
 use Rattle.std.proofs.Common.{true, false, sym, ap, ℕ, ◌∙◌}
 use Rattle.std.specs.Global.{Vec}
 use Rattle.std.proofs.lemmas.List.{append-nil}
-use Rattle.interpretation_spec.specs.Numbered.{members_of}
+use Rattle.interpretation_spec.specs.NumberedInterpretation.{members_of}
 use Rattle.number_sets.specs.Members.{has}
 use Rattle.answer_texts.proofs.More.{filter_more}
 use Rattle.answer_texts.proofs.refutation.elements_of.Goals as goal

@@ -1,6 +1,6 @@
 use Rattle.std.proofs.Common.{◌≡◌}
 use Rattle.std.specs.List.{range_with_len, filter}
-use Rattle.interpretation_spec.specs.Numbered.{members_of}
+use Rattle.interpretation_spec.specs.NumberedInterpretation.{members_of}
 use Rattle.number_sets.specs.Members.{has}
 use Rattle.answer_texts.proofs.refutation.elements_of.Given as goal
 

@@ -1,7 +1,7 @@
 use Rattle.std.proofs.Common.{◌≡◌, ◌++◌, ℕ, List, ap, ap₂, ◌∙◌, map}
 use Rattle.std.specs.String.{string_bytes}
 use Rattle.std.specs.List.{flat_map}
-use Rattle.axioms.specs.Numbered.{name_at}
+use Rattle.axioms.specs.Ontology.{name_at}
 use Rattle.answer_texts.specs.Refutation as text
 use Rattle.answer_texts.proofs.More.{added, range_more}
 use Rattle.answer_texts.proofs.refutation.push_property.Goals as goal

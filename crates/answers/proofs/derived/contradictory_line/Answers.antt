@@ -1,7 +1,7 @@
 use Rattle.std.proofs.Common.{get_or, sym, ◌∙◌, arith}
 use Rattle.std.proofs.lemmas.Bool.{false≢true}
 use Rattle.std.proofs.lemmas.Option.{slice_get-get_or}
-use Rattle.answers.specs.Numbered.{IsContradiction}
+use Rattle.answers.specs.Findings.{IsContradiction}
 use Rattle.answers.proofs.Ending.{found_at, not_yet, none_has}
 use Rattle.answers.proofs.derived.contradictory_line.Goals as goal
 

@@ -1,12 +1,12 @@
 use Rattle.std.proofs.Common.{List, sym, subst}
-use Rattle.axioms.specs.Numbered.{nothing}
+use Rattle.axioms.specs.Ontology.{nothing}
 use Rattle.cert_check.specs.Derivation.{HasLine, IsDerivation}
 use Rattle.certificate.specs.Certificate.{Subject, Sub}
 use Rattle.certificate.specs.View.{lines_of}
 use Rattle.certificate.specs.View.{subject_of as subject_in}
 use Rattle.certificate.specs.declared.line.Line as code_line
 use Rattle.countermodel.specs.Elements.{context_of}
-use Rattle.answers.specs.Explained.{Derives}
+use Rattle.answers.specs.Explanations.{Derives}
 use Rattle.answers.proofs.Explaining.{at_some, at_none, derives_with, refutable}
 use Rattle.answers.proofs.derived.derivation_of.Goals as goal
 

@@ -3,7 +3,7 @@ use Rattle.cert_check.specs.Derivation.{IsDerivation}
 use Rattle.certificate.specs.View.{lines_of}
 use Rattle.certificate.specs.declared.line.Line as code_line
 use Rattle.answers.proofs.Following.{contradictory}
-use Rattle.answers.specs.Numbered.{IsContradiction, IsLineWith}
+use Rattle.answers.specs.Findings.{IsContradiction, IsLineWith}
 use Rattle.answers.proofs.Deriving.{shows_contradiction}
 use Rattle.answers.proofs.derived.derived_contradiction.Goals as goal
 

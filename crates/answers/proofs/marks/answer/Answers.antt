@@ -1,5 +1,5 @@
 use Rattle.std.proofs.Common.{sym, subst}
-use Rattle.answers.specs.Asked.{IsAnswer}
+use Rattle.answers.specs.Questions.{IsAnswer}
 use Rattle.answers.specs.declared.question.Question.{Question}
 use Rattle.answers.proofs.marks.answer.Goals as goal
 

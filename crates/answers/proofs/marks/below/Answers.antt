@@ -1,5 +1,5 @@
 use Rattle.std.proofs.Common.{ℕ, Option, sym, subst}
-use Rattle.answers.specs.Asked.{IsAnswer}
+use Rattle.answers.specs.Questions.{IsAnswer}
 use Rattle.answers.specs.declared.question.Question.TheVariants.{Below}
 use Rattle.answers.proofs.Marking.{no_below}
 use Rattle.answers.proofs.marks.below.Goals as goal

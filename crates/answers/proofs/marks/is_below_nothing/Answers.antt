@@ -1,7 +1,7 @@
 use Rattle.std.proofs.Common.{Some, sym, ap, ◌∙◌}
 use Rattle.std.proofs.lemmas.Bool.{eq-eqb, eqb-true, false≢true}
 use Rattle.std.proofs.lemmas.Option.{none-some, same_Some}
-use Rattle.answers.specs.Asked.{nothing_class}
+use Rattle.answers.specs.Questions.{nothing_class}
 use Rattle.answers.proofs.marks.is_below_nothing.Goals as goal
 
 pub returns-in-Some : goal.returns-in-Some

@@ -1,7 +1,7 @@
 use Rattle.std.proofs.lemmas.Bool.{false≢true}
 use Rattle.std.proofs.lemmas.Option.{slice_get-get_or}
 use Rattle.classification.specs.Lists.{PutsBelow}
-use Rattle.answers.specs.Asked.{nothing_class}
+use Rattle.answers.specs.Questions.{nothing_class}
 use Rattle.answers.proofs.Marking.{none_more, none_at_all}
 use Rattle.answers.proofs.marks.is_empty.Goals as goal
 

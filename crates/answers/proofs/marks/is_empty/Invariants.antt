@@ -1,5 +1,5 @@
 use Rattle.std.specs.List.{AllWithin}
-use Rattle.answers.specs.Asked.{nothing_class}
+use Rattle.answers.specs.Questions.{nothing_class}
 use Rattle.classification.specs.Lists.{PutsBelow}
 use Rattle.answers.proofs.marks.is_empty.Given as goal
 

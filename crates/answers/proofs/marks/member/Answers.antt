@@ -1,5 +1,5 @@
 use Rattle.std.proofs.Common.{ℕ, Option, sym, subst}
-use Rattle.answers.specs.Asked.{IsAnswer}
+use Rattle.answers.specs.Questions.{IsAnswer}
 use Rattle.answers.specs.declared.question.Question.TheVariants.{Members}
 use Rattle.answers.proofs.Marking.{no_member}
 use Rattle.answers.proofs.marks.member.Goals as goal

@@ -1,6 +1,6 @@
 use Rattle.std.proofs.Common.{Option, subst, sym, IfSome}
 use Rattle.certificate.specs.Certificate.{Listed}
-use Rattle.certificate.specs.HasText.{IsListedOf}
+use Rattle.certificate.specs.Writability.{IsListedOf}
 use Rattle.answers_tests.proofs.documents.listed_in.Goals as goal
 
 pub interpretation_of-requires : goal.interpretation_of-requires

@@ -1,5 +1,5 @@
 use Rattle.std.proofs.Common.{sym, subst}
-use Rattle.axioms.specs.WellFormed.{AreDistinct}
+use Rattle.axioms.specs.WellFormedness.{AreDistinct}
 use Rattle.answers_tests.proofs.names.are_in_order.Goals as goal
 
 pub names_in_order-requires-clause-distinct : goal.names_in_order-requires-clause-distinct

@@ -1,6 +1,6 @@
 use Rattle.std.proofs.Common.{All, List, subst, sym}
 use Rattle.certificate.specs.Certificate.{Line}
-use Rattle.certificate.specs.HasText.{IsLineOf}
+use Rattle.certificate.specs.Writability.{IsLineOf}
 use Rattle.answers_tests.proofs.texts.are_texts.Goals as goal
 
 pub write_proof-requires : goal.write_proof-requires

@@ -1,8 +1,8 @@
 use Rattle.std.proofs.Common.{Option, MatchOption, ℕ, sym, ◌∙◌, subst}
 use Rattle.std.proofs.lemmas.Result.{IfOk-weaker}
-use Rattle.axioms.specs.Numbered.{axiom_trees}
+use Rattle.axioms.specs.Ontology.{axiom_trees}
 use Rattle.certificate.specs.View.{listed_of}
-use Rattle.interpretation_spec.specs.ByName.{IsFirstUnsatisfied}
+use Rattle.interpretation_spec.specs.NamedInterpretation.{IsFirstUnsatisfied}
 use Rattle.interpretation_spec.specs.Interpretation.{IsModel}
 use Rattle.cert_check.specs.Verdict.{ConsistentAgainstShown, RelationAgainstLists}
 use Rattle.cert_check.proofs.Preorders.{agreed_claims_are_preorder}

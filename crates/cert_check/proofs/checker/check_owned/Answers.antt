@@ -1,5 +1,5 @@
 use Rattle.std.proofs.Common.{List, ℕ, subst}
-use Rattle.cert_check.specs.Tested.{IsReading}
+use Rattle.cert_check.specs.Tests.{IsReading}
 use Rattle.cert_check.proofs.Exactness.{accepted_exactly, accepted_right, passed_lines}
 use Rattle.cert_check.proofs.Readings.{reading}
 use Rattle.cert_check.proofs.checker.check_owned.Goals as goal

@@ -2,7 +2,7 @@ use Rattle.std.proofs.Common.{ℕ, Option, MatchOption, sym, subst}
 use Rattle.certificate.specs.Certificate.{Listed}
 use Rattle.cert_check.specs.Derivation.{IsDerivation}
 use Rattle.cert_check.specs.Faults.{IsFirstBadLine}
-use Rattle.cert_check.specs.Tested.{IsReading}
+use Rattle.cert_check.specs.Tests.{IsReading}
 use Rattle.cert_check.specs.Verdict.{Against, IsVerdict}
 use Rattle.cert_check.proofs.Verdicts.{judged_verdict}
 use Rattle.cert_check.proofs.checker.verdict_on.Goals as goal

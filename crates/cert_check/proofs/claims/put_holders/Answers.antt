@@ -1,7 +1,7 @@
 use Rattle.std.proofs.Common.{◌≡◌, ℕ, List, Some, Contains, get_or, length, slice_get, ap, subst, arith}
 use Rattle.std.proofs.lemmas.List.{take_all}
 use Rattle.std.proofs.lemmas.Option.{slice_get-get_or}
-use Rattle.axioms.specs.Numbered.{IsClassAt}
+use Rattle.axioms.specs.Ontology.{IsClassAt}
 use Rattle.cert_check.specs.Lists.{AddsNumbers}
 use Rattle.cert_check.proofs.Listwise.{holder_step}
 use Rattle.cert_check.proofs.claims.put_holders.Goals as goal

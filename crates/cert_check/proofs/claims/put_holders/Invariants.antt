@@ -1,5 +1,5 @@
 use Rattle.std.proofs.Common.{take, Contains}
-use Rattle.axioms.specs.Numbered.{IsClassAt}
+use Rattle.axioms.specs.Ontology.{IsClassAt}
 use Rattle.cert_check.specs.Lists.{AddsNumbers}
 use Rattle.cert_check.proofs.claims.put_holders.Given as goal
 

@@ -1,7 +1,7 @@
 use Rattle.std.proofs.Common.{◌≡◌, List, length, map}
 use Rattle.certificate.specs.Certificate as spec
-use Rattle.certificate.specs.Remaining.{with_lines}
-use Rattle.cert_check.specs.Tested.{AreKept}
+use Rattle.certificate.specs.Rest.{with_lines}
+use Rattle.cert_check.specs.Tests.{AreKept}
 use Rattle.cert_check.specs.View.{said_of}
 use Rattle.cert_check.proofs.derivation.tested_lines.Given as goal
 

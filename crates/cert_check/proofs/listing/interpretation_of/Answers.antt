@@ -2,7 +2,7 @@ use Rattle.std.proofs.Common.{List, ℕ, map, subst, subst₂}
 use Rattle.certificate.specs.View.{class_row_of, pair_row_of, listed_of}
 use Rattle.certificate.specs.declared.listed.ClassRow.{ClassRow}
 use Rattle.certificate.specs.declared.listed.PairRow.{PairRow}
-use Rattle.interpretation_spec.specs.Numbered.{NumberedInterpretation}
+use Rattle.interpretation_spec.specs.NumberedInterpretation.{NumberedInterpretation}
 use Rattle.cert_check.specs.Additions.{AddsMembers, AddsPairs, IsListedMember, IsListedPair, PutsIndividuals}
 use Rattle.cert_check.proofs.ListedRows.{listing_is, listing_made}
 use Rattle.cert_check.proofs.listing.interpretation_of.Goals as goal

@@ -1,7 +1,7 @@
 use Rattle.std.proofs.Common.{◌≡◌, Some, get_or, length, slice_get, Contains, List, ℕ, ap, subst, arith}
 use Rattle.std.proofs.lemmas.List.{take_all}
 use Rattle.std.proofs.lemmas.Option.{slice_get-get_or}
-use Rattle.axioms.specs.Numbered.{IsClassAt}
+use Rattle.axioms.specs.Ontology.{IsClassAt}
 use Rattle.cert_check.specs.Additions.{AddsMembers}
 use Rattle.cert_check.proofs.Additions.{member_step, went_well}
 use Rattle.cert_check.proofs.listing.put_elements.Goals as goal

@@ -1,5 +1,5 @@
 use Rattle.std.proofs.Common.{◌≡◌, Some, sym, ap, ◌∙◌, slice_get}
-use Rattle.axioms.specs.Numbered.{And}
+use Rattle.axioms.specs.Ontology.{And}
 use Rattle.axioms.specs.View.{expr_numbers}
 use Rattle.cert_check.proofs.Places.{of_the_operands}
 use Rattle.cert_check.proofs.rules.is_in_each_operand.Goals as goal

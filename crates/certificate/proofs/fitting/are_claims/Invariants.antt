@@ -1,5 +1,5 @@
 use Rattle.std.proofs.Common.{◌≡◌, drop, map, None}
-use Rattle.certificate.specs.Fitting.{fit_claims}
+use Rattle.certificate.specs.Tests.{fit_claims}
 use Rattle.certificate.specs.View.{claim_of}
 use Rattle.certificate.proofs.fitting.are_claims.Given as goal
 

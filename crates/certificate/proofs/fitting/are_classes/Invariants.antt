@@ -1,5 +1,5 @@
 use Rattle.std.proofs.Common.{◌≡◌, drop, map, None}
-use Rattle.certificate.specs.Fitting.{fit_classes}
+use Rattle.certificate.specs.Tests.{fit_classes}
 use Rattle.certificate.specs.View.{class_row_of}
 use Rattle.certificate.proofs.fitting.are_classes.Given as goal
 

@@ -1,6 +1,6 @@
 use Rattle.std.proofs.Common.{◌≡◌, drop}
 use Rattle.std.specs.List.{list_all}
-use Rattle.certificate.specs.Fitting.{fits_line}
+use Rattle.certificate.specs.Tests.{fits_line}
 use Rattle.certificate.specs.View.{lines_of}
 use Rattle.certificate.proofs.fitting.are_lines.Given as goal
 

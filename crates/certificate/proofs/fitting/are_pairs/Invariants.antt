@@ -1,5 +1,5 @@
 use Rattle.std.proofs.Common.{◌≡◌, drop, map, None}
-use Rattle.certificate.specs.Fitting.{fit_pairs}
+use Rattle.certificate.specs.Tests.{fit_pairs}
 use Rattle.certificate.specs.View.{pair_row_of}
 use Rattle.certificate.proofs.fitting.are_pairs.Given as goal
 

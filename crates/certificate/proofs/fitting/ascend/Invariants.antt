@@ -1,5 +1,5 @@
 use Rattle.std.proofs.Common.{◌≡◌, drop, None}
-use Rattle.certificate.specs.Fitting.{ascend}
+use Rattle.certificate.specs.Tests.{ascend}
 use Rattle.certificate.proofs.fitting.ascend.Given as goal
 
 abbrev pub invariant-loop-element : goal.invariant-loop-element

@@ -1,6 +1,6 @@
 use Rattle.std.proofs.Common.{sym, ◌∙◌, ap, None, map}
 use Rattle.std.specs.Prelude.{codes}
-use Rattle.certificate.specs.Fitting.{key}
+use Rattle.certificate.specs.Tests.{key}
 use Rattle.certificate.specs.ListedReading.{fitting_claim_at, claims_at}
 use Rattle.certificate.specs.View.{claim_of}
 use Rattle.certificate.specs.Text.{claim_text}

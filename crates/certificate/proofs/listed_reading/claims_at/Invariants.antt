@@ -1,5 +1,5 @@
 use Rattle.std.proofs.Common.{◌≡◌, None, length, map}
-use Rattle.certificate.specs.Fitting.{key}
+use Rattle.certificate.specs.Tests.{key}
 use Rattle.certificate.specs.ListedReading.{fitting_claim_at}
 use Rattle.certificate.specs.View.{claim_of}
 use Rattle.certificate.proofs.Many.{IsReadSoFar, last_or}

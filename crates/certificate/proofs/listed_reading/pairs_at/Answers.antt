@@ -1,6 +1,6 @@
 use Rattle.std.proofs.Common.{sym, ◌∙◌, ap, None, map}
 use Rattle.std.specs.Prelude.{codes}
-use Rattle.certificate.specs.Fitting.{pair_key}
+use Rattle.certificate.specs.Tests.{pair_key}
 use Rattle.certificate.specs.ListedReading.{fitting_pairs_at, pairs_at}
 use Rattle.certificate.specs.View.{pair_row_of}
 use Rattle.certificate.specs.Text.{pairs_text}

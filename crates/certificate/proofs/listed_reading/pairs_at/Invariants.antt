@@ -1,5 +1,5 @@
 use Rattle.std.proofs.Common.{◌≡◌, None, length, map}
-use Rattle.certificate.specs.Fitting.{pair_key}
+use Rattle.certificate.specs.Tests.{pair_key}
 use Rattle.certificate.specs.ListedReading.{fitting_pairs_at}
 use Rattle.certificate.specs.View.{pair_row_of}
 use Rattle.certificate.proofs.Many.{IsReadSoFar, last_or}

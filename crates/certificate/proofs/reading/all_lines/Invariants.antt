@@ -1,5 +1,5 @@
 use Rattle.std.proofs.Common.{◌≡◌, length}
-use Rattle.certificate.specs.Remaining.{with_lines}
+use Rattle.certificate.specs.Rest.{with_lines}
 use Rattle.certificate.specs.View.{lines_of}
 use Rattle.certificate.proofs.reading.all_lines.Given as goal
 

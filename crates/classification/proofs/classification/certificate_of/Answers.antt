@@ -1,6 +1,6 @@
 use Rattle.std.proofs.Common.{subst, sym}
 use Rattle.std.specs.Prelude.{IfOk}
-use Rattle.classification.specs.Shown.{IsCertificateOf}
+use Rattle.classification.specs.Findings.{IsCertificateOf}
 use Rattle.classification.proofs.classification.certificate_of.Goals as goal
 
 pub returns-then-consistent : goal.returns-then-consistent

@@ -1,7 +1,7 @@
-use Rattle.axioms.specs.Numbered.{Ontology}
-use Rattle.axioms.specs.WellFormed.{IsOntology}
+use Rattle.axioms.specs.Ontology.{Ontology}
+use Rattle.axioms.specs.WellFormedness.{IsOntology}
 use Rattle.cert_check.proofs.Headline.{acceptable_says}
-use Rattle.cert_check.specs.Acceptable.{AreRight, IsAcceptable}
+use Rattle.cert_check.specs.Acceptance.{AreRight, IsAcceptable}
 use Rattle.std.specs.Prelude.{ℕ, List}
 use Rattle.classification.proofs.Counting.{counts_of}
 use Rattle.classification.proofs.Shown.{consistent_where, acceptable}

@@ -1,7 +1,7 @@
 use Rattle.std.proofs.Common.{subst, sym}
 use Rattle.std.specs.Prelude.{IfOk}
 use Rattle.taxonomy.specs.declared.outcome.Outcome.TheVariants.{Inconsistent}
-use Rattle.classification.specs.Shown.{IsOutcomeOf}
+use Rattle.classification.specs.Findings.{IsOutcomeOf}
 use Rattle.classification.proofs.classification.outcome.Goals as goal
 
 pub returns-then-consistent : goal.returns-then-consistent

@@ -2,9 +2,9 @@ use Rattle.std.proofs.Common.{[], ◌∷◌, IfErr, IfOk, subst}
 use Rattle.answers.specs.declared.asked.Asked.{Asked}
 use Rattle.cli.proofs.Blamed.{asks_file, unopened_is_blamed, unopened_is_refused}
 use Rattle.cli.proofs.Questions.{fault_in_file, why_in_file}
-use Rattle.cli.specs.Performed.{asked_by}
-use Rattle.session.specs.Answered.{AnswersWhy, IsFaultOf}
-use Rattle.session.specs.Asking.{class_name, subject_name}
+use Rattle.cli.specs.Runs.{asked_by}
+use Rattle.session.specs.TextAnswers.{AnswersExplanation, IsFaultOf}
+use Rattle.session.specs.Answers.{class_name, subject_name}
 use Rattle.session.specs.Devices.{SourceState}
 use Rattle.session.specs.declared.form.Form.{Form}
 use Rattle.cli.proofs.asking.explanation_in.Goals as goal
@@ -17,8 +17,8 @@ returns-clause-answered g c =
     let file = g.F.Files.content c.args.files.now q.document.now in
     let r = c.explanation_text.result in
     let is = why_in_file r _ _ most facts c.asked.result q.class.now c.form_of.result c.in-Ok.ensures.left c.explanation_text.ensures.answered in
-    let OfAsked : Asked → Type 0 = λ asked. IfOk r (λ v. AnswersWhy most facts file asked q.class.now c.form_of.result v.items) in
-    let OfForm : Form → Type 0 = λ form. IfOk r (λ v. AnswersWhy most facts file (asked_by q) q.class.now form v.items) in
+    let OfAsked : Asked → Type 0 = λ asked. IfOk r (λ v. AnswersExplanation most facts file asked q.class.now c.form_of.result v.items) in
+    let OfForm : Form → Type 0 = λ form. IfOk r (λ v. AnswersExplanation most facts file (asked_by q) q.class.now form v.items) in
     subst OfForm c.form_of.ensures (subst OfAsked c.asked.ensures is)
 
 pub returns-clause-fault : goal.returns-clause-fault

@@ -1,5 +1,5 @@
 use Rattle.session.proofs.Outcomes.{within_three}
-use Rattle.session.specs.Written.{texts_of}
+use Rattle.session.specs.WrittenTexts.{texts_of}
 use Rattle.cli.proofs.classifying.classify_document.Goals as goal
 
 pub returns-in-Ok-write_texts-clause-answered : goal.returns-in-Ok-write_texts-clause-answered

@@ -2,7 +2,7 @@ use Rattle.std.proofs.Common.{◌≡◌, ◌∙◌, ap}
 use Rattle.std.specs.Prelude.{codes}
 use Rattle.cli.proofs.Pieces.{named_printed, reason_printed}
 use Rattle.session.specs.Devices.{Device}
-use Rattle.cli.specs.Printed.{name_at}
+use Rattle.cli.specs.Messages.{name_at}
 use Rattle.cli.proofs.printing.print_reason.Goals as goal
 
 pub returns-in-BadText : goal.returns-in-BadText

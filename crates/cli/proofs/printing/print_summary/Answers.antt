@@ -1,7 +1,7 @@
 use Rattle.std.proofs.Common.{◌∙◌}
 use Rattle.program.specs.declared.status.Status.TheVariants as statuses
 use Rattle.cli.proofs.Pieces.{printed, joined, last}
-use Rattle.cli.specs.Printed.{summary_text}
+use Rattle.cli.specs.Messages.{summary_text}
 use Rattle.cli.proofs.printing.print_summary.Goals as goal
 
 pub returns : goal.returns

@@ -5,7 +5,7 @@ use Rattle.cli.proofs.Left.{at_path, classify_answer}
 use Rattle.cli.proofs.Stored.{AreNew, AreSinksClosed, others_kept, stays}
 use Rattle.session.specs.Devices.{SourceState}
 use Rattle.cli.specs.Files.{Store}
-use Rattle.session.specs.Written.{Sinks}
+use Rattle.session.specs.WrittenTexts.{Sinks}
 use Rattle.cli.proofs.run.classified_files.Goals as goal
 
 pub returns-in-Err : goal.returns-in-Err

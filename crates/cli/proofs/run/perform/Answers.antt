@@ -1,6 +1,6 @@
 use Rattle.std.proofs.Common.{◌≡◌, map, true, false, inl}
 use Rattle.cli.proofs.QuestionsAsked.{asked, asked_limits, classified, checked, explain_within, instances_within, same_limits}
-use Rattle.cli.specs.Printed.{Output}
+use Rattle.cli.specs.Messages.{Output}
 use Rattle.command_line.specs.declared.tasks.Task.TheVariants.{Check, Classify, Explain, Instances}
 use Rattle.cli.proofs.run.perform.Goals as goal
 

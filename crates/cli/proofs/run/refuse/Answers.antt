@@ -1,7 +1,7 @@
 use Rattle.std.proofs.Common.{sym, subst}
 use Rattle.cli.proofs.Telling.{told_status}
 use Rattle.session.specs.Devices.{Device}
-use Rattle.cli.specs.Printed.{IsLineTold}
+use Rattle.cli.specs.Messages.{IsLineTold}
 use Rattle.program.specs.declared.status.Status.TheVariants as statuses
 use Rattle.command_line.specs.declared.tasks.LineFault.{LineFault}
 use Rattle.cli.proofs.run.refuse.Goals as goal

@@ -1,9 +1,9 @@
 use Rattle.std.proofs.Common.{refl, sym, subst, Result}
-use Rattle.axioms.specs.Numbered.{Ontology}
+use Rattle.axioms.specs.Ontology.{Ontology}
 use Rattle.cert_check.specs.declared.verdict.Verdict.{Verdict}
 use Rattle.cli.proofs.Telling.{told}
-use Rattle.cli.specs.Performed.{IsCheckTold}
-use Rattle.cli.specs.Printed.{IsCheckText, Output, check_status}
+use Rattle.cli.specs.Runs.{IsCheckTold}
+use Rattle.cli.specs.Messages.{IsCheckText, Output, check_status}
 use Rattle.cli.specs.declared.fault.CheckFault.{CheckFault}
 use Rattle.cli.proofs.run.tell_checked.Goals as goal
 

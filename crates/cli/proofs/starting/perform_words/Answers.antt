@@ -3,8 +3,8 @@ use Rattle.clap.specs.Words.{Text}
 use Rattle.std.specs.Global.{Global, Vec}
 use Rattle.std.specs.declared.io.Error.{Error}
 use Rattle.std.specs.declared.string.String.{String}
-use Rattle.cli.specs.Performed.{Performs}
-use Rattle.cli.specs.Started.{IsStarted}
+use Rattle.cli.specs.Runs.{Performs}
+use Rattle.cli.specs.Starts.{IsStarted}
 use Rattle.cli.proofs.starting.perform_words.Goals as goal
 
 pub returns-in-Ok-slices : goal.returns-in-Ok-slices

@@ -4,8 +4,8 @@ use Rattle.std.specs.Process.{exit_status}
 use Rattle.std.specs.declared.io.Error.{Error}
 use Rattle.std.specs.declared.hash.RandomState.{RandomState}
 use Rattle.session.specs.Devices.{Device}
-use Rattle.cli.specs.Printed.{IsPrinted}
-use Rattle.cli.specs.Started.{StartsSeeded}
+use Rattle.cli.specs.Messages.{IsPrinted}
+use Rattle.cli.specs.Starts.{StartsSeeded}
 use Rattle.program.specs.declared.status.Status.TheVariants as statuses
 use Rattle.cli.proofs.starting.start.Goals as goal
 

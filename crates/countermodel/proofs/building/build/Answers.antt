@@ -1,9 +1,9 @@
 use Rattle.std.proofs.Common.{[], length, ◌<◌}
 use Rattle.std.proofs.lemmas.List.Elements.{All-nil}
 use Rattle.certificate.specs.View.{listed_of}
-use Rattle.exactness.specs.Listed.{IsListedInterpretation}
+use Rattle.exactness.specs.ListedInterpretation.{IsListedInterpretation}
 use Rattle.exactness.proofs.Complete.{listed_is_model, listed_agrees}
-use Rattle.interpretation_spec.specs.ByName.{interpretation_of}
+use Rattle.interpretation_spec.specs.NamedInterpretation.{interpretation_of}
 use Rattle.interpretation_spec.proofs.Names.{stands_well}
 use Rattle.countermodel.proofs.SameMembers.{same_members}
 use Rattle.countermodel.proofs.building.build.Goals as goal

@@ -1,15 +1,15 @@
 use Rattle.std.proofs.Common.{map, subst, sym}
 use Rattle.std.proofs.lemmas.Result.{IfOk-weaker}
 use Rattle.certificate.specs.View.{class_row_of}
-use Rattle.engine.specs.Saturated.{SayTheClosure}
-use Rattle.normalise.specs.Problem.{beginnings_of}
+use Rattle.engine.specs.Saturations.{SayTheClosure}
+use Rattle.normalise.specs.Problem.{prefixes_of}
 use Rattle.countermodel.proofs.MemberFacts.{rows_are}
 use Rattle.countermodel.proofs.class_rows.class_rows.Goals as goal
 
 pub returns : goal.returns
 returns c =
     let o = c.args.ontology.now in
-    let b = beginnings_of c.args.saturation.now.normal in
+    let b = prefixes_of c.args.saturation.now.normal in
     IfOk-weaker c.rows_of.result _ _
     (λ v are. rows_are o b c.args.elements.now c.facts.result.now (subst (SayTheClosure o b) (sym c.facts.ensures) c.requires.saturated.facts) c.in_ok-lists.lists c.in_ok-lists.ensures.members (map class_row_of v.items) are)
     c.rows_of.ensures

@@ -1,6 +1,6 @@
 use Rattle.std.proofs.Common.{ℕ, ◌<◌, ◌^◌, map, Some, All, sym, subst}
 use Rattle.certificate.specs.Certificate.{Listed}
-use Rattle.certificate.specs.HasText.{IsListedOf, listed_numbers}
+use Rattle.certificate.specs.Writability.{IsListedOf, listed_numbers}
 use Rattle.certificate.specs.View.{class_row_of, pair_row_of, claim_of}
 use Rattle.exactness.specs.Acceptance.{IsListedFor}
 use Rattle.countermodel.proofs.Interpreted.{listed_for, listed_of, numbers_small}

@@ -20,7 +20,7 @@ returns c =
     whole_text o c.well_formed-2.ensures c.bounded.ensures c.requires.consistent elements c.in_ok-elements.ensures (subst (λ n. n < 2 ^ 32) c.len-domain.ensures c.len-domain.type_inv) c.args.lines c.extend_from_slice.new.self.items
     (record {
       begun = c.in_ok-text.text.items;
-      beginning = c.in_ok-text.ensures ∙ ap (text_to_domain c.args.lines) c.len-domain.ensures;
+      prefix = c.in_ok-text.ensures ∙ ap (text_to_domain c.args.lines) c.len-domain.ensures;
       with_classes = c.write_class_rows.new.text.items;
       classes = c.in_ok-write_class_rows.ensures;
       with_pairs = with_pairs;

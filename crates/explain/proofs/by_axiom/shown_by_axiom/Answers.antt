@@ -6,10 +6,10 @@ use Rattle.certificate.specs.declared.line.Rule.{Rule}
 use Rattle.facts.specs.Births.{reason, numbers_of}
 use Rattle.normal_forms.specs.declared.forms.Origin.TheVariants as origins
 use Rattle.normalise.specs.Entries.{form_in}
-use Rattle.normalise.specs.Problem.{beginnings_of}
-use Rattle.explain.specs.Older.{rests_on}
+use Rattle.normalise.specs.Problem.{prefixes_of}
+use Rattle.explain.specs.OlderFacts.{rests_on}
 use Rattle.explain.specs.Step.{LeadTo}
-use Rattle.explain.specs.Shown.{AreShowing}
+use Rattle.explain.specs.LinesOfFacts.{AreShowing}
 use Rattle.explain.proofs.Births.{rests_there, rests_lead_up}
 use Rattle.explain.proofs.Used.{used_by_fact}
 use Rattle.explain.proofs.Leading.{origin_of_form, form_inside, form_read, axiom_there, leads_to}
@@ -54,7 +54,7 @@ premises-requires-clause-below g c fs at_fs =
     rests_lead_up c.args.ontology.now s c.requires.saturated c.args.fact.0 (reason c.args.birth.now) c.requires.birth c.in-Some.form (sym c.in-Some.ensures) c.args.number origin c.at-form.result f at_form at fs
     (ap (map (slice_get s.state.facts)) (sym (rests g c)) ∙ at_fs)
 
-leading : (g : Over) (c : goal.In_ok-numbers-2 g) → LeadTo c.args.ontology.now (beginnings_of c.args.saturation.now.normal) c.premises.new.derivation c.rule.result (Some c.args.number) c.in_ok-numbers.numbers.items c.fact_of-fact.result
+leading : (g : Over) (c : goal.In_ok-numbers-2 g) → LeadTo c.args.ontology.now (prefixes_of c.args.saturation.now.normal) c.premises.new.derivation c.rule.result (Some c.args.number) c.in_ok-numbers.numbers.items c.fact_of-fact.result
 leading g c =
     let o = c.args.ontology.now in
     let s = c.args.saturation.now in
@@ -65,17 +65,17 @@ leading g c =
     let to = leads_to o s c.requires.saturated c.args.fact.0 (reason c.args.birth.now) c.requires.birth c.in-Some.form (sym c.in-Some.ensures) c.args.number origin c.at-form.result at_form
     c.well_formed-2.ensures (axiom_of c.in-Some-axiom.stated.now) stated f c.fact_of-fact.ensures c.premises.new.derivation c.in_ok-numbers.numbers.items
     (λ fs at. c.in_ok-numbers.ensures.shown fs (ap (map (slice_get s.state.facts)) (c.rests_on-older.ensures ∙ ap (λ v. rests_on v.entries (reason c.args.birth.now)) c.normal-2.ensures) ∙ at)) in
-    subst (λ (rule : Rule). LeadTo o (beginnings_of s.normal) c.premises.new.derivation rule (Some c.args.number) c.in_ok-numbers.numbers.items f) (sym c.rule.ensures) to
+    subst (λ (rule : Rule). LeadTo o (prefixes_of s.normal) c.premises.new.derivation rule (Some c.args.number) c.in_ok-numbers.numbers.items f) (sym c.rule.ensures) to
 
 pub returns-clause-derivation : goal.returns-clause-derivation
-returns-clause-derivation g c = c.in_ok-numbers-2.ensures.derivation c.args.ontology.now (beginnings_of c.args.saturation.now.normal) c.in_ok-numbers.ensures.derivation (leading g c)
+returns-clause-derivation g c = c.in_ok-numbers-2.ensures.derivation c.args.ontology.now (prefixes_of c.args.saturation.now.normal) c.in_ok-numbers.ensures.derivation (leading g c)
 
 pub returns-clause-shown : goal.returns-clause-shown
 returns-clause-shown g c f at =
     let s = c.args.saturation.now in
     let same = same_Some c.fact_of-fact.result f (sym c.fact_of-fact.ensures ∙ at) in
-    subst (AreShowing (beginnings_of s.normal) c.concluded.new.derivation c.in_ok-numbers-2.numbers.items) same
-    (c.in_ok-numbers-2.ensures.shown c.args.ontology.now (beginnings_of s.normal) (leading g c))
+    subst (AreShowing (prefixes_of s.normal) c.concluded.new.derivation c.in_ok-numbers-2.numbers.items) same
+    (c.in_ok-numbers-2.ensures.shown c.args.ontology.now (prefixes_of s.normal) (leading g c))
 
 pub returns-clause-used : goal.returns-clause-used
 returns-clause-used g c =

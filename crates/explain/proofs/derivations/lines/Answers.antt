@@ -1,6 +1,6 @@
 use Rattle.std.proofs.Common.{sym, subst, ◌∙◌}
 use Rattle.cert_check.specs.Derivation.{IsDerivation}
-use Rattle.explain.specs.Needed.{EachIsNeeded}
+use Rattle.explain.specs.Needs.{EachIsNeeded}
 use Rattle.explain.proofs.derivations.lines.Goals as goal
 
 pub returns-clause-derivation : goal.returns-clause-derivation

@@ -5,7 +5,7 @@ use Rattle.exactness.proofs.Trimmed.{trimmed_all}
 use Rattle.explain.proofs.Before.{premises_before, line_there}
 use Rattle.explain.proofs.HandedOn.{premises_marked}
 use Rattle.explain.proofs.Renumbering.{trimmed_from_kept}
-use Rattle.explain.specs.Resting.{MarksRests}
+use Rattle.explain.specs.LineMarks.{MarksRests}
 use Rattle.explain.proofs.left.trimmed.Goals as goal
 
 pub rests-requires-clause-before : goal.rests-requires-clause-before

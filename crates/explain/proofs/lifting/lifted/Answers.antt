@@ -1,13 +1,13 @@
 use Rattle.std.proofs.Common.{◌≡◌, ◌++◌, ℕ, List, get_or, slice_get, Some, inl, inr, sym, ap, ◌∙◌, subst, subst₂, arith}
-use Rattle.explain.specs.Shown.{AreShowing}
+use Rattle.explain.specs.LinesOfFacts.{AreShowing}
 use Rattle.explain.proofs.Growing.{lengthened_twice}
 use Rattle.explain.proofs.LiftedEdges.{path_on, stays}
 use Rattle.explain.proofs.Used.{used_twice}
-use Rattle.explain.specs.Serving.{IsAmong}
+use Rattle.explain.specs.Uses.{IsAmong}
 use Rattle.facts.specs.declared.contexts.Fact.TheVariants.{Edge}
 use Rattle.normal_forms.specs.declared.forms.Form.TheVariants.{N5}
 use Rattle.normal_forms.specs.declared.forms.PropId2.{PropId2}
-use Rattle.normalise.specs.Problem.{beginnings_of}
+use Rattle.normalise.specs.Problem.{prefixes_of}
 use Rattle.explain.proofs.lifting.lifted.Goals as goal
 use Rattle.explain.proofs.lifting.lifted.Goals.{in_default-via-in-Property+in_default, in_default-via-in_default}
 
@@ -19,7 +19,7 @@ loop-form-preserved g c =
       derivation = c.in_ok-lines.ensures.derivation;
       longer = lengthened_twice c.loop-form.invariant.longer c.in_ok-lines.ensures.longer;
       shown = (t, to, above, rest, c.in_ok-lines.ensures.shown r t (record { leads = subst (λ fs. slice_get fs (get_or c.deref-form-items.result.now c.loop-form.form-index 0) ≡ Some (N5 r t)) c.requires.paths at; shown = shown }));
-      used = used_twice c.args.derivation.now c.loop-form.derivation c.led_on.new.derivation (IsAmong c.args.numbers.now) c.loop-form.lines.items c.in_ok-lines.lines.items c.in_ok-lines.ensures.longer c.loop-form.invariant.used c.in_ok-lines.ensures.used;
+      used = used_twice c.args.derivation.now c.loop-form.derivation c.lifted_by.new.derivation (IsAmong c.args.numbers.now) c.loop-form.lines.items c.in_ok-lines.lines.items c.in_ok-lines.ensures.longer c.loop-form.invariant.used c.in_ok-lines.ensures.used;
     }
 
 pub returns-in_default-clause-shown : goal.returns-in_default-clause-shown
@@ -30,4 +30,4 @@ returns-in_default-clause-shown g c =
       | in_default-via-in_default w ↦ stays forms w.in_default.field-0-0 c.args.property c.args.above c.requires.below (inl w.in_default.is-0)
     ] in
     let numbers : c.extend_from_slice.new.self.items ≡ c.args.numbers.now = c.in_ok-extend_from_slice.ensures.items ∙ ap (λ ns. ns ++ c.args.numbers.now) c.new-lines.ensures.items in
-    subst₂ (λ (ns : List ℕ) (q : PropId2). AreShowing (beginnings_of c.args.saturation.now.normal) c.args.derivation.now ns (Edge c.args.source q c.args.target)) (sym numbers) same c.requires.shown
+    subst₂ (λ (ns : List ℕ) (q : PropId2). AreShowing (prefixes_of c.args.saturation.now.normal) c.args.derivation.now ns (Edge c.args.source q c.args.target)) (sym numbers) same c.requires.shown

@@ -1,11 +1,11 @@
 use Rattle.std.proofs.Common.{◌≡◌, drop}
 use Rattle.axioms.specs.declared.ids.PropId.{PropId}
 use Rattle.cert_check.specs.Derivation.{IsDerivation}
-use Rattle.explain.specs.Serving.{IsAmong, Uses}
-use Rattle.explain.specs.Shown.{AreShowing, Lengthens}
+use Rattle.explain.specs.Uses.{IsAmong, Uses}
+use Rattle.explain.specs.LinesOfFacts.{AreShowing, Lengthens}
 use Rattle.facts.specs.declared.contexts.Fact.TheVariants.{Edge}
 use Rattle.normal_forms.specs.declared.forms.PropId2.TheVariants.{Property}
-use Rattle.normalise.specs.Problem.{beginnings_of}
+use Rattle.normalise.specs.Problem.{prefixes_of}
 use Rattle.explain.specs.Paths.{IsPath}
 use Rattle.explain.proofs.lifting.lifted.Given as goal
 
@@ -13,6 +13,6 @@ abbrev pub invariant-loop-form : goal.invariant-loop-form
 invariant-loop-form g l = record {
   derivation : IsDerivation l.ontology l.derivation;
   longer : Lengthens l.initial.derivation l.derivation;
-  shown : (r : PropId) × (to : PropId) × (l.fn.above ≡ Property to) × IsPath l.paths r (drop l.form-index l.form-items) to × AreShowing (beginnings_of l.saturation.normal) l.derivation l.lines.items (Edge l.source (Property r) l.target);
+  shown : (r : PropId) × (to : PropId) × (l.fn.above ≡ Property to) × IsPath l.paths r (drop l.form-index l.form-items) to × AreShowing (prefixes_of l.saturation.normal) l.derivation l.lines.items (Edge l.source (Property r) l.target);
   used : Uses l.initial.derivation l.derivation (IsAmong l.numbers) l.lines.items;
 }

@@ -2,7 +2,7 @@ use Rattle.std.proofs.Common.{◌≡◌, ◌++◌, ◌∷◌, [], ◌-◌, take,
 use Rattle.explain.specs.Walks.{LeadsToNothing}
 use Rattle.explain.proofs.Growing.{lengthened_twice}
 use Rattle.explain.proofs.Used.{used_twice, used_back}
-use Rattle.explain.specs.Serving.{IsAmong, Uses}
+use Rattle.explain.specs.Uses.{IsAmong, Uses}
 use Rattle.explain.proofs.Walking.{shortens_by_one, no_walk}
 use Rattle.explain.proofs.nothing.carried_back.Goals as goal
 

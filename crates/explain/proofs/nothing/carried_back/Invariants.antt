@@ -1,8 +1,8 @@
 use Rattle.std.proofs.Common.{◌++◌, ◌∷◌, [], take}
 use Rattle.cert_check.specs.Derivation.{IsDerivation}
 use Rattle.certificate.specs.Certificate.{Subject}
-use Rattle.explain.specs.Serving.{IsAmong, Uses}
-use Rattle.explain.specs.Shown.{Lengthens}
+use Rattle.explain.specs.Uses.{IsAmong, Uses}
+use Rattle.explain.specs.LinesOfFacts.{Lengthens}
 use Rattle.explain.specs.Walks.{LeadsToNothing}
 use Rattle.explain.proofs.nothing.carried_back.Given as goal
 

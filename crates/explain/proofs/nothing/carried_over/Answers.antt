@@ -1,9 +1,9 @@
 use Rattle.std.proofs.Common.{◌≡◌, ◌++◌, ◌∷◌, [], Some, refl, ap, ◌∙◌, subst}
 use Rattle.certificate.specs.Certificate.{Sub}
 use Rattle.certificate.specs.View.{subject_of}
-use Rattle.axioms.specs.Numbered.{nothing}
+use Rattle.axioms.specs.Ontology.{nothing}
 use Rattle.explain.proofs.Used.{used_by_line}
-use Rattle.explain.specs.Serving.{IsAmong, Uses}
+use Rattle.explain.specs.Uses.{IsAmong, Uses}
 use Rattle.explain.proofs.Walking.{same_source, carried_line, last_says}
 use Rattle.explain.proofs.nothing.carried_over.Goals as goal
 

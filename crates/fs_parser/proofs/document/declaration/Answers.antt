@@ -3,7 +3,7 @@ use Rattle.std.proofs.lemmas.Result.{err_from_is_err_and}
 use Rattle.fs_lexer.specs.Spelling.{Token}
 use Rattle.fs_lexer.specs.Views.{token_of}
 use Rattle.fs_parser.specs.Faults.{closes}
-use Rattle.fs_parser.specs.Known.{known_of}
+use Rattle.fs_parser.specs.KnownPrefixes.{known_of}
 use Rattle.fs_parser.specs.View.{tokens_of, prefixes_of_code}
 use Rattle.fs_parser.proofs.Documents.{allowed_from, declared_iri}
 use Rattle.fs_parser.proofs.Faults.{plain_said, name_said, iri_said, open_behind}

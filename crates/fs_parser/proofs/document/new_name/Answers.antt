@@ -1,5 +1,5 @@
 use Rattle.std.proofs.Common.{refl}
-use Rattle.fs_parser.specs.Known.{known_of}
+use Rattle.fs_parser.specs.KnownPrefixes.{known_of}
 use Rattle.fs_parser.specs.View.{prefixes_of_code}
 use Rattle.fs_parser.proofs.Faults.{name_taken_before}
 use Rattle.fs_parser.proofs.Steps.{name_taken}

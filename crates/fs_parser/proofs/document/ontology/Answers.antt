@@ -2,8 +2,8 @@ use Rattle.std.proofs.Common.{◌≡◌, ◌∷◌, [], List, ap, ◌∙◌, ref
 use Rattle.std.proofs.lemmas.Result.{err_from_is_err_and, IfErr-weaker}
 use Rattle.fs_lexer.specs.Spelling.{Token}
 use Rattle.fs_lexer.specs.Views.{token_of}
-use Rattle.fs_parser.specs.Known.{known_of}
-use Rattle.fs_parser.specs.Said.{IsSaid, IsSaidOfTrees}
+use Rattle.fs_parser.specs.KnownPrefixes.{known_of}
+use Rattle.fs_parser.specs.FaultMeanings.{IsSaid, IsSaidOfTrees}
 use Rattle.fs_parser.specs.View.{tokens_of, prefixes_of_code}
 use Rattle.fs_parser.proofs.Faults.{plain_said, trees_said}
 use Rattle.fs_parser.proofs.document.ontology.Goals as goal

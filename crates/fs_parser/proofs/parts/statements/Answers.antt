@@ -1,9 +1,9 @@
 use Rattle.std.proofs.Common.{sym, subst}
 use Rattle.std.specs.Result.{IfErr, IfOk}
 use Rattle.fs_parser.specs.Faults.{last_place}
-use Rattle.fs_parser.specs.Known.{known_of}
+use Rattle.fs_parser.specs.KnownPrefixes.{known_of}
 use Rattle.fs_parser.specs.Name.{Prefixes, StandForOne}
-use Rattle.fs_parser.specs.Said.{IsSaidOfTrees}
+use Rattle.fs_parser.specs.FaultMeanings.{IsSaidOfTrees}
 use Rattle.fs_parser.specs.State.{IsRefusal}
 use Rattle.fs_parser.specs.Tree.{Trees, AreShallow}
 use Rattle.fs_parser.specs.View.{tokens_of, trees_of}

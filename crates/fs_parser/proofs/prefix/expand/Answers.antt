@@ -1,5 +1,5 @@
 use Rattle.fs_lexer.specs.Views.{token_of}
-use Rattle.fs_parser.specs.Known.{known_of}
+use Rattle.fs_parser.specs.KnownPrefixes.{known_of}
 use Rattle.fs_parser.proofs.Steps.{not_named}
 use Rattle.fs_parser.proofs.prefix.expand.Goals as goal
 

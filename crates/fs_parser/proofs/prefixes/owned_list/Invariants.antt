@@ -1,5 +1,5 @@
 use Rattle.std.proofs.Common.{◌≡◌, map, take}
-use Rattle.fs_parser.specs.Owned.{owned_prefix}
+use Rattle.fs_parser.specs.OwnedPrefixes.{owned_prefix}
 use Rattle.fs_parser.specs.View.{prefixes_of_code}
 use Rattle.fs_parser.proofs.prefixes.owned_list.Given as goal
 

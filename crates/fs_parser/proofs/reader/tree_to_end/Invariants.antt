@@ -1,6 +1,6 @@
 use Rattle.std.proofs.Common.{◌≡◌, length}
 use Rattle.fs_parser.specs.State.{state_of, frames_of}
-use Rattle.fs_parser.specs.Known.{known_of}
+use Rattle.fs_parser.specs.KnownPrefixes.{known_of}
 use Rattle.fs_parser.specs.View.{tokens_of}
 use Rattle.fs_parser.proofs.Run.{run, start}
 use Rattle.fs_parser.proofs.Faults.{IsReadTo}

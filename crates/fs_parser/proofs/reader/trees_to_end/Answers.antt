@@ -1,6 +1,6 @@
 use Rattle.std.proofs.Common.{map, arith}
 use Rattle.std.proofs.lemmas.Result.{err_from_is_err_and}
-use Rattle.fs_parser.specs.Known.{known_of}
+use Rattle.fs_parser.specs.KnownPrefixes.{known_of}
 use Rattle.fs_parser.specs.View.{tree_of, tokens_of}
 use Rattle.fs_parser.specs.State.{state_of}
 use Rattle.fs_parser.proofs.Run.{run, start}

@@ -1,5 +1,5 @@
 use Rattle.std.proofs.Common.{◌-◌, length}
-use Rattle.fs_parser.specs.Known.{known_of}
+use Rattle.fs_parser.specs.KnownPrefixes.{known_of}
 use Rattle.fs_parser.specs.State.{state_of}
 use Rattle.fs_parser.proofs.Streams.{IsBetween}
 use Rattle.fs_parser.proofs.stream.trees_behind.Given as goal

@@ -1,6 +1,6 @@
 use Rattle.std.proofs.Common.{refl}
 use Rattle.fs_lexer.specs.Views.{token_of}
-use Rattle.fs_parser.specs.Known.{known_of}
+use Rattle.fs_parser.specs.KnownPrefixes.{known_of}
 use Rattle.fs_parser.specs.State.{state_of}
 use Rattle.fs_parser.specs.View.{tree_of}
 use Rattle.fs_parser.proofs.TreeReading.{next_within, tree_read}

@@ -1,5 +1,5 @@
 use Rattle.std.proofs.Common.{◌≡◌, ◌+◌, sym, ap, ◌∙◌, subst, arith}
-use Rattle.generated_part.specs.ByElement.{AreClassesAt}
+use Rattle.generated_part.specs.Elements.{AreClassesAt}
 use Rattle.generated_part.proofs.Rows.{one_class, not_class}
 use Rattle.generated_part.proofs.by_element.classes_at.Goals as goal
 use Rattle.generated_part.proofs.by_element.classes_at.Goals.{then-is_member+in_ok-push, else-is_member}

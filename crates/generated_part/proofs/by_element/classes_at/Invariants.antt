@@ -1,4 +1,4 @@
-use Rattle.generated_part.specs.ByElement.{AreClassesAt}
+use Rattle.generated_part.specs.Elements.{AreClassesAt}
 use Rattle.generated_part.proofs.by_element.classes_at.Given as goal
 
 abbrev pub invariant-loop-number : goal.invariant-loop-number

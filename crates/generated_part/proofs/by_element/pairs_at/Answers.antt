@@ -1,5 +1,5 @@
 use Rattle.std.proofs.Common.{◌≡◌, ℕ, List, ◌+◌, sym, subst, arith}
-use Rattle.generated_part.specs.ByElement.{prop_id, ArePairsAt}
+use Rattle.generated_part.specs.Elements.{prop_id, ArePairsAt}
 use Rattle.generated_part.proofs.Rows.{AddsTargets, one_property}
 use Rattle.generated_part.proofs.by_element.pairs_at.Goals as goal
 

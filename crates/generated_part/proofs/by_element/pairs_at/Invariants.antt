@@ -1,4 +1,4 @@
-use Rattle.generated_part.specs.ByElement.{ArePairsAt}
+use Rattle.generated_part.specs.Elements.{ArePairsAt}
 use Rattle.generated_part.proofs.by_element.pairs_at.Given as goal
 
 abbrev pub invariant-loop-number : goal.invariant-loop-number

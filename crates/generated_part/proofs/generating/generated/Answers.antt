@@ -1,6 +1,6 @@
 use Rattle.std.proofs.Common.{◌<◌, sym, subst}
 use Rattle.std.proofs.lemmas.Result.{IfOk-weaker}
-use Rattle.interpretation_spec.specs.ByName.{interpretation_of}
+use Rattle.interpretation_spec.specs.NamedInterpretation.{interpretation_of}
 use Rattle.interpretation_spec.proofs.Names.{stands_well, size_of}
 use Rattle.generated_part.proofs.generating.generated.Goals as goal
 

@@ -1,6 +1,6 @@
 use Rattle.std.proofs.lemmas.Result.{IfOk-weaker}
 use Rattle.certificate.specs.View.{listed_of}
-use Rattle.listed_model.specs.Interpreted.{listed_interpretation}
+use Rattle.listed_model.specs.Interpretations.{listed_interpretation}
 use Rattle.listed_model.proofs.Interpreted.{interpretation_is}
 use Rattle.generated_part.proofs.Listed.{listed_within}
 use Rattle.generated_part.proofs.generating.listed_part.Goals as goal

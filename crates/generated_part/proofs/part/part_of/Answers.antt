@@ -1,7 +1,7 @@
 use Rattle.std.proofs.Common.{◌≡◌, List, ℕ, length, map, subst, subst₂, arith}
 use Rattle.std.specs.Prelude.{slice_index}
 use Rattle.cert_check.specs.Additions.{AddsMembers, AddsPairs, PutsIndividuals}
-use Rattle.interpretation_spec.specs.Numbered.{NumberedInterpretation, empty_interpretation}
+use Rattle.interpretation_spec.specs.NumberedInterpretation.{NumberedInterpretation, empty_interpretation}
 use Rattle.generated_part.specs.Part.{IsMemberAt}
 use Rattle.generated_part.proofs.Parts.{part_made, part_is}
 use Rattle.generated_part.proofs.part.part_of.Goals as goal

@@ -1,7 +1,7 @@
 use Rattle.std.proofs.Common.{refl}
-use Rattle.indexes.specs.Named.{property_key, by_chain}
+use Rattle.indexes.specs.Keys.{property_key, by_chain}
 use Rattle.normal_forms.proofs.Suffice.{suffice}
-use Rattle.inference.specs.Visited.{NoneUnder}
+use Rattle.inference.specs.Visits.{NoneUnder}
 use Rattle.inference.proofs.Drawing.{each_more, each}
 use Rattle.inference.proofs.visits.begins_chain.Goals as goal
 

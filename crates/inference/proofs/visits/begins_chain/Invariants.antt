@@ -1,7 +1,7 @@
 use Rattle.std.proofs.Common.{take, Contains}
 use Rattle.normal_forms.specs.declared.forms.PropId2.{PropId2}
-use Rattle.indexes.specs.Named.{property_key, by_chain}
-use Rattle.inference.specs.Visited.{NoneUnder}
+use Rattle.indexes.specs.Keys.{property_key, by_chain}
+use Rattle.inference.specs.Visits.{NoneUnder}
 use Rattle.inference.proofs.visits.begins_chain.Given as goal
 
 abbrev pub invariant-loop-above : goal.invariant-loop-above

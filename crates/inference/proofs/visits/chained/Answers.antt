@@ -1,5 +1,5 @@
 use Rattle.std.proofs.Common.{ap, ◌∙◌}
-use Rattle.inference.specs.Visited.{chained_property}
+use Rattle.inference.specs.Visits.{chained_property}
 use Rattle.inference.proofs.Lists.{two_elements}
 use Rattle.inference.proofs.visits.chained.Goals as goal
 

@@ -1,6 +1,6 @@
 use Rattle.std.proofs.Common.{◌≡◌, ℕ, ◌<◌, ◌≤◌, length, false}
 use Rattle.std.specs.List.{list_any}
-use Rattle.interpretation_spec.specs.Kept.{kept_targets}
+use Rattle.interpretation_spec.specs.Fields.{kept_targets}
 use Rattle.number_sets.specs.Members.{has}
 use Rattle.interpretation_spec.proofs.pairs.sources_in.Given as goal
 

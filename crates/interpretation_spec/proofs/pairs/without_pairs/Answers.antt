@@ -1,6 +1,6 @@
 use Rattle.std.proofs.Common.{◌≡◌, ℕ, [], List, ap, ap₂, ◌∙◌, ◌++◌, ◌∷◌, replicate, map, refl}
 use Rattle.std.proofs.lemmas.List.{map_push, replicate_more}
-use Rattle.interpretation_spec.specs.Kept.{kept_pairs, kept_targets}
+use Rattle.interpretation_spec.specs.Fields.{kept_pairs, kept_targets}
 use Rattle.number_sets.proofs.Tables.{table_one}
 use Rattle.interpretation_spec.proofs.pairs.without_pairs.Goals as goal
 

@@ -1,5 +1,5 @@
 use Rattle.std.proofs.Common.{◌≡◌, ℕ, [], map, replicate}
-use Rattle.interpretation_spec.specs.Kept.{kept_pairs}
+use Rattle.interpretation_spec.specs.Fields.{kept_pairs}
 use Rattle.interpretation_spec.proofs.pairs.without_pairs.Given as goal
 
 abbrev pub invariant-loop : goal.invariant-loop

@@ -1,5 +1,5 @@
 use Rattle.std.proofs.Common.{◌≡◌, ℕ, suc, ◌+◌, ◌-◌, ◌*◌, ◌/◌, length, refl, arith}
-use Rattle.keyed_hash.specs.Keyed.{mixed_blocks, state_after_blocks}
+use Rattle.keyed_hash.specs.Hasher.{mixed_blocks, state_after_blocks}
 use Rattle.keyed_hash.proofs.hasher.state_after_blocks.Goals as goal
 
 pub loop-at-init : goal.loop-at-init

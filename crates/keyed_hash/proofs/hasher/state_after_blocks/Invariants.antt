@@ -1,5 +1,5 @@
 use Rattle.std.specs.Prelude.{◌≡◌, ◌-◌, ◌/◌, ◌%◌, ◌<◌}
-use Rattle.keyed_hash.specs.Keyed.{mixed_blocks}
+use Rattle.keyed_hash.specs.Hasher.{mixed_blocks}
 use Rattle.keyed_hash.proofs.hasher.state_after_blocks.Given as goal
 
 abbrev pub invariant-loop-at : goal.invariant-loop-at

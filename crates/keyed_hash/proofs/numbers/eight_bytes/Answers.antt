@@ -1,4 +1,4 @@
-use Rattle.keyed_hash.specs.Keyed.{eight_bytes}
+use Rattle.keyed_hash.specs.Hasher.{eight_bytes}
 use Rattle.keyed_hash.proofs.numbers.eight_bytes.Goals as goal
 
 pub returns : goal.returns

@@ -1,6 +1,6 @@
 use Rattle.std.proofs.Common.{length}
 use Rattle.std.proofs.lemmas.Bool.{le-leb, lt-leb, lt-ltb, le-ltb}
-use Rattle.keyed_hash.specs.Keyed.{few_bytes}
+use Rattle.keyed_hash.specs.Hasher.{few_bytes}
 use Rattle.keyed_hash.proofs.numbers.few_bytes.Goals as goal
 
 pub returns-then-len-ge4 : goal.returns-then-len-ge4

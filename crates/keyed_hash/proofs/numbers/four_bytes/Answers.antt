@@ -1,4 +1,4 @@
-use Rattle.keyed_hash.specs.Keyed.{four_bytes}
+use Rattle.keyed_hash.specs.Hasher.{four_bytes}
 use Rattle.keyed_hash.proofs.numbers.four_bytes.Goals as goal
 
 pub returns : goal.returns

@@ -1,7 +1,7 @@
 use Rattle.std.proofs.Common.{◌≡◌, inl, inr, slice_get, Some, sym, ap, ◌∙◌, subst, arith}
 use Rattle.std.proofs.lemmas.Bool.{cases_lt}
 use Rattle.std.proofs.lemmas.Option.{get_or_from_slice_get, slice_get_within}
-use Rattle.keyed_hash.specs.Numbered.{hash_of}
+use Rattle.keyed_hash.specs.Numbering.{hash_of}
 use Rattle.keyed_hash.specs.Slots.{Leads}
 use Rattle.keyed_hash.proofs.set.place_each.Goals as goal
 

@@ -1,5 +1,5 @@
 use Rattle.std.proofs.Common.{◌≡◌, ℕ, ◌<◌, slice_get, Some}
-use Rattle.keyed_hash.specs.Numbered.{hash_of}
+use Rattle.keyed_hash.specs.Numbering.{hash_of}
 use Rattle.keyed_hash.specs.Slots.{HasSlots, Leads}
 use Rattle.keyed_hash.proofs.set.place_each.Given as goal
 

@@ -5,7 +5,7 @@ use Rattle.std.proofs.lemmas.List.{length-map}
 use Rattle.std.proofs.lemmas.Option.{none-some}
 use Rattle.std.proofs.lemmas.Result.{IfOk-weaker}
 use Rattle.lemmas.proofs.Places.{slice_get_there}
-use Rattle.axioms.specs.Numbered.{And, Exists}
+use Rattle.axioms.specs.Ontology.{And, Exists}
 use Rattle.axioms.specs.View.{node_of, expr_numbers}
 use Rattle.axioms.specs.declared.ids.ExprId.{ExprId}
 use Rattle.certificate.specs.View.{listed_of, pair_row_of}

@@ -5,11 +5,11 @@ use Rattle.std.proofs.lemmas.List.Elements.{All-contains, All-map}
 use Rattle.std.proofs.lemmas.Option.{slice_get-get_or, same_Some}
 use Rattle.lemmas.proofs.Mapped.{slice_get_map}
 use Rattle.lemmas.proofs.Members.{Contains-from_slice_get}
-use Rattle.axioms.specs.Numbered.{Axiom, axiom_tree}
+use Rattle.axioms.specs.Ontology.{Axiom, axiom_tree}
 use Rattle.axioms.specs.View.{axiom_of, at_number}
-use Rattle.axioms.specs.WellFormed.{IsAxiomOf}
+use Rattle.axioms.specs.WellFormedness.{IsAxiomOf}
 use Rattle.certificate.specs.View.{listed_of, pair_row_of}
-use Rattle.listed_model.specs.Interpreted.{listed_interpretation}
+use Rattle.listed_model.specs.Interpretations.{listed_interpretation}
 use Rattle.listed_model.proofs.Interpreted.{interpretation_is}
 use Rattle.interpretation_spec.specs.Interpretation.{Satisfies}
 use Rattle.interpretation_spec.proofs.Steps.{if_some}

@@ -1,9 +1,9 @@
 use Rattle.std.proofs.Common.{◌≡◌, ℕ, ◌<◌, length, map, slice_get, Some}
-use Rattle.axioms.specs.Numbered.{axiom_tree, Axiom}
+use Rattle.axioms.specs.Ontology.{axiom_tree, Axiom}
 use Rattle.certificate.specs.View.{listed_of, pair_row_of}
 use Rattle.interpretation_spec.specs.Interpretation.{Satisfies}
-use Rattle.listed_model.specs.Shown.{AreShown}
-use Rattle.listed_model.specs.Interpreted.{listed_interpretation}
+use Rattle.listed_model.specs.PropertyTests.{AreShown}
+use Rattle.listed_model.specs.Interpretations.{listed_interpretation}
 use Rattle.listed_model.proofs.satisfaction.first_failing.Given as goal
 
 abbrev pub invariant-loop-index : goal.invariant-loop-index

@@ -1,11 +1,11 @@
 use Rattle.std.proofs.Common.{IsNone, IfSome, MatchOption, Option, Some, None, ℕ, refl}
 use Rattle.std.proofs.lemmas.Result.{IfOk-weaker}
-use Rattle.axioms.specs.Numbered.{axiom_trees}
+use Rattle.axioms.specs.Ontology.{axiom_trees}
 use Rattle.certificate.specs.View.{listed_of}
-use Rattle.interpretation_spec.specs.ByName.{IsFirstUnsatisfied}
+use Rattle.interpretation_spec.specs.NamedInterpretation.{IsFirstUnsatisfied}
 use Rattle.interpretation_spec.specs.Interpretation.{IsModel}
 use Rattle.interpretation_spec.proofs.Steps.{IfOk-both}
-use Rattle.listed_model.specs.Interpreted.{listed_interpretation}
+use Rattle.listed_model.specs.Interpretations.{listed_interpretation}
 use Rattle.listed_model.proofs.Interpreted.{listing_is, interpretation_is}
 use Rattle.listed_model.proofs.satisfaction.first_unsatisfied.Goals as goal
 

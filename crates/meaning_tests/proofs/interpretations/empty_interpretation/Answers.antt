@@ -3,9 +3,9 @@ use Rattle.std.proofs.lemmas.List.{length-replicate}
 use Rattle.std.proofs.lemmas.Option.{slice_get_within}
 use Rattle.std.proofs.lemmas.Result.{IfOk-weaker}
 use Rattle.axioms.specs.Expression.{owl_thing}
-use Rattle.axioms.specs.Numbered.{Ontology}
-use Rattle.axioms.specs.WellFormed.{IsOntology}
-use Rattle.interpretation_spec.specs.Numbered.{NumberedInterpretation, IsMadeFor, empty_interpretation}
+use Rattle.axioms.specs.Ontology.{Ontology}
+use Rattle.axioms.specs.WellFormedness.{IsOntology}
+use Rattle.interpretation_spec.specs.NumberedInterpretation.{NumberedInterpretation, IsMadeFor, empty_interpretation}
 use Rattle.meaning_tests.proofs.interpretations.empty_interpretation.Goals as goal
 
 made_for : (o : Ontology) → IsOntology o → (size : ℕ) → IsMadeFor o.names (empty_interpretation o.names size)

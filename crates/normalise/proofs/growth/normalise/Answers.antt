@@ -1,5 +1,5 @@
 use Rattle.std.proofs.Common.{sym, subst}
-use Rattle.normalise.specs.Growing.{IsNormalFor}
+use Rattle.normalise.specs.Growth.{IsNormalFor}
 use Rattle.normalise.proofs.Asking.{no_ontology, nothing_normal, nothing_grows}
 use Rattle.normalise.proofs.growth.normalise.Goals as goal
 

@@ -3,7 +3,7 @@ use Rattle.std.proofs.lemmas.List.{length-map}
 use Rattle.axioms.specs.View.{axiom_of}
 use Rattle.lemmas.proofs.Mapped.{slice_get_map}
 use Rattle.std.proofs.lemmas.Option.{slice_get_read}
-use Rattle.normal_forms.specs.Occurring.{AtLeft}
+use Rattle.normal_forms.specs.Occurrences.{AtLeft}
 use Rattle.normalise.proofs.Marking.{each_more, each_all}
 use Rattle.normalise.proofs.marks.mark_axioms_left.Goals as goal
 

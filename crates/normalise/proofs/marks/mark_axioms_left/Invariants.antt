@@ -1,6 +1,6 @@
 use Rattle.std.proofs.Common.{map}
 use Rattle.axioms.specs.View.{axiom_of}
-use Rattle.normal_forms.specs.Occurring.{AtLeft}
+use Rattle.normal_forms.specs.Occurrences.{AtLeft}
 use Rattle.normalise.specs.Marks.{Marks, EachOf}
 use Rattle.normalise.proofs.marks.mark_axioms_left.Given as goal
 

@@ -1,6 +1,6 @@
 use Rattle.std.proofs.Common.{map}
 use Rattle.axioms.specs.View.{axiom_of}
-use Rattle.normal_forms.specs.Occurring.{AtRight}
+use Rattle.normal_forms.specs.Occurrences.{AtRight}
 use Rattle.normalise.specs.Marks.{Marks, EachOf}
 use Rattle.normalise.proofs.marks.mark_axioms_right.Given as goal
 

@@ -1,5 +1,5 @@
 use Rattle.std.proofs.Common.{◌≡◌, ◌+◌, length, subst, sym, arith}
-use Rattle.normalise.specs.Growing.{FreshTo}
+use Rattle.normalise.specs.Growth.{FreshTo}
 use Rattle.normalise.proofs.Marked.{fresh_more}
 use Rattle.normalise.proofs.new_marks.fresh.Goals as goal
 

@@ -1,4 +1,4 @@
-use Rattle.normalise.specs.Growing.{FreshTo}
+use Rattle.normalise.specs.Growth.{FreshTo}
 use Rattle.normalise.proofs.new_marks.fresh.Given as goal
 
 abbrev pub invariant-loop-k : goal.invariant-loop-k

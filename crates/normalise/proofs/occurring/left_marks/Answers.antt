@@ -1,6 +1,6 @@
 use Rattle.std.proofs.Common.{◌≡◌, length, sym, subst, arith}
 use Rattle.axioms.specs.View.{expr_numbers}
-use Rattle.normal_forms.specs.Occurring.{AtLeft}
+use Rattle.normal_forms.specs.Occurrences.{AtLeft}
 use Rattle.normalise.specs.Marks.{MarksOccurring}
 use Rattle.normalise.proofs.Giving.{take_whole}
 use Rattle.normalise.proofs.occurring.left_marks.Goals as goal

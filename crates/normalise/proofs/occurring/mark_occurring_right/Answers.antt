@@ -1,8 +1,8 @@
 use Rattle.std.proofs.Common.{subst}
 use Rattle.axioms.specs.View.{expr_numbers}
-use Rattle.normal_forms.specs.Occurring.{AtRight}
+use Rattle.normal_forms.specs.Occurrences.{AtRight}
 use Rattle.normalise.specs.Marks.{Marks}
-use Rattle.normal_forms.specs.Occurring.{AtSome}
+use Rattle.normal_forms.specs.Occurrences.{AtSome}
 use Rattle.normalise.proofs.Occurrences.{occurring}
 use Rattle.normalise.proofs.occurring.mark_occurring_right.Goals as goal
 

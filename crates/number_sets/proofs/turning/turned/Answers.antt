@@ -1,6 +1,6 @@
 use Rattle.std.proofs.Common.{◌++◌, ap, ap₂, sym, ◌∙◌}
 use Rattle.number_sets.proofs.Growing.{holders_more}
-use Rattle.number_sets.specs.Turned.{copies}
+use Rattle.number_sets.specs.Transposition.{copies}
 use Rattle.number_sets.proofs.turning.turned.Goals as goal
 
 pub loop-i-preserved : goal.loop-i-preserved

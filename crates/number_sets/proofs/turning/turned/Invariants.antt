@@ -1,6 +1,6 @@
 use Rattle.std.proofs.Common.{ℕ, ◌<◌, ◌≡◌, length}
 use Rattle.number_sets.specs.Pieces.{list_at}
-use Rattle.number_sets.specs.Turned.{holders_below}
+use Rattle.number_sets.specs.Transposition.{holders_below}
 use Rattle.number_sets.proofs.turning.turned.Given as goal
 
 abbrev pub invariant-loop-i : goal.invariant-loop-i

@@ -1,6 +1,6 @@
 use Rattle.std.proofs.Common.{map, take}
 use Rattle.fs_parser.specs.View.{tree_of}
-use Rattle.profile.specs.Taking.{AreTakenBehind}
+use Rattle.profile.specs.Intake.{AreTakenBehind}
 use Rattle.profile.proofs.acceptance.take_all.Given as goal
 
 abbrev pub invariant-loop-tree : goal.invariant-loop-tree

@@ -1,9 +1,9 @@
 use Rattle.std.proofs.Common.{Result, subst, sym}
-use Rattle.axioms.specs.Numbered.{Ontology}
+use Rattle.axioms.specs.Ontology.{Ontology}
 use Rattle.profile.specs.declared.acceptance.Refusal.{Refusal}
 use Rattle.profile.specs.declared.fault.DocumentFault.{DocumentFault}
 use Rattle.profile.specs.Faults.{Refuses}
-use Rattle.profile.specs.Streaming.{IsAnswerTo}
+use Rattle.profile.specs.Streams.{IsAnswerTo}
 use Rattle.profile.proofs.OneByOne.{streamed_reads, streamed_refused, streamed_taken}
 use Rattle.profile.proofs.streamed.streamed.Goals as goal
 

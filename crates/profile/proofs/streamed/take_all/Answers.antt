@@ -1,5 +1,5 @@
 use Rattle.std.proofs.Common.{subst, Option, option_map}
-use Rattle.fs_parser.specs.TreesLeft.{IsNext}
+use Rattle.fs_parser.specs.Rest.{IsNext}
 use Rattle.fs_parser.specs.View.{tree_of}
 use Rattle.fs_parser.specs.declared.tree.Tree as code
 use Rattle.profile.proofs.OneByOne.{all_so_far, one_more_taken}

@@ -1,4 +1,4 @@
-use Rattle.fs_parser.specs.TreesLeft.{bytes_left}
+use Rattle.fs_parser.specs.Rest.{bytes_left}
 use Rattle.profile.proofs.OneByOne.{AreTakenSoFar}
 use Rattle.profile.proofs.streamed.take_all.Given as goal
 

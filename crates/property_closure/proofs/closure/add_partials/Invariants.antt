@@ -1,10 +1,10 @@
 use Rattle.std.proofs.Common.{◌≡◌, ◌≤◌, length, vec_capacity}
-use Rattle.property_closure.specs.Closed.{AreBeginnings}
+use Rattle.property_closure.specs.PropertyClosures.{ArePrefixes}
 use Rattle.property_closure.proofs.closure.add_partials.Given as goal
 
 abbrev pub invariant-loop-number : goal.invariant-loop-number
 invariant-loop-number l = record {
-  each : AreBeginnings l.list.items;
+  each : ArePrefixes l.list.items;
   long : length l.list.items ≡ l.number;
   room : l.n ≤ vec_capacity l.list;
 }

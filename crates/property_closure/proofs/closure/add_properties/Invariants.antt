@@ -1,5 +1,5 @@
 use Rattle.std.proofs.Common.{◌≡◌, ◌≤◌, length, vec_capacity}
-use Rattle.property_closure.specs.Closed.{AreProperties}
+use Rattle.property_closure.specs.PropertyClosures.{AreProperties}
 use Rattle.property_closure.proofs.closure.add_properties.Given as goal
 
 abbrev pub invariant-loop-number : goal.invariant-loop-number

@@ -1,6 +1,6 @@
 use Rattle.std.proofs.Common.{◌≡◌, ◌↔◌, ◌⊎◌, ℕ, ◌<◌, length, take, true, Contains}
 use Rattle.number_sets.specs.Members.{has}
-use Rattle.property_closure.specs.Related.{as_property}
+use Rattle.property_closure.specs.Relations.{as_property}
 use Rattle.property_closure.proofs.reflexive.put_each.Given as goal
 
 abbrev pub invariant-loop-property : goal.invariant-loop-property

@@ -2,7 +2,7 @@ use Rattle.std.proofs.Common.{◌+◌, ◌<◌, length, sym, ap, ◌∙◌, subs
 use Rattle.normal_forms.specs.declared.forms.PropId2.TheVariants.{Property}
 use Rattle.normal_forms.specs.declared.forms.Form.TheVariants.{N7}
 use Rattle.number_sets.specs.Pieces.{list_at}
-use Rattle.property_closure.specs.Related.{AreAbove}
+use Rattle.property_closure.specs.Relations.{AreAbove}
 use Rattle.property_closure.proofs.Members.{member_at}
 use Rattle.property_closure.proofs.Reflexives.{AreDeclared, declared_more, declared_same, declared_all}
 use Rattle.property_closure.proofs.reflexive.reflexive_properties.Goals as goal

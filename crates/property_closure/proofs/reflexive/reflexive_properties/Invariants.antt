@@ -2,7 +2,7 @@ use Rattle.std.proofs.Common.{◌≡◌, ◌↔◌, ℕ, length, take, true, Con
 use Rattle.normal_forms.specs.declared.forms.Form.TheVariants.{N7}
 use Rattle.normal_forms.specs.Properties.{IsAtOrBelow}
 use Rattle.number_sets.specs.Members.{has}
-use Rattle.property_closure.specs.Related.{as_id, as_property}
+use Rattle.property_closure.specs.Relations.{as_id, as_property}
 use Rattle.property_closure.proofs.reflexive.reflexive_properties.Given as goal
 
 abbrev pub invariant-loop-form : goal.invariant-loop-form

@@ -2,7 +2,7 @@ use Rattle.std.proofs.Common.{◌≡◌, ◌∷◌, [], ◌++◌, List, length, 
 use Rattle.std.proofs.lemmas.List.{length_push}
 use Rattle.normal_forms.specs.declared.forms.PropId2.{PropId2}
 use Rattle.number_sets.specs.Pieces.{list_at}
-use Rattle.property_closure.specs.Related.{AreAbove, as_property}
+use Rattle.property_closure.specs.Relations.{AreAbove, as_property}
 use Rattle.property_closure.proofs.Plain.{above, bounded, one_more_above}
 use Rattle.property_closure.proofs.supers.all_supers.Goals as goal
 

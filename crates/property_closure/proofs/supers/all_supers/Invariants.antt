@@ -1,6 +1,6 @@
 use Rattle.std.proofs.Common.{◌≡◌, ℕ, ◌<◌, length}
 use Rattle.number_sets.specs.Pieces.{list_at}
-use Rattle.property_closure.specs.Related.{AreAbove, as_property}
+use Rattle.property_closure.specs.Relations.{AreAbove, as_property}
 use Rattle.property_closure.proofs.supers.all_supers.Given as goal
 
 abbrev pub invariant-loop-property : goal.invariant-loop-property

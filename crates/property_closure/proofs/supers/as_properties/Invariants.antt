@@ -1,5 +1,5 @@
 use Rattle.std.proofs.Common.{◌≡◌, map, take}
-use Rattle.property_closure.specs.Related.{as_property}
+use Rattle.property_closure.specs.Relations.{as_property}
 use Rattle.property_closure.proofs.supers.as_properties.Given as goal
 
 abbrev pub invariant-loop-number : goal.invariant-loop-number

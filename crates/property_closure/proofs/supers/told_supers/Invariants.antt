@@ -1,6 +1,6 @@
 use Rattle.std.proofs.Common.{◌≡◌, ◌↔◌, ℕ, length, take, Contains}
 use Rattle.number_sets.specs.Pieces.{list_at}
-use Rattle.property_closure.specs.Related.{Tells}
+use Rattle.property_closure.specs.Relations.{Tells}
 use Rattle.property_closure.proofs.supers.told_supers.Given as goal
 
 abbrev pub invariant-loop-form : goal.invariant-loop-form

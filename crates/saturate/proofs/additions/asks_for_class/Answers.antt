@@ -1,4 +1,4 @@
-use Rattle.indexes.specs.Named.{by_alone}
+use Rattle.indexes.specs.Keys.{by_alone}
 use Rattle.saturate.proofs.Asking.{alone, asked_by, not_asked}
 use Rattle.saturate.proofs.additions.asks_for_class.Goals as goal
 

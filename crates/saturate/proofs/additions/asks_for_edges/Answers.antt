@@ -3,7 +3,7 @@ use Rattle.std.proofs.lemmas.List.Elements.{Contains-get_or}
 use Rattle.normal_forms.specs.declared.forms.Form.{Form}
 use Rattle.normal_forms.specs.declared.forms.PropId2.{PropId2}
 use Rattle.normal_forms.proofs.Suffice.{suffice}
-use Rattle.saturate.specs.Asked.{BeginsWith}
+use Rattle.saturate.specs.Requests.{BeginsWith}
 use Rattle.saturate.proofs.Asking.{asks_above, begins_above}
 use Rattle.inference.proofs.Drawing.{each_more, each}
 use Rattle.saturate.proofs.additions.asks_for_edges.Goals as goal

@@ -1,4 +1,4 @@
-use Rattle.indexes.specs.Named.{by_first, by_filler}
+use Rattle.indexes.specs.Keys.{by_first, by_filler}
 use Rattle.saturate.proofs.Asking.{first, filler, asked_by}
 use Rattle.saturate.proofs.additions.asks_for_pairs.Goals as goal
 

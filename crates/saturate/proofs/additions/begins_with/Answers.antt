@@ -1,4 +1,4 @@
-use Rattle.indexes.specs.Named.{by_plain, by_chain}
+use Rattle.indexes.specs.Keys.{by_plain, by_chain}
 use Rattle.saturate.proofs.Asking.{plain, chain, begun_by, not_begun}
 use Rattle.saturate.proofs.additions.begins_with.Goals as goal
 

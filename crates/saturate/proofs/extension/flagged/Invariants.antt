@@ -1,5 +1,5 @@
 use Rattle.std.proofs.Common.{◌≡◌, ℕ, ◌<◌, length}
-use Rattle.saturate.specs.Flagged.{IsFlagged}
+use Rattle.saturate.specs.Flags.{IsFlagged}
 use Rattle.saturate.proofs.extension.flagged.Given as goal
 
 abbrev pub invariant-loop-fact : goal.invariant-loop-fact

@@ -1,7 +1,7 @@
 use Rattle.std.proofs.Common.{◌≡◌, ◌++◌, List, ap, subst, ◌∙◌}
 use Rattle.std.proofs.lemmas.Result.{IfOk-weaker}
 use Rattle.normal_forms.specs.declared.forms.Form.{Form}
-use Rattle.saturate.specs.Flagged.{IsFlagged}
+use Rattle.saturate.specs.Flags.{IsFlagged}
 use Rattle.saturate.proofs.extension.flags_of.Goals as goal
 
 pub returns : goal.returns

@@ -1,6 +1,6 @@
 use Rattle.std.proofs.Common.{take}
-use Rattle.saturate.specs.Listed.{ListsFacts}
-use Rattle.saturate.specs.Flagged.{kept}
+use Rattle.saturate.specs.IndexedFacts.{ListsFacts}
+use Rattle.saturate.specs.Flags.{kept}
 use Rattle.saturate.proofs.extension.indexed.Given as goal
 
 abbrev pub invariant-loop-number : goal.invariant-loop-number

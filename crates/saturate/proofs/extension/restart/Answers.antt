@@ -1,7 +1,7 @@
 use Rattle.std.proofs.Common.{◌≡◌, ℕ, Bool, List, Contains, sym, ap, ap₂, subst, ◌∙◌}
-use Rattle.saturate.specs.Flagged.{kept}
-use Rattle.saturate.specs.Growing.{KeepsServed}
-use Rattle.saturate.specs.Listed.{ListsFacts}
+use Rattle.saturate.specs.Flags.{kept}
+use Rattle.saturate.specs.Growth.{KeepsServed}
+use Rattle.saturate.specs.IndexedFacts.{ListsFacts}
 use Rattle.saturate.proofs.Flagging.{keeps_served}
 use Rattle.saturate.proofs.Listing.{still_listed}
 use Rattle.saturate.proofs.extension.restart.Goals as goal

@@ -1,5 +1,5 @@
 use Rattle.std.proofs.Common.{◌≡◌, ◌++◌, take}
-use Rattle.saturate.specs.Flagged.{asked}
+use Rattle.saturate.specs.Flags.{asked}
 use Rattle.saturate.proofs.queue.add_flagged.Given as goal
 
 abbrev pub invariant-loop-number : goal.invariant-loop-number

@@ -1,5 +1,5 @@
 use Rattle.std.proofs.Common.{◌≡◌, ◌++◌, take}
-use Rattle.saturate.specs.Flagged.{kept}
+use Rattle.saturate.specs.Flags.{kept}
 use Rattle.saturate.proofs.queue.add_kept.Given as goal
 
 abbrev pub invariant-loop-number : goal.invariant-loop-number

@@ -2,7 +2,7 @@ use Rattle.std.proofs.Common.{◌≡◌, ◌≢◌, ℕ, inl, inr, List, [], ◌
 use Rattle.std.specs.Option.{MatchOption, unwrap_or}
 use Rattle.std.proofs.lemmas.Bool.Decides.{Decides-eqb}
 use Rattle.std.proofs.lemmas.Slice.Eq.{strip_suffix_is}
-use Rattle.saturate.specs.Queued.{IsWithoutLast}
+use Rattle.saturate.specs.Turns.{IsWithoutLast}
 use Rattle.saturate.proofs.queue.without_last.Goals as goal
 
 stripped : (number : ℕ) (list rest : Bor (List ℕ)) (r : Option (Bor (List ℕ))) → rest ≡ unwrap_or r list → MatchOption r ((front : List ℕ) → list.now ≢ front ++ number ∷ []) (λ x. list.now ≡ x.now ++ number ∷ []) → IsWithoutLast number list.now rest.now

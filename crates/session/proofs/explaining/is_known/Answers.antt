@@ -1,5 +1,5 @@
 use Rattle.std.proofs.Common.{◌↔◌, IsTrue, subst, sym}
-use Rattle.answers.specs.Explained.{IsKnown}
+use Rattle.answers.specs.Explanations.{IsKnown}
 use Rattle.answers.specs.declared.asked.Asked.{Asked}
 use Rattle.session.proofs.Finding.{finds}
 use Rattle.session.proofs.explaining.is_known.Goals as goal

@@ -1,5 +1,5 @@
 use Rattle.std.proofs.Common.{◌≡◌, map, take}
-use Rattle.session.specs.Answered.{name_lines}
+use Rattle.session.specs.TextAnswers.{name_lines}
 use Rattle.session.proofs.listed.lines_of_names.Given as goal
 
 abbrev pub invariant-loop-name : goal.invariant-loop-name

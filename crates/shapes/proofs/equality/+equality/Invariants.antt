@@ -1,6 +1,6 @@
 use Rattle.std.proofs.Common.{◌≡◌, length}
 use Rattle.fs_parser.specs.View.{trees_of}
-use Rattle.shapes.specs.SameTree.{same_trees}
+use Rattle.shapes.specs.TreeEquality.{same_trees}
 use Rattle.shapes.proofs.equality.+equality.Given as goal
 
 abbrev pub invariant-same_trees-loop-one : goal.invariant-same_trees-loop-one

@@ -1,7 +1,7 @@
 use Rattle.std.proofs.Common.{◌≡◌, map, drop}
 use Rattle.std.specs.List.{list_any}
 use Rattle.fs_parser.specs.View.{tree_of}
-use Rattle.shapes.specs.SameTree.{same_tree}
+use Rattle.shapes.specs.TreeEquality.{same_tree}
 use Rattle.shapes.proofs.equality.is_among.Given as goal
 
 abbrev pub invariant-loop-other : goal.invariant-loop-other

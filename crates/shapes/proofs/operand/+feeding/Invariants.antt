@@ -1,6 +1,6 @@
 use Rattle.std.proofs.Common.{◌≡◌, drop, fold}
 use Rattle.fs_parser.specs.View.{trees_of}
-use Rattle.shapes.specs.Writes.{writes_of}
+use Rattle.shapes.specs.HashInput.{writes_of}
 use Rattle.shapes.proofs.operand.+feeding.Given as goal
 
 abbrev pub invariant-feed_each-loop-tree : goal.invariant-feed_each-loop-tree

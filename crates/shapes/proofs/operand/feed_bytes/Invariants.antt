@@ -1,5 +1,5 @@
 use Rattle.std.proofs.Common.{◌≡◌, drop, fold}
-use Rattle.shapes.specs.Writes.{name_writes}
+use Rattle.shapes.specs.HashInput.{name_writes}
 use Rattle.shapes.proofs.operand.feed_bytes.Given as goal
 
 abbrev pub invariant-loop-byte : goal.invariant-loop-byte

@@ -2,7 +2,7 @@ use Rattle.std.proofs.Common.{◌≡◌, ◌+◌, ◌++◌, drop, get_or, map, s
 use Rattle.std.specs.List.{flat_map}
 use Rattle.std.specs.String.{string_bytes}
 use Rattle.std.proofs.lemmas.List.{at_drop_more}
-use Rattle.axioms.specs.Numbered.{name_at}
+use Rattle.axioms.specs.Ontology.{name_at}
 use Rattle.taxonomy.specs.Relation.{is_listed}
 use Rattle.taxonomy.specs.Superclasses.{is_among}
 use Rattle.taxonomy.specs.Texts.{individual_line, least_groups, line_with}

@@ -2,7 +2,7 @@ use Rattle.std.proofs.Common.{◌++◌, ◌≡◌, drop, length, map}
 use Rattle.taxonomy.specs.Texts.{individual_line}
 use Rattle.std.specs.List.{flat_map}
 use Rattle.std.specs.String.{string_bytes}
-use Rattle.taxonomy.specs.Marked.{HasRoom}
+use Rattle.taxonomy.specs.ClassMarks.{HasRoom}
 use Rattle.taxonomy.specs.Relation.{is_listed}
 use Rattle.taxonomy.proofs.instances_text.write_individuals.Given as goal
 

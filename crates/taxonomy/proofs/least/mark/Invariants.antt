@@ -3,7 +3,7 @@ use Rattle.std.specs.Prelude.{◌==◌}
 use Rattle.std.specs.List.{list_any}
 use Rattle.number_sets.specs.Members.{has}
 use Rattle.number_sets.specs.Pieces.{list_at}
-use Rattle.taxonomy.specs.Marked.{HasRoom}
+use Rattle.taxonomy.specs.ClassMarks.{HasRoom}
 use Rattle.taxonomy.proofs.least.mark.Given as goal
 
 abbrev pub invariant-loop-h : goal.invariant-loop-h

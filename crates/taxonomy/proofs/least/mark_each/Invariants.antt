@@ -3,7 +3,7 @@ use Rattle.std.specs.List.{list_any}
 use Rattle.number_sets.specs.Members.{has}
 use Rattle.taxonomy.specs.Relation.{is_listed}
 use Rattle.taxonomy.specs.Texts.{is_strictly_above}
-use Rattle.taxonomy.specs.Marked.{HasRoom}
+use Rattle.taxonomy.specs.ClassMarks.{HasRoom}
 use Rattle.taxonomy.proofs.least.mark_each.Given as goal
 
 abbrev pub invariant-loop-c : goal.invariant-loop-c

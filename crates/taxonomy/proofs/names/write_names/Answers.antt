@@ -1,6 +1,6 @@
 use Rattle.std.proofs.Common.{◌+◌, ◌++◌, get_or, drop, map, sym, ap, ◌∙◌}
 use Rattle.std.specs.String.{string_bytes}
-use Rattle.axioms.specs.Numbered.{name_at}
+use Rattle.axioms.specs.Ontology.{name_at}
 use Rattle.taxonomy.specs.Texts.{bracketed, listed}
 use Rattle.taxonomy.proofs.Lines.{listed-more, written-more}
 use Rattle.taxonomy.proofs.names.write_names.Goals as goal

@@ -2,7 +2,7 @@ use Rattle.std.proofs.Common.{◌++◌, ◌≡◌, drop, length, map}
 use Rattle.taxonomy.specs.Texts.{group_line, in_byte_order, is_no_bottom}
 use Rattle.std.specs.List.{filter, flat_map}
 use Rattle.std.specs.String.{string_bytes}
-use Rattle.taxonomy.specs.Marked.{HasRoom}
+use Rattle.taxonomy.specs.ClassMarks.{HasRoom}
 use Rattle.taxonomy.specs.Relation.{is_listed}
 use Rattle.taxonomy.proofs.taxonomy_text.write_groups.Given as goal
 

@@ -1,5 +1,5 @@
 use Rattle.std.proofs.Common.{◌-◌, ◌+◌, length}
-use Rattle.work_list.specs.Stacked.{IsSame}
+use Rattle.work_list.specs.Stacks.{IsSame}
 use Rattle.work_list.proofs.groups.grow.Given as goal
 
 abbrev pub invariant-loop-places : goal.invariant-loop-places

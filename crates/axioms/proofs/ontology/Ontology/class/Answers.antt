@@ -1,8 +1,8 @@
 use Rattle.std.proofs.Common.{◌≡◌, ◌<◌, Contains, Some, slice_get, length, string_bytes, refl, sym, subst, ap, ◌∙◌, arith}
 use Rattle.std.proofs.lemmas.List.{length-map}
 use Rattle.lemmas.proofs.Members.{Contains-from_slice_get}
-use Rattle.axioms.specs.Kept.{kept_ontology}
-use Rattle.axioms.specs.WellFormed.{IsOntology}
+use Rattle.axioms.specs.Fields.{kept_ontology}
+use Rattle.axioms.specs.WellFormedness.{IsOntology}
 use Rattle.std.proofs.lemmas.Option.{slice_get-get_or, slice_get_within}
 use Rattle.axioms.proofs.Keeping.{declares_present, declares_new}
 use Rattle.axioms.proofs.Insertions.{text_placed, text_absent}

@@ -1,5 +1,5 @@
 use Rattle.std.proofs.Common.{◌≡◌, sym, Some, slice_get}
-use Rattle.axioms.specs.Numbered.{Class}
+use Rattle.axioms.specs.Ontology.{Class}
 use Rattle.axioms.proofs.ontology.Ontology.class_of.Goals as goal
 
 pub returns-in-Some-Class : goal.returns-in-Some-Class

@@ -1,9 +1,9 @@
 use Rattle.std.proofs.Common.{length, map, sym, subst, arith}
 use Rattle.std.proofs.lemmas.List.{length-map}
 use Rattle.axioms.specs.Growth.{Numbers}
-use Rattle.axioms.specs.Kept.{kept_ontology}
+use Rattle.axioms.specs.Fields.{kept_ontology}
 use Rattle.axioms.specs.View.{node_of}
-use Rattle.axioms.specs.WellFormed.{IsNodeOf}
+use Rattle.axioms.specs.WellFormedness.{IsNodeOf}
 use Rattle.axioms.specs.contracts.terms.ExprPartialEq.TheImpl.{ghosts}
 use Rattle.axioms.proofs.Growing.{grown_node, keeps_numbers}
 use Rattle.axioms.proofs.Keeping.{number_below}

@@ -1,6 +1,6 @@
 use Rattle.std.proofs.Common.{string_bytes, arith}
 use Rattle.std.proofs.lemmas.List.{length-map}
-use Rattle.axioms.specs.Kept.{kept_ontology}
+use Rattle.axioms.specs.Fields.{kept_ontology}
 use Rattle.axioms.proofs.Growing.{grown_individual}
 use Rattle.axioms.proofs.ontology.Ontology.individual.Goals as goal
 

@@ -1,8 +1,8 @@
 use Rattle.std.proofs.Common.{◌≡◌, ◌<◌, ◌++◌, ◌∷◌, [], Contains, length, map, string_bytes, sym, subst, ap, ◌∙◌, arith}
 use Rattle.std.proofs.lemmas.List.{length-map, map-append}
 use Rattle.axioms.specs.Growth.{most_names, with_class}
-use Rattle.axioms.specs.Kept.{kept_ontology}
-use Rattle.axioms.specs.Numbered.{Class}
+use Rattle.axioms.specs.Fields.{kept_ontology}
+use Rattle.axioms.specs.Ontology.{Class}
 use Rattle.axioms.specs.View.{node_of}
 use Rattle.axioms.specs.declared.terms.Expr.TheVariants as exprs
 use Rattle.axioms.proofs.Growing.{with_class_is}

@@ -1,9 +1,9 @@
 use Rattle.std.proofs.Common.{◌∷◌, [], map, refl, sym, subst, ap, ◌∙◌, arith}
 use Rattle.std.proofs.lemmas.List.{length-map, map-append}
 use Rattle.axioms.specs.Growth.{with_axiom}
-use Rattle.axioms.specs.Kept.{kept_ontology}
+use Rattle.axioms.specs.Fields.{kept_ontology}
 use Rattle.axioms.specs.View.{axiom_of}
-use Rattle.axioms.specs.WellFormed.{IsAxiomOf}
+use Rattle.axioms.specs.WellFormedness.{IsAxiomOf}
 use Rattle.axioms.proofs.Growing.{with_axiom_is}
 use Rattle.axioms.proofs.Keeping.{bounded_with_axiom, kept_as, same_ontology, table_of}
 use Rattle.axioms.proofs.ontology.Ontology.state.Goals as goal

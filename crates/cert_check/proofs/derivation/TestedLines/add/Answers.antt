@@ -3,7 +3,7 @@ use Rattle.std.proofs.lemmas.List.{map_push}
 use Rattle.certificate.specs.Certificate.{Conclusion}
 use Rattle.certificate.specs.View.{line_of}
 use Rattle.cert_check.specs.View.{said_of}
-use Rattle.cert_check.specs.Tested.{AreTested}
+use Rattle.cert_check.specs.Tests.{AreTested}
 use Rattle.cert_check.proofs.OneMore.{shown_more}
 use Rattle.cert_check.proofs.derivation.TestedLines.add.Goals as goal
 

@@ -3,7 +3,7 @@ use Rattle.std.proofs.lemmas.Bool.{false≢true}
 use Rattle.std.proofs.lemmas.List.{length-map}
 use Rattle.certificate.specs.View.{line_of}
 use Rattle.cert_check.specs.View.{said_of}
-use Rattle.cert_check.specs.Tested.{AreTested}
+use Rattle.cert_check.specs.Tests.{AreTested}
 use Rattle.cert_check.proofs.OneMore.{tested_good, tested_bad, tested_later}
 use Rattle.cert_check.proofs.derivation.TestedLines.first_bad_with.Goals as goal
 

@@ -3,7 +3,7 @@ use Rattle.std.proofs.lemmas.Bool.{both_ways}
 use Rattle.std.proofs.lemmas.Option.{same_Some}
 use Rattle.lemmas.proofs.Mapped.{slice_get_map}
 use Rattle.countermodel.specs.Elements.{context_of}
-use Rattle.countermodel.specs.Listing.{place_in}
+use Rattle.countermodel.specs.ContextLists.{place_in}
 use Rattle.countermodel.proofs.Listing.{nowhere}
 use Rattle.countermodel.proofs.elements.Elements.element.Goals as goal
 

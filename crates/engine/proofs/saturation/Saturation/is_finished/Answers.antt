@@ -1,6 +1,6 @@
 use Rattle.std.proofs.Common.{◌≡◌, length, sym, ap, subst, ◌∙◌}
 use Rattle.std.proofs.lemmas.Bool.{eqb-true}
-use Rattle.engine.specs.Saturated.{IsFinished}
+use Rattle.engine.specs.Saturations.{IsFinished}
 use Rattle.engine.proofs.Saturating.{is_saturated}
 use Rattle.engine.proofs.saturation.Saturation.is_finished.Goals as goal
 

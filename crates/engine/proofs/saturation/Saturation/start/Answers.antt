@@ -1,8 +1,8 @@
 use Rattle.std.proofs.Common.{ap, sym, subst, ◌∙◌}
-use Rattle.normalise.specs.Growing.{IsNormalFor}
+use Rattle.normalise.specs.Growth.{IsNormalFor}
 use Rattle.normalise.specs.Listing.{Listing}
 use Rattle.saturate.specs.State.{Seen}
-use Rattle.engine.specs.Saturated.{IsSound}
+use Rattle.engine.specs.Saturations.{IsSound}
 use Rattle.engine.proofs.Saturating.{is_sound}
 use Rattle.engine.proofs.saturation.Saturation.start.Goals as goal
 

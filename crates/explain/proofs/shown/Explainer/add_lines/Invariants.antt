@@ -1,5 +1,5 @@
 use Rattle.std.proofs.Common.{◌≡◌, length}
-use Rattle.explain.specs.ShownInOrder.{IsShowing}
+use Rattle.explain.specs.LineOrder.{IsShowing}
 use Rattle.explain.proofs.shown.Explainer.add_lines.Given as goal
 
 abbrev pub invariant-loop-number : goal.invariant-loop-number

@@ -2,7 +2,7 @@ use Rattle.std.proofs.Common.{◌≡◌, ◌∙◌, Some, false, ap, subst, slic
 use Rattle.std.proofs.lemmas.Option.{slice_get-get_or}
 use Rattle.lemmas.proofs.Places.{slice_get_there}
 use Rattle.explain.specs.Marks.{IsMarked}
-use Rattle.explain.specs.Serving.{EachIsUsed}
+use Rattle.explain.specs.Uses.{EachIsUsed}
 use Rattle.explain.proofs.Adding.{older_shown, showing_not, showing_more}
 use Rattle.explain.proofs.shown.Explainer.show_next.Goals as goal
 

@@ -3,7 +3,7 @@ use Rattle.std.proofs.lemmas.List.{length_push}
 use Rattle.axioms.specs.declared.ids.ClassId.{ClassId}
 use Rattle.axioms.specs.declared.ids.PropId.{PropId}
 use Rattle.number_sets.specs.Pieces.{list_at}
-use Rattle.generated_part.specs.ByElement.{AreClassesAt, ArePairsAt}
+use Rattle.generated_part.specs.Elements.{AreClassesAt, ArePairsAt}
 use Rattle.generated_part.proofs.Rows.{each_more, by_element}
 use Rattle.generated_part.proofs.by_element.ByElement.of_interpretation.Goals as goal
 

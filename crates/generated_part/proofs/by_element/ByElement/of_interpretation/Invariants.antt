@@ -1,5 +1,5 @@
 use Rattle.std.proofs.Common.{◌≡◌, ℕ, ◌<◌, length}
-use Rattle.generated_part.specs.ByElement.{AreClassesAt, ArePairsAt}
+use Rattle.generated_part.specs.Elements.{AreClassesAt, ArePairsAt}
 use Rattle.number_sets.specs.Pieces.{list_at}
 use Rattle.generated_part.proofs.by_element.ByElement.of_interpretation.Given as goal
 

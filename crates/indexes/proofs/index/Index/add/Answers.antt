@@ -1,5 +1,5 @@
 use Rattle.std.proofs.Common.{refl, sym, true≢false, ◌∙◌}
-use Rattle.indexes.specs.Indexed.{IsIn, IsFrom, IsInto, IsSecondFrom, IsFillerIn}
+use Rattle.indexes.specs.FactIndex.{IsIn, IsFrom, IsInto, IsSecondFrom, IsFillerIn}
 use Rattle.indexes.proofs.Adding.{unlisted, tried, listed, here}
 use Rattle.indexes.proofs.index.Index.add.Goals as goal
 
@@ -8,7 +8,7 @@ returns-in_err-add-in-Edge-2-clause-may c = rw c.in-Edge.is (record {
   classes = unlisted IsIn c.args.self.now.classes c.args.number _;
   from = listed IsFrom c.args.self.now.from c.add-in-Edge.new.self c.in-Edge.x c.args.number _ c.in_ok-add-in-Edge.ensures.ok c.in_ok-add-in-Edge.ensures.last refl;
   into = tried IsInto c.args.self.now.into c.add-in-Edge-2.new.self c.args.number _ c.in_err-add-in-Edge-2.ensures.err;
-  seconds = unlisted (IsSecondFrom c.args.is_second) c.args.self.now.seconds c.args.number _;
+  second_premises = unlisted (IsSecondFrom c.args.is_second) c.args.self.now.second_premises c.args.number _;
   fillers = unlisted (IsFillerIn c.args.is_filler) c.args.self.now.fillers c.args.number _;
 })
 
@@ -17,7 +17,7 @@ returns-in_err-add-in-Edge-3-clause-may c = rw c.in-Edge.is (record {
   classes = unlisted IsIn c.args.self.now.classes c.args.number _;
   from = listed IsFrom c.args.self.now.from c.add-in-Edge.new.self c.in-Edge.x c.args.number _ c.in_ok-add-in-Edge.ensures.ok c.in_ok-add-in-Edge.ensures.last refl;
   into = listed IsInto c.args.self.now.into c.add-in-Edge-2.new.self c.in-Edge.y c.args.number _ c.in_ok-add-in-Edge-2.ensures.ok c.in_ok-add-in-Edge-2.ensures.last refl;
-  seconds = tried (IsSecondFrom c.args.is_second) c.args.self.now.seconds c.add-then-is_second.new.self c.args.number _ c.in_err-add-in-Edge-3.ensures.err;
+  second_premises = tried (IsSecondFrom c.args.is_second) c.args.self.now.second_premises c.add-then-is_second.new.self c.args.number _ c.in_err-add-in-Edge-3.ensures.err;
   fillers = unlisted (IsFillerIn c.args.is_filler) c.args.self.now.fillers c.args.number _;
 })
 
@@ -26,7 +26,7 @@ returns-in_ok-add-in-Edge-3-clause-may c = rw c.in-Edge.is (record {
   classes = unlisted IsIn c.args.self.now.classes c.args.number _;
   from = listed IsFrom c.args.self.now.from c.add-in-Edge.new.self c.in-Edge.x c.args.number _ c.in_ok-add-in-Edge.ensures.ok c.in_ok-add-in-Edge.ensures.last refl;
   into = listed IsInto c.args.self.now.into c.add-in-Edge-2.new.self c.in-Edge.y c.args.number _ c.in_ok-add-in-Edge-2.ensures.ok c.in_ok-add-in-Edge-2.ensures.last refl;
-  seconds = listed (IsSecondFrom c.args.is_second) c.args.self.now.seconds c.add-then-is_second.new.self c.in-Edge.x c.args.number _ c.in_ok-add-in-Edge-3.ensures.ok c.in_ok-add-in-Edge-3.ensures.last (c.if-is_second.true, refl);
+  second_premises = listed (IsSecondFrom c.args.is_second) c.args.self.now.second_premises c.add-then-is_second.new.self c.in-Edge.x c.args.number _ c.in_ok-add-in-Edge-3.ensures.ok c.in_ok-add-in-Edge-3.ensures.last (c.if-is_second.true, refl);
   fillers = unlisted (IsFillerIn c.args.is_filler) c.args.self.now.fillers c.args.number _;
 })
 
@@ -35,7 +35,7 @@ returns-in_ok-add-in-Edge-3-clause-ok c = rw c.in-Edge.is (record {
   classes = λ x h. absurd h;
   from = here c.args.self.now.from c.add-in-Edge.new.self c.in-Edge.x c.args.number c.in_ok-add-in-Edge.ensures.ok;
   into = here c.args.self.now.into c.add-in-Edge-2.new.self c.in-Edge.y c.args.number c.in_ok-add-in-Edge-2.ensures.ok;
-  seconds = λ x h. here c.args.self.now.seconds c.add-then-is_second.new.self c.in-Edge.x c.args.number c.in_ok-add-in-Edge-3.ensures.ok x h.1;
+  second_premises = λ x h. here c.args.self.now.second_premises c.add-then-is_second.new.self c.in-Edge.x c.args.number c.in_ok-add-in-Edge-3.ensures.ok x h.1;
   fillers = λ x h. absurd h.1;
 })
 
@@ -44,7 +44,7 @@ returns-else-is_second-clause-may c = rw c.in-Edge.is (record {
   classes = unlisted IsIn c.args.self.now.classes c.args.number _;
   from = listed IsFrom c.args.self.now.from c.add-in-Edge.new.self c.in-Edge.x c.args.number _ c.in_ok-add-in-Edge.ensures.ok c.in_ok-add-in-Edge.ensures.last refl;
   into = listed IsInto c.args.self.now.into c.add-in-Edge-2.new.self c.in-Edge.y c.args.number _ c.in_ok-add-in-Edge-2.ensures.ok c.in_ok-add-in-Edge-2.ensures.last refl;
-  seconds = unlisted (IsSecondFrom c.args.is_second) c.args.self.now.seconds c.args.number _;
+  second_premises = unlisted (IsSecondFrom c.args.is_second) c.args.self.now.second_premises c.args.number _;
   fillers = unlisted (IsFillerIn c.args.is_filler) c.args.self.now.fillers c.args.number _;
 })
 
@@ -53,7 +53,7 @@ returns-else-is_second-clause-ok c = rw c.in-Edge.is (record {
   classes = λ x h. absurd h;
   from = here c.args.self.now.from c.add-in-Edge.new.self c.in-Edge.x c.args.number c.in_ok-add-in-Edge.ensures.ok;
   into = here c.args.self.now.into c.add-in-Edge-2.new.self c.in-Edge.y c.args.number c.in_ok-add-in-Edge-2.ensures.ok;
-  seconds = λ x h. absurd (true≢false (sym h.0 ∙ c.if-is_second.false));
+  second_premises = λ x h. absurd (true≢false (sym h.0 ∙ c.if-is_second.false));
   fillers = λ x h. absurd h.1;
 })
 
@@ -62,7 +62,7 @@ returns-in_err-add-in-In-2-clause-may c = rw c.in-In.is (record {
   classes = listed IsIn c.args.self.now.classes c.add.new.self c.in-In.x c.args.number _ c.in_ok-add-in-In.ensures.ok c.in_ok-add-in-In.ensures.last refl;
   from = unlisted IsFrom c.args.self.now.from c.args.number _;
   into = unlisted IsInto c.args.self.now.into c.args.number _;
-  seconds = unlisted (IsSecondFrom c.args.is_second) c.args.self.now.seconds c.args.number _;
+  second_premises = unlisted (IsSecondFrom c.args.is_second) c.args.self.now.second_premises c.args.number _;
   fillers = tried (IsFillerIn c.args.is_filler) c.args.self.now.fillers c.add-then-is_filler.new.self c.args.number _ c.in_err-add-in-In-2.ensures.err;
 })
 
@@ -71,7 +71,7 @@ returns-in_ok-add-in-In-2-clause-may c = rw c.in-In.is (record {
   classes = listed IsIn c.args.self.now.classes c.add.new.self c.in-In.x c.args.number _ c.in_ok-add-in-In.ensures.ok c.in_ok-add-in-In.ensures.last refl;
   from = unlisted IsFrom c.args.self.now.from c.args.number _;
   into = unlisted IsInto c.args.self.now.into c.args.number _;
-  seconds = unlisted (IsSecondFrom c.args.is_second) c.args.self.now.seconds c.args.number _;
+  second_premises = unlisted (IsSecondFrom c.args.is_second) c.args.self.now.second_premises c.args.number _;
   fillers = listed (IsFillerIn c.args.is_filler) c.args.self.now.fillers c.add-then-is_filler.new.self c.in-In.x c.args.number _ c.in_ok-add-in-In-2.ensures.ok c.in_ok-add-in-In-2.ensures.last (c.if-is_filler.true, refl);
 })
 
@@ -80,7 +80,7 @@ returns-in_ok-add-in-In-2-clause-ok c = rw c.in-In.is (record {
   classes = here c.args.self.now.classes c.add.new.self c.in-In.x c.args.number c.in_ok-add-in-In.ensures.ok;
   from = λ x h. absurd h;
   into = λ x h. absurd h;
-  seconds = λ x h. absurd h.1;
+  second_premises = λ x h. absurd h.1;
   fillers = λ x h. here c.args.self.now.fillers c.add-then-is_filler.new.self c.in-In.x c.args.number c.in_ok-add-in-In-2.ensures.ok x h.1;
 })
 
@@ -89,7 +89,7 @@ returns-else-is_filler-clause-may c = rw c.in-In.is (record {
   classes = listed IsIn c.args.self.now.classes c.add.new.self c.in-In.x c.args.number _ c.in_ok-add-in-In.ensures.ok c.in_ok-add-in-In.ensures.last refl;
   from = unlisted IsFrom c.args.self.now.from c.args.number _;
   into = unlisted IsInto c.args.self.now.into c.args.number _;
-  seconds = unlisted (IsSecondFrom c.args.is_second) c.args.self.now.seconds c.args.number _;
+  second_premises = unlisted (IsSecondFrom c.args.is_second) c.args.self.now.second_premises c.args.number _;
   fillers = unlisted (IsFillerIn c.args.is_filler) c.args.self.now.fillers c.args.number _;
 })
 
@@ -98,6 +98,6 @@ returns-else-is_filler-clause-ok c = rw c.in-In.is (record {
   classes = here c.args.self.now.classes c.add.new.self c.in-In.x c.args.number c.in_ok-add-in-In.ensures.ok;
   from = λ x h. absurd h;
   into = λ x h. absurd h;
-  seconds = λ x h. absurd h.1;
+  second_premises = λ x h. absurd h.1;
   fillers = λ x h. absurd (true≢false (sym h.0 ∙ c.if-is_filler.false));
 })

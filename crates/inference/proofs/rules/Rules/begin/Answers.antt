@@ -1,6 +1,6 @@
 use Rattle.std.proofs.Common.{[], refl}
 use Rattle.facts.specs.Closure.{Concludes}
-use Rattle.inference.specs.Working.{IsEntered}
+use Rattle.inference.specs.Completeness.{IsEntered}
 use Rattle.inference.proofs.Growth.{grows_trans, there_still}
 use Rattle.inference.proofs.Drawing.{each_more, each, member_at, drawn, all_still, entered_still}
 use Rattle.inference.proofs.rules.Rules.begin.Goals as goal

@@ -1,7 +1,7 @@
 use Rattle.std.proofs.Common.{take, Contains}
 use Rattle.facts.specs.declared.contexts.Context.{Context}
-use Rattle.inference.specs.Derived.{Grows}
-use Rattle.inference.specs.Working.{IsEntered}
+use Rattle.inference.specs.Derivations.{Grows}
+use Rattle.inference.specs.Completeness.{IsEntered}
 use Rattle.inference.proofs.rules.Rules.begin.Given as goal
 
 abbrev pub invariant-loop-root : goal.invariant-loop-root

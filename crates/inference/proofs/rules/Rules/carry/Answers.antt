@@ -1,6 +1,6 @@
 use Rattle.inference.proofs.Giving.{not_carried}
 use Rattle.inference.proofs.Meeting.{numbers_within, kind_of}
-use Rattle.inference.specs.Visited.{IsEdge}
+use Rattle.inference.specs.Visits.{IsEdge}
 use Rattle.inference.proofs.rules.Rules.carry.Goals as goal
 
 pub meet_behind-requires-clause-numbers : goal.meet_behind-requires-clause-numbers

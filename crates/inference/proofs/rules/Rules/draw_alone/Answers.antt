@@ -2,7 +2,7 @@ use Rattle.std.proofs.Common.{[], ◌∷◌, Option, refl, ap, subst}
 use Rattle.facts.specs.declared.contexts.Context.{Context}
 use Rattle.facts.specs.declared.contexts.Fact.{Fact}
 use Rattle.facts.specs.Closure.{Concludes}
-use Rattle.inference.specs.Working.{IsEntered}
+use Rattle.inference.specs.Completeness.{IsEntered}
 use Rattle.inference.proofs.Growth.{there_still}
 use Rattle.inference.proofs.Drawing.{drawn, all_still}
 use Rattle.inference.proofs.rules.Rules.draw_alone.Goals as goal

@@ -1,5 +1,5 @@
 use Rattle.std.proofs.Common.{refl}
-use Rattle.inference.specs.Visited.{ChainsDrawn}
+use Rattle.inference.specs.Visits.{ChainsDrawn}
 use Rattle.inference.proofs.Growth.{grows_trans}
 use Rattle.inference.proofs.Drawing.{at_still, each_more, each, drawn_at_still}
 use Rattle.normal_forms.proofs.Suffice.{suffice}

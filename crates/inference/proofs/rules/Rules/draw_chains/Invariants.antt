@@ -1,7 +1,7 @@
 use Rattle.std.proofs.Common.{take, Contains}
 use Rattle.normal_forms.specs.declared.forms.PropId2.{PropId2}
-use Rattle.inference.specs.Derived.{Grows}
-use Rattle.inference.specs.Visited.{ChainsDrawn}
+use Rattle.inference.specs.Derivations.{Grows}
+use Rattle.inference.specs.Visits.{ChainsDrawn}
 use Rattle.inference.proofs.rules.Rules.draw_chains.Given as goal
 
 abbrev pub invariant-loop-above : goal.invariant-loop-above

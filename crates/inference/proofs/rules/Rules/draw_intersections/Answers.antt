@@ -1,5 +1,5 @@
 use Rattle.std.proofs.Common.{refl}
-use Rattle.inference.specs.Working.{IsDrawnIn}
+use Rattle.inference.specs.Completeness.{IsDrawnIn}
 use Rattle.inference.proofs.Growth.{grows_trans}
 use Rattle.inference.proofs.Drawing.{each_more, each}
 use Rattle.inference.proofs.Intersections.{drawn_in_still, drawn_in_earlier}

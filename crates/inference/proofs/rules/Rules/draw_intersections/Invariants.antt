@@ -1,6 +1,6 @@
 use Rattle.std.proofs.Common.{take}
-use Rattle.inference.specs.Derived.{Grows}
-use Rattle.inference.specs.Working.{AreDrawnIn}
+use Rattle.inference.specs.Derivations.{Grows}
+use Rattle.inference.specs.Completeness.{AreDrawnIn}
 use Rattle.inference.proofs.rules.Rules.draw_intersections.Given as goal
 
 abbrev pub invariant-loop-number : goal.invariant-loop-number

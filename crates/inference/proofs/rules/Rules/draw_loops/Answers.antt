@@ -1,6 +1,6 @@
 use Rattle.std.proofs.Common.{refl}
 use Rattle.facts.specs.Closure.{IsLoop}
-use Rattle.inference.specs.Working.{DrawnAt}
+use Rattle.inference.specs.Completeness.{DrawnAt}
 use Rattle.inference.proofs.Growth.{grows_trans}
 use Rattle.inference.proofs.Drawing.{context_still, each_more, each, drawn_at_still}
 use Rattle.inference.proofs.Visiting.{all_loops}

@@ -1,7 +1,7 @@
 use Rattle.std.proofs.Common.{take}
 use Rattle.facts.specs.Closure.{IsLoop}
-use Rattle.inference.specs.Derived.{Grows}
-use Rattle.inference.specs.Working.{AreDrawnAt}
+use Rattle.inference.specs.Derivations.{Grows}
+use Rattle.inference.specs.Completeness.{AreDrawnAt}
 use Rattle.inference.proofs.rules.Rules.draw_loops.Given as goal
 
 abbrev pub invariant-loop-number : goal.invariant-loop-number

@@ -2,7 +2,7 @@ use Rattle.std.proofs.Common.{[], ◌∷◌, Option, refl, ap, subst}
 use Rattle.facts.specs.declared.contexts.Context.{Context}
 use Rattle.facts.specs.declared.contexts.Fact.{Fact}
 use Rattle.facts.specs.Closure.{IsLoop}
-use Rattle.inference.specs.Working.{AllDrawn}
+use Rattle.inference.specs.Completeness.{AllDrawn}
 use Rattle.inference.proofs.Lists.{one_value}
 use Rattle.inference.proofs.rules.Rules.draw_target.Goals as goal
 

@@ -1,6 +1,6 @@
 use Rattle.std.proofs.Common.{ℕ, ◌<◌}
-use Rattle.inference.specs.Derived.{Grows}
-use Rattle.inference.specs.Begun.{LoopIsDrawn}
+use Rattle.inference.specs.Derivations.{Grows}
+use Rattle.inference.specs.Entry.{LoopIsDrawn}
 use Rattle.inference.proofs.rules.Rules.draw_targets.Given as goal
 
 abbrev pub invariant-loop-number : goal.invariant-loop-number

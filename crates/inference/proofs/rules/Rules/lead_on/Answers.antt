@@ -1,7 +1,7 @@
 use Rattle.inference.proofs.Edges.{property_there}
-use Rattle.inference.proofs.Giving.{no_beginning}
+use Rattle.inference.proofs.Giving.{no_prefix}
 use Rattle.inference.proofs.Meeting.{numbers_within, kind_of}
-use Rattle.inference.specs.Visited.{IsEdge}
+use Rattle.inference.specs.Visits.{IsEdge}
 use Rattle.inference.proofs.rules.Rules.lead_on.Goals as goal
 
 pub begins_chain-requires-clause-has : goal.begins_chain-requires-clause-has
@@ -12,5 +12,5 @@ meet_before-requires-clause-numbers c = numbers_within IsEdge c.args.facts.now.f
 
 pub returns-else-begins_chain-clause-met : goal.returns-else-begins_chain-clause-met
 returns-else-begins_chain-clause-met c = λ n there g at.
-    no_beginning c.args.self.now.problem.now c.args.property c.args.edge g c.args.facts.now c.requires.property (c.begins_chain.ensures c.if-begins_chain.false)
+    no_prefix c.args.self.now.problem.now c.args.property c.args.edge g c.args.facts.now c.requires.property (c.begins_chain.ensures c.if-begins_chain.false)
     (kind_of IsEdge c.args.facts.now.facts c.args.numbers.now c.requires.numbers n there g at)

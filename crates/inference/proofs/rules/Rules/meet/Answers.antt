@@ -1,6 +1,6 @@
 use Rattle.std.proofs.Common.{[], ◌∷◌}
 use Rattle.inference.proofs.Drawing.{drawn_still}
-use Rattle.inference.proofs.Sparing.{all_drawn}
+use Rattle.inference.proofs.Redundancy.{all_drawn}
 use Rattle.inference.proofs.rules.Rules.meet.Goals as goal
 
 pub returns-clause-met : goal.returns-clause-met

@@ -1,7 +1,7 @@
 use Rattle.std.proofs.Common.{◌≡◌, slice_get, Some, refl, subst, arith}
 use Rattle.std.proofs.lemmas.List.Elements.{Contains-get_or}
 use Rattle.facts.specs.declared.contexts.Fact.{Fact}
-use Rattle.inference.specs.Working.{MeetEachOther}
+use Rattle.inference.specs.Completeness.{MeetEachOther}
 use Rattle.inference.proofs.Lists.{one_value}
 use Rattle.inference.proofs.Growth.{grows_trans}
 use Rattle.inference.proofs.Drawing.{each_more, each, met_still}

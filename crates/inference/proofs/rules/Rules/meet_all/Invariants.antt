@@ -1,6 +1,6 @@
 use Rattle.std.proofs.Common.{take}
-use Rattle.inference.specs.Derived.{Grows}
-use Rattle.inference.specs.Working.{AreMet}
+use Rattle.inference.specs.Derivations.{Grows}
+use Rattle.inference.specs.Completeness.{AreMet}
 use Rattle.inference.proofs.rules.Rules.meet_all.Given as goal
 
 abbrev pub invariant-loop-number : goal.invariant-loop-number

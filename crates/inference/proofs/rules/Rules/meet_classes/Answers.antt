@@ -1,4 +1,4 @@
-use Rattle.inference.specs.Visited.{IsClassFact}
+use Rattle.inference.specs.Visits.{IsClassFact}
 use Rattle.inference.proofs.Lists.{Contains-from_slice_get}
 use Rattle.inference.proofs.Meeting.{numbers_within, kind_of}
 use Rattle.inference.proofs.Intersections.{met_by_operands}

@@ -1,10 +1,10 @@
 use Rattle.std.proofs.Common.{subst}
-use Rattle.inference.specs.Visited.{IsClassFact, IsEdge}
-use Rattle.inference.specs.Working.{IsSparedAsSecond}
+use Rattle.inference.specs.Visits.{IsClassFact, IsEdge}
+use Rattle.inference.specs.Completeness.{IsRedundantAsSecond}
 use Rattle.inference.proofs.Growth.{grows_trans}
 use Rattle.inference.proofs.Drawing.{all_met_still, before_still, before_earlier, behind_earlier}
-use Rattle.inference.proofs.Meeting.{met_in, met_edge, classes_listed, fillers_listed, seconds_listed, into_listed, all_still_there, numbers_within}
-use Rattle.inference.proofs.Sparing.{second_still}
+use Rattle.inference.proofs.Meeting.{met_in, met_edge, classes_listed, fillers_listed, second_premises_listed, into_listed, all_still_there, numbers_within}
+use Rattle.inference.proofs.Redundancy.{second_still}
 use Rattle.inference.proofs.rules.Rules.meet_listed.Goals as goal
 
 pub meet_classes-requires-clause-numbers : goal.meet_classes-requires-clause-numbers
@@ -19,11 +19,11 @@ meet_before-requires-clause-numbers c =
     (fillers_listed c.requires.index c.in-Edge.y c.fillers_in.result.now c.fillers_in.ensures)
 
 pub lead_on-requires-clause-numbers : goal.lead_on-requires-clause-numbers
-lead_on-requires-clause-numbers c = all_still_there c.meet_before.ensures.grows IsEdge c.seconds_from.result.now (seconds_listed c.requires.index c.in-Edge.y c.seconds_from.result.now c.seconds_from.ensures)
+lead_on-requires-clause-numbers c = all_still_there c.meet_before.ensures.grows IsEdge c.second_premises_from.result.now (second_premises_listed c.requires.index c.in-Edge.y c.second_premises_from.result.now c.second_premises_from.ensures)
 
 pub lead_up-requires-clause-second : goal.lead_up-requires-clause-second
 lead_up-requires-clause-second c = λ no.
-    subst (IsSparedAsSecond c.args.self.now.problem.now c.lead_on.new.facts) c.in-Edge.is
+    subst (IsRedundantAsSecond c.args.self.now.problem.now c.lead_on.new.facts) c.in-Edge.is
     (second_still (grows_trans c.meet_before.ensures.grows c.lead_on.ensures.grows) c.args.fact (c.requires.second no))
 
 pub lead_up-requires-clause-numbers : goal.lead_up-requires-clause-numbers
@@ -47,8 +47,8 @@ returns-in_ok-lead_up-in-Edge-clause-met c =
     let s = c.meet_before.ensures.grows in
     let t = c.lead_on.ensures.grows in
     let u = c.lead_up.ensures.grows in
-    rw c.in-Edge.is (met_edge c.args.self.now.problem.now old c.args.index.now new c.in-Edge.x _ c.in-Edge.y c.fillers_in.result.now c.seconds_from.result.now c.edges_into-in-Edge.result.now
-    c.fillers_in.ensures c.seconds_from.ensures c.edges_into-in-Edge.ensures
+    rw c.in-Edge.is (met_edge c.args.self.now.problem.now old c.args.index.now new c.in-Edge.x _ c.in-Edge.y c.fillers_in.result.now c.second_premises_from.result.now c.edges_into-in-Edge.result.now
+    c.fillers_in.ensures c.second_premises_from.ensures c.edges_into-in-Edge.ensures
     (before_still (grows_trans t u) _ old _ c.in_ok-meet_before-in-Edge.ensures.met)
     (before_still u _ old _ (before_earlier s _ _ _ c.in_ok-lead_on-in-Edge.ensures.met))
     (behind_earlier (grows_trans s t) _ _ new c.in_ok-lead_up-in-Edge.ensures.met))

@@ -1,6 +1,6 @@
 use Rattle.inference.proofs.Drawing.{drawn_still}
 use Rattle.inference.proofs.Meeting.{listed_earlier, within_still}
-use Rattle.inference.proofs.Sparing.{second_still}
+use Rattle.inference.proofs.Redundancy.{second_still}
 use Rattle.inference.proofs.rules.Rules.serve.Goals as goal
 
 pub meet_listed-requires-clause-index : goal.meet_listed-requires-clause-index

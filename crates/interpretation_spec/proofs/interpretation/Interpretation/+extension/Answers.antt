@@ -9,10 +9,10 @@ use Rattle.lemmas.proofs.Mapped.{All-from_map}
 use Rattle.lemmas.proofs.Places.{slice_get_there}
 use Rattle.axioms.specs.declared.ids.ExprId.{ExprId}
 use Rattle.axioms.specs.View.{expr_numbers, node_of}
-use Rattle.axioms.specs.Numbered.{Class, And, Exists, expression}
+use Rattle.axioms.specs.Ontology.{Class, And, Exists, expression}
 use Rattle.interpretation_spec.specs.Interpretation.{IsIn}
-use Rattle.interpretation_spec.specs.Numbered.{NumberedInterpretation, IsNumberedInterpretation, members_of, targets_of}
-use Rattle.interpretation_spec.specs.ByName.{IsExtension, interpretation_of}
+use Rattle.interpretation_spec.specs.NumberedInterpretation.{NumberedInterpretation, IsNumberedInterpretation, members_of, targets_of}
+use Rattle.interpretation_spec.specs.NamedInterpretation.{IsExtension, interpretation_of}
 use Rattle.number_sets.specs.Members.{has}
 use Rattle.interpretation_spec.proofs.Names.{stands}
 use Rattle.interpretation_spec.proofs.Elements.{class_elements, some_elements, and_elements}

@@ -1,7 +1,7 @@
 use Rattle.std.proofs.Common.{◌≡◌, ℕ, ◌<◌, ◌↔◌, length, take, true, All}
 use Rattle.axioms.specs.declared.ids.ExprId.{ExprId}
-use Rattle.axioms.specs.Numbered.{expression}
-use Rattle.interpretation_spec.specs.ByName.{interpretation_of}
+use Rattle.axioms.specs.Ontology.{expression}
+use Rattle.interpretation_spec.specs.NamedInterpretation.{interpretation_of}
 use Rattle.interpretation_spec.specs.Interpretation.{IsIn}
 use Rattle.number_sets.specs.Members.{has}
 use Rattle.interpretation_spec.proofs.interpretation.Interpretation.+extension.Given as goal

@@ -2,9 +2,9 @@ use Rattle.std.proofs.Common.{◌≡◌, ◌<◌, ℕ, sym, ◌∙◌, subst, le
 use Rattle.std.proofs.lemmas.Bool.{cases_lt, false_from_ne_true, or_cases, or_left, or_right}
 use Rattle.lemmas.proofs.Mapped.{All-from_map}
 use Rattle.axioms.specs.declared.ids.ExprId.{ExprId}
-use Rattle.axioms.specs.Numbered.{expression}
+use Rattle.axioms.specs.Ontology.{expression}
 use Rattle.interpretation_spec.specs.Interpretation.{IsIn, IsApart}
-use Rattle.interpretation_spec.specs.ByName.{interpretation_of}
+use Rattle.interpretation_spec.specs.NamedInterpretation.{interpretation_of}
 use Rattle.number_sets.specs.Members.{has}
 use Rattle.interpretation_spec.proofs.Names.{size_of}
 use Rattle.interpretation_spec.proofs.Shapes.{member_below, pairs_of_places_twice, places_of_pairs_twice}

@@ -1,6 +1,6 @@
 use Rattle.std.proofs.Common.{◌≡◌, ◌↔◌, ℕ, ◌<◌, get_or, length, true}
-use Rattle.axioms.specs.Numbered.{expression}
-use Rattle.interpretation_spec.specs.ByName.{interpretation_of}
+use Rattle.axioms.specs.Ontology.{expression}
+use Rattle.interpretation_spec.specs.NamedInterpretation.{interpretation_of}
 use Rattle.interpretation_spec.specs.Interpretation.{IsIn, IsApart}
 use Rattle.number_sets.specs.Members.{has}
 use Rattle.interpretation_spec.proofs.interpretation.Interpretation.are_apart.Given as goal

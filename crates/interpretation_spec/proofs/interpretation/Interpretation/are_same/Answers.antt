@@ -3,9 +3,9 @@ use Rattle.std.proofs.lemmas.Bool.{cases_lt}
 use Rattle.std.proofs.lemmas.Option.{get_or_from_slice_get}
 use Rattle.lemmas.proofs.Mapped.{All-from_map}
 use Rattle.axioms.specs.declared.ids.ExprId.{ExprId}
-use Rattle.axioms.specs.Numbered.{expression}
+use Rattle.axioms.specs.Ontology.{expression}
 use Rattle.interpretation_spec.specs.Interpretation.{IsSame}
-use Rattle.interpretation_spec.specs.ByName.{interpretation_of}
+use Rattle.interpretation_spec.specs.NamedInterpretation.{interpretation_of}
 use Rattle.interpretation_spec.proofs.Shapes.{rows_within, pairs_of_places_twice, places_of_pairs_twice}
 use Rattle.interpretation_spec.proofs.interpretation.Interpretation.are_same.Goals as goal
 

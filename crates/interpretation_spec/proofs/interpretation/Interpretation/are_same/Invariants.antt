@@ -1,6 +1,6 @@
 use Rattle.std.proofs.Common.{ℕ, ◌<◌, get_or}
-use Rattle.axioms.specs.Numbered.{expression}
-use Rattle.interpretation_spec.specs.ByName.{interpretation_of}
+use Rattle.axioms.specs.Ontology.{expression}
+use Rattle.interpretation_spec.specs.NamedInterpretation.{interpretation_of}
 use Rattle.interpretation_spec.specs.Interpretation.{IsSame}
 use Rattle.interpretation_spec.proofs.interpretation.Interpretation.are_same.Given as goal
 

@@ -3,7 +3,7 @@ use Rattle.std.proofs.lemmas.Bool.{cases_lt}
 use Rattle.std.proofs.lemmas.Option.{get_or_from_slice_get}
 use Rattle.lemmas.proofs.Mapped.{All-from_map}
 use Rattle.axioms.specs.declared.ids.PropId.{PropId}
-use Rattle.interpretation_spec.specs.Numbered.{targets_of}
+use Rattle.interpretation_spec.specs.NumberedInterpretation.{targets_of}
 use Rattle.interpretation_spec.proofs.Shapes.{pairs_of_places, places_of_pairs}
 use Rattle.interpretation_spec.proofs.interpretation.Interpretation.are_same_properties.Goals as goal
 

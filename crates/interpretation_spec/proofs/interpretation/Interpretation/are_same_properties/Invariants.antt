@@ -1,5 +1,5 @@
 use Rattle.std.proofs.Common.{◌≡◌, ℕ, ◌<◌, get_or}
-use Rattle.interpretation_spec.specs.Numbered.{targets_of}
+use Rattle.interpretation_spec.specs.NumberedInterpretation.{targets_of}
 use Rattle.interpretation_spec.proofs.interpretation.Interpretation.are_same_properties.Given as goal
 
 abbrev pub invariant-loop-property : goal.invariant-loop-property

@@ -5,10 +5,10 @@ use Rattle.std.proofs.lemmas.List.Elements.{All-contains, All-map}
 use Rattle.std.proofs.lemmas.Option.{slice_get-get_or, same_Some}
 use Rattle.lemmas.proofs.Mapped.{slice_get_map}
 use Rattle.lemmas.proofs.Members.{Contains-from_slice_get}
-use Rattle.axioms.specs.Numbered.{Axiom, axiom_tree}
+use Rattle.axioms.specs.Ontology.{Axiom, axiom_tree}
 use Rattle.axioms.specs.View.{axiom_of, at_number}
-use Rattle.axioms.specs.WellFormed.{IsAxiomOf}
-use Rattle.interpretation_spec.specs.ByName.{interpretation_of}
+use Rattle.axioms.specs.WellFormedness.{IsAxiomOf}
+use Rattle.interpretation_spec.specs.NamedInterpretation.{interpretation_of}
 use Rattle.interpretation_spec.specs.Interpretation.{Satisfies}
 use Rattle.interpretation_spec.proofs.Names.{stands_well}
 use Rattle.interpretation_spec.proofs.Steps.{if_some}

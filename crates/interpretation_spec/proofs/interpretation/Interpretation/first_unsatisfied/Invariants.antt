@@ -1,6 +1,6 @@
 use Rattle.std.proofs.Common.{◌≡◌, ℕ, ◌<◌, slice_get, Some}
-use Rattle.axioms.specs.Numbered.{axiom_tree, Axiom}
-use Rattle.interpretation_spec.specs.ByName.{interpretation_of}
+use Rattle.axioms.specs.Ontology.{axiom_tree, Axiom}
+use Rattle.interpretation_spec.specs.NamedInterpretation.{interpretation_of}
 use Rattle.interpretation_spec.specs.Interpretation.{Satisfies}
 use Rattle.interpretation_spec.proofs.interpretation.Interpretation.first_unsatisfied.Given as goal
 

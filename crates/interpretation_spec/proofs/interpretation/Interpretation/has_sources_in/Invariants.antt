@@ -1,5 +1,5 @@
 use Rattle.std.proofs.Common.{◌≡◌, ℕ, ◌<◌, true}
-use Rattle.interpretation_spec.specs.ByName.{is_target}
+use Rattle.interpretation_spec.specs.NamedInterpretation.{is_target}
 use Rattle.number_sets.specs.Members.{has}
 use Rattle.interpretation_spec.proofs.interpretation.Interpretation.has_sources_in.Given as goal
 

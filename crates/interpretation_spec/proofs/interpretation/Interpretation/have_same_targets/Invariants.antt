@@ -1,5 +1,5 @@
 use Rattle.std.proofs.Common.{◌≡◌, ℕ, ◌<◌}
-use Rattle.interpretation_spec.specs.Numbered.{targets_of}
+use Rattle.interpretation_spec.specs.NumberedInterpretation.{targets_of}
 use Rattle.interpretation_spec.proofs.interpretation.Interpretation.have_same_targets.Given as goal
 
 abbrev pub invariant-loop-source : goal.invariant-loop-source

@@ -1,5 +1,5 @@
 use Rattle.std.proofs.Common.{◌≡◌, ℕ, ◌<◌, true}
-use Rattle.interpretation_spec.specs.ByName.{is_target}
+use Rattle.interpretation_spec.specs.NamedInterpretation.{is_target}
 use Rattle.interpretation_spec.proofs.interpretation.Interpretation.is_reflexive.Given as goal
 
 abbrev pub invariant-loop-element : goal.invariant-loop-element

@@ -1,6 +1,6 @@
 use Rattle.std.proofs.Common.{◌≡◌, ℕ, ◌<◌, true}
 use Rattle.axioms.specs.View.{prop_numbers}
-use Rattle.interpretation_spec.specs.ByName.{is_target, HasNumberedPath}
+use Rattle.interpretation_spec.specs.NamedInterpretation.{is_target, HasNumberedPath}
 use Rattle.interpretation_spec.proofs.interpretation.Interpretation.is_sub_property.Given as goal
 
 abbrev pub invariant-loop-source : goal.invariant-loop-source

@@ -2,8 +2,8 @@ use Rattle.std.proofs.Common.{◌<◌, ℕ, List, sym, ap, subst, length, arith,
 use Rattle.std.proofs.lemmas.Bool.{lt-ltb}
 use Rattle.std.proofs.lemmas.List.{length-map}
 use Rattle.std.proofs.lemmas.Result.{err_from_is_err_and}
-use Rattle.interpretation_spec.specs.Kept.{kept_pairs, kept_interpretation}
-use Rattle.interpretation_spec.specs.Numbered.{IsNumberedInterpretation, AreElements}
+use Rattle.interpretation_spec.specs.Fields.{kept_pairs, kept_interpretation}
+use Rattle.interpretation_spec.specs.NumberedInterpretation.{IsNumberedInterpretation, AreElements}
 use Rattle.interpretation_spec.proofs.Keeping.{targets, same_view, more_view}
 use Rattle.interpretation_spec.proofs.Wholes.{IsNumbered-with_pair}
 use Rattle.interpretation_spec.proofs.interpretation.Interpretation.put_pair.Goals as goal

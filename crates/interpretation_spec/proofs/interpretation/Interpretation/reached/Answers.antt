@@ -3,7 +3,7 @@ use Rattle.std.proofs.lemmas.List.{map_more}
 use Rattle.lemmas.proofs.Mapped.{All-from_map}
 use Rattle.axioms.specs.declared.ids.PropId.{PropId}
 use Rattle.axioms.specs.View.{prop_numbers}
-use Rattle.interpretation_spec.specs.ByName.{HasNumberedPath}
+use Rattle.interpretation_spec.specs.NamedInterpretation.{HasNumberedPath}
 use Rattle.interpretation_spec.proofs.Shapes.{path_more}
 use Rattle.interpretation_spec.proofs.interpretation.Interpretation.reached.Goals as goal
 

@@ -1,6 +1,6 @@
 use Rattle.std.proofs.Common.{◌≡◌, ◌↔◌, ℕ, ◌<◌, length, take, true}
 use Rattle.axioms.specs.View.{prop_numbers}
-use Rattle.interpretation_spec.specs.ByName.{HasNumberedPath}
+use Rattle.interpretation_spec.specs.NamedInterpretation.{HasNumberedPath}
 use Rattle.number_sets.specs.Members.{has}
 use Rattle.interpretation_spec.proofs.interpretation.Interpretation.reached.Given as goal
 

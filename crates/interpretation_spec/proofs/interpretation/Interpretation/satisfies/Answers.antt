@@ -1,9 +1,9 @@
 use Rattle.std.proofs.Common.{◌<◌, ℕ, [], ◌∷◌, sym, ap, ◌∙◌, subst, length, get_or, arith}
 use Rattle.std.proofs.lemmas.List.{get_or_default}
 use Rattle.std.proofs.lemmas.List.Elements.{All-cons, All-nil}
-use Rattle.axioms.specs.Numbered.{expression}
+use Rattle.axioms.specs.Ontology.{expression}
 use Rattle.axioms.specs.View.{prop_numbers}
-use Rattle.interpretation_spec.specs.Numbered.{NumberedInterpretation, IsNumberedInterpretation}
+use Rattle.interpretation_spec.specs.NumberedInterpretation.{NumberedInterpretation, IsNumberedInterpretation}
 use Rattle.number_sets.specs.Members.{has}
 use Rattle.interpretation_spec.proofs.Steps.{said_by}
 use Rattle.interpretation_spec.proofs.Shapes.{sub_property_said, same_properties_said, domain_said, reflexive_said, class_assertion_said, property_assertion_said}

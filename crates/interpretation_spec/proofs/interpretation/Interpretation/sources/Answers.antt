@@ -2,8 +2,8 @@ use Rattle.std.proofs.Common.{◌≡◌, ◌<◌, ℕ, List, Bool, sym, ap, ◌�
 use Rattle.std.proofs.lemmas.Result.{IfOk-weaker}
 use Rattle.std.specs.List.{list_any}
 use Rattle.std.proofs.lemmas.List.{length-map}
-use Rattle.interpretation_spec.specs.Numbered.{NumberedInterpretation, targets_of}
-use Rattle.interpretation_spec.specs.Kept.{kept_targets, kept_pairs, kept_interpretation}
+use Rattle.interpretation_spec.specs.NumberedInterpretation.{NumberedInterpretation, targets_of}
+use Rattle.interpretation_spec.specs.Fields.{kept_targets, kept_pairs, kept_interpretation}
 use Rattle.number_sets.specs.Members.{has}
 use Rattle.interpretation_spec.proofs.Keeping.{targets}
 use Rattle.interpretation_spec.proofs.interpretation.Interpretation.sources.Goals as goal

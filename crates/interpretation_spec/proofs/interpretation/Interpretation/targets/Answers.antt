@@ -1,7 +1,7 @@
 use Rattle.std.proofs.Common.{◌≡◌, ◌<◌, ℕ, List, Some, sym, ap, ◌∙◌, length, slice_get, option_and_then, arith}
 use Rattle.std.proofs.lemmas.Option.{slice_get-get_or}
 use Rattle.lemmas.proofs.Mapped.{slice_get_map}
-use Rattle.interpretation_spec.specs.Kept.{kept_targets, kept_pairs}
+use Rattle.interpretation_spec.specs.Fields.{kept_targets, kept_pairs}
 use Rattle.number_sets.proofs.Tables.{slice_get-table}
 use Rattle.interpretation_spec.proofs.interpretation.Interpretation.targets.Goals as goal
 

@@ -1,7 +1,7 @@
 use Rattle.std.proofs.Common.{◌<◌, sym, ap, ◌∙◌, length, arith}
 use Rattle.std.proofs.lemmas.List.{length-map}
-use Rattle.interpretation_spec.specs.Numbered.{NumberedInterpretation, targets_of}
-use Rattle.interpretation_spec.specs.Kept.{kept_pairs}
+use Rattle.interpretation_spec.specs.NumberedInterpretation.{NumberedInterpretation, targets_of}
+use Rattle.interpretation_spec.specs.Fields.{kept_pairs}
 use Rattle.interpretation_spec.proofs.Keeping.{targets}
 use Rattle.interpretation_spec.proofs.interpretation.Interpretation.targets_at.Goals as goal
 

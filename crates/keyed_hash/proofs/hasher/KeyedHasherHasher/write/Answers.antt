@@ -1,6 +1,6 @@
 use Rattle.std.proofs.Common.{length}
 use Rattle.std.proofs.lemmas.Bool.{le-leb, lt-leb}
-use Rattle.keyed_hash.specs.Keyed.{write}
+use Rattle.keyed_hash.specs.Hasher.{write}
 use Rattle.keyed_hash.proofs.hasher.KeyedHasherHasher.write.Goals as goal
 
 pub returns-then-len-gt8 : goal.returns-then-len-gt8

@@ -1,5 +1,5 @@
 use Rattle.std.proofs.Common.{ap, ◌∙◌}
-use Rattle.keyed_hash.specs.Numbered.{hash_of}
+use Rattle.keyed_hash.specs.Numbering.{hash_of}
 use Rattle.keyed_hash.proofs.Members.{none_found}
 use Rattle.keyed_hash.proofs.set.NumberedSet.find.Goals as goal
 

@@ -1,6 +1,6 @@
 use Rattle.std.proofs.Common.{◌≡◌, length, not, true, false, sym, ap, ◌∙◌, subst}
 use Rattle.std.specs.List.{list_any}
-use Rattle.keyed_hash.specs.Numbered.{hash_of, passes_at}
+use Rattle.keyed_hash.specs.Numbering.{hash_of, passes_at}
 use Rattle.keyed_hash.specs.Slots.{Leads}
 use Rattle.keyed_hash.proofs.Members.{found_push, found_still, none_passes, listed, inserted_there, inserted_last, last_is}
 use Rattle.keyed_hash.proofs.set.NumberedSet.insert.Goals as goal

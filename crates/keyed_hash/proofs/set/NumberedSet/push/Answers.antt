@@ -1,5 +1,5 @@
 use Rattle.std.proofs.Common.{length, subst}
-use Rattle.keyed_hash.specs.Numbered.{hash_of}
+use Rattle.keyed_hash.specs.Numbering.{hash_of}
 use Rattle.keyed_hash.specs.Slots.{Leads}
 use Rattle.keyed_hash.proofs.Members.{found_push}
 use Rattle.keyed_hash.proofs.set.NumberedSet.push.Goals as goal

@@ -1,5 +1,5 @@
 use Rattle.std.proofs.Common.{map, sym, ap, ◌∙◌}
-use Rattle.normal_forms.specs.Stored.{origin_of}
+use Rattle.normal_forms.specs.StoredForms.{origin_of}
 use Rattle.normalise.specs.Entries.{form_in}
 use Rattle.normalise.proofs.Pairing.{as_many, forms_paired}
 use Rattle.normalise.proofs.entries.Entries.forms.Goals as goal

@@ -1,6 +1,6 @@
 use Rattle.std.proofs.Common.{map, ◌++◌, ap, ap₂, ◌∙◌}
 use Rattle.std.proofs.lemmas.List.{map-append}
-use Rattle.normal_forms.specs.Stored.{origin_of}
+use Rattle.normal_forms.specs.StoredForms.{origin_of}
 use Rattle.normalise.specs.Entries.{paired}
 use Rattle.normalise.proofs.Pairing.{as_many, paired_append}
 use Rattle.normalise.proofs.entries.Entries.join.Goals as goal

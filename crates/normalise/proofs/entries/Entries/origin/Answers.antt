@@ -1,6 +1,6 @@
 use Rattle.std.proofs.Common.{map, sym, ap, ◌∙◌, slice_get}
 use Rattle.std.specs.Option.{option_map}
-use Rattle.normal_forms.specs.Stored.{origin_of}
+use Rattle.normal_forms.specs.StoredForms.{origin_of}
 use Rattle.normalise.specs.Entries.{origin_in}
 use Rattle.normalise.proofs.Pairing.{as_many, origin_paired}
 use Rattle.normalise.proofs.entries.Entries.origin.Goals as goal

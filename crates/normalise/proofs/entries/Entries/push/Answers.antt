@@ -1,5 +1,5 @@
 use Rattle.std.proofs.Common.{map, ◌∷◌, [], ◌++◌, ap, ap₂, ◌∙◌}
-use Rattle.normal_forms.specs.Stored.{origin_of}
+use Rattle.normal_forms.specs.StoredForms.{origin_of}
 use Rattle.normalise.specs.Entries.{paired}
 use Rattle.normalise.proofs.Pairing.{as_many, origins_push, paired_push}
 use Rattle.normalise.proofs.entries.Entries.push.Goals as goal

@@ -6,7 +6,7 @@ use Rattle.std.proofs.Common.{arith}
 use Rattle.std.proofs.lemmas.List.{length-map}
 use Rattle.axioms.specs.View.{expr_numbers}
 use Rattle.std.proofs.lemmas.Option.{slice_get_within}
-use Rattle.normal_forms.specs.Given.{PairGives}
+use Rattle.normal_forms.specs.Origins.{PairGives}
 use Rattle.normalise.proofs.Adding.{below_more, below_all}
 use Rattle.normalise.proofs.made.Made.apart.Goals as goal
 

@@ -3,7 +3,7 @@ use Rattle.std.proofs.Common.{arith}
 use Rattle.std.proofs.lemmas.List.{length-map}
 use Rattle.axioms.specs.View.{prop_numbers}
 use Rattle.std.proofs.lemmas.Option.{slice_get_within}
-use Rattle.normal_forms.specs.Given.{ChainGives}
+use Rattle.normal_forms.specs.Origins.{ChainGives}
 use Rattle.normalise.proofs.Adding.{from_none, below_more, below_all}
 use Rattle.normalise.proofs.FreshNames.{names_begun, names_more}
 use Rattle.normalise.proofs.Giving.{take_first}

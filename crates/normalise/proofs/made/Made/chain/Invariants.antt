@@ -1,6 +1,6 @@
 use Rattle.std.proofs.Common.{◌<◌, length, take}
 use Rattle.axioms.specs.View.{prop_numbers}
-use Rattle.normal_forms.specs.Given.{ChainGives}
+use Rattle.normal_forms.specs.Origins.{ChainGives}
 use Rattle.normalise.specs.Steps.{NamesTo}
 use Rattle.normalise.specs.View.{Adds, Below, From, StartsProperty}
 use Rattle.normalise.proofs.made.Made.chain.Given as goal

@@ -1,5 +1,5 @@
 use Rattle.axioms.specs.View.{expr_numbers}
-use Rattle.normal_forms.specs.Given.{CircleGives, subsumed}
+use Rattle.normal_forms.specs.Origins.{CircleGives, subsumed}
 use Rattle.normalise.specs.View.{Adds, Below, From}
 use Rattle.normalise.proofs.made.Made.circle.Given as goal
 

@@ -1,7 +1,7 @@
 use Rattle.std.proofs.Common.{length, refl}
 use Rattle.std.proofs.lemmas.List.{length-map}
 use Rattle.axioms.specs.View.{expr_numbers}
-use Rattle.normal_forms.specs.Given.{subsumed}
+use Rattle.normal_forms.specs.Origins.{subsumed}
 use Rattle.normal_forms.specs.Forms.{Whole}
 use Rattle.normalise.proofs.Giving.{circle_adds}
 use Rattle.normalise.proofs.made.Made.circle_step.Goals as goal

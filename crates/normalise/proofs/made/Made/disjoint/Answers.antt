@@ -3,7 +3,7 @@ use Rattle.std.proofs.Common.{ℕ, arith}
 use Rattle.std.proofs.lemmas.List.{length-map}
 use Rattle.axioms.specs.View.{expr_numbers}
 use Rattle.std.proofs.lemmas.Option.{slice_get_within}
-use Rattle.normal_forms.specs.Given.{PairGives}
+use Rattle.normal_forms.specs.Origins.{PairGives}
 use Rattle.normalise.proofs.Adding.{below_none, below_more, below_all}
 use Rattle.normalise.proofs.made.Made.disjoint.Goals as goal
 

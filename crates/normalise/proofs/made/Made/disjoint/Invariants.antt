@@ -1,6 +1,6 @@
 use Rattle.std.proofs.Common.{ℕ}
 use Rattle.axioms.specs.View.{expr_numbers}
-use Rattle.normal_forms.specs.Given.{PairGives}
+use Rattle.normal_forms.specs.Origins.{PairGives}
 use Rattle.normalise.specs.View.{Adds, Below, From}
 use Rattle.normalise.proofs.made.Made.disjoint.Given as goal
 

@@ -1,9 +1,9 @@
 use Rattle.std.proofs.Common.{ℕ, refl, sym, subst}
 use Rattle.axioms.specs.View.{expr_numbers, node_of}
-use Rattle.normal_forms.specs.Given.{AndGives}
+use Rattle.normal_forms.specs.Origins.{AndGives}
 use Rattle.normalise.specs.View.{Adds, From}
 use Rattle.normal_forms.specs.Forms.{Whole, N4}
-use Rattle.normal_forms.specs.Given.{LeftGives}
+use Rattle.normal_forms.specs.Origins.{LeftGives}
 use Rattle.normalise.proofs.made.Made.left.Goals as goal
 
 pub returns-in_ok-left_and-in-And : goal.returns-in_ok-left_and-in-And

@@ -1,6 +1,6 @@
 use Rattle.std.proofs.Common.{◌<◌, length, take}
 use Rattle.axioms.specs.View.{expr_numbers}
-use Rattle.normal_forms.specs.Given.{AndGives}
+use Rattle.normal_forms.specs.Origins.{AndGives}
 use Rattle.normalise.specs.View.{Adds, Below, From, StartsClass}
 use Rattle.normalise.proofs.made.Made.left_and.Given as goal
 

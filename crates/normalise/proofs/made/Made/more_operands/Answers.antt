@@ -2,7 +2,7 @@ use Rattle.std.proofs.Common.{◌+◌, map, take, refl, sym, subst, arith}
 use Rattle.std.proofs.lemmas.List.{length-map}
 use Rattle.axioms.specs.Growth.{Numbers}
 use Rattle.axioms.specs.View.{expr_numbers}
-use Rattle.normalise.specs.Shorter.{IsShorter}
+use Rattle.normalise.specs.Lengths.{IsShorter}
 use Rattle.normalise.specs.View.{class_number}
 use Rattle.normalise.proofs.Giving.{map-take, shorter_class, more_numbered}
 use Rattle.normalise.proofs.made.Made.more_operands.Goals as goal

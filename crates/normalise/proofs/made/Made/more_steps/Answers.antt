@@ -2,7 +2,7 @@ use Rattle.std.proofs.Common.{◌+◌, map, take, refl, sym, subst, arith}
 use Rattle.std.proofs.lemmas.List.{length-map}
 use Rattle.axioms.specs.Growth.{Numbers}
 use Rattle.axioms.specs.View.{prop_numbers}
-use Rattle.normalise.specs.Shorter.{IsShorter}
+use Rattle.normalise.specs.Lengths.{IsShorter}
 use Rattle.normalise.specs.View.{property_number}
 use Rattle.normalise.proofs.Giving.{map-take, shorter_property, steps_numbered}
 use Rattle.normalise.proofs.made.Made.more_steps.Goals as goal

@@ -2,8 +2,8 @@ use Rattle.std.proofs.Common.{refl}
 use Rattle.axioms.specs.View.{expr_numbers}
 use Rattle.normal_forms.specs.Forms.{Whole}
 use Rattle.normalise.proofs.Giving.{pair_adds}
-use Rattle.normal_forms.specs.Given.{disjoint}
-use Rattle.axioms.specs.Numbered.{nothing}
+use Rattle.normal_forms.specs.Origins.{disjoint}
+use Rattle.axioms.specs.Ontology.{nothing}
 use Rattle.normalise.proofs.made.Made.pair.Goals as goal
 
 pub returns : goal.returns

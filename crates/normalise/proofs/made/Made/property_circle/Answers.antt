@@ -4,7 +4,7 @@ use Rattle.std.proofs.lemmas.List.{length-map}
 use Rattle.axioms.specs.View.{prop_numbers}
 use Rattle.std.proofs.lemmas.Option.{slice_get_within}
 use Rattle.normal_forms.specs.Forms.{N5}
-use Rattle.normal_forms.specs.Given.{CircleGives}
+use Rattle.normal_forms.specs.Origins.{CircleGives}
 use Rattle.normalise.proofs.Adding.{below_none, below_more, below_all}
 use Rattle.normalise.proofs.made.Made.property_circle.Goals as goal
 

@@ -1,6 +1,6 @@
 use Rattle.axioms.specs.View.{prop_numbers}
 use Rattle.normal_forms.specs.Forms.{N5}
-use Rattle.normal_forms.specs.Given.{CircleGives}
+use Rattle.normal_forms.specs.Origins.{CircleGives}
 use Rattle.normalise.specs.View.{Adds, Below, From}
 use Rattle.normalise.proofs.made.Made.property_circle.Given as goal
 

@@ -2,8 +2,8 @@ use Rattle.std.proofs.Common.{refl, sym, subst}
 use Rattle.axioms.specs.View.{expr_numbers, node_of}
 use Rattle.normalise.specs.View.{Adds, From}
 use Rattle.normal_forms.specs.Forms.{Whole, N3}
-use Rattle.axioms.specs.Numbered.{And}
-use Rattle.normal_forms.specs.Given.{RightGives}
+use Rattle.axioms.specs.Ontology.{And}
+use Rattle.normal_forms.specs.Origins.{RightGives}
 use Rattle.normalise.proofs.made.Made.right.Goals as goal
 
 pub returns-in_ok-right_and-in-And : goal.returns-in_ok-right_and-in-And

@@ -1,6 +1,6 @@
 use Rattle.std.proofs.Common.{refl}
 use Rattle.axioms.specs.View.{expr_numbers}
-use Rattle.normal_forms.specs.Given.{subsumed}
+use Rattle.normal_forms.specs.Origins.{subsumed}
 use Rattle.normal_forms.specs.Forms.{Whole}
 use Rattle.normalise.proofs.Giving.{operand_adds}
 use Rattle.normalise.proofs.made.Made.right_operand.Goals as goal

@@ -1,11 +1,11 @@
 use Rattle.std.proofs.Common.{ℕ, refl, sym, subst}
 use Rattle.axioms.specs.View.{axiom_of, expr_numbers, prop_numbers}
 use Rattle.normal_forms.specs.Forms.{N5}
-use Rattle.normal_forms.specs.Given.{CircleGives, PairGives, subsumed}
+use Rattle.normal_forms.specs.Origins.{CircleGives, PairGives, subsumed}
 use Rattle.normalise.specs.View.{Adds, From}
 use Rattle.normal_forms.specs.Forms.{Whole, Property, N1, N4, N6, N7, N8, N9}
-use Rattle.normal_forms.specs.Given.{AxiomGives}
-use Rattle.axioms.specs.Numbered.{thing}
+use Rattle.normal_forms.specs.Origins.{AxiomGives}
+use Rattle.axioms.specs.Ontology.{thing}
 use Rattle.normalise.proofs.FreshNames.{NamesNone, names_none}
 use Rattle.normalise.proofs.made.Made.state.Goals as goal
 

@@ -1,12 +1,12 @@
 use Rattle.normalise.proofs.Giving.{stated_once}
 use Rattle.std.proofs.Common.{◌≡◌, List, length, map, take, refl, sym, subst, arith, slice_get, Some}
 use Rattle.std.proofs.lemmas.List.{length-map}
-use Rattle.axioms.specs.Numbered.{Axiom}
+use Rattle.axioms.specs.Ontology.{Axiom}
 use Rattle.axioms.specs.View.{axiom_of}
 use Rattle.lemmas.proofs.Mapped.{slice_get_map}
 use Rattle.lemmas.proofs.Places.{take_push}
 use Rattle.std.proofs.lemmas.Option.{slice_get_read}
-use Rattle.normalise.specs.Named.{NameChains}
+use Rattle.normalise.specs.FreshNames.{NameChains}
 use Rattle.normalise.specs.Steps.{StatedAt, StatedFrom}
 use Rattle.normalise.specs.View.{Adds}
 use Rattle.normalise.proofs.FreshNames.{all_taken, chains_more}

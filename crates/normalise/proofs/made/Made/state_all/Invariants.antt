@@ -1,6 +1,6 @@
 use Rattle.std.proofs.Common.{map, take}
 use Rattle.axioms.specs.View.{axiom_of}
-use Rattle.normalise.specs.Named.{NameChains}
+use Rattle.normalise.specs.FreshNames.{NameChains}
 use Rattle.normalise.specs.Steps.{StatedFrom}
 use Rattle.normalise.specs.View.{Adds}
 use Rattle.normalise.proofs.made.Made.state_all.Given as goal

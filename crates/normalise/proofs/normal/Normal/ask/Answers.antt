@@ -2,7 +2,7 @@ use Rattle.std.proofs.Common.{◌≡◌, length, sym, ap, ◌∙◌, subst, Cont
 use Rattle.std.proofs.lemmas.List.{length-map}
 use Rattle.axioms.specs.Growth.{Numbers}
 use Rattle.axioms.specs.View.{axiom_of, expr_numbers}
-use Rattle.normalise.specs.Growing.{IsNormalFor, Grown, Grows}
+use Rattle.normalise.specs.Growth.{IsNormalFor, Grown, Grows}
 use Rattle.normalise.specs.Listing.{Listing}
 use Rattle.normalise.proofs.Asking.{asked_more}
 use Rattle.normalise.proofs.normal.Normal.ask.Goals as goal

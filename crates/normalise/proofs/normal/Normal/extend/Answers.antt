@@ -1,6 +1,6 @@
 use Rattle.std.proofs.Common.{◌≡◌, sym, ap, ◌∙◌, subst, Contains}
 use Rattle.axioms.specs.View.{expr_numbers}
-use Rattle.normalise.specs.Growing.{Grown, IsNormalFor}
+use Rattle.normalise.specs.Growth.{Grown, IsNormalFor}
 use Rattle.normalise.specs.Listing.{Listing}
 use Rattle.normalise.proofs.normal.Normal.extend.Goals as goal
 

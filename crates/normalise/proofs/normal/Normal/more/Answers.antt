@@ -1,10 +1,10 @@
 use Rattle.std.proofs.Common.{length, take, sym, ap, ◌∙◌, subst}
 use Rattle.std.proofs.lemmas.List.{length-map}
 use Rattle.axioms.specs.View.{axiom_of, expr_numbers}
-use Rattle.normal_forms.specs.Occurring.{AtLeft, AtRight}
+use Rattle.normal_forms.specs.Occurrences.{AtLeft, AtRight}
 use Rattle.normalise.specs.Listing.{Listing}
 use Rattle.normalise.specs.Marks.{MarksOccurring}
-use Rattle.normalise.specs.Named.{NameChains}
+use Rattle.normalise.specs.FreshNames.{NameChains}
 use Rattle.normalise.specs.Steps.{StatedFrom}
 use Rattle.normalise.specs.View.{Adds}
 use Rattle.normalise.proofs.Differing.{all_differ}

@@ -1,6 +1,6 @@
 use Rattle.std.proofs.Common.{ℕ, ◌<◌, ◌≡◌, ◌++◌, length, take}
 use Rattle.number_sets.specs.Pieces.{list_at}
-use Rattle.number_sets.specs.Turned.{copies}
+use Rattle.number_sets.specs.Transposition.{copies}
 use Rattle.number_sets.proofs.open_lists.OpenLists.push_to_each.Given as goal
 
 abbrev pub invariant-loop-k : goal.invariant-loop-k

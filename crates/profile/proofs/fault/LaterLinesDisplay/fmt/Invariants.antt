@@ -1,6 +1,6 @@
 use Rattle.std.proofs.Common.{flat_map, take}
 use Rattle.std.specs.Fmt.{HasWritten, IsPlainFormatter}
-use Rattle.profile.specs.Printed.{later_line}
+use Rattle.profile.specs.Messages.{later_line}
 use Rattle.profile.proofs.fault.LaterLinesDisplay.fmt.Given as goal
 
 abbrev pub invariant-loop-fault : goal.invariant-loop-fault

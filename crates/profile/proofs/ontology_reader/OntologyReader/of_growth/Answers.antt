@@ -1,4 +1,4 @@
-use Rattle.profile.specs.Taking.{of_growth}
+use Rattle.profile.specs.Intake.{of_growth}
 use Rattle.profile.proofs.Takings.{none_taken}
 use Rattle.profile.proofs.ontology_reader.OntologyReader.of_growth.Goals as goal
 

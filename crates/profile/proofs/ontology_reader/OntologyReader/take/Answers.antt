@@ -1,8 +1,8 @@
 use Rattle.std.proofs.Common.{◌≡◌, ◌<◌, length, arith, option_map, sym, subst}
 use Rattle.fs_parser.specs.View.{tree_of}
-use Rattle.shapes.specs.Stated.{stated}
+use Rattle.shapes.specs.TreeStatements.{stated}
 use Rattle.shapes.specs.View.{faults_of}
-use Rattle.profile.specs.Taking.{AreTaken, taken}
+use Rattle.profile.specs.Intake.{AreTaken, taken}
 use Rattle.profile.proofs.Takings.{fits, none_found, some_found, taken_faulty, taken_full, taken_more}
 use Rattle.profile.proofs.ontology_reader.OntologyReader.take.Goals.{then-not-is_empty-via-then-not-is_empty, then-not-is_empty-via-else-not-is_empty+then-self}
 use Rattle.profile.proofs.ontology_reader.OntologyReader.take.Goals as goal

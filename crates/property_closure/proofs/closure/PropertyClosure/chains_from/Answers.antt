@@ -1,7 +1,7 @@
 use Rattle.std.proofs.Common.{List, Contains, ◌↔◌, sym, ◌∙◌, subst}
 use Rattle.std.specs.List.{AllPairs}
 use Rattle.normal_forms.specs.Properties.{ChainComesBefore, IsChainFrom}
-use Rattle.property_closure.specs.Closed.{known_by}
+use Rattle.property_closure.specs.PropertyClosures.{known_by}
 use Rattle.property_closure.proofs.ChainLists.{Chain}
 use Rattle.property_closure.proofs.Keeping.{chains_within, none_there}
 use Rattle.property_closure.proofs.closure.PropertyClosure.chains_from.Goals as goal

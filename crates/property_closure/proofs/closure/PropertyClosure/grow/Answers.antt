@@ -4,7 +4,7 @@ use Rattle.std.proofs.lemmas.List.Elements.{All-filter}
 use Rattle.normal_forms.specs.declared.forms.Form.{Form}
 use Rattle.normal_forms.specs.Properties.{IsPropertyFormOf, is_property_form}
 use Rattle.property_closure.specs.declared.closure.PropertyClosure.TheInside.{Inside}
-use Rattle.property_closure.specs.Closed.{Known, AreBeginnings, AreProperties, IsRelated}
+use Rattle.property_closure.specs.PropertyClosures.{Known, ArePrefixes, AreProperties, IsRelated}
 use Rattle.property_closure.proofs.Keeping.{related_wider}
 use Rattle.property_closure.proofs.closure.PropertyClosure.grow.Goals as goal
 use Rattle.property_closure.proofs.closure.PropertyClosure.grow.Goals.{then-not-is_empty+in_ok-self-inside, else-not-is_empty}
@@ -25,8 +25,8 @@ add_properties-requires-clause-before c =
 
 pub add_partials-requires-clause-before : goal.add_partials-requires-clause-before
 add_partials-requires-clause-before c =
-    let here = subst AreBeginnings (sym c.in_ok-make_room-2.ensures.same) c.self.invariant.partials in
-    let P : Inside → Type 0 = λ s. AreBeginnings s.partials.items in
+    let here = subst ArePrefixes (sym c.in_ok-make_room-2.ensures.same) c.self.invariant.partials in
+    let P : Inside → Type 0 = λ s. ArePrefixes s.partials.items in
     elim c.if-not-is_empty.branch [
       | then-not-is_empty+in_ok-self-inside w ↦ subst P (sym w.self-inside-is) here
       | else-not-is_empty w ↦ subst P (sym w.self-inside-is) here

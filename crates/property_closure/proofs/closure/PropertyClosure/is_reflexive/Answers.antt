@@ -2,7 +2,7 @@ use Rattle.std.proofs.Common.{◌≡◌, ◌↔◌, true, sym, ap, ◌∙◌, su
 use Rattle.normal_forms.specs.declared.forms.PropId2.{PropId2}
 use Rattle.normal_forms.specs.Properties.{IsReflexive}
 use Rattle.number_sets.specs.Members.{has}
-use Rattle.property_closure.specs.Closed.{known_by}
+use Rattle.property_closure.specs.PropertyClosures.{known_by}
 use Rattle.property_closure.proofs.closure.PropertyClosure.is_reflexive.Goals as goal
 
 pub returns-in-Property-clause-exact : goal.returns-in-Property-clause-exact

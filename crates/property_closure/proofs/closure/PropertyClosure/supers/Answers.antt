@@ -3,8 +3,8 @@ use Rattle.normal_forms.specs.declared.forms.PropId2.{PropId2}
 use Rattle.normal_forms.specs.declared.forms.PropId2.TheVariants.{Property, Partial}
 use Rattle.normal_forms.specs.Properties.{IsAtOrBelow}
 use Rattle.number_sets.specs.Pieces.{list_at}
-use Rattle.property_closure.specs.Related.{AreAbove, Tells}
-use Rattle.property_closure.specs.Closed.{Has, known_by}
+use Rattle.property_closure.specs.Relations.{AreAbove, Tells}
+use Rattle.property_closure.specs.PropertyClosures.{Has, known_by}
 use Rattle.property_closure.proofs.Keeping.{alone_above, partial_above, only_itself}
 use Rattle.property_closure.proofs.closure.PropertyClosure.supers.Goals as goal
 

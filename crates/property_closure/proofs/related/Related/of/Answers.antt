@@ -5,7 +5,7 @@ use Rattle.normal_forms.specs.declared.forms.Form.{Form}
 use Rattle.normal_forms.specs.Properties.{IsPropertyFormOf, IsReflexive}
 use Rattle.number_sets.specs.Members.{has}
 use Rattle.number_sets.specs.Pieces.{list_at}
-use Rattle.property_closure.specs.Related.{AreAbove, ArePlainWithin, AreReflexiveWithin, as_property}
+use Rattle.property_closure.specs.Relations.{AreAbove, ArePlainWithin, AreReflexiveWithin, as_property}
 use Rattle.property_closure.specs.Chains.{AreChains, chains_at}
 use Rattle.property_closure.proofs.Keeping.{plain_within, reflexive_within, chains_within}
 use Rattle.property_closure.proofs.related.Related.of.Goals as goal

@@ -1,5 +1,5 @@
 use Rattle.std.proofs.Common.{refl}
-use Rattle.indexes.specs.Indexed.{IsIn}
+use Rattle.indexes.specs.FactIndex.{IsIn}
 use Rattle.saturate.proofs.Exact.{exactly}
 use Rattle.saturate.proofs.state.State.classes_in.Goals as goal
 

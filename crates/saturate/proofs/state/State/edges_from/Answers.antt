@@ -1,5 +1,5 @@
 use Rattle.std.proofs.Common.{refl}
-use Rattle.indexes.specs.Indexed.{IsFrom}
+use Rattle.indexes.specs.FactIndex.{IsFrom}
 use Rattle.saturate.proofs.Exact.{exactly}
 use Rattle.saturate.proofs.state.State.edges_from.Goals as goal
 

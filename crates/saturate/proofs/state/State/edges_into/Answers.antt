@@ -1,5 +1,5 @@
 use Rattle.std.proofs.Common.{refl}
-use Rattle.indexes.specs.Indexed.{IsInto}
+use Rattle.indexes.specs.FactIndex.{IsInto}
 use Rattle.saturate.proofs.Exact.{exactly}
 use Rattle.saturate.proofs.state.State.edges_into.Goals as goal
 

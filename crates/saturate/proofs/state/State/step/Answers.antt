@@ -1,15 +1,15 @@
 use Rattle.std.proofs.Common.{◌≡◌, ℕ, List, ◌++◌, length, Contains, Some, [], ◌∷◌, ◌≤◌, false, refl, sym, ap, subst, ◌∙◌, arith}
 use Rattle.std.proofs.lemmas.Option.{none-some, slice_get_within}
 use Rattle.facts.specs.Closure.{Problem}
-use Rattle.inference.specs.Derived.{Grows}
-use Rattle.inference.specs.Visited.{IsNotCarried}
-use Rattle.inference.specs.Working.{Drawn, IsSparedAsSecond}
-use Rattle.axioms.specs.WellFormed.{AreDistinct}
+use Rattle.inference.specs.Derivations.{Grows}
+use Rattle.inference.specs.Visits.{IsNotCarried}
+use Rattle.inference.specs.Completeness.{Drawn, IsRedundantAsSecond}
+use Rattle.axioms.specs.WellFormedness.{AreDistinct}
 use Rattle.saturate.specs.Run.{IsLeft, IsStep}
 use Rattle.saturate.specs.State.{IsUnderWay}
-use Rattle.saturate.specs.Listed.{ListsServed}
-use Rattle.saturate.specs.Queued.{NameTheirContexts}
-use Rattle.inference.specs.Met.{AllListedAreMet}
+use Rattle.saturate.specs.IndexedFacts.{ListsServed}
+use Rattle.saturate.specs.Turns.{NameTheirContexts}
+use Rattle.inference.specs.Meetings.{AllListedAreMet}
 use Rattle.inference.proofs.Growth.{grows_same}
 use Rattle.saturate.proofs.Runs.{in_any_refusal, left, one_step}
 use Rattle.saturate.proofs.States.{grown, one_served, finished}
@@ -45,9 +45,9 @@ returns-in_default-clause-done g c = λ _.
 handed : (g : _) (c : After-add g) → c.turn.new.self.hand ≡ Some c.in-Some.hand
 handed g c = sym c.in_ok-hand.ensures.hand ∙ c.in-Some.is
 
--- the fact in hand, where it need not stand second
-spared : (g : _) (c : After-add g) → c.stands_second-is_second.result ≡ false → IsSparedAsSecond c.self.inside.ground c.self.inside.facts c.get-fact.result
-spared g c not_second = subst (λ (k : Problem). IsSparedAsSecond k c.self.inside.facts c.get-fact.result) c.problem-problem.ensures (c.stands_second-is_second.ensures not_second c.get-fact.result c.get-fact.ensures)
+-- the fact in hand, where it need not be a second premise
+redundant : (g : _) (c : After-add g) → c.is_second_premise-is_second.result ≡ false → IsRedundantAsSecond c.self.inside.ground c.self.inside.facts c.get-fact.result
+redundant g c not_second = subst (λ (k : Problem). IsRedundantAsSecond k c.self.inside.facts c.get-fact.result) c.problem-problem.ensures (c.is_second_premise-is_second.ensures not_second c.get-fact.result c.get-fact.ensures)
 
 -- the fact in hand, where edges carry nothing for it
 uncarried : (g : _) (c : After-add g) → c.is_filler-is_filler.result ≡ false → IsNotCarried c.self.inside.ground c.get-fact.result
@@ -82,7 +82,7 @@ grows : (g : _) (c : After-finish g) → Grows c.self.inside.ground c.args.max_f
 grows g c = subst (λ (k : Problem). Grows k c.args.max_facts c.self.inside.facts c.serve.new.facts) c.problem-problem.ensures c.serve.ensures.grows
 
 module _ (g : _) (c : After-finish g) (s : IsUnderWay c.self.inside.ground c.self.inside.facts c.turn.new.self) (indexed_then : ListsServed c.self.inside.ground c.self.inside.facts c.turn.new.self c.add.new.self)
-    (handed_then : c.turn.new.self.hand ≡ Some c.in-Some.hand) (spared_then : c.stands_second-is_second.result ≡ false → IsSparedAsSecond c.self.inside.ground c.self.inside.facts c.get-fact.result)
+    (handed_then : c.turn.new.self.hand ≡ Some c.in-Some.hand) (redundant_then : c.is_second_premise-is_second.result ≡ false → IsRedundantAsSecond c.self.inside.ground c.self.inside.facts c.get-fact.result)
     (uncarried_then : c.is_filler-is_filler.result ≡ false → IsNotCarried c.self.inside.ground c.get-fact.result) where
   under_way : IsUnderWay c.self.inside.ground c.serve.new.facts c.finish.new.self
   under_way =
@@ -90,7 +90,7 @@ module _ (g : _) (c : After-finish g) (s : IsUnderWay c.self.inside.ground c.sel
       let new = c.serve.new.facts in
       let alone = subst (λ (k : Problem). Drawn k (f ∷ []) new.facts) c.problem-problem.ensures c.in_ok-serve.ensures.alone in
       let met = subst (λ (k : Problem). AllListedAreMet k f c.self.inside.facts.facts c.add.new.self new) c.problem-problem.ensures c.in_ok-serve.ensures.met in
-      let whole = listed indexed_then c.get-fact.ensures c.in-Ok.ensures.ok spared_then uncarried_then in
+      let whole = listed indexed_then c.get-fact.ensures c.in-Ok.ensures.ok redundant_then uncarried_then in
       one_served s (grows g c) c.in-Some.hand f c.get-fact.ensures alone
       (λ m t h at. all_met whole (grows g c) m t f h met at)
       (omega (arith, c.finish.ensures.queued, c.turn.ensures.queued, ap length c.as_slice.ensures.value))
@@ -109,25 +109,25 @@ pub invariant_of-self-2 : goal.invariant_of-self-2
 invariant_of-self-2 g c =
     let d = goal.at.invariant_of-self-2 g c in
     let s = (kept g d.After-turn).0 in (
-      under_way g d.After-finish s (indexed g d.After-add) (handed g d.After-add) (spared g d.After-add) (uncarried g d.After-add),
-      finish_listed c.turn.new.self c.finish.new.self (indexed g d.After-add) (handed g d.After-add) c.get-fact.ensures c.in-Ok.ensures.ok (spared g d.After-add) (uncarried g d.After-add) (grows g d.After-finish) s.within (served_now g d.After-finish (handed g d.After-add)),
+      under_way g d.After-finish s (indexed g d.After-add) (handed g d.After-add) (redundant g d.After-add) (uncarried g d.After-add),
+      finish_listed c.turn.new.self c.finish.new.self (indexed g d.After-add) (handed g d.After-add) c.get-fact.ensures c.in-Ok.ensures.ok (redundant g d.After-add) (uncarried g d.After-add) (grows g d.After-finish) s.within (served_now g d.After-finish (handed g d.After-add)),
       rw c.finish.ensures.waiting (named_still c.self.inside.facts.facts c.serve.new.facts.facts c.turn.new.self.waiting (grows g d.After-finish).facts (named g d.After-turn)),
     )
 
 pub returns-clause-extends : goal.returns-clause-extends
 returns-clause-extends g c =
     let d = goal.at.returns-clause-extends g c in
-    (stepped g d.After-finish (kept g d.After-turn).0 (indexed g d.After-add) (handed g d.After-add) (spared g d.After-add) (uncarried g d.After-add)).extends
+    (stepped g d.After-finish (kept g d.After-turn).0 (indexed g d.After-add) (handed g d.After-add) (redundant g d.After-add) (uncarried g d.After-add)).extends
 
 pub returns-clause-state : goal.returns-clause-state
 returns-clause-state g c =
     let d = goal.at.returns-clause-state g c in
-    (stepped g d.After-finish (kept g d.After-turn).0 (indexed g d.After-add) (handed g d.After-add) (spared g d.After-add) (uncarried g d.After-add)).state
+    (stepped g d.After-finish (kept g d.After-turn).0 (indexed g d.After-add) (handed g d.After-add) (redundant g d.After-add) (uncarried g d.After-add)).state
 
 pub returns-clause-step : goal.returns-clause-step
 returns-clause-step g c =
     let d = goal.at.returns-clause-step g c in
-    λ _. stepped g d.After-finish (kept g d.After-turn).0 (indexed g d.After-add) (handed g d.After-add) (spared g d.After-add) (uncarried g d.After-add)
+    λ _. stepped g d.After-finish (kept g d.After-turn).0 (indexed g d.After-add) (handed g d.After-add) (redundant g d.After-add) (uncarried g d.After-add)
 
 -- ---- nothing is served
 

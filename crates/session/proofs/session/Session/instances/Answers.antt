@@ -1,7 +1,7 @@
 use Rattle.std.proofs.Common.{map, subst}
-use Rattle.answers.specs.Follows.{BelongsTo}
+use Rattle.answers.specs.Entailment.{BelongsTo}
 use Rattle.answers.specs.Names.{AreThose}
-use Rattle.session.specs.Opened.{Opened}
+use Rattle.session.specs.Sessions.{Opened}
 use Rattle.session.proofs.session.Session.instances.Goals as goal
 
 pub returns-in-Ok-Some-clause-exact : goal.returns-in-Ok-Some-clause-exact

@@ -1,5 +1,5 @@
 use Rattle.std.proofs.Common.{◌≤◌, length}
-use Rattle.axioms.specs.Numbered.{Ontology}
+use Rattle.axioms.specs.Ontology.{Ontology}
 use Rattle.profile.specs.Documents.{IsTaken}
 use Rattle.profile.specs.Faults.{ReadsKnown}
 use Rattle.std.specs.Io.KnownBytes.{IsAtEnd}

@@ -1,7 +1,7 @@
 use Rattle.std.proofs.Common.{map, subst}
-use Rattle.answers.specs.Follows.{LiesBelow}
+use Rattle.answers.specs.Entailment.{LiesBelow}
 use Rattle.answers.specs.Names.{AreThose}
-use Rattle.session.specs.Opened.{Opened}
+use Rattle.session.specs.Sessions.{Opened}
 use Rattle.session.proofs.session.Session.subclasses.Goals as goal
 
 pub returns-in-Ok-Some-clause-exact : goal.returns-in-Ok-Some-clause-exact

@@ -1,6 +1,6 @@
 use Rattle.std.proofs.Common.{◌≡◌, ◌∙◌, sym, true, ap, is_some, refl}
 use Rattle.std.specs.List.{position}
-use Rattle.system_files.specs.Stored.{has_place_at, file_at, is_at}
+use Rattle.system_files.specs.MemoryFiles.{has_place_at, file_at, is_at}
 use Rattle.system_files.proofs.Places.{added_place, files_stay, is_some_place, places_stay}
 use Rattle.system_files.proofs.memory.MemoryFiles.add_place.Goals as goal
 

@@ -3,7 +3,7 @@ use Rattle.std.proofs.lemmas.List.Quantifiers.{position-Some}
 use Rattle.system_files.specs.Contents.{IsPut}
 use Rattle.system_files.specs.declared.memory.MemoryFile.{MemoryFile}
 use Rattle.std.specs.List.{position}
-use Rattle.system_files.specs.Stored.{file_at, has_place_at, is_at}
+use Rattle.system_files.specs.MemoryFiles.{file_at, has_place_at, is_at}
 use Rattle.system_files.proofs.Places.{bytes_put, missing_place, places_kept}
 use Rattle.system_files.proofs.memory.MemoryFiles.store.Goals as goal
 

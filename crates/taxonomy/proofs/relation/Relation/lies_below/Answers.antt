@@ -1,5 +1,5 @@
 use Rattle.std.proofs.Common.{sym, ap, subst, ◌∙◌}
-use Rattle.taxonomy.specs.Held.{held_rows, IsHeld}
+use Rattle.taxonomy.specs.HeldRelations.{held_rows, IsHeld}
 use Rattle.taxonomy.specs.Relation.{lies_below}
 use Rattle.taxonomy.specs.Superclasses.{AreSets}
 use Rattle.taxonomy.proofs.Told.{told}

@@ -1,5 +1,5 @@
 use Rattle.std.proofs.Common.{◌≡◌, ◌+◌, ◌∷◌, [], ◌++◌, ◌∙◌, List, ℕ, ap, arith, length, set, sym, subst}
-use Rattle.work_list.specs.Stacked.{IsStack, items_of, stacked}
+use Rattle.work_list.specs.Stacks.{IsStack, items_of, stacked}
 use Rattle.work_list.proofs.Stacks.{same_stack, stack_more, stacked_more}
 use Rattle.work_list.proofs.groups.Groups.begin.Goals as goal
 

@@ -1,6 +1,6 @@
 use Rattle.std.proofs.Common.{◌≡◌, ◌∷◌, [], ◌++◌, ◌∙◌, ap, arith, length, set, sym, subst}
 use Rattle.std.proofs.lemmas.List.{length_push}
-use Rattle.work_list.specs.Stacked.{IsStack, items_of, stacked}
+use Rattle.work_list.specs.Stacks.{IsStack, items_of, stacked}
 use Rattle.work_list.proofs.Stacks.{stack_less, stacked_more}
 use Rattle.work_list.proofs.groups.Groups.pop.Goals as goal
 

@@ -1,6 +1,6 @@
 use Rattle.std.proofs.Common.{◌≡◌, ◌+◌, ◌-◌, ◌<◌, ◌∷◌, [], ◌++◌, ◌∙◌, List, ℕ, ap, arith, length, get_or, set, sym, subst}
 use Rattle.work_list.specs.Bag.{Adds}
-use Rattle.work_list.specs.Stacked.{IsStack, item_of, place_at, stacked}
+use Rattle.work_list.specs.Stacks.{IsStack, item_of, place_at, stacked}
 use Rattle.work_list.proofs.Stacks.{stack_added, stacked_added}
 use Rattle.work_list.proofs.groups.Groups.push.Goals as goal
 

@@ -1,0 +1,39 @@
+-- What follows from the axioms of an ontology, by names: what holds in every finite interpretation in which they hold
+-- (OWL 2 Direct Semantics, section 2.5).
+use Rattle.std.specs.Prelude.{ℕ, ◌<◌, ◌↔◌, ◌⊎◌, [], length}
+use Rattle.axioms.specs.Expression.{Iri, Named}
+use Rattle.axioms.specs.Ontology.{Ontology, IsClassAt, nothing, name_at, individual_name, axiom_trees}
+use Rattle.axioms.specs.WellFormedness.{IsOntology}
+use Rattle.closure.specs.Closure.{Expression, Individual, In, IsFact}
+use Rattle.exactness.specs.ListedInterpretation.{IsConsistent}
+use Rattle.engine.specs.Saturations.{Saturated, IsSaturated}
+use Rattle.interpretation_spec.specs.Interpretation.{IsBelow, IsMember, IsContradictory}
+use Rattle.normal_forms.specs.Forms.{Whole}
+
+-- the class lies below the other
+abbrev pub LiesBelow : Ontology → Iri → Iri → Type 0
+LiesBelow o c d = IsBelow (axiom_trees o) (Named c) (Named d)
+
+-- the individual is a member of the class
+abbrev pub BelongsTo : Ontology → Iri → Iri → Type 0
+BelongsTo o a d = IsMember (axiom_trees o) a (Named d)
+
+-- ---- what a saturation has is what follows
+
+-- the closure is contradictory, the class is without elements, or the other class is a fact of it
+abbrev pub ClassesFollow : Type 0
+ClassesFollow =
+    (o : Ontology) (s : Saturated) → IsOntology o → IsSaturated o s → (c d e f : ℕ) → IsClassAt o c e → IsClassAt o d f →
+    LiesBelow o (name_at o.names.classes c) (name_at o.names.classes d)
+    ↔ ((IsConsistent o [] → ⊥) ⊎ (IsFact o [] (In (Whole nothing) (Expression e)) ⊎ IsFact o [] (In (Whole f) (Expression e))))
+
+-- the closure is contradictory, or the class is a fact of the individual
+abbrev pub TypesFollow : Type 0
+TypesFollow =
+    (o : Ontology) (s : Saturated) → IsOntology o → IsSaturated o s → (a d f : ℕ) → a < length o.names.individuals → IsClassAt o d f →
+    BelongsTo o (individual_name o a) (name_at o.names.classes d) ↔ ((IsConsistent o [] → ⊥) ⊎ IsFact o [] (In (Whole f) (Individual a)))
+
+-- there is no finite interpretation of the axioms exactly where the closure is contradictory
+abbrev pub ContradictionIsExact : Type 0
+ContradictionIsExact =
+    (o : Ontology) (s : Saturated) → IsOntology o → IsSaturated o s → IsContradictory (axiom_trees o) ↔ (IsConsistent o [] → ⊥)

@@ -1,0 +1,50 @@
+-- What is found by numbers.
+use Rattle.std.specs.Prelude.{◌≡◌, ℕ, ◌<◌, ◌≤◌, List, [], ◌∷◌, length, slice_get, Some, None}
+use Rattle.axioms.specs.Expression.{Iri}
+use Rattle.axioms.specs.Ontology.{Ontology, axiom_trees, nothing}
+use Rattle.axioms.specs.View.{at_number}
+use Rattle.cert_check.specs.Acceptance.{IsTop}
+use Rattle.certificate.specs.Certificate.{Conclusion, Line, Subject, Sub}
+use Rattle.certificate.specs.declared.line.Rule.TheVariants.{K3}
+use Rattle.closure.specs.Closure.{Context, In, IsFact}
+use Rattle.exactness.specs.ListedInterpretation.{IsListedInterpretation, AgreesWithClosure}
+use Rattle.generated_part.specs.GeneratedPart.{IsGenerated}
+use Rattle.interpretation_spec.specs.NamedInterpretation.{interpretation_of}
+use Rattle.interpretation_spec.specs.Interpretation.{Interpretation, IsModel}
+use Rattle.interpretation_spec.specs.NumberedInterpretation.{NumberedInterpretation, IsMadeFor}
+use Rattle.normal_forms.specs.Forms.{Whole}
+use Rattle.answers.specs.Explanations.{Explains, IsAbout, IsClassNamed}
+use Rattle.answers.specs.declared.asked.Asked.{Asked}
+use Rattle.answers.specs.declared.explanation.Explanation.{Explanation}
+
+-- the line of that number, counted from 1, has a conclusion that is so
+abbrev pub IsLineWith : (Conclusion → Type 0) → List Line → ℕ → Type 0
+IsLineWith P lines n = (0 < n) × (n ≤ length lines) × ((line : Line) × (at_number lines n ≡ Some line) × P line.conclusion)
+
+-- all things or an individual are in owl:Nothing
+abbrev pub IsContradiction : Conclusion → Type 0
+IsContradiction conclusion = (subject : Subject) × IsTop subject × (conclusion ≡ Sub subject nothing)
+
+-- neither the class nor owl:Nothing is a fact of the context
+abbrev pub IsRefutable : Ontology → Context → ℕ → Type 0
+IsRefutable o x class = (IsFact o [] (In (Whole nothing) x) → ⊥) × (IsFact o [] (In (Whole class) x) → ⊥)
+
+-- what lies in owl:Nothing lies in the class, by the line of that number
+abbrev pub line_from_nothing : Subject → ℕ → ℕ → Line
+line_from_nothing subject class number = record { conclusion = Sub subject class; rule = K3; axiom' = None; premises = number ∷ [] }
+
+-- the part of the interpretation that the closure lists that is reached from the context's own element, which has that number in it
+pub record IsPartFor (o : Ontology) (x : Context) (part : NumberedInterpretation) (new : ℕ) : Type 0 where
+  pub made : IsMadeFor o.names part
+  pub elements : List Context
+  pub whole : Interpretation
+  pub listed : IsListedInterpretation o [] elements whole
+  pub agrees : AgreesWithClosure o [] elements whole
+  pub model : IsModel whole (axiom_trees o)
+  pub from : ℕ
+  pub own : slice_get elements from ≡ Some x
+  pub generated : IsGenerated o whole from (interpretation_of o.names part) new
+
+-- it explains, whatever the names are
+abbrev pub ExplainsOf : Ontology → Context → ℕ → Explanation → Type 0
+ExplainsOf o x class answer = (asked : Asked) (name : Iri) → IsAbout o asked x → IsClassNamed o name class → Explains o asked name answer

@@ -1,0 +1,37 @@
+-- What is kept of lines, and of a certificate, that were read and tested one after another.
+use Rattle.std.specs.Prelude.{◌≡◌, ℕ, Bool, List, MatchOption, Result, Ok, Err, option_map}
+use Rattle.std.specs.declared.option.Option.{Option}
+use Rattle.axioms.specs.Ontology.{Ontology}
+use Rattle.certificate.specs.Certificate.{Conclusion, Line, Listed, Certificate}
+use Rattle.certificate.specs.Writability.{IsTextOf}
+use Rattle.certificate.specs.Outcome.{IsRefused}
+use Rattle.certificate.specs.View.{listed_of}
+use Rattle.certificate.specs.declared.fault.CertFault.{CertFault}
+use Rattle.cert_check.specs.Derivation.{IsDerivation}
+use Rattle.cert_check.specs.Faults.{IsFirstBadLine}
+use Rattle.cert_check.specs.Lists.{said_by}
+use Rattle.cert_check.specs.Verdict.{AreShown}
+use Rattle.cert_check.specs.declared.derivation.TestedCertificate.{TestedCertificate}
+
+-- what the lines say, and which is the first that does not follow from those before it
+pub record AreTested (o : Ontology) (lines : List Line) (said : List Conclusion) (bad : Option ℕ) : Type 0 where
+  pub said_is : said ≡ said_by lines
+  pub bad_is : MatchOption bad (IsDerivation o lines) (IsFirstBadLine o lines)
+
+-- what the lines say, which is the first that does not follow from those before it, and what they show
+pub record AreKept (o : Ontology) (lines : List Line) (said : List Conclusion) (bad : Option ℕ) (contradictory : Bool) (above types : List (List ℕ)) : Type 0 where
+  pub tested : AreTested o lines said bad
+  pub shown : AreShown o lines contradictory above types
+
+-- the text is that of a certificate whose lines have this bad line, if there is one, and show this, and with this interpretation, if there is one
+pub record IsTested (o : Ontology) (text : List ℕ) (bad : Option ℕ) (contradictory : Bool) (above types : List (List ℕ)) (listed : Option Listed) : Type 0 where
+  pub certificate : Certificate
+  pub text_is : IsTextOf o text certificate
+  pub bad_is : MatchOption bad (IsDerivation o certificate.lines) (IsFirstBadLine o certificate.lines)
+  pub shown : AreShown o certificate.lines contradictory above types
+  pub listed_is : listed ≡ certificate.listed
+
+-- what reading a text answers: what is kept of the certificate whose text it is, or why it is that of none
+abbrev pub IsReading : Ontology → List ℕ → Result TestedCertificate CertFault → Type 0
+IsReading o text (Ok c) = IsTested o text c.lines.bad c.lines.is_contradictory c.lines.above c.lines.types (option_map listed_of c.listed)
+IsReading o text (Err fault) = IsRefused fault o text

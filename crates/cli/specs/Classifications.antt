@@ -1,0 +1,71 @@
+-- What a classification of a document writes.
+use Rattle.std.specs.Prelude.{◌≡◌, ◌≤◌, ℕ, List, Option, Result, Ok, Err}
+use Rattle.axioms.specs.Ontology.{Ontology}
+use Rattle.axioms.specs.WellFormedness.{IsOntology}
+use Rattle.cert_check.specs.Acceptance.{AreRight, IsAcceptable}
+use Rattle.classification.specs.Classifications.{AreCountsOf, AreTextsOf}
+use Rattle.classification.specs.declared.classification.Summary.{Summary}
+use Rattle.session.specs.Devices.{SourceState, IsReadToItsEnd, IsReadUntil}
+use Rattle.session.specs.WrittenTexts.{Sinks, Texts, AreWritten, AreWrittenUntil, all_seen}
+use Rattle.cli.specs.declared.fault.ClassifyFault.{ClassifyFault}
+use Rattle.cli.specs.declared.fault.ClassifyFault.TheVariants.{Document, Memory, Limit, Io}
+use Rattle.device.specs.declared.device.Sink.{Ghosts}
+use Rattle.profile.specs.Faults.{ReadsKnown, RefusesKnown}
+use Rattle.engine.specs.Saturations.{HasMoreFactsThan}
+use Rattle.program.specs.declared.limits.Limits.{Limits}
+
+-- the document, of at most so many bytes, reads as an ontology whose closure has at most so many facts; these are its counts
+-- and its texts, the certificate shows that the other two are right, and so they say what follows from the axioms
+pub record IsClassified (most_bytes most_facts : ℕ) (document : Option (List ℕ)) (summary : Summary) (texts : Texts) : Type 0 where
+  pub ontology : Ontology
+  pub reads : ReadsKnown document most_bytes ontology
+  pub well_formed : IsOntology ontology
+  pub counts : AreCountsOf ontology summary
+  pub within : summary.facts ≤ most_facts
+  pub texts_are : AreTextsOf ontology summary.consistent texts.taxonomy texts.instances
+  pub acceptable : IsAcceptable ontology texts.taxonomy texts.instances texts.certificate
+  pub right : AreRight ontology texts.taxonomy texts.instances texts.certificate
+
+-- the document reads as some ontology
+abbrev pub IsRead : (most_bytes : ℕ) → (document : Option (List ℕ)) → Type 0
+IsRead bytes document = (o : Ontology) × ReadsKnown document bytes o
+
+-- the document reads as some ontology whose closure has more facts
+abbrev pub IsBeyondLimit : (most_bytes most_facts : ℕ) → (document : Option (List ℕ)) → Type 0
+IsBeyondLimit bytes facts document = (o : Ontology) × ReadsKnown document bytes o × HasMoreFactsThan o facts
+
+-- what a fault says of the document: it is refused, or it is read and this came behind that. The sinks are numbered from 1
+abbrev pub IsFaultOf : (most_bytes most_facts : ℕ) → (document : Option (List ℕ)) → ClassifyFault → Type 0
+IsFaultOf bytes facts document (Document fault) = RefusesKnown document bytes fault
+IsFaultOf bytes facts document Memory = IsRead bytes document
+IsFaultOf bytes facts document Limit = IsBeyondLimit bytes facts document
+IsFaultOf bytes facts document (Io n) = (1 ≤ n) × (n ≤ 3) × ((summary : Summary) × (texts : Texts) × IsClassified bytes facts document summary texts)
+
+-- what was written where the answer is this fault: nothing where it came before the writing
+abbrev pub IsUnwritten : (most_bytes most_facts : ℕ) → (document : Option (List ℕ)) → (old new : Sinks) → ClassifyFault → Type 0
+IsUnwritten bytes facts document old new (Io n) =
+    (summary : Summary) × (texts : Texts) × IsClassified bytes facts document summary texts × AreWrittenUntil n old new texts
+IsUnwritten bytes facts document old new fault = new ≡ old
+
+-- what an answer says of the document and of what was written
+abbrev pub IsClassification : (most_bytes most_facts : ℕ) → (document : Option (List ℕ)) → (old new : Sinks) → Result Summary ClassifyFault → Type 0
+IsClassification bytes facts document old new (Ok summary) = (texts : Texts) × IsClassified bytes facts document summary texts × AreWritten old new texts
+IsClassification bytes facts document old new (Err fault) = IsFaultOf bytes facts document fault × IsUnwritten bytes facts document old new fault
+
+-- what an answer says of the document, and of the three sinks before and after a call
+abbrev pub Classifies : {T I C : Type 0} → Ghosts T → Ghosts I → Ghosts C → Limits → (document : Option (List ℕ)) → (old new : T × I × C) → Result Summary ClassifyFault → Type 0
+Classifies T I C limits document old new answer = IsClassification limits.max_bytes limits.max_facts document (all_seen T I C old) (all_seen T I C new) answer
+
+-- what was read of the document: all of it, where it was read as an ontology; otherwise some of it; and the fault of a source
+-- is told only where it failed
+abbrev pub IsDocumentRead : {X : Type 0} → Result X ClassifyFault → (old new : SourceState) → Type 0
+IsDocumentRead (Ok x) old new = IsReadToItsEnd old new
+IsDocumentRead (Err (Document fault)) old new = IsReadUntil fault old new
+IsDocumentRead (Err Memory) old new = IsReadToItsEnd old new
+IsDocumentRead (Err Limit) old new = IsReadToItsEnd old new
+IsDocumentRead (Err (Io n)) old new = IsReadToItsEnd old new
+
+-- the answer came before anything was written
+abbrev pub IsBeforeWriting : ClassifyFault → Type 0
+IsBeforeWriting (Io number) = ⊥
+IsBeforeWriting fault = Unit {0}

@@ -1,0 +1,202 @@
+-- What a run of the program does.
+use Rattle.std.specs.Prelude.{◌≡◌, ℕ, zero, suc, ◌⊎◌, List, [], ◌∷◌, Bool, true, false, if◌then◌else◌, Option, Some, Result, Ok, Err, take}
+use Rattle.axioms.specs.Ontology.{Ontology}
+use Rattle.cert_check.specs.declared.verdict.Verdict.{Verdict}
+use Rattle.classification.specs.declared.classification.Summary.{Summary}
+use Rattle.clap.specs.Words.{Text}
+use Rattle.command_line.specs.CommandLine.{IsTaskOf, Refuses, most_facts}
+use Rattle.command_line.specs.declared.tasks.LineFault.{LineFault}
+use Rattle.command_line.specs.declared.tasks.Paths.{Paths}
+use Rattle.command_line.specs.declared.tasks.Question.{Question}
+use Rattle.command_line.specs.declared.tasks.Task.{Task}
+use Rattle.command_line.specs.declared.tasks.Task.TheVariants.{Check, Classify, Explain, Instances}
+use Rattle.cli.specs.Checks.{IsChecked, IsCheckFault}
+use Rattle.std.specs.Global.{Vec}
+use Rattle.cli.specs.Files.{AsksFile, ChecksFiles, ClassifiesFile, Store, store}
+use Rattle.cli.specs.Messages.{Output, IsAnswered, IsTold, verdict_text, verdict_status, outputs, summary_text, IsCheckText, check_status, IsClassifyText, classify_status, IsQuestionText, question_status, IsLineTold}
+use Rattle.cli.specs.Classifications.{IsClassified, IsFaultOf}
+use Rattle.session.specs.WrittenTexts.{Texts}
+use Rattle.cli.specs.declared.fault.CheckFault.{CheckFault}
+use Rattle.cli.specs.declared.fault.ClassifyFault.{ClassifyFault}
+use Rattle.cli.specs.declared.fault.ClassifyFault.TheVariants.{Io}
+use Rattle.device.specs.declared.device.Sink as sinks
+use Rattle.program.specs.declared.status.Status.TheVariants as statuses
+use Rattle.session.specs.TextAnswers as asking
+use Rattle.session.specs.TextAnswers.{AnswersInstances, AnswersExplanation}
+use Rattle.session.specs.declared.question_fault.QuestionFault.{QuestionFault}
+use Rattle.session.specs.declared.form.Form.{Form}
+use Rattle.session.specs.declared.form.Form.TheVariants.{Graph, Lines}
+use Rattle.answers.specs.declared.asked.Asked.{Asked}
+use Rattle.answers.specs.declared.asked.Asked.TheVariants.{Class, Individual}
+use Rattle.session.specs.Answers.{class_name, subject_name}
+use Rattle.system_files.specs.Contents.{Content}
+use Rattle.system_files.specs.declared.files.Files as files
+
+-- ---- which file holds which text
+
+-- the file holds the text, as far as it is known what files hold
+abbrev pub Holds : Bool → Option (List ℕ) → List ℕ → Type 0
+Holds true held text = held ≡ Some text
+Holds false held text = Unit {0}
+
+-- the file holds what it held, as far as it is known what files hold
+abbrev pub Stays : Bool → (old new : Option (List ℕ)) → Type 0
+Stays true old new = new ≡ old
+Stays false old new = Unit {0}
+
+-- the file holds a prefix of the text, or what it held, as far as it is known what files hold
+abbrev pub HoldsPrefix : Bool → (old new : Option (List ℕ)) → List ℕ → Type 0
+HoldsPrefix true old new text = (new ≡ old) ⊎ ((n : ℕ) × (new ≡ Some (take n text)))
+HoldsPrefix false old new text = Unit {0}
+
+-- the three texts have three paths
+pub record AreApart (paths : Paths) : Type 0 where
+  pub taxonomy_instances : ¬ (paths.taxonomy.now ≡ paths.instances.now)
+  pub taxonomy_certificate : ¬ (paths.taxonomy.now ≡ paths.certificate.now)
+  pub instances_certificate : ¬ (paths.instances.now ≡ paths.certificate.now)
+
+-- each path holds its text
+pub record HoldTexts (known : Bool) (paths : Paths) (texts : Texts) (new : Content) : Type 0 where
+  pub taxonomy : Holds known (new paths.taxonomy.now) texts.taxonomy
+  pub instances : Holds known (new paths.instances.now) texts.instances
+  pub certificate : Holds known (new paths.certificate.now) texts.certificate
+
+-- where the sink of that number failed, the paths before it hold their texts, its own a prefix of its text or what it
+-- held, and those behind it what they held
+abbrev pub HoldTextsUntil : ℕ → Bool → Paths → Texts → (old new : Content) → Type 0
+HoldTextsUntil (suc zero) known paths texts old new =
+    HoldsPrefix known (old paths.taxonomy.now) (new paths.taxonomy.now) texts.taxonomy × Stays known (old paths.instances.now) (new paths.instances.now)
+    × Stays known (old paths.certificate.now) (new paths.certificate.now)
+HoldTextsUntil (suc (suc zero)) known paths texts old new =
+    Holds known (new paths.taxonomy.now) texts.taxonomy × HoldsPrefix known (old paths.instances.now) (new paths.instances.now) texts.instances
+    × Stays known (old paths.certificate.now) (new paths.certificate.now)
+HoldTextsUntil (suc (suc (suc zero))) known paths texts old new =
+    Holds known (new paths.taxonomy.now) texts.taxonomy × Holds known (new paths.instances.now) texts.instances
+    × HoldsPrefix known (old paths.certificate.now) (new paths.certificate.now) texts.certificate
+HoldTextsUntil n known paths texts old new = ⊥
+
+-- what the files hold where the answer is a fault: all that they held where it came before the writing
+abbrev pub AreLeft : Paths → (facts bytes : ℕ) → Bool → (content content' : Content) → ClassifyFault → Type 0
+AreLeft paths facts bytes known content content' (Io n) =
+    (summary : Summary) × (texts : Texts) × IsClassified bytes facts (content paths.document.now) summary texts
+    × (AreApart paths → HoldTextsUntil n known paths texts content content')
+AreLeft paths facts bytes known content content' fault = (path : List ℕ) → Stays known (content path) (content' path)
+
+-- files at other paths than the three are as they were
+abbrev pub AreOthersKept : Paths → (content content' : Content) → Type 0
+AreOthersKept paths content content' =
+    (path : List ℕ) → ¬ (path ≡ paths.taxonomy.now) → ¬ (path ≡ paths.instances.now) → ¬ (path ≡ paths.certificate.now) → content' path ≡ content path
+
+-- ---- runs: what the answer of the call says, and how it is told
+
+-- what an answer says of a classification in files: the document is classified, and each path holds its text; or why not
+abbrev pub IsClassifyAnswer : Paths → (facts bytes : ℕ) → (known : Bool) → (content content' : Content) → Result Summary ClassifyFault → Type 0
+IsClassifyAnswer paths facts bytes known content content' (Ok summary) =
+    (texts : Texts) × IsClassified bytes facts (content paths.document.now) summary texts × (AreApart paths → HoldTexts known paths texts content')
+IsClassifyAnswer paths facts bytes known content content' (Err fault) =
+    IsFaultOf bytes facts (content paths.document.now) fault × AreLeft paths facts bytes known content content' fault
+
+-- the answer is that of a classification in files, no other file is written, and a device is blamed only where it failed
+pub record IsClassifyMade (paths : Paths) (facts bytes : ℕ) (s : Store) (content content' : Content) (answer : Result Summary ClassifyFault) : Type 0 where
+  pub answered : IsClassifyAnswer paths facts bytes s.is_known content content' answer
+  pub blames : ClassifiesFile s (content paths.document.now) answer
+  pub others : AreOthersKept paths content content'
+
+-- the counts are printed; or a fault is told
+abbrev pub IsClassifyTold : Paths → (facts bytes : ℕ) → Result Summary ClassifyFault → (old new : Output) → (status : ℕ) → Type 0
+IsClassifyTold paths facts bytes (Ok summary) old new status = IsAnswered old new (summary_text summary) statuses.Done status
+IsClassifyTold paths facts bytes (Err fault) old new status =
+    (new.out ≡ old.out) × IsTold old.err new.err (IsClassifyText paths bytes facts fault) (classify_status fault) status
+
+-- a run of `classify`
+pub record IsClassifyRun (paths : Paths) (facts bytes : ℕ) (s : Store) (content content' : Content) (old new : Output) (status : ℕ) : Type 0 where
+  pub answer : Result Summary ClassifyFault
+  pub made : IsClassifyMade paths facts bytes s content content' answer
+  pub told : IsClassifyTold paths facts bytes answer old new status
+
+-- what an answer says of a check of files: the verdict on them; or why there is none
+abbrev pub IsCheckedFiles : Paths → (bytes : ℕ) → Content → Result (Ontology × Verdict) CheckFault → Type 0
+IsCheckedFiles paths bytes content (Ok p) =
+    IsChecked bytes (content paths.document.now) (content paths.taxonomy.now) (content paths.instances.now) (content paths.certificate.now) p.0 p.1
+IsCheckedFiles paths bytes content (Err fault) = IsCheckFault bytes (content paths.document.now) fault
+
+-- the verdict is printed; or a fault is told
+abbrev pub IsCheckTold : Paths → (bytes : ℕ) → Result (Ontology × Verdict) CheckFault → (old new : Output) → (status : ℕ) → Type 0
+IsCheckTold paths bytes (Ok p) old new status = IsAnswered old new (verdict_text p.0 p.1) (verdict_status p.1) status
+IsCheckTold paths bytes (Err fault) old new status = (new.out ≡ old.out) × IsTold old.err new.err (IsCheckText paths bytes fault) (check_status fault) status
+
+-- a run of `check`
+pub record IsCheckRun (paths : Paths) (bytes : ℕ) (s : Store) (content : Content) (old new : Output) (status : ℕ) : Type 0 where
+  pub answer : Result (Ontology × Verdict) CheckFault
+  pub checked : IsCheckedFiles paths bytes content answer
+  pub blames : ChecksFiles s.reads_fail s.is_known content paths answer
+  pub told : IsCheckTold paths bytes answer old new status
+
+-- what an answer says of a question about a document: the text has this property; or why there is none
+abbrev pub IsQuestionAnswer : (List ℕ → Type 0) → (QuestionFault → Type 0) → Result (Vec ℕ) QuestionFault → Type 0
+IsQuestionAnswer Answers IsFault (Ok text) = Answers text.items
+IsQuestionAnswer Answers IsFault (Err fault) = IsFault fault
+
+-- the text is printed; or a fault is told
+abbrev pub IsQuestionTold : (path : List ℕ) → (facts bytes : ℕ) → Result (Vec ℕ) QuestionFault → (old new : Output) → (status : ℕ) → Type 0
+IsQuestionTold path facts bytes (Ok text) old new status = IsAnswered old new text.items statuses.Done status
+IsQuestionTold path facts bytes (Err fault) old new status =
+    (new.out ≡ old.out) × IsTold old.err new.err (IsQuestionText path bytes facts fault) (question_status fault) status
+
+-- a run of `instances`: the individuals of the class are printed; or a fault is told
+pub record IsInstancesRun (path class : List ℕ) (facts bytes : ℕ) (s : Store) (content : Content) (old new : Output) (status : ℕ) : Type 0 where
+  pub answer : Result (Vec ℕ) QuestionFault
+  pub answered : IsQuestionAnswer (AnswersInstances bytes facts (content path) class) (asking.IsFaultOf bytes facts (content path) (class_name class ∷ [])) answer
+  pub blames : AsksFile s.reads_fail s.is_known (content path) answer
+  pub told : IsQuestionTold path facts bytes answer old new status
+
+-- what a question asks about
+abbrev pub asked_by : Question → Asked
+asked_by q = if q.individual then Individual q.subject else Class q.subject
+
+-- in which form a question is answered
+abbrev pub form_of : Question → Form
+form_of q = if q.dot then Graph else Lines
+
+-- a run of `explain`: why the subject is in the class, or is not, is printed; or a fault is told
+pub record IsExplainRun (q : Question) (facts bytes : ℕ) (s : Store) (content : Content) (old new : Output) (status : ℕ) : Type 0 where
+  pub answer : Result (Vec ℕ) QuestionFault
+  pub answered : IsQuestionAnswer (AnswersExplanation bytes facts (content q.document.now) (asked_by q) q.class.now (form_of q)) (asking.IsFaultOf bytes facts (content q.document.now) (subject_name (asked_by q) ∷ class_name q.class.now ∷ [])) answer
+  pub blames : AsksFile s.reads_fail s.is_known (content q.document.now) answer
+  pub told : IsQuestionTold q.document.now facts bytes answer old new status
+
+-- how many bytes the document of a task may have, and how many facts may be drawn for it: a check draws none, so it has no limit
+-- of its own, and the greatest stands for it
+abbrev pub max_bytes_of : Task → ℕ
+max_bytes_of (Classify paths facts bytes) = bytes
+max_bytes_of (Check paths bytes) = bytes
+max_bytes_of (Instances document class facts bytes) = bytes
+max_bytes_of (Explain question facts bytes) = bytes
+
+abbrev pub max_facts_of : Task → ℕ
+max_facts_of (Classify paths facts bytes) = facts
+max_facts_of (Check paths bytes) = most_facts
+max_facts_of (Instances document class facts bytes) = facts
+max_facts_of (Explain question facts bytes) = facts
+
+abbrev pub IsTaskRun : Task → Store → (content content' : Content) → (old new : Output) → (status : ℕ) → Type 0
+IsTaskRun (Classify paths facts bytes) s content content' old new status = IsClassifyRun paths facts bytes s content content' old new status
+IsTaskRun (Check paths bytes) s content content' old new status = IsCheckRun paths bytes s content old new status
+IsTaskRun (Instances document class facts bytes) s content content' old new status = IsInstancesRun document.now class.now facts bytes s content old new status
+IsTaskRun (Explain question facts bytes) s content content' old new status = IsExplainRun question facts bytes s content old new status
+
+-- a run of the program: of the task that the words ask for; or the words are no task, which is told
+abbrev pub IsPerformed : List Text → Store → (content content' : Content) → (old new : Output) → (status : ℕ) → Type 0
+IsPerformed words s content content' old new status =
+    ((task : Task) × IsTaskOf words task × IsTaskRun task s content content' old new status)
+    ⊎ ((fault : LineFault) × Refuses words fault × (new.out ≡ old.out) × IsLineTold fault old.err new.err status)
+
+-- the words do not ask for a classification
+abbrev pub AskForNoClassification : List Text → Type 0
+AskForNoClassification words = (paths : Paths) (facts bytes : ℕ) → IsTaskOf words (Classify paths facts bytes) → ⊥
+
+-- ---- a run of the program, by files and the two outputs before and after
+
+abbrev pub Performs : {F In Out O E : Type 0} → files.Ghosts F In Out → sinks.Ghosts O → sinks.Ghosts E → List Text → (old new : F × O × E) → (status : ℕ) → Type 0
+Performs F O E words old new status =
+    IsPerformed words (store F old.0 new.0) (F.content old.0) (F.content new.0) (outputs O E old.1 old.2) (outputs O E new.1 new.2) status

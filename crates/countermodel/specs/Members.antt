@@ -1,0 +1,38 @@
+-- How the members are found: by the facts, class by class.
+use Rattle.std.specs.Prelude.{◌≡◌, ◌↔◌, ◌<◌, ◌≤◌, ℕ, List, length, map, slice_get, Some}
+use Rattle.std.specs.List.{Contains}
+use Rattle.axioms.specs.Ontology.{Ontology}
+use Rattle.axioms.specs.declared.ids.ExprId.{ExprId}
+use Rattle.certificate.specs.Writability.{Ascends, IsNamedClass}
+use Rattle.closure.specs.Closure.{Context, Expression}
+use Rattle.facts.specs.declared.contexts.Context as code
+use Rattle.facts.specs.declared.contexts.Fact.{Fact}
+use Rattle.facts.specs.declared.contexts.Fact.TheVariants.{In}
+use Rattle.normal_forms.specs.declared.forms.Class2.TheVariants.{Expr}
+use Rattle.countermodel.specs.Elements.{context_of}
+use Rattle.number_sets.specs.Pieces.{list_at}
+
+abbrev pub expr_id : ℕ → ExprId
+expr_id e = record { 0 = e }
+
+-- a named class but owl:Thing and owl:Nothing
+abbrev pub IsOwnClass : Ontology → ℕ → Type 0
+IsOwnClass o e = (2 ≤ e) × IsNamedClass o e
+
+-- the fact puts the element into such a class
+abbrev pub IsMember : Ontology → List Context → Fact → ℕ → ℕ → Type 0
+IsMember o elements fact e m = IsOwnClass o e × ((x : code.Context) × (fact ≡ In (Expr (expr_id e)) x) × (slice_get elements m ≡ Some (context_of x)))
+
+-- the list of each class has the elements that the facts put into it
+abbrev pub AreMembers : Ontology → List Context → List Fact → List (List ℕ) → Type 0
+AreMembers o elements facts lists = (e m : ℕ) → Contains (list_at lists e) m ↔ ((fact : Fact) × Contains facts fact × IsMember o elements fact e m)
+
+-- a row for each list that has numbers, which the row has in order
+pub record AreRowsOf (lists : List (List ℕ)) (rows : List (ℕ × List ℕ)) : Type 0 where
+  pub ascend : Ascends (map (λ r. r.0) rows)
+  pub each : (k : ℕ) (row : ℕ × List ℕ) → slice_get rows k ≡ Some row → (0 < length row.1) × Ascends row.1 × ((m : ℕ) → Contains row.1 m ↔ Contains (list_at lists row.0) m)
+  pub all : (e m : ℕ) → Contains (list_at lists e) m → (k : ℕ) × (row : ℕ × List ℕ) × (slice_get rows k ≡ Some row) × (row.0 ≡ e)
+
+-- the element of its own of a named class
+abbrev pub IsOwnElement : Ontology → List Context → ℕ → ℕ → Type 0
+IsOwnElement o elements e m = IsNamedClass o e × (slice_get elements m ≡ Some (Expression e))

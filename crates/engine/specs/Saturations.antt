@@ -1,0 +1,58 @@
+-- What a saturation has.
+use Rattle.std.specs.Prelude.{◌≡◌, ℕ, ◌<◌, List, [], length, map}
+use Rattle.std.specs.List.{All, Contains}
+use Rattle.axioms.specs.Ontology.{Ontology}
+use Rattle.axioms.specs.WellFormedness.{AreDistinct}
+use Rattle.facts.specs.declared.contexts.Fact as code
+use Rattle.closure.specs.Closure.{Fact, IsFact}
+use Rattle.closure.specs.Denotations.{Prefixes, SaysFact, IsProblemOf}
+use Rattle.normalise.specs.Entries.{form_in}
+use Rattle.normalise.specs.Growth.{IsNormalFor}
+use Rattle.normalise.specs.Listing.{Listing}
+use Rattle.normalise.specs.Problem.{prefixes_of}
+use Rattle.saturate.specs.State.{Seen, AreBorn}
+
+-- normal forms, and what they lead to
+pub record Saturated : Type 0 where
+  pub normal : Listing
+  pub state : Seen
+
+-- the facts over numbers say facts of the closure, where nothing is asked about
+abbrev pub SayFactsOfTheClosure : Ontology → Prefixes → List code.Fact → Type 0
+SayFactsOfTheClosure o b facts = (f : code.Fact) → Contains facts f → (g : Fact) × SaysFact b f g × IsFact o [] g
+
+-- the normal forms are those of the ontology, and the facts are of its closure, each once and with what gave it: there may be more
+pub record IsSound (o : Ontology) (s : Saturated) : Type 0 where
+  pub normal : IsNormalFor o s.normal
+  pub asked : s.normal.asked ≡ []
+  -- the forms of the state are those of the entries, in the same order
+  pub forms : s.state.problem.forms ≡ map form_in s.normal.entries
+  pub problem : IsProblemOf o [] (prefixes_of s.normal) s.state.problem
+  pub facts : SayFactsOfTheClosure o (prefixes_of s.normal) s.state.facts
+  pub born : AreBorn s.state
+
+-- all facts are served
+abbrev pub IsFinished : Saturated → Type 0
+IsFinished s = length s.state.served ≡ length s.state.facts
+
+-- the facts over numbers say exactly the facts of the closure, where nothing is asked about
+pub record SayTheClosure (o : Ontology) (b : Prefixes) (facts : List code.Fact) : Type 0 where
+  pub each : (f : code.Fact) → Contains facts f → (g : Fact) × SaysFact b f g × IsFact o [] g
+  pub all : (g : Fact) → IsFact o [] g → (f : code.Fact) × Contains facts f × SaysFact b f g
+
+-- the normal forms are those of the ontology, and the facts all that they lead to, each once and with what gave it
+pub record IsSaturated (o : Ontology) (s : Saturated) : Type 0 where
+  pub normal : IsNormalFor o s.normal
+  pub asked : s.normal.asked ≡ []
+  -- the forms of the state are those of the entries, in the same order
+  pub forms : s.state.problem.forms ≡ map form_in s.normal.entries
+  pub problem : IsProblemOf o [] (prefixes_of s.normal) s.state.problem
+  pub facts : SayTheClosure o (prefixes_of s.normal) s.state.facts
+  pub born : AreBorn s.state
+
+-- the closure has more than n facts: a list has so many that differ
+pub record HasMoreFactsThan (o : Ontology) (n : ℕ) : Type 0 where
+  pub facts : List Fact
+  pub distinct : AreDistinct facts
+  pub each : All (IsFact o []) facts
+  pub many : n < length facts

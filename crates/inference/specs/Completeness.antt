@@ -1,0 +1,139 @@
+-- What the engine keeps while it works.
+use Rattle.std.specs.Prelude.{◌≡◌, ℕ, ◌↔◌, ◌⊎◌, List, [], ◌∷◌, slice_get, map, Option, Some, None}
+use Rattle.std.specs.List.{Contains, AllByRecursion}
+use Rattle.axioms.specs.declared.ids.ExprId.{ExprId}
+use Rattle.normal_forms.specs.declared.forms.Form.{Form}
+use Rattle.normal_forms.specs.declared.forms.Form.TheVariants.{N6}
+use Rattle.normal_forms.specs.declared.forms.PropId2.{PropId2}
+use Rattle.normal_forms.specs.declared.forms.Class2.{Class2}
+use Rattle.normal_forms.specs.declared.forms.Class2.TheVariants as class
+use Rattle.normal_forms.specs.Properties.{IsAtOrBelow}
+use Rattle.facts.specs.declared.contexts.Context.{Context}
+use Rattle.facts.specs.declared.contexts.Context.TheVariants.{Expr}
+use Rattle.facts.specs.declared.contexts.Fact.{Fact}
+use Rattle.facts.specs.declared.contexts.Fact.TheVariants.{In}
+use Rattle.facts.specs.Closure.{Problem, Concludes, IsContextBy, IsLoop, Gives, IsFact, thing}
+use Rattle.facts.specs.Births.{Reason}
+use Rattle.indexes.specs.Keys.{class_key, by_first, by_second}
+use Rattle.indexes.specs.FormsUnderKeys.{IsUnder}
+use Rattle.inference.specs.Derivations.{Derived}
+
+-- the facts of these numbers
+abbrev pub AreAt : List Fact → List ℕ → List Fact → Type 0
+AreAt facts numbers older = map (slice_get facts) numbers ≡ map Some older
+
+-- x is a context because of the facts of these numbers
+abbrev pub IsContextAt : Problem → List Fact → List ℕ → Context → Type 0
+IsContextAt k facts numbers x = (older : List Fact) × AreAt facts numbers older × IsContextBy k older x
+
+-- what is drawn from each of the forms is there
+abbrev pub AllDrawn : (Form → Fact → Type 0) → List Form → List Fact → Type 0
+AllDrawn D forms facts = (form : Form) → Contains forms form → (f : Fact) → D form f → Contains facts f
+
+-- what is drawn from the form at the place is there
+abbrev pub DrawnAt : (Form → Fact → Type 0) → List Form → List Fact → ℕ → Type 0
+DrawnAt D forms facts n = (form : Form) → slice_get forms n ≡ Some form → (f : Fact) → D form f → Contains facts f
+
+-- what is drawn from the forms at the places is there
+abbrev pub AreDrawnAt : (Form → Fact → Type 0) → List Form → List ℕ → List Fact → Type 0
+AreDrawnAt D forms places facts = (n : ℕ) → Contains places n → DrawnAt D forms facts n
+
+-- what the form at the place gives from two classes that were in the context is there
+abbrev pub IsDrawnIn : Problem → List Fact → Context → List Fact → ℕ → Type 0
+IsDrawnIn k old x new n = (a b : Class2) → Contains old (In a x) → Contains old (In b x) → DrawnAt (λ form. Concludes k form (In a x ∷ In b x ∷ [])) k.forms new n
+
+-- what the forms at the places give from two classes that were in the context is there
+abbrev pub AreDrawnIn : Problem → List Fact → Context → List Fact → List ℕ → Type 0
+AreDrawnIn k old x new places = (n : ℕ) → Contains places n → IsDrawnIn k old x new n
+
+-- what the intersections with the class as an operand give from two classes that were in the context is there
+pub record MeetsOperands (k : Problem) (old : List Fact) (a : Class2) (x : Context) (new : List Fact) : Type 0 where
+  pub first : (n : ℕ) → IsUnder by_first k.forms (class_key a) n → IsDrawnIn k old x new n
+  pub second : (n : ℕ) → IsUnder by_second k.forms (class_key a) n → IsDrawnIn k old x new n
+
+-- what the forms give from these facts is there
+abbrev pub AreDrawn : Problem → List Form → List Fact → List Fact → Type 0
+AreDrawn k forms older facts = AllDrawn (λ form. Concludes k form older) forms facts
+
+-- what is in each context is in this one
+pub record IsEntered (k : Problem) (x : Context) (facts : List Fact) : Type 0 where
+  pub top : Contains facts (In thing x)
+  pub itself : (e : ExprId) → x ≡ Expr e → Contains facts (In (class.Expr e) x)
+  pub loops : AllDrawn (IsLoop x) k.forms facts
+
+-- what these facts give is there
+abbrev pub Drawn : Problem → List Fact → List Fact → Type 0
+Drawn k older facts = (condition : ℕ) (form : Option ℕ) (f : Fact) → Gives k condition form older f → Contains facts f
+
+-- the form of a transitive property gave the fact, an edge of that property
+pub record IsGivenBy (k : Problem) (d : Derived) (property : PropId2) (f : Fact) : Type 0 where
+  pub form : ℕ
+  pub transitive : slice_get k.forms form ≡ Some (N6 property property property)
+  pub place : ℕ
+  pub there : slice_get d.facts place ≡ Some f
+  pub birth : Reason
+  pub born : slice_get d.births place ≡ Some birth
+  pub by : birth.form ≡ Some form
+
+-- a chain goes on: what it gives can stand first in it again
+abbrev pub GoesOn : List Form → Form → Type 0
+GoesOn forms (N6 r s t) = IsAtOrBelow forms t r
+GoesOn forms _ = ⊥
+
+-- the chain ends with a property at or above that one
+abbrev pub EndsAbove : List Form → PropId2 → Form → Type 0
+EndsAbove forms p (N6 r s t) = IsAtOrBelow forms p s
+EndsAbove forms p _ = ⊥
+
+-- the edge is redundant as the second premise of a chain that goes on, where the form of a transitive property at or below that with which the chain
+-- ends gave it: from the first and the older two that gave the edge come the same conclusions, one after the other
+pub record IsRedundantFor (k : Problem) (d : Derived) (form : Form) (f : Fact) : Type 0 where
+  pub goes_on : GoesOn k.forms form
+  pub property : PropId2
+  pub below : EndsAbove k.forms property form
+  pub given : IsGivenBy k d property f
+
+-- what a form gives from two facts is redundant, where the second is redundant for it
+abbrev pub AreRedundant : Problem → Derived → List Fact → Option ℕ → Type 0
+AreRedundant k d [] n = ⊥
+AreRedundant k d (f ∷ []) n = ⊥
+AreRedundant k d (f ∷ g ∷ []) None = ⊥
+AreRedundant k d (f ∷ g ∷ []) (Some n) = (form : Form) × (slice_get k.forms n ≡ Some form) × IsRedundantFor k d form g
+AreRedundant k d (f ∷ g ∷ h ∷ more) n = ⊥
+
+-- the fact need not be a second premise: all that it gives as one is redundant
+abbrev pub IsRedundantAsSecond : Problem → Derived → Fact → Type 0
+IsRedundantAsSecond k d g = (f h : Fact) (condition : ℕ) (form : Option ℕ) → Gives k condition form (f ∷ g ∷ []) h → AreRedundant k d (f ∷ g ∷ []) form
+
+-- what these facts give is there, but for what is redundant
+abbrev pub DrawnUpToRedundancy : Problem → List Fact → Derived → Type 0
+DrawnUpToRedundancy k older d = (condition : ℕ) (form : Option ℕ) (f : Fact) → Gives k condition form older f → Contains d.facts f ⊎ AreRedundant k d older form
+
+-- what two facts give is there or redundant, whichever is first
+pub record MeetEachOther (k : Problem) (f g : Fact) (d : Derived) : Type 0 where
+  pub first : DrawnUpToRedundancy k (f ∷ g ∷ []) d
+  pub second : DrawnUpToRedundancy k (g ∷ f ∷ []) d
+
+-- what the fact gives with each of those with these numbers is there or redundant
+abbrev pub AreMet : Problem → Fact → List Fact → List ℕ → Derived → Type 0
+AreMet k f old numbers new = (n : ℕ) → Contains numbers n → (g : Fact) → slice_get old n ≡ Some g → MeetEachOther k f g new
+
+-- what the fact gives as the first of two, with each of those with these numbers as the second, is there or redundant
+abbrev pub AreMetBefore : Problem → Fact → List Fact → List ℕ → Derived → Type 0
+AreMetBefore k f old numbers new = (n : ℕ) → Contains numbers n → (g : Fact) → slice_get old n ≡ Some g → DrawnUpToRedundancy k (f ∷ g ∷ []) new
+
+-- what the fact gives as the second of two, with each of those with these numbers as the first, is there or redundant
+abbrev pub AreMetBehind : Problem → Fact → List Fact → List ℕ → Derived → Type 0
+AreMetBehind k f old numbers new = (n : ℕ) → Contains numbers n → (g : Fact) → slice_get old n ≡ Some g → DrawnUpToRedundancy k (g ∷ f ∷ []) new
+
+-- the fact is one of those with these numbers
+abbrev pub IsServed : List Fact → List ℕ → Fact → Type 0
+IsServed facts numbers f = (n : ℕ) × Contains numbers n × (slice_get facts n ≡ Some f)
+
+-- what served facts give is there, but for what is redundant
+abbrev pub IsCompleteUpToRedundancy : Problem → Derived → List ℕ → Type 0
+IsCompleteUpToRedundancy k d served = (older : List Fact) → AllByRecursion (IsServed d.facts served) older → DrawnUpToRedundancy k older d
+
+-- the facts are exactly the closure
+abbrev pub IsClosure : Problem → List Fact → Type 0
+IsClosure k facts = (f : Fact) → Contains facts f ↔ IsFact k f

@@ -1,0 +1,72 @@
+-- Which forms are visited for facts.
+use Rattle.std.specs.Prelude.{◌≡◌, ℕ, Bool, true, List, [], ◌∷◌, slice_get, Option, Some, None}
+use Rattle.std.specs.List.{Contains}
+use Rattle.indexes.specs.declared.keys.Key.{Key}
+use Rattle.normal_forms.specs.declared.forms.Form.{Form}
+use Rattle.normal_forms.specs.declared.forms.PropId2.{PropId2}
+use Rattle.facts.specs.declared.contexts.Fact.{Fact}
+use Rattle.facts.specs.declared.contexts.Fact.TheVariants.{In, Edge}
+use Rattle.facts.specs.Closure.{Problem, Concludes, Gives}
+use Rattle.indexes.specs.Keys.{by_chain, by_end, property_key}
+use Rattle.indexes.specs.FormsUnderKeys.{IsUnder}
+use Rattle.property_closure.specs.PropertyClosures.{Known, Has}
+use Rattle.inference.specs.Completeness.{DrawnAt, GoesOn}
+
+-- the two facts, in this order, give nothing
+abbrev pub GiveNothing : Problem → Fact → Fact → Type 0
+GiveNothing k f g = (condition : ℕ) (form : Option ℕ) (h : Fact) → Gives k condition form (f ∷ g ∷ []) h → ⊥
+
+-- no form of that kind has the key
+abbrev pub NoneUnder : (Form → Option Key) → List Form → Key → Type 0
+NoneUnder key forms at = (n : ℕ) → IsUnder key forms at n → ⊥
+
+-- each of the numbers is that of a fact of that kind
+abbrev pub AreAll : (Fact → Type 0) → List Fact → List ℕ → Type 0
+AreAll P facts numbers = (n : ℕ) → Contains numbers n → (f : Fact) × (slice_get facts n ≡ Some f) × P f
+
+-- a class in a context
+abbrev pub IsClassFact : Fact → Type 0
+IsClassFact (In a x) = Unit {0}
+IsClassFact (Edge x r y) = ⊥
+
+-- an edge
+abbrev pub IsEdge : Fact → Type 0
+IsEdge (In a x) = ⊥
+IsEdge (Edge x r y) = Unit {0}
+
+-- an edge by the property
+abbrev pub IsBy : PropId2 → Fact → Type 0
+IsBy p (In a x) = ⊥
+IsBy p (Edge x r y) = r ≡ p
+
+-- no edge carries anything to its source for the fact at its target
+abbrev pub IsNotCarried : Problem → Fact → Type 0
+IsNotCarried k g = (f : Fact) → IsEdge f → GiveNothing k f g
+
+-- the closure has the property of an edge
+abbrev pub HasProperty : Known → Fact → Type 0
+HasProperty c (In a x) = Unit {0}
+HasProperty c (Edge x r y) = Has c r
+
+-- the property of the first of two edges
+abbrev pub chained_pair : Fact → Fact → Option PropId2
+chained_pair (Edge x p y) (Edge z q w) = Some p
+chained_pair _ _ = None
+
+abbrev pub chained_property : List Fact → Option PropId2
+chained_property [] = None
+chained_property (f ∷ []) = None
+chained_property (f ∷ g ∷ []) = chained_pair f g
+chained_property (f ∷ g ∷ h ∷ more) = None
+
+-- what the chains that begin with r give from these facts is there
+abbrev pub ChainsDrawn : Problem → List Fact → List Fact → PropId2 → Type 0
+ChainsDrawn k older facts r = (n : ℕ) → IsUnder by_chain k.forms (property_key r) n → DrawnAt (λ form. Concludes k form older) k.forms facts n
+
+-- the form at the place goes on
+abbrev pub GoesOnAt : List Form → ℕ → Type 0
+GoesOnAt forms n = (form : Form) → slice_get forms n ≡ Some form → GoesOn forms form
+
+-- no chain that ends with s needs an edge as its second premise: there is none, or the edge is one that a transitive property gave and all of them go on
+abbrev pub NoneNeeds : List Form → Bool → PropId2 → Type 0
+NoneNeeds forms is_given s = (n : ℕ) → IsUnder by_end forms (property_key s) n → (is_given ≡ true) × GoesOnAt forms n

@@ -1,0 +1,26 @@
+-- Numbers that are flagged.
+use Rattle.std.specs.Prelude.{◌≡◌, ℕ, Bool, true, false, not, List, slice_index_or}
+use Rattle.std.specs.List.{filter}
+use Rattle.normal_forms.specs.declared.forms.Form.{Form}
+use Rattle.facts.specs.declared.contexts.Fact.{Fact}
+use Rattle.saturate.specs.Requests.{IsAskedAt}
+
+-- whether the number is flagged: past the end it is not
+abbrev pub is_flagged : List Bool → ℕ → Bool
+is_flagged flags n = slice_index_or flags n false
+
+abbrev pub is_kept : List Bool → ℕ → Bool
+is_kept flags n = not (is_flagged flags n)
+
+-- those that are not flagged
+abbrev pub kept : List Bool → List ℕ → List ℕ
+kept flags numbers = filter (is_kept flags) numbers
+
+-- those that are
+abbrev pub asked : List Bool → List ℕ → List ℕ
+asked flags numbers = filter (is_flagged flags) numbers
+
+-- the number is flagged exactly where the fact is asked for
+pub record IsFlagged (all added : List Form) (facts : List Fact) (flags : List Bool) (n : ℕ) : Type 0 where
+  pub yes : is_flagged flags n ≡ true → IsAskedAt all added facts n
+  pub no : is_flagged flags n ≡ false → IsAskedAt all added facts n → ⊥

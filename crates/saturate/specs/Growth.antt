@@ -1,0 +1,24 @@
+-- How a state grows by forms and roots.
+use Rattle.std.specs.Prelude.{◌≡◌, ◌↔◌, ℕ, List, ◌++◌}
+use Rattle.std.specs.List.{Contains}
+use Rattle.normal_forms.specs.declared.forms.Form.{Form}
+use Rattle.facts.specs.declared.contexts.Context.{Context}
+use Rattle.facts.specs.declared.contexts.Fact.{Fact}
+use Rattle.facts.specs.Closure.{Problem}
+use Rattle.saturate.specs.Requests.{IsAskedAt}
+use Rattle.inference.specs.Derivations.{Keeps}
+use Rattle.saturate.specs.State.{Seen}
+
+-- the forms and roots, and then those that are added
+abbrev pub with_more : Problem → List Form → List Context → Problem
+with_more k forms roots = record { forms = k.forms ++ forms; roots = k.roots ++ roots }
+
+-- forms and roots are added; facts and what gave them are kept
+pub record HasGrown (forms : List Form) (roots : List Context) (old new : Seen) : Type 0 where
+  pub problem : new.problem ≡ with_more old.problem forms roots
+  pub facts : Keeps old.facts new.facts
+  pub births : Keeps old.births new.births
+
+-- exactly the served facts that no added form asks for are served still
+abbrev pub KeepsServed : List Form → List Form → List Fact → List ℕ → List ℕ → Type 0
+KeepsServed forms added facts old new = (n : ℕ) → Contains new n ↔ (Contains old n × (IsAskedAt forms added facts n → ⊥))

@@ -1,0 +1,97 @@
+-- What a session says where it is asked, and where its texts are written.
+use Rattle.std.specs.Prelude.{◌≡◌, ◌≤◌, ◌⊎◌, ◌∷◌, [], List, Result, Ok, Err, length}
+use Rattle.std.specs.List.{Contains}
+use Rattle.axioms.specs.Expression.{Iri}
+use Rattle.axioms.specs.Growth.{names_of}
+use Rattle.axioms.specs.Ontology.{Ontology}
+use Rattle.axioms.specs.declared.terms.Kind.{Kind}
+use Rattle.axioms.specs.declared.terms.Kind.TheVariants as kinds
+use Rattle.cert_check.specs.Acceptance.{AreRight, IsAcceptable}
+use Rattle.classification.specs.Classifications.{AreCountsOf, AreTextsOf}
+use Rattle.classification.specs.declared.classification.Summary.{Summary}
+use Rattle.device.specs.declared.device.Sink.{Ghosts}
+use Rattle.engine.specs.Saturations.{IsFinished}
+use Rattle.answers.specs.Explanations.{IsKnown}
+use Rattle.answers.specs.declared.asked.Asked.{Asked}
+use Rattle.answers.specs.declared.asked.Asked.TheVariants as subjects
+use Rattle.session.specs.Sessions.{Opened}
+use Rattle.session.specs.WrittenTexts.{Sinks, Texts, AreWritten, AreWrittenUntil, all_seen}
+use Rattle.session.specs.declared.fault.AskFault.{AskFault}
+use Rattle.session.specs.declared.fault.AskFault.TheVariants as asking
+use Rattle.session.specs.declared.fault.TextFault.{TextFault}
+use Rattle.session.specs.declared.fault.TextFault.TheVariants as writing
+
+-- nothing is pending, and the name is that of a class
+pub record HasClass (s : Opened) (name : Iri) : Type 0 where
+  pub finished : IsFinished s.saturation
+  pub known : Contains s.ontology.names.classes name
+
+-- what a refusal says of a question about a class: facts are pending; or none are, and the name that is told is that of the
+-- question, and of no class
+abbrev pub IsClassRefusal : Opened → Iri → AskFault → Type 0
+IsClassRefusal s name asking.Unfinished = ¬ IsFinished s.saturation
+IsClassRefusal s name (asking.UnknownName unknown) = IsFinished s.saturation × (unknown.now ≡ name) × ¬ Contains s.ontology.names.classes name
+IsClassRefusal s name asking.Memory = IsFinished s.saturation
+
+-- ---- names in a question
+
+-- the names, each with its kind
+abbrev pub class_name : Iri → Kind × Iri
+class_name class = (kinds.Class, class)
+
+abbrev pub subject_name : Asked → Kind × Iri
+subject_name (subjects.Class c) = (kinds.Class, c.now)
+subject_name (subjects.Individual a) = (kinds.Individual, a.now)
+
+abbrev pub HasName : Ontology → Kind × Iri → Type 0
+HasName o named = Contains (names_of o.names named.0) named.1
+
+-- it is the first of the names, from the left, that the ontology lacks
+abbrev pub IsFirstUnknown : Ontology → (names : List (Kind × Iri)) → Iri → Type 0
+IsFirstUnknown o [] unknown = ⊥
+IsFirstUnknown o (named ∷ later) unknown = (¬ HasName o named × (unknown ≡ named.1)) ⊎ (HasName o named × IsFirstUnknown o later unknown)
+
+-- nothing is pending, and both names are known
+pub record HasNames (s : Opened) (asked : Asked) (class : Iri) : Type 0 where
+  pub finished : IsFinished s.saturation
+  pub subject : IsKnown s.ontology asked
+  pub known : Contains s.ontology.names.classes class
+
+-- what a refusal says of a question about a subject and a class: facts are pending; or none are, and the name that is told is the first
+-- that is unknown
+abbrev pub IsExplainRefusal : Opened → Asked → Iri → AskFault → Type 0
+IsExplainRefusal s asked class asking.Unfinished = ¬ IsFinished s.saturation
+IsExplainRefusal s asked class (asking.UnknownName unknown) =
+    IsFinished s.saturation × IsFirstUnknown s.ontology (subject_name asked ∷ class_name class ∷ []) unknown.now
+IsExplainRefusal s asked class asking.Memory = IsFinished s.saturation
+
+-- ---- texts
+
+-- nothing is pending; these are the counts and the texts of the ontology, and the certificate shows that the other two are right
+pub record IsMade (s : Opened) (summary : Summary) (texts : Texts) : Type 0 where
+  pub finished : IsFinished s.saturation
+  pub counts : AreCountsOf s.ontology summary
+  pub facts : summary.facts ≡ length s.saturation.state.facts
+  pub texts_are : AreTextsOf s.ontology summary.consistent texts.taxonomy texts.instances
+  pub acceptable : IsAcceptable s.ontology texts.taxonomy texts.instances texts.certificate
+  pub right : AreRight s.ontology texts.taxonomy texts.instances texts.certificate
+
+-- what a fault says of the session where no text is made: facts are pending, or memory was refused
+abbrev pub IsUnmade : Opened → TextFault → Type 0
+IsUnmade s writing.Unfinished = ¬ IsFinished s.saturation
+IsUnmade s writing.Memory = IsFinished s.saturation
+IsUnmade s (writing.Io n) = ⊥
+
+-- what a fault says of the session and of what was written: nothing, or the texts until the sink that is told, by its number from 1
+abbrev pub IsTextFault : Opened → (old new : Sinks) → TextFault → Type 0
+IsTextFault s old new (writing.Io n) = (1 ≤ n) × (n ≤ 3) × ((summary : Summary) × (texts : Texts) × IsMade s summary texts × AreWrittenUntil n old new texts)
+IsTextFault s old new fault = IsUnmade s fault × (new ≡ old)
+
+-- what an answer says of the session and of what was written
+abbrev pub IsWritten : Opened → (old new : Sinks) → Result Summary TextFault → Type 0
+IsWritten s old new (Ok summary) = (texts : Texts) × IsMade s summary texts × AreWritten old new texts
+IsWritten s old new (Err fault) = IsTextFault s old new fault
+
+-- what an answer says of the session, and of the three sinks before and after a call
+abbrev pub Writes : {T I C : Type 0} → Ghosts T → Ghosts I → Ghosts C → Opened → (old new : T × I × C) → Result Summary TextFault → Type 0
+Writes T I C s old new answer = IsWritten s (all_seen T I C old) (all_seen T I C new) answer

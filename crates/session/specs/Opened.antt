@@ -1,8 +1,0 @@
--- What a session has.
-use Rattle.axioms.specs.Numbered.{Ontology}
-use Rattle.engine.specs.Saturated.{Saturated}
-
--- the ontology of the document, and what is known so far of what follows from it
-pub record Opened : Type 0 where
-  pub ontology : Ontology
-  pub saturation : Saturated

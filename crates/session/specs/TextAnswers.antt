@@ -1,0 +1,110 @@
+-- What a text answers about a document, and what a fault says where there is none.
+use Rattle.std.specs.Prelude.{◌≡◌, ◌++◌, ℕ, List, Option, Result, Ok, Err, codes}
+use Rattle.std.specs.List.{Contains, flat_map}
+use Rattle.answer_texts.specs.Graphs.{proof_graph, refutation_graph}
+use Rattle.answer_texts.specs.Names.{line_feed, name_text}
+use Rattle.answer_texts.specs.Proof.{proof_text}
+use Rattle.answer_texts.specs.Refutation.{refutation_text}
+use Rattle.answers.specs.Entailment.{BelongsTo}
+use Rattle.answers.specs.Names.{AreThose}
+use Rattle.axioms.specs.Expression.{Iri}
+use Rattle.axioms.specs.Ontology.{Ontology}
+use Rattle.axioms.specs.declared.terms.Kind.{Kind}
+use Rattle.certificate.specs.View.{lines_of}
+use Rattle.profile.specs.Documents.{IsTaken}
+use Rattle.profile.specs.Faults.{ReadsKnown, RefusesKnown}
+use Rattle.engine.specs.Saturations.{HasMoreFactsThan}
+use Rattle.session.specs.declared.question_fault.QuestionFault.{QuestionFault}
+use Rattle.session.specs.declared.question_fault.QuestionFault.TheVariants.{Document, Limit, UnknownName, Memory}
+use Rattle.session.specs.declared.form.Form.{Form}
+use Rattle.session.specs.declared.form.Form.TheVariants.{Lines, Graph}
+use Rattle.answers.specs.Explanations.{Explains, IsKnown}
+use Rattle.answers.specs.declared.asked.Asked.{Asked}
+use Rattle.answers.specs.declared.explanation.Explanation.{Explanation}
+use Rattle.answers.specs.declared.explanation.Explanation.TheVariants.{Yes, No, Contradictory}
+use Rattle.session.specs.Answers.{IsFirstUnknown}
+use Rattle.session.specs.FactCounts.{HasNoMoreFactsThan}
+use Rattle.session.specs.Devices.{SourceState, IsReadToItsEnd, IsReadUntil}
+
+-- the document, of at most so many bytes, reads as the ontology
+pub record IsReadAs (most_bytes : ℕ) (document : Option (List ℕ)) (o : Ontology) : Type 0 where
+  pub reads : ReadsKnown document most_bytes o
+  pub taken : IsTaken o
+
+-- ---- the individuals of a class
+
+-- a line for each name
+abbrev pub name_lines : List Iri → List ℕ
+name_lines names = flat_map (λ name. name_text name ++ line_feed) names
+
+-- the ontology has the class, and the lines are of exactly the individuals that belong to it in every finite interpretation of the
+-- axioms, each once and in byte order
+pub record ListsInstances (o : Ontology) (class : Iri) (text : List ℕ) : Type 0 where
+  pub known : Contains o.names.classes class
+  pub names : List Iri
+  pub those : AreThose o.names.individuals (λ name. BelongsTo o name class) names
+  pub lines : text ≡ name_lines names
+
+-- the document reads as an ontology whose closure has at most so many facts and which has the class, and the lines of the text are of
+-- exactly the individuals that belong to it in every finite interpretation of the axioms, each once and in byte order
+abbrev pub AnswersInstances : (most_bytes most_facts : ℕ) → (document : Option (List ℕ)) → (class : Iri) → (text : List ℕ) → Type 0
+AnswersInstances bytes facts document class text = (o : Ontology) × IsReadAs bytes document o × HasNoMoreFactsThan o facts × ListsInstances o class text
+
+-- ---- why something follows, or why not
+
+-- an explanation as lines: whether it follows, and behind that the lines of the derivation or the interpretation
+abbrev pub lines_text : Ontology → Explanation → List ℕ
+lines_text o (Yes lines) = codes "yes\n" ++ proof_text o (lines_of lines.items)
+lines_text o (No i x) = refutation_text o.names i x
+lines_text o (Contradictory lines) = codes "contradictory\n" ++ proof_text o (lines_of lines.items)
+
+-- an explanation as a graph: that of the derivation, or of the interpretation
+abbrev pub graph_text : Ontology → Explanation → List ℕ
+graph_text o (Yes lines) = proof_graph o (lines_of lines.items)
+graph_text o (No i x) = refutation_graph o.names i x
+graph_text o (Contradictory lines) = proof_graph o (lines_of lines.items)
+
+-- an explanation in the form that is asked for: as lines, or as a graph
+abbrev pub shown_text : Ontology → Form → Explanation → List ℕ
+shown_text o Lines explanation = lines_text o explanation
+shown_text o Graph explanation = graph_text o explanation
+
+-- the ontology has both names, and the text is that of an explanation that shows whether the subject is in the class
+pub record ShowsExplanation (o : Ontology) (asked : Asked) (class : Iri) (form : Form) (text : List ℕ) : Type 0 where
+  pub subject : IsKnown o asked
+  pub known : Contains o.names.classes class
+  pub explanation : Explanation
+  pub explains : Explains o asked class explanation
+  pub shown : text ≡ shown_text o form explanation
+
+-- the document reads as an ontology whose closure has at most so many facts and which has both names, and the text is that of an
+-- explanation that shows whether the subject is in the class
+abbrev pub AnswersExplanation : (most_bytes most_facts : ℕ) → (document : Option (List ℕ)) → Asked → (class : Iri) → Form → (text : List ℕ) → Type 0
+AnswersExplanation bytes facts document asked class form text = (o : Ontology) × IsReadAs bytes document o × HasNoMoreFactsThan o facts × ShowsExplanation o asked class form text
+
+-- ---- faults
+
+-- the document reads as an ontology whose closure has at most so many facts, and the name is the first of these, each of its kind,
+-- that the ontology lacks
+abbrev pub LacksName : (most_bytes most_facts : ℕ) → (document : Option (List ℕ)) → (names : List (Kind × Iri)) → Iri → Type 0
+LacksName bytes facts document names name = (o : Ontology) × IsReadAs bytes document o × HasNoMoreFactsThan o facts × IsFirstUnknown o names name
+
+-- the document reads as an ontology whose closure has more facts
+abbrev pub IsBeyondLimit : (most_bytes most_facts : ℕ) → (document : Option (List ℕ)) → Type 0
+IsBeyondLimit bytes facts document = (o : Ontology) × IsReadAs bytes document o × HasMoreFactsThan o facts
+
+-- what a fault says of the document and of the names in the question: it is refused, or it is read and this came behind that
+abbrev pub IsFaultOf : (most_bytes most_facts : ℕ) → (document : Option (List ℕ)) → (names : List (Kind × Iri)) → QuestionFault → Type 0
+IsFaultOf bytes facts document names (Document fault) = RefusesKnown document bytes fault
+IsFaultOf bytes facts document names Limit = IsBeyondLimit bytes facts document
+IsFaultOf bytes facts document names (UnknownName name) = LacksName bytes facts document names name.now
+IsFaultOf bytes facts document names Memory = (o : Ontology) × IsReadAs bytes document o
+
+-- what was read of the document: all of it, where it was read as an ontology; otherwise some of it; and the fault of a source
+-- is told only where it failed
+abbrev pub IsRead : {X : Type 0} → Result X QuestionFault → (old new : SourceState) → Type 0
+IsRead (Ok x) old new = IsReadToItsEnd old new
+IsRead (Err (Document fault)) old new = IsReadUntil fault old new
+IsRead (Err Limit) old new = IsReadToItsEnd old new
+IsRead (Err (UnknownName name)) old new = IsReadToItsEnd old new
+IsRead (Err Memory) old new = IsReadToItsEnd old new
