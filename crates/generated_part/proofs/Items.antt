@@ -11,7 +11,7 @@ use Rattle.axioms.proofs.Trees.{one_class}
 use Rattle.cert_check.specs.Additions.{SomeRow}
 use Rattle.cert_check.proofs.Additions.{some_none, some_next, contains_next, step_both}
 use Rattle.number_sets.specs.Pieces.{list_at}
-use Rattle.property_closure.proofs.Members.{one_more_item, list_at_none, none_taken}
+use Rattle.number_sets.proofs.Members.{one_more_item, list_at_none, none_taken}
 use Rattle.generated_part.specs.Elements.{class_id, prop_id}
 use Rattle.generated_part.specs.Items.{AddsItems, AreItems}
 

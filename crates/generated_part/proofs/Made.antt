@@ -14,11 +14,12 @@ use Rattle.interpretation_spec.specs.NumberedInterpretation.{NumberedInterpretat
 use Rattle.interpretation_spec.proofs.Names.{StandsFor, stands}
 use Rattle.number_sets.specs.Members.{has}
 use Rattle.number_sets.specs.Pieces.{list_at}
-use Rattle.property_closure.proofs.Members.{nothing_past}
+use Rattle.number_sets.specs.Search.{itself, onward, IsBounded}
+use Rattle.number_sets.proofs.Members.{nothing_past}
 use Rattle.generated_part.specs.Elements.{class_id, prop_id, IsByElement}
 use Rattle.generated_part.specs.GeneratedPart.{IsReached, start, individual, step, IsGenerated}
 use Rattle.generated_part.specs.Part.{AreChosen, IsPart}
-use Rattle.generated_part.specs.Search.{IsFound, itself, onward, IsBounded}
+use Rattle.generated_part.specs.Search.{IsFound, target_of}
 use Rattle.generated_part.specs.declared.by_element.ByElement.{ByElement}
 
 -- two tests that pass where the other does
@@ -31,8 +32,8 @@ name_is : (names : List (List ℕ)) (n : ℕ) (name : List ℕ) → slice_get na
 name_is names n name g = ap (λ (o : Option (List ℕ)). unwrap_or o []) g
 
 module _ (o : Ontology) (w : IsOntology o) (i : Interpretation) (v : IsInterpretation i) (rows : ByElement) (by : IsByElement o i rows) where
-  pub pairs_bounded : IsBounded rows.pairs
-  pairs_bounded x y r c =
+  pub pairs_bounded : IsBounded target_of rows.pairs
+  pairs_bounded x (r, y) c =
       let low : x < length rows.pairs = nothing_past rows.pairs x (r, y) c in
       let there = ((by.pairs x y r (subst (λ (n : ℕ). x < n) by.pairs_each low)).0 c).1 in
       subst (λ (n : ℕ). y < n) (sym by.pairs_each) there
@@ -53,26 +54,26 @@ module _ (o : Ontology) (w : IsOntology o) (i : Interpretation) (v : IsInterpret
     within x (step r y h lr lx p) = lx
 
     reached : (x : ℕ) → Found x → IsReached o i from x
-    reached x (itself c) = elim (Contains-cons_cases from x rows.individuals.items c) [
+    reached _ (itself x c) = elim (Contains-cons_cases from x rows.individuals.items c) [
       | inl e ↦ subst (IsReached o i from) e (start there)
       | inr h ↦
           (let (a, g) = slice_get-from_Contains rows.individuals.items x h in
           let low : a < length rows.individuals.items = slice_get_within rows.individuals.items a x g in
           individual a (omega (arith, low, by.individuals_each)) (by.individuals a x g))
     ]
-    reached y (onward r x f c) =
+    reached _ (onward x (r, y) f c) =
         let before = reached x f in
         let p = (by.pairs x y r (within x before)).0 c in
         step r.0 x before p.0 p.1 p.2
 
     found : (x : ℕ) → IsReached o i from x → Found x
-    found x (start l) = itself (Contains-first from rows.individuals.items)
+    found _ (start l) = itself from (Contains-first from rows.individuals.items)
     found x (individual a la e) =
         let low : a < length rows.individuals.items = omega (arith, la, by.individuals_each) in
         let g = slice_get-get_or rows.individuals.items a 0 low in
         let same : get_or rows.individuals.items a 0 ≡ x = sym (by.individuals a (get_or rows.individuals.items a 0) g) ∙ e in
-        itself (Contains-later from x rows.individuals.items (Contains-from_slice_get rows.individuals.items a x (g ∙ ap Some same)))
-    found y (step r x h lr ly p) = onward (prop_id r) x (found x h) ((by.pairs x y (prop_id r) (within x h)).1 (lr, ly, p))
+        itself x (Contains-later from x rows.individuals.items (Contains-from_slice_get rows.individuals.items a x (g ∙ ap Some same)))
+    found y (step r x h lr ly p) = onward x (prop_id r, y) (found x h) ((by.pairs x y (prop_id r) (within x h)).1 (lr, ly, p))
 
     module _ (marks : List Bool) (n : ℕ) (all : n ≡ i.size) (exact : (x : ℕ) → (has marks x ≡ true) ↔ Found x) (elements places : List ℕ) (chosen : AreChosen marks n elements places)
         (part : NumberedInterpretation) (valid : IsNumberedInterpretation part) (is : IsPart rows elements places part) where

@@ -1,10 +1,9 @@
 -- What is listed of each element.
-use Rattle.std.proofs.Common.{◌≡◌, ◌↔◌, ℕ, zero, suc, ◌+◌, ◌<◌, ◌≤◌, ◌⊎◌, inl, inr, Bool, true, false, List, [], ◌∷◌, ◌++◌, length, get_or, take, slice_get, Some, Contains, refl, sym, ap, ◌∙◌, subst, arith, below_more}
+use Rattle.std.proofs.Common.{◌≡◌, ℕ, zero, suc, ◌+◌, ◌<◌, ◌≤◌, inl, inr, Bool, true, false, List, [], ◌∷◌, ◌++◌, length, get_or, take, slice_get, Some, Contains, refl, sym, ap, ◌∙◌, subst, arith, below_more}
 use Rattle.std.proofs.lemmas.Bool.{both_ways, cases_eq}
 use Rattle.std.proofs.lemmas.List.Elements.{Contains-append_left, Contains-push, Contains-push_cases, All-contains}
-use Rattle.std.proofs.lemmas.Option.{get_or_from_slice_get, slice_get-get_or, slice_get_within, none-some}
+use Rattle.std.proofs.lemmas.Option.{get_or_from_slice_get, slice_get_within, none-some}
 use Rattle.lemmas.proofs.Members.{Contains-none, slice_get-from_Contains}
-use Rattle.lemmas.proofs.Places.{slice_get_push, keeps_push}
 use Rattle.axioms.specs.Ontology.{Ontology, name_at, property_name, individual_name}
 use Rattle.axioms.specs.WellFormedness.{IsOntology}
 use Rattle.axioms.specs.declared.ids.ClassId.{ClassId}
@@ -16,8 +15,8 @@ use Rattle.interpretation_spec.proofs.Names.{stands}
 use Rattle.listed_model.proofs.Members.{holds_from_Contains, Contains_from_holds}
 use Rattle.number_sets.specs.Members.{has}
 use Rattle.number_sets.specs.Pieces.{list_at}
-use Rattle.property_closure.proofs.Members.{one_more_taken, none_taken, all_taken}
-use Rattle.generated_part.specs.Elements.{class_id, prop_id, AreClassesAt, ArePairsAt, IsByElement}
+use Rattle.number_sets.proofs.Members.{one_more_taken, none_taken, all_taken}
+use Rattle.generated_part.specs.Elements.{class_id, prop_id, AddsTargets, AreClassesAt, ArePairsAt, IsByElement}
 use Rattle.generated_part.specs.declared.by_element.ByElement.{ByElement}
 
 -- ---- classes
@@ -48,10 +47,6 @@ module _ (i : NumberedInterpretation) (n x : ℕ) (found : List ClassId) (was : 
   )
 
 -- ---- pairs
-
--- the pairs are the old ones and those of the property to the targets
-abbrev pub AddsTargets : List (PropId × ℕ) → PropId → List ℕ → List (PropId × ℕ) → Type 0
-AddsTargets old p ts now = (r : PropId) (y : ℕ) → Contains now (r, y) ↔ (Contains old (r, y) ⊎ ((r ≡ p) × Contains ts y))
 
 pub no_target : (old : List (PropId × ℕ)) (p : PropId) (ts : List ℕ) → AddsTargets old p (take 0 ts) old
 no_target old p ts r y = (λ h. inl h, λ h. elim h [ inl c ↦ c | inr q ↦ absurd (none_taken ts y q.1) ])
@@ -94,22 +89,6 @@ one_property i n x old now was adds r y = (
     | inr apart ↦ (adds r y).1 (inl ((was r y).1 (omega (arith, h.0, apart), h.1)))
   ],
 )
-
--- ---- one element after the other
-
-pub at_end : {X : Type 0} (lists : List (List X)) (list : List X) (n : ℕ) → length lists ≡ n → list_at (lists ++ list ∷ []) n ≡ list
-at_end lists list n long = get_or_from_slice_get (lists ++ list ∷ []) n list [] (subst (λ (k : ℕ). slice_get (lists ++ list ∷ []) k ≡ Some list) long (slice_get_push lists list))
-
-pub before_end : {X : Type 0} (lists : List (List X)) (list : List X) (n : ℕ) → n < length lists → list_at (lists ++ list ∷ []) n ≡ list_at lists n
-before_end lists list n low = get_or_from_slice_get (lists ++ list ∷ []) n (list_at lists n) [] (keeps_push lists list n (list_at lists n) (slice_get-get_or lists n [] low))
-
--- of each of the lists by its number
-pub each_more : {X : Type 0} (P : ℕ → List X → Type 0) (lists : List (List X)) (list : List X) (n : ℕ) → length lists ≡ n
-    → ((k : ℕ) → k < n → P k (list_at lists k)) → P n list → (k : ℕ) → k < n + 1 → P k (list_at (lists ++ list ∷ []) k)
-each_more {X} P lists list n long before last k low = elim (cases_eq k n) [
-  | inl e ↦ subst (λ (j : ℕ). P j (list_at (lists ++ list ∷ []) j)) (sym e) (subst (P n) (sym (at_end lists list n long)) last)
-  | inr apart ↦ (let l : k < n = omega (arith, low, apart) in subst (P k) (sym (before_end lists list k (omega (arith, long, l)))) (before k l))
-]
 
 -- ---- by names
 

@@ -1,5 +1,5 @@
 -- An interpretation by its elements: of each the classes that it is in, and its pairs.
-use Rattle.std.specs.Prelude.{◌≡◌, ◌↔◌, ℕ, ◌<◌, ◌≤◌, List, Bool, true, length, slice_get, Some}
+use Rattle.std.specs.Prelude.{◌≡◌, ◌⊎◌, ◌↔◌, ℕ, ◌<◌, ◌≤◌, List, Bool, true, length, slice_get, Some}
 use Rattle.std.specs.List.{Contains}
 use Rattle.axioms.specs.Ontology.{Ontology, name_at, property_name, individual_name}
 use Rattle.axioms.specs.declared.ids.ClassId.{ClassId}
@@ -23,6 +23,10 @@ AreClassesAt i n x classes = (c : ClassId) → Contains classes c ↔ ((2 ≤ c.
 -- the pairs of the element by the first n properties
 abbrev pub ArePairsAt : NumberedInterpretation → ℕ → ℕ → List (PropId × ℕ) → Type 0
 ArePairsAt i n x pairs = (r : PropId) (y : ℕ) → Contains pairs (r, y) ↔ ((r.0 < n) × Contains (targets_of i r.0 x) y)
+
+-- the pairs of the property to these targets were added
+abbrev pub AddsTargets : List (PropId × ℕ) → PropId → List ℕ → List (PropId × ℕ) → Type 0
+AddsTargets old property targets new = (r : PropId) (y : ℕ) → Contains new (r, y) ↔ (Contains old (r, y) ⊎ ((r ≡ property) × Contains targets y))
 
 -- what is said of each element, and of each individual
 pub record IsByElement (o : Ontology) (i : Interpretation) (rows : ByElement) : Type 0 where

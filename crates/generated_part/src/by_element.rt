@@ -1,10 +1,9 @@
 //! Interpretations by their elements.
-ghost use Rattle.generated_part.specs.Elements.{AreClassesAt, ArePairsAt, IsByElement};
+ghost use Rattle.generated_part.specs.Elements.{AddsTargets, AreClassesAt, ArePairsAt, IsByElement};
 ghost use Rattle.interpretation_spec.specs.NamedInterpretation.{interpretation_of};
 ghost use Rattle.interpretation_spec.specs.NumberedInterpretation.{IsMadeFor, members_of, targets_of as targets_by};
 ghost use Rattle.number_sets.specs.Members.{has};
-ghost use Rattle.std.specs.Prelude.{◌<◌, ◌≡◌, ◌≤◌, ◌^◌, ◌⊎◌, ◌↔◌, Contains, IfOk, OnOk, length, slice_index, ℕ};
-ghost use Rattle.axioms.specs.declared.ids.PropId.{PropId as PropId2};
+ghost use Rattle.std.specs.Prelude.{◌<◌, ◌≡◌, ◌≤◌, ◌^◌, IfOk, OnOk, length, slice_index};
 
 use axioms::{ClassId, IndId, Memory, Ontology, PropId};
 use interpretation_spec::Interpretation;
@@ -77,8 +76,7 @@ fn push_targets(
     property: PropId,
     targets: &[usize],
 ) -> Result<(), Memory>
-    ensures { OnOk result
-        ((r : PropId2) (y : ℕ) → Contains found.new.items (r, y) ↔ (Contains found.old.items (r, y) ⊎ ((r ≡ property) × Contains targets.now y))) }
+    ensures { OnOk result (AddsTargets found.old.items property targets.now found.new.items) }
 {
     for target in targets {
         found.push((property, *target))?;

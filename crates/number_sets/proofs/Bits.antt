@@ -1,12 +1,12 @@
 -- Bits in words, and rows as bits.
-use Rattle.std.proofs.Common.{◌≡◌, ℕ, zero, suc, ◌+◌, ◌*◌, ◌/◌, ◌%◌, ◌-◌, ◌^◌, ◌<◌, ◌≤◌, ◌≢◌, min, max, Bool, true, false, not, ◌&&◌, ◌||◌, nat_eq, bit_and, bit_or, bit_xor, List, length, get_or, set, slice_index, replicate, true≢false, refl, sym, ap, ap₂, ◌∙◌, arith, inl, inr}
+use Rattle.std.proofs.Common.{◌≡◌, ℕ, zero, suc, ◌+◌, ◌*◌, ◌/◌, ◌%◌, ◌-◌, ◌^◌, ◌<◌, ◌≤◌, ◌≢◌, min, max, Bool, true, false, not, ◌&&◌, ◌||◌, nat_eq, bit_and, bit_or, List, length, get_or, set, slice_index, replicate, true≢false, refl, sym, ap, ap₂, ◌∙◌, arith, inl, inr}
 use Rattle.std.specs.Int.{bit_at}
 use Rattle.std.proofs.lemmas.Bool.{cases_lt, cases_eq}
 use Rattle.std.proofs.lemmas.List.{get_or_past, get_or-set_same, get_or-set_other, length-set, length-replicate, get_or-replicate, same_lists}
 use Rattle.std.proofs.lemmas.Nat.{one_shl}
 use Rattle.std.proofs.lemmas.Nat.Bits.{bit_at_or, bit_at_and, bit_at_xor, bit_at-zero, bit_at-lt, bit_at_above, bit_at_ones, bit_at_ones_above, same_from_bits}
 use Rattle.number_sets.specs.Members.{has}
-use Rattle.number_sets.specs.Words.{bit_of, bits_of, IsRow}
+use Rattle.number_sets.specs.Words.{bit_of, bits_of, without_bits, IsRow}
 use Rattle.number_sets.proofs.Tables.{get_or-table, length-table}
 
 -- ---- one bit
@@ -47,7 +47,7 @@ or_bit a b j = ap (λ v. nat_eq v 1) (bit_at_or a b j) ∙ either (bit_at a j) (
 pub and_bit : (a b j : ℕ) → Bit (bit_and a b) j ≡ (Bit a j && Bit b j)
 and_bit a b j = ap (λ v. nat_eq v 1) (bit_at_and a b j) ∙ both (bit_at a j) (bit_at b j) (bit_at-lt a j) (bit_at-lt b j)
 
-pub minus_bit : (a b j : ℕ) → Bit (bit_xor a (bit_and a b)) j ≡ (Bit a j && not (Bit b j))
+pub minus_bit : (a b j : ℕ) → Bit (without_bits a b) j ≡ (Bit a j && not (Bit b j))
 minus_bit a b j =
     ap (λ v. nat_eq v 1) (bit_at_xor a (bit_and a b) j ∙ ap (λ v. (bit_at a j + v) % 2) (bit_at_and a b j))
     ∙ without (bit_at a j) (bit_at b j) (bit_at-lt a j) (bit_at-lt b j)
@@ -160,29 +160,6 @@ has_bits n words r k =
 
 pub as_many_words : (n m : ℕ) (a b : List ℕ) → IsRow n a → IsRow m b → n ≡ m → length a ≡ length b
 as_many_words n m a b p q e = omega (arith, p.long, p.short, q.long, q.short)
-
--- word by word, by a test of two bits that is false where neither is set
-pub record Combined (f : Bool → Bool → Bool) (n m : ℕ) (old new other : List ℕ) : Type 0 where
-  pub row : IsRow n new
-  pub len : length (bits_of n new) ≡ length (bits_of n old)
-  pub members : (k : ℕ) → has (bits_of n new) k ≡ f (has (bits_of n old) k) (has (bits_of m other) k)
-
-pub combined : (f : Bool → Bool → Bool) → f false false ≡ false → (g : ℕ → ℕ → ℕ) → ((a b j : ℕ) → Bit (g a b) j ≡ f (Bit a j) (Bit b j))
-    → (n m : ℕ) (old new other : List ℕ) → IsRow n old → IsRow m other → n ≡ m → length new ≡ length old
-    → ((k : ℕ) → get_or new k 0 ≡ g (get_or old k 0) (get_or other k 0)) → Combined f n m old new other
-combined f none g bitwise n m old new other p q e long words =
-    let bits : (k : ℕ) → bit_of new k ≡ f (bit_of old k) (bit_of other k) = λ k.
-    ap (λ w. Bit w (k % 64)) (words (k / 64)) ∙ bitwise (get_or old (k / 64) 0) (get_or other (k / 64) 0) (k % 64) in
-    let row : IsRow n new = record {
-      long = omega (arith, p.long);
-      short = omega (arith, p.short);
-      clear = λ k l. (let l' : m ≤ k = omega arith in bits k ∙ rw (p.clear k l, q.clear k l') none);
-    } in
-    record {
-      row = row;
-      len = length_bits n new ∙ sym (length_bits n old);
-      members = λ k. has_bits n new row k ∙ bits k ∙ ap₂ f (sym (has_bits n old p k)) (sym (has_bits m other q k));
-    }
 
 -- ---- one more member
 

@@ -6,7 +6,8 @@ use Rattle.std.specs.Simd.Lanes.{Each1, fold_l, zip2, chunk, put_chunk}
 use Rattle.std.proofs.lemmas.Bool.{cases_lt}
 use Rattle.std.proofs.lemmas.Nat.{le_or_l, le_or_r}
 use Rattle.std.proofs.lemmas.Nat.Bits.{bit_at_xor, bit_at-zero, bit_at-lt, same_from_bits}
-use Rattle.std.proofs.lemmas.Simd.{Each1-get_or, get_or-chunk, get_or-zip2, get_or-put_chunk_below, get_or-put_chunk_at, get_or-put_chunk_above, length-chunk, length-zip2}
+use Rattle.std.proofs.lemmas.Simd.{Each1-get_or, get_or-chunk, get_or-zip2, get_or-put_chunk_below, get_or-put_chunk_at, get_or-put_chunk_above, length-chunk, length-put_chunk, length-zip2}
+use Rattle.number_sets.specs.Words.{without_bits}
 
 -- the words before i are made of two words each, those from i on are as they were
 pub record Made (g : ℕ → ℕ → ℕ) (old other new : List ℕ) (i : ℕ) : Type 0 where
@@ -30,7 +31,7 @@ lanes f a b i la lb =
 
 -- a lane of what is left of the one vector
 pub left_lane : (a b : List ℕ) (i j : ℕ) → i + 4 ≤ length a → i + 4 ≤ length b → j < 4
-    → get_or (zip2 bit_xor (chunk i 4 a) (zip2 bit_and (chunk i 4 a) (chunk i 4 b))) j 0 ≡ bit_xor (get_or a (i + j) 0) (bit_and (get_or a (i + j) 0) (get_or b (i + j) 0))
+    → get_or (zip2 bit_xor (chunk i 4 a) (zip2 bit_and (chunk i 4 a) (chunk i 4 b))) j 0 ≡ without_bits (get_or a (i + j) 0) (get_or b (i + j) 0)
 left_lane a b i j la lb lj =
     let na = length-chunk i 4 a la in
     let common = lanes bit_and a b i la lb in
@@ -61,6 +62,16 @@ four_more g old other new i four made long room same each = record {
       ];
   after = λ k l. get_or-put_chunk_above i new four k 0 (omega arith) ∙ made.after k (omega arith);
 }
+
+-- as long as four are left
+pub made_more : (g : ℕ → ℕ → ℕ) (old other new : List ℕ) (i : ℕ) (four : List ℕ) → Made g old other new i × (length new ≡ length old) → length old ≡ length other → 4 ≤ length new - i
+    → (i + 4 ≤ length new → i + 4 ≤ length other → (length four ≡ 4) × ((j : ℕ) → j < 4 → get_or four j 0 ≡ g (get_or new (i + j) 0) (get_or other (i + j) 0)))
+    → Made g old other (put_chunk i new four) (i + 4) × (length (put_chunk i new four) ≡ length old)
+made_more g old other new i four (made, same) wide left each =
+    let low : i + 4 ≤ length new = omega (arith, left, made.within) in
+    let (long, lanes) = each low (omega (arith, low, same, wide)) in
+    let kept = length-put_chunk i new four in
+    (four_more g old other new i four made long low kept lanes, kept ∙ same)
 
 -- ---- four words that are 0
 

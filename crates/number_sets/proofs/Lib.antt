@@ -5,3 +5,7 @@ pub mod Tables
 pub mod Bits
 pub mod Fours
 pub mod Counts
+pub mod Rows
+pub mod Members
+pub mod Absent
+pub mod Searching

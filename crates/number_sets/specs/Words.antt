@@ -1,5 +1,5 @@
 -- A set of numbers in words of 64 bits.
-use Rattle.std.specs.Prelude.{◌≡◌, ℕ, ◌+◌, ◌*◌, ◌/◌, ◌%◌, ◌<◌, ◌≤◌, Bool, List, length, slice_index, nat_eq, false, map}
+use Rattle.std.specs.Prelude.{◌≡◌, ℕ, ◌+◌, ◌*◌, ◌/◌, ◌%◌, ◌<◌, ◌≤◌, Bool, List, length, slice_index, nat_eq, bit_and, bit_xor, false, map}
 use Rattle.std.specs.Int.{bit_at}
 use Rattle.std.specs.List.{range_with_len}
 
@@ -10,6 +10,10 @@ is_set word bit = nat_eq (bit_at word bit) 1
 -- whether the set has this number
 abbrev pub bit_of : List ℕ → ℕ → Bool
 bit_of words k = nat_eq (bit_at (slice_index words (k / 64)) (k % 64)) 1
+
+-- the word without the bits of the other
+abbrev pub without_bits : ℕ → ℕ → ℕ
+without_bits word other = bit_xor word (bit_and word other)
 
 -- the truth values of the numbers below n
 abbrev pub bits_of : ℕ → List ℕ → List Bool

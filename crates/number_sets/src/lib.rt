@@ -7,6 +7,7 @@ mod list;
 mod open_lists;
 mod packed_lists;
 mod row;
+mod search;
 mod turning;
 mod words;
 
@@ -16,4 +17,5 @@ pub use list::NumberList;
 pub use open_lists::OpenLists;
 pub use packed_lists::PackedLists;
 pub use row::Row;
+pub use search::{Found, NumberSearch};
 pub use turning::turned;

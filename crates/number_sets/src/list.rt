@@ -10,7 +10,7 @@ const FIRST_ROOM: usize = 6;
 
 /// Numbers in order: up to three of them here, and more elsewhere.
 #[derive(Drop)]
-pub enum Numbers {
+pub(crate) enum Numbers {
     None,
     One([u32; 1]),
     Two([u32; 2]),

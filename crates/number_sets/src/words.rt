@@ -1,7 +1,7 @@
 //! Bits in words of 64: four words at a time, and the rest word by word.
 ghost use Rattle.std.specs.Prelude.{◌≡◌, ℕ, ◌+◌, ◌%◌, ◌^◌, ◌<◌, ◌≤◌, ◌↔◌, IsTrue, bit_and, bit_or, bit_xor, count_by, count_ones, false, length, map, slice_index, take, true};
 ghost use Rattle.std.specs.Simd.Lanes.{Each1, chunk, put_chunk, sum_l, zip2};
-ghost use Rattle.number_sets.specs.Words.{IsRow, bit_of, bits_of};
+ghost use Rattle.number_sets.specs.Words.{IsRow, bit_of, bits_of, without_bits};
 
 use std::simd::prelude::*;
 
@@ -18,7 +18,7 @@ pub(crate) fn union_words(a: &mut [u64], b: &[u64])
 /// Each word of `a` without the bits of the word of `b` at its place.
 pub(crate) fn minus_words(a: &mut [u64], b: &[u64])
     requires { length a.old ≡ length b.now }
-    ensures { (k : ℕ) → slice_index a.new k ≡ bit_xor (slice_index a.old k) (bit_and (slice_index a.old k) (slice_index b.now k)) }
+    ensures { (k : ℕ) → slice_index a.new k ≡ without_bits (slice_index a.old k) (slice_index b.now k) }
 {
     for i in minus_fours(a, b)..a.len() {
         a[i] ^= a[i] & b[i];
@@ -94,7 +94,7 @@ fn union_fours(a: &mut [u64], b: &[u64]) -> usize
 fn minus_fours(a: &mut [u64], b: &[u64]) -> usize
     requires { length a.old ≡ length b.now }
     ensures within { result ≤ length a.old }
-    ensures before { (k : ℕ) → k < result → slice_index a.new k ≡ bit_xor (slice_index a.old k) (bit_and (slice_index a.old k) (slice_index b.now k)) }
+    ensures before { (k : ℕ) → k < result → slice_index a.new k ≡ without_bits (slice_index a.old k) (slice_index b.now k) }
     ensures after { (k : ℕ) → result ≤ k → slice_index a.new k ≡ slice_index a.old k }
 {
     let mut i = 0;

@@ -19,7 +19,7 @@ use Rattle.number_sets.specs.Pieces.{list_at}
 use Rattle.property_closure.specs.declared.chains.OpenChains.{OpenChains}
 use Rattle.property_closure.specs.Chains.{AddsChain, AreChains, AreChainsOf, ArePacked, chains_at, open_chains_at}
 use Rattle.property_closure.specs.Relations.{as_property}
-use Rattle.property_closure.proofs.Members.{one_more_item, one_more_taken, all_taken}
+use Rattle.number_sets.proofs.Members.{one_more_item, one_more_taken, all_taken}
 use Rattle.property_closure.proofs.Reflexives.{number_of}
 
 -- what follows the first property of a chain, and what is above both

@@ -1,5 +1,3 @@
-pub mod Members
-pub mod Searching
 pub mod Plain
 pub mod Reflexives
 pub mod ChainLists

@@ -1,15 +1,13 @@
 -- What plain forms put above a property is what their lists lead to.
-use Rattle.std.proofs.Common.{◌≡◌, ◌↔◌, ℕ, ◌+◌, ◌<◌, ◌⊎◌, inl, inr, List, [], ◌∷◌, ◌++◌, length, get_or, map, take, Contains, refl, sym, ap, ap₂, ◌∙◌, subst, arith}
+use Rattle.std.proofs.Common.{◌≡◌, ◌↔◌, ℕ, ◌+◌, ◌<◌, inl, inr, List, [], ◌∷◌, ◌++◌, length, get_or, map, take, Contains, refl, sym, ap, ap₂, ◌∙◌, subst, arith}
 use Rattle.std.specs.List.{AllPairs}
 use Rattle.std.specs.Prelude.{slice_set}
 use Rattle.std.specs.declared.cmp.Ordering.TheVariants.{Less}
 use Rattle.std.specs.Ordering.{nat_cmp}
-use Rattle.std.proofs.lemmas.Bool.{cases_eq}
 use Rattle.std.proofs.lemmas.Cmp.{ranked}
-use Rattle.std.proofs.lemmas.List.{get_or_push, get_or_append_left}
 use Rattle.std.proofs.lemmas.Option.{slice_get_within, get_or_from_slice_get}
 use Rattle.lemmas.proofs.Mapped.{Contains-map, slice_get_map_from}
-use Rattle.lemmas.proofs.Members.{Contains-from_slice_get, slice_get-from_Contains}
+use Rattle.lemmas.proofs.Members.{Contains-first, Contains-one, Contains-from_slice_get, slice_get-from_Contains}
 use Rattle.lemmas.proofs.Pairs.{AllPairs-map}
 use Rattle.axioms.specs.declared.ids.PropId.{PropId}
 use Rattle.normal_forms.specs.declared.forms.PropId2.{PropId2}
@@ -18,9 +16,10 @@ use Rattle.normal_forms.specs.declared.forms.Form.{Form}
 use Rattle.normal_forms.specs.declared.forms.Form.TheVariants.{N5}
 use Rattle.normal_forms.specs.Properties.{ComesBefore, IsAtOrBelow, same, step}
 use Rattle.number_sets.specs.Pieces.{list_at}
-use Rattle.property_closure.specs.Search.{LeadsTo, itself, onward, IsBounded, AreReached}
+use Rattle.number_sets.specs.Search.{LeadsTo, itself, onward, IsBounded, AreFound}
 use Rattle.property_closure.specs.Relations.{as_id, as_property, Tells, ArePlainWithin, IsAdjacency, AreAbove}
-use Rattle.property_closure.proofs.Members.{one_more_item, one_more_taken}
+use Rattle.number_sets.proofs.Members.{one_more_item, one_more_taken}
+use Rattle.number_sets.proofs.Searching.{led}
 
 -- ---- lists of what forms tell
 
@@ -65,12 +64,16 @@ told_same forms k form lists low other before a b = (
 
 -- ---- what they lead to
 
-pub bounded : (n : ℕ) (forms : List Form) (lists : List (List ℕ)) → ArePlainWithin n forms → IsAdjacency n forms lists → IsBounded lists
+pub bounded : (n : ℕ) (forms : List Form) (lists : List (List ℕ)) → ArePlainWithin n forms → IsAdjacency n forms lists → IsBounded (λ m. m) lists
 bounded n forms lists within told b d c = omega (arith, (within b d ((told.exact b d).0 c)).1, told.long)
 
-lifts : (n : ℕ) (forms : List Form) (lists : List (List ℕ)) → IsAdjacency n forms lists → (c d : ℕ) → LeadsTo lists c d → IsAtOrBelow forms (as_property c) (as_property d)
-lifts n forms lists told c _ itself = same
-lifts n forms lists told c d (onward b h t) = step (as_id b) (as_id d) (lifts n forms lists told c b h) ((told.exact b d).0 t)
+-- d is c, or the lists lead from c to d
+abbrev Leads : List (List ℕ) → ℕ → ℕ → Type 0
+Leads lists c d = LeadsTo (λ (m : ℕ). m) (λ (m : ℕ). m) (c ∷ []) lists d
+
+lifts : (n : ℕ) (forms : List Form) (lists : List (List ℕ)) → IsAdjacency n forms lists → (c d : ℕ) → Leads lists c d → IsAtOrBelow forms (as_property c) (as_property d)
+lifts n forms lists told c _ (itself x h) = subst (λ y. IsAtOrBelow forms (as_property c) (as_property y)) (Contains-one c x h) same
+lifts n forms lists told c _ (onward b d h t) = step (as_id b) (as_id d) (lifts n forms lists told c b h) ((told.exact b d).0 t)
 
 -- the number of a property
 number_of : PropId2 → ℕ
@@ -78,19 +81,19 @@ number_of (Property p) = p.0
 number_of (Partial n) = n
 
 -- what is above a property is a property, and the lists lead there
-pub below_leads : (n : ℕ) (forms : List Form) (lists : List (List ℕ)) → IsAdjacency n forms lists → (c : ℕ) (q : PropId2) → IsAtOrBelow forms (as_property c) q → (d : ℕ) × (q ≡ as_property d) × LeadsTo lists c d
+pub below_leads : (n : ℕ) (forms : List Form) (lists : List (List ℕ)) → IsAdjacency n forms lists → (c : ℕ) (q : PropId2) → IsAtOrBelow forms (as_property c) q → (d : ℕ) × (q ≡ as_property d) × Leads lists c d
 unfolding number_of
-below_leads n forms lists told c _ same = (c, refl, itself)
+below_leads n forms lists told c _ same = (c, refl, itself c (Contains-first c []))
 below_leads n forms lists told c _ (step s t h f) =
     let p = below_leads n forms lists told c _ h in
     let e : s.0 ≡ p.0 = ap number_of p.1 in
-    (t.0, refl, onward s.0 (subst (LeadsTo lists c) (sym e) p.2) ((told.exact s.0 t.0).1 f))
+    (t.0, refl, onward s.0 t.0 (subst (Leads lists c) (sym e) p.2) ((told.exact s.0 t.0).1 f))
 
 less : (x y : ℕ) → nat_cmp x y ≡ Less → x < y
 less x y e = ranked x y Less (sym e)
 
 -- the numbers found, in order, as properties
-pub above : (n : ℕ) (forms : List Form) (lists : List (List ℕ)) (p : ℕ) (found sorted : List ℕ) (list : List PropId2) → IsAdjacency n forms lists → AreReached lists p found
+pub above : (n : ℕ) (forms : List Form) (lists : List (List ℕ)) (p : ℕ) (found sorted : List ℕ) (list : List PropId2) → IsAdjacency n forms lists → AreFound (λ (m : ℕ). m) (λ (m : ℕ). m) (λ (m place : ℕ). m) (p ∷ []) lists found
     → AllPairs (λ x y. nat_cmp x y ≡ Less) sorted → ((x : ℕ) → Contains sorted x ↔ Contains found x) → list ≡ map as_property sorted → AreAbove forms (as_property p) list
 above n forms lists p found sorted list told reached up like is = record {
   ascending = subst (AllPairs ComesBefore) (sym is) (AllPairs-map ComesBefore as_property sorted (λ i j x y l gx gy.
@@ -99,18 +102,12 @@ above n forms lists p found sorted list told reached up like is = record {
     λ c.
         let at = slice_get-from_Contains (map as_property sorted) q (subst (λ (l : List PropId2). Contains l q) is c) in
         let from = slice_get_map_from as_property sorted at.0 q at.1 in
-        subst (IsAtOrBelow forms (as_property p)) from.2 (lifts n forms lists told p from.0 ((reached from.0).0 ((like from.0).0 (Contains-from_slice_get sorted at.0 from.0 from.1)))),
+        let there = slice_get-from_Contains found from.0 ((like from.0).0 (Contains-from_slice_get sorted at.0 from.0 from.1)) in
+        subst (IsAtOrBelow forms (as_property p)) from.2 (lifts n forms lists told p from.0 (led (λ (m : ℕ). m) (λ (m : ℕ). m) (λ (m place : ℕ). m) (p ∷ []) lists (λ m place. refl) found reached.ways there.0 from.0 there.1)),
     λ h.
         let up_there = below_leads n forms lists told p q h in
-        subst (λ (l : List PropId2). Contains l q) (sym is) (subst (Contains (map as_property sorted)) (sym up_there.1) (Contains-map as_property sorted up_there.0 ((like up_there.0).1 ((reached up_there.0).1 up_there.2)))),
+        let (place, (x, at, e)) = reached.all up_there.0 up_there.2 in
+        let there : Contains found up_there.0 = subst (Contains found) e (Contains-from_slice_get found place x at) in
+        subst (λ (l : List PropId2). Contains l q) (sym is) (subst (Contains (map as_property sorted)) (sym up_there.1) (Contains-map as_property sorted up_there.0 ((like up_there.0).1 there))),
   );
 }
-
--- one list more
-pub one_more_above : (forms : List Form) (k : ℕ) (lists : List (List PropId2)) (list : List PropId2) → length lists ≡ k → ((p : ℕ) → p < k → AreAbove forms (as_property p) (list_at lists p)) → AreAbove forms (as_property k) list
-    → (p : ℕ) → p < k + 1 → AreAbove forms (as_property p) (list_at (lists ++ list ∷ []) p)
-one_more_above forms k lists list long each new p l = go (cases_eq p k)
-  where
-    go : (p ≡ k) ⊎ (p ≡ k → ⊥) → AreAbove forms (as_property p) (list_at (lists ++ list ∷ []) p)
-    go (inl e) = subst (λ i. AreAbove forms (as_property i) (list_at (lists ++ list ∷ []) i)) (sym e) (subst (AreAbove forms (as_property k)) (sym (get_or_push lists list [] k long)) new)
-    go (inr apart) = subst (AreAbove forms (as_property p)) (sym (get_or_append_left lists (list ∷ []) [] p (omega (arith, apart, long)))) (each p (omega (arith, apart)))

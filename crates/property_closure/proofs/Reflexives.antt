@@ -1,5 +1,5 @@
 -- The reflexive properties are those above a property that a form says to be so.
-use Rattle.std.proofs.Common.{◌≡◌, ◌↔◌, ℕ, ◌+◌, ◌<◌, ◌≤◌, ◌⊎◌, inl, inr, Bool, true, List, length, get_or, take, Contains, sym, ap, ◌∙◌, subst, arith}
+use Rattle.std.proofs.Common.{◌≡◌, ◌↔◌, ℕ, ◌+◌, ◌<◌, ◌≤◌, inl, inr, Bool, true, List, length, get_or, take, Contains, sym, ap, ◌∙◌, subst, arith}
 use Rattle.std.specs.Prelude.{slice_set}
 use Rattle.axioms.specs.declared.ids.PropId.{PropId}
 use Rattle.normal_forms.specs.declared.forms.PropId2.{PropId2}
@@ -8,18 +8,14 @@ use Rattle.normal_forms.specs.declared.forms.Form.{Form}
 use Rattle.normal_forms.specs.declared.forms.Form.TheVariants.{N7}
 use Rattle.normal_forms.specs.Properties.{IsAtOrBelow, IsReflexive, same, step}
 use Rattle.number_sets.specs.Members.{has}
-use Rattle.property_closure.specs.Relations.{as_id, as_property, ArePlainWithin, AreAbove}
-use Rattle.property_closure.proofs.Members.{one_more_taken, all_taken, has_within, has_set_same, has_set_grows, has_set_cases}
+use Rattle.property_closure.specs.Relations.{as_id, as_property, ArePlainWithin, AreAbove, HasPut}
+use Rattle.number_sets.proofs.Members.{one_more_taken, all_taken, has_within, has_set_same, has_set_grows, has_set_cases}
 
 -- ---- properties put into a set
 
 abbrev pub number_of : PropId2 → ℕ
 number_of (Property p) = p.0
 number_of (Partial n) = n
-
--- what is a member is one of the start, or one of the first properties
-abbrev pub HasPut : List Bool → List PropId2 → List Bool → Type 0
-HasPut start properties now = (p : ℕ) → p < length start → (has now p ≡ true) ↔ ((has start p ≡ true) ⊎ Contains properties (as_property p))
 
 pub put_more : (start now : List Bool) (properties : List PropId2) (k : ℕ) (d : PropId2) (id : PropId) → k < length properties → get_or properties k d ≡ Property id → length now ≡ length start
     → HasPut start (take k properties) now → HasPut start (take (k + 1) properties) (slice_set now id.0 true)

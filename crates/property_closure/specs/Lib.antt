@@ -1,4 +1,3 @@
-pub mod Search
 pub mod Relations
 pub mod Chains
 pub mod PropertyClosures

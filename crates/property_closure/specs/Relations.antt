@@ -1,5 +1,5 @@
 -- What forms say of properties, by lists.
-use Rattle.std.specs.Prelude.{◌≡◌, ℕ, ◌<◌, ◌↔◌, List, length}
+use Rattle.std.specs.Prelude.{◌≡◌, ℕ, ◌<◌, ◌⊎◌, ◌↔◌, Bool, true, List, length}
 use Rattle.std.specs.List.{AllPairs, Contains}
 use Rattle.axioms.specs.declared.ids.PropId.{PropId}
 use Rattle.normal_forms.specs.declared.forms.PropId2.{PropId2}
@@ -7,6 +7,7 @@ use Rattle.normal_forms.specs.declared.forms.PropId2.TheVariants.{Property}
 use Rattle.normal_forms.specs.declared.forms.Form.{Form}
 use Rattle.normal_forms.specs.declared.forms.Form.TheVariants.{N5, N7}
 use Rattle.normal_forms.specs.Properties.{ComesBefore, IsAtOrBelow}
+use Rattle.number_sets.specs.Members.{has}
 use Rattle.number_sets.specs.Pieces.{list_at}
 
 abbrev pub as_id : ℕ → PropId
@@ -36,3 +37,7 @@ pub record IsAdjacency (bound : ℕ) (forms : List Form) (lists : List (List ℕ
 pub record AreAbove (forms : List Form) (p : PropId2) (list : List PropId2) : Type 0 where
   pub ascending : AllPairs ComesBefore list
   pub exact : (q : PropId2) → Contains list q ↔ IsAtOrBelow forms p q
+
+-- of the numbers below the bound of the set those of these properties were put into it
+abbrev pub HasPut : List Bool → List PropId2 → List Bool → Type 0
+HasPut old properties new = (p : ℕ) → p < length old → (has new p ≡ true) ↔ ((has old p ≡ true) ⊎ Contains properties (as_property p))

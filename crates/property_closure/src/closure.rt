@@ -5,9 +5,9 @@ ghost use Rattle.property_closure.specs.Relations.{as_property};
 ghost use Rattle.std.specs.List.{All, AllPairs};
 ghost use Rattle.std.specs.Prelude.{◌++◌, ◌<◌, ◌↔◌, ◌≡◌, ◌≤◌, ◌^◌, ◌∷◌, [], Contains, IfOk, IsTrue, OnErr, OnOk, Some, false, length, slice_get, vec_capacity, ℕ};
 
-use crate::related::{Related, property_forms_of};
+use crate::related::Related;
 use axioms::{Memory, PropId};
-use normal_forms::{Form, PropId2};
+use normal_forms::{FormList, PropId2};
 use std::alloc::Global;
 use std::marker::Model;
 
@@ -113,7 +113,12 @@ impl PropertyClosure {
     /// # Errors
     ///
     /// `Memory` where memory was refused; then nothing changes.
-    pub fn grow(&mut self, properties: usize, partials: usize, forms: &[Form]) -> Result<(), Memory>
+    pub fn grow(
+        &mut self,
+        properties: usize,
+        partials: usize,
+        forms: &FormList,
+    ) -> Result<(), Memory>
         requires properties { self.old.properties ≤ properties }
         requires partials { self.old.partials ≤ partials }
         requires property_numbers { properties ≤ 2 ^ 32 }
@@ -124,7 +129,7 @@ impl PropertyClosure {
     {
         make_room(&mut self.properties, properties)?;
         make_room(&mut self.partials, partials)?;
-        let added = property_forms_of(self.alloc, forms)?;
+        let added = forms.property_forms()?;
         if !added.is_empty() {
             let before = &self.related.forms;
             self.related = Related::of(self.alloc, properties, partials, before, &added)?;
@@ -190,7 +195,7 @@ pub fn close(
     alloc: Global,
     properties: usize,
     partials: usize,
-    forms: &[Form],
+    forms: &FormList,
 ) -> Result<PropertyClosure, Memory>
     requires property_numbers { properties ≤ 2 ^ 32 }
     requires partial_numbers { partials ≤ 2 ^ 32 }

@@ -5,7 +5,6 @@ mod chains;
 mod closure;
 mod reflexive;
 mod related;
-mod search;
 mod supers;
 
 pub use closure::{PropertyClosure, close};

@@ -1,9 +1,9 @@
 //! The reflexive properties.
 ghost use Rattle.number_sets.specs.Members.{has};
 ghost use Rattle.number_sets.specs.Pieces.{list_at};
-ghost use Rattle.property_closure.specs.Relations.{AreAbove, ArePlainWithin, AreReflexiveWithin, as_property};
+ghost use Rattle.property_closure.specs.Relations.{AreAbove, ArePlainWithin, AreReflexiveWithin, HasPut, as_property};
 ghost use Rattle.normal_forms.specs.Properties.{IsReflexive};
-ghost use Rattle.std.specs.Prelude.{◌<◌, ◌↔◌, ◌≡◌, ◌⊎◌, Contains, IfOk, length, true, ℕ};
+ghost use Rattle.std.specs.Prelude.{◌<◌, ◌↔◌, ◌≡◌, IfOk, length, true, ℕ};
 
 use axioms::Memory;
 use normal_forms::{Form, PropId2};
@@ -13,7 +13,7 @@ use std::alloc::Global;
 /// Puts the numbers of these properties into the set.
 fn put_each(set: &mut EpochSet, properties: &[PropId2])
     ensures length { length set.new ≡ length set.old }
-    ensures each { (p : ℕ) → p < length set.old → (has set.new p ≡ true) ↔ ((has set.old p ≡ true) ⊎ Contains properties.now (as_property p)) }
+    ensures each { HasPut set.old properties.now set.new }
 {
     for property in properties {
         if let PropId2::Property(id) = property {

@@ -1,5 +1,5 @@
 //! What forms say of properties, worked out.
-ghost use Rattle.normal_forms.specs.Properties.{IsPropertyFormOf, property_forms};
+ghost use Rattle.normal_forms.specs.Properties.{IsPropertyFormOf};
 ghost use Rattle.property_closure.specs.PropertyClosures.{IsRelated};
 ghost use Rattle.std.specs.List.{All};
 ghost use Rattle.std.specs.Prelude.{◌++◌, ◌≡◌, ◌≤◌, ◌^◌, [], IfOk};
@@ -20,18 +20,6 @@ pub(crate) struct Related {
     pub supers: PackedLists<PropId2>,
     pub reflexive: EpochSet,
     pub chains: Chains,
-}
-
-pub(crate) fn property_forms_of(alloc: Global, forms: &[Form]) -> Result<Vec<Form>, Memory>
-    ensures { IfOk result (λ v. v.items ≡ property_forms forms.now) }
-{
-    let mut kept = Vec::new(alloc);
-    for form in forms {
-        if form.is_of_properties() {
-            kept.push(*form)?;
-        }
-    }
-    Ok(kept)
 }
 
 /// Both lists, one behind the other.

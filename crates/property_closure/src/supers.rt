@@ -3,10 +3,9 @@ ghost use Rattle.number_sets.specs.Pieces.{list_at};
 ghost use Rattle.property_closure.specs.Relations.{AreAbove, ArePlainWithin, IsAdjacency, as_property};
 ghost use Rattle.std.specs.Prelude.{◌<◌, ◌≡◌, ◌≤◌, ◌^◌, IfOk, length, map, ℕ};
 
-use crate::search::Search;
 use axioms::{Memory, PropId};
 use normal_forms::{Form, PropId2};
-use number_sets::{OpenLists, PackedLists, sort_ascending};
+use number_sets::{NumberSearch, OpenLists, PackedLists, sort_ascending};
 use std::alloc::Global;
 
 /// For each property those that a plain form puts directly above it.
@@ -45,10 +44,10 @@ pub(crate) fn all_supers(
     ensures each { IfOk result (λ l. (p : ℕ) → p < properties → AreAbove forms.now (as_property p) (list_at l p)) }
 {
     let told = told_supers(alloc, properties, forms)?;
-    let mut search = Search::new(alloc, properties)?;
+    let mut search = NumberSearch::new(alloc, properties)?;
     let mut supers = PackedLists::new(alloc);
     for property in 0..properties {
-        search.run(&told, property as u32)?;
+        search.run(&told, &[property as u32])?;
         sort_ascending(&mut search.found);
         supers.push_list(&as_properties(alloc, &search.found)?)?;
     }

@@ -1,6 +1,6 @@
 use Rattle.std.proofs.Common.{◌≡◌, ℕ, List, ◌+◌, sym, subst, arith}
-use Rattle.generated_part.specs.Elements.{prop_id, ArePairsAt}
-use Rattle.generated_part.proofs.Rows.{AddsTargets, one_property}
+use Rattle.generated_part.specs.Elements.{prop_id, AddsTargets, ArePairsAt}
+use Rattle.generated_part.proofs.Rows.{one_property}
 use Rattle.generated_part.proofs.by_element.pairs_at.Goals as goal
 
 pub loop-number-preserved : goal.loop-number-preserved

@@ -1,5 +1,6 @@
 use Rattle.std.proofs.Common.{◌+◌, take, sym, subst}
-use Rattle.generated_part.proofs.Rows.{AddsTargets, one_target, all_targets}
+use Rattle.generated_part.specs.Elements.{AddsTargets}
+use Rattle.generated_part.proofs.Rows.{one_target, all_targets}
 use Rattle.generated_part.proofs.by_element.push_targets.Goals as goal
 
 pub loop-target-preserved : goal.loop-target-preserved

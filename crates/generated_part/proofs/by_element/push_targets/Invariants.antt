@@ -1,5 +1,5 @@
 use Rattle.std.proofs.Common.{take}
-use Rattle.generated_part.proofs.Rows.{AddsTargets}
+use Rattle.generated_part.specs.Elements.{AddsTargets}
 use Rattle.generated_part.proofs.by_element.push_targets.Given as goal
 
 abbrev pub invariant-loop-target : goal.invariant-loop-target

@@ -1,4 +1,4 @@
-use Rattle.generated_part.proofs.Absent.{none_there}
+use Rattle.number_sets.proofs.Absent.{none_there}
 use Rattle.generated_part.proofs.by_element.targets_of.Goals as goal
 
 pub returns-in-None : goal.returns-in-None

@@ -19,7 +19,7 @@ reached-requires-clause-others c =
 pub part_of-requires-clause-pairs : goal.part_of-requires-clause-pairs
 part_of-requires-clause-pairs c = λ x y r h.
     let (i, v, by, l) = c.requires.rows in
-    let low = pairs_bounded c.args.ontology.now c.well_formed-2.ensures i v c.args.rows.now by x y r h in
+    let low : y < length c.args.rows.now.pairs = pairs_bounded c.args.ontology.now c.well_formed-2.ensures i v c.args.rows.now by x (r, y) h in
     omega (arith, low, c.in_ok-marks.ensures.wide, c.in_ok-chosen.ensures.long)
 
 pub part_of-requires-clause-individuals : goal.part_of-requires-clause-individuals

@@ -2,7 +2,7 @@ use Rattle.std.proofs.Common.{◌+◌, length, sym, ap, ◌∙◌, subst, subst�
 use Rattle.normal_forms.specs.declared.forms.Form.TheVariants.{N6}
 use Rattle.normal_forms.specs.Properties.{IsPropertyOf}
 use Rattle.property_closure.specs.declared.chains.OpenChains.{OpenChains}
-use Rattle.property_closure.proofs.Members.{member_at}
+use Rattle.number_sets.proofs.Members.{member_at}
 use Rattle.property_closure.proofs.ChainLists.{AreChainsUpTo, chains_more, chains_same, chains_of}
 use Rattle.property_closure.proofs.chains.open_chains.Goals as goal
 use Rattle.property_closure.proofs.chains.open_chains.Goals.{in-N6+in_ok-add, in_default}

@@ -1,6 +1,6 @@
 use Rattle.std.proofs.Common.{arith}
 use Rattle.std.proofs.lemmas.Option.{slice_get_within}
-use Rattle.property_closure.proofs.Members.{one_taken}
+use Rattle.number_sets.proofs.Members.{one_taken}
 use Rattle.property_closure.proofs.closure.alone.Goals as goal
 
 pub returns-then-place-list-clause-there : goal.returns-then-place-list-clause-there

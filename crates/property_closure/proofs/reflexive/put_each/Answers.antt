@@ -2,7 +2,8 @@ use Rattle.std.proofs.Common.{◌≡◌, ◌+◌, List, length, take, true, sym,
 use Rattle.std.proofs.lemmas.List.{length-set, take_all}
 use Rattle.std.specs.Prelude.{slice_set}
 use Rattle.normal_forms.specs.declared.forms.PropId2.{PropId2}
-use Rattle.property_closure.proofs.Reflexives.{HasPut, put_more, put_same}
+use Rattle.property_closure.specs.Relations.{HasPut}
+use Rattle.property_closure.proofs.Reflexives.{put_more, put_same}
 use Rattle.property_closure.proofs.reflexive.put_each.Goals as goal
 use Rattle.property_closure.proofs.reflexive.put_each.Goals.{in-Property, in_default}
 

@@ -3,7 +3,7 @@ use Rattle.normal_forms.specs.declared.forms.PropId2.TheVariants.{Property}
 use Rattle.normal_forms.specs.declared.forms.Form.TheVariants.{N7}
 use Rattle.number_sets.specs.Pieces.{list_at}
 use Rattle.property_closure.specs.Relations.{AreAbove}
-use Rattle.property_closure.proofs.Members.{member_at}
+use Rattle.number_sets.proofs.Members.{member_at}
 use Rattle.property_closure.proofs.Reflexives.{AreDeclared, declared_more, declared_same, declared_all}
 use Rattle.property_closure.proofs.reflexive.reflexive_properties.Goals as goal
 use Rattle.property_closure.proofs.reflexive.reflexive_properties.Goals.{in-N7, in_default}

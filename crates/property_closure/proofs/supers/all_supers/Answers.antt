@@ -3,7 +3,8 @@ use Rattle.std.proofs.lemmas.List.{length_push}
 use Rattle.normal_forms.specs.declared.forms.PropId2.{PropId2}
 use Rattle.number_sets.specs.Pieces.{list_at}
 use Rattle.property_closure.specs.Relations.{AreAbove, as_property}
-use Rattle.property_closure.proofs.Plain.{above, bounded, one_more_above}
+use Rattle.number_sets.proofs.Members.{each_more}
+use Rattle.property_closure.proofs.Plain.{above, bounded}
 use Rattle.property_closure.proofs.supers.all_supers.Goals as goal
 
 pub run-requires-clause-bounded : goal.run-requires-clause-bounded
@@ -21,8 +22,8 @@ loop-property-preserved c =
     let list_is : list ≡ map as_property sorted =
     c.deref-in-loop-property.ensures.value ∙ c.in_ok-as_properties.ensures ∙ ap (map as_property) c.deref.ensures.value in
     let is : c.push_list.new.self ≡ lists ++ list ∷ [] = c.in_ok-push_list.ensures.ok in
-    let new = above c.args.properties forms c.in_ok-told.told k c.run.new.self.found.items sorted list c.in_ok-told.ensures c.in_ok-run.ensures.reached c.sort_ascending.ensures.ascending c.sort_ascending.ensures.same list_is in record {
+    let new = above c.args.properties forms c.in_ok-told.told k c.run.new.self.found.items sorted list c.in_ok-told.ensures c.in_ok-run.ensures.found c.sort_ascending.ensures.ascending c.sort_ascending.ensures.same list_is in record {
       long = omega (arith, ap length is, length_push lists list, before.long);
       wide = c.in_ok-run.ensures.wide;
-      each = λ p l. subst (λ (now : List (List PropId2)). AreAbove forms (as_property p) (list_at now p)) (sym is) (one_more_above forms k lists list before.long before.each new p l);
+      each = λ p l. subst (λ (now : List (List PropId2)). AreAbove forms (as_property p) (list_at now p)) (sym is) (each_more (λ n. AreAbove forms (as_property n)) lists list k before.long before.each new p l);
     }

@@ -4,7 +4,7 @@ use Rattle.std.specs.Prelude.{slice_set}
 use Rattle.normal_forms.specs.declared.forms.Form.TheVariants.{N5}
 use Rattle.number_sets.specs.Pieces.{list_at}
 use Rattle.property_closure.specs.Relations.{as_id, Tells}
-use Rattle.property_closure.proofs.Members.{all_taken, member_at}
+use Rattle.number_sets.proofs.Members.{all_taken, member_at}
 use Rattle.property_closure.proofs.Plain.{told_more, told_same}
 use Rattle.property_closure.proofs.supers.told_supers.Goals as goal
 use Rattle.property_closure.proofs.supers.told_supers.Goals.{in-N5+in_ok-push, in_default}

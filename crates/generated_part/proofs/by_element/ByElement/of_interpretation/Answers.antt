@@ -4,7 +4,8 @@ use Rattle.axioms.specs.declared.ids.ClassId.{ClassId}
 use Rattle.axioms.specs.declared.ids.PropId.{PropId}
 use Rattle.number_sets.specs.Pieces.{list_at}
 use Rattle.generated_part.specs.Elements.{AreClassesAt, ArePairsAt}
-use Rattle.generated_part.proofs.Rows.{each_more, by_element}
+use Rattle.number_sets.proofs.Members.{each_more}
+use Rattle.generated_part.proofs.Rows.{by_element}
 use Rattle.generated_part.proofs.by_element.ByElement.of_interpretation.Goals as goal
 
 pub loop-element-preserved : goal.loop-element-preserved

@@ -1,20 +1,11 @@
-use Rattle.std.proofs.Common.{◌≡◌, length, sym, ap, ◌∙◌, arith}
-use Rattle.number_sets.proofs.Bits.{has_bits, length_bits, as_many_words}
+use Rattle.std.proofs.Common.{true}
+use Rattle.number_sets.proofs.Rows.{as_many, each_member}
 use Rattle.number_sets.proofs.row.Row.is_subset.Goals as goal
 
 pub is_within-requires : goal.is_within-requires
 is_within-requires c =
-    let n = c.self.inside.len in
-    let m = c.other.inside.len in
-    let old = c.self.inside.words.items in
-    let other = c.other.inside.words.items in
-    let same : n ≡ m = omega (arith, length_bits n old, length_bits m other, ap length c.self.view_is, ap length c.other.view_is, c.requires) in
-    ap length c.deref.ensures.value ∙ as_many_words n m old other c.self.invariant c.other.invariant same ∙ sym (ap length c.deref-2.ensures.value)
+    as_many c.self.invariant c.other.invariant c.self.view_is c.other.view_is c.requires c.deref.ensures.value c.deref-2.ensures.value
 
 pub returns : goal.returns
 returns c =
-    let this = has_bits c.self.inside.len c.self.inside.words.items c.self.invariant in
-    let that = has_bits c.other.inside.len c.other.inside.words.items c.other.invariant in
-    let (f, b) = rw (c.deref.ensures.value, c.deref-2.ensures.value) at c.is_within.ensures in
-    rw (← c.self.view_is, ← c.other.view_is)
-    (λ t k h. that k ∙ f t k (sym (this k) ∙ h), λ h. b (λ k t. sym (that k) ∙ h k (this k ∙ t)))
+    each_member true c.self.invariant c.other.invariant c.self.view_is c.other.view_is c.deref.ensures.value c.deref-2.ensures.value c.is_within.ensures

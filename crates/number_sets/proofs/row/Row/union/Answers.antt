@@ -1,46 +1,23 @@
-use Rattle.std.proofs.Common.{◌≡◌, ℕ, List, Bool, ◌||◌, bit_or, length, get_or, refl, sym, ap, ap₂, ◌∙◌, subst, arith}
+use Rattle.std.proofs.Common.{Bool, ◌||◌, bit_or, refl, ◌∙◌}
 use Rattle.std.proofs.lemmas.List.{with_items_is}
-use Rattle.number_sets.specs.Members.{has}
-use Rattle.number_sets.specs.Words.{bits_of, IsRow}
-use Rattle.number_sets.proofs.Bits.{length_bits, as_many_words, combined, or_bit}
+use Rattle.number_sets.proofs.Bits.{or_bit}
+use Rattle.number_sets.proofs.Rows.{as_many, rows_combined}
 use Rattle.number_sets.proofs.row.Row.union.Goals as goal
 
 pub union_words-requires : goal.union_words-requires
 union_words-requires c =
-    let n = c.self.inside.len in
-    let m = c.other.inside.len in
-    let old = c.self.inside.words.items in
-    let other = c.other.inside.words.items in
-    let same : n ≡ m = omega (arith, length_bits n old, length_bits m other, ap length c.self.view_is, ap length c.other.view_is, c.requires) in
-    ap length c.deref_mut.ensures.value ∙ as_many_words n m old other c.self.invariant c.other.invariant same ∙ sym (ap length c.deref.ensures.value)
+    as_many c.self.invariant c.other.invariant c.self.view_is c.other.view_is c.requires c.deref_mut.ensures.value c.deref.ensures.value
 
 pub invariant_of-self : goal.invariant_of-self
 invariant_of-self c =
-    let n = c.self.inside.len in
-    let m = c.other.inside.len in
-    let old = c.self.inside.words.items in
-    let other = c.other.inside.words.items in
-    let new = c.union_words.new.a in
-    let same : n ≡ m = omega (arith, length_bits n old, length_bits m other, ap length c.self.view_is, ap length c.other.view_is, c.requires) in
-    let words : (k : ℕ) → get_or new k 0 ≡ bit_or (get_or old k 0) (get_or other k 0) = λ k. rw (← c.deref_mut.ensures.value, ← c.deref.ensures.value) (c.union_words.ensures k) in
-    let all = combined (λ (a b : Bool). a || b) refl (bit_or) or_bit n m old new other c.self.invariant c.other.invariant same (c.union_words.auto.a ∙ ap length c.deref_mut.ensures.value) words in
-    subst (IsRow n) (sym (with_items_is c.self.inside.words new (c.union_words.auto.a ∙ c.deref_mut.ensures.len))) all.row
+    let all =
+    rows_combined (λ (a b : Bool). a || b) refl bit_or or_bit c.self.invariant c.other.invariant c.self.view_is c.other.view_is c.requires c.deref_mut.ensures.value c.deref.ensures.value
+    c.union_words.auto.a c.union_words.ensures (with_items_is c.self.inside.words c.union_words.new.a (c.union_words.auto.a ∙ c.deref_mut.ensures.len)) in
+    all.row
 
 pub returns : goal.returns
 returns c =
-    let n = c.self.inside.len in
-    let m = c.other.inside.len in
-    let old = c.self.inside.words.items in
-    let other = c.other.inside.words.items in
-    let new = c.union_words.new.a in
-    let same : n ≡ m = omega (arith, length_bits n old, length_bits m other, ap length c.self.view_is, ap length c.other.view_is, c.requires) in
-    let words : (k : ℕ) → get_or new k 0 ≡ bit_or (get_or old k 0) (get_or other k 0) = λ k. rw (← c.deref_mut.ensures.value, ← c.deref.ensures.value) (c.union_words.ensures k) in
-    let all = combined (λ (a b : Bool). a || b) refl (bit_or) or_bit n m old new other c.self.invariant c.other.invariant same (c.union_words.auto.a ∙ ap length c.deref_mut.ensures.value) words in
-    let is = with_items_is c.self.inside.words new (c.union_words.auto.a ∙ c.deref_mut.ensures.len) in
-    record {
-      len = ap (λ (ws : List ℕ). length (bits_of n ws)) is ∙ all.len ∙ ap length c.self.view_is;
-      members = λ k.
-          ap (λ (ws : List ℕ). has (bits_of n ws) k) is
-          ∙ all.members k
-          ∙ ap₂ (λ (a b : Bool). a || b) (ap (λ (row : List Bool). has row k) c.self.view_is) (ap (λ (row : List Bool). has row k) c.other.view_is);
-    }
+    let all =
+    rows_combined (λ (a b : Bool). a || b) refl bit_or or_bit c.self.invariant c.other.invariant c.self.view_is c.other.view_is c.requires c.deref_mut.ensures.value c.deref.ensures.value
+    c.union_words.auto.a c.union_words.ensures (with_items_is c.self.inside.words c.union_words.new.a (c.union_words.auto.a ∙ c.deref_mut.ensures.len)) in
+    record { len = all.len; members = all.members }

@@ -2,15 +2,12 @@
 use Rattle.std.proofs.Common.{◌≡◌, ◌↔◌, ℕ, zero, suc, ◌+◌, ◌-◌, ◌<◌, ◌≤◌, Bool, true, false, ◌⊎◌, inl, inr, ⊎_elim, List, [], ◌∷◌, ◌++◌, length, get_or, set, take, drop, replicate, slice_get, Some, Contains, eqb, sym, ap, ◌∙◌, subst, arith}
 use Rattle.std.specs.Prelude.{slice_set}
 use Rattle.std.proofs.lemmas.Bool.{cases_eq, cases_lt, both_ways, eqb-true, ne_eqb, or_cases, false≢true}
-use Rattle.std.proofs.lemmas.List.{get_or-set_same, get_or-set_other, get_or_past, get_or-replicate, length-replicate, take_more, take_all}
+use Rattle.std.proofs.lemmas.List.{get_or_push, get_or_append_left, get_or-set_same, get_or-set_other, get_or_past, get_or-replicate, length-replicate, take_more, take_all}
 use Rattle.std.proofs.lemmas.List.Elements.{Contains-append_left, Contains-get_or, Contains-push, Contains-push_cases}
 use Rattle.std.specs.List.{list_any}
 use Rattle.std.proofs.lemmas.Option.{none-some, same_Some, slice_get-get_or}
 use Rattle.std.proofs.lemmas.Map.Keys.{IsDistinct-from_apart}
 use Rattle.std.proofs.lemmas.Map.Steps.{length-le_from_distinct_below}
-use Rattle.lemmas.proofs.Members.{Contains-from_slice_get}
-use Rattle.lemmas.proofs.Places.{slice_get_push_cases}
-use Rattle.axioms.specs.WellFormedness.{AreDistinct}
 use Rattle.number_sets.specs.Members.{has}
 use Rattle.number_sets.specs.Pieces.{list_at}
 
@@ -58,6 +55,14 @@ list_at_none {X} n k = elim (cases_lt k n) [
   | inr l ↦ get_or_past (replicate n []) k [] (omega (arith, length-replicate {A = List X} n []))
 ]
 
+-- what is said of each list by its number is said of one more too
+pub each_more : {X : Type 0} (P : ℕ → List X → Type 0) (lists : List (List X)) (list : List X) (n : ℕ) → length lists ≡ n
+    → ((k : ℕ) → k < n → P k (list_at lists k)) → P n list → (k : ℕ) → k < n + 1 → P k (list_at (lists ++ list ∷ []) k)
+each_more {X} P lists list n long before last k low = elim (cases_eq k n) [
+  | inl e ↦ subst (λ i. P i (list_at (lists ++ list ∷ []) i)) (sym e) (subst (P n) (sym (get_or_push lists list [] n long)) last)
+  | inr apart ↦ subst (P k) (sym (get_or_append_left lists (list ∷ []) [] k (omega (arith, apart, low, long)))) (before k (omega (arith, apart, low)))
+]
+
 -- ---- prefixes of lists
 
 -- one element more of a list
@@ -91,20 +96,6 @@ none_taken xs x c = omega (arith, c.1)
 pub all_taken : {X : Type 0} (xs : List X) (k : ℕ) (x : X) → length xs ≤ k → Contains (take k xs) x ↔ Contains xs x
 all_taken {X} xs k x l = (λ c. subst (λ (ys : List X). Contains ys x) (take_all k xs l) c, λ c. subst (λ (ys : List X). Contains ys x) (sym (take_all k xs l)) c)
 
--- a list without repeats keeps none when what it lacks is added
-pub AreDistinct-push : {X : Type 0} (xs : List X) (y : X) → AreDistinct xs → (Contains xs y → ⊥) → AreDistinct (xs ++ y ∷ [])
-AreDistinct-push xs y apart new m n x g h =
-    elim (slice_get_push_cases xs y m x g) [
-      | inl a ↦ elim (slice_get_push_cases xs y n x h) [
-        | inl b ↦ apart m n x a b
-        | inr b ↦ absurd (new (subst (Contains xs) (sym b.1) (Contains-from_slice_get xs m x a)))
-      ]
-      | inr a ↦ elim (slice_get_push_cases xs y n x h) [
-        | inl b ↦ absurd (new (subst (Contains xs) (sym a.1) (Contains-from_slice_get xs n x b)))
-        | inr b ↦ a.0 ∙ sym b.0
-      ]
-    ]
-
 -- ---- sets of numbers
 
 pub has_within : (row : List Bool) (d : ℕ) → has row d ≡ true → d < length row
@@ -133,7 +124,7 @@ has_set_cases row d e h =
     ]
 
 -- different numbers below n are at most n
-pub length-le_from_below : (xs : List ℕ) (n : ℕ) → AreDistinct xs → ((k d : ℕ) → slice_get xs k ≡ Some d → d < n) → length xs ≤ n
+pub length-le_from_below : (xs : List ℕ) (n : ℕ) → ((m n x : ℕ) → slice_get xs m ≡ Some x → slice_get xs n ≡ Some x → m ≡ n) → ((k d : ℕ) → slice_get xs k ≡ Some d → d < n) → length xs ≤ n
 length-le_from_below xs n apart within =
     length-le_from_distinct_below xs n
     (IsDistinct-from_apart eqb xs (λ i j d l k. ne_eqb (get_or xs i d) (get_or xs j d) (λ e. absurd (different i j d l k e))))
