@@ -1,5 +1,5 @@
 -- Two classes that are stated disjoint, in either order.
-use Rattle.std.proofs.Common.{◌≡◌, ℕ, ◌<◌, List, Contains, slice_get, Some, inl, inr, arith}
+use Rattle.std.proofs.Common.{ℕ, List, Contains, inl, inr, arith}
 use Rattle.std.proofs.lemmas.Bool.{cases_lt}
 use Rattle.axioms.specs.Ontology.{Ontology, AtTwoPlaces, DisjointClasses, nothing}
 use Rattle.normal_forms.specs.Forms.{Whole, IsForm}

@@ -1,4 +1,5 @@
 pub mod Facts
 pub mod Least
+pub mod Names
 pub mod Said
 pub mod Disjoint

@@ -1,78 +1,32 @@
 -- The facts over numbers say exactly the facts of the closure.
-use Rattle.std.proofs.Common.{◌≡◌, ℕ, List, [], ◌∷◌, slice_get, Some, None, Option, Contains, refl, sym, ap, ◌∙◌, subst}
-use Rattle.std.proofs.lemmas.Option.{same_Some}
+use Rattle.std.proofs.Common.{◌≡◌, ℕ, List, [], ◌∷◌, slice_get, Some, None, Option, Contains, refl, sym, ◌∙◌, subst}
 use Rattle.lemmas.proofs.Members.{Contains-from_slice_get, slice_get-from_Contains}
 use Rattle.axioms.specs.Ontology.{Ontology, thing, nothing}
 use Rattle.axioms.specs.declared.ids.ExprId.{ExprId}
 use Rattle.axioms.specs.declared.ids.PropId.{PropId}
-use Rattle.axioms.specs.declared.ids.IndId.{IndId}
-use Rattle.normal_forms.specs.declared.forms.Class2 as code_class
 use Rattle.normal_forms.specs.declared.forms.Class2.TheVariants as classes
 use Rattle.normal_forms.specs.declared.forms.PropId2 as code_property
 use Rattle.normal_forms.specs.declared.forms.PropId2.TheVariants as properties
 use Rattle.normal_forms.specs.declared.forms.Form as code_form
 use Rattle.normal_forms.specs.declared.forms.Form.TheVariants as forms
 use Rattle.normal_forms.specs.Properties as code_below
-use Rattle.normal_forms.specs.Forms.{Class2, Whole, Prefix, Property2, Property, Steps, Form, N1, N2, N3, N4, N5, N6, N7, N8, N9, IsForm}
+use Rattle.normal_forms.specs.Forms.{Class2, Whole, Property2, Property, Form, N1, N2, N3, N4, N5, N6, N7, N8, N9, IsForm}
 use Rattle.facts.specs.declared.contexts.Context as code_context
 use Rattle.facts.specs.declared.contexts.Context.TheVariants as contexts
 use Rattle.facts.specs.declared.contexts.Fact as code_fact
 use Rattle.facts.specs.declared.contexts.Fact.TheVariants as facts
 use Rattle.facts.specs.Closure.{Problem, FromNone, FromOne, FromTwo, Concludes, CarriesBack, IsLoop}
 use Rattle.facts.specs.Closure as numbered
-use Rattle.closure.specs.Closure.{Context, Expression, Individual, Fact, In, Edge, IsRoot, IsContextBy, IsAtOrBelow, Gives, IsFact, AreFacts, given, none, more}
-use Rattle.closure.specs.Denotations.{Prefixes, SaysClass, whole, prefix, SaysProperty, property, steps, SaysContext, expression, individual, SaysFact, in_context, edge, SaysForm, n1, n2, n3, n4, n5, n6, n7, n8, n9, IsProblemOf}
+use Rattle.closure.specs.Closure.{Context, Expression, Individual, Fact, In, Edge, IsContextBy, IsAtOrBelow, Gives, IsFact, AreFacts, given, none, more}
+use Rattle.closure.specs.Denotations.{Prefixes, SaysClass, whole, SaysProperty, property, SaysContext, expression, individual, SaysFact, in_context, edge, SaysForm, n1, n2, n3, n4, n5, n6, n7, n8, n9, IsProblemOf}
+use Rattle.closure.proofs.Names.{class_one, property_one, context_one, same_property, context_same, class_same, property_same}
 
 -- each of the facts says one, in order
 data SayFacts (b : Prefixes) : List code_fact.Fact → List Fact → Type 0 where
   no_facts : SayFacts b [] []
   one_more : {f : code_fact.Fact} {g : Fact} {fs : List code_fact.Fact} {gs : List Fact} → SaysFact b f g → SayFacts b fs gs → SayFacts b (f ∷ fs) (g ∷ gs)
 
--- ---- what is said is one thing
-
-class_one : (b : Prefixes) {a : code_class.Class2} {c d : Class2} → SaysClass b a c → SaysClass b a d → c ≡ d
-class_one b (whole h) (whole k) = ap Whole (sym h ∙ k)
-class_one b (prefix h) (prefix k) = ap Prefix (same_Some _ _ (sym h ∙ k))
-
-property_one : (b : Prefixes) {p : code_property.PropId2} {r s : Property2} → SaysProperty b p r → SaysProperty b p s → r ≡ s
-property_one b (property h) (property k) = ap Property (sym h ∙ k)
-property_one b (steps h) (steps k) = ap Steps (same_Some _ _ (sym h ∙ k))
-
-context_one : {x : code_context.Context} {y z : Context} → SaysContext x y → SaysContext x z → y ≡ z
-context_one (expression h) (expression k) = ap Expression (sym h ∙ k)
-context_one (individual h) (individual k) = ap Individual (sym h ∙ k)
-
-abbrev expr_id : ℕ → ExprId
-expr_id n = record { 0 = n }
-
-abbrev prop_id : ℕ → PropId
-prop_id n = record { 0 = n }
-
-abbrev ind_id : ℕ → IndId
-ind_id n = record { 0 = n }
-
-same_expression : {e f : ExprId} {c : ℕ} → e.0 ≡ c → f.0 ≡ c → e ≡ f
-same_expression h k = ap expr_id (h ∙ sym k)
-
-same_property : {p q : PropId} {r : ℕ} → p.0 ≡ r → q.0 ≡ r → p ≡ q
-same_property h k = ap prop_id (h ∙ sym k)
-
-same_individual : {i j : IndId} {a : ℕ} → i.0 ≡ a → j.0 ≡ a → i ≡ j
-same_individual h k = ap ind_id (h ∙ sym k)
-
-context_same : {x y : code_context.Context} {z : Context} → SaysContext x z → SaysContext y z → x ≡ y
-context_same (expression h) (expression k) = ap contexts.Expr (same_expression h k)
-context_same (individual h) (individual k) = ap contexts.Individual (same_individual h k)
-
 module _ (o : Ontology) (asked : List ℕ) (b : Prefixes) (k : Problem) (h : IsProblemOf o asked b k) where
-  class_same : {a c : code_class.Class2} {d : Class2} → SaysClass b a d → SaysClass b c d → a ≡ c
-  class_same (whole g) (whole l) = ap classes.Expr (same_expression g l)
-  class_same (prefix {n = m} {ds = ds} g) (prefix {n = n} l) = ap classes.Partial (h.distinct_operands m n ds g l)
-
-  property_same : {p q : code_property.PropId2} {r : Property2} → SaysProperty b p r → SaysProperty b q r → p ≡ q
-  property_same (property g) (property l) = ap properties.Property (same_property g l)
-  property_same (steps {n = m} {rs = rs} g) (steps {n = n} l) = ap properties.Partial (h.distinct_steps m n rs g l)
-
   -- the form of that place says a form
   said_form : (n : ℕ) (f : code_form.Form) → slice_get k.forms n ≡ Some f → (g : Form) × SaysForm b f g × IsForm o asked g
   said_form n f at = h.each_form f (Contains-from_slice_get k.forms n f at)
@@ -110,16 +64,16 @@ module _ (o : Ontology) (asked : List ℕ) (b : Prefixes) (k : Problem) (h : IsP
       let (f, there, says_f) = h.all_forms (N5 s t) form in
       step_sayer q says_q below_q f there says_f
 
-  -- where a property over numbers is at or below another, what the two say is so too
-  below_as : {p q : code_property.PropId2} {r s : Property2} → code_below.IsAtOrBelow k.forms p q → SaysProperty b p r → SaysProperty b q s → IsAtOrBelow o asked r s
+  -- a property over numbers is at or below another exactly where what the two say is so
+  pub below_as : {p q : code_property.PropId2} {r s : Property2} → code_below.IsAtOrBelow k.forms p q → SaysProperty b p r → SaysProperty b q s → IsAtOrBelow o asked r s
   below_as {r = r} below says_p says_q =
       let (s', says_s, below_s) = below_said below says_p in
-      subst (IsAtOrBelow o asked r) (property_one b says_s says_q) below_s
+      subst (IsAtOrBelow o asked r) (property_one {b = b} says_s says_q) below_s
 
-  below_by : {p q : code_property.PropId2} {r s : Property2} → IsAtOrBelow o asked r s → SaysProperty b p r → SaysProperty b q s → code_below.IsAtOrBelow k.forms p q
+  pub below_by : {p q : code_property.PropId2} {r s : Property2} → IsAtOrBelow o asked r s → SaysProperty b p r → SaysProperty b q s → code_below.IsAtOrBelow k.forms p q
   below_by {p = p} below says_p says_q =
       let (q', says_s, below_q) = below_sayer below says_p in
-      subst (code_below.IsAtOrBelow k.forms p) (property_same says_s says_q) below_q
+      subst (code_below.IsAtOrBelow k.forms p) (property_same h says_s says_q) below_q
 
   -- ---- each fact over numbers says a fact of the closure
 
@@ -150,43 +104,29 @@ module _ (o : Ontology) (asked : List ℕ) (b : Prefixes) (k : Problem) (h : IsP
   from_none (forms.N9 i r j) f is g (n9 {i' = i'} {j' = j'} {r' = r'} says_i says_r says_j) form =
       let new : Fact = Edge (Individual i') (Property r') (Individual j') in
       (new, subst (λ x. SaysFact b x new) (sym is) (edge (individual says_i) (property says_r) (individual says_j)), Gives.asserted_edge form)
-  from_none (forms.N1 _ _) f is g says form = absurd is
-  from_none (forms.N2 _ _ _) f is g says form = absurd is
-  from_none (forms.N3 _ _ _) f is g says form = absurd is
-  from_none (forms.N4 _ _ _) f is g says form = absurd is
-  from_none (forms.N5 _ _) f is g says form = absurd is
-  from_none (forms.N6 _ _ _) f is g says form = absurd is
-  from_none (forms.N7 _) f is g says form = absurd is
+  from_none _ f is g says form = absurd is
 
   from_one : (form : code_form.Form) (first new : code_fact.Fact) → FromOne form first new → (g : Form) → SaysForm b form g → IsForm o asked g → (f : Fact) → SaysFact b first f → Said new (f ∷ [])
   unfolding Said
   from_one (forms.N1 a c) (facts.In d x) new (same, is) g (n1 {a' = a'} {c' = c'} says_a says_c) form f (in_context {a' = d'} {x' = x'} says_d says_x) =
-      let equal : a' ≡ d' = class_one b (subst (λ e. SaysClass b e a') (sym same) says_a) says_d in
+      let equal : a' ≡ d' = class_one {b = b} (subst (λ e. SaysClass b e a') (sym same) says_a) says_d in
       (In c' x', subst (λ y. SaysFact b y (In c' x')) (sym is) (in_context says_c says_x), Gives.subsumed d' (subst (λ e. IsForm o asked (N1 e c')) equal form))
   from_one (forms.N3 a r e) (facts.In d x) new (same, is) g (n3 {a' = a'} {r' = r'} {e' = e'} says_a says_r says_e) form f (in_context {a' = d'} {x' = x'} says_d says_x) =
-      let equal : a' ≡ d' = class_one b (subst (λ c. SaysClass b c a') (sym same) says_a) says_d in
+      let equal : a' ≡ d' = class_one {b = b} (subst (λ c. SaysClass b c a') (sym same) says_a) says_d in
       let given' : Fact = Edge x' (Property r') (Expression e') in
       (given', subst (λ y. SaysFact b y given') (sym is) (edge says_x (property says_r) (expression says_e)), Gives.successor d' (subst (λ c. IsForm o asked (N3 c r' e')) equal form))
-  from_one (forms.N1 _ _) (facts.Edge _ _ _) new is g says form f says_f = absurd is
-  from_one (forms.N3 _ _ _) (facts.Edge _ _ _) new is g says form f says_f = absurd is
-  from_one (forms.N2 _ _ _) first new is g says form f says_f = absurd is
-  from_one (forms.N4 _ _ _) first new is g says form f says_f = absurd is
-  from_one (forms.N5 _ _) first new is g says form f says_f = absurd is
-  from_one (forms.N6 _ _ _) first new is g says form f says_f = absurd is
-  from_one (forms.N7 _) first new is g says form f says_f = absurd is
-  from_one (forms.N8 _ _) first new is g says form f says_f = absurd is
-  from_one (forms.N9 _ _ _) first new is g says form f says_f = absurd is
+  from_one _ _ new is g says form f says_f = absurd is
 
   from_two : (form : code_form.Form) (first second new : code_fact.Fact) → FromTwo k form first second new → (g : Form) → SaysForm b form g → IsForm o asked g → (f l : Fact) → SaysFact b first f → SaysFact b second l → Said new (f ∷ l ∷ [])
   unfolding Said
   from_two (forms.N2 a c d) (facts.In e x) (facts.In j y) new (same_a, same_c, same_x, is) g (n2 {a' = a'} {c' = c'} {d' = d'} says_a says_c says_d) form f l (in_context {a' = e'} {x' = x'} says_e says_x) (in_context {a' = j'} {x' = y'} says_j says_y) =
-      let first_is : a' ≡ e' = class_one b (subst (λ z. SaysClass b z a') (sym same_a) says_a) says_e in
-      let second_is : c' ≡ j' = class_one b (subst (λ z. SaysClass b z c') (sym same_c) says_c) says_j in
+      let first_is : a' ≡ e' = class_one {b = b} (subst (λ z. SaysClass b z a') (sym same_a) says_a) says_e in
+      let second_is : c' ≡ j' = class_one {b = b} (subst (λ z. SaysClass b z c') (sym same_c) says_c) says_j in
       let context_is : x' ≡ y' = context_one says_x (subst (λ z. SaysContext z y') (sym same_x) says_y) in
       let form' : IsForm o asked (N2 e' j' d') = subst (λ z. IsForm o asked (N2 e' z d')) second_is (subst (λ z. IsForm o asked (N2 z c' d')) first_is form) in
       (In d' x', subst (λ z. SaysFact b z (In d' x')) (sym is) (in_context says_d says_x), subst (λ z. Gives o asked (In e' x' ∷ In j' z ∷ []) (In d' x')) context_is (Gives.both e' j' form'))
   from_two (forms.N4 r a c) (facts.Edge x q y) (facts.In d z) new (below, same_a, same_y, is) g (n4 {a' = a'} {c' = c'} {r' = r'} says_r says_a says_c) form f l (edge {x' = x'} {y' = y'} {r' = q'} says_x says_q says_y) (in_context {a' = d'} {x' = z'} says_d says_z) =
-      let class_is : a' ≡ d' = class_one b (subst (λ w. SaysClass b w a') (sym same_a) says_a) says_d in
+      let class_is : a' ≡ d' = class_one {b = b} (subst (λ w. SaysClass b w a') (sym same_a) says_a) says_d in
       let context_is : y' ≡ z' = context_one says_y (subst (λ w. SaysContext w z') (sym same_y) says_z) in
       let form' : IsForm o asked (N4 r' d' c') = subst (λ w. IsForm o asked (N4 r' w c')) class_is form in (
         In c' x',
@@ -200,18 +140,7 @@ module _ (o : Ontology) (asked : List ℕ) (b : Prefixes) (k : Problem) (h : IsP
         subst (λ v. SaysFact b v new') (sym is) (edge says_x says_t says_w),
         subst (λ v. Gives o asked (Edge x' p' y' ∷ Edge v q' w' ∷ []) new') context_is (Gives.chained r' s' p' q' y' form (below_as below_r says_p says_r) (below_as below_s says_q says_s)),
       )
-  from_two (forms.N2 _ _ _) (facts.Edge _ _ _) second new is g says form f l says_f says_l = absurd is
-  from_two (forms.N2 _ _ _) (facts.In _ _) (facts.Edge _ _ _) new is g says form f l says_f says_l = absurd is
-  from_two (forms.N4 _ _ _) (facts.In _ _) second new is g says form f l says_f says_l = absurd is
-  from_two (forms.N4 _ _ _) (facts.Edge _ _ _) (facts.Edge _ _ _) new is g says form f l says_f says_l = absurd is
-  from_two (forms.N6 _ _ _) (facts.In _ _) second new is g says form f l says_f says_l = absurd is
-  from_two (forms.N6 _ _ _) (facts.Edge _ _ _) (facts.In _ _) new is g says form f l says_f says_l = absurd is
-  from_two (forms.N1 _ _) first second new is g says form f l says_f says_l = absurd is
-  from_two (forms.N3 _ _ _) first second new is g says form f l says_f says_l = absurd is
-  from_two (forms.N5 _ _) first second new is g says form f l says_f says_l = absurd is
-  from_two (forms.N7 _) first second new is g says form f l says_f says_l = absurd is
-  from_two (forms.N8 _ _) first second new is g says form f l says_f says_l = absurd is
-  from_two (forms.N9 _ _ _) first second new is g says form f l says_f says_l = absurd is
+  from_two _ _ _ new is g says form f l says_f says_l = absurd is
 
   concluded : {fs : List code_fact.Fact} {gs : List Fact} (form : code_form.Form) (new : code_fact.Fact) → Concludes k form fs new → SayFacts b fs gs → (g : Form) → SaysForm b form g → IsForm o asked g → Said new gs
   concluded form new is no_facts g says found = from_none form new is g says found
@@ -227,7 +156,7 @@ module _ (o : Ontology) (asked : List ℕ) (b : Prefixes) (k : Problem) (h : IsP
   carried new (one_more (in_context _ _) (one_more also no_facts)) is = absurd is
   carried new (one_more (edge _ _ _) (one_more (edge _ _ _) no_facts)) is = absurd is
   carried new (one_more (edge {x' = x'} {y' = y'} {r' = r'} says_x says_r says_y) (one_more (in_context {a' = c'} {x' = z'} says_c says_z) no_facts)) (same_c, same_y, is) =
-      let class_is : Whole nothing ≡ c' = class_one b (whole refl) (subst (λ w. SaysClass b w c') same_c says_c) in
+      let class_is : Whole nothing ≡ c' = class_one {b = b} (whole refl) (subst (λ w. SaysClass b w c') same_c says_c) in
       let context_is : y' ≡ z' = context_one says_y (subst (λ w. SaysContext w z') (sym same_y) says_z) in (
         In (Whole nothing) x',
         subst (λ w. SaysFact b w (In (Whole nothing) x')) (sym is) (in_context (whole refl) says_x),
@@ -240,14 +169,7 @@ module _ (o : Ontology) (asked : List ℕ) (b : Prefixes) (k : Problem) (h : IsP
   looped x (forms.N7 r) new is y says_x by g (n7 {r' = r'} says_r) form =
       let loop' : Fact = Edge y (Property r') y in
       (loop', subst (λ w. SaysFact b w loop') (sym is) (edge says_x (property says_r) says_x), Gives.loop r' form by)
-  looped x (forms.N1 _ _) new is y says_x by g says form = absurd is
-  looped x (forms.N2 _ _ _) new is y says_x by g says form = absurd is
-  looped x (forms.N3 _ _ _) new is y says_x by g says form = absurd is
-  looped x (forms.N4 _ _ _) new is y says_x by g says form = absurd is
-  looped x (forms.N5 _ _) new is y says_x by g says form = absurd is
-  looped x (forms.N6 _ _ _) new is y says_x by g says form = absurd is
-  looped x (forms.N8 _ _) new is y says_x by g says form = absurd is
-  looped x (forms.N9 _ _ _) new is y says_x by g says form = absurd is
+  looped x _ new is y says_x by g says form = absurd is
 
   given_said : {condition : ℕ} {place : Option ℕ} {fs : List code_fact.Fact} {gs : List Fact} (f : code_fact.Fact) → numbered.Gives k condition place fs f → SayFacts b fs gs → Said f gs
   unfolding Said SaidContext
@@ -311,20 +233,20 @@ module _ (o : Ontology) (asked : List ℕ) (b : Prefixes) (k : Problem) (h : IsP
 
   subsumed_by : (a c : Class2) (x : Context) (n : ℕ) (form : code_form.Form) → slice_get k.forms n ≡ Some form → SaysForm b form (N1 a c) → (f : code_fact.Fact) → SaysFact b f (In a x) → Sayer (f ∷ []) (In c x)
   subsumed_by a c x n form at (n1 {c = c'} says_a says_c) f (in_context {x = x'} says_d says_x) =
-      place_of n form at _ (facts.In c' x') (class_same says_d says_a, refl) (In c x) (in_context says_c says_x)
+      place_of n form at _ (facts.In c' x') (class_same h says_d says_a, refl) (In c x) (in_context says_c says_x)
 
   successor_by : (a : Class2) (r e : ℕ) (x : Context) (n : ℕ) (form : code_form.Form) → slice_get k.forms n ≡ Some form → SaysForm b form (N3 a r e) → (f : code_fact.Fact) → SaysFact b f (In a x) → Sayer (f ∷ []) (Edge x (Property r) (Expression e))
   successor_by a r e x n form at (n3 {r = r'} {e = e'} says_a says_r says_e) f (in_context {x = x'} says_d says_x) =
-      place_of n form at _ (facts.Edge x' (properties.Property r') (contexts.Expr e')) (class_same says_d says_a, refl) (Edge x (Property r) (Expression e)) (edge says_x (property says_r) (expression says_e))
+      place_of n form at _ (facts.Edge x' (properties.Property r') (contexts.Expr e')) (class_same h says_d says_a, refl) (Edge x (Property r) (Expression e)) (edge says_x (property says_r) (expression says_e))
 
   both_by : (a c d : Class2) (x : Context) (n : ℕ) (form : code_form.Form) → slice_get k.forms n ≡ Some form → SaysForm b form (N2 a c d) → (f l : code_fact.Fact) → SaysFact b f (In a x) → SaysFact b l (In c x) → Sayer (f ∷ l ∷ []) (In d x)
   both_by a c d x n form at (n2 {d = d'} says_a says_c says_d) f l (in_context {x = x'} says_e says_x) (in_context {x = y'} says_j says_y) =
-      place_of n form at _ (facts.In d' x') (class_same says_e says_a, class_same says_j says_c, context_same says_x says_y, refl) (In d x) (in_context says_d says_x)
+      place_of n form at _ (facts.In d' x') (class_same h says_e says_a, class_same h says_j says_c, context_same says_x says_y, refl) (In d x) (in_context says_d says_x)
 
   predecessor_by : (r : ℕ) (a c : Class2) (q : Property2) (x y : Context) → IsAtOrBelow o asked q (Property r) → (n : ℕ) (form : code_form.Form) → slice_get k.forms n ≡ Some form → SaysForm b form (N4 r a c)
       → (f l : code_fact.Fact) → SaysFact b f (Edge x q y) → SaysFact b l (In a y) → Sayer (f ∷ l ∷ []) (In c x)
   predecessor_by r a c q x y below n form at (n4 {c = c'} says_r says_a says_c) f l (edge {x = x'} says_x says_q says_y) (in_context says_d says_z) =
-      place_of n form at _ (facts.In c' x') (below_by below says_q (property says_r), class_same says_d says_a, context_same says_y says_z, refl) (In c x) (in_context says_c says_x)
+      place_of n form at _ (facts.In c' x') (below_by below says_q (property says_r), class_same h says_d says_a, context_same says_y says_z, refl) (In c x) (in_context says_c says_x)
 
   chained_by : (r s t p q : Property2) (x y z : Context) → IsAtOrBelow o asked p r → IsAtOrBelow o asked q s → (n : ℕ) (form : code_form.Form) → slice_get k.forms n ≡ Some form → SaysForm b form (N6 r s t)
       → (f l : code_fact.Fact) → SaysFact b f (Edge x p y) → SaysFact b l (Edge y q z) → Sayer (f ∷ l ∷ []) (Edge x t z)
@@ -334,7 +256,7 @@ module _ (o : Ontology) (asked : List ℕ) (b : Prefixes) (k : Problem) (h : IsP
   carried_by : (r : Property2) (x y : Context) (f l : code_fact.Fact) → SaysFact b f (Edge x r y) → SaysFact b l (In (Whole nothing) y) → Sayer (f ∷ l ∷ []) (In (Whole nothing) x)
   unfolding Sayer
   carried_by r x y f l (edge {x = x'} says_x says_r says_y) (in_context says_c says_z) =
-      (facts.In numbered.nothing x', 8, None, numbered.unsatisfiable (class_same says_c (whole refl), context_same says_y says_z, refl), in_context (whole refl) says_x)
+      (facts.In numbered.nothing x', 8, None, numbered.unsatisfiable (class_same h says_c (whole refl), context_same says_y says_z, refl), in_context (whole refl) says_x)
 
   looped_by : (fs : List code_fact.Fact) (r : ℕ) (y : Context) (x : code_context.Context) → SaysContext x y → numbered.IsContextBy k fs x → (n : ℕ) (form : code_form.Form) → slice_get k.forms n ≡ Some form → SaysForm b form (N7 r) → Sayer fs (Edge y (Property r) y)
   unfolding Sayer

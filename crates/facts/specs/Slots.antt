@@ -58,6 +58,29 @@ pub record IsFirstFree (slots : List ℕ) (bucket slot : ℕ) : Type 0 where
   pub free : slice_index slots slot ≡ 0
   pub no_gap : (i : ℕ) → bucket ≤ i → i < slot → slice_index slots i ≡ 0 → ⊥
 
+-- what stands in the first slots stands in the second
+abbrev pub StillStand : List ℕ → List ℕ → Type 0
+StillStand old new = (b n : ℕ) → 0 < n → Stands old b n → Stands new b n
+
+-- where the slot was the first that is free, the number stands
+abbrev pub StandsIn : List ℕ → List ℕ → ℕ → ℕ → Type 0
+StandsIn old new slot number = (b : ℕ) → IsFirstFree old b slot → Stands new b number
+
+-- no number that leads to the fact stands there
+abbrev pub StandsNowhere : List Fact → List ℕ → ℕ → Fact → Type 0
+StandsNowhere facts slots bucket fact = (place : ℕ) → slice_get facts place ≡ Some fact → Stands slots bucket (suc place) → ⊥
+
+-- the number leads to the fact, unless it is 0
+abbrev pub LeadsTo : List Fact → ℕ → Fact → Type 0
+LeadsTo facts number fact = (place : ℕ) → number ≡ suc place → slice_get facts place ≡ Some fact
+
+-- no slot from the bucket on up to this one is free or leads to the fact
+pub record HasPassed (facts : List Fact) (slots : List ℕ) (bucket : ℕ) (fact : Fact) (slot : ℕ) : Type 0 where
+  pub from : bucket ≤ slot
+  pub within : slot ≤ length slots
+  pub no_gap : (i : ℕ) → bucket ≤ i → i < slot → slice_index slots i ≡ 0 → ⊥
+  pub others : (i place : ℕ) → bucket ≤ i → i < slot → slice_index slots i ≡ suc place → slice_get facts place ≡ Some fact → ⊥
+
 -- P holds of the place, where a search comes to one
 abbrev pub IfAt : Found → (ℕ → Type 0) → Type 0
 IfAt (At place) P = P place
@@ -71,6 +94,14 @@ IfFree (Free slot) P = P slot
 -- the fact that is at the place is found in the slots
 abbrev pub Holds : Seeds → Slots → Fact → ℕ → Type 0
 Holds seeds table fact place = Stands (numbers_of table) (bucket_of seeds (buckets_of table) fact) (suc place)
+
+-- the facts that are found in the first slots are found in the second
+abbrev pub StillHolds : Seeds → List Fact → Slots → Slots → Type 0
+StillHolds seeds facts old new = (place : ℕ) (fact : Fact) → slice_get facts place ≡ Some fact → Holds seeds old fact place → Holds seeds new fact place
+
+-- the fact is not found in the slots
+abbrev pub HoldsNot : Seeds → List Fact → Slots → Fact → Type 0
+HoldsNot seeds facts table fact = (place : ℕ) → slice_get facts place ≡ Some fact → Holds seeds table fact place → ⊥
 
 -- there are as many slots as buckets, or more
 abbrev pub HasSlots : Slots → Type 0
@@ -93,6 +124,10 @@ pub record IsFound (seeds : Seeds) (homes : List Slots) (fact : Fact) (place : �
   pub table : Slots
   pub at : slice_get homes (home_of fact) ≡ Some table
   pub holds : Holds seeds table fact place
+
+-- the facts that are found in the slots of the first homes are found in those of the second
+abbrev pub StillFound : List Slots → List Slots → Type 0
+StillFound old new = (seeds : Seeds) (fact : Fact) (place : ℕ) → IsFound seeds old fact place → IsFound seeds new fact place
 
 abbrev pub AreFound : Seeds → List Fact → List Slots → Type 0
 AreFound seeds facts homes = (place : ℕ) (fact : Fact) → slice_get facts place ≡ Some fact → IsFound seeds homes fact place

@@ -5,16 +5,7 @@ use Rattle.facts.specs.declared.contexts.Context.TheVariants as contexts
 use Rattle.facts.specs.declared.contexts.Fact.{Fact}
 use Rattle.facts.specs.declared.contexts.Fact.TheVariants as facts
 use Rattle.facts.specs.declared.stored.StoredFact.TheInside.{Inside}
-use Rattle.normal_forms.specs.declared.forms.Class2.{Class2}
-use Rattle.normal_forms.specs.declared.forms.Class2.TheVariants as classes
-use Rattle.normal_forms.specs.declared.forms.PropId2.{PropId2}
-use Rattle.normal_forms.specs.declared.forms.PropId2.TheVariants as properties
-
-abbrev pub class_from : Bool → ℕ → Class2
-class_from is_partial n = if is_partial then classes.Partial n else classes.Expr (record { 0 = n })
-
-abbrev pub property_from : Bool → ℕ → PropId2
-property_from is_partial n = if is_partial then properties.Partial n else properties.Property (record { 0 = n })
+use Rattle.normal_forms.specs.StoredForms.{class_from, property_from}
 
 abbrev pub context_from : Bool → ℕ → Context
 context_from is_individual n = if is_individual then contexts.Individual (record { 0 = n }) else contexts.Expr (record { 0 = n })

@@ -1,7 +1,6 @@
 //! Slots by the number of the context that a fact is of.
-ghost use Rattle.facts.specs.Slots.{home_of, AreFound, HaveSlots, IfAt, IfFree, IsFound, IsFreeAt, IsFreeFor, number_of};
+ghost use Rattle.facts.specs.Slots.{home_of, AreFound, HaveSlots, IfAt, IfFree, IsFound, IsFreeAt, IsFreeFor, number_of, StillFound};
 ghost use Rattle.facts.specs.declared.seeds.Seeds.{Seeds as TheSeeds};
-ghost use Rattle.facts.specs.declared.slots.Slots.{Slots as TheSlots};
 ghost use Rattle.facts.specs.declared.contexts.Fact.{Fact as AFact};
 ghost use Rattle.std.specs.Prelude.{◌≡◌, ℕ, suc, ◌<◌, ◌≤◌, [], length, slice_get, Contains, IfOk, IfSome, IsNone, OnOk, Some};
 
@@ -38,7 +37,7 @@ pub(crate) fn home_of(fact: Fact) -> usize
 pub(crate) fn extend(homes: &mut Vec<Slots>, home: usize) -> Result<(), Memory>
     requires { HaveSlots homes.old.items }
     ensures slots { HaveSlots homes.new.items }
-    ensures found { (seeds : TheSeeds) (fact : AFact) (place : ℕ) → IsFound seeds homes.old.items fact place → IsFound seeds homes.new.items fact place }
+    ensures found { StillFound homes.old.items homes.new.items }
     ensures there { OnOk result (home < length homes.new.items) }
 {
     while homes.len() <= home {
@@ -108,12 +107,17 @@ pub(crate) fn make_room(
 
 /// Puts a number into a free slot of a home. Fails where memory is refused; each fact is found as before.
 #[inline(always)]
-pub fn put(homes: &mut Vec<Slots>, home: usize, slot: usize, number: u32) -> Result<(), Memory>
+pub(crate) fn put(
+    homes: &mut Vec<Slots>,
+    home: usize,
+    slot: usize,
+    number: u32,
+) -> Result<(), Memory>
     requires slots { HaveSlots homes.old.items }
     requires free { IsFreeAt homes.old.items home slot }
     requires number { 0 < number }
     ensures slots { HaveSlots homes.new.items }
-    ensures found { (seeds : TheSeeds) (fact : AFact) (place : ℕ) → IsFound seeds homes.old.items fact place → IsFound seeds homes.new.items fact place }
+    ensures found { StillFound homes.old.items homes.new.items }
     ensures stands { OnOk result ((seeds : TheSeeds) (fact : AFact) (place : ℕ) → home_of fact ≡ home → number ≡ suc place →
         IsFreeFor seeds homes.old.items fact slot → IsFound seeds homes.new.items fact place) }
 {

@@ -8,7 +8,7 @@ use std::hash::{BuildHasher, RandomState};
 
 /// The factors of a hash, which are odd.
 #[derive(Clone, Copy, Debug, PartialEq, Eq, Drop)]
-pub struct Seeds {
+pub(crate) struct Seeds {
     /// Of a class, and of a property.
     pub first: u64,
     /// Of the target of an edge.

@@ -4,7 +4,7 @@
 //! is the number of a slot, and its number stands there or behind, with no free slot between: so who looks from the bucket on finds
 //! it, or a free slot where it is not there. Numbers that lead nowhere, since facts were taken away, do no harm. The slots of few facts
 //! stand where those of more have the address of theirs, and those of few or several have one bucket.
-ghost use Rattle.facts.specs.Slots.{bucket_of, buckets_of, CanHold, count_of, HasRoom, HasSlots, Holds, IfAt, IfFree, IsFirstFree, numbers_of, Stands};
+ghost use Rattle.facts.specs.Slots.{bucket_of, buckets_of, CanHold, count_of, HasPassed, HasRoom, HasSlots, Holds, HoldsNot, IfAt, IfFree, IsFirstFree, LeadsTo, numbers_of, Stands, StandsIn, StandsNowhere, StillHolds, StillStand};
 ghost use Rattle.facts.specs.declared.contexts.Fact.{Fact as AFact};
 ghost use Rattle.std.specs.Prelude.{◌≡◌, ◌↔◌, ◌⊎◌, ℕ, suc, ◌<◌, ◌≤◌, length, slice_get, slice_index, IfOk, IsTrue, OnOk, Some, false, true};
 
@@ -28,7 +28,7 @@ const MOST_SPARE: usize = 4;
 
 /// Slots for the facts that share them.
 #[derive(Drop)]
-pub enum Slots {
+pub(crate) enum Slots {
     /// The numbers of few facts, in the order in which they came, and free slots behind them. They have one bucket.
     Few([u32; FEW]),
     /// Those of several, in the same way.
@@ -85,39 +85,46 @@ fn leads_to(facts: &[StoredFact], number: u32, fact: Fact) -> bool
     false
 }
 
+/// The slot of the fact's number, where that stands from the bucket on with no free slot before it, or else the first free slot.
+#[inline(always)]
+fn walk(facts: &[StoredFact], numbers: &[u32], bucket: usize, fact: Fact) -> usize
+    requires { bucket ≤ length numbers.now }
+    ensures passed { HasPassed facts.now numbers.now bucket fact result }
+    ensures ends { LeadsTo facts.now (slice_index numbers.now result) fact }
+{
+    let mut slot = bucket;
+    while slot < numbers.len() {
+        let number = numbers[slot];
+        if number == 0 || leads_to(facts, number, fact) {
+            return slot;
+        }
+        slot += 1;
+    }
+    slot
+}
+
 /// The place of the fact, where its number stands from the bucket on with no free slot before it, or else the first free slot.
 #[inline(always)]
 fn search(facts: &[StoredFact], numbers: &[u32], bucket: usize, fact: Fact) -> Found
     requires { bucket ≤ length numbers.now }
     ensures there { IfAt result (λ place. slice_get facts.now place ≡ Some fact) }
     ensures free { IfFree result (IsFirstFree numbers.now bucket) }
-    ensures absent { IfFree result (λ _. (place : ℕ) → slice_get facts.now place ≡ Some fact → Stands numbers.now bucket (suc place) → ⊥) }
+    ensures absent { IfFree result (λ _. StandsNowhere facts.now numbers.now bucket fact) }
 {
-    let mut slot = bucket;
-    while slot < numbers.len() {
-        let number = numbers[slot];
-        if number == 0 {
-            return Found::Free(slot);
-        }
-        if leads_to(facts, number, fact) {
-            return Found::At(number - 1);
-        }
-        slot += 1;
+    let slot = walk(facts, numbers, bucket, fact);
+    if slot < numbers.len() && numbers[slot] != 0 {
+        return Found::At(numbers[slot] - 1);
     }
     Found::Free(slot)
 }
 
-/// The first free slot from the bucket on.
+/// The first free slot from the bucket on: a walk among no facts ends nowhere else.
 #[inline(always)]
-fn first_free(numbers: &[u32], bucket: usize) -> usize
+fn first_free(numbers: &[u32], bucket: usize, fact: Fact) -> usize
     requires { bucket ≤ length numbers.now }
     ensures { IsFirstFree numbers.now bucket result }
 {
-    let mut slot = bucket;
-    while slot < numbers.len() && numbers[slot] != 0 {
-        slot += 1;
-    }
-    slot
+    walk(&[], numbers, bucket, fact)
 }
 
 /// Puts the number into a free slot of so many.
@@ -126,8 +133,8 @@ fn fill<const SLOTS: usize>(numbers: &mut [u32; SLOTS], slot: usize, number: u32
     requires within { slot < SLOTS }
     requires free { slice_index numbers.old slot ≡ 0 }
     requires number { 0 < number }
-    ensures stands { (b : ℕ) → IsFirstFree numbers.old b slot → Stands numbers.new b number }
-    ensures others { (b n : ℕ) → 0 < n → Stands numbers.old b n → Stands numbers.new b n }
+    ensures stands { StandsIn numbers.old numbers.new slot number }
+    ensures others { StillStand numbers.old numbers.new }
     ensures room { length numbers.new ≡ length numbers.old }
 {
     numbers[slot] = number;
@@ -139,8 +146,8 @@ fn occupy(numbers: &mut Vec<u32>, slot: usize, number: u32) -> Result<(), Memory
     requires within { slot ≤ length numbers.old.items }
     requires free { slice_index numbers.old.items slot ≡ 0 }
     requires number { 0 < number }
-    ensures stands { OnOk result ((b : ℕ) → IsFirstFree numbers.old.items b slot → Stands numbers.new.items b number) }
-    ensures others { (b n : ℕ) → 0 < n → Stands numbers.old.items b n → Stands numbers.new.items b n }
+    ensures stands { OnOk result (StandsIn numbers.old.items numbers.new.items slot number) }
+    ensures others { StillStand numbers.old.items numbers.new.items }
     ensures room { length numbers.old.items ≤ length numbers.new.items }
 {
     if slot < numbers.len() {
@@ -162,14 +169,14 @@ fn carry(
     requires { buckets ≤ length wider.old.items }
     ensures stands { OnOk result ((place : ℕ) (fact : AFact) → number ≡ suc place → slice_get facts.now place ≡ Some fact →
         Stands wider.new.items (bucket_of seeds.now buckets fact) number) }
-    ensures others { (b n : ℕ) → 0 < n → Stands wider.old.items b n → Stands wider.new.items b n }
+    ensures others { StillStand wider.old.items wider.new.items }
     ensures room { length wider.old.items ≤ length wider.new.items }
 {
     if number == 0 || facts.len() < number as usize {
         return Ok(());
     }
-    let bucket = bucket(seeds, buckets, facts[number as usize - 1].get());
-    let slot = first_free(wider, bucket);
+    let fact = facts[number as usize - 1].get();
+    let slot = first_free(wider, bucket(seeds, buckets, fact), fact);
     occupy(wider, slot, number)
 }
 
@@ -196,7 +203,7 @@ fn spread(
 
 /// Slots for several facts, with the numbers of few.
 fn several(alloc: Global, numbers: &[u32; FEW]) -> Result<Slots, Memory>
-    ensures stands { IfOk result (λ slots. (b n : ℕ) → 0 < n → Stands numbers.now b n → Stands (numbers_of slots) b n) }
+    ensures stands { IfOk result (λ slots. StillStand numbers.now (numbers_of slots)) }
     ensures buckets { IfOk result (λ slots. buckets_of slots ≡ 1) }
     ensures slots { IfOk result HasSlots }
     ensures room { IfOk result HasRoom }
@@ -285,8 +292,7 @@ impl Slots {
     ) -> Result<usize, Memory>
         requires slots { HasSlots self.old }
         requires free { IsFirstFree (numbers_of self.old) (bucket_of seeds.now (buckets_of self.old) fact) slot }
-        ensures holds { (place : ℕ) (fact : AFact) → slice_get facts.now place ≡ Some fact →
-            Holds seeds.now self.old fact place → Holds seeds.now self.new fact place }
+        ensures holds { StillHolds seeds.now facts.now self.old self.new }
         ensures slots { HasSlots self.new }
         ensures free { IfOk result (λ slot. IsFirstFree (numbers_of self.new) (bucket_of seeds.now (buckets_of self.new) fact) slot) }
         ensures room { IfOk result (λ slot. CanHold self.new slot) }
@@ -295,14 +301,13 @@ impl Slots {
             return Ok(slot);
         }
         self.grow(alloc, seeds, facts)?;
-        Ok(first_free(self.numbers(), self.bucket(seeds, fact)))
+        Ok(first_free(self.numbers(), self.bucket(seeds, fact), fact))
     }
 
     /// Makes slots for several, for many, or for twice as many. Fails where memory is refused; then nothing changes.
     fn grow(&mut self, alloc: Global, seeds: &Seeds, facts: &[StoredFact]) -> Result<(), Memory>
         requires { HasSlots self.old }
-        ensures holds { (place : ℕ) (fact : AFact) → slice_get facts.now place ≡ Some fact →
-            Holds seeds.now self.old fact place → Holds seeds.now self.new fact place }
+        ensures holds { StillHolds seeds.now facts.now self.old self.new }
         ensures slots { HasSlots self.new }
         ensures room { OnOk result (HasRoom self.new) }
     {
@@ -338,7 +343,7 @@ impl Slots {
         requires { HasSlots self.now }
         ensures there { IfAt result (λ place. slice_get facts.now place ≡ Some fact) }
         ensures free { IfFree result (IsFirstFree (numbers_of self.now) (bucket_of seeds.now (buckets_of self.now) fact)) }
-        ensures absent { IfFree result (λ _. (place : ℕ) → slice_get facts.now place ≡ Some fact → Holds seeds.now self.now fact place → ⊥) }
+        ensures absent { IfFree result (λ _. HoldsNot seeds.now facts.now self.now fact) }
     {
         let bucket = self.bucket(seeds, fact);
         search(facts, self.numbers(), bucket, fact)
@@ -350,8 +355,8 @@ impl Slots {
         requires within { CanHold self.old slot }
         requires free { slice_index (numbers_of self.old) slot ≡ 0 }
         requires number { 0 < number }
-        ensures stands { OnOk result ((b : ℕ) → IsFirstFree (numbers_of self.old) b slot → Stands (numbers_of self.new) b number) }
-        ensures others { (b n : ℕ) → 0 < n → Stands (numbers_of self.old) b n → Stands (numbers_of self.new) b n }
+        ensures stands { OnOk result (StandsIn (numbers_of self.old) (numbers_of self.new) slot number) }
+        ensures others { StillStand (numbers_of self.old) (numbers_of self.new) }
         ensures buckets { buckets_of self.new ≡ buckets_of self.old }
         ensures slots { HasSlots self.old → HasSlots self.new }
     {

@@ -1,9 +1,9 @@
 //! Facts as they are kept.
-ghost use Rattle.facts.specs.StoredFacts.{class_from, context_from, property_from};
+ghost use Rattle.facts.specs.StoredFacts.{context_from};
 ghost use Rattle.std.specs.Prelude.{◌≡◌};
 
 use crate::contexts::{Context, Fact};
-use axioms::{ExprId, IndId, PropId};
+use axioms::{ExprId, IndId};
 use normal_forms::{Class2, PropId2};
 use std::marker::Model;
 
@@ -23,6 +23,8 @@ pub struct StoredFact {
     target: u32,
 }
 
+const _: () = prove!(size_of::<StoredFact>() == 16);
+
 impl Model for StoredFact {
     ghost use Rattle.facts.specs.StoredFacts.{fact_of};
     ghost use Rattle.facts.specs.declared.contexts.Fact.{Fact};
@@ -30,28 +32,6 @@ impl Model for StoredFact {
     ghost Value = { Fact };
 
     ghost view = { fact_of };
-}
-
-/// Whether the class is a partial one, and its number.
-#[inline(always)]
-fn class_parts(class: Class2) -> (bool, u32)
-    ensures { class_from result.0 result.1 ≡ class }
-{
-    match class {
-        Class2::Expr(ExprId(number)) => (false, number),
-        Class2::Partial(number) => (true, number),
-    }
-}
-
-/// Whether the property is a partial one, and its number.
-#[inline(always)]
-fn property_parts(property: PropId2) -> (bool, u32)
-    ensures { property_from result.0 result.1 ≡ property }
-{
-    match property {
-        PropId2::Property(PropId(number)) => (false, number),
-        PropId2::Partial(number) => (true, number),
-    }
 }
 
 /// Whether the context is an individual, and its number.
@@ -62,30 +42,6 @@ fn context_parts(context: Context) -> (bool, u32)
     match context {
         Context::Expr(ExprId(number)) => (false, number),
         Context::Individual(IndId(number)) => (true, number),
-    }
-}
-
-/// The class of that kind and number.
-#[inline(always)]
-fn class_from(is_partial: bool, number: u32) -> Class2
-    ensures { result ≡ class_from is_partial number }
-{
-    if is_partial {
-        Class2::Partial(number)
-    } else {
-        Class2::Expr(ExprId(number))
-    }
-}
-
-/// The property of that kind and number.
-#[inline(always)]
-fn property_from(is_partial: bool, number: u32) -> PropId2
-    ensures { result ≡ property_from is_partial number }
-{
-    if is_partial {
-        PropId2::Partial(number)
-    } else {
-        PropId2::Property(PropId(number))
     }
 }
 
@@ -109,7 +65,7 @@ impl StoredFact {
     {
         match fact {
             Fact::In(class, context) => {
-                let (is_partial, number) = class_parts(class);
+                let (is_partial, number) = class.parts();
                 let (is_individual, context) = context_parts(context);
                 StoredFact {
                     is_edge: false,
@@ -122,7 +78,7 @@ impl StoredFact {
                 }
             }
             Fact::Edge(source, property, target) => {
-                let (is_partial, number) = property_parts(property);
+                let (is_partial, number) = property.parts();
                 let (is_individual, context) = context_parts(source);
                 let (leads_to_individual, target) = context_parts(target);
                 StoredFact {
@@ -145,11 +101,11 @@ impl StoredFact {
     {
         let context = context_from(self.is_individual, self.context);
         if self.is_edge {
-            let property = property_from(self.is_partial, self.number);
+            let property = PropId2::from_parts(self.is_partial, self.number);
             let target = context_from(self.leads_to_individual, self.target);
             Fact::Edge(context, property, target)
         } else {
-            Fact::In(class_from(self.is_partial, self.number), context)
+            Fact::In(Class2::from_parts(self.is_partial, self.number), context)
         }
     }
 }

@@ -1,5 +1,4 @@
 pub mod Tables
-pub mod Places
 pub mod Adding
 pub mod Parts
 pub mod Dividing

@@ -3,7 +3,7 @@ use Rattle.std.proofs.Common.{◌≡◌, ℕ, ◌+◌, ◌<◌, inl, inr, ⊎_el
 use Rattle.std.proofs.lemmas.List.{length-take-le, length_push}
 use Rattle.normal_forms.specs.declared.forms.Form.{Form}
 use Rattle.indexes.specs.declared.keys.Key.{Key}
-use Rattle.indexes.proofs.Places.{slice_get_push, slice_get_push_cases, keeps_push, take_push}
+use Rattle.lemmas.proofs.Places.{slice_get_push, slice_get_push_cases, keeps_push, take_push}
 use Rattle.indexes.specs.declared.key_pairs.KeyPairs.{KeyPairs}
 use Rattle.indexes.specs.Pairs.{AddsPair, ArePairsOf}
 

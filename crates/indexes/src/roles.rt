@@ -3,21 +3,27 @@ ghost use Rattle.std.specs.Prelude.{◌≡◌};
 ghost use Rattle.indexes.specs.Roles.{key_by};
 
 use crate::keys::Key;
-use crate::named::{
-    alone_key, chain_key, end_key, filler_key, first_key, kind_key, plain_key, second_key,
-};
+use crate::named::{key_of_class, key_of_property};
 use normal_forms::Form;
 
 /// What a key is to a form.
 #[derive(Clone, Copy)]
 pub(crate) enum Role {
+    /// 0 where the form gives a fact from none, 1 where it makes a property reflexive.
     Kind,
+    /// The class that the form needs alone.
     Alone,
+    /// The first class of an intersection.
     First,
+    /// Its second class.
     Second,
+    /// The class that a restriction needs at the target of an edge.
     Filler,
+    /// The first property of a chain.
     Chain,
+    /// The second property of a chain.
     End,
+    /// The property that the form puts below another, and no chain.
     Plain,
 }
 
@@ -25,14 +31,16 @@ pub(crate) enum Role {
 pub(crate) fn key_of(role: Role, form: &Form) -> Option<Key>
     ensures { result ≡ key_by role form.now }
 {
-    match role {
-        Role::Kind => kind_key(form),
-        Role::Alone => alone_key(form),
-        Role::First => first_key(form),
-        Role::Second => second_key(form),
-        Role::Filler => filler_key(form),
-        Role::Chain => chain_key(form),
-        Role::End => end_key(form),
-        Role::Plain => plain_key(form),
+    match (role, *form) {
+        (Role::Kind, Form::N8(..) | Form::N9(..)) => Some(Key::Whole(0)),
+        (Role::Kind, Form::N7(_)) => Some(Key::Whole(1)),
+        (Role::Alone, Form::N1(a, _) | Form::N3(a, _, _)) => Some(key_of_class(a)),
+        (Role::First, Form::N2(a, _, _)) => Some(key_of_class(a)),
+        (Role::Second, Form::N2(_, b, _)) => Some(key_of_class(b)),
+        (Role::Filler, Form::N4(_, a, _)) => Some(key_of_class(a)),
+        (Role::Chain, Form::N6(r, _, _)) => Some(key_of_property(r)),
+        (Role::End, Form::N6(_, s, _)) => Some(key_of_property(s)),
+        (Role::Plain, Form::N5(r, _)) => Some(Key::Whole(r.0)),
+        _ => None,
     }
 }

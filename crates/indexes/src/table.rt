@@ -1,5 +1,5 @@
 //! Lists of numbers by the number of a key.
-ghost use Rattle.std.specs.Prelude.{◌≡◌, ◌<◌, [], ◌∷◌, ◌++◌, length, slice_index, slice_set, OnOk, OnErr, IfOk};
+ghost use Rattle.std.specs.Prelude.{◌≡◌, ◌+◌, ◌<◌, [], ◌∷◌, ◌++◌, length, slice_set, OnOk, OnErr, IfOk};
 ghost use Rattle.indexes.specs.Tables.{at, by_key, list_of, Adds, IsSame, IsTable, PutsLast};
 
 use number_sets::NumberList;
@@ -47,22 +47,12 @@ fn single(alloc: Global, number: u32) -> Result<NumberList, AllocError>
     Ok(list)
 }
 
-/// Makes a list of one number for a key that has none. Fails where memory is refused, or there are 2^32 - 1 lists; then nothing
-/// changes.
-fn begin(
-    alloc: Global,
-    keys: &mut Vec<u32>,
-    lists: &mut Vec<NumberList>,
-    key: usize,
-    number: u32,
-) -> Result<(), AllocError>
-    requires table { IsTable keys.old.items lists.old.items }
-    requires there { key < length keys.old.items }
-    requires empty { slice_index keys.old.items key ≡ 0 }
-    ensures table { IsTable keys.new.items lists.new.items }
-    ensures ok { OnOk result (PutsLast (by_key keys.old.items lists.old.items) (by_key keys.new.items lists.new.items) key number) }
-    ensures keys { OnErr result (keys.new.items ≡ keys.old.items) }
-    ensures lists { OnErr result (lists.new.items ≡ lists.old.items) }
+/// Puts a list of one number behind the others, and tells what stands for it. Fails where memory is refused, or there are 2^32 - 1
+/// lists; then nothing changes.
+fn begin(alloc: Global, lists: &mut Vec<NumberList>, number: u32) -> Result<u32, AllocError>
+    ensures stands { IfOk result (λ n. n ≡ length lists.old.items + 1) }
+    ensures ok { OnOk result (lists.new.items ≡ lists.old.items ++ (number ∷ []) ∷ []) }
+    ensures err { OnErr result (lists.new.items ≡ lists.old.items) }
 {
     let count = lists.len();
     if count >= u32::MAX as usize {
@@ -72,8 +62,7 @@ fn begin(
     let Ok(()) = lists.push(list) else {
         return Err(AllocError);
     };
-    keys[key] = count as u32 + 1;
-    Ok(())
+    Ok(count as u32 + 1)
 }
 
 /// Adds a number to the list that the other number stands for. Fails where memory is refused; then nothing changes.
@@ -107,7 +96,8 @@ fn put(
 {
     let place = keys[key] as usize;
     if place == 0 {
-        return begin(alloc, keys, lists, key, number);
+        keys[key] = begin(alloc, lists, number)?;
+        return Ok(());
     }
     push(alloc, lists, place - 1, number)
 }

@@ -1,9 +1,11 @@
 -- What a filter keeps.
-use Rattle.std.proofs.Common.{◌≡◌, Bool, true, false, ◌⊎◌, inl, inr, List, [], ◌∷◌, Contains, cond, refl, ap, ◌∙◌, arith}
+use Rattle.std.proofs.Common.{◌≡◌, Bool, true, false, ◌⊎◌, inl, inr, ℕ, ◌+◌, List, [], ◌∷◌, ◌++◌, take, slice_get, Some, Contains, cond, refl, sym, ap, ◌∙◌, arith}
 use Rattle.std.proofs.lemmas.Bool.{both_ways}
-use Rattle.std.proofs.lemmas.List.Elements.{All-contains, All-contains_itself, All-filter, filter_passes, Contains-append_right, Contains-append_cases}
+use Rattle.std.proofs.lemmas.List.{append-nil}
+use Rattle.std.proofs.lemmas.List.Elements.{All-contains, All-contains_itself, All-filter, filter_passes, filter-append, Contains-append_right, Contains-append_cases}
 use Rattle.std.specs.List.{filter}
 use Rattle.lemmas.proofs.Members.{Contains-one}
+use Rattle.lemmas.proofs.Places.{take_push}
 
 pub Contains-tail : {X : Type 0} (y : X) (xs : List X) (x : X) → Contains xs x → Contains (y ∷ xs) x
 Contains-tail y xs x h = Contains-append_right (y ∷ []) xs x h
@@ -27,3 +29,23 @@ from_kept p xs x c = All-contains (Contains xs) (filter p xs) x (All-filter p (C
 
 pub passes : {X : Type 0} (p : X → Bool) (xs : List X) (x : X) → Contains (filter p xs) x → p x ≡ true
 passes p xs x c = All-contains (λ y. p y ≡ true) (filter p xs) x (filter_passes p xs) c
+
+-- ---- as the list is gone through
+
+-- the first elements with the next one
+of_next : {X : Type 0} (p : X → Bool) (xs : List X) (k : ℕ) (x : X) → slice_get xs k ≡ Some x → filter p (take (k + 1) xs) ≡ filter p (take k xs) ++ filter p (x ∷ [])
+of_next p xs k x at = ap (filter p) (take_push xs k x at) ∙ filter-append p (take k xs) (x ∷ [])
+
+one_kept : {X : Type 0} (p : X → Bool) (x : X) → p x ≡ true → filter p (x ∷ []) ≡ x ∷ []
+one_kept p x is = rw is refl
+
+one_left_out : {X : Type 0} (p : X → Bool) (x : X) → p x ≡ false → filter p (x ∷ []) ≡ []
+one_left_out p x is = rw is refl
+
+pub next_kept : {X : Type 0} (p : X → Bool) (xs kept : List X) (k : ℕ) (x : X) → slice_get xs k ≡ Some x → p x ≡ true → kept ≡ filter p (take k xs) → kept ++ x ∷ [] ≡ filter p (take (k + 1) xs)
+next_kept p xs kept k x at is before =
+    ap (λ ys. ys ++ x ∷ []) before ∙ ap (λ ys. filter p (take k xs) ++ ys) (sym (one_kept p x is)) ∙ sym (of_next p xs k x at)
+
+pub next_left_out : {X : Type 0} (p : X → Bool) (xs kept : List X) (k : ℕ) (x : X) → slice_get xs k ≡ Some x → p x ≡ false → kept ≡ filter p (take k xs) → kept ≡ filter p (take (k + 1) xs)
+next_left_out p xs kept k x at is before =
+    before ∙ sym (append-nil _) ∙ ap (λ ys. filter p (take k xs) ++ ys) (sym (one_left_out p x is)) ∙ sym (of_next p xs k x at)

@@ -5,6 +5,7 @@
 mod forms;
 mod list;
 mod origins;
+mod parts;
 mod stored;
 mod theory;
 

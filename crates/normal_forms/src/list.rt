@@ -1,5 +1,6 @@
 //! A list of forms.
 ghost use Rattle.normal_forms.specs.Lists.{items_of};
+ghost use Rattle.normal_forms.specs.Properties.{property_forms};
 ghost use Rattle.normal_forms.specs.StoredForms.{form_of};
 ghost use Rattle.std.specs.Prelude.{◌≡◌, ◌<◌, ◌++◌, ◌∷◌, [], IfErr, IfOk, OnErr, OnOk, Some, length, map, slice_get};
 
@@ -11,7 +12,7 @@ use std::rc::Rc;
 
 /// Forms that are this list's own, or that others have too.
 #[derive(Drop)]
-pub enum Forms {
+pub(crate) enum Forms {
     Own(Vec<StoredForm>),
     Shared(Rc<Vec<StoredForm>>),
 }
@@ -161,6 +162,20 @@ impl FormList {
         ensures { slice_get self.now number ≡ Some result }
     {
         self.as_slice()[number].get()
+    }
+
+    /// Those of the forms that are of properties alone. Fails where memory is refused.
+    pub fn property_forms(&self) -> Result<Vec<Form>, AllocError>
+        ensures { IfOk result (λ v. v.items ≡ property_forms self.now) }
+    {
+        let mut kept = Vec::new(self.alloc);
+        for number in 0..self.len() {
+            let form = self.at(number);
+            if form.is_of_properties() {
+                kept.push(form)?;
+            }
+        }
+        Ok(kept)
     }
 
     /// Adds a form at the end. Fails where memory is refused; then nothing changes.

@@ -1,5 +1,5 @@
 //! Normal forms as they are kept.
-ghost use Rattle.normal_forms.specs.StoredForms.{class_from, form_of, form_from, property_from};
+ghost use Rattle.normal_forms.specs.StoredForms.{form_of, form_from};
 ghost use Rattle.std.specs.Prelude.{◌≡◌};
 
 use crate::forms::{Class2, Form, PropId2};
@@ -7,7 +7,7 @@ use axioms::{ExprId, IndId, PropId};
 
 /// Which of the nine normal forms it is.
 #[derive(Clone, Copy, Debug, PartialEq, Eq)]
-pub enum Kind {
+pub(crate) enum Kind {
     N1,
     N2,
     N3,
@@ -22,7 +22,7 @@ pub enum Kind {
 /// A normal form in 16 bytes: up to three numbers, in the order in which the form names them, and of each whether it is that of a fresh
 /// name.
 #[derive(Clone, Copy, Debug)]
-pub struct StoredForm {
+pub(crate) struct StoredForm {
     kind: Kind,
     first_is_partial: bool,
     second_is_partial: bool,
@@ -33,52 +33,6 @@ pub struct StoredForm {
 }
 
 const _: () = prove!(size_of::<StoredForm>() == 16);
-
-/// Whether the class is a partial one, and its number.
-#[inline(always)]
-fn class_parts(class: Class2) -> (bool, u32)
-    ensures { class_from result.0 result.1 ≡ class }
-{
-    match class {
-        Class2::Expr(ExprId(number)) => (false, number),
-        Class2::Partial(number) => (true, number),
-    }
-}
-
-/// Whether the property is a partial one, and its number.
-#[inline(always)]
-fn property_parts(property: PropId2) -> (bool, u32)
-    ensures { property_from result.0 result.1 ≡ property }
-{
-    match property {
-        PropId2::Property(PropId(number)) => (false, number),
-        PropId2::Partial(number) => (true, number),
-    }
-}
-
-/// The class of that kind and number.
-#[inline(always)]
-fn class_from(is_partial: bool, number: u32) -> Class2
-    ensures { result ≡ class_from is_partial number }
-{
-    if is_partial {
-        Class2::Partial(number)
-    } else {
-        Class2::Expr(ExprId(number))
-    }
-}
-
-/// The property of that kind and number.
-#[inline(always)]
-fn property_from(is_partial: bool, number: u32) -> PropId2
-    ensures { result ≡ property_from is_partial number }
-{
-    if is_partial {
-        PropId2::Partial(number)
-    } else {
-        PropId2::Property(PropId(number))
-    }
-}
 
 /// Numbers that none is said to be partial of, for what a form does not name.
 const NONE: (bool, u32) = (false, 0);
@@ -101,42 +55,32 @@ impl StoredForm {
     }
 
     /// The form, to be kept.
-    pub fn new(form: Form) -> StoredForm
+    pub(crate) fn new(form: Form) -> StoredForm
         ensures { form_of result ≡ form }
     {
         match form {
-            Form::N1(a, b) => StoredForm::of(Kind::N1, class_parts(a), class_parts(b), NONE),
-            Form::N2(a, b, c) => {
-                StoredForm::of(Kind::N2, class_parts(a), class_parts(b), class_parts(c))
-            }
-            Form::N3(a, r, b) => {
-                StoredForm::of(Kind::N3, class_parts(a), (false, r.0), (false, b.0))
-            }
-            Form::N4(r, a, b) => {
-                StoredForm::of(Kind::N4, (false, r.0), class_parts(a), class_parts(b))
-            }
+            Form::N1(a, b) => StoredForm::of(Kind::N1, a.parts(), b.parts(), NONE),
+            Form::N2(a, b, c) => StoredForm::of(Kind::N2, a.parts(), b.parts(), c.parts()),
+            Form::N3(a, r, b) => StoredForm::of(Kind::N3, a.parts(), (false, r.0), (false, b.0)),
+            Form::N4(r, a, b) => StoredForm::of(Kind::N4, (false, r.0), a.parts(), b.parts()),
             Form::N5(r, s) => StoredForm::of(Kind::N5, (false, r.0), (false, s.0), NONE),
-            Form::N6(r, s, t) => StoredForm::of(
-                Kind::N6,
-                property_parts(r),
-                property_parts(s),
-                property_parts(t),
-            ),
+            Form::N6(r, s, t) => StoredForm::of(Kind::N6, r.parts(), s.parts(), t.parts()),
             Form::N7(r) => StoredForm::of(Kind::N7, (false, r.0), NONE, NONE),
-            Form::N8(a, b) => StoredForm::of(Kind::N8, (false, a.0), class_parts(b), NONE),
+            Form::N8(a, b) => StoredForm::of(Kind::N8, (false, a.0), b.parts(), NONE),
             Form::N9(a, r, b) => {
                 StoredForm::of(Kind::N9, (false, a.0), (false, r.0), (false, b.0))
             }
         }
     }
 
-    pub fn get(&self) -> Form
+    /// The form.
+    pub(crate) fn get(&self) -> Form
         ensures { result ≡ form_of self.now }
     {
         let (first, second, third) = (self.first, self.second, self.third);
-        let first_class = class_from(self.first_is_partial, first);
-        let second_class = class_from(self.second_is_partial, second);
-        let third_class = class_from(self.third_is_partial, third);
+        let first_class = Class2::from_parts(self.first_is_partial, first);
+        let second_class = Class2::from_parts(self.second_is_partial, second);
+        let third_class = Class2::from_parts(self.third_is_partial, third);
         match self.kind {
             Kind::N1 => Form::N1(first_class, second_class),
             Kind::N2 => Form::N2(first_class, second_class, third_class),
@@ -144,9 +88,9 @@ impl StoredForm {
             Kind::N4 => Form::N4(PropId(first), second_class, third_class),
             Kind::N5 => Form::N5(PropId(first), PropId(second)),
             Kind::N6 => Form::N6(
-                property_from(self.first_is_partial, first),
-                property_from(self.second_is_partial, second),
-                property_from(self.third_is_partial, third),
+                PropId2::from_parts(self.first_is_partial, first),
+                PropId2::from_parts(self.second_is_partial, second),
+                PropId2::from_parts(self.third_is_partial, third),
             ),
             Kind::N7 => Form::N7(PropId(first)),
             Kind::N8 => Form::N8(IndId(first), second_class),

@@ -15,7 +15,7 @@ use Rattle.normal_forms.specs.declared.forms.Form as code_form
 use Rattle.normal_forms.specs.declared.forms.Form.TheVariants as forms
 use Rattle.normal_forms.specs.declared.forms.Origin.{Origin}
 use Rattle.normal_forms.specs.declared.forms.Origin.TheVariants as origins
-use Rattle.normal_forms.specs.Forms.{Property2, Form, Property, Steps, N1, N2, N3, N4, N5, N6, N7, N8, N9, first_steps}
+use Rattle.normal_forms.specs.Forms.{Property2, Form, Property, Steps, N5, N6, N7, first_steps}
 use Rattle.normal_forms.specs.Origins.{GivenBy, AxiomGives, RightGives, LeftGives}
 use Rattle.normal_forms.specs.Properties.{IsPropertyOf, IsPropertyFormOf}
 use Rattle.normalise.specs.Entries.{form_in}
@@ -31,12 +31,7 @@ AreThere : ℕ → Form → Type 0
 AreThere many (N5 r s) = (r < many) × (s < many)
 AreThere many (N6 p q r) = IsThere many p × IsThere many q × IsThere many r
 AreThere many (N7 r) = r < many
-AreThere many (N1 a b) = Unit {0}
-AreThere many (N2 a b c) = Unit {0}
-AreThere many (N3 a r b) = Unit {0}
-AreThere many (N4 r a b) = Unit {0}
-AreThere many (N8 i a) = Unit {0}
-AreThere many (N9 a r b) = Unit {0}
+AreThere many _ = Unit {0}
 
 member_there : (many : ℕ) (rs : List ℕ) (n r : ℕ) → All (λ x. x < many) rs → slice_get rs n ≡ Some r → r < many
 member_there many rs n r all g = All-contains (λ x. x < many) rs r all (Contains-from_slice_get rs n r g)

@@ -33,7 +33,7 @@ module _ (b : Prefixes) where
   says_property (properties.Property p) q is = subst (closure.SaysProperty b (properties.Property p)) (sym is) (property refl)
   says_property (properties.Partial n) q (rs, at, is) = subst (closure.SaysProperty b (properties.Partial n)) (sym is) (steps at)
 
-  says_form : (f : code_form.Form) (g : Form) → Says b.operands b.steps f g → SaysForm b f g
+  pub says_form : (f : code_form.Form) (g : Form) → Says b.operands b.steps f g → SaysForm b f g
   says_form (forms.N1 a c) g (x, y, sx, sy, is) = subst (SaysForm b (forms.N1 a c)) (sym is) (n1 (says_class a x sx) (says_class c y sy))
   says_form (forms.N2 a c d) g (x, y, z, sx, sy, sz, is) = subst (SaysForm b (forms.N2 a c d)) (sym is) (n2 (says_class a x sx) (says_class c y sy) (says_class d z sz))
   says_form (forms.N3 a r e) g (x, sx, is) = subst (SaysForm b (forms.N3 a r e)) (sym is) (n3 (says_class a x sx) refl refl)

@@ -48,6 +48,10 @@ pub record Grows (o p : Ontology) (from : ℕ) : Type 0 where
   pub axioms : Keeps o.axioms p.axioms
   pub new_from : from ≡ length o.axioms
 
+-- where the old forms are those of an ontology, the new ones are those of p, which it has become with more axioms from that place on
+abbrev pub AreNormalAgain : Ontology → ℕ → Listing → Listing → Type 0
+AreNormalAgain p from old new = (o : Ontology) → IsNormalFor o old → Grows o p from → IsNormalFor p new
+
 -- what the old value has, the new one has with the same numbers
 pub record Grown (old new : Listing) : Type 0 where
   pub entries : Keeps old.entries new.entries

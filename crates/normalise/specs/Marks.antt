@@ -1,10 +1,17 @@
 -- Marks on expressions, by their numbers.
 use Rattle.std.specs.Prelude.{◌≡◌, ℕ, ◌<◌, ◌⊎◌, ◌↔◌, Bool, true, List, length, slice_get, Some}
 use Rattle.axioms.specs.Ontology.{Ontology, Axiom, Node, IsPart}
-use Rattle.normal_forms.specs.Occurrences.{Occurs, Reached}
+use Rattle.normal_forms.specs.Occurrences.{AtLeft, AtRight, Occurs, Reached}
+use Rattle.normalise.specs.declared.marks.Side.{Side}
+use Rattle.normalise.specs.declared.marks.Side.TheVariants as sides
 
 abbrev pub IsMarked : List Bool → ℕ → Type 0
 IsMarked marks e = slice_get marks e ≡ Some true
+
+-- the axiom has the expression on that side
+abbrev pub AtSide : Side → Axiom → ℕ → Type 0
+AtSide sides.Right = AtRight
+AtSide sides.Left = AtLeft
 
 -- new has the marks of old, and those that P says
 pub record Marks (old new : List Bool) (P : ℕ → Type 0) : Type 0 where

@@ -12,7 +12,7 @@ use Rattle.normal_forms.specs.Forms.{Form, Whole, Property, N1, first_of, first_
 use Rattle.normal_forms.specs.Origins.{AndGives, AxiomGives, ChainGives, LeftGives, RightGives}
 use Rattle.normalise.specs.declared.made.Made.{Made}
 use Rattle.normalise.specs.Marks.{IsMarked}
-use Rattle.normalise.specs.FreshNames.{AreNumberedByFirstPlace, prefixes_below, prefixes_of}
+use Rattle.normalise.specs.FreshNames.{AreNumberedByFirstPlace, NameChains, prefixes_below, prefixes_of}
 use Rattle.normalise.specs.View.{Adds, From, Lengthens, Lists, SaysClass, SaysProperty, StartsClass, StartsProperty}
 
 abbrev pub BelowOperand : List ℕ → ℕ → ℕ → Form → Type 0
@@ -72,6 +72,14 @@ pub record ChainStep (s t : Made) (rs : List ℕ) (whole k : ℕ) (origin : Orig
   pub starts : k + 1 < length rs → StartsProperty t.steps q (take (k + 1) rs)
   pub adds : Adds s t (From origin (ChainGives rs whole k))
 
+-- what the expression gives right, where it occurs there
+abbrev pub RightGivesIf : Bool → ExprId → Node → Origin → Form → Type 0
+RightGivesIf occurs whole node = From (origins.Expr whole) (λ g. (occurs ≡ true) × RightGives whole.0 node g)
+
+-- likewise left
+abbrev pub LeftGivesIf : Bool → ExprId → Node → Origin → Form → Type 0
+LeftGivesIf occurs whole node = From (origins.Expr whole) (λ g. (occurs ≡ true) × LeftGives whole.0 node g)
+
 -- what the expression gives on these sides
 abbrev pub SideGives : Node → ExprId → Bool → Bool → Origin → Form → Type 0
 SideGives node whole right left = From (origins.Expr whole) (λ g. ((right ≡ true) × RightGives whole.0 node g) ⊎ ((left ≡ true) × LeftGives whole.0 node g))
@@ -93,3 +101,7 @@ StatedAt axioms n o g = (a : Axiom) × (slice_get axioms n ≡ Some a) × (o ≡
 
 abbrev pub StatedFrom : List Axiom → ℕ → ℕ → Origin → Form → Type 0
 StatedFrom axioms from k = Within (StatedAt axioms) from k
+
+-- where the old lists stand for the prefixes of the chains of the axioms before that place, the new ones do for those of all
+abbrev pub NameMoreChains : List Axiom → ℕ → Lists → Lists → Type 0
+NameMoreChains axioms from old new = NameChains (take from axioms) old → NameChains axioms new

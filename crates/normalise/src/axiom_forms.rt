@@ -1,13 +1,13 @@
 //! The forms of axioms.
-ghost use Rattle.std.specs.Prelude.{◌≡◌, ℕ, ◌+◌, ◌<◌, ◌≤◌, OnOk, length, map, slice_get, Some, take};
+ghost use Rattle.std.specs.Prelude.{◌≡◌, ℕ, ◌+◌, ◌<◌, ◌≤◌, OnOk, length, map, slice_get, Some};
 ghost use Rattle.axioms.specs.Ontology.{Axiom as Stated, SubProperty};
 ghost use Rattle.axioms.specs.View.{axiom_of, expr_numbers, prop_numbers};
 ghost use Rattle.axioms.specs.WellFormedness.{AreDistinct};
 ghost use Rattle.normal_forms.specs.declared.forms.Origin.TheVariants as origins;
 ghost use Rattle.normal_forms.specs.Forms.{N5};
 ghost use Rattle.normal_forms.specs.Origins.{AxiomGives, ChainGives, CircleGives, PairGives, subsumed};
-ghost use Rattle.normalise.specs.FreshNames.{NameChains, prefixes_of, chain_prefixes};
-ghost use Rattle.normalise.specs.Steps.{NumbersBehind, OperandsDiffer, StatedFrom};
+ghost use Rattle.normalise.specs.FreshNames.{prefixes_of, chain_prefixes};
+ghost use Rattle.normalise.specs.Steps.{NameMoreChains, NumbersBehind, OperandsDiffer, StatedFrom};
 ghost use Rattle.normalise.specs.View.{Adds, From};
 
 use crate::lists::{expr_at, next_in_circle, prop_at};
@@ -151,7 +151,7 @@ impl Made {
         requires within { from ≤ length axioms.now }
         requires distinct { (n : ℕ) (a : Stated) → slice_get (map axiom_of axioms.now) n ≡ Some a → OperandsDiffer a }
         ensures forms { OnOk result (Adds self.old self.new (StatedFrom (map axiom_of axioms.now) from (length axioms.now))) }
-        ensures names { OnOk result (NameChains (take from (map axiom_of axioms.now)) self.old.steps → NameChains (map axiom_of axioms.now) self.new.steps) }
+        ensures names { OnOk result (NameMoreChains (map axiom_of axioms.now) from self.old.steps self.new.steps) }
     {
         for k in from..axioms.len() {
             self.state(&axioms[k], Origin::Axiom(k + 1))?;

@@ -1,11 +1,10 @@
 //! The forms of expressions that occur.
-ghost use Rattle.std.specs.Prelude.{◌≡◌, ◌<◌, ◌≤◌, ◌^◌, OnOk, length, true};
+ghost use Rattle.std.specs.Prelude.{◌≡◌, ◌<◌, ◌≤◌, ◌^◌, OnOk, length};
 ghost use Rattle.axioms.specs.Ontology.{And};
 ghost use Rattle.axioms.specs.View.{expr_numbers, node_of};
 ghost use Rattle.axioms.specs.WellFormedness.{AreDistinct, IsOntology};
-ghost use Rattle.normal_forms.specs.declared.forms.Origin.TheVariants as origins;
 ghost use Rattle.normal_forms.specs.Origins.{LeftGives, RightGives};
-ghost use Rattle.normalise.specs.Steps.{BelowOperand, ExpressedAt, ExpressedTo, PartsDiffer, SideGives};
+ghost use Rattle.normalise.specs.Steps.{BelowOperand, ExpressedAt, ExpressedTo, LeftGivesIf, PartsDiffer, RightGivesIf, SideGives};
 ghost use Rattle.normalise.specs.View.{Adds, From};
 
 use crate::lists::expr_at;
@@ -79,7 +78,7 @@ impl Made {
     // What an expression gives on the right, where it occurs there.
     fn right_if(&mut self, expr: &Expr, whole: ExprId, occurs: bool) -> Result<(), Memory>
         requires { PartsDiffer (node_of expr.now) }
-        ensures { OnOk result (Adds self.old self.new (From (origins.Expr whole) (λ g. (occurs ≡ true) × RightGives whole.0 (node_of expr.now) g))) }
+        ensures { OnOk result (Adds self.old self.new (RightGivesIf occurs whole (node_of expr.now))) }
     {
         if occurs {
             self.right(expr, whole, Origin::Expr(whole))?;
@@ -89,7 +88,7 @@ impl Made {
 
     // What an expression gives on the left, where it occurs there.
     fn left_if(&mut self, expr: &Expr, whole: ExprId, occurs: bool) -> Result<(), Memory>
-        ensures { OnOk result (Adds self.old self.new (From (origins.Expr whole) (λ g. (occurs ≡ true) × LeftGives whole.0 (node_of expr.now) g))) }
+        ensures { OnOk result (Adds self.old self.new (LeftGivesIf occurs whole (node_of expr.now))) }
     {
         if occurs {
             self.left(expr, whole, Origin::Expr(whole))?;

@@ -1,16 +1,16 @@
 //! Normal forms of an ontology that grows at its end, and of further expressions.
 ghost use Rattle.std.specs.Prelude.{◌≡◌, ℕ, List, [], ◌∷◌, ◌++◌, ◌↔◌, ◌<◌, ◌≤◌, IfOk, IsTrue, OnErr, OnOk, length, Contains};
 ghost use Rattle.axioms.specs.Growth.{Numbers};
-ghost use Rattle.axioms.specs.Ontology.{Ontology as Numbered};
 ghost use Rattle.axioms.specs.View.{expr_numbers};
 ghost use Rattle.normalise.specs.Additions.{joined};
-ghost use Rattle.normalise.specs.Growth.{Grows, Grown, IsNormalFor};
+ghost use Rattle.normalise.specs.Growth.{AreNormalAgain, Grown, IsNormalFor};
 ghost use Rattle.normalise.specs.Listing.{Listing};
 
 use crate::made::Made;
+use crate::marks::Side;
 use crate::new_marks::fresh;
 use crate::normal::Normal;
-use crate::occurring::{left_marks, right_marks};
+use crate::occurring::occurring_marks;
 use axioms::{ExprId, Memory, Ontology};
 use std::alloc::Global;
 use std::hash::RandomState;
@@ -62,13 +62,13 @@ impl Normal {
         requires { from ≤ length ontology.now.axioms }
         ensures asked { IfOk result (λ m. m.asked.items ≡ asked.items) }
         ensures kept { IfOk result (λ m. Grown self.now (joined self.now m)) }
-        ensures forms { IfOk result (λ m. (o : Numbered) → IsNormalFor o self.now → Grows o ontology.now from
-            → ((e : ℕ) → Contains self.now.asked e → Contains (expr_numbers asked.items) e) → IsNormalFor ontology.now (joined self.now m)) }
+        ensures forms { IfOk result (λ m. ((e : ℕ) → Contains self.now.asked e → Contains (expr_numbers asked.items) e) →
+            AreNormalAgain ontology.now from self.now (joined self.now m)) }
     {
         ontology.well_formed();
         ontology.bounded();
-        let right = right_marks(self.alloc, ontology, &asked)?;
-        let left = left_marks(self.alloc, ontology, &asked)?;
+        let right = occurring_marks(self.alloc, ontology, &asked, Side::Right)?;
+        let left = occurring_marks(self.alloc, ontology, &asked, Side::Left)?;
         let fresh_right = fresh(self.alloc, &right, &self.right)?;
         let fresh_left = fresh(self.alloc, &left, &self.left)?;
         let mut made = self.made.begun(self.alloc)?;
@@ -108,7 +108,7 @@ impl Normal {
     /// `Memory` where memory was refused, or there are 2^32 - 1 fresh names of a kind. Then nothing changes.
     pub fn extend(&mut self, ontology: &Ontology, from: usize) -> Result<(), Memory>
         requires { from ≤ length ontology.now.axioms }
-        ensures ok { OnOk result ((o : Numbered) → IsNormalFor o self.old → Grows o ontology.now from → IsNormalFor ontology.now self.new) }
+        ensures ok { OnOk result (AreNormalAgain ontology.now from self.old self.new) }
         ensures asked { self.new.asked ≡ self.old.asked }
         ensures kept { Grown self.old self.new }
         ensures err { OnErr result (self.new ≡ self.old) }
@@ -126,7 +126,7 @@ impl Normal {
     ///
     /// `Memory` where memory was refused, or there are 2^32 - 1 fresh names of a kind. Then nothing changes.
     pub fn ask(&mut self, ontology: &Ontology, expr: ExprId) -> Result<(), Memory>
-        ensures ok { OnOk result ((o : Numbered) → IsNormalFor o self.old → Grows o ontology.now (length ontology.now.axioms) → IsNormalFor ontology.now self.new) }
+        ensures ok { OnOk result (AreNormalAgain ontology.now (length ontology.now.axioms) self.old self.new) }
         ensures asked { OnOk result ((n : ℕ) × Numbers self.old.asked expr.0 self.new.asked n) }
         ensures kept { Grown self.old self.new }
         ensures err { OnErr result (self.new ≡ self.old) }

@@ -5,9 +5,18 @@ ghost use Rattle.axioms.specs.Ontology.{IsPart};
 ghost use Rattle.axioms.specs.View.{axiom_of, expr_numbers, node_of};
 ghost use Rattle.axioms.specs.WellFormedness.{IsOntology};
 ghost use Rattle.normal_forms.specs.Occurrences.{AtLeft, AtRight, AtSome};
-ghost use Rattle.normalise.specs.Marks.{Closes, ClosesAt, Marks};
+ghost use Rattle.normalise.specs.Marks.{AtSide, Closes, ClosesAt, Marks};
 
 use axioms::{Axiom, Expr, ExprId, Ontology};
+
+/// A side on which expressions occur.
+#[derive(Clone, Copy)]
+pub(crate) enum Side {
+    /// Where something lies below them.
+    Right,
+    /// Where they lie below something.
+    Left,
+}
 
 pub(crate) fn mark(marks: &mut [bool], id: ExprId)
     ensures { Marks marks.old marks.new (λ e. e ≡ id.0) }
@@ -61,21 +70,22 @@ fn mark_left(marks: &mut [bool], axiom: &Axiom)
     }
 }
 
-// Marks what the axioms have at a right place.
-pub(crate) fn mark_axioms_right(marks: &mut [bool], axioms: &[Axiom])
-    ensures { Marks marks.old marks.new (AtSome AtRight (map axiom_of axioms.now)) }
+// Marks what the axiom has on the side.
+fn mark_side(marks: &mut [bool], axiom: &Axiom, side: Side)
+    ensures { Marks marks.old marks.new (AtSide side (axiom_of «axiom».now)) }
 {
-    for item in axioms {
-        mark_right(marks, item);
+    match side {
+        Side::Right => mark_right(marks, axiom),
+        Side::Left => mark_left(marks, axiom),
     }
 }
 
-// Marks what the axioms have at a left place.
-pub(crate) fn mark_axioms_left(marks: &mut [bool], axioms: &[Axiom])
-    ensures { Marks marks.old marks.new (AtSome AtLeft (map axiom_of axioms.now)) }
+// Marks what the axioms have on the side.
+pub(crate) fn mark_axioms(marks: &mut [bool], axioms: &[Axiom], side: Side)
+    ensures { Marks marks.old marks.new (AtSome (AtSide side) (map axiom_of axioms.now)) }
 {
     for item in axioms {
-        mark_left(marks, item);
+        mark_side(marks, item, side);
     }
 }
 

@@ -39,7 +39,14 @@ impl Model for Normal {
 
     ghost Value = { Listing };
 
-    ghost view = { λ n. record { entries = n.made.entries; operands = n.made.operands; steps = n.made.steps; asked = expr_numbers n.asked.items; right = n.right.items; left = n.left.items } };
+    ghost view = { λ n. record {
+      entries = n.made.entries;
+      operands = n.made.operands;
+      steps = n.made.steps;
+      asked = expr_numbers n.asked.items;
+      right = n.right.items;
+      left = n.left.items;
+    } };
 }
 
 impl Normal {

@@ -17,6 +17,10 @@ PushesInto item (Err back) old new = (back ≡ item) × (new ≡ old)
 abbrev pub StaysWith : Option ℕ → List Item → Item → Type 0
 StaysWith last items item = (other : Item) → Contains items other → last ≡ Some other.context → last ≡ Some item.context
 
+-- where one of the items is of the context popped last, that stays the last
+abbrev pub StaysLast : (old new : Option ℕ) → List Item → Type 0
+StaysLast old new items = (other : Item) → Contains items other → old ≡ Some other.context → new ≡ old
+
 -- new is old without the item, which is of the context popped last if any is, and whose context is now the last
 pub record PopsNext (item : Item) (old new : Grouped) : Type 0 where
   pub items : Adds item new.items old.items

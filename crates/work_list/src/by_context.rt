@@ -1,8 +1,7 @@
 //! The items of one context together.
-ghost use Rattle.std.specs.Prelude.{◌≡◌, ◌++◌, ◌∷◌, [], None, Some, IfNone, IfSome, IsTrue, ◌↔◌, OnErr, OnOk, Contains, length};
-ghost use Rattle.work_list.specs.declared.item.Item.{Item as AnItem};
+ghost use Rattle.std.specs.Prelude.{◌≡◌, ◌++◌, ◌∷◌, [], None, Some, IfNone, IfSome, IsTrue, ◌↔◌, OnErr, OnOk, length};
 ghost use Rattle.work_list.specs.Bag.{Adds};
-ghost use Rattle.work_list.specs.Groups.{PopsTogether, PushesInto};
+ghost use Rattle.work_list.specs.Groups.{PopsTogether, PushesInto, StaysLast};
 ghost use Rattle.work_list.specs.Stacks.{IsApart, items_in, items_of_last, waiting};
 
 use crate::groups::Groups;
@@ -76,7 +75,7 @@ fn turn(groups: &mut Groups, last: &mut Option<u32>, current: &mut NumberList)
     requires { IsApart groups.old last.old current.old }
     ensures apart { IsApart groups.new last.new current.new }
     ensures items { waiting groups.new last.new current.new ≡ waiting groups.old last.old current.old }
-    ensures together { (other : AnItem) → Contains (waiting groups.old last.old current.old) other → last.old ≡ Some other.context → last.new ≡ last.old }
+    ensures together { StaysLast last.old last.new (waiting groups.old last.old current.old) }
     ensures ended { current.new ≡ [] → (items_in groups.new ≡ []) × (last.new ≡ last.old) }
 {
     if current.len() > 0 {

@@ -14,8 +14,9 @@ pub returns-clause-ok : goal.returns-clause-ok
 returns-clause-ok c = λ o n w.
     let many : length c.args.ontology.now.axioms ≡ length c.axioms.result.now = ap length (sym c.axioms.ensures) ∙ length-map c.axioms.result.now axiom_of in
     subst (IsNormalFor c.args.ontology.now) (sym c.in_ok-join.ensures.ok)
-    (c.in_ok-more.ensures.forms o n (subst (Grows o c.args.ontology.now) many w)
-    (λ e h. asked_more _ _ c.args.expr.0 c.in_ok-asked.ensures.0 c.in_ok-asked.ensures.1 e (subst (λ xs. Contains xs e) (sym (before c)) h)))
+    (c.in_ok-more.ensures.forms
+    (λ e h. asked_more _ _ c.args.expr.0 c.in_ok-asked.ensures.0 c.in_ok-asked.ensures.1 e (subst (λ xs. Contains xs e) (sym (before c)) h))
+    o n (subst (Grows o c.args.ontology.now) many w))
 
 pub returns-clause-asked : goal.returns-clause-asked
 returns-clause-asked c = (

@@ -10,7 +10,7 @@ same_asked c = ap expr_numbers (c.in_ok-asked.ensures ∙ c.deref.ensures.value)
 pub returns-clause-ok : goal.returns-clause-ok
 returns-clause-ok c = λ o n w.
     subst (IsNormalFor c.args.ontology.now) (sym c.in_ok-join.ensures.ok)
-    (c.in_ok-more.ensures.forms o n w (λ e h. subst (λ xs. Contains xs e) (sym (same_asked c)) h))
+    (c.in_ok-more.ensures.forms (λ e h. subst (λ xs. Contains xs e) (sym (same_asked c)) h) o n w)
 
 pub returns-clause-kept : goal.returns-clause-kept
 returns-clause-kept c = subst (Grown c.args.self.now) (sym c.in_ok-join.ensures.ok) c.in_ok-more.ensures.kept

@@ -22,7 +22,7 @@ returns-clause-kept c =
     _ _ c.in_ok-state_all.ensures.forms c.in_ok-express_all.ensures
 
 pub returns-clause-forms : goal.returns-clause-forms
-returns-clause-forms c = λ o n w more.
+returns-clause-forms c = λ more o n w.
     let p = c.args.ontology.now in
     let fr = c.in_ok-fresh_right.fresh_right.items in let fl = c.in_ok-fresh_left.fresh_left.items in
     let many = length c.axioms.result.now in

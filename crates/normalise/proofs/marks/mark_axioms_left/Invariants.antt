@@ -1,8 +1,0 @@
-use Rattle.std.proofs.Common.{map}
-use Rattle.axioms.specs.View.{axiom_of}
-use Rattle.normal_forms.specs.Occurrences.{AtLeft}
-use Rattle.normalise.specs.Marks.{Marks, EachOf}
-use Rattle.normalise.proofs.marks.mark_axioms_left.Given as goal
-
-abbrev pub invariant-loop-item : goal.invariant-loop-item
-invariant-loop-item l = Marks l.initial.marks l.marks (EachOf (map axiom_of l.axioms) AtLeft l.item-index)
