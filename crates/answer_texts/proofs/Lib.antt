@@ -1,3 +1,3 @@
 pub mod More
 pub mod Expressions
-pub mod Absent
+pub mod EachLine

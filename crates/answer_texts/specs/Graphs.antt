@@ -4,8 +4,9 @@ use Rattle.std.specs.List.{flat_map, range_with_len, enumerate_from}
 use Rattle.std.specs.Fmt.{decimal}
 use Rattle.axioms.specs.Ontology.{Ontology, Names, name_at}
 use Rattle.certificate.specs.Certificate.{Line}
-use Rattle.interpretation_spec.specs.NumberedInterpretation.{NumberedInterpretation, members_of, targets_of}
+use Rattle.interpretation_spec.specs.NumberedInterpretation.{NumberedInterpretation, members_of}
 use Rattle.number_sets.specs.Members.{has}
+use Rattle.answer_texts.specs.Pairs.{pairs_of}
 use Rattle.answer_texts.specs.Proof.{numbered_text}
 
 -- a byte inside quotation marks: a quotation mark, a backslash and an ampersand have a meaning there
@@ -59,15 +60,9 @@ element_node names i refuting x =
 abbrev pub pair_edge : List ℕ → ℕ → ℕ → List ℕ
 pair_edge name x y = codes "  " ++ decimal x ++ codes " -> " ++ decimal y ++ codes " [label=\"" ++ escaped_name name ++ codes "\"];\n"
 
-abbrev pub source_edges : Names → NumberedInterpretation → ℕ → ℕ → List ℕ
-source_edges names i r x = flat_map (pair_edge (name_at names.properties r) x) (targets_of i r x)
-
-abbrev pub property_edges : Names → NumberedInterpretation → ℕ → List ℕ
-property_edges names i r = flat_map (source_edges names i r) (range_with_len 0 i.size)
-
 abbrev pub refutation_graph : Names → NumberedInterpretation → ℕ → List ℕ
 refutation_graph names i x =
     codes "digraph refutation {\n  node [shape=ellipse];\n"
     ++ flat_map (element_node names i x) (range_with_len 0 i.size)
-    ++ flat_map (property_edges names i) (range_with_len 0 (length names.properties))
+    ++ pairs_of pair_edge names i
     ++ codes "}\n"

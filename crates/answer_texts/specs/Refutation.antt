@@ -3,9 +3,10 @@ use Rattle.std.specs.Prelude.{ℕ, List, [], ◌∷◌, ◌++◌, ◌-◌, lengt
 use Rattle.std.specs.List.{filter, flat_map, range_with_len, enumerate_from}
 use Rattle.std.specs.Fmt.{decimal}
 use Rattle.axioms.specs.Ontology.{Names, name_at}
-use Rattle.interpretation_spec.specs.NumberedInterpretation.{NumberedInterpretation, members_of, targets_of}
+use Rattle.interpretation_spec.specs.NumberedInterpretation.{NumberedInterpretation, members_of}
 use Rattle.number_sets.specs.Members.{has}
 use Rattle.answer_texts.specs.Names.{line_feed, name_text, spaced_numbers}
+use Rattle.answer_texts.specs.Pairs.{pairs_of}
 
 -- the elements of the class of that number
 abbrev pub elements_of : NumberedInterpretation → ℕ → List ℕ
@@ -24,13 +25,6 @@ class_text names i c = members_text (name_at names.classes c) (elements_of i c)
 abbrev pub pair_text : List ℕ → ℕ → ℕ → List ℕ
 pair_text name x y = codes "pair " ++ name_text name ++ spaced_numbers (x ∷ y ∷ []) ++ line_feed
 
--- the pairs of a property that begin at an element
-abbrev pub source_text : Names → NumberedInterpretation → ℕ → ℕ → List ℕ
-source_text names i r x = flat_map (pair_text (name_at names.properties r) x) (targets_of i r x)
-
-abbrev pub property_text : Names → NumberedInterpretation → ℕ → List ℕ
-property_text names i r = flat_map (source_text names i r) (range_with_len 0 i.size)
-
 -- as individual <x:a> 0
 abbrev pub individual_text : Names → ℕ × ℕ → List ℕ
 individual_text names (a, x) = codes "individual " ++ name_text (name_at names.individuals a) ++ spaced_numbers (x ∷ []) ++ line_feed
@@ -40,7 +34,7 @@ abbrev pub interpretation_text : Names → NumberedInterpretation → ℕ → Li
 interpretation_text names i x =
     codes "domain " ++ decimal i.size ++ line_feed
     ++ flat_map (class_text names i) (range_with_len 1 (length names.classes - 1))
-    ++ flat_map (property_text names i) (range_with_len 0 (length names.properties))
+    ++ pairs_of pair_text names i
     ++ flat_map (individual_text names) (enumerate_from 0 i.individuals)
     ++ codes "element " ++ decimal x ++ line_feed
 

@@ -1,5 +1,6 @@
 //! A refutation as a graph.
 ghost use Rattle.answer_texts.specs.Graphs as graphs;
+ghost use Rattle.answer_texts.specs.Pairs.{pairs_of};
 ghost use Rattle.axioms.specs.Ontology.{name_at};
 ghost use Rattle.interpretation_spec.specs.NumberedInterpretation.{IsMadeFor};
 ghost use Rattle.std.specs.List.{enumerate_from, flat_map, range_with_len};
@@ -7,9 +8,10 @@ ghost use Rattle.std.specs.Prelude.{◌++◌, ◌-◌, ◌≡◌, OnOk, length, 
 ghost use Rattle.std.specs.String.{string_bytes};
 
 use crate::graph_of_proof::push_escaped;
-use crate::looking::{element_of, is_member, targets_of};
+use crate::looking::{element_of, is_member};
 use crate::names::{name_of, push_number};
-use axioms::{ClassId, IndId, Ontology, PropId};
+use crate::pairs::{PairText, push_properties};
+use axioms::{ClassId, IndId, Ontology};
 use interpretation_spec::Interpretation;
 use std::alloc::AllocError;
 
@@ -148,64 +150,25 @@ fn push_nodes(
     Ok(())
 }
 
-// Adds an edge for each pair of the property from the source to a target.
-fn push_edges(
-    out: &mut Vec<u8>,
-    properties: &[String],
-    property: usize,
-    source: usize,
-    targets: &[usize],
-) -> Result<(), AllocError>
-    ensures { OnOk result
-        (out.new.items ≡ out.old.items ++ flat_map (graphs.pair_edge (name_at (map string_bytes properties.now) property) source) targets.now) }
-{
-    for target in targets {
+/// An edge for each pair.
+struct PairEdge;
+
+impl PairText for PairEdge {
+    ghost pair = { graphs.pair_edge };
+
+    fn push_pair(
+        out: &mut Vec<u8>,
+        properties: &[String],
+        property: usize,
+        source: usize,
+        target: usize,
+    ) -> Result<(), AllocError> {
         push_number(out, b"  ", source as u64)?;
-        push_number(out, b" -> ", *target as u64)?;
+        push_number(out, b" -> ", target as u64)?;
         out.extend_from_slice(b" [label=\"")?;
         push_label(out, properties, property)?;
-        out.extend_from_slice(b"\"];\n")?;
+        out.extend_from_slice(b"\"];\n")
     }
-    Ok(())
-}
-
-// Adds the edges of the property.
-fn push_property(
-    out: &mut Vec<u8>,
-    ontology: &Ontology,
-    interpretation: &Interpretation,
-    property: PropId,
-) -> Result<(), AllocError>
-    ensures { OnOk result (out.new.items ≡ out.old.items ++ graphs.property_edges ontology.now.names interpretation.now property.0) }
-{
-    for source in 0..interpretation.size() {
-        let targets = targets_of(interpretation, property, source);
-        push_edges(
-            out,
-            ontology.properties(),
-            property.index(),
-            source,
-            targets,
-        )?;
-    }
-    Ok(())
-}
-
-// Adds the edges of all properties.
-fn push_properties(
-    out: &mut Vec<u8>,
-    ontology: &Ontology,
-    interpretation: &Interpretation,
-) -> Result<(), AllocError>
-    ensures { OnOk result
-        (out.new.items
-        ≡ out.old.items ++ flat_map (graphs.property_edges ontology.now.names interpretation.now) (range_with_len 0 (length ontology.now.names.properties))) }
-{
-    ontology.bounded();
-    for number in 0..ontology.properties().len() {
-        push_property(out, ontology, interpretation, PropId(number as u32))?;
-    }
-    Ok(())
 }
 
 /// Adds the nodes and the edges.
@@ -220,8 +183,8 @@ pub(crate) fn push_graph(
         (out.new.items
         ≡ out.old.items
         ++ (flat_map (graphs.element_node ontology.now.names interpretation.now refuting) (range_with_len 0 interpretation.now.size)
-        ++ flat_map (graphs.property_edges ontology.now.names interpretation.now) (range_with_len 0 (length ontology.now.names.properties)))) }
+        ++ pairs_of graphs.pair_edge ontology.now.names interpretation.now)) }
 {
     push_nodes(out, ontology, interpretation, refuting)?;
-    push_properties(out, ontology, interpretation)
+    push_properties::<PairEdge>(out, ontology, interpretation)
 }

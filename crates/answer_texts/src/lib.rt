@@ -7,6 +7,7 @@ mod graph_of_proof;
 mod graph_of_refutation;
 mod looking;
 mod names;
+mod pairs;
 mod proof;
 mod refutation;
 

@@ -1,7 +1,6 @@
 //! The lines of a derivation as people read them.
 ghost use Rattle.answer_texts.specs.Proof as text;
 ghost use Rattle.certificate.specs.Writability.{IsConclusionOf, IsLineOf, IsSubjectOf};
-ghost use Rattle.certificate.specs.Text.{rule_number};
 ghost use Rattle.certificate.specs.View.{conclusion_of, line_of, lines_of, subject_of};
 ghost use Rattle.std.specs.List.{enumerate_from, flat_map};
 ghost use Rattle.std.specs.Prelude.{◌++◌, ◌≡◌, All, OnOk, codes};
@@ -10,7 +9,7 @@ ghost use Rattle.std.specs.Fmt.{decimal};
 use crate::expression::push_expression;
 use crate::names::{push_name, push_number};
 use axioms::Ontology;
-use certificate::{Conclusion, Line, Rule, Subject};
+use certificate::{Conclusion, Line, Subject};
 use std::alloc::AllocError;
 
 fn push_subject(out: &mut Vec<u8>, ontology: &Ontology, subject: Subject) -> Result<(), AllocError>
@@ -83,12 +82,6 @@ fn push_premises(out: &mut Vec<u8>, premises: &[u64]) -> Result<(), AllocError>
     }
 }
 
-fn rule_number(rule: Rule) -> u64
-    ensures { result ≡ rule_number rule }
-{
-    rule as u64 + 1
-}
-
 /// Adds a line of that number, but for its end.
 pub(crate) fn push_numbered(
     out: &mut Vec<u8>,
@@ -102,7 +95,7 @@ pub(crate) fn push_numbered(
     push_number(out, b"", number)?;
     out.extend_from_slice(b". ")?;
     push_conclusion(out, ontology, line.conclusion)?;
-    push_number(out, b" by K", rule_number(line.rule))?;
+    push_number(out, b" by K", line.rule.number())?;
     push_axiom(out, line.axiom)?;
     push_premises(out, &line.premises)
 }

@@ -1,15 +1,14 @@
 //! An interpretation and one of its elements, as people read them.
 ghost use Rattle.answer_texts.specs.Names.{spaced_numbers};
 ghost use Rattle.answer_texts.specs.Refutation as text;
-ghost use Rattle.axioms.specs.Ontology.{name_at};
 ghost use Rattle.interpretation_spec.specs.NumberedInterpretation.{IsMadeFor};
 ghost use Rattle.std.specs.List.{enumerate_from, flat_map, range_with_len};
-ghost use Rattle.std.specs.Prelude.{◌++◌, ◌-◌, ◌<◌, ◌≡◌, ◌^◌, ◌≤◌, IfOk, OnOk, length, map};
-ghost use Rattle.std.specs.String.{string_bytes};
+ghost use Rattle.std.specs.Prelude.{◌++◌, ◌-◌, ◌<◌, ◌≡◌, ◌^◌, ◌≤◌, IfOk, OnOk, length};
 
-use crate::looking::{element_of, is_member, targets_of};
+use crate::looking::{element_of, is_member};
 use crate::names::{push_name, push_number};
-use axioms::{ClassId, IndId, Memory, Ontology, PropId};
+use crate::pairs::{PairText, push_properties};
+use axioms::{ClassId, IndId, Memory, Ontology};
 use interpretation_spec::Interpretation;
 use std::alloc::{AllocError, Global};
 
@@ -80,64 +79,25 @@ fn push_classes(
     Ok(())
 }
 
-// Adds a line for each pair of the property from the source to a target.
-fn push_pairs(
-    out: &mut Vec<u8>,
-    properties: &[String],
-    property: usize,
-    source: usize,
-    targets: &[usize],
-) -> Result<(), AllocError>
-    ensures { OnOk result
-        (out.new.items ≡ out.old.items ++ flat_map (text.pair_text (name_at (map string_bytes properties.now) property) source) targets.now) }
-{
-    for target in targets {
+/// A line for each pair.
+struct PairLine;
+
+impl PairText for PairLine {
+    ghost pair = { text.pair_text };
+
+    fn push_pair(
+        out: &mut Vec<u8>,
+        properties: &[String],
+        property: usize,
+        source: usize,
+        target: usize,
+    ) -> Result<(), AllocError> {
         out.extend_from_slice(b"pair ")?;
         push_name(out, properties, property)?;
         push_number(out, b" ", source as u64)?;
-        push_number(out, b" ", *target as u64)?;
-        out.extend_from_slice(b"\n")?;
+        push_number(out, b" ", target as u64)?;
+        out.extend_from_slice(b"\n")
     }
-    Ok(())
-}
-
-// Adds the lines of the property.
-fn push_property(
-    out: &mut Vec<u8>,
-    ontology: &Ontology,
-    interpretation: &Interpretation,
-    property: PropId,
-) -> Result<(), AllocError>
-    ensures { OnOk result (out.new.items ≡ out.old.items ++ text.property_text ontology.now.names interpretation.now property.0) }
-{
-    for source in 0..interpretation.size() {
-        let targets = targets_of(interpretation, property, source);
-        push_pairs(
-            out,
-            ontology.properties(),
-            property.index(),
-            source,
-            targets,
-        )?;
-    }
-    Ok(())
-}
-
-// Adds the lines of all properties.
-fn push_properties(
-    out: &mut Vec<u8>,
-    ontology: &Ontology,
-    interpretation: &Interpretation,
-) -> Result<(), AllocError>
-    ensures { OnOk result
-        (out.new.items
-        ≡ out.old.items ++ flat_map (text.property_text ontology.now.names interpretation.now) (range_with_len 0 (length ontology.now.names.properties))) }
-{
-    ontology.bounded();
-    for number in 0..ontology.properties().len() {
-        push_property(out, ontology, interpretation, PropId(number as u32))?;
-    }
-    Ok(())
 }
 
 // Adds the line of an individual.
@@ -187,7 +147,7 @@ pub(crate) fn push_refutation(
     push_number(out, b"no\ndomain ", interpretation.size() as u64)?;
     out.extend_from_slice(b"\n")?;
     push_classes(alloc, out, ontology, interpretation)?;
-    push_properties(out, ontology, interpretation)?;
+    push_properties::<PairLine>(out, ontology, interpretation)?;
     push_individuals(out, ontology, interpretation)?;
     push_number(out, b"element ", element as u64)?;
     out.extend_from_slice(b"\n")?;

@@ -13,3 +13,5 @@ pub mod RowMeaning
 pub mod Meaning
 pub mod LinesLeft
 pub mod LineTexts
+pub mod Seen
+pub mod Rules

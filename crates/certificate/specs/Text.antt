@@ -87,3 +87,9 @@ header (Some l) = codes "elcert 1 consistent" ++ line_feed
 
 abbrev pub certificate_text : Certificate → List ℕ
 certificate_text c = header c.listed ++ flat_map line_text c.lines ++ listed_text c.listed ++ codes "end" ++ line_feed
+
+-- ---- the text of a certificate that lists an interpretation, as it grows
+
+-- the first line, the lines of the derivation, and the line that counts the elements
+abbrev pub text_to_domain : List Line → ℕ → List ℕ
+text_to_domain lines domain = codes "elcert 1 consistent" ++ line_feed ++ flat_map line_text lines ++ (lettered_number (codes "domain ") domain ++ line_feed)

@@ -2,27 +2,20 @@
 
 ghost use Rattle.std.specs.Prelude.{◌≡◌, None, map, nat_lt};
 ghost use Rattle.std.specs.List.{list_all};
-ghost use Rattle.certificate.specs.Tests.{fits_subject, fits_property, fits_conclusion, fits_axiom, is_premise, fits_line, is_after, ascend, are_elements, fits_class, is_pair_after, fits_pairs, fits_claim, fits_domain, fit_classes, fit_pairs, fit_claims, fit_individuals, fits_listed, fits_certificate};
+ghost use Rattle.certificate.specs.Tests.{fits_subject, fits_conclusion, fits_axiom, is_premise, fits_line, is_named, is_after, ascend, are_elements, fits_class, is_pair_after, fits_pairs, fits_claim, fit_classes, fit_pairs, fit_claims, fit_individuals, fits_listed, fits_certificate};
 ghost use Rattle.certificate.specs.View.{subject_of, conclusion_of, line_of, lines_of, class_row_of, pair_row_of, claim_of, listed_of, certificate_from};
 
-use crate::counts::{axiom_count, individual_count, is_named, property_count};
 use crate::line::{Conclusion, Line, Subject};
 use crate::listed::{Claim, ClassRow, Listed, PairRow};
-use axioms::{Ontology, PropId};
+use axioms::{ExprId, Ontology};
 
 fn fits_subject(ontology: &Ontology, subject: Subject) -> bool
     ensures { result ≡ fits_subject ontology.now (subject_of subject) }
 {
     match subject {
         Subject::Expr(expr) => expr.index() < ontology.expression_count(),
-        Subject::Individual(individual) => { individual.index() < individual_count(ontology) }
+        Subject::Individual(individual) => { individual.index() < ontology.individuals().len() }
     }
-}
-
-fn fits_property(ontology: &Ontology, property: PropId) -> bool
-    ensures { result ≡ fits_property ontology.now property.0 }
-{
-    property.index() < property_count(ontology)
 }
 
 fn fits_conclusion(ontology: &Ontology, conclusion: Conclusion) -> bool
@@ -34,7 +27,7 @@ fn fits_conclusion(ontology: &Ontology, conclusion: Conclusion) -> bool
         }
         Conclusion::Edge(source, property, target) => {
             fits_subject(ontology, source)
-                && fits_property(ontology, property)
+                && property.index() < ontology.properties().len()
                 && fits_subject(ontology, target)
         }
     }
@@ -46,21 +39,15 @@ fn fits_axiom(ontology: &Ontology, number: Option<usize>) -> bool
     ontology.bounded();
     match number {
         None => true,
-        Some(number) => 1 <= number && number <= axiom_count(ontology),
+        Some(number) => 1 <= number && number <= ontology.axioms().len(),
     }
-}
-
-fn is_premise(number: u64) -> bool
-    ensures { result ≡ is_premise number }
-{
-    1 <= number
 }
 
 /// Whether the numbers may be those of lines.
 pub(crate) fn are_premises(numbers: &[u64]) -> bool
     ensures { result ≡ list_all is_premise numbers.now }
 {
-    numbers.iter().all(|number| is_premise(*number))
+    numbers.iter().all(|number| 1 <= *number)
 }
 
 /// Whether the line's numbers name something of the ontology, and lines.
@@ -70,6 +57,13 @@ pub(crate) fn fits_line(ontology: &Ontology, line: &Line) -> bool
     fits_conclusion(ontology, line.conclusion)
         && fits_axiom(ontology, line.axiom)
         && are_premises(&line.premises)
+}
+
+/// Whether the expression is a class, whose number then fits a text.
+fn is_named(ontology: &Ontology, expression: ExprId) -> bool
+    ensures { result ≡ is_named ontology.now expression.0 }
+{
+    ontology.class_of(expression).is_some()
 }
 
 fn is_after(last: Option<u32>, number: u32) -> bool
@@ -123,7 +117,7 @@ fn is_pair_after(last: Option<(u32, u32)>, property: u32, source: u32) -> bool
 pub fn fits_pairs(ontology: &Ontology, domain: u32, last: Option<(u32, u32)>, row: &PairRow) -> bool
     ensures { result ≡ fits_pairs ontology.now domain last (pair_row_of row.now) }
 {
-    fits_property(ontology, row.property)
+    row.property.index() < ontology.properties().len()
         && row.source < domain
         && is_pair_after(last, row.property.0, row.source)
         && are_elements(domain, &row.targets)
@@ -134,13 +128,6 @@ pub(crate) fn fits_claim(ontology: &Ontology, domain: u32, last: Option<u32>, cl
     ensures { result ≡ fits_claim ontology.now domain last (claim_of claim) }
 {
     is_named(ontology, claim.class) && claim.element < domain && is_after(last, claim.class.0)
-}
-
-/// Whether there is an element.
-pub(crate) fn fits_domain(domain: u32) -> bool
-    ensures { result ≡ fits_domain domain }
-{
-    1 <= domain
 }
 
 fn are_classes(ontology: &Ontology, domain: u32, rows: &[ClassRow]) -> bool
@@ -191,7 +178,7 @@ fn are_below(domain: u32, elements: &[u32]) -> bool
 fn are_individuals(ontology: &Ontology, domain: u32, elements: &[u32]) -> bool
     ensures { result ≡ fit_individuals ontology.now domain elements.now }
 {
-    elements.len() == individual_count(ontology)
+    elements.len() == ontology.individuals().len()
         && elements.len() <= 1 << 32
         && are_below(domain, elements)
 }
@@ -199,7 +186,7 @@ fn are_individuals(ontology: &Ontology, domain: u32, elements: &[u32]) -> bool
 fn fits_listed(ontology: &Ontology, listed: &Listed) -> bool
     ensures { result ≡ fits_listed ontology.now (listed_of listed.now) }
 {
-    fits_domain(listed.domain)
+    1 <= listed.domain
         && are_classes(ontology, listed.domain, &listed.classes)
         && are_pairs(ontology, listed.domain, &listed.pairs)
         && are_individuals(ontology, listed.domain, &listed.individuals)

@@ -2,7 +2,6 @@
 #![tactic(auto)]
 
 mod certificate;
-mod counts;
 mod fault;
 mod fitting;
 mod line;
@@ -11,6 +10,7 @@ mod line_reading;
 mod line_text;
 mod listed;
 mod listed_reading;
+mod listed_text;
 mod number;
 mod reading;
 mod writing;
@@ -22,5 +22,6 @@ pub use line::{Conclusion, Line, Rule, Subject};
 pub use line_reader::LineReader;
 pub use line_text::LineText;
 pub use listed::{Claim, ClassRow, Listed, PairRow};
+pub use listed_text::ListedText;
 pub use reading::{one_certificate, one_text, read_certificate};
 pub use writing::{certificate_bytes, write_certificate};

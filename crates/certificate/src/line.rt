@@ -1,6 +1,7 @@
 //! The lines of a derivation.
 
 ghost use Rattle.certificate.specs.LineText.{source_of};
+ghost use Rattle.certificate.specs.Text.{rule_number};
 ghost use Rattle.certificate.specs.View.{conclusion_of, subject_of};
 ghost use Rattle.std.specs.Prelude.{◌≡◌};
 
@@ -53,6 +54,35 @@ pub enum Rule {
     K14,
     K15,
     K16,
+}
+
+/// The rules, by their numbers from 1.
+pub(crate) const RULES: [Rule; 16] = [
+    Rule::K1,
+    Rule::K2,
+    Rule::K3,
+    Rule::K4,
+    Rule::K5,
+    Rule::K6,
+    Rule::K7,
+    Rule::K8,
+    Rule::K9,
+    Rule::K10,
+    Rule::K11,
+    Rule::K12,
+    Rule::K13,
+    Rule::K14,
+    Rule::K15,
+    Rule::K16,
+];
+
+impl Rule {
+    /// The number that it has in texts, from 1.
+    pub fn number(self) -> u64
+        ensures { result ≡ rule_number self }
+    {
+        self as u64 + 1
+    }
 }
 
 /// A line of a derivation: a conclusion by a rule.

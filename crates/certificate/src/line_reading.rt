@@ -6,7 +6,7 @@ ghost use Rattle.certificate.specs.View.{subject_of, conclusion_of, line_of};
 ghost use Rattle.certificate.specs.Outcome.{Gives};
 
 use crate::fault::{ReadFault, stopped};
-use crate::line::{Conclusion, Line, Rule, Subject};
+use crate::line::{Conclusion, Line, RULES, Rule, Subject};
 use crate::number::{after, number_at, small_at};
 use axioms::{ExprId, IndId, PropId};
 use std::alloc::AllocError;
@@ -42,25 +42,10 @@ fn conclusion_at(bytes: &[u8]) -> Option<(Conclusion, &[u8])>
 fn numbered_rule(number: u64) -> Option<Rule>
     ensures { result ≡ numbered_rule number }
 {
-    match number {
-        1 => Some(Rule::K1),
-        2 => Some(Rule::K2),
-        3 => Some(Rule::K3),
-        4 => Some(Rule::K4),
-        5 => Some(Rule::K5),
-        6 => Some(Rule::K6),
-        7 => Some(Rule::K7),
-        8 => Some(Rule::K8),
-        9 => Some(Rule::K9),
-        10 => Some(Rule::K10),
-        11 => Some(Rule::K11),
-        12 => Some(Rule::K12),
-        13 => Some(Rule::K13),
-        14 => Some(Rule::K14),
-        15 => Some(Rule::K15),
-        16 => Some(Rule::K16),
-        _ => None,
+    if number == 0 || number > 16 {
+        return None;
     }
+    Some(RULES[(number - 1) as usize])
 }
 
 #[tactic(auto, unfolding(crate::specs::LineReading::rule_at))]

@@ -4,13 +4,14 @@ ghost use Rattle.std.specs.Prelude.{◌≡◌, ◌<◌, ◌^◌, ◌++◌, ◌�
 ghost use Rattle.axioms.specs.View.{at_number};
 ghost use Rattle.certificate.specs.LineText as spec;
 ghost use Rattle.certificate.specs.LineText.{source_of};
-ghost use Rattle.certificate.specs.Text.{certificate_text};
+ghost use Rattle.certificate.specs.Text.{certificate_text, text_to_domain};
 ghost use Rattle.certificate.specs.View.{conclusion_of, line_of, listed_of, subject_of};
 
 use crate::fitting::are_premises;
 use crate::line::{Conclusion, Line, Subject};
 use crate::listed::Listed;
-use crate::writing::{push_line, push_listed};
+use crate::listed_text::ListedText;
+use crate::writing::{Spelled, push_domain, push_listed};
 use axioms::Memory;
 use std::alloc::Global;
 use std::marker::Model;
@@ -124,7 +125,7 @@ impl LineText {
             return Err(Memory);
         }
         self.room.clear();
-        push_line(&mut self.room, line)?;
+        line.push_to(&mut self.room)?;
         self.sources.reserve(1)?;
         self.text.extend_from_slice(&self.room)?;
         self.sources.push_reserved(line.conclusion.source());
@@ -139,6 +140,19 @@ impl LineText {
             return None;
         }
         Some(self.sources[(number - 1) as usize])
+    }
+
+    /// The text of the certificate of these lines and of an interpretation with so many elements, whose rows come next.
+    ///
+    /// # Errors
+    ///
+    /// `Memory` where memory was refused.
+    pub fn with_domain(self, domain: u32) -> Result<ListedText, Memory>
+        ensures { IfOk result (λ t. t ≡ text_to_domain self domain) }
+    {
+        let mut text = self.text;
+        push_domain(&mut text, domain)?;
+        Ok(ListedText { text })
     }
 
     /// The text of the certificate of these lines and of an interpretation.

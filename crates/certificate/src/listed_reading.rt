@@ -1,13 +1,12 @@
 //! The lines of a certificate at the front of bytes, one after another.
 
 ghost use Rattle.std.specs.Prelude.{◌≡◌, Some, option_map, IfOk, map};
-ghost use Rattle.certificate.specs.ListedReading.{fitting_line_at, element_at, elements_at, class_row_at, fitting_class_at, classes_at, pair_row_at, fitting_pairs_at, pairs_at, individual_at, individuals_from, claim_row_at, fitting_claim_at, claims_at, domain_at, listed_at, listed_if, ending};
+ghost use Rattle.certificate.specs.ListedReading.{fitting_line_at, element_at, elements_at, fitting_class_at, classes_at, fitting_pairs_at, pairs_at, individual_at, individuals_from, fitting_claim_at, claims_at, domain_at, listed_at, listed_if, ending};
 ghost use Rattle.certificate.specs.View.{line_of, class_row_of, pair_row_of, claim_of, listed_of};
 ghost use Rattle.certificate.specs.Outcome.{Gives};
 
-use crate::counts::individual_count;
 use crate::fault::{ReadFault, stopped};
-use crate::fitting::{fits_claim, fits_class, fits_domain, fits_line, fits_pairs};
+use crate::fitting::{fits_claim, fits_class, fits_line, fits_pairs};
 use crate::line::Line;
 use crate::line_reading::line_at;
 use crate::listed::{Claim, ClassRow, Listed, PairRow};
@@ -50,19 +49,7 @@ fn elements_at(alloc: Global, bytes: &[u8]) -> Result<(Vec<u32>, &[u8]), AllocEr
     Ok((items, rest))
 }
 
-#[tactic(auto, unfolding(crate::specs::ListedReading::class_row_at))]
-fn class_row_at(alloc: Global, bytes: &[u8]) -> Result<(ClassRow, &[u8]), ReadFault>
-    ensures { Gives (λ x. (class_row_of x.0, x.1.now)) result (class_row_at bytes.now) }
-{
-    let rest = after(b"class e", bytes).ok_or(stopped(bytes))?;
-    let (class, rest) = small_at(rest).ok_or(stopped(bytes))?;
-    let (elements, rest) = elements_at(alloc, rest)?;
-    let rest = after(b"\n", rest).ok_or(stopped(bytes))?;
-    let class = ExprId(class);
-    Ok((ClassRow { class, elements }, rest))
-}
-
-#[tactic(auto, unfolding(crate::specs::ListedReading::fitting_class_at))]
+#[tactic(auto, unfolding(crate::specs::ListedReading::class_row_at, crate::specs::ListedReading::fitting_class_at))]
 fn fitting_class_at<'a>(
     alloc: Global,
     ontology: &Ontology,
@@ -72,34 +59,19 @@ fn fitting_class_at<'a>(
 ) -> Result<(ClassRow, &'a [u8]), ReadFault>
     ensures { Gives (λ x. (class_row_of x.0, x.1.now)) result (fitting_class_at ontology.now domain last bytes.now) }
 {
-    let (row, rest) = class_row_at(alloc, bytes)?;
+    let rest = after(b"class e", bytes).ok_or(stopped(bytes))?;
+    let (class, rest) = small_at(rest).ok_or(stopped(bytes))?;
+    let (elements, rest) = elements_at(alloc, rest)?;
+    let rest = after(b"\n", rest).ok_or(stopped(bytes))?;
+    let class = ExprId(class);
+    let row = ClassRow { class, elements };
     if !fits_class(ontology, domain, last, &row) {
         return Err(stopped(bytes));
     }
     Ok((row, rest))
 }
 
-#[tactic(auto, unfolding(crate::specs::ListedReading::pair_row_at))]
-fn pair_row_at(alloc: Global, bytes: &[u8]) -> Result<(PairRow, &[u8]), ReadFault>
-    ensures { Gives (λ x. (pair_row_of x.0, x.1.now)) result (pair_row_at bytes.now) }
-{
-    let rest = after(b"succ p", bytes).ok_or(stopped(bytes))?;
-    let (property, rest) = small_at(rest).ok_or(stopped(bytes))?;
-    let (source, rest) = element_at(rest).ok_or(stopped(bytes))?;
-    let (targets, rest) = elements_at(alloc, rest)?;
-    let rest = after(b"\n", rest).ok_or(stopped(bytes))?;
-    let property = PropId(property);
-    Ok((
-        PairRow {
-            property,
-            source,
-            targets,
-        },
-        rest,
-    ))
-}
-
-#[tactic(auto, unfolding(crate::specs::ListedReading::fitting_pairs_at))]
+#[tactic(auto, unfolding(crate::specs::ListedReading::pair_row_at, crate::specs::ListedReading::fitting_pairs_at))]
 fn fitting_pairs_at<'a>(
     alloc: Global,
     ontology: &Ontology,
@@ -109,7 +81,17 @@ fn fitting_pairs_at<'a>(
 ) -> Result<(PairRow, &'a [u8]), ReadFault>
     ensures { Gives (λ x. (pair_row_of x.0, x.1.now)) result (fitting_pairs_at ontology.now domain last bytes.now) }
 {
-    let (row, rest) = pair_row_at(alloc, bytes)?;
+    let rest = after(b"succ p", bytes).ok_or(stopped(bytes))?;
+    let (property, rest) = small_at(rest).ok_or(stopped(bytes))?;
+    let (source, rest) = element_at(rest).ok_or(stopped(bytes))?;
+    let (targets, rest) = elements_at(alloc, rest)?;
+    let rest = after(b"\n", rest).ok_or(stopped(bytes))?;
+    let property = PropId(property);
+    let row = PairRow {
+        property,
+        source,
+        targets,
+    };
     if !fits_pairs(ontology, domain, last, &row) {
         return Err(stopped(bytes));
     }
@@ -129,18 +111,7 @@ fn individual_at(domain: u32, number: usize, bytes: &[u8]) -> Option<(u32, &[u8]
     Some((element, rest))
 }
 
-#[tactic(auto, unfolding(crate::specs::ListedReading::claim_row_at))]
-fn claim_row_at(bytes: &[u8]) -> Option<(Claim, &[u8])>
-    ensures { option_map (λ x. (claim_of x.0, x.1.now)) result ≡ claim_row_at bytes.now }
-{
-    let (class, rest) = small_at(after(b"claim e", bytes)?)?;
-    let (element, rest) = element_at(rest)?;
-    let rest = after(b"\n", rest)?;
-    let class = ExprId(class);
-    Some((Claim { class, element }, rest))
-}
-
-#[tactic(auto, unfolding(crate::specs::ListedReading::fitting_claim_at))]
+#[tactic(auto, unfolding(crate::specs::ListedReading::claim_row_at, crate::specs::ListedReading::fitting_claim_at))]
 fn fitting_claim_at<'a>(
     ontology: &Ontology,
     domain: u32,
@@ -149,7 +120,11 @@ fn fitting_claim_at<'a>(
 ) -> Option<(Claim, &'a [u8])>
     ensures { option_map (λ x. (claim_of x.0, x.1.now)) result ≡ fitting_claim_at ontology.now domain last bytes.now }
 {
-    let (claim, rest) = claim_row_at(bytes)?;
+    let (class, rest) = small_at(after(b"claim e", bytes)?)?;
+    let (element, rest) = element_at(rest)?;
+    let rest = after(b"\n", rest)?;
+    let class = ExprId(class);
+    let claim = Claim { class, element };
     if !fits_claim(ontology, domain, last, claim) {
         return None;
     }
@@ -162,7 +137,7 @@ fn domain_at(bytes: &[u8]) -> Option<(u32, &[u8])>
 {
     let (domain, rest) = small_at(after(b"domain ", bytes)?)?;
     let rest = after(b"\n", rest)?;
-    if !fits_domain(domain) {
+    if domain == 0 {
         return None;
     }
     Some((domain, rest))
@@ -266,7 +241,7 @@ fn listed_at<'a>(
     let (domain, rest) = domain_at(bytes).ok_or(stopped(bytes))?;
     let (classes, rest) = classes_at(alloc, ontology, domain, rest)?;
     let (pairs, rest) = pairs_at(alloc, ontology, domain, rest)?;
-    let (individuals, rest) = individuals_at(alloc, domain, individual_count(ontology), rest)?;
+    let (individuals, rest) = individuals_at(alloc, domain, ontology.individuals().len(), rest)?;
     let (claims, rest) = claims_at(alloc, ontology, domain, rest)?;
     let listed = Listed {
         domain,

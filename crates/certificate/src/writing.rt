@@ -1,6 +1,7 @@
 //! The text of a certificate.
 
-ghost use Rattle.std.specs.Prelude.{◌≡◌, ◌≤◌, ◌++◌, map, OnOk, IfOk, IsErrOf};
+ghost use Rattle.std.specs.Prelude.{◌≡◌, ◌≤◌, ◌++◌, List, ℕ, codes, map, OnOk, IfOk, IsErrOf};
+ghost use Rattle.std.specs.Fmt.{decimal};
 ghost use Rattle.std.specs.Io.KnownBytes.{Appends, Keeps};
 ghost use Rattle.std.specs.List.{flat_map, enumerate_from};
 ghost use Rattle.device.specs.Device.{AppendsPrefix, HasFailed};
@@ -9,7 +10,7 @@ ghost use Rattle.certificate.specs.Text as text;
 ghost use Rattle.certificate.specs.View.{subject_of, conclusion_of, line_of, lines_of, class_row_of, pair_row_of, claim_of, listed_of};
 
 use crate::certificate::Certificate;
-use crate::line::{Conclusion, Line, Rule, Subject};
+use crate::line::{Conclusion, Line, Subject};
 use crate::listed::{Claim, ClassRow, Listed, PairRow};
 use axioms::{Memory, Ontology};
 use device::{Sink, WriteFault, write_all};
@@ -53,29 +54,6 @@ fn push_conclusion(out: &mut Vec<u8>, conclusion: Conclusion) -> Result<(), Allo
     }
 }
 
-fn rule_number(rule: Rule) -> u64
-    ensures { result ≡ text.rule_number rule }
-{
-    match rule {
-        Rule::K1 => 1,
-        Rule::K2 => 2,
-        Rule::K3 => 3,
-        Rule::K4 => 4,
-        Rule::K5 => 5,
-        Rule::K6 => 6,
-        Rule::K7 => 7,
-        Rule::K8 => 8,
-        Rule::K9 => 9,
-        Rule::K10 => 10,
-        Rule::K11 => 11,
-        Rule::K12 => 12,
-        Rule::K13 => 13,
-        Rule::K14 => 14,
-        Rule::K15 => 15,
-        Rule::K16 => 16,
-    }
-}
-
 fn push_axiom(out: &mut Vec<u8>, number: Option<usize>) -> Result<(), AllocError>
     ensures { OnOk result (out.new.items ≡ out.old.items ++ text.axiom_text number) }
 {
@@ -85,49 +63,92 @@ fn push_axiom(out: &mut Vec<u8>, number: Option<usize>) -> Result<(), AllocError
     }
 }
 
-fn push_premises(out: &mut Vec<u8>, premises: &[u64]) -> Result<(), AllocError>
-    ensures { OnOk result (out.new.items ≡ out.old.items ++ text.spaced_numbers premises.now) }
+/// What a text of certificates has, as a value.
+pub(crate) trait Spelled {
+    /// How it is spelled.
+    ghost text: { Self → List ℕ };
+
+    /// Adds it to the text. Fails where memory is refused; then a part of it may stand there.
+    fn push_to(&self, out: &mut Vec<u8>) -> Result<(), AllocError>
+        ensures { OnOk result (out.new.items ≡ out.old.items ++ text self.now) };
+}
+
+/// Adds them to the text, one after another.
+pub(crate) fn push_each<T: Spelled>(out: &mut Vec<u8>, items: &[T]) -> Result<(), AllocError>
+    ensures { OnOk result (out.new.items ≡ out.old.items ++ flat_map T.text items.now) }
 {
-    for premise in premises {
-        push_number(out, b" ", *premise)?;
+    for item in items {
+        item.push_to(out)?;
     }
     Ok(())
 }
 
-fn push_elements(out: &mut Vec<u8>, elements: &[u32]) -> Result<(), AllocError>
-    ensures { OnOk result (out.new.items ≡ out.old.items ++ text.spaced_numbers elements.now) }
-{
-    for element in elements {
-        push_number(out, b" ", u64::from(*element))?;
+/// The number of a line, as a premise.
+impl Spelled for u64 {
+    ghost text = { λ n. codes " " ++ decimal n };
+
+    fn push_to(&self, out: &mut Vec<u8>) -> Result<(), AllocError> {
+        push_number(out, b" ", *self)
     }
-    Ok(())
 }
 
-pub(crate) fn push_line(out: &mut Vec<u8>, line: &Line) -> Result<(), AllocError>
-    ensures { OnOk result (out.new.items ≡ out.old.items ++ text.line_text (line_of line.now)) }
-{
-    push_conclusion(out, line.conclusion)?;
-    push_number(out, b" K", rule_number(line.rule))?;
-    push_axiom(out, line.axiom)?;
-    push_premises(out, &line.premises)?;
-    out.extend_from_slice(b"\n")
+/// An element.
+impl Spelled for u32 {
+    ghost text = { λ n. codes " " ++ decimal n };
+
+    fn push_to(&self, out: &mut Vec<u8>) -> Result<(), AllocError> {
+        push_number(out, b" ", u64::from(*self))
+    }
 }
 
-fn push_class(out: &mut Vec<u8>, row: &ClassRow) -> Result<(), AllocError>
-    ensures { OnOk result (out.new.items ≡ out.old.items ++ text.class_text (class_row_of row.now)) }
-{
-    push_number(out, b"class e", row.class.0 as u64)?;
-    push_elements(out, &row.elements)?;
-    out.extend_from_slice(b"\n")
+impl Spelled for Line {
+    ghost text = { λ line. text.line_text (line_of line) };
+
+    fn push_to(&self, out: &mut Vec<u8>) -> Result<(), AllocError> {
+        push_conclusion(out, self.conclusion)?;
+        push_number(out, b" K", self.rule.number())?;
+        push_axiom(out, self.axiom)?;
+        push_each(out, &self.premises)?;
+        out.extend_from_slice(b"\n")
+    }
 }
 
-fn push_pairs(out: &mut Vec<u8>, row: &PairRow) -> Result<(), AllocError>
-    ensures { OnOk result (out.new.items ≡ out.old.items ++ text.pairs_text (pair_row_of row.now)) }
+impl Spelled for ClassRow {
+    ghost text = { λ row. text.class_text (class_row_of row) };
+
+    fn push_to(&self, out: &mut Vec<u8>) -> Result<(), AllocError> {
+        push_number(out, b"class e", self.class.0 as u64)?;
+        push_each(out, &self.elements)?;
+        out.extend_from_slice(b"\n")
+    }
+}
+
+impl Spelled for PairRow {
+    ghost text = { λ row. text.pairs_text (pair_row_of row) };
+
+    fn push_to(&self, out: &mut Vec<u8>) -> Result<(), AllocError> {
+        push_number(out, b"succ p", self.property.0 as u64)?;
+        push_number(out, b" ", u64::from(self.source))?;
+        push_each(out, &self.targets)?;
+        out.extend_from_slice(b"\n")
+    }
+}
+
+impl Spelled for Claim {
+    ghost text = { λ claim. text.claim_text (claim_of claim) };
+
+    fn push_to(&self, out: &mut Vec<u8>) -> Result<(), AllocError> {
+        push_number(out, b"claim e", self.class.0 as u64)?;
+        push_number(out, b" ", u64::from(self.element))?;
+        out.extend_from_slice(b"\n")
+    }
+}
+
+#[tactic(auto, using(crate::proofs::Seen::seen_lines))]
+fn push_lines(out: &mut Vec<u8>, lines: &[Line]) -> Result<(), AllocError>
+    ensures { OnOk result (out.new.items ≡ out.old.items ++ flat_map text.line_text (lines_of lines.now)) }
 {
-    push_number(out, b"succ p", row.property.0 as u64)?;
-    push_number(out, b" ", u64::from(row.source))?;
-    push_elements(out, &row.targets)?;
-    out.extend_from_slice(b"\n")
+    push_each(out, lines)
 }
 
 fn push_individual(out: &mut Vec<u8>, number: usize, element: u32) -> Result<(), AllocError>
@@ -138,42 +159,8 @@ fn push_individual(out: &mut Vec<u8>, number: usize, element: u32) -> Result<(),
     out.extend_from_slice(b"\n")
 }
 
-fn push_claim(out: &mut Vec<u8>, claim: Claim) -> Result<(), AllocError>
-    ensures { OnOk result (out.new.items ≡ out.old.items ++ text.claim_text (claim_of claim)) }
-{
-    push_number(out, b"claim e", claim.class.0 as u64)?;
-    push_number(out, b" ", u64::from(claim.element))?;
-    out.extend_from_slice(b"\n")
-}
-
-fn push_lines(out: &mut Vec<u8>, lines: &[Line]) -> Result<(), AllocError>
-    ensures { OnOk result (out.new.items ≡ out.old.items ++ flat_map text.line_text (lines_of lines.now)) }
-{
-    for line in lines {
-        push_line(out, line)?;
-    }
-    Ok(())
-}
-
-fn push_classes(out: &mut Vec<u8>, rows: &[ClassRow]) -> Result<(), AllocError>
-    ensures { OnOk result (out.new.items ≡ out.old.items ++ flat_map text.class_text (map class_row_of rows.now)) }
-{
-    for row in rows {
-        push_class(out, row)?;
-    }
-    Ok(())
-}
-
-fn push_all_pairs(out: &mut Vec<u8>, rows: &[PairRow]) -> Result<(), AllocError>
-    ensures { OnOk result (out.new.items ≡ out.old.items ++ flat_map text.pairs_text (map pair_row_of rows.now)) }
-{
-    for row in rows {
-        push_pairs(out, row)?;
-    }
-    Ok(())
-}
-
-fn push_individuals(out: &mut Vec<u8>, elements: &[u32]) -> Result<(), AllocError>
+/// Adds a line for the element of each individual.
+pub(crate) fn push_individuals(out: &mut Vec<u8>, elements: &[u32]) -> Result<(), AllocError>
     ensures { OnOk result (out.new.items ≡ out.old.items ++ flat_map text.individual_text (enumerate_from 0 elements.now)) }
 {
     for number in 0..elements.len() {
@@ -182,24 +169,22 @@ fn push_individuals(out: &mut Vec<u8>, elements: &[u32]) -> Result<(), AllocErro
     Ok(())
 }
 
-fn push_claims(out: &mut Vec<u8>, claims: &[Claim]) -> Result<(), AllocError>
-    ensures { OnOk result (out.new.items ≡ out.old.items ++ flat_map text.claim_text (map claim_of claims.now)) }
+/// Adds the line that says how many elements there are.
+pub(crate) fn push_domain(out: &mut Vec<u8>, domain: u32) -> Result<(), AllocError>
+    ensures { OnOk result (out.new.items ≡ out.old.items ++ (text.lettered_number (codes "domain ") domain ++ text.line_feed)) }
 {
-    for claim in claims {
-        push_claim(out, *claim)?;
-    }
-    Ok(())
+    push_number(out, b"domain ", u64::from(domain))?;
+    out.extend_from_slice(b"\n")
 }
 
 pub(crate) fn push_listed(out: &mut Vec<u8>, listed: &Listed) -> Result<(), AllocError>
     ensures { OnOk result (out.new.items ≡ out.old.items ++ text.listed_text (Some (listed_of listed.now))) }
 {
-    push_number(out, b"domain ", u64::from(listed.domain))?;
-    out.extend_from_slice(b"\n")?;
-    push_classes(out, &listed.classes)?;
-    push_all_pairs(out, &listed.pairs)?;
+    push_domain(out, listed.domain)?;
+    push_each(out, &listed.classes)?;
+    push_each(out, &listed.pairs)?;
     push_individuals(out, &listed.individuals)?;
-    push_claims(out, &listed.claims)
+    push_each(out, &listed.claims)
 }
 
 /// The text of the certificate, in memory.

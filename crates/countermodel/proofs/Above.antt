@@ -7,7 +7,7 @@ use Rattle.axioms.specs.declared.ids.PropId.{PropId}
 use Rattle.normal_forms.specs.declared.forms.PropId2.{PropId2}
 use Rattle.normal_forms.specs.declared.forms.PropId2.TheVariants.{Property}
 use Rattle.property_closure.specs.PropertyClosures.{Known}
-use Rattle.property_closure.proofs.Members.{all_taken, none_taken, one_more_taken}
+use Rattle.number_sets.proofs.Members.{all_taken, none_taken, one_more_taken}
 use Rattle.facts.specs.declared.contexts.Context as code
 use Rattle.facts.specs.declared.contexts.Fact.{Fact}
 use Rattle.facts.specs.declared.contexts.Fact.TheVariants.{Edge}

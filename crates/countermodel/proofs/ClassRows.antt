@@ -7,7 +7,7 @@ use Rattle.std.proofs.lemmas.Option.{none-some}
 use Rattle.lemmas.proofs.Mapped.{slice_get_map_from}
 use Rattle.lemmas.proofs.Places.{slice_get_push, slice_get_push_cases, keeps_push}
 use Rattle.number_sets.specs.Pieces.{list_at}
-use Rattle.property_closure.proofs.Members.{nothing_past}
+use Rattle.number_sets.proofs.Members.{nothing_past}
 use Rattle.certificate.specs.Writability.{Ascends}
 use Rattle.countermodel.specs.Members.{AreRowsOf}
 use Rattle.countermodel.proofs.Numbers.{Ascends-push}

@@ -12,7 +12,7 @@ use Rattle.closure.specs.Closure.{Context, Expression}
 use Rattle.exactness.specs.ListedInterpretation.{IsBefore}
 use Rattle.countermodel.specs.Members.{IsOwnElement}
 use Rattle.countermodel.specs.MemberRows.{AreOwnClaims}
-use Rattle.countermodel.proofs.Places.{one_place}
+use Rattle.exactness.proofs.Listed.{one_place}
 use Rattle.countermodel.proofs.Numbers.{Ascends-push}
 
 -- the claims of the first expressions

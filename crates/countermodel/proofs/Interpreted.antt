@@ -25,7 +25,7 @@ use Rattle.exactness.specs.ListedInterpretation.{AreSatisfiableContexts, IsConsi
 use Rattle.exactness.specs.Acceptance.{IsListedFor}
 use Rattle.countermodel.specs.MemberRows.{AreClassRows, AreIndividualElements, AreOwnClaims}
 use Rattle.countermodel.specs.PairRows.{ArePairRows}
-use Rattle.countermodel.proofs.Places.{one_place}
+use Rattle.exactness.proofs.Listed.{one_place}
 
 -- ---- numbers of names
 

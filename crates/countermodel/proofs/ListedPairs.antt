@@ -32,7 +32,8 @@ use Rattle.countermodel.specs.declared.pair.Pair.{Pair}
 use Rattle.countermodel.specs.Edges.{IsGiven, IsGivenBy}
 use Rattle.countermodel.specs.Pairs.{AreGrouped, Row, pair}
 use Rattle.countermodel.specs.PairRows.{ArePairRows}
-use Rattle.countermodel.proofs.Said.{below_said, below_sayer, plain_below, prop_id, said_context, said_property}
+use Rattle.closure.proofs.Names.{prop_id}
+use Rattle.countermodel.proofs.Said.{below_said, below_sayer, plain_below, said_context, said_property}
 use Rattle.countermodel.proofs.Grouping.{listed_are, row_has_pair, row_has_targets}
 
 -- ---- contexts

@@ -9,10 +9,10 @@ use Rattle.closure.specs.Closure.{Context}
 use Rattle.exactness.specs.ListedInterpretation.{IsBefore}
 use Rattle.facts.specs.declared.contexts.Fact.{Fact}
 use Rattle.number_sets.specs.Pieces.{list_at}
-use Rattle.property_closure.proofs.Members.{one_more_item, list_at_none}
+use Rattle.number_sets.proofs.Members.{one_more_item, list_at_none}
 use Rattle.countermodel.specs.Elements.{context_of}
 use Rattle.countermodel.specs.Members.{IsMember, AreMembers, expr_id}
-use Rattle.countermodel.proofs.Places.{one_place}
+use Rattle.exactness.proofs.Listed.{one_place}
 
 -- the lists have what facts say, and all that the first facts say
 pub record HasPut (o : Ontology) (elements : List Context) (facts : List Fact) (count : ℕ) (lists : List (List ℕ)) : Type 0 where

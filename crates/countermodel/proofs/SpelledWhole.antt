@@ -1,15 +1,18 @@
 -- The text of what is listed, part by part.
-use Rattle.std.proofs.Common.{◌≡◌, ℕ, ◌<◌, ◌++◌, ◌^◌, List, [], length, sym, ap, ◌∙◌}
+use Rattle.std.proofs.Common.{◌≡◌, ℕ, ◌<◌, ◌++◌, ◌^◌, List, [], length, map, sym, ap, ◌∙◌}
 use Rattle.std.specs.Prelude.{codes}
 use Rattle.std.specs.List.{flat_map, enumerate_from}
 use Rattle.axioms.specs.Growth.{IsBounded}
 use Rattle.axioms.specs.Ontology.{Ontology}
 use Rattle.axioms.specs.WellFormedness.{IsOntology}
 use Rattle.certificate.specs.Certificate.{Line, Listed}
-use Rattle.certificate.specs.Text.{class_text, pairs_text, individual_text, claim_text}
+use Rattle.certificate.specs.Text.{class_text, pairs_text, individual_text, claim_text, text_to_domain}
 use Rattle.closure.specs.Closure.{Context}
 use Rattle.exactness.specs.ListedInterpretation.{AreSatisfiableContexts, IsConsistent}
-use Rattle.countermodel.specs.Parts.{Writes, text_to_domain}
+use Rattle.certificate.specs.View.{class_row_of, pair_row_of}
+use Rattle.certificate.specs.declared.listed.ClassRow.{ClassRow}
+use Rattle.certificate.specs.declared.listed.PairRow.{PairRow}
+use Rattle.countermodel.specs.Sinks.{Adds}
 use Rattle.countermodel.proofs.SpelledParts.{in_parts}
 use Rattle.countermodel.specs.PairRows.{ArePairRows}
 use Rattle.countermodel.specs.MemberRows.{AreClassRows, AreIndividualElements, AreOwnClaims}
@@ -21,9 +24,9 @@ pub record HasParts (o : Ontology) (elements : List Context) (lines : List Line)
   pub begun : List ℕ
   pub prefix : begun ≡ text_to_domain lines (length elements)
   pub with_classes : List ℕ
-  pub classes : Writes (AreClassRows o elements) class_text begun with_classes
+  pub classes : Adds {R = ClassRow} (λ rs. AreClassRows o elements (map class_row_of rs)) (λ rs. with_classes ≡ begun ++ flat_map class_text (map class_row_of rs))
   pub with_pairs : List ℕ
-  pub pairs : Writes (ArePairRows o elements) pairs_text with_classes with_pairs
+  pub pairs : Adds {R = PairRow} (λ rs. ArePairRows o elements (map pair_row_of rs)) (λ rs. with_pairs ≡ with_classes ++ flat_map pairs_text (map pair_row_of rs))
   pub numbers : List ℕ
   pub individuals : AreIndividualElements o elements numbers
   pub claims : List (ℕ × ℕ)
@@ -33,14 +36,14 @@ pub record HasParts (o : Ontology) (elements : List Context) (lines : List Line)
 module _ (o : Ontology) (w : IsOntology o) (bounded : IsBounded o) (consistent : IsConsistent o []) (elements : List Context) (are : AreSatisfiableContexts o [] elements) (few : length elements < 2 ^ 32) where
   pub whole_text : (lines : List Line) (text : List ℕ) → HasParts o elements lines text → IsTextWithListed o lines text
   whole_text lines text h =
-      let rows = h.classes.items in
-      let pairs = h.pairs.items in
+      let rows = map class_row_of h.classes.rows in
+      let pairs = map pair_row_of h.pairs.rows in
       let listed : Listed = record { domain = length elements; classes = rows; pairs = pairs; individuals = h.numbers; claims = h.claims } in
       let rest : List ℕ → List ℕ = λ s. s ++ flat_map individual_text (enumerate_from 0 h.numbers) ++ flat_map claim_text h.claims ++ codes "end\n" in
-      let classes : h.with_classes ≡ text_to_domain lines (length elements) ++ flat_map class_text rows = h.classes.spelled ∙ ap (λ (s : List ℕ). s ++ flat_map class_text rows) h.prefix in
+      let classes : h.with_classes ≡ text_to_domain lines (length elements) ++ flat_map class_text rows = h.classes.added ∙ ap (λ (s : List ℕ). s ++ flat_map class_text rows) h.prefix in
       record {
         listed = listed;
-        spelled = h.spelled ∙ ap rest (h.pairs.spelled ∙ ap (λ (s : List ℕ). s ++ flat_map pairs_text pairs) classes) ∙ sym (in_parts lines listed);
+        spelled = h.spelled ∙ ap rest (h.pairs.added ∙ ap (λ (s : List ℕ). s ++ flat_map pairs_text pairs) classes) ∙ sym (in_parts lines listed);
         is_listed = listed_for o w consistent elements are rows h.classes.are pairs h.pairs.are h.numbers h.individuals h.claims h.own;
         within = listed_of o w consistent elements are rows h.classes.are pairs h.pairs.are h.numbers h.individuals h.claims h.own;
         numbers = numbers_small o w consistent elements are rows h.classes.are pairs h.pairs.are h.numbers h.individuals h.claims h.own bounded few;

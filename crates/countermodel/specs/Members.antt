@@ -23,6 +23,10 @@ IsOwnClass o e = (2 ≤ e) × IsNamedClass o e
 abbrev pub IsMember : Ontology → List Context → Fact → ℕ → ℕ → Type 0
 IsMember o elements fact e m = IsOwnClass o e × ((x : code.Context) × (fact ≡ In (Expr (expr_id e)) x) × (slice_get elements m ≡ Some (context_of x)))
 
+-- the fact puts no element into such a class
+abbrev pub HasNoMember : Ontology → List Context → Fact → Type 0
+HasNoMember o elements fact = (e m : ℕ) → IsMember o elements fact e m → ⊥
+
 -- the list of each class has the elements that the facts put into it
 abbrev pub AreMembers : Ontology → List Context → List Fact → List (List ℕ) → Type 0
 AreMembers o elements facts lists = (e m : ℕ) → Contains (list_at lists e) m ↔ ((fact : Fact) × Contains facts fact × IsMember o elements fact e m)

@@ -13,7 +13,7 @@ use std::alloc::Global;
 
 /// The element of its own that the expression has, if it is a named class.
 fn own_element(ontology: &Ontology, elements: &Elements, class: ExprId) -> Option<u32>
-    ensures { MatchOption result ((m : ℕ) → IsOwnElement ontology.now elements.now class.0 m → ⊥) (λ m. IsOwnElement ontology.now elements.now class.0 m) }
+    ensures { MatchOption result ((m : ℕ) → IsOwnElement ontology.now elements.now class.0 m → ⊥) (IsOwnElement ontology.now elements.now class.0) }
 {
     if ontology.class_of(class).is_some() {
         elements.element(Context::Expr(class))

@@ -1,22 +1,22 @@
 //! Pairs in rows.
 ghost use Rattle.certificate.specs.View.{pair_row_of};
-ghost use Rattle.countermodel.specs.Pairs.{AddsPair, AreGrouped, ComesBefore, IsOfLast, row_with};
+ghost use Rattle.countermodel.specs.LastRows.{AddsToLast};
+ghost use Rattle.countermodel.specs.Pairs.{AreGrouped, ComesBefore, row_with};
+ghost use Rattle.countermodel.specs.Sinks.{Adds};
 ghost use Rattle.std.specs.List.{AllPairs};
 ghost use Rattle.std.specs.Prelude.{◌↔◌, ◌≡◌, ◌∷◌, [], IfOk, IsTrue, OnOk, map};
 
 use crate::pair::Pair;
+use crate::sink::RowSink;
 use axioms::Memory;
 use certificate::PairRow;
 use std::alloc::Global;
 
-/// Whether the last row is of the pair's property and source.
-fn is_of_last(rows: &[PairRow], pair: Pair) -> bool
-    ensures { IsTrue result ↔ IsOfLast pair (map pair_row_of rows.now) }
+/// Whether the row is of the pair's property and source.
+fn is_of(row: &PairRow, pair: Pair) -> bool
+    ensures { IsTrue result ↔ ((row.now.property.0 ≡ pair.property.0) × (row.now.source ≡ pair.source)) }
 {
-    match rows.last() {
-        Some(row) => row.property == pair.property && row.source == pair.source,
-        None => false,
-    }
+    row.property == pair.property && row.source == pair.source
 }
 
 /// A row of the pair alone.
@@ -32,27 +32,41 @@ fn row_of(alloc: Global, pair: Pair) -> Result<PairRow, Memory>
     })
 }
 
-/// Puts the pair into the last row, where that is of its property and source, and else into a row of its own.
-fn add(alloc: Global, rows: &mut Vec<PairRow>, pair: Pair) -> Result<(), Memory>
-    ensures { OnOk result (AddsPair pair (map pair_row_of rows.old.items) (map pair_row_of rows.new.items)) }
+/// The last row with the pair, where it is of its property and source. Else the sink takes the row, and the last is of the pair alone.
+fn add_pair<S: RowSink<PairRow>>(
+    alloc: Global,
+    rows: &mut S,
+    last: Option<PairRow>,
+    pair: Pair,
+) -> Result<PairRow, Memory>
+    ensures { IfOk result (λ row. AddsToLast S.adds pair rows.old last rows.new row) }
 {
-    if is_of_last(rows, pair) {
-        let last = rows.len() - 1;
-        rows[last].targets.push(pair.target)?;
-    } else {
-        rows.push(row_of(alloc, pair)?)?;
+    let Some(mut row) = last else {
+        return row_of(alloc, pair);
+    };
+    if is_of(&row, pair) {
+        row.targets.push(pair.target)?;
+        return Ok(row);
     }
-    Ok(())
+    rows.add(row)?;
+    row_of(alloc, pair)
 }
 
-/// The rows of pairs that are in order.
-pub(crate) fn grouped(alloc: Global, pairs: &[Pair]) -> Result<Vec<PairRow>, Memory>
+/// Adds the rows of pairs that are in order.
+pub(crate) fn add_grouped<S: RowSink<PairRow>>(
+    alloc: Global,
+    pairs: &[Pair],
+    rows: &mut S,
+) -> Result<(), Memory>
     requires { AllPairs ComesBefore pairs.now }
-    ensures { IfOk result (λ v. AreGrouped pairs.now (map pair_row_of v.items)) }
+    ensures { OnOk result (Adds (λ rs. AreGrouped pairs.now (map pair_row_of rs)) (S.adds rows.old rows.new)) }
 {
-    let mut rows = Vec::new(alloc);
+    let mut last = None;
     for pair in pairs {
-        add(alloc, &mut rows, *pair)?;
+        last = Some(add_pair(alloc, rows, last, *pair)?);
     }
-    Ok(rows)
+    match last {
+        None => Ok(()),
+        Some(row) => rows.add(row),
+    }
 }

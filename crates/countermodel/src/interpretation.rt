@@ -7,7 +7,7 @@ ghost use Rattle.exactness.specs.Acceptance.{IsListedFor};
 ghost use Rattle.std.specs.Prelude.{◌<◌, ◌^◌, [], All, IfOk, Some};
 
 use crate::claims::own_claims;
-use crate::class_rows::class_rows;
+use crate::class_rows::add_class_rows;
 use crate::elements::Elements;
 use crate::individuals::individual_elements;
 use crate::rows::pair_rows;
@@ -32,7 +32,8 @@ pub fn listed(alloc: Global, ontology: &Ontology, saturation: &Saturation) -> Re
     ontology.well_formed();
     ontology.bounded();
     let elements = Elements::of(alloc, ontology, saturation)?;
-    let classes = class_rows(alloc, ontology, saturation, &elements)?;
+    let mut classes = Vec::new(alloc);
+    add_class_rows(alloc, ontology, saturation, &elements, &mut classes)?;
     let pairs = pair_rows(alloc, ontology, saturation, &elements)?;
     let individuals = individual_elements(alloc, ontology, &elements)?;
     let claims = own_claims(alloc, ontology, &elements)?;

@@ -4,13 +4,11 @@ ghost use Rattle.engine.specs.Saturations.{IsSaturated};
 ghost use Rattle.countermodel.specs.WholeText.{IsTextWithListed};
 ghost use Rattle.std.specs.Prelude.{[], IfOk};
 
-use crate::prefix::begun;
 use crate::claims::own_claims;
-use crate::class_rows::write_class_rows;
+use crate::class_rows::add_class_rows;
 use crate::elements::Elements;
 use crate::individuals::individual_elements;
-use crate::parts::{push_claims, push_individuals};
-use crate::rows::write_pair_rows;
+use crate::rows::add_pair_rows;
 use axioms::{Memory, Ontology};
 use certificate::LineText;
 use engine::Saturation;
@@ -35,14 +33,10 @@ pub fn text_with_listed(
     ontology.well_formed();
     ontology.bounded();
     let elements = Elements::of(alloc, ontology, saturation)?;
-    let domain = elements.len();
-    let mut text = begun(alloc, lines, domain)?;
-    write_class_rows(alloc, ontology, saturation, &elements, &mut text)?;
-    write_pair_rows(alloc, ontology, saturation, &elements, &mut text)?;
+    let mut text = lines.with_domain(elements.len())?;
+    add_class_rows(alloc, ontology, saturation, &elements, &mut text)?;
+    add_pair_rows(alloc, ontology, saturation, &elements, &mut text)?;
     let individuals = individual_elements(alloc, ontology, &elements)?;
-    push_individuals(&mut text, &individuals)?;
     let claims = own_claims(alloc, ontology, &elements)?;
-    push_claims(&mut text, &claims)?;
-    text.extend_from_slice(b"end\n")?;
-    Ok(text)
+    text.end(&individuals, &claims)
 }

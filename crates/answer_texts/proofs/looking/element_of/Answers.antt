@@ -1,4 +1,4 @@
-use Rattle.answer_texts.proofs.Absent.{none_at}
+use Rattle.number_sets.proofs.Absent.{none_at}
 use Rattle.answer_texts.proofs.looking.element_of.Goals as goal
 
 pub returns-in-None : goal.returns-in-None

@@ -1,6 +1,6 @@
 use Rattle.std.proofs.Common.{List, [], Bool, ap}
 use Rattle.number_sets.specs.Members.{has}
-use Rattle.answer_texts.proofs.Absent.{none_at}
+use Rattle.number_sets.proofs.Absent.{none_at}
 use Rattle.answer_texts.proofs.looking.is_member.Goals as goal
 
 pub returns-in-None : goal.returns-in-None

@@ -1,4 +1,4 @@
-use Rattle.answer_texts.proofs.Absent.{none_there}
+use Rattle.number_sets.proofs.Absent.{none_there}
 use Rattle.answer_texts.proofs.looking.targets_of.Goals as goal
 
 pub returns-in-None : goal.returns-in-None

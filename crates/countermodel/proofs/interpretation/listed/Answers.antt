@@ -1,9 +1,12 @@
-use Rattle.std.proofs.Common.{ℕ, ◌<◌, ◌^◌, map, Some, All, sym, subst}
+use Rattle.std.proofs.Common.{ℕ, List, ◌<◌, ◌^◌, map, Some, All, sym, subst}
 use Rattle.certificate.specs.Certificate.{Listed}
 use Rattle.certificate.specs.Writability.{IsListedOf, listed_numbers}
 use Rattle.certificate.specs.View.{class_row_of, pair_row_of, claim_of}
+use Rattle.certificate.specs.declared.listed.ClassRow.{ClassRow}
 use Rattle.exactness.specs.Acceptance.{IsListedFor}
+use Rattle.countermodel.specs.MemberRows.{AreClassRows}
 use Rattle.countermodel.proofs.Interpreted.{listed_for, listed_of, numbers_small}
+use Rattle.countermodel.proofs.Taken.{all_taken}
 use Rattle.countermodel.proofs.interpretation.listed.Goals as goal
 
 pub returns : goal.returns
@@ -12,16 +15,18 @@ returns c =
     let w = c.well_formed-2.ensures in
     let elements = c.in_ok-elements.elements in
     let are = c.in_ok-elements.ensures in
-    let classes = map class_row_of c.in_ok-classes.classes.items in
+    let classes = map class_row_of c.add_class_rows.new.rows.items in
+    let class_rows : AreClassRows o elements classes =
+    all_taken (λ (rows : List ClassRow). AreClassRows o elements (map class_row_of rows)) c.new-classes.result.items c.add_class_rows.new.rows.items c.new-classes.ensures.items c.in_ok-add_class_rows.ensures in
     let pairs = map pair_row_of c.in_ok-pairs.pairs.items in
     let numbers = c.in_ok-individuals.individuals.items in
     let claims = map claim_of c.in_ok-claims.claims.items in
     let with_domain : ℕ → Listed = λ n. record { domain = n; classes = classes; pairs = pairs; individuals = numbers; claims = claims } in
     record {
       listed = subst (λ n. IsListedFor o (with_domain n)) (sym c.len.ensures)
-          (listed_for o w c.requires.consistent elements are classes c.in_ok-classes.ensures pairs c.in_ok-pairs.ensures numbers c.in_ok-individuals.ensures claims c.in_ok-claims.ensures);
+          (listed_for o w c.requires.consistent elements are classes class_rows pairs c.in_ok-pairs.ensures numbers c.in_ok-individuals.ensures claims c.in_ok-claims.ensures);
       text = subst (λ n. IsListedOf o (with_domain n)) (sym c.len.ensures)
-          (listed_of o w c.requires.consistent elements are classes c.in_ok-classes.ensures pairs c.in_ok-pairs.ensures numbers c.in_ok-individuals.ensures claims c.in_ok-claims.ensures);
+          (listed_of o w c.requires.consistent elements are classes class_rows pairs c.in_ok-pairs.ensures numbers c.in_ok-individuals.ensures claims c.in_ok-claims.ensures);
       numbers = subst (λ n. All (λ k. k < 2 ^ 32) (listed_numbers (Some (with_domain n)))) (sym c.len.ensures)
-          (numbers_small o w c.requires.consistent elements are classes c.in_ok-classes.ensures pairs c.in_ok-pairs.ensures numbers c.in_ok-individuals.ensures claims c.in_ok-claims.ensures c.bounded.ensures (subst (λ n. n < 2 ^ 32) c.len.ensures c.len.type_inv));
+          (numbers_small o w c.requires.consistent elements are classes class_rows pairs c.in_ok-pairs.ensures numbers c.in_ok-individuals.ensures claims c.in_ok-claims.ensures c.bounded.ensures (subst (λ n. n < 2 ^ 32) c.len.ensures c.len.type_inv));
     }

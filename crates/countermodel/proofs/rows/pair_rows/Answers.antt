@@ -1,27 +1,9 @@
-use Rattle.std.proofs.Common.{◌↔◌, List, Contains, map, subst}
+use Rattle.std.proofs.Common.{List, map}
 use Rattle.certificate.specs.View.{pair_row_of}
-use Rattle.facts.specs.declared.contexts.Fact.{Fact}
-use Rattle.countermodel.specs.declared.pair.Pair.{Pair}
-use Rattle.countermodel.specs.Edges.{IsGiven}
-use Rattle.countermodel.specs.Pairs.{AreGrouped}
-use Rattle.countermodel.proofs.ListedPairs.{are_rows, one_place}
+use Rattle.certificate.specs.declared.listed.PairRow.{PairRow}
+use Rattle.countermodel.specs.PairRows.{ArePairRows}
+use Rattle.countermodel.proofs.Taken.{all_taken}
 use Rattle.countermodel.proofs.rows.pair_rows.Goals as goal
 
-pub pairs_of-requires : goal.pairs_of-requires
-pairs_of-requires c = one_place c.args.elements.now c.requires.elements.ascend
-
 pub returns : goal.returns
-returns c =
-    let o = c.args.ontology.now in
-    let s = c.args.saturation.now in
-    let k = c.closure.result.now in
-    let elements = c.args.elements.now in
-    let pairs = c.put_in_order.new.pairs.items in
-    let given = subst (λ (fs : List Fact). (p : Pair) → Contains c.in_ok-pairs.pairs.items p ↔ IsGiven k elements fs p) c.facts.ensures c.in_ok-pairs.ensures in
-    let are : (p : Pair) → Contains pairs p ↔ IsGiven k elements s.state.facts p = λ p.
-    let same = c.put_in_order.ensures.same p in
-    let says = given p in
-    (λ h. says.0 (same.0 h), λ h. same.1 (says.1 h)) in
-    let rows = map pair_row_of c.in_ok-rows.rows.items in
-    are_rows o s c.requires.saturated k c.closure.ensures elements c.well_formed-2.ensures pairs rows are
-    (subst (λ (ps : List Pair). AreGrouped ps rows) c.deref.ensures.value c.in_ok-rows.ensures)
+returns c = all_taken (λ (rows : List PairRow). ArePairRows c.args.ontology.now c.args.elements.now (map pair_row_of rows)) c.new-rows.result.items c.add_pair_rows.new.rows.items c.new-rows.ensures.items c.in_ok-add_pair_rows.ensures

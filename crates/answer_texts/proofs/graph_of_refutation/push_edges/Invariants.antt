@@ -1,9 +1,0 @@
-use Rattle.std.proofs.Common.{◌≡◌, ◌++◌, take, map}
-use Rattle.std.specs.List.{flat_map}
-use Rattle.std.specs.String.{string_bytes}
-use Rattle.axioms.specs.Ontology.{name_at}
-use Rattle.answer_texts.specs.Graphs as graphs
-use Rattle.answer_texts.proofs.graph_of_refutation.push_edges.Given as goal
-
-abbrev pub invariant-loop-target : goal.invariant-loop-target
-invariant-loop-target l = l.out.items ≡ l.fn.out.items ++ flat_map (graphs.pair_edge (name_at (map string_bytes l.properties) l.property) l.source) (take l.target-index l.targets)

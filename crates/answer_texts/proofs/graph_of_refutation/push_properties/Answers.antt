@@ -1,8 +1,0 @@
-use Rattle.answer_texts.specs.Graphs as graphs
-use Rattle.answer_texts.proofs.More.{added, range_more}
-use Rattle.answer_texts.proofs.graph_of_refutation.push_properties.Goals as goal
-
-pub loop-number-preserved : goal.loop-number-preserved
-loop-number-preserved c =
-    let f = graphs.property_edges c.args.ontology.now.names c.args.interpretation.now in
-    added c.args.out.now.items c.loop-number.out.items c.push_property.new.out.items _ _ _ c.loop-number.invariant c.in_ok-push_property.ensures (range_more f c.loop-number.number)

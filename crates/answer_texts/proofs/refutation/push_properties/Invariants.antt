@@ -1,7 +1,0 @@
-use Rattle.std.proofs.Common.{◌≡◌, ◌++◌}
-use Rattle.std.specs.List.{flat_map, range_with_len}
-use Rattle.answer_texts.specs.Refutation as text
-use Rattle.answer_texts.proofs.refutation.push_properties.Given as goal
-
-abbrev pub invariant-loop-number : goal.invariant-loop-number
-invariant-loop-number l = l.out.items ≡ l.fn.out.items ++ flat_map (text.property_text l.ontology.names l.interpretation) (range_with_len 0 l.number)

@@ -1,0 +1,68 @@
+//! The text of a certificate that lists an interpretation, as it grows row by row.
+
+ghost use Rattle.std.specs.Prelude.{◌≡◌, ◌++◌, IfOk, OnOk, codes, map};
+ghost use Rattle.std.specs.List.{enumerate_from, flat_map};
+ghost use Rattle.certificate.specs.Text.{claim_text, class_text, individual_text, pairs_text};
+ghost use Rattle.certificate.specs.View.{claim_of, class_row_of, pair_row_of};
+
+use crate::listed::{Claim, ClassRow, PairRow};
+use crate::writing::{Spelled, push_each, push_individuals};
+use axioms::Memory;
+use std::marker::Model;
+
+/// The text of a certificate up to a row of the interpretation that it lists. No row is kept beside it. It is seen as its bytes.
+#[derive(Drop)]
+pub struct ListedText {
+    pub(crate) text: Vec<u8>,
+}
+
+impl Model for ListedText {
+    ghost use Rattle.std.specs.Prelude.{List, ℕ};
+
+    ghost Value = { List ℕ };
+
+    ghost view = { λ t. t.text.items };
+}
+
+impl ListedText {
+    /// Adds the row of a class.
+    ///
+    /// # Errors
+    ///
+    /// `Memory` where memory was refused. Then a part of the row may stand there.
+    pub fn push_class(&mut self, class_row: &ClassRow) -> Result<(), Memory>
+        ensures { OnOk result (self.new ≡ self.old ++ class_text (class_row_of class_row.now)) }
+    {
+        class_row.push_to(&mut self.text)?;
+        Ok(())
+    }
+
+    /// Adds the row of a property and an element.
+    ///
+    /// # Errors
+    ///
+    /// `Memory` where memory was refused. Then a part of the row may stand there.
+    pub fn push_pairs(&mut self, pair_row: &PairRow) -> Result<(), Memory>
+        ensures { OnOk result (self.new ≡ self.old ++ pairs_text (pair_row_of pair_row.now)) }
+    {
+        pair_row.push_to(&mut self.text)?;
+        Ok(())
+    }
+
+    /// The whole text, with the element of each individual, by the individual's number, and with the claims.
+    ///
+    /// # Errors
+    ///
+    /// `Memory` where memory was refused.
+    #[tactic(auto, using(crate::proofs::Seen::seen_claims))]
+    pub fn end(self, individuals: &[u32], claims: &[Claim]) -> Result<Vec<u8>, Memory>
+        ensures { IfOk result
+            (λ v. v.items ≡ self ++ flat_map individual_text (enumerate_from 0 individuals.now) ++ flat_map claim_text (map claim_of claims.now) ++ codes "end\n") }
+    {
+        let mut text = self.text;
+        push_individuals(&mut text, individuals)?;
+        push_each(&mut text, claims)?;
+        text.extend_from_slice(b"end\n")?;
+        Ok(text)
+    }
+}
