@@ -1,5 +1,5 @@
 -- What a saturation has.
-use Rattle.std.specs.Prelude.{◌≡◌, ℕ, ◌<◌, List, [], length, map}
+use Rattle.std.specs.Prelude.{◌≡◌, ℕ, ◌<◌, ◌≤◌, List, [], length, map, Result, Err, OnOk, OnErr}
 use Rattle.std.specs.List.{All, Contains}
 use Rattle.axioms.specs.Ontology.{Ontology}
 use Rattle.axioms.specs.WellFormedness.{AreDistinct}
@@ -10,7 +10,10 @@ use Rattle.normalise.specs.Entries.{form_in}
 use Rattle.normalise.specs.Growth.{IsNormalFor}
 use Rattle.normalise.specs.Listing.{Listing}
 use Rattle.normalise.specs.Problem.{prefixes_of}
-use Rattle.saturate.specs.State.{Seen, AreBorn}
+use Rattle.inference.specs.declared.known_facts.Stop.{Stop}
+use Rattle.inference.specs.declared.known_facts.Stop.TheVariants.{Limit, Memory}
+use Rattle.saturate.specs.State.{Seen, AreBorn, Extends}
+use Rattle.saturate.specs.Run.{IsRun, IsRunUntil}
 
 -- normal forms, and what they lead to
 pub record Saturated : Type 0 where
@@ -56,3 +59,23 @@ pub record HasMoreFactsThan (o : Ontology) (n : ℕ) : Type 0 where
   pub distinct : AreDistinct facts
   pub each : All (IsFact o []) facts
   pub many : n < length facts
+
+-- what a run leads to that may have so many facts, and how it ends
+pub record HasResumed (max_facts : ℕ) (old new : Saturated) (result : Result Unit Stop) : Type 0 where
+  -- the forms are the same, and each fact stays at its place, with what gave it, and is served if it was
+  pub normal : new.normal ≡ old.normal
+  pub extends : Extends old.state new.state
+  -- it is a run; or one that was given up, whose last facts are pending
+  pub whole : OnOk result (IsRun old.state new.state)
+  pub until : OnErr result (IsRunUntil old.state new.state)
+  pub finished : OnOk result (IsFinished new)
+  pub within : OnOk result (length new.state.facts ≤ max_facts)
+  pub most : length old.state.facts ≤ max_facts → length new.state.facts ≤ max_facts
+  -- with nothing pending nothing changes, and memory is not refused
+  pub idle : IsFinished old → (new ≡ old) × ¬ (result ≡ Err Memory)
+
+-- what such a run of the ontology's saturation says of its closure
+pub record Saturates (o : Ontology) (max_facts : ℕ) (new : Saturated) (result : Result Unit Stop) : Type 0 where
+  pub sound : IsSound o new
+  pub saturated : OnOk result (IsSaturated o new)
+  pub limit : result ≡ Err Limit → HasMoreFactsThan o max_facts

@@ -1,17 +1,15 @@
 //! All facts that an ontology leads to.
 ghost use Rattle.closure.specs.Denotations.{IsProblemOf};
 ghost use Rattle.axioms.specs.Ontology.{Ontology as Ontology2};
-ghost use Rattle.engine.specs.Saturations.{HasMoreFactsThan, IsFinished, IsSaturated, IsSound};
-ghost use Rattle.facts.specs.Births.{IsBirth, reason};
-ghost use Rattle.facts.specs.declared.contexts.Fact.{Fact as Fact2};
+ghost use Rattle.engine.specs.Saturations.{HasMoreFactsThan, HasResumed, IsFinished, IsSaturated, IsSound, Saturates};
+ghost use Rattle.facts.specs.Births.{reason};
 ghost use Rattle.normalise.specs.Entries.{form_in};
 ghost use Rattle.normalise.specs.Growth.{IsNormalFor};
 ghost use Rattle.normalise.specs.Problem.{prefixes_of};
 ghost use Rattle.inference.specs.PropertyClosures.{IsClosureOf};
-ghost use Rattle.saturate.specs.Run.{IsRun, IsRunUntil};
-ghost use Rattle.saturate.specs.State.{Extends};
+ghost use Rattle.saturate.specs.State.{GaveFact};
 ghost use Rattle.inference.specs.declared.known_facts.Stop.TheVariants as stops;
-ghost use Rattle.std.specs.Prelude.{◌≡◌, ◌≤◌, ◌↔◌, Err, IfNone, OnErr, IfOk, IfSome, IsTrue, OnOk, Some, [], length, map, slice_get, take};
+ghost use Rattle.std.specs.Prelude.{◌≡◌, ◌≤◌, ◌↔◌, Err, IfNone, IfOk, IfSome, IsTrue, Some, [], length, map, slice_get};
 
 use axioms::{Memory, Ontology};
 use facts::{Birth, FactId, StoredFact};
@@ -69,20 +67,8 @@ impl Saturation {
     /// `Limit` where the closure has more facts than `max_facts`, and `Memory` where memory was refused. After either the facts
     /// that are not served are still pending, and it may be called again.
     pub fn resume(&mut self, max_facts: u32) -> Result<(), Stop>
-        // The forms are the same, and each fact stays at its place, with what gave it, and is served if it was.
-        ensures normal { self.new.normal ≡ self.old.normal }
-        ensures extends { Extends self.old.state self.new.state }
-        // It is a run; or one that was given up, whose last facts are pending.
-        ensures whole { OnOk result (IsRun self.old.state self.new.state) }
-        ensures until { OnErr result (IsRunUntil self.old.state self.new.state) }
-        ensures sound { (o : Ontology2) → IsSound o self.old → IsSound o self.new }
-        ensures finished { OnOk result (IsFinished self.new) }
-        ensures saturated { OnOk result ((o : Ontology2) → IsSound o self.old → IsSaturated o self.new) }
-        ensures within { OnOk result (length self.new.state.facts ≤ max_facts) }
-        ensures limit { result ≡ Err stops.Limit → (o : Ontology2) → IsSound o self.old → HasMoreFactsThan o max_facts }
-        ensures most { length self.old.state.facts ≤ max_facts → length self.new.state.facts ≤ max_facts }
-        // With nothing pending nothing changes, and memory is not refused.
-        ensures idle { IsFinished self.old → (self.new ≡ self.old) × ¬ (result ≡ Err stops.Memory) }
+        ensures resumed { HasResumed max_facts self.old self.new result }
+        ensures saturates { (o : Ontology2) → IsSound o self.old → Saturates o max_facts self.new result }
     {
         self.state.run(max_facts)
     }
@@ -145,7 +131,7 @@ impl Saturation {
     /// What gave the fact of that number, if there is one: a condition, older facts and a form.
     pub fn born(&self, fact: FactId) -> Option<&Birth>
         ensures reason { IfSome result (λ b. slice_get self.now.state.births fact.0 ≡ Some (reason b.now)) }
-        ensures gives { IfSome result (λ b. (f : Fact2) → slice_get self.now.state.facts fact.0 ≡ Some f → IsBirth self.now.state.problem (take fact.0 self.now.state.facts) f (reason b.now)) }
+        ensures gives { IfSome result (λ b. GaveFact self.now.state fact.0 (reason b.now)) }
         ensures none { IfNone result (length self.now.state.facts ≤ fact.0) }
     {
         self.state.born(fact)

@@ -1,5 +1,5 @@
 -- What facts give, form by form.
-use Rattle.std.proofs.Common.{◌≡◌, ℕ, ◌+◌, ◌<◌, ◌≤◌, ⊎_elim, List, [], ◌∷◌, length, get_or, map, take, slice_get, Some, Contains, refl, ap, ap₂, subst, arith}
+use Rattle.std.proofs.Common.{◌≡◌, ℕ, ◌+◌, ◌<◌, ◌≤◌, ⊎_elim, List, [], ◌∷◌, length, get_or, map, take, slice_get, Some, Ok, Contains, refl, ap, ap₂, subst, arith}
 use Rattle.std.proofs.lemmas.Bool.Decides.{eqb_tells}
 use Rattle.std.proofs.lemmas.List.{take_all}
 use Rattle.std.proofs.lemmas.List.Elements.{Contains-get_or, Contains-push_cases}
@@ -8,13 +8,20 @@ use Rattle.normal_forms.specs.declared.forms.Form.{Form}
 use Rattle.facts.specs.declared.contexts.Context.{Context}
 use Rattle.facts.specs.declared.contexts.Context.TheVariants.{Expr}
 use Rattle.facts.specs.declared.contexts.Fact.{Fact}
-use Rattle.facts.specs.Closure.{Problem, CarriesBack, IsContextBy, IsLoop, in_thing, in_itself, by_form, unsatisfiable, loop}
+use Rattle.facts.specs.Closure.{Problem, IsContextBy, IsLoop, in_thing, in_itself, by_form, unsatisfiable, loop}
+use Rattle.inference.specs.declared.rules.Rules.{Rules}
 use Rattle.inference.specs.Derivations.{Keeps, Derived, Grows}
+use Rattle.inference.specs.Draws.{Draws}
+use Rattle.inference.specs.Visits.{AreWithin}
 use Rattle.inference.specs.Entry.{LoopIsDrawn}
-use Rattle.inference.specs.Completeness.{AreAt, IsContextAt, AllDrawn, DrawnAt, AreDrawn, IsEntered, Drawn, MeetEachOther, AreMet, AreMetBefore, AreMetBehind}
+use Rattle.inference.specs.Completeness.{AreAt, AreConcluded, IsContextAt, AllDrawn, DrawnAt, ForEach, IsEntered, Drawn, MeetEachOther, AreMet, AreMetBefore}
 use Rattle.inference.proofs.Growth.{there_still}
 use Rattle.inference.proofs.Redundancy.{up_to_redundancy_still}
 use Rattle.inference.proofs.Lists.{Contains-from_slice_get, one_value, take_push}
+
+-- where nothing stops the work, what is drawn is there
+pub draws : {rules : Rules} {old new : Derived} {IsDrawn : Type 0} → Grows rules.problem.now rules.max_facts old new → IsDrawn → Draws rules old new (Ok tt) IsDrawn
+draws grows drawn = record { grows = grows; limit = λ e. absurd (cc); drawn = drawn }
 
 -- facts stay where they are
 pub at_still : (a b : List Fact) → Keeps a b → (numbers : List ℕ) (older : List Fact) → AreAt a numbers older → AreAt b numbers older
@@ -56,14 +63,16 @@ drawn_at_still s D forms n drawn form at f d = there_still s f (drawn form at f 
 pub all_still : {k : Problem} {most : ℕ} {a b : Derived} → Grows k most a b → (D : Form → Fact → Type 0) (forms : List Form) → AllDrawn D forms a.facts → AllDrawn D forms b.facts
 all_still s D forms all form there f d = there_still s f (all form there f d)
 
+pub concluded_still : {k : Problem} {most : ℕ} {a b : Derived} → Grows k most a b → (older : List Fact) → AreConcluded k older a.facts → AreConcluded k older b.facts
+concluded_still s older all = record { forms = all_still s _ _ all.forms; back = λ f b. there_still s f (all.back f b) }
+
 -- what the forms give, owl:Nothing carried back, and what is in each context are all that facts give
-pub drawn : (k : Problem) (older facts : List Fact) → AreDrawn k k.forms older facts → ((f : Fact) → CarriesBack older f → Contains facts f)
-    → ((x : Context) → IsContextBy k older x → IsEntered k x facts) → Drawn k older facts
-drawn k older facts forms back enter _ _ _ (in_thing {x = x} c) = (enter x c).top
-drawn k older facts forms back enter _ _ _ (in_itself {e = e} c) = (enter (Expr e) c).itself e refl
-drawn k older facts forms back enter _ _ _ (by_form {f = f} n form at gives) = forms form (Contains-from_slice_get k.forms n form at) f gives
-drawn k older facts forms back enter _ _ _ (unsatisfiable {f = f} b) = back f b
-drawn k older facts forms back enter _ _ _ (loop {f = f} x n form at l c) = (enter x c).loops form (Contains-from_slice_get k.forms n form at) f l
+pub drawn : (k : Problem) (older facts : List Fact) → AreConcluded k older facts → ((x : Context) → IsContextBy k older x → IsEntered k x facts) → Drawn k older facts
+drawn k older facts all enter _ _ _ (in_thing {x = x} c) = (enter x c).top
+drawn k older facts all enter _ _ _ (in_itself {e = e} c) = (enter (Expr e) c).itself e refl
+drawn k older facts all enter _ _ _ (by_form {f = f} n form at gives) = all.forms form (Contains-from_slice_get k.forms n form at) f gives
+drawn k older facts all enter _ _ _ (unsatisfiable {f = f} b) = all.back f b
+drawn k older facts all enter _ _ _ (loop {f = f} x n form at l c) = (enter x c).loops form (Contains-from_slice_get k.forms n form at) f l
 
 pub drawn_still : {k : Problem} {most : ℕ} {a b : Derived} → Grows k most a b → (older : List Fact) → Drawn k older a.facts → Drawn k older b.facts
 drawn_still s older drawn condition form f gives = there_still s f (drawn condition form f gives)
@@ -77,22 +86,27 @@ met_still s f g w = record { first = up_to_redundancy_still s (f ∷ g ∷ []) w
 pub all_met_still : {k : Problem} {most : ℕ} {a b : Derived} → Grows k most a b → (f : Fact) (old : List Fact) (numbers : List ℕ) → AreMet k f old numbers a → AreMet k f old numbers b
 all_met_still s f old numbers met n there g at = met_still s f g (met n there g at)
 
--- facts that were there later were there before, if they are asked about there
-pub met_earlier : {k : Problem} {most : ℕ} {a b : Derived} → Grows k most a b → (f : Fact) (numbers : List ℕ) (new : Derived) → AreMet k f b.facts numbers new → AreMet k f a.facts numbers new
-met_earlier s f numbers new met n there g at = met n there g (s.facts n g at)
-
 -- what the fact gives as the first of two is there or redundant still
 pub before_still : {k : Problem} {most : ℕ} {a b : Derived} → Grows k most a b → (f : Fact) (old : List Fact) (numbers : List ℕ) → AreMetBefore k f old numbers a → AreMetBefore k f old numbers b
 before_still s f old numbers met n there g at = up_to_redundancy_still s (f ∷ g ∷ []) (met n there g at)
 
-pub behind_still : {k : Problem} {most : ℕ} {a b : Derived} → Grows k most a b → (f : Fact) (old : List Fact) (numbers : List ℕ) → AreMetBehind k f old numbers a → AreMetBehind k f old numbers b
-behind_still s f old numbers met n there g at = up_to_redundancy_still s (g ∷ f ∷ []) (met n there g at)
+-- facts that were there later were there before, if they are asked about there
+pub for_each_earlier : {k : Problem} {most : ℕ} {a b : Derived} → Grows k most a b → (P : Fact → Type 0) (numbers : List ℕ) → ForEach P b.facts numbers → ForEach P a.facts numbers
+for_each_earlier s P numbers each_is n there g at = each_is n there g (s.facts n g at)
 
-pub before_earlier : {k : Problem} {most : ℕ} {a b : Derived} → Grows k most a b → (f : Fact) (numbers : List ℕ) (new : Derived) → AreMetBefore k f b.facts numbers new → AreMetBefore k f a.facts numbers new
-before_earlier s f numbers new met n there g at = met n there g (s.facts n g at)
+-- what holds of each fact with the numbers so far, and of the next, which is read where facts have grown
+pub for_each_more : {k : Problem} {most : ℕ} {a b : Derived} → Grows k most a b → (P Q : Fact → Type 0) (numbers : List ℕ) (i : ℕ) (read : Fact) → i < length numbers → slice_get b.facts (get_or numbers i 0) ≡ Some read
+    → ForEach P a.facts (take i numbers) → ((f : Fact) → P f → Q f) → Q read → ForEach Q a.facts (take (i + 1) numbers)
+for_each_more {a = a} s P Q numbers i read low is before still here =
+    each_more (λ n. (f : Fact) → slice_get a.facts n ≡ Some f → P f) (λ n. (f : Fact) → slice_get a.facts n ≡ Some f → Q f) numbers numbers i 0 refl low before
+    (λ n all f at. still f (all f at)) (λ f at. subst Q (one_value _ read f is (s.facts _ f at)) here)
 
-pub behind_earlier : {k : Problem} {most : ℕ} {a b : Derived} → Grows k most a b → (f : Fact) (numbers : List ℕ) (new : Derived) → AreMetBehind k f b.facts numbers new → AreMetBehind k f a.facts numbers new
-behind_earlier s f numbers new met n there g at = met n there g (s.facts n g at)
+pub for_each : (P : Fact → Type 0) (facts : List Fact) (numbers : List ℕ) (i : ℕ) → length numbers ≤ i → ForEach P facts (take i numbers) → ForEach P facts numbers
+for_each P facts numbers i = each (λ n. (f : Fact) → slice_get facts n ≡ Some f → P f) numbers numbers i refl
+
+-- the fact of the next number is there
+pub next_there : {k : Problem} {most : ℕ} {a b : Derived} → Grows k most a b → (numbers : List ℕ) (i : ℕ) → AreWithin a.facts numbers → i < length numbers → get_or numbers i 0 < length b.facts
+next_there s numbers i within low = omega (arith, within _ (Contains-get_or numbers i 0 low), s.longer)
 
 -- the loops at the targets of the first so many facts, and of the next
 pub loops_more : {k : Problem} {most : ℕ} {a b d : Derived} (i : ℕ) → Grows k most a b → Grows k most b d → ((n : ℕ) → n < i → LoopIsDrawn k a.facts b.facts n) → LoopIsDrawn k b.facts d.facts i → (n : ℕ) → n < i + 1 → LoopIsDrawn k a.facts d.facts n

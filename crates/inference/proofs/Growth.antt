@@ -1,11 +1,13 @@
 -- Facts that only grow, each with a reason.
 use Rattle.std.proofs.Common.{◌≡◌, ℕ, zero, suc, ◌+◌, ◌<◌, ◌≤◌, ◌⊎◌, inl, inr, Bool, true, false, refl, List, [], ◌∷◌, ◌++◌, length, map, take, slice_get, Some, Contains, sym, ap, ◌∙◌, arith, length-append}
 use Rattle.std.proofs.lemmas.List.{take-append-le, take_all}
+use Rattle.std.proofs.lemmas.List.Elements.{Contains-push}
 use Rattle.std.proofs.lemmas.Option.{slice_get_within, slice_get-get_or}
+use Rattle.axioms.specs.WellFormedness.{AreDistinct}
 use Rattle.facts.specs.declared.contexts.Fact.{Fact}
 use Rattle.facts.specs.Closure.{Problem, IsFact, AreFacts, given, none, more}
 use Rattle.facts.specs.Births.{Reason, IsBirth}
-use Rattle.inference.specs.Derivations.{Derived, IsDerived, Grows, HasMoreFactsThan, AreDistinct}
+use Rattle.inference.specs.Derivations.{Derived, IsDerived, Grows, HasMoreFactsThan}
 use Rattle.inference.proofs.Lists.{Contains-from_slice_get, slice_get_there, slice_get_push_cases, keeps_push, slice_get_take}
 
 pub grows_same : {k : Problem} {most : ℕ} {d : Derived} → IsDerived k d → Grows k most d d
@@ -99,3 +101,7 @@ pub put : (k : Problem) (most : ℕ) (d new : Derived) (f : Fact) (r : Reason) (
     → Grows k most d new
 put k most d new f r true s birth low fresh known = rw (fresh refl).1 (added k most d f r s birth (fresh refl).0 low)
 put k most d new f r false s birth low fresh known = rw (known refl).1 (grows_same s)
+
+pub put_there : (d new : Derived) (f : Fact) (r : Reason) (is_new : Bool) → (is_new ≡ true → (Contains d.facts f → ⊥) × (new ≡ record { facts = d.facts ++ f ∷ []; births = d.births ++ r ∷ [] })) → (is_new ≡ false → Contains d.facts f × (new ≡ d)) → Contains new.facts f
+put_there d new f r true fresh known = rw (fresh refl).1 (Contains-push d.facts f)
+put_there d new f r false fresh known = rw (known refl).1 (known refl).0

@@ -6,10 +6,10 @@ use Rattle.normal_forms.specs.declared.forms.Class2.{Class2}
 use Rattle.facts.specs.declared.contexts.Context.{Context}
 use Rattle.facts.specs.declared.contexts.Fact.{Fact}
 use Rattle.facts.specs.declared.contexts.Fact.TheVariants.{In, Edge}
-use Rattle.facts.specs.Closure.{Problem, Concludes, FromTwo, in_thing, in_itself, by_form, unsatisfiable, loop}
+use Rattle.facts.specs.Closure.{Problem, FromTwo, in_thing, in_itself, by_form, unsatisfiable, loop}
 use Rattle.inference.specs.Derivations.{Derived, Grows}
 use Rattle.inference.specs.Visits.{IsClassFact}
-use Rattle.inference.specs.Completeness.{DrawnAt, IsDrawnIn, MeetsOperands, MeetEachOther, DrawnUpToRedundancy}
+use Rattle.inference.specs.Completeness.{IsDrawnFrom, IsDrawnIn, MeetsOperands, MeetEachOther, DrawnUpToRedundancy}
 use Rattle.inference.proofs.Drawing.{drawn_at_still}
 use Rattle.inference.proofs.Giving.{first_operand, second_operand}
 use Rattle.inference.proofs.Growth.{there_still}
@@ -47,7 +47,7 @@ not_both k old new x n p q r is none a b ina inb form at h w =
     absurd (none (subst (λ c. Contains old (In c x)) (same_first a b i.0 p q r same) ina) (subst (λ c. Contains old (In c x)) (same_second a b i.0 p q r same) inb))
 
 -- what it gives from these is all
-pub both_drawn : (k : Problem) (old new : List Fact) (x : Context) (n : ℕ) (p q r : Class2) → slice_get k.forms n ≡ Some (N2 p q r) → DrawnAt (λ form. Concludes k form (In p x ∷ In q x ∷ [])) k.forms new n → IsDrawnIn k old x new n
+pub both_drawn : (k : Problem) (old new : List Fact) (x : Context) (n : ℕ) (p q r : Class2) → slice_get k.forms n ≡ Some (N2 p q r) → IsDrawnFrom k (In p x ∷ In q x ∷ []) new n → IsDrawnIn k old x new n
 both_drawn k old new x n p q r is drawn a b ina inb form at h w =
     let i = intersection k form a b x x h w in
     let same : N2 a b i.0 ≡ N2 p q r = one_value (slice_get k.forms n) _ _ (subst (λ f. slice_get k.forms n ≡ Some f) i.1 at) is in

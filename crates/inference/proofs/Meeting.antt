@@ -1,5 +1,5 @@
 -- What a fact meets of those that the index lists.
-use Rattle.std.proofs.Common.{◌≡◌, ℕ, ◌<◌, List, length, slice_get, Some, Contains, subst}
+use Rattle.std.proofs.Common.{◌≡◌, ℕ, List, Contains, subst}
 use Rattle.std.proofs.lemmas.Option.{slice_get_within}
 use Rattle.normal_forms.specs.declared.forms.Class2.{Class2}
 use Rattle.normal_forms.specs.declared.forms.PropId2.{PropId2}
@@ -11,9 +11,10 @@ use Rattle.indexes.specs.declared.index.Index.{Index}
 use Rattle.indexes.specs.Contexts.{at_context}
 use Rattle.indexes.specs.FactIndex.{IsIn, IsFrom, IsInto}
 use Rattle.inference.specs.Derivations.{Derived, Grows}
-use Rattle.inference.specs.Completeness.{AreMet, AreMetBefore, AreMetBehind}
-use Rattle.inference.specs.Visits.{AreAll, IsClassFact, IsEdge}
+use Rattle.inference.specs.Completeness.{AreMet, AreMetBefore, AreMetBehind, ForEach}
+use Rattle.inference.specs.Visits.{AreAll, AreWithin, IsClassFact, IsEdge}
 use Rattle.inference.specs.Meetings.{IsWithin, AllListedAreMet}
+use Rattle.inference.proofs.Drawing.{for_each_earlier}
 use Rattle.inference.proofs.Lists.{one_value}
 
 -- what holds of the numbers of one list holds of those of another that is the same
@@ -75,12 +76,12 @@ within_still s w = record {
 pub all_still_there : {k : Problem} {most : ℕ} {a b : Derived} → Grows k most a b → (P : Fact → Type 0) (numbers : List ℕ) → AreAll P a.facts numbers → AreAll P b.facts numbers
 all_still_there s P numbers all n c = let o = all n c in (o.0, s.facts n o.0 o.1, o.2)
 
-pub kind_of : (P : Fact → Type 0) (facts : List Fact) (numbers : List ℕ) → AreAll P facts numbers → (n : ℕ) → Contains numbers n → (f : Fact) → slice_get facts n ≡ Some f → P f
+pub kind_of : (P : Fact → Type 0) (facts : List Fact) (numbers : List ℕ) → AreAll P facts numbers → ForEach P facts numbers
 kind_of P facts numbers all n c f at = let o = all n c in subst P (one_value _ o.0 f o.1 at) o.2
 
-pub numbers_within : (P : Fact → Type 0) (facts : List Fact) (numbers : List ℕ) → AreAll P facts numbers → (n : ℕ) → Contains numbers n → n < length facts
+pub numbers_within : (P : Fact → Type 0) (facts : List Fact) (numbers : List ℕ) → AreAll P facts numbers → AreWithin facts numbers
 numbers_within P facts numbers all n c = let o = all n c in slice_get_within facts n o.0 o.1
 
 pub listed_earlier : {k : Problem} {most : ℕ} {a b : Derived} (index : Index) (new : Derived) → Grows k most a b → (f : Fact) → AllListedAreMet k f b.facts index new → AllListedAreMet k f a.facts index new
-listed_earlier index new s (In c x) met = ((λ n t g at. met.0 n t g (s.facts n g at)), (λ n t g at. met.1 n t g (s.facts n g at)))
-listed_earlier index new s (Edge x r y) met = ((λ n t g at. met.0 n t g (s.facts n g at)), (λ n t g at. met.1 n t g (s.facts n g at)), (λ n t g at. met.2 n t g (s.facts n g at)))
+listed_earlier index new s (In c x) met = (for_each_earlier s _ _ met.0, for_each_earlier s _ _ met.1)
+listed_earlier index new s (Edge x r y) met = (for_each_earlier s _ _ met.0, for_each_earlier s _ _ met.1, for_each_earlier s _ _ met.2)

@@ -10,7 +10,7 @@ use Rattle.normal_forms.specs.Properties.{IsAtOrBelow}
 use Rattle.facts.specs.Closure.{Problem, FromNone, FromOne, FromTwo, Concludes, IsLoop}
 use Rattle.indexes.specs.declared.keys.Key.TheVariants.{Whole}
 use Rattle.indexes.specs.Keys.{class_key, by_kind, by_alone, by_first, by_second, by_filler, by_chain}
-use Rattle.inference.specs.Visits.{chained_property, ChainsDrawn}
+use Rattle.inference.specs.Visits.{chained_property, AllChainsDrawn}
 use Rattle.inference.specs.Completeness.{AreDrawn, AllDrawn, DrawnAt}
 use Rattle.inference.proofs.Lists.{slice_get-from_Contains}
 
@@ -88,7 +88,7 @@ chain k r s t (g ∷ h ∷ i ∷ more) f w = absurd w
 -- so what these forms give is all that forms give
 module _ (k : Problem) (older new : List Fact)
     (plain : (n : ℕ) (form : Form) (f : Fact) → slice_get k.forms n ≡ Some form → by_chain form ≡ None → Concludes k form older f → Contains new f)
-    (chains : (p : PropId2) → chained_property older ≡ Some p → (r : PropId2) → IsAtOrBelow k.forms p r → ChainsDrawn k older new r) where
+    (chains : (p : PropId2) → chained_property older ≡ Some p → AllChainsDrawn k older new p) where
   given : (form : Form) (n : ℕ) → slice_get k.forms n ≡ Some form → (f : Fact) → Concludes k form older f → Contains new f
   given (N1 a b) n at f w = plain n (N1 a b) f at refl w
   given (N2 a b c) n at f w = plain n (N2 a b c) f at refl w
@@ -100,7 +100,7 @@ module _ (k : Problem) (older new : List Fact)
   given (N8 i a) n at f w = plain n (N8 i a) f at refl w
   given (N9 i r j) n at f w = plain n (N9 i r j) f at refl w
 
-  pub all_given : AreDrawn k k.forms older new
+  pub all_given : AreDrawn k older new
   all_given form there f w = let at = slice_get-from_Contains k.forms form there in given form at.0 at.1 f w
 
 -- the loops of the reflexive properties are all loops

@@ -1,5 +1,5 @@
 -- What the engine keeps while it works.
-use Rattle.std.specs.Prelude.{◌≡◌, ℕ, ◌↔◌, ◌⊎◌, List, [], ◌∷◌, slice_get, map, Option, Some, None}
+use Rattle.std.specs.Prelude.{◌≡◌, ℕ, ◌↔◌, ◌⊎◌, List, [], ◌∷◌, slice_get, map, Option, Some}
 use Rattle.std.specs.List.{Contains, AllByRecursion}
 use Rattle.axioms.specs.declared.ids.ExprId.{ExprId}
 use Rattle.normal_forms.specs.declared.forms.Form.{Form}
@@ -12,7 +12,7 @@ use Rattle.facts.specs.declared.contexts.Context.{Context}
 use Rattle.facts.specs.declared.contexts.Context.TheVariants.{Expr}
 use Rattle.facts.specs.declared.contexts.Fact.{Fact}
 use Rattle.facts.specs.declared.contexts.Fact.TheVariants.{In}
-use Rattle.facts.specs.Closure.{Problem, Concludes, IsContextBy, IsLoop, Gives, IsFact, thing}
+use Rattle.facts.specs.Closure.{Problem, Concludes, CarriesBack, IsContextBy, IsLoop, Gives, IsFact, thing}
 use Rattle.facts.specs.Births.{Reason}
 use Rattle.indexes.specs.Keys.{class_key, by_first, by_second}
 use Rattle.indexes.specs.FormsUnderKeys.{IsUnder}
@@ -34,13 +34,17 @@ AllDrawn D forms facts = (form : Form) → Contains forms form → (f : Fact) �
 abbrev pub DrawnAt : (Form → Fact → Type 0) → List Form → List Fact → ℕ → Type 0
 DrawnAt D forms facts n = (form : Form) → slice_get forms n ≡ Some form → (f : Fact) → D form f → Contains facts f
 
--- what is drawn from the forms at the places is there
-abbrev pub AreDrawnAt : (Form → Fact → Type 0) → List Form → List ℕ → List Fact → Type 0
-AreDrawnAt D forms places facts = (n : ℕ) → Contains places n → DrawnAt D forms facts n
+-- what the form at the place gives from these facts is there
+abbrev pub IsDrawnFrom : Problem → List Fact → List Fact → ℕ → Type 0
+IsDrawnFrom k older facts n = DrawnAt (λ form. Concludes k form older) k.forms facts n
+
+-- what the forms at the places give from these facts is there
+abbrev pub AreDrawnFrom : Problem → List Fact → List Fact → List ℕ → Type 0
+AreDrawnFrom k older facts places = (n : ℕ) → Contains places n → IsDrawnFrom k older facts n
 
 -- what the form at the place gives from two classes that were in the context is there
 abbrev pub IsDrawnIn : Problem → List Fact → Context → List Fact → ℕ → Type 0
-IsDrawnIn k old x new n = (a b : Class2) → Contains old (In a x) → Contains old (In b x) → DrawnAt (λ form. Concludes k form (In a x ∷ In b x ∷ [])) k.forms new n
+IsDrawnIn k old x new n = (a b : Class2) → Contains old (In a x) → Contains old (In b x) → IsDrawnFrom k (In a x ∷ In b x ∷ []) new n
 
 -- what the forms at the places give from two classes that were in the context is there
 abbrev pub AreDrawnIn : Problem → List Fact → Context → List Fact → List ℕ → Type 0
@@ -52,13 +56,22 @@ pub record MeetsOperands (k : Problem) (old : List Fact) (a : Class2) (x : Conte
   pub second : (n : ℕ) → IsUnder by_second k.forms (class_key a) n → IsDrawnIn k old x new n
 
 -- what the forms give from these facts is there
-abbrev pub AreDrawn : Problem → List Form → List Fact → List Fact → Type 0
-AreDrawn k forms older facts = AllDrawn (λ form. Concludes k form older) forms facts
+abbrev pub AreDrawn : Problem → List Fact → List Fact → Type 0
+AreDrawn k older facts = AllDrawn (λ form. Concludes k form older) k.forms facts
+
+-- what the forms give from these facts is there, and so is what the facts carry back
+pub record AreConcluded (k : Problem) (older facts : List Fact) : Type 0 where
+  pub forms : AreDrawn k older facts
+  pub back : (f : Fact) → CarriesBack older f → Contains facts f
+
+-- an expression is in itself
+abbrev pub IsInItself : Context → List Fact → Type 0
+IsInItself x facts = (e : ExprId) → x ≡ Expr e → Contains facts (In (class.Expr e) x)
 
 -- what is in each context is in this one
 pub record IsEntered (k : Problem) (x : Context) (facts : List Fact) : Type 0 where
   pub top : Contains facts (In thing x)
-  pub itself : (e : ExprId) → x ≡ Expr e → Contains facts (In (class.Expr e) x)
+  pub itself : IsInItself x facts
   pub loops : AllDrawn (IsLoop x) k.forms facts
 
 -- what these facts give is there
@@ -95,11 +108,8 @@ pub record IsRedundantFor (k : Problem) (d : Derived) (form : Form) (f : Fact) :
 
 -- what a form gives from two facts is redundant, where the second is redundant for it
 abbrev pub AreRedundant : Problem → Derived → List Fact → Option ℕ → Type 0
-AreRedundant k d [] n = ⊥
-AreRedundant k d (f ∷ []) n = ⊥
-AreRedundant k d (f ∷ g ∷ []) None = ⊥
 AreRedundant k d (f ∷ g ∷ []) (Some n) = (form : Form) × (slice_get k.forms n ≡ Some form) × IsRedundantFor k d form g
-AreRedundant k d (f ∷ g ∷ h ∷ more) n = ⊥
+AreRedundant k d _ _ = ⊥
 
 -- the fact need not be a second premise: all that it gives as one is redundant
 abbrev pub IsRedundantAsSecond : Problem → Derived → Fact → Type 0
@@ -114,17 +124,21 @@ pub record MeetEachOther (k : Problem) (f g : Fact) (d : Derived) : Type 0 where
   pub first : DrawnUpToRedundancy k (f ∷ g ∷ []) d
   pub second : DrawnUpToRedundancy k (g ∷ f ∷ []) d
 
+-- it is so for each of the facts with these numbers
+abbrev pub ForEach : (Fact → Type 0) → List Fact → List ℕ → Type 0
+ForEach P facts numbers = (n : ℕ) → Contains numbers n → (f : Fact) → slice_get facts n ≡ Some f → P f
+
 -- what the fact gives with each of those with these numbers is there or redundant
 abbrev pub AreMet : Problem → Fact → List Fact → List ℕ → Derived → Type 0
-AreMet k f old numbers new = (n : ℕ) → Contains numbers n → (g : Fact) → slice_get old n ≡ Some g → MeetEachOther k f g new
+AreMet k f old numbers new = ForEach (λ g. MeetEachOther k f g new) old numbers
 
 -- what the fact gives as the first of two, with each of those with these numbers as the second, is there or redundant
 abbrev pub AreMetBefore : Problem → Fact → List Fact → List ℕ → Derived → Type 0
-AreMetBefore k f old numbers new = (n : ℕ) → Contains numbers n → (g : Fact) → slice_get old n ≡ Some g → DrawnUpToRedundancy k (f ∷ g ∷ []) new
+AreMetBefore k f old numbers new = ForEach (λ g. DrawnUpToRedundancy k (f ∷ g ∷ []) new) old numbers
 
 -- what the fact gives as the second of two, with each of those with these numbers as the first, is there or redundant
 abbrev pub AreMetBehind : Problem → Fact → List Fact → List ℕ → Derived → Type 0
-AreMetBehind k f old numbers new = (n : ℕ) → Contains numbers n → (g : Fact) → slice_get old n ≡ Some g → DrawnUpToRedundancy k (g ∷ f ∷ []) new
+AreMetBehind k f old numbers new = ForEach (λ g. DrawnUpToRedundancy k (g ∷ f ∷ []) new) old numbers
 
 -- the fact is one of those with these numbers
 abbrev pub IsServed : List Fact → List ℕ → Fact → Type 0

@@ -1,5 +1,6 @@
 -- Facts in order of birth.
 use Rattle.std.specs.Prelude.{◌≡◌, ℕ, ◌<◌, ◌≤◌, List, [], ◌∷◌, ◌++◌, length, slice_get, take, Some}
+use Rattle.axioms.specs.WellFormedness.{AreDistinct}
 use Rattle.facts.specs.declared.contexts.Fact.{Fact}
 use Rattle.facts.specs.Closure.{Problem, IsFact}
 use Rattle.facts.specs.Births.{Reason, IsBirth}
@@ -7,10 +8,6 @@ use Rattle.facts.specs.Births.{Reason, IsBirth}
 -- each element of the first list stands in the second too, at its place
 abbrev pub Keeps : {X : Type 0} → List X → List X → Type 0
 Keeps {X} xs ys = (n : ℕ) (x : X) → slice_get xs n ≡ Some x → slice_get ys n ≡ Some x
-
--- no two are equal
-abbrev pub AreDistinct : List Fact → Type 0
-AreDistinct facts = (m n : ℕ) (f : Fact) → slice_get facts m ≡ Some f → slice_get facts n ≡ Some f → m ≡ n
 
 -- facts in order of birth, each with what gave it
 pub record Derived : Type 0 where

@@ -4,3 +4,4 @@ pub mod Completeness
 pub mod Visits
 pub mod Meetings
 pub mod Entry
+pub mod Draws

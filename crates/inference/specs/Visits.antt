@@ -1,16 +1,18 @@
 -- Which forms are visited for facts.
-use Rattle.std.specs.Prelude.{◌≡◌, ℕ, Bool, true, List, [], ◌∷◌, slice_get, Option, Some, None}
+use Rattle.std.specs.Prelude.{◌≡◌, ℕ, ◌<◌, Bool, true, List, [], ◌∷◌, length, slice_get, Option, Some, None}
 use Rattle.std.specs.List.{Contains}
 use Rattle.indexes.specs.declared.keys.Key.{Key}
 use Rattle.normal_forms.specs.declared.forms.Form.{Form}
+use Rattle.normal_forms.specs.declared.forms.Class2.{Class2}
 use Rattle.normal_forms.specs.declared.forms.PropId2.{PropId2}
+use Rattle.normal_forms.specs.Properties.{IsAtOrBelow}
 use Rattle.facts.specs.declared.contexts.Fact.{Fact}
 use Rattle.facts.specs.declared.contexts.Fact.TheVariants.{In, Edge}
 use Rattle.facts.specs.Closure.{Problem, Concludes, Gives}
-use Rattle.indexes.specs.Keys.{by_chain, by_end, property_key}
+use Rattle.indexes.specs.Keys.{by_chain, by_end, by_first, by_second, class_key, property_key}
 use Rattle.indexes.specs.FormsUnderKeys.{IsUnder}
 use Rattle.property_closure.specs.PropertyClosures.{Known, Has}
-use Rattle.inference.specs.Completeness.{DrawnAt, GoesOn}
+use Rattle.inference.specs.Completeness.{IsDrawnFrom, GoesOn}
 
 -- the two facts, in this order, give nothing
 abbrev pub GiveNothing : Problem → Fact → Fact → Type 0
@@ -23,6 +25,10 @@ NoneUnder key forms at = (n : ℕ) → IsUnder key forms at n → ⊥
 -- each of the numbers is that of a fact of that kind
 abbrev pub AreAll : (Fact → Type 0) → List Fact → List ℕ → Type 0
 AreAll P facts numbers = (n : ℕ) → Contains numbers n → (f : Fact) × (slice_get facts n ≡ Some f) × P f
+
+-- each of the numbers is that of a fact
+abbrev pub AreWithin : List Fact → List ℕ → Type 0
+AreWithin facts numbers = (n : ℕ) → Contains numbers n → n < length facts
 
 -- a class in a context
 abbrev pub IsClassFact : Fact → Type 0
@@ -54,14 +60,24 @@ chained_pair (Edge x p y) (Edge z q w) = Some p
 chained_pair _ _ = None
 
 abbrev pub chained_property : List Fact → Option PropId2
-chained_property [] = None
-chained_property (f ∷ []) = None
 chained_property (f ∷ g ∷ []) = chained_pair f g
-chained_property (f ∷ g ∷ h ∷ more) = None
+chained_property _ = None
 
 -- what the chains that begin with r give from these facts is there
 abbrev pub ChainsDrawn : Problem → List Fact → List Fact → PropId2 → Type 0
-ChainsDrawn k older facts r = (n : ℕ) → IsUnder by_chain k.forms (property_key r) n → DrawnAt (λ form. Concludes k form older) k.forms facts n
+ChainsDrawn k older facts r = (n : ℕ) → IsUnder by_chain k.forms (property_key r) n → IsDrawnFrom k older facts n
+
+-- what the chains that begin with p, or a property above it, give from these facts is there
+abbrev pub AllChainsDrawn : Problem → List Fact → List Fact → PropId2 → Type 0
+AllChainsDrawn k older facts p = (r : PropId2) → IsAtOrBelow k.forms p r → ChainsDrawn k older facts r
+
+-- the numbers are at least those of the forms, but chains, that give something from these facts
+abbrev pub HaveAllVisited : Problem → List Fact → List ℕ → Type 0
+HaveAllVisited k older numbers = (n : ℕ) (form : Form) (f : Fact) → slice_get k.forms n ≡ Some form → by_chain form ≡ None → Concludes k form older f → Contains numbers n
+
+-- the numbers are at least those of the intersections of the two classes
+abbrev pub HaveAllIntersections : List Form → Class2 → Class2 → List ℕ → Type 0
+HaveAllIntersections forms a b numbers = (n : ℕ) → IsUnder by_first forms (class_key a) n → IsUnder by_second forms (class_key b) n → Contains numbers n
 
 -- the form at the place goes on
 abbrev pub GoesOnAt : List Form → ℕ → Type 0

@@ -1,11 +1,11 @@
 //! What two facts give, added to the facts.
-ghost use Rattle.std.specs.Prelude.{◌≡◌, ◌<◌, ℕ, [], ◌∷◌, false, Some, Err, length, slice_get, Contains, OnOk};
-ghost use Rattle.facts.specs.declared.contexts.Fact.TheVariants as the_facts;
-ghost use Rattle.inference.specs.Derivations.{IsDerived, Grows, HasMoreFactsThan};
-ghost use Rattle.inference.specs.PropertyClosures.{IsClosureOf};
+ghost use Rattle.std.specs.Prelude.{◌≡◌, [], ◌∷◌, false, Some, slice_get};
+ghost use Rattle.facts.specs.declared.contexts.Fact.TheVariants.{In};
+ghost use Rattle.inference.specs.Derivations.{IsDerived};
+ghost use Rattle.inference.specs.Draws.{Draws};
 ghost use Rattle.inference.specs.Completeness.{IsRedundantAsSecond, Drawn, IsDrawnIn, AreDrawnIn, MeetsOperands, MeetEachOther, AreMet, AreMetBefore, AreMetBehind};
-ghost use Rattle.inference.specs.Visits.{AreAll, GiveNothing, HasProperty, IsBy, IsClassFact, IsEdge};
-ghost use Rattle.inference.specs.Meetings.{IsWithin, AllListedAreMet};
+ghost use Rattle.inference.specs.Visits.{AreAll, AreWithin, GiveNothing, HasProperty, IsBy, IsClassFact, IsEdge};
+ghost use Rattle.inference.specs.Meetings.{IsWithin, AllListedAreMet, HasServed};
 
 use crate::known_facts::{KnownFacts, Stop};
 use crate::rules::Rules;
@@ -17,8 +17,7 @@ use normal_forms::{Class2, PropId2};
 impl Rules<'_> {
     /// Whether the two facts may give something in this order, by what is listed for their classes and properties.
     fn may_give(&self, first: Fact, second: Fact) -> bool
-        requires closed { IsClosureOf self.now.problem.now.forms self.now.closure.now }
-        requires has { HasProperty self.now.closure.now first }
+        requires { HasProperty self.now.closure.now first }
         ensures { result ≡ false → GiveNothing self.now.problem.now first second }
     {
         match (first, second) {
@@ -42,13 +41,10 @@ impl Rules<'_> {
         n: u32,
         g: Fact,
     ) -> Result<(), Stop>
-        requires closed { IsClosureOf self.now.problem.now.forms self.now.closure.now }
         requires derived { IsDerived self.now.problem.now facts.old }
         requires first { slice_get facts.old.facts m ≡ Some f }
         requires second { slice_get facts.old.facts n ≡ Some g }
-        ensures grows { Grows self.now.problem.now self.now.max_facts facts.old facts.new }
-        ensures limit { result ≡ Err Stop.Limit → HasMoreFactsThan self.now.problem.now self.now.max_facts }
-        ensures drawn { OnOk result (Drawn self.now.problem.now (f ∷ g ∷ []) facts.new.facts) }
+        ensures { Draws self.now facts.old facts.new result (Drawn self.now.problem.now (f ∷ g ∷ []) facts.new.facts) }
     {
         if self.may_give(f, g) {
             self.draw(facts, &[m, n], &[f, g])?;
@@ -58,13 +54,10 @@ impl Rules<'_> {
 
     /// Adds what two facts give, whichever is first.
     fn meet(&self, facts: &mut KnownFacts, m: u32, f: Fact, n: u32, g: Fact) -> Result<(), Stop>
-        requires closed { IsClosureOf self.now.problem.now.forms self.now.closure.now }
         requires derived { IsDerived self.now.problem.now facts.old }
         requires first { slice_get facts.old.facts m ≡ Some f }
         requires second { slice_get facts.old.facts n ≡ Some g }
-        ensures grows { Grows self.now.problem.now self.now.max_facts facts.old facts.new }
-        ensures limit { result ≡ Err Stop.Limit → HasMoreFactsThan self.now.problem.now self.now.max_facts }
-        ensures met { OnOk result (MeetEachOther self.now.problem.now f g facts.new) }
+        ensures { Draws self.now facts.old facts.new result (MeetEachOther self.now.problem.now f g facts.new) }
     {
         self.draw_pair(facts, m, f, n, g)?;
         self.draw_pair(facts, n, g, m, f)?;
@@ -79,13 +72,10 @@ impl Rules<'_> {
         fact: Fact,
         numbers: &[u32],
     ) -> Result<(), Stop>
-        requires closed { IsClosureOf self.now.problem.now.forms self.now.closure.now }
         requires derived { IsDerived self.now.problem.now facts.old }
         requires hand { slice_get facts.old.facts hand ≡ Some fact }
-        requires numbers { (n : ℕ) → Contains numbers.now n → n < length facts.old.facts }
-        ensures grows { Grows self.now.problem.now self.now.max_facts facts.old facts.new }
-        ensures limit { result ≡ Err Stop.Limit → HasMoreFactsThan self.now.problem.now self.now.max_facts }
-        ensures met { OnOk result (AreMet self.now.problem.now fact facts.old.facts numbers.now facts.new) }
+        requires numbers { AreWithin facts.old.facts numbers.now }
+        ensures { Draws self.now facts.old facts.new result (AreMet self.now.problem.now fact facts.old.facts numbers.now facts.new) }
     {
         for number in numbers {
             let partner = facts.get(*number);
@@ -101,11 +91,8 @@ impl Rules<'_> {
         number: u32,
         context: Context,
     ) -> Result<(), Stop>
-        requires closed { IsClosureOf self.now.problem.now.forms self.now.closure.now }
         requires derived { IsDerived self.now.problem.now facts.old }
-        ensures grows { Grows self.now.problem.now self.now.max_facts facts.old facts.new }
-        ensures limit { result ≡ Err Stop.Limit → HasMoreFactsThan self.now.problem.now self.now.max_facts }
-        ensures drawn { OnOk result (IsDrawnIn self.now.problem.now facts.old.facts context facts.new.facts number) }
+        ensures { Draws self.now facts.old facts.new result (IsDrawnIn self.now.problem.now facts.old.facts context facts.new.facts number) }
     {
         let Some((first, second)) = operands_of(self.problem, number) else {
             return Ok(());
@@ -127,11 +114,8 @@ impl Rules<'_> {
         listed: &[u32],
         context: Context,
     ) -> Result<(), Stop>
-        requires closed { IsClosureOf self.now.problem.now.forms self.now.closure.now }
         requires derived { IsDerived self.now.problem.now facts.old }
-        ensures grows { Grows self.now.problem.now self.now.max_facts facts.old facts.new }
-        ensures limit { result ≡ Err Stop.Limit → HasMoreFactsThan self.now.problem.now self.now.max_facts }
-        ensures drawn { OnOk result (AreDrawnIn self.now.problem.now facts.old.facts context facts.new.facts listed.now) }
+        ensures { Draws self.now facts.old facts.new result (AreDrawnIn self.now.problem.now facts.old.facts context facts.new.facts listed.now) }
     {
         for number in listed {
             self.draw_intersection(facts, *number, context)?;
@@ -146,11 +130,8 @@ impl Rules<'_> {
         class: Class2,
         context: Context,
     ) -> Result<(), Stop>
-        requires closed { IsClosureOf self.now.problem.now.forms self.now.closure.now }
         requires derived { IsDerived self.now.problem.now facts.old }
-        ensures grows { Grows self.now.problem.now self.now.max_facts facts.old facts.new }
-        ensures limit { result ≡ Err Stop.Limit → HasMoreFactsThan self.now.problem.now self.now.max_facts }
-        ensures met { OnOk result (MeetsOperands self.now.problem.now facts.old.facts class context facts.new.facts) }
+        ensures { Draws self.now facts.old facts.new result (MeetsOperands self.now.problem.now facts.old.facts class context facts.new.facts) }
     {
         self.draw_intersections(facts, self.problem.first(class), context)?;
         self.draw_intersections(facts, self.problem.second(class), context)?;
@@ -174,13 +155,10 @@ impl Rules<'_> {
         context: Context,
         numbers: &[u32],
     ) -> Result<(), Stop>
-        requires closed { IsClosureOf self.now.problem.now.forms self.now.closure.now }
         requires derived { IsDerived self.now.problem.now facts.old }
-        requires hand { slice_get facts.old.facts hand ≡ Some (the_facts.In class context) }
+        requires hand { slice_get facts.old.facts hand ≡ Some (In class context) }
         requires numbers { AreAll IsClassFact facts.old.facts numbers.now }
-        ensures grows { Grows self.now.problem.now self.now.max_facts facts.old facts.new }
-        ensures limit { result ≡ Err Stop.Limit → HasMoreFactsThan self.now.problem.now self.now.max_facts }
-        ensures met { OnOk result (AreMet self.now.problem.now (the_facts.In class context) facts.old.facts numbers.now facts.new) }
+        ensures { Draws self.now facts.old facts.new result (AreMet self.now.problem.now (In class context) facts.old.facts numbers.now facts.new) }
     {
         if self.has_few_operands(class, numbers.len()) {
             self.meet_operands(facts, class, context)?;
@@ -198,13 +176,10 @@ impl Rules<'_> {
         fact: Fact,
         numbers: &[u32],
     ) -> Result<(), Stop>
-        requires closed { IsClosureOf self.now.problem.now.forms self.now.closure.now }
         requires derived { IsDerived self.now.problem.now facts.old }
         requires hand { slice_get facts.old.facts hand ≡ Some fact }
-        requires numbers { (n : ℕ) → Contains numbers.now n → n < length facts.old.facts }
-        ensures grows { Grows self.now.problem.now self.now.max_facts facts.old facts.new }
-        ensures limit { result ≡ Err Stop.Limit → HasMoreFactsThan self.now.problem.now self.now.max_facts }
-        ensures met { OnOk result (AreMetBefore self.now.problem.now fact facts.old.facts numbers.now facts.new) }
+        requires numbers { AreWithin facts.old.facts numbers.now }
+        ensures { Draws self.now facts.old facts.new result (AreMetBefore self.now.problem.now fact facts.old.facts numbers.now facts.new) }
     {
         for number in numbers {
             let partner = facts.get(*number);
@@ -221,13 +196,10 @@ impl Rules<'_> {
         fact: Fact,
         numbers: &[u32],
     ) -> Result<(), Stop>
-        requires closed { IsClosureOf self.now.problem.now.forms self.now.closure.now }
         requires derived { IsDerived self.now.problem.now facts.old }
         requires hand { slice_get facts.old.facts hand ≡ Some fact }
-        requires numbers { (n : ℕ) → Contains numbers.now n → n < length facts.old.facts }
-        ensures grows { Grows self.now.problem.now self.now.max_facts facts.old facts.new }
-        ensures limit { result ≡ Err Stop.Limit → HasMoreFactsThan self.now.problem.now self.now.max_facts }
-        ensures met { OnOk result (AreMetBehind self.now.problem.now fact facts.old.facts numbers.now facts.new) }
+        requires numbers { AreWithin facts.old.facts numbers.now }
+        ensures { Draws self.now facts.old facts.new result (AreMetBehind self.now.problem.now fact facts.old.facts numbers.now facts.new) }
     {
         for number in numbers {
             let partner = facts.get(*number);
@@ -245,13 +217,10 @@ impl Rules<'_> {
         context: Context,
         numbers: &[u32],
     ) -> Result<(), Stop>
-        requires closed { IsClosureOf self.now.problem.now.forms self.now.closure.now }
         requires derived { IsDerived self.now.problem.now facts.old }
-        requires hand { slice_get facts.old.facts hand ≡ Some (the_facts.In class context) }
+        requires hand { slice_get facts.old.facts hand ≡ Some (In class context) }
         requires numbers { AreAll IsEdge facts.old.facts numbers.now }
-        ensures grows { Grows self.now.problem.now self.now.max_facts facts.old facts.new }
-        ensures limit { result ≡ Err Stop.Limit → HasMoreFactsThan self.now.problem.now self.now.max_facts }
-        ensures met { OnOk result (AreMetBehind self.now.problem.now (the_facts.In class context) facts.old.facts numbers.now facts.new) }
+        ensures { Draws self.now facts.old facts.new result (AreMetBehind self.now.problem.now (In class context) facts.old.facts numbers.now facts.new) }
     {
         if is_carried(self.problem, class) {
             self.meet_behind(facts, hand, Fact::In(class, context), numbers)?;
@@ -268,14 +237,11 @@ impl Rules<'_> {
         property: PropId2,
         numbers: &[u32],
     ) -> Result<(), Stop>
-        requires closed { IsClosureOf self.now.problem.now.forms self.now.closure.now }
         requires derived { IsDerived self.now.problem.now facts.old }
         requires hand { slice_get facts.old.facts hand ≡ Some edge }
         requires property { IsBy property edge }
         requires numbers { AreAll IsEdge facts.old.facts numbers.now }
-        ensures grows { Grows self.now.problem.now self.now.max_facts facts.old facts.new }
-        ensures limit { result ≡ Err Stop.Limit → HasMoreFactsThan self.now.problem.now self.now.max_facts }
-        ensures met { OnOk result (AreMetBefore self.now.problem.now edge facts.old.facts numbers.now facts.new) }
+        ensures { Draws self.now facts.old facts.new result (AreMetBefore self.now.problem.now edge facts.old.facts numbers.now facts.new) }
     {
         if begins_chain(self.problem, self.closure, property) {
             self.meet_before(facts, hand, edge, numbers)?;
@@ -293,14 +259,11 @@ impl Rules<'_> {
         is_second: bool,
         numbers: &[u32],
     ) -> Result<(), Stop>
-        requires closed { IsClosureOf self.now.problem.now.forms self.now.closure.now }
         requires derived { IsDerived self.now.problem.now facts.old }
         requires hand { slice_get facts.old.facts hand ≡ Some edge }
         requires second { is_second ≡ false → IsRedundantAsSecond self.now.problem.now facts.old edge }
-        requires numbers { (n : ℕ) → Contains numbers.now n → n < length facts.old.facts }
-        ensures grows { Grows self.now.problem.now self.now.max_facts facts.old facts.new }
-        ensures limit { result ≡ Err Stop.Limit → HasMoreFactsThan self.now.problem.now self.now.max_facts }
-        ensures met { OnOk result (AreMetBehind self.now.problem.now edge facts.old.facts numbers.now facts.new) }
+        requires numbers { AreWithin facts.old.facts numbers.now }
+        ensures { Draws self.now facts.old facts.new result (AreMetBehind self.now.problem.now edge facts.old.facts numbers.now facts.new) }
     {
         if is_second {
             self.meet_behind(facts, hand, edge, numbers)?;
@@ -317,14 +280,11 @@ impl Rules<'_> {
         fact: Fact,
         is_second: bool,
     ) -> Result<(), Stop>
-        requires closed { IsClosureOf self.now.problem.now.forms self.now.closure.now }
         requires derived { IsDerived self.now.problem.now facts.old }
         requires hand { slice_get facts.old.facts hand ≡ Some fact }
         requires index { IsWithin facts.old.facts index.now }
         requires second { is_second ≡ false → IsRedundantAsSecond self.now.problem.now facts.old fact }
-        ensures grows { Grows self.now.problem.now self.now.max_facts facts.old facts.new }
-        ensures limit { result ≡ Err Stop.Limit → HasMoreFactsThan self.now.problem.now self.now.max_facts }
-        ensures met { OnOk result (AllListedAreMet self.now.problem.now fact facts.old.facts index.now facts.new) }
+        ensures { Draws self.now facts.old facts.new result (AllListedAreMet self.now.problem.now fact facts.old.facts index.now facts.new) }
     {
         match fact {
             Fact::In(class, x) => {
@@ -350,15 +310,11 @@ impl Rules<'_> {
         fact: Fact,
         is_second: bool,
     ) -> Result<(), Stop>
-        requires closed { IsClosureOf self.now.problem.now.forms self.now.closure.now }
         requires derived { IsDerived self.now.problem.now facts.old }
         requires hand { slice_get facts.old.facts hand ≡ Some fact }
         requires index { IsWithin facts.old.facts index.now }
         requires second { is_second ≡ false → IsRedundantAsSecond self.now.problem.now facts.old fact }
-        ensures grows { Grows self.now.problem.now self.now.max_facts facts.old facts.new }
-        ensures limit { result ≡ Err Stop.Limit → HasMoreFactsThan self.now.problem.now self.now.max_facts }
-        ensures alone { OnOk result (Drawn self.now.problem.now (fact ∷ []) facts.new.facts) }
-        ensures met { OnOk result (AllListedAreMet self.now.problem.now fact facts.old.facts index.now facts.new) }
+        ensures { Draws self.now facts.old facts.new result (HasServed self.now.problem.now fact facts.old.facts index.now facts.new) }
     {
         self.draw_alone(facts, hand, fact)?;
         self.meet_listed(facts, index, hand, fact, is_second)?;

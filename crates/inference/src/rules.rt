@@ -1,19 +1,12 @@
 //! What facts give, added to the facts.
 ghost use Rattle.std.specs.Prelude.{◌≡◌, ◌<◌, [], ◌∷◌, Some, Err, length, slice_get, Contains, OnOk};
 ghost use Rattle.facts.specs.Births.{IsBirth};
-ghost use Rattle.facts.specs.Closure.{Concludes, CarriesBack, IsLoop};
-ghost use Rattle.axioms.specs.declared.ids.ExprId.{ExprId as ExprId2};
-ghost use Rattle.facts.specs.declared.contexts.Fact.{Fact as Fact2};
-ghost use Rattle.facts.specs.declared.contexts.Fact.TheVariants as the_facts;
-ghost use Rattle.facts.specs.declared.contexts.Context.TheVariants as contexts;
-ghost use Rattle.normal_forms.specs.declared.forms.Class2.TheVariants as classes;
-ghost use Rattle.normal_forms.specs.declared.forms.PropId2.{PropId2 as PropId3};
-ghost use Rattle.inference.specs.Derivations.{IsDerived, Grows, HasMoreFactsThan};
-ghost use Rattle.normal_forms.specs.Properties.{IsAtOrBelow};
+ghost use Rattle.facts.specs.Closure.{IsLoop};
+ghost use Rattle.inference.specs.Derivations.{IsDerived};
 ghost use Rattle.property_closure.specs.PropertyClosures.{Has};
-ghost use Rattle.inference.specs.PropertyClosures.{IsClosureOf};
-ghost use Rattle.inference.specs.Completeness.{AreAt, IsContextAt, AllDrawn, DrawnAt, AreDrawnAt, AreDrawn, IsEntered, Drawn};
-ghost use Rattle.inference.specs.Visits.{ChainsDrawn};
+ghost use Rattle.inference.specs.PropertyClosures.{IsClosureOf, IsClosureOf-prop};
+ghost use Rattle.inference.specs.Completeness.{AreAt, IsContextAt, AllDrawn, AreConcluded, DrawnAt, AreDrawnFrom, AreDrawn, IsDrawnFrom, IsEntered, IsInItself, Drawn};
+ghost use Rattle.inference.specs.Visits.{AllChainsDrawn};
 ghost use Rattle.inference.specs.Entry.{HasBegun, LoopIsDrawn, LoopsAreDrawn};
 
 use crate::conclusions::{THING, carried_back, conclusion, condition_of, loop_at};
@@ -30,6 +23,8 @@ pub struct Rules<'a> {
     pub problem: &'a IndexedProblem,
     pub closure: &'a PropertyClosure,
     pub max_facts: u32,
+    /// The closure is that of the forms.
+    pub ghost closed: { IsClosureOf problem.now.forms closure.now } by { IsClosureOf-prop problem.now.forms closure.now },
 }
 
 /// Where no fact may be added: whether the fact is there.
@@ -44,6 +39,8 @@ fn found_at_limit(facts: &KnownFacts, fact: &Fact) -> Result<(), Stop>
 }
 
 impl Rules<'_> {
+    ghost use Rattle.inference.specs.Draws.{Draws};
+
     /// Adds a fact, unless it is there, with what gave it: a condition, older facts and a form.
     #[tactic(auto, using(crate::proofs::Growth::grows_same))]
     fn add(
@@ -56,9 +53,7 @@ impl Rules<'_> {
     ) -> Result<(), Stop>
         requires derived { IsDerived self.now.problem.now facts.old }
         requires birth { IsBirth self.now.problem.now facts.old.facts fact (record { condition = condition; older = older.now; form = form }) }
-        ensures grows { Grows self.now.problem.now self.now.max_facts facts.old facts.new }
-        ensures there { OnOk result (Contains facts.new.facts fact) }
-        ensures limit { result ≡ Err Stop.Limit → HasMoreFactsThan self.now.problem.now self.now.max_facts }
+        ensures { Draws self.now facts.old facts.new result (Contains facts.new.facts fact) }
     {
         if facts.len() >= self.max_facts as usize {
             return found_at_limit(facts, &fact);
@@ -75,12 +70,9 @@ impl Rules<'_> {
         numbers: &[u32],
         older: &[Fact],
     ) -> Result<(), Stop>
-        requires closed { IsClosureOf self.now.problem.now.forms self.now.closure.now }
         requires derived { IsDerived self.now.problem.now facts.old }
         requires older { AreAt facts.old.facts numbers.now older.now }
-        ensures grows { Grows self.now.problem.now self.now.max_facts facts.old facts.new }
-        ensures limit { result ≡ Err Stop.Limit → HasMoreFactsThan self.now.problem.now self.now.max_facts }
-        ensures drawn { OnOk result (DrawnAt (λ form. Concludes self.now.problem.now form older.now) self.now.problem.now.forms facts.new.facts number) }
+        ensures { Draws self.now facts.old facts.new result (IsDrawnFrom self.now.problem.now older.now facts.new.facts number) }
     {
         let Some(form) = self.problem.form(number) else {
             return Ok(());
@@ -99,12 +91,9 @@ impl Rules<'_> {
         numbers: &[u32],
         older: &[Fact],
     ) -> Result<(), Stop>
-        requires closed { IsClosureOf self.now.problem.now.forms self.now.closure.now }
         requires derived { IsDerived self.now.problem.now facts.old }
         requires older { AreAt facts.old.facts numbers.now older.now }
-        ensures grows { Grows self.now.problem.now self.now.max_facts facts.old facts.new }
-        ensures limit { result ≡ Err Stop.Limit → HasMoreFactsThan self.now.problem.now self.now.max_facts }
-        ensures drawn { OnOk result (AreDrawnAt (λ form. Concludes self.now.problem.now form older.now) self.now.problem.now.forms listed.now facts.new.facts) }
+        ensures { Draws self.now facts.old facts.new result (AreDrawnFrom self.now.problem.now older.now facts.new.facts listed.now) }
     {
         for number in listed {
             self.draw_form(facts, *number, numbers, older)?;
@@ -120,13 +109,10 @@ impl Rules<'_> {
         numbers: &[u32],
         older: &[Fact],
     ) -> Result<(), Stop>
-        requires closed { IsClosureOf self.now.problem.now.forms self.now.closure.now }
         requires derived { IsDerived self.now.problem.now facts.old }
         requires older { AreAt facts.old.facts numbers.now older.now }
         requires has { Has self.now.closure.now property }
-        ensures grows { Grows self.now.problem.now self.now.max_facts facts.old facts.new }
-        ensures limit { result ≡ Err Stop.Limit → HasMoreFactsThan self.now.problem.now self.now.max_facts }
-        ensures drawn { OnOk result ((r : PropId3) → IsAtOrBelow self.now.problem.now.forms property r → ChainsDrawn self.now.problem.now older.now facts.new.facts r) }
+        ensures { Draws self.now facts.old facts.new result (AllChainsDrawn self.now.problem.now older.now facts.new.facts property) }
     {
         for above in self.closure.supers(property) {
             self.draw_listed(facts, self.problem.chains_from(*above), numbers, older)?;
@@ -141,12 +127,9 @@ impl Rules<'_> {
         numbers: &[u32],
         older: &[Fact],
     ) -> Result<(), Stop>
-        requires closed { IsClosureOf self.now.problem.now.forms self.now.closure.now }
         requires derived { IsDerived self.now.problem.now facts.old }
         requires older { AreAt facts.old.facts numbers.now older.now }
-        ensures grows { Grows self.now.problem.now self.now.max_facts facts.old facts.new }
-        ensures limit { result ≡ Err Stop.Limit → HasMoreFactsThan self.now.problem.now self.now.max_facts }
-        ensures drawn { OnOk result (AreDrawn self.now.problem.now self.now.problem.now.forms older.now facts.new.facts) }
+        ensures { Draws self.now facts.old facts.new result (AreDrawn self.now.problem.now older.now facts.new.facts) }
     {
         self.draw_listed(facts, visited(self.problem, older), numbers, older)?;
         if let Some(property) = chained(older) {
@@ -162,13 +145,9 @@ impl Rules<'_> {
         numbers: &[u32],
         older: &[Fact],
     ) -> Result<(), Stop>
-        requires closed { IsClosureOf self.now.problem.now.forms self.now.closure.now }
         requires derived { IsDerived self.now.problem.now facts.old }
         requires older { AreAt facts.old.facts numbers.now older.now }
-        ensures grows { Grows self.now.problem.now self.now.max_facts facts.old facts.new }
-        ensures limit { result ≡ Err Stop.Limit → HasMoreFactsThan self.now.problem.now self.now.max_facts }
-        ensures drawn { OnOk result (AreDrawn self.now.problem.now self.now.problem.now.forms older.now facts.new.facts) }
-        ensures back { OnOk result ((f : Fact2) → CarriesBack older.now f → Contains facts.new.facts f) }
+        ensures { Draws self.now facts.old facts.new result (AreConcluded self.now.problem.now older.now facts.new.facts) }
     {
         self.draw_forms(facts, numbers, older)?;
         if let Some(fact) = carried_back(older) {
@@ -187,9 +166,7 @@ impl Rules<'_> {
     ) -> Result<(), Stop>
         requires derived { IsDerived self.now.problem.now facts.old }
         requires context { IsContextAt self.now.problem.now facts.old.facts numbers.now context }
-        ensures grows { Grows self.now.problem.now self.now.max_facts facts.old facts.new }
-        ensures limit { result ≡ Err Stop.Limit → HasMoreFactsThan self.now.problem.now self.now.max_facts }
-        ensures drawn { OnOk result (DrawnAt (IsLoop context) self.now.problem.now.forms facts.new.facts number) }
+        ensures { Draws self.now facts.old facts.new result (DrawnAt (IsLoop context) self.now.problem.now.forms facts.new.facts number) }
     {
         let Some(form) = self.problem.form(number) else {
             return Ok(());
@@ -209,9 +186,7 @@ impl Rules<'_> {
     ) -> Result<(), Stop>
         requires derived { IsDerived self.now.problem.now facts.old }
         requires context { IsContextAt self.now.problem.now facts.old.facts numbers.now context }
-        ensures grows { Grows self.now.problem.now self.now.max_facts facts.old facts.new }
-        ensures limit { result ≡ Err Stop.Limit → HasMoreFactsThan self.now.problem.now self.now.max_facts }
-        ensures drawn { OnOk result (AllDrawn (IsLoop context) self.now.problem.now.forms facts.new.facts) }
+        ensures { Draws self.now facts.old facts.new result (AllDrawn (IsLoop context) self.now.problem.now.forms facts.new.facts) }
     {
         for number in self.problem.reflexive() {
             self.draw_loop(facts, *number, context, numbers)?;
@@ -228,9 +203,7 @@ impl Rules<'_> {
     ) -> Result<(), Stop>
         requires derived { IsDerived self.now.problem.now facts.old }
         requires context { IsContextAt self.now.problem.now facts.old.facts numbers.now context }
-        ensures grows { Grows self.now.problem.now self.now.max_facts facts.old facts.new }
-        ensures limit { result ≡ Err Stop.Limit → HasMoreFactsThan self.now.problem.now self.now.max_facts }
-        ensures itself { OnOk result ((e : ExprId2) → context ≡ contexts.Expr e → Contains facts.new.facts (the_facts.In (classes.Expr e) context)) }
+        ensures { Draws self.now facts.old facts.new result (IsInItself context facts.new.facts) }
     {
         if let Context::Expr(e) = context {
             let itself = Fact::In(Class2::Expr(e), context);
@@ -243,9 +216,7 @@ impl Rules<'_> {
     fn enter(&self, facts: &mut KnownFacts, context: Context, numbers: &[u32]) -> Result<(), Stop>
         requires derived { IsDerived self.now.problem.now facts.old }
         requires context { IsContextAt self.now.problem.now facts.old.facts numbers.now context }
-        ensures grows { Grows self.now.problem.now self.now.max_facts facts.old facts.new }
-        ensures limit { result ≡ Err Stop.Limit → HasMoreFactsThan self.now.problem.now self.now.max_facts }
-        ensures entered { OnOk result (IsEntered self.now.problem.now context facts.new.facts) }
+        ensures { Draws self.now facts.old facts.new result (IsEntered self.now.problem.now context facts.new.facts) }
     {
         let top = Fact::In(THING, context);
         self.add(facts, top, 1, numbers, None)?;
@@ -256,11 +227,8 @@ impl Rules<'_> {
 
     /// Adds what is there with no fact.
     pub fn begin(&self, facts: &mut KnownFacts) -> Result<(), Stop>
-        requires closed { IsClosureOf self.now.problem.now.forms self.now.closure.now }
         requires derived { IsDerived self.now.problem.now facts.old }
-        ensures grows { Grows self.now.problem.now self.now.max_facts facts.old facts.new }
-        ensures limit { result ≡ Err Stop.Limit → HasMoreFactsThan self.now.problem.now self.now.max_facts }
-        ensures drawn { OnOk result (Drawn self.now.problem.now [] facts.new.facts) }
+        ensures { Draws self.now facts.old facts.new result (Drawn self.now.problem.now [] facts.new.facts) }
     {
         self.draw(facts, &[], &[])?;
         for root in self.problem.roots() {
@@ -273,9 +241,7 @@ impl Rules<'_> {
     fn draw_target(&self, facts: &mut KnownFacts, number: u32) -> Result<(), Stop>
         requires derived { IsDerived self.now.problem.now facts.old }
         requires number { number < length facts.old.facts }
-        ensures grows { Grows self.now.problem.now self.now.max_facts facts.old facts.new }
-        ensures limit { result ≡ Err Stop.Limit → HasMoreFactsThan self.now.problem.now self.now.max_facts }
-        ensures drawn { OnOk result (LoopIsDrawn self.now.problem.now facts.old.facts facts.new.facts number) }
+        ensures { Draws self.now facts.old facts.new result (LoopIsDrawn self.now.problem.now facts.old.facts facts.new.facts number) }
     {
         let fact = facts.get(number);
         if let Fact::Edge(_, _, target) = fact {
@@ -287,9 +253,7 @@ impl Rules<'_> {
     /// Adds the loops of reflexive properties at the targets of the edges.
     fn draw_targets(&self, facts: &mut KnownFacts) -> Result<(), Stop>
         requires { IsDerived self.now.problem.now facts.old }
-        ensures grows { Grows self.now.problem.now self.now.max_facts facts.old facts.new }
-        ensures limit { result ≡ Err Stop.Limit → HasMoreFactsThan self.now.problem.now self.now.max_facts }
-        ensures drawn { OnOk result (LoopsAreDrawn self.now.problem.now facts.old.facts facts.new.facts) }
+        ensures { Draws self.now facts.old facts.new result (LoopsAreDrawn self.now.problem.now facts.old.facts facts.new.facts) }
     {
         for number in 0..facts.len() {
             self.draw_target(facts, number as u32)?;
@@ -299,11 +263,8 @@ impl Rules<'_> {
 
     /// Adds what is there at once where facts are there already: what is there with no fact, and loops at their targets.
     pub fn begin_again(&self, facts: &mut KnownFacts) -> Result<(), Stop>
-        requires closed { IsClosureOf self.now.problem.now.forms self.now.closure.now }
         requires derived { IsDerived self.now.problem.now facts.old }
-        ensures grows { Grows self.now.problem.now self.now.max_facts facts.old facts.new }
-        ensures limit { result ≡ Err Stop.Limit → HasMoreFactsThan self.now.problem.now self.now.max_facts }
-        ensures begun { OnOk result (HasBegun self.now.problem.now self.now.max_facts facts.old facts.new) }
+        ensures { Draws self.now facts.old facts.new result (HasBegun self.now.problem.now self.now.max_facts facts.old facts.new) }
     {
         self.draw_targets(facts)?;
         self.begin(facts)?;
@@ -317,12 +278,9 @@ impl Rules<'_> {
         hand: u32,
         fact: Fact,
     ) -> Result<(), Stop>
-        requires closed { IsClosureOf self.now.problem.now.forms self.now.closure.now }
         requires derived { IsDerived self.now.problem.now facts.old }
         requires hand { slice_get facts.old.facts hand ≡ Some fact }
-        ensures grows { Grows self.now.problem.now self.now.max_facts facts.old facts.new }
-        ensures limit { result ≡ Err Stop.Limit → HasMoreFactsThan self.now.problem.now self.now.max_facts }
-        ensures drawn { OnOk result (Drawn self.now.problem.now (fact ∷ []) facts.new.facts) }
+        ensures { Draws self.now facts.old facts.new result (Drawn self.now.problem.now (fact ∷ []) facts.new.facts) }
     {
         self.draw(facts, &[hand], &[fact])?;
         if let Fact::Edge(_, _, target) = fact {

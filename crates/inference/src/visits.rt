@@ -1,17 +1,16 @@
 //! Which forms are visited for facts: those that give something from them are listed.
-ghost use Rattle.std.specs.Prelude.{◌≡◌, ◌↔◌, ℕ, Some, None, Contains, IfSome, IsNone, false, slice_get};
-ghost use Rattle.facts.specs.Closure.{Concludes, FromOne, FromTwo, nothing};
+ghost use Rattle.std.specs.Prelude.{◌≡◌, ◌∷◌, [], ℕ, Some, Contains, IfSome, IsNone, false, slice_get};
+ghost use Rattle.facts.specs.Closure.{FromOne, nothing};
 ghost use Rattle.facts.specs.declared.contexts.Fact.{Fact as Fact2};
 ghost use Rattle.normal_forms.specs.declared.forms.Form.{Form as Form2};
 ghost use Rattle.normal_forms.specs.declared.forms.Class2.{Class2 as Class3};
 ghost use Rattle.normal_forms.specs.declared.forms.Form.TheVariants as forms;
 ghost use Rattle.normal_forms.specs.Properties.{IsAtOrBelow};
 ghost use Rattle.normal_forms.specs.declared.forms.PropId2.{PropId2 as PropId3};
-ghost use Rattle.indexes.specs.Keys.{by_chain, by_filler, by_first, by_second, class_key, property_key};
-ghost use Rattle.indexes.specs.FormsUnderKeys.{IsUnder};
+ghost use Rattle.indexes.specs.Keys.{by_chain, by_filler, class_key, property_key};
 ghost use Rattle.property_closure.specs.PropertyClosures.{Has};
 ghost use Rattle.inference.specs.PropertyClosures.{IsClosureOf};
-ghost use Rattle.inference.specs.Visits.{IsNotCarried, NoneUnder, chained_pair, chained_property};
+ghost use Rattle.inference.specs.Visits.{HaveAllIntersections, HaveAllVisited, IsNotCarried, NoneUnder, chained_pair, chained_property};
 
 use crate::conclusions::NOTHING;
 use facts::Fact;
@@ -41,7 +40,7 @@ pub(crate) fn chained(older: &[Fact]) -> Option<PropId2>
 
 /// The intersections of two classes, by that of the two which fewer have.
 fn operands(problem: &IndexedProblem, first: Class2, second: Class2) -> &[u32]
-    ensures { (n : ℕ) → IsUnder by_first problem.now.forms (class_key first) n → IsUnder by_second problem.now.forms (class_key second) n → Contains result.now n }
+    ensures { HaveAllIntersections problem.now.forms first second result.now }
 {
     let by_first = problem.first(first);
     let by_second = problem.second(second);
@@ -64,7 +63,7 @@ fn visited_by_one(problem: &IndexedProblem, first: Fact) -> &[u32]
 
 /// The forms, but chains, that give something from two facts in this order.
 fn visited_by_two(problem: &IndexedProblem, first: Fact, second: Fact) -> &[u32]
-    ensures { (n : ℕ) (form : Form2) (f : Fact2) → slice_get problem.now.forms n ≡ Some form → by_chain form ≡ None → FromTwo problem.now form first second f → Contains result.now n }
+    ensures { HaveAllVisited problem.now (first ∷ second ∷ []) result.now }
 {
     match (first, second) {
         (Fact::In(a, _), Fact::In(b, _)) => operands(problem, a, b),
@@ -75,7 +74,7 @@ fn visited_by_two(problem: &IndexedProblem, first: Fact, second: Fact) -> &[u32]
 
 /// The forms, but chains, that give something from the facts in their order.
 pub(crate) fn visited<'a>(problem: &'a IndexedProblem, older: &[Fact]) -> &'a [u32]
-    ensures { (n : ℕ) (form : Form2) (f : Fact2) → slice_get problem.now.forms n ≡ Some form → by_chain form ≡ None → Concludes problem.now form older.now f → Contains result.now n }
+    ensures { HaveAllVisited problem.now older.now result.now }
 {
     match *older {
         [] => problem.given(),

@@ -1,15 +1,13 @@
 -- What is named is still there where there is more.
-use Rattle.std.proofs.Common.{◌≡◌, ℕ, ◌+◌, ◌<◌, ◌≤◌, List, length, slice_get, get_or, Some, Contains, [], ◌∷◌, ◌++◌, take, true, false, ap, refl, subst, sym, ◌∙◌, arith, below_more}
+use Rattle.std.proofs.Common.{◌≡◌, ℕ, ◌+◌, ◌<◌, ◌≤◌, List, length, slice_get, get_or, Some, Contains, refl, subst, sym, ◌∙◌, arith, below_more}
 use Rattle.std.specs.List.{All}
 use Rattle.std.proofs.lemmas.Option.{same_Some, slice_get-get_or, slice_get_within}
-use Rattle.std.proofs.lemmas.List.{append-nil}
-use Rattle.std.proofs.lemmas.List.Elements.{filter-append}
-use Rattle.inference.proofs.Lists.{Contains-from_slice_get, slice_get-from_Contains, take_push}
+use Rattle.inference.proofs.Lists.{Contains-from_slice_get, slice_get-from_Contains}
 use Rattle.normal_forms.specs.declared.forms.PropId2.{PropId2}
 use Rattle.normal_forms.specs.declared.forms.PropId2.TheVariants.{Property, Partial}
 use Rattle.normal_forms.specs.declared.forms.Form.{Form}
 use Rattle.normal_forms.specs.declared.forms.Form.TheVariants.{N1, N2, N3, N4, N5, N6, N7, N8, N9}
-use Rattle.normal_forms.specs.Properties.{IsPropertyFormOf, is_property_form, property_forms}
+use Rattle.normal_forms.specs.Properties.{IsPropertyFormOf, property_forms}
 use Rattle.property_closure.specs.PropertyClosures.{Known}
 use Rattle.inference.specs.PropertyClosures.{IsClosureOf}
 use Rattle.saturate.specs.declared.counts.Counts.{Counts}
@@ -55,40 +53,3 @@ all_have_names c forms k all below form there =
 pub is_closure : (c : Counts) (forms : List Form) (known : Known) → ((form : Form) → Contains forms form → HasNames c form)
     → known ≡ record { properties = c.properties; partials = c.partials; forms = property_forms forms } → IsClosureOf forms known
 is_closure c forms known has is = subst (IsClosureOf forms) (sym is) (record { same = refl; has = λ form there p puts. (has form there).edges p puts })
-
--- of the forms of properties all are of properties
-twice : (forms : List Form) → property_forms (property_forms forms) ≡ property_forms forms
-twice [] = refl
-twice (N1 a b ∷ forms) = twice forms
-twice (N2 a b c ∷ forms) = twice forms
-twice (N3 a r b ∷ forms) = twice forms
-twice (N4 r a b ∷ forms) = twice forms
-twice (N5 r s ∷ forms) = ap (λ fs. N5 r s ∷ fs) (twice forms)
-twice (N6 r s t ∷ forms) = ap (λ fs. N6 r s t ∷ fs) (twice forms)
-twice (N7 r ∷ forms) = ap (λ fs. N7 r ∷ fs) (twice forms)
-twice (N8 a b ∷ forms) = twice forms
-twice (N9 a r b ∷ forms) = twice forms
-
--- the closure of the forms of properties is that of the forms
-pub closes_all : (c : Counts) (forms of_properties : List Form) (known : Known) → of_properties ≡ property_forms forms → ((form : Form) → Contains forms form → HasNames c form)
-    → known ≡ record { properties = c.properties; partials = c.partials; forms = property_forms of_properties } → IsClosureOf forms known
-closes_all c forms of_properties known same has is =
-    is_closure c forms known has (is ∙ ap (λ fs. record { properties = c.properties; partials = c.partials; forms = fs }) (ap property_forms same ∙ twice forms))
-
--- the next form of a list, if it is of properties
-next_form : (forms : List Form) (k : ℕ) (form : Form) → slice_get forms k ≡ Some form → property_forms (take (k + 1) forms) ≡ property_forms (take k forms) ++ property_forms (form ∷ [])
-next_form forms k form at = ap property_forms (take_push forms k form at) ∙ filter-append is_property_form (take k forms) (form ∷ [])
-
-one_of_properties : (form : Form) → is_property_form form ≡ true → property_forms (form ∷ []) ≡ form ∷ []
-one_of_properties form is = rw is refl
-
-one_of_others : (form : Form) → is_property_form form ≡ false → property_forms (form ∷ []) ≡ []
-one_of_others form is = rw is refl
-
-pub next_of_properties : (forms kept : List Form) (k : ℕ) (form : Form) → slice_get forms k ≡ Some form → is_property_form form ≡ true → kept ≡ property_forms (take k forms) → kept ++ form ∷ [] ≡ property_forms (take (k + 1) forms)
-next_of_properties forms kept k form at is before =
-    ap (λ fs. fs ++ form ∷ []) before ∙ ap (λ fs. property_forms (take k forms) ++ fs) (sym (one_of_properties form is)) ∙ sym (next_form forms k form at)
-
-pub next_of_others : (forms kept : List Form) (k : ℕ) (form : Form) → slice_get forms k ≡ Some form → is_property_form form ≡ false → kept ≡ property_forms (take k forms) → kept ≡ property_forms (take (k + 1) forms)
-next_of_others forms kept k form at is before =
-    before ∙ sym (append-nil _) ∙ ap (λ fs. property_forms (take k forms) ++ fs) (sym (one_of_others form is)) ∙ sym (next_form forms k form at)

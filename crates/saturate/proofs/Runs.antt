@@ -11,14 +11,16 @@ use Rattle.axioms.specs.WellFormedness.{AreDistinct}
 use Rattle.axioms.proofs.Growing.{AreDistinct-push}
 use Rattle.facts.specs.declared.contexts.Fact.{Fact}
 use Rattle.facts.specs.Closure.{Problem, AreFacts, given, none, more as more_facts}
-use Rattle.inference.specs.Derivations.{Derived, IsDerived, Grows}
-use Rattle.inference.specs.Completeness.{IsClosure, IsServed, IsCompleteUpToRedundancy}
+use Rattle.inference.specs.declared.known_facts.Stop.TheVariants.{Limit}
+use Rattle.inference.specs.Derivations.{Derived, Grows}
+use Rattle.inference.specs.Completeness.{IsClosure, IsServed}
 use Rattle.inference.proofs.Lists.{Contains-from_slice_get, slice_get-from_Contains, keeps_push}
 use Rattle.saturate.specs.Turns.{Queued}
 use Rattle.saturate.specs.State.{Seen, AreBorn, Extends, IsUnderWay}
-use Rattle.saturate.specs.Run.{IsState, IsStep, AreSteps, IsRun, IsLeft, IsRunUntil, IsFinished}
-use Rattle.saturate.proofs.Counting.{Contains-first, Contains-tail, length-le_from_below}
-use Rattle.saturate.proofs.States.{finished, grown}
+use Rattle.saturate.specs.Run.{HasRun, IsState, IsStep, AreSteps, IsRun, IsLeft, IsRunUntil, IsFinished}
+use Rattle.lemmas.proofs.Members.{Contains-first, Contains-later}
+use Rattle.number_sets.proofs.Members.{length-le_from_below}
+use Rattle.saturate.proofs.States.{finished, grown, too_many}
 
 -- ---- a state
 
@@ -93,7 +95,7 @@ is_there [] q = inr (λ c. absurd (omega (arith, c.1)))
 is_there (y ∷ ys) q = ⊎_elim
     (λ w. inl (subst (λ (z : ℕ). Contains (y ∷ ys) z) w.1 (Contains-first y ys)))
     (λ w. ⊎_elim
-    (λ c. inl (Contains-tail y ys q c))
+    (λ c. inl (Contains-later y q ys c))
     (λ not. inr (λ c. ⊎_elim (λ one. w.1 (only one)) not (Contains-append_cases (y ∷ []) ys q c)))
     (is_there ys q))
     (eqb_tells y q)
@@ -154,6 +156,22 @@ one_more {t = t} run step = record { steps = suc run.steps; are = AreSteps.more 
 -- a run that was given up before its first step, or in the step behind its last
 pub not_begun : (s : Seen) → IsState s → IsRunUntil s s
 not_begun s state = record { last = s; run = no_steps s; left = record { extends = extends_same s; served = refl; state = state } }
+
+-- nor does it begin where there are too many facts already
+pub no_run : (max_facts : ℕ) (s : Seen) → IsState s → max_facts < length s.facts → HasRun max_facts s s (Err Limit)
+no_run max_facts s state many = record {
+  extends = extends_same s;
+  state = state;
+  whole = tt;
+  until = not_begun s state;
+  done = tt;
+  served = tt;
+  within = tt;
+  few = tt;
+  limit = λ _. too_many state.born max_facts many;
+  most = λ low. low;
+  idle = λ _. (refl, λ e. cc);
+}
 
 pub given_up : {s t u : Seen} → IsRun s t → IsLeft t u → IsRunUntil s u
 given_up {t = t} run left = record { last = t; run = run; left = left }

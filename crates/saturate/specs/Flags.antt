@@ -1,9 +1,13 @@
 -- Numbers that are flagged.
-use Rattle.std.specs.Prelude.{◌≡◌, ℕ, Bool, true, false, not, List, slice_index_or}
+use Rattle.std.specs.Prelude.{◌≡◌, ℕ, Bool, true, false, not, List, [], ◌∷◌, ◌++◌, slice_index_or}
 use Rattle.std.specs.List.{filter}
 use Rattle.normal_forms.specs.declared.forms.Form.{Form}
 use Rattle.facts.specs.declared.contexts.Fact.{Fact}
+use Rattle.facts.specs.Closure.{Problem}
+use Rattle.indexes.specs.declared.index.Index.{Index}
+use Rattle.inference.specs.Derivations.{Derived}
 use Rattle.saturate.specs.Requests.{IsAskedAt}
+use Rattle.saturate.specs.IndexedFacts.{ListsFacts}
 
 -- whether the number is flagged: past the end it is not
 abbrev pub is_flagged : List Bool → ℕ → Bool
@@ -24,3 +28,7 @@ asked flags numbers = filter (is_flagged flags) numbers
 pub record IsFlagged (all added : List Form) (facts : List Fact) (flags : List Bool) (n : ℕ) : Type 0 where
   pub yes : is_flagged flags n ≡ true → IsAskedAt all added facts n
   pub no : is_flagged flags n ≡ false → IsAskedAt all added facts n → ⊥
+
+-- an index that lists the facts of some numbers, and then that one too, unless it is flagged
+abbrev pub ListsUnlessFlagged : Problem → Derived → List Bool → ℕ → Index → Index → Type 0
+ListsUnlessFlagged k d flags n old new = (w : List ℕ) → ListsFacts k d w w old → ListsFacts k d (w ++ kept flags (n ∷ [])) (w ++ kept flags (n ∷ [])) new

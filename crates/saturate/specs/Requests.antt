@@ -6,8 +6,10 @@ use Rattle.normal_forms.specs.declared.forms.Form.TheVariants.{N1, N2, N3, N4, N
 use Rattle.normal_forms.specs.declared.forms.PropId2.{PropId2}
 use Rattle.normal_forms.specs.declared.forms.PropId2.TheVariants.{Property}
 use Rattle.normal_forms.specs.Properties.{IsAtOrBelow}
+use Rattle.property_closure.specs.PropertyClosures.{Known}
 use Rattle.facts.specs.declared.contexts.Fact.{Fact}
 use Rattle.facts.specs.declared.contexts.Fact.TheVariants.{In, Edge}
+use Rattle.inference.specs.PropertyClosures.{IsClosureOf}
 
 -- the form names the class of the fact, or a property at or above that of the edge: of two facts that a form needs one is enough
 abbrev pub Asks : List Form → Form → Fact → Type 0
@@ -32,3 +34,10 @@ IsAsked forms added f = (form : Form) × Contains added form × Asks forms form 
 -- one of the added forms asks for the fact of that number, by all forms
 abbrev pub IsAskedAt : List Form → List Form → List Fact → ℕ → Type 0
 IsAskedAt forms added facts n = (f : Fact) × (slice_get facts n ≡ Some f) × IsAsked forms added f
+
+-- one of the added forms asks for the fact, or none does, by all forms, if the closure is that of all
+abbrev pub IsAskedUnder : Known → List Form → Fact → Type 0
+IsAskedUnder closure added f = (all : List Form) → IsClosureOf all closure → IsAsked all added f
+
+abbrev pub IsUnaskedUnder : Known → List Form → Fact → Type 0
+IsUnaskedUnder closure added f = (all : List Form) → IsClosureOf all closure → IsAsked all added f → ⊥

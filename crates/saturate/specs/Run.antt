@@ -1,8 +1,11 @@
 -- Runs: facts are served one after the other, whichever of those that wait is next.
-use Rattle.std.specs.Prelude.{◌≡◌, ◌↔◌, ℕ, zero, suc, ◌+◌, ◌<◌, List, [], ◌∷◌, ◌++◌, length}
+use Rattle.std.specs.Prelude.{◌≡◌, ◌↔◌, ℕ, zero, suc, ◌+◌, ◌<◌, ◌≤◌, [], ◌∷◌, ◌++◌, length, Result, Err, OnOk, OnErr}
 use Rattle.std.specs.List.{Contains}
 use Rattle.axioms.specs.WellFormedness.{AreDistinct}
 use Rattle.facts.specs.declared.contexts.Fact.{Fact}
+use Rattle.inference.specs.declared.known_facts.Stop.{Stop}
+use Rattle.inference.specs.declared.known_facts.Stop.TheVariants.{Limit, Memory}
+use Rattle.inference.specs.Derivations.{HasMoreFactsThan}
 use Rattle.inference.specs.Completeness.{IsCompleteUpToRedundancy, IsClosure}
 use Rattle.saturate.specs.State.{Seen, AreBorn, Extends}
 
@@ -49,6 +52,22 @@ pub record IsRunUntil (old new : Seen) : Type 0 where
   pub last : Seen
   pub run : IsRun old last
   pub left : IsLeft last new
+
+-- what a run leads to that may have so many facts, and how it ends
+pub record HasRun (max_facts : ℕ) (old new : Seen) (result : Result Unit Stop) : Type 0 where
+  pub extends : Extends old new
+  pub state : IsState new
+  -- it is a run; or one that was given up, whose last facts are pending
+  pub whole : OnOk result (IsRun old new)
+  pub until : OnErr result (IsRunUntil old new)
+  pub done : OnOk result (IsClosure new.problem new.facts)
+  pub served : OnOk result (length new.served ≡ length new.facts)
+  pub within : OnOk result (length new.facts ≤ max_facts)
+  pub few : OnOk result (HasMoreFactsThan new.problem max_facts → ⊥)
+  pub limit : result ≡ Err Limit → HasMoreFactsThan old.problem max_facts
+  pub most : length old.facts ≤ max_facts → length new.facts ≤ max_facts
+  -- with nothing pending nothing changes, and memory is not refused
+  pub idle : length old.served ≡ length old.facts → (new ≡ old) × ¬ (result ≡ Err Memory)
 
 -- as many facts were served as there are
 abbrev pub IsFinished : Seen → Type 0

@@ -1,9 +1,9 @@
 -- The engine's state.
-use Rattle.std.specs.Prelude.{◌≡◌, ℕ, ◌<◌, ◌≤◌, List, [], length}
+use Rattle.std.specs.Prelude.{◌≡◌, ℕ, ◌<◌, ◌≤◌, List, [], length, slice_get, take, Some}
 use Rattle.std.specs.List.{Contains}
 use Rattle.facts.specs.declared.contexts.Fact.{Fact}
 use Rattle.facts.specs.Closure.{Problem}
-use Rattle.facts.specs.Births.{Reason}
+use Rattle.facts.specs.Births.{Reason, IsBirth}
 use Rattle.inference.specs.Derivations.{Derived, IsDerived, Keeps}
 use Rattle.saturate.specs.Turns.{Queued}
 use Rattle.inference.specs.Completeness.{IsCompleteUpToRedundancy}
@@ -32,6 +32,10 @@ pub record Extends (old new : Seen) : Type 0 where
   pub facts : Keeps old.facts new.facts
   pub births : Keeps old.births new.births
   pub served : Keeps old.served new.served
+
+-- the reason is one of the fact of that number in older ones
+abbrev pub GaveFact : Seen → ℕ → Reason → Type 0
+GaveFact s n r = (f : Fact) → slice_get s.facts n ≡ Some f → IsBirth s.problem (take n s.facts) f r
 
 -- each fact is there once, with a reason in older ones
 abbrev pub AreBorn : Seen → Type 0

@@ -4,8 +4,7 @@ ghost use Rattle.facts.specs.declared.contexts.Fact.TheVariants as the_facts;
 ghost use Rattle.normal_forms.specs.declared.forms.Form.{Form as Form2};
 ghost use Rattle.indexes.specs.Keys.{by_filler, by_first, class_key};
 ghost use Rattle.property_closure.specs.PropertyClosures.{Has};
-ghost use Rattle.saturate.specs.Requests.{BeginsWith, IsAsked};
-ghost use Rattle.inference.specs.PropertyClosures.{IsClosureOf};
+ghost use Rattle.saturate.specs.Requests.{BeginsWith, IsAsked, IsAskedUnder, IsUnaskedUnder};
 ghost use Rattle.inference.specs.Visits.{HasProperty, NoneUnder};
 ghost use Rattle.std.specs.Prelude.{◌≡◌, ℕ, List, Contains, false, true};
 
@@ -50,8 +49,8 @@ fn begins_with(added: &IndexedProblem, property: PropId2) -> bool
 /// Whether one of the added forms asks for the edges of a property.
 fn asks_for_edges(added: &IndexedProblem, closure: &PropertyClosure, property: PropId2) -> bool
     requires { Has closure.now property }
-    ensures yes { result ≡ true → (all : List Form2) (x y : Context2) → IsClosureOf all closure.now → IsAsked all added.now.forms (the_facts.Edge x property y) }
-    ensures no { result ≡ false → (all : List Form2) (x y : Context2) → IsClosureOf all closure.now → IsAsked all added.now.forms (the_facts.Edge x property y) → ⊥ }
+    ensures yes { result ≡ true → (x y : Context2) → IsAskedUnder closure.now added.now.forms (the_facts.Edge x property y) }
+    ensures no { result ≡ false → (x y : Context2) → IsUnaskedUnder closure.now added.now.forms (the_facts.Edge x property y) }
 {
     for above in closure.supers(property) {
         if begins_with(added, *above) {
@@ -64,8 +63,8 @@ fn asks_for_edges(added: &IndexedProblem, closure: &PropertyClosure, property: P
 /// Whether one of the added forms asks for the fact. The closure is that of all forms.
 pub(crate) fn asks_for(added: &IndexedProblem, closure: &PropertyClosure, fact: Fact) -> bool
     requires { HasProperty closure.now fact }
-    ensures yes { result ≡ true → (all : List Form2) → IsClosureOf all closure.now → IsAsked all added.now.forms fact }
-    ensures no { result ≡ false → (all : List Form2) → IsClosureOf all closure.now → IsAsked all added.now.forms fact → ⊥ }
+    ensures yes { result ≡ true → IsAskedUnder closure.now added.now.forms fact }
+    ensures no { result ≡ false → IsUnaskedUnder closure.now added.now.forms fact }
 {
     match fact {
         Fact::In(class, _) => asks_for_class(added, class),

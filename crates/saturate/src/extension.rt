@@ -1,10 +1,10 @@
 //! Facts and their turns after forms and roots were added.
 ghost use Rattle.saturate.specs.IndexedFacts.{ListsFacts};
 ghost use Rattle.inference.specs.Derivations.{IsDerived};
-ghost use Rattle.saturate.specs.Flags.{IsFlagged, kept};
+ghost use Rattle.saturate.specs.Flags.{IsFlagged, ListsUnlessFlagged, kept};
 ghost use Rattle.saturate.specs.Growth.{KeepsServed};
 ghost use Rattle.inference.specs.Entry.{HasBegun};
-ghost use Rattle.std.specs.Prelude.{◌≡◌, ◌<◌, ◌≤◌, ◌++◌, ◌∷◌, [], ℕ, List, Contains, IfOk, OnErr, OnOk, length};
+ghost use Rattle.std.specs.Prelude.{◌≡◌, ◌<◌, ◌≤◌, ℕ, Contains, IfOk, OnErr, OnOk, length};
 
 use crate::additions::asks_for;
 use crate::ground::Ground;
@@ -65,7 +65,7 @@ fn index_kept(
 ) -> Result<(), Memory>
     requires derived { IsDerived ground.now facts.now }
     requires number { number < length facts.now.facts }
-    ensures { OnOk result ((w : List ℕ) → ListsFacts ground.now facts.now w w index.old → ListsFacts ground.now facts.now (w ++ kept flags.now (number ∷ [])) (w ++ kept flags.now (number ∷ [])) index.new) }
+    ensures { OnOk result (ListsUnlessFlagged ground.now facts.now flags.now number index.old index.new) }
 {
     if has_flag(flags, number) {
         return Ok(());

@@ -1,6 +1,5 @@
 //! What facts are drawn from.
 ghost use Rattle.inference.specs.PropertyClosures.{IsClosureOf};
-ghost use Rattle.normal_forms.specs.Properties.{property_forms};
 ghost use Rattle.saturate.specs.Growth.{with_more};
 ghost use Rattle.std.specs.Prelude.{◌≡◌, [], IfOk};
 
@@ -8,7 +7,7 @@ use crate::counts::counted;
 use axioms::Memory;
 use facts::Context;
 use indexes::IndexedProblem;
-use normal_forms::{Form, FormList};
+use normal_forms::FormList;
 use property_closure::{PropertyClosure, close};
 use std::alloc::Global;
 use std::marker::Model;
@@ -31,27 +30,12 @@ impl Model for Ground {
     ghost invariant = { λ g. IsClosureOf g.problem.forms g.closure };
 }
 
-/// The forms of properties among these.
-fn property_forms_of(alloc: Global, forms: &FormList) -> Result<Vec<Form>, Memory>
-    ensures { IfOk result (λ v. v.items ≡ property_forms forms.now) }
-{
-    let mut kept = Vec::new(alloc);
-    for number in 0..forms.len() {
-        let form = forms.at(number);
-        if form.is_of_properties() {
-            kept.push(form)?;
-        }
-    }
-    Ok(kept)
-}
-
 /// What the forms say of properties.
 fn closed(alloc: Global, forms: &FormList) -> Result<PropertyClosure, Memory>
     ensures { IfOk result (λ c. IsClosureOf forms.now c) }
 {
     let counts = counted(forms);
-    let of_properties = property_forms_of(alloc, forms)?;
-    close(alloc, counts.properties, counts.partials, &of_properties)
+    close(alloc, counts.properties, counts.partials, forms)
 }
 
 impl Ground {

@@ -1,10 +1,9 @@
 //! What is kept of a state that has run to its end.
-ghost use Rattle.std.specs.Prelude.{◌≡◌, ◌<◌, ◌≤◌, Err, IfNone, IfSome, OnOk, Some, length, slice_get, take};
-ghost use Rattle.facts.specs.Births.{IsBirth, reason};
-ghost use Rattle.facts.specs.declared.contexts.Fact.{Fact as Fact2};
+ghost use Rattle.std.specs.Prelude.{◌≡◌, ◌<◌, ◌≤◌, IfNone, IfSome, Some, length, slice_get};
+ghost use Rattle.facts.specs.Births.{reason};
 ghost use Rattle.inference.specs.PropertyClosures.{IsClosureOf};
-ghost use Rattle.inference.specs.Derivations.{HasMoreFactsThan};
-ghost use Rattle.saturate.specs.Run.{IsRun, IsRunUntil, IsState};
+ghost use Rattle.saturate.specs.Run.{HasRun, IsState};
+ghost use Rattle.saturate.specs.State.{GaveFact};
 ghost use Rattle.inference.specs.Completeness.{IsClosure};
 
 use crate::ground::Ground;
@@ -60,7 +59,7 @@ impl Kept {
     /// What gave the fact of that number, if there is one: a condition, older facts and a form.
     pub(crate) fn born(&self, fact: FactId) -> Option<&Birth>
         ensures reason { IfSome result (λ b. slice_get self.now.births fact.0 ≡ Some (reason b.now)) }
-        ensures gives { IfSome result (λ b. (f : Fact2) → slice_get self.now.facts fact.0 ≡ Some f → IsBirth self.now.problem (take fact.0 self.now.facts) f (reason b.now)) }
+        ensures gives { IfSome result (λ b. GaveFact self.now fact.0 (reason b.now)) }
         ensures none { IfNone result (length self.now.facts ≤ fact.0) }
     {
         self.well_formed();
@@ -94,15 +93,7 @@ impl Kept {
     ///
     /// `Limit` where there are more than so many facts.
     pub(crate) fn run(&self, max_facts: u32) -> Result<(), Stop>
-        ensures state { IsState self.now }
-        ensures done { IsClosure self.now.problem self.now.facts }
-        ensures served { length self.now.served ≡ length self.now.facts }
-        ensures within { OnOk result (length self.now.facts ≤ max_facts) }
-        ensures few { OnOk result (HasMoreFactsThan self.now.problem max_facts → ⊥) }
-        ensures limit { result ≡ Err Stop.Limit → HasMoreFactsThan self.now.problem max_facts }
-        ensures no_memory { ¬ (result ≡ Err Stop.Memory) }
-        ensures whole { IsRun self.now self.now }
-        ensures until { IsRunUntil self.now self.now }
+        ensures { HasRun max_facts self.now self.now result }
     {
         self.well_formed();
         if self.served() > max_facts as usize {

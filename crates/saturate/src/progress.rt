@@ -1,11 +1,9 @@
 //! A saturation under way, or ended.
-ghost use Rattle.std.specs.Prelude.{◌≡◌, ◌≤◌, Err, OnErr, IfNone, IfSome, OnOk, Some, length, slice_get, take};
-ghost use Rattle.facts.specs.Births.{IsBirth, reason};
-ghost use Rattle.facts.specs.declared.contexts.Fact.{Fact as Fact2};
+ghost use Rattle.std.specs.Prelude.{◌≡◌, ◌≤◌, IfNone, IfSome, Some, length, slice_get};
+ghost use Rattle.facts.specs.Births.{reason};
 ghost use Rattle.inference.specs.PropertyClosures.{IsClosureOf};
-ghost use Rattle.inference.specs.Derivations.{HasMoreFactsThan};
-ghost use Rattle.saturate.specs.Run.{IsRun, IsRunUntil, IsState};
-ghost use Rattle.saturate.specs.State.{Extends};
+ghost use Rattle.saturate.specs.Run.{HasRun, IsState};
+ghost use Rattle.saturate.specs.State.{GaveFact};
 ghost use Rattle.inference.specs.Completeness.{IsClosure};
 
 use crate::kept::Kept;
@@ -77,7 +75,7 @@ impl<W: WorkList> Progress<W> {
     /// What gave the fact of that number, if there is one: a condition, older facts and a form.
     pub fn born(&self, fact: FactId) -> Option<&Birth>
         ensures reason { IfSome result (λ b. slice_get self.now.births fact.0 ≡ Some (reason b.now)) }
-        ensures gives { IfSome result (λ b. (f : Fact2) → slice_get self.now.facts fact.0 ≡ Some f → IsBirth self.now.problem (take fact.0 self.now.facts) f (reason b.now)) }
+        ensures gives { IfSome result (λ b. GaveFact self.now fact.0 (reason b.now)) }
         ensures none { IfNone result (length self.now.facts ≤ fact.0) }
     {
         match &self.stage {
@@ -113,17 +111,7 @@ impl<W: WorkList> Progress<W> {
     ///
     /// As for `State::run`; it may be called again.
     pub fn run(&mut self, max_facts: u32) -> Result<(), Stop>
-        ensures extends { Extends self.old self.new }
-        ensures state { IsState self.new }
-        ensures whole { OnOk result (IsRun self.old self.new) }
-        ensures until { OnErr result (IsRunUntil self.old self.new) }
-        ensures done { OnOk result (IsClosure self.new.problem self.new.facts) }
-        ensures served { OnOk result (length self.new.served ≡ length self.new.facts) }
-        ensures within { OnOk result (length self.new.facts ≤ max_facts) }
-        ensures few { OnOk result (HasMoreFactsThan self.new.problem max_facts → ⊥) }
-        ensures limit { result ≡ Err Stop.Limit → HasMoreFactsThan self.old.problem max_facts }
-        ensures most { length self.old.facts ≤ max_facts → length self.new.facts ≤ max_facts }
-        ensures idle { length self.old.served ≡ length self.old.facts → (self.new ≡ self.old) × ¬ (result ≡ Err Stop.Memory) }
+        ensures { HasRun max_facts self.old self.new result }
     {
         match &mut self.stage {
             Stage::Growing(state) => state.run(max_facts),

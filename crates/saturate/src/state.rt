@@ -1,11 +1,10 @@
 //! The state of a saturation.
-ghost use Rattle.std.specs.Prelude.{OnErr, ◌≡◌, ◌↔◌, ◌<◌, ◌≤◌, ◌+◌, Ok, Err, Some, true, false, [], length, take, slice_get, IfOk, OnOk, IfSome, IfNone};
-ghost use Rattle.facts.specs.Births.{IsBirth, reason};
+ghost use Rattle.std.specs.Prelude.{OnErr, ◌≡◌, ◌↔◌, ◌<◌, ◌≤◌, ◌+◌, Ok, Err, Some, true, false, [], length, slice_get, IfOk, OnOk, IfSome, IfNone};
+ghost use Rattle.facts.specs.Births.{reason};
 ghost use Rattle.inference.specs.Derivations.{HasMoreFactsThan};
-ghost use Rattle.facts.specs.declared.contexts.Fact.{Fact as Fact2};
-ghost use Rattle.saturate.specs.State.{Extends, nothing_seen};
+ghost use Rattle.saturate.specs.State.{Extends, GaveFact, nothing_seen};
 ghost use Rattle.saturate.specs.Growth.{HasGrown, KeepsServed};
-ghost use Rattle.saturate.specs.Run.{IsLeft, IsRun, IsRunUntil, IsState, IsStep};
+ghost use Rattle.saturate.specs.Run.{HasRun, IsLeft, IsState, IsStep};
 ghost use Rattle.inference.specs.PropertyClosures.{IsClosureOf};
 ghost use Rattle.inference.specs.Completeness.{IsClosure};
 
@@ -139,7 +138,7 @@ impl<W: WorkList> State<W> {
     /// What gave the fact of that number, if there is one: a condition, older facts and a form.
     pub fn born(&self, fact: FactId) -> Option<&Birth>
         ensures reason { IfSome result (λ b. slice_get self.now.births fact.0 ≡ Some (reason b.now)) }
-        ensures gives { IfSome result (λ b. (f : Fact2) → slice_get self.now.facts fact.0 ≡ Some f → IsBirth self.now.problem (take fact.0 self.now.facts) f (reason b.now)) }
+        ensures gives { IfSome result (λ b. GaveFact self.now fact.0 (reason b.now)) }
         ensures none { IfNone result (length self.now.facts ≤ fact.0) }
     {
         let FactId(number) = fact;
@@ -239,19 +238,7 @@ impl<W: WorkList> State<W> {
     ///
     /// As for `step`; and `Limit` where there are more than `max_facts` facts already. It may be called again.
     pub fn run(&mut self, max_facts: u32) -> Result<(), Stop>
-        ensures extends { Extends self.old self.new }
-        ensures state { IsState self.new }
-        // It is a run; or one that was given up, whose last facts are pending.
-        ensures whole { OnOk result (IsRun self.old self.new) }
-        ensures until { OnErr result (IsRunUntil self.old self.new) }
-        ensures done { OnOk result (IsClosure self.new.problem self.new.facts) }
-        ensures served { OnOk result (length self.new.served ≡ length self.new.facts) }
-        ensures within { OnOk result (length self.new.facts ≤ max_facts) }
-        ensures few { OnOk result (HasMoreFactsThan self.new.problem max_facts → ⊥) }
-        ensures limit { result ≡ Err Stop.Limit → HasMoreFactsThan self.old.problem max_facts }
-        ensures most { length self.old.facts ≤ max_facts → length self.new.facts ≤ max_facts }
-        // With nothing pending nothing changes, and memory is not refused.
-        ensures idle { length self.old.served ≡ length self.old.facts → (self.new ≡ self.old) × ¬ (result ≡ Err Stop.Memory) }
+        ensures { HasRun max_facts self.old self.new result }
     {
         self.well_formed();
         if self.facts.len() > max_facts as usize {

@@ -9,7 +9,7 @@ use Rattle.inference.proofs.Drawing.{each_more, each}
 use Rattle.saturate.proofs.additions.asks_for_edges.Goals as goal
 
 pub returns-then-begins_with-clause-yes : goal.returns-then-begins_with-clause-yes
-returns-then-begins_with-clause-yes c = λ _ all x y closed.
+returns-then-begins_with-clause-yes c = λ _ x y all closed.
     let items = c.supers-above-items.result.now in
     let p = c.args.property in
     let begun = c.begins_with.ensures.yes c.if-begins_with.true in
@@ -24,7 +24,7 @@ loop-above-preserved c =
     each_more P P items items c.loop-above.above-index _ refl c.loop-above-test.true c.loop-above.invariant (λ r none. none) (c.begins_with.ensures.no c.if-begins_with.false)
 
 pub returns-clause-no : goal.returns-clause-no
-returns-clause-no c = λ _ all x y closed asked.
+returns-clause-no c = λ _ x y all closed asked.
     let items = c.supers-above-items.result.now in
     let p = c.args.property in
     let P : PropId2 → Type 0 = λ r. (form : Form) → Contains c.args.added.now.forms form → BeginsWith form r → ⊥ in

@@ -1,8 +1,7 @@
 use Rattle.std.proofs.Common.{[], refl}
-use Rattle.facts.specs.Closure.{Concludes}
 use Rattle.inference.specs.Completeness.{IsEntered}
-use Rattle.inference.proofs.Growth.{grows_trans, there_still}
-use Rattle.inference.proofs.Drawing.{each_more, each, member_at, drawn, all_still, entered_still}
+use Rattle.inference.proofs.Growth.{grows_trans}
+use Rattle.inference.proofs.Drawing.{concluded_still, draws, each_more, each, member_at, drawn, entered_still}
 use Rattle.inference.proofs.rules.Rules.begin.Goals as goal
 
 pub enter-requires-clause-context : goal.enter-requires-clause-context
@@ -15,14 +14,12 @@ loop-root-preserved c =
     record {
       grows = grows_trans c.loop-root.invariant.grows c.enter.ensures.grows;
       entered = each_more (λ x. IsEntered k x c.loop-root.facts.facts) (λ x. IsEntered k x c.enter.new.facts.facts) k.roots c.roots-root-items.result.now c.loop-root.root-index _ c.roots-root-items.ensures c.loop-root-test.true
-          c.loop-root.invariant.entered (entered_still c.enter.ensures.grows) c.in_ok-enter.ensures.entered;
+          c.loop-root.invariant.entered (entered_still c.enter.ensures.grows) c.in_ok-enter.ensures.drawn;
     }
 
-pub returns-clause-drawn : goal.returns-clause-drawn
-returns-clause-drawn c =
+pub returns : goal.returns
+returns c =
     let k = c.args.self.now.problem.now in
     let s = c.loop-root.invariant.grows in
-    drawn k [] c.loop-root.facts.facts
-    (all_still s (λ form. Concludes k form []) k.forms c.in_ok-draw.ensures.drawn)
-    (λ f b. there_still s f (c.in_ok-draw.ensures.back f b))
-    (each (λ x. IsEntered k x c.loop-root.facts.facts) k.roots c.roots-root-items.result.now c.loop-root.root-index c.roots-root-items.ensures c.loop-root-test.false c.loop-root.invariant.entered)
+    draws (grows_trans c.draw.ensures.grows s) (drawn k [] c.loop-root.facts.facts (concluded_still s [] c.in_ok-draw.ensures.drawn)
+    (each (λ x. IsEntered k x c.loop-root.facts.facts) k.roots c.roots-root-items.result.now c.loop-root.root-index c.roots-root-items.ensures c.loop-root-test.false c.loop-root.invariant.entered))

@@ -1,10 +1,9 @@
 use Rattle.std.proofs.Common.{[], ◌∷◌, Option, refl, ap, subst}
 use Rattle.facts.specs.declared.contexts.Context.{Context}
 use Rattle.facts.specs.declared.contexts.Fact.{Fact}
-use Rattle.facts.specs.Closure.{Concludes}
 use Rattle.inference.specs.Completeness.{IsEntered}
-use Rattle.inference.proofs.Growth.{there_still}
-use Rattle.inference.proofs.Drawing.{drawn, all_still}
+use Rattle.inference.proofs.Growth.{grows_trans}
+use Rattle.inference.proofs.Drawing.{concluded_still, drawn, draws}
 use Rattle.inference.proofs.rules.Rules.draw_alone.Goals as goal
 
 pub enter-requires-clause-context : goal.enter-requires-clause-context
@@ -14,16 +13,13 @@ enter-requires-clause-context c = (
   rw c.in-Edge.is refl,
 )
 
-pub returns-in_ok-enter-clause-drawn : goal.returns-in_ok-enter-clause-drawn
-returns-in_ok-enter-clause-drawn c =
+pub returns-in_ok-enter : goal.returns-in_ok-enter
+returns-in_ok-enter c =
     let k = c.args.self.now.problem.now in
     let s = c.enter.ensures.grows in
-    drawn k (c.args.fact ∷ []) c.enter.new.facts.facts
-    (all_still s (λ form. Concludes k form (c.args.fact ∷ [])) k.forms c.in_ok-draw.ensures.drawn)
-    (λ f b. there_still s f (c.in_ok-draw.ensures.back f b))
-    (λ x target. subst (λ (y : Context). IsEntered k y c.enter.new.facts.facts) (rw c.in-Edge.is at target) c.in_ok-enter.ensures.entered)
+    draws (grows_trans c.draw.ensures.grows s) (drawn k (c.args.fact ∷ []) c.enter.new.facts.facts (concluded_still s (c.args.fact ∷ []) c.in_ok-draw.ensures.drawn)
+    (λ x target. subst (λ (y : Context). IsEntered k y c.enter.new.facts.facts) (rw c.in-Edge.is at target) c.in_ok-enter.ensures.drawn))
 
-pub returns-in_default-clause-drawn : goal.returns-in_default-clause-drawn
-returns-in_default-clause-drawn c =
-    let k = c.args.self.now.problem.now in
-    drawn k (c.args.fact ∷ []) c.draw.new.facts.facts c.in_ok-draw.ensures.drawn c.in_ok-draw.ensures.back (λ x target. absurd (rw c.in_default.is at target))
+pub returns-in_default : goal.returns-in_default
+returns-in_default c =
+    draws c.draw.ensures.grows (drawn c.args.self.now.problem.now (c.args.fact ∷ []) c.draw.new.facts.facts c.in_ok-draw.ensures.drawn (λ x target. absurd (rw c.in_default.is at target)))

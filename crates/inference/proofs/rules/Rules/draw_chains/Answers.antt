@@ -1,7 +1,7 @@
 use Rattle.std.proofs.Common.{refl}
 use Rattle.inference.specs.Visits.{ChainsDrawn}
 use Rattle.inference.proofs.Growth.{grows_trans}
-use Rattle.inference.proofs.Drawing.{at_still, each_more, each, drawn_at_still}
+use Rattle.inference.proofs.Drawing.{at_still, draws, each_more, each, drawn_at_still}
 use Rattle.normal_forms.proofs.Suffice.{suffice}
 use Rattle.inference.proofs.rules.Rules.draw_chains.Goals as goal
 
@@ -22,7 +22,7 @@ loop-above-preserved c =
           (λ n under. c.in_ok-draw_listed.ensures.drawn n ((c.chains_from.ensures n).1 under));
     }
 
-pub returns-clause-drawn : goal.returns-clause-drawn
-returns-clause-drawn c = λ r above.
+pub returns : goal.returns
+returns c = draws c.loop-above.invariant.grows (λ r above.
     let items = c.supers-above-items.result.now in
-    each (ChainsDrawn c.args.self.now.problem.now c.args.older.now c.loop-above.facts.facts) items items c.loop-above.above-index refl c.loop-above-test.false c.loop-above.invariant.drawn r ((c.supers-above-items.ensures.exact r).1 (c.requires.has, rw c.requires.closed.same ((suffice c.args.self.now.problem.now.forms c.args.property r (c.args.property, r)).0.1 above)))
+    each (ChainsDrawn c.args.self.now.problem.now c.args.older.now c.loop-above.facts.facts) items items c.loop-above.above-index refl c.loop-above-test.false c.loop-above.invariant.drawn r ((c.supers-above-items.ensures.exact r).1 (c.requires.has, rw c.args.self.now.closed.same ((suffice c.args.self.now.problem.now.forms c.args.property r (c.args.property, r)).0.1 above))))

@@ -2,29 +2,29 @@ use Rattle.std.proofs.Common.{sym, ◌∙◌, subst}
 use Rattle.normal_forms.specs.declared.forms.PropId2.{PropId2}
 use Rattle.normal_forms.specs.Properties.{IsAtOrBelow}
 use Rattle.inference.proofs.Lists.{one_value}
-use Rattle.inference.proofs.Growth.{there_still}
-use Rattle.inference.proofs.Drawing.{at_still}
+use Rattle.inference.proofs.Growth.{grows_trans, there_still}
+use Rattle.inference.proofs.Drawing.{at_still, draws}
 use Rattle.inference.proofs.Visiting.{all_given}
 use Rattle.inference.proofs.Edges.{edge_has}
 use Rattle.inference.proofs.rules.Rules.draw_forms.Goals as goal
 
 pub draw_chains-requires-clause-has : goal.draw_chains-requires-clause-has
-draw_chains-requires-clause-has c = edge_has c.args.self.now.problem.now c.requires.closed c.requires.derived c.args.numbers.now c.args.older.now c.in-Some.property c.requires.older (sym c.chained.ensures ∙ c.in-Some.is)
+draw_chains-requires-clause-has c = edge_has c.args.self.now.problem.now c.args.self.now.closed c.requires.derived c.args.numbers.now c.args.older.now c.in-Some.property c.requires.older (sym c.chained.ensures ∙ c.in-Some.is)
 
 pub draw_chains-requires-clause-older : goal.draw_chains-requires-clause-older
 draw_chains-requires-clause-older c = at_still _ _ c.draw_listed.ensures.grows.facts c.args.numbers.now c.args.older.now c.requires.older
 
-pub returns-in_ok-draw_chains-clause-drawn : goal.returns-in_ok-draw_chains-clause-drawn
-returns-in_ok-draw_chains-clause-drawn c =
+pub returns-in_ok-draw_chains : goal.returns-in_ok-draw_chains
+returns-in_ok-draw_chains c =
     let k = c.args.self.now.problem.now in
-    all_given k c.args.older.now c.draw_chains.new.facts.facts
+    draws (grows_trans c.draw_listed.ensures.grows c.draw_chains.ensures.grows) (all_given k c.args.older.now c.draw_chains.new.facts.facts
     (λ n form f at none gives. there_still c.draw_chains.ensures.grows f (c.in_ok-draw_listed.ensures.drawn n (c.visited.ensures n form f at none gives) form at f gives))
     (λ p is r low. c.in_ok-draw_chains.ensures.drawn r
-    (subst (λ (q : PropId2). IsAtOrBelow k.forms q r) (one_value _ p c.in-Some.property is (sym c.chained.ensures ∙ c.in-Some.is)) low))
+    (subst (λ (q : PropId2). IsAtOrBelow k.forms q r) (one_value _ p c.in-Some.property is (sym c.chained.ensures ∙ c.in-Some.is)) low)))
 
-pub returns-in_default-clause-drawn : goal.returns-in_default-clause-drawn
-returns-in_default-clause-drawn c =
+pub returns-in_default : goal.returns-in_default
+returns-in_default c =
     let k = c.args.self.now.problem.now in
-    all_given k c.args.older.now c.draw_listed.new.facts.facts
+    draws c.draw_listed.ensures.grows (all_given k c.args.older.now c.draw_listed.new.facts.facts
     (λ n form f at none gives. c.in_ok-draw_listed.ensures.drawn n (c.visited.ensures n form f at none gives) form at f gives)
-    (λ p is r low. let none = c.chained.ensures in let default = c.in_default.is in absurd (cc))
+    (λ p is r low. let none = c.chained.ensures in let default = c.in_default.is in absurd (cc)))

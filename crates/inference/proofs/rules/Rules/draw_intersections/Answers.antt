@@ -1,7 +1,7 @@
 use Rattle.std.proofs.Common.{refl}
 use Rattle.inference.specs.Completeness.{IsDrawnIn}
 use Rattle.inference.proofs.Growth.{grows_trans}
-use Rattle.inference.proofs.Drawing.{each_more, each}
+use Rattle.inference.proofs.Drawing.{draws, each_more, each}
 use Rattle.inference.proofs.Intersections.{drawn_in_still, drawn_in_earlier}
 use Rattle.inference.proofs.rules.Rules.draw_intersections.Goals as goal
 
@@ -18,7 +18,7 @@ loop-number-preserved c =
           (drawn_in_earlier s _ c.args.context _ c.in_ok-draw_intersection.ensures.drawn);
     }
 
-pub returns-clause-drawn : goal.returns-clause-drawn
-returns-clause-drawn c =
+pub returns : goal.returns
+returns c =
     let k = c.args.self.now.problem.now in
-    each (IsDrawnIn k c.args.facts.now.facts c.args.context c.loop-number.facts.facts) c.args.listed.now c.args.listed.now c.loop-number.number-index refl c.loop-number-test.false c.loop-number.invariant.drawn
+    draws c.loop-number.invariant.grows (each (IsDrawnIn k c.args.facts.now.facts c.args.context c.loop-number.facts.facts) c.args.listed.now c.args.listed.now c.loop-number.number-index refl c.loop-number-test.false c.loop-number.invariant.drawn)

@@ -1,11 +1,10 @@
 use Rattle.std.proofs.Common.{take}
-use Rattle.facts.specs.Closure.{Concludes}
 use Rattle.inference.specs.Derivations.{Grows}
-use Rattle.inference.specs.Completeness.{AreDrawnAt}
+use Rattle.inference.specs.Completeness.{AreDrawnFrom}
 use Rattle.inference.proofs.rules.Rules.draw_listed.Given as goal
 
 abbrev pub invariant-loop-number : goal.invariant-loop-number
 invariant-loop-number l = record {
   grows : Grows l.self.problem.now l.self.max_facts l.fn.facts l.facts;
-  drawn : AreDrawnAt (λ form. Concludes l.self.problem.now form l.older) l.self.problem.now.forms (take l.number-index l.listed) l.facts.facts;
+  drawn : AreDrawnFrom l.self.problem.now l.older l.facts.facts (take l.number-index l.listed);
 }

@@ -2,7 +2,7 @@ use Rattle.std.proofs.Common.{refl}
 use Rattle.facts.specs.Closure.{IsLoop}
 use Rattle.inference.specs.Completeness.{DrawnAt}
 use Rattle.inference.proofs.Growth.{grows_trans}
-use Rattle.inference.proofs.Drawing.{context_still, each_more, each, drawn_at_still}
+use Rattle.inference.proofs.Drawing.{context_still, draws, each_more, each, drawn_at_still}
 use Rattle.inference.proofs.Visiting.{all_loops}
 use Rattle.inference.proofs.rules.Rules.draw_loops.Goals as goal
 
@@ -20,9 +20,9 @@ loop-number-preserved c =
           items items c.loop-number.number-index 0 refl c.loop-number-test.true c.loop-number.invariant.drawn (drawn_at_still s _ _) c.in_ok-draw_loop.ensures.drawn;
     }
 
-pub returns-clause-drawn : goal.returns-clause-drawn
-returns-clause-drawn c =
+pub returns : goal.returns
+returns c =
     let k = c.args.self.now.problem.now in
     let items = c.reflexive-number-items.result.now in
-    all_loops k c.args.context c.loop-number.facts.facts (λ n form at reflexive.
-    each (DrawnAt (IsLoop c.args.context) k.forms c.loop-number.facts.facts) items items c.loop-number.number-index refl c.loop-number-test.false c.loop-number.invariant.drawn n ((c.reflexive-number-items.ensures n).1 (form, at, reflexive)))
+    draws c.loop-number.invariant.grows (all_loops k c.args.context c.loop-number.facts.facts (λ n form at reflexive.
+    each (DrawnAt (IsLoop c.args.context) k.forms c.loop-number.facts.facts) items items c.loop-number.number-index refl c.loop-number-test.false c.loop-number.invariant.drawn n ((c.reflexive-number-items.ensures n).1 (form, at, reflexive))))

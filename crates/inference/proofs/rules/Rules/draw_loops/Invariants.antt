@@ -1,11 +1,11 @@
-use Rattle.std.proofs.Common.{take}
+use Rattle.std.proofs.Common.{ℕ, take, Contains}
 use Rattle.facts.specs.Closure.{IsLoop}
 use Rattle.inference.specs.Derivations.{Grows}
-use Rattle.inference.specs.Completeness.{AreDrawnAt}
+use Rattle.inference.specs.Completeness.{DrawnAt}
 use Rattle.inference.proofs.rules.Rules.draw_loops.Given as goal
 
 abbrev pub invariant-loop-number : goal.invariant-loop-number
 invariant-loop-number l = record {
   grows : Grows l.self.problem.now l.self.max_facts l.fn.facts l.facts;
-  drawn : AreDrawnAt (IsLoop l.context) l.self.problem.now.forms (take l.number-index l.number-items) l.facts.facts;
+  drawn : (n : ℕ) → Contains (take l.number-index l.number-items) n → DrawnAt (IsLoop l.context) l.self.problem.now.forms l.facts.facts n;
 }

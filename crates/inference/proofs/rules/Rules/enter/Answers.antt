@@ -1,6 +1,6 @@
 use Rattle.facts.specs.Closure.{in_thing}
 use Rattle.inference.proofs.Growth.{grows_trans, there_still}
-use Rattle.inference.proofs.Drawing.{context_still}
+use Rattle.inference.proofs.Drawing.{context_still, draws}
 use Rattle.inference.proofs.rules.Rules.enter.Goals as goal
 
 pub add-requires-clause-birth : goal.add-requires-clause-birth
@@ -12,9 +12,11 @@ enter_itself-requires-clause-context c = context_still c.add.ensures.grows c.arg
 pub draw_loops-requires-clause-context : goal.draw_loops-requires-clause-context
 draw_loops-requires-clause-context c = context_still (grows_trans c.add.ensures.grows c.enter_itself.ensures.grows) c.args.numbers.now c.args.context c.requires.context
 
-pub returns-clause-entered : goal.returns-clause-entered
-returns-clause-entered c = record {
-  top = there_still (grows_trans c.enter_itself.ensures.grows c.draw_loops.ensures.grows) _ c.in_ok-add.ensures.there;
-  itself = λ e is. there_still c.draw_loops.ensures.grows _ (c.in_ok-enter_itself.ensures.itself e is);
-  loops = c.in_ok-draw_loops.ensures.drawn;
-}
+pub returns : goal.returns
+returns c =
+    let s = grows_trans c.enter_itself.ensures.grows c.draw_loops.ensures.grows in
+    draws (grows_trans c.add.ensures.grows s) (record {
+      top = there_still s _ c.in_ok-add.ensures.drawn;
+      itself = λ e is. there_still c.draw_loops.ensures.grows _ (c.in_ok-enter_itself.ensures.drawn e is);
+      loops = c.in_ok-draw_loops.ensures.drawn;
+    })

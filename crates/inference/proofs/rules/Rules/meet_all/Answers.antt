@@ -1,34 +1,25 @@
-use Rattle.std.proofs.Common.{◌≡◌, slice_get, Some, refl, subst, arith}
-use Rattle.std.proofs.lemmas.List.Elements.{Contains-get_or}
 use Rattle.facts.specs.declared.contexts.Fact.{Fact}
+use Rattle.inference.specs.Derivations.{Derived}
 use Rattle.inference.specs.Completeness.{MeetEachOther}
-use Rattle.inference.proofs.Lists.{one_value}
 use Rattle.inference.proofs.Growth.{grows_trans}
-use Rattle.inference.proofs.Drawing.{each_more, each, met_still}
+use Rattle.inference.proofs.Drawing.{draws, for_each, for_each_more, met_still, next_there}
 use Rattle.inference.proofs.rules.Rules.meet_all.Goals as goal
 
 pub get-partner-requires : goal.get-partner-requires
-get-partner-requires c =
-    let there = c.requires.numbers _ (Contains-get_or c.args.numbers.now c.loop-number.number-index 0 c.loop-number-test.true) in
-    omega (arith, there, c.loop-number.invariant.grows.longer)
+get-partner-requires c = next_there c.loop-number.invariant.grows c.args.numbers.now c.loop-number.number-index c.requires.numbers c.loop-number-test.true
 
 pub loop-number-preserved : goal.loop-number-preserved
 loop-number-preserved c =
     let k = c.args.self.now.problem.now in
-    let old = c.args.facts.now.facts in
     let f = c.args.fact in
+    let P = λ (d : Derived) (g : Fact). MeetEachOther k f g d in
     let s = c.loop-number.invariant.grows in
+    let t = c.meet.ensures.grows in
     record {
-      grows = grows_trans s c.meet.ensures.grows;
-      met = each_more
-          (λ n. (h : Fact) → slice_get old n ≡ Some h → MeetEachOther k f h c.loop-number.facts)
-          (λ n. (h : Fact) → slice_get old n ≡ Some h → MeetEachOther k f h c.meet.new.facts)
-          c.args.numbers.now c.args.numbers.now c.loop-number.number-index 0 refl c.loop-number-test.true c.loop-number.invariant.met
-          (λ n w h at. met_still c.meet.ensures.grows f h (w h at))
-          (λ h at. subst (λ (x : Fact). MeetEachOther k f x c.meet.new.facts) (one_value _ _ _ c.get-partner.ensures (s.facts _ h at)) c.in_ok-meet.ensures.met);
+      grows = grows_trans s t;
+      met = for_each_more s (P c.loop-number.facts) (P c.meet.new.facts) c.args.numbers.now c.loop-number.number-index _ c.loop-number-test.true c.get-partner.ensures c.loop-number.invariant.met
+          (λ g w. met_still t f g w) c.in_ok-meet.ensures.drawn;
     }
 
-pub returns-clause-met : goal.returns-clause-met
-returns-clause-met c =
-    let k = c.args.self.now.problem.now in
-    each (λ n. (h : Fact) → slice_get c.args.facts.now.facts n ≡ Some h → MeetEachOther k c.args.fact h c.loop-number.facts) c.args.numbers.now c.args.numbers.now c.loop-number.number-index refl c.loop-number-test.false c.loop-number.invariant.met
+pub returns : goal.returns
+returns c = draws c.loop-number.invariant.grows (for_each _ _ c.args.numbers.now c.loop-number.number-index c.loop-number-test.false c.loop-number.invariant.met)

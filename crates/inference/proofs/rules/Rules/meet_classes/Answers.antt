@@ -1,4 +1,5 @@
 use Rattle.inference.specs.Visits.{IsClassFact}
+use Rattle.inference.proofs.Drawing.{draws}
 use Rattle.inference.proofs.Lists.{Contains-from_slice_get}
 use Rattle.inference.proofs.Meeting.{numbers_within, kind_of}
 use Rattle.inference.proofs.Intersections.{met_by_operands}
@@ -7,9 +8,9 @@ use Rattle.inference.proofs.rules.Rules.meet_classes.Goals as goal
 pub meet_all-requires-clause-numbers : goal.meet_all-requires-clause-numbers
 meet_all-requires-clause-numbers c = numbers_within IsClassFact c.args.facts.now.facts c.args.numbers.now c.requires.numbers
 
-pub returns-in_ok-meet_operands-clause-met : goal.returns-in_ok-meet_operands-clause-met
-returns-in_ok-meet_operands-clause-met c n there g at =
+pub returns-in_ok-meet_operands : goal.returns-in_ok-meet_operands
+returns-in_ok-meet_operands c =
     let old = c.args.facts.now.facts in
-    met_by_operands c.args.self.now.problem.now old c.args.class c.args.context g c.meet_operands.new.facts
+    draws c.meet_operands.ensures.grows (λ n there g at. met_by_operands c.args.self.now.problem.now old c.args.class c.args.context g c.meet_operands.new.facts
     (kind_of IsClassFact old c.args.numbers.now c.requires.numbers n there g at)
-    (Contains-from_slice_get old c.args.hand _ c.requires.hand) (Contains-from_slice_get old n g at) c.in_ok-meet_operands.ensures.met
+    (Contains-from_slice_get old c.args.hand _ c.requires.hand) (Contains-from_slice_get old n g at) c.in_ok-meet_operands.ensures.drawn)

@@ -1,4 +1,5 @@
-use Rattle.inference.proofs.Drawing.{drawn_still}
+use Rattle.inference.proofs.Growth.{grows_trans}
+use Rattle.inference.proofs.Drawing.{drawn_still, draws}
 use Rattle.inference.proofs.Meeting.{listed_earlier, within_still}
 use Rattle.inference.proofs.Redundancy.{second_still}
 use Rattle.inference.proofs.rules.Rules.serve.Goals as goal
@@ -9,8 +10,11 @@ meet_listed-requires-clause-index c = within_still c.draw_alone.ensures.grows c.
 pub meet_listed-requires-clause-second : goal.meet_listed-requires-clause-second
 meet_listed-requires-clause-second c = λ no. second_still c.draw_alone.ensures.grows c.args.fact (c.requires.second no)
 
-pub returns-clause-alone : goal.returns-clause-alone
-returns-clause-alone c = drawn_still c.meet_listed.ensures.grows _ c.in_ok-draw_alone.ensures.drawn
-
-pub returns-clause-met : goal.returns-clause-met
-returns-clause-met c = listed_earlier c.args.index.now c.meet_listed.new.facts c.draw_alone.ensures.grows c.args.fact c.in_ok-meet_listed.ensures.met
+pub returns : goal.returns
+returns c =
+    let s = c.draw_alone.ensures.grows in
+    let t = c.meet_listed.ensures.grows in
+    draws (grows_trans s t) (record {
+      alone = drawn_still t _ c.in_ok-draw_alone.ensures.drawn;
+      met = listed_earlier c.args.index.now c.meet_listed.new.facts s c.args.fact c.in_ok-meet_listed.ensures.drawn;
+    })

@@ -1,19 +1,25 @@
-use Rattle.std.proofs.Common.{arith}
+use Rattle.std.proofs.Common.{◌≤◌, length, refl, arith}
 use Rattle.saturate.proofs.Counting.{not_more}
-use Rattle.saturate.proofs.Runs.{no_steps, not_begun}
+use Rattle.saturate.proofs.Runs.{extends_same, no_refusal, no_run, no_steps}
 use Rattle.saturate.proofs.kept.Kept.run.Goals as goal
 
-pub returns-clause-few : goal.returns-clause-few
-returns-clause-few c = not_more c.args.self.now.problem c.args.self.now.facts c.args.max_facts c.well_formed-2.ensures.closure (omega (arith, c.served.ensures.all))
+pub returns-then-served-max_facts : goal.returns-then-served-max_facts
+returns-then-served-max_facts c = no_run c.args.max_facts c.args.self.now c.well_formed-2.ensures.state (omega (arith, c.served.ensures.all, c.if-served-max_facts.true))
 
-pub returns-clause-whole : goal.returns-clause-whole
-returns-clause-whole c = no_steps c.args.self.now
-
-pub returns-clause-until : goal.returns-clause-until
-returns-clause-until c = not_begun c.args.self.now c.well_formed-2.ensures.state
-
-pub returns-then-served-max_facts-clause-whole : goal.returns-then-served-max_facts-clause-whole
-returns-then-served-max_facts-clause-whole c = no_steps c.args.self.now
-
-pub returns-then-served-max_facts-clause-until : goal.returns-then-served-max_facts-clause-until
-returns-then-served-max_facts-clause-until c = not_begun c.args.self.now c.well_formed-2.ensures.state
+pub returns : goal.returns
+returns c =
+    let state = c.well_formed-2.ensures in
+    let few : length c.args.self.now.facts ≤ c.args.max_facts = omega (arith, c.served.ensures.all, c.if-served-max_facts.false) in
+    record {
+      extends = extends_same c.args.self.now;
+      state = state.state;
+      whole = no_steps c.args.self.now;
+      until = tt;
+      done = state.closure;
+      served = state.served;
+      within = few;
+      few = not_more c.args.self.now.problem c.args.self.now.facts c.args.max_facts state.closure few;
+      limit = λ e. absurd (no_refusal _ _ e);
+      most = λ low. low;
+      idle = λ _. (refl, no_refusal _ _);
+    }

@@ -1,5 +1,5 @@
-use Rattle.std.proofs.Common.{ℕ, ◌<◌, length, slice_get, Some, Contains, sym, ◌∙◌, arith}
-use Rattle.std.proofs.lemmas.List.FromFn.{length-range_with_len, get_or-range_with_len}
+use Rattle.std.proofs.Common.{length}
+use Rattle.std.proofs.lemmas.List.FromFn.{length-range_with_len}
 use Rattle.saturate.proofs.Runs.{closed_state, all_numbers_within, all_numbers_distinct}
 use Rattle.saturate.proofs.kept.Kept.well_formed.Goals as goal
 

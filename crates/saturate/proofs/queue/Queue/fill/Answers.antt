@@ -1,7 +1,7 @@
 use Rattle.std.proofs.Common.{◌≡◌, ◌<◌, ℕ, Some, length, slice_get, ap, subst, sym, ◌∙◌, arith}
 use Rattle.std.proofs.lemmas.Option.{slice_get-get_or}
 use Rattle.work_list.specs.Bag.{Adds}
-use Rattle.saturate.specs.Turns.{context_number, item}
+use Rattle.saturate.specs.Turns.{item}
 use Rattle.saturate.proofs.Turns.{named_more}
 use Rattle.saturate.proofs.queue.Queue.fill.Goals as goal
 

@@ -1,9 +1,8 @@
-use Rattle.std.proofs.Common.{◌≡◌, ℕ, List, [], ◌++◌, subst, sym}
+use Rattle.std.proofs.Common.{ℕ, List, ◌++◌, subst, sym}
 use Rattle.std.proofs.lemmas.Option.{none-some}
 use Rattle.axioms.specs.WellFormedness.{AreDistinct}
 use Rattle.saturate.specs.IndexedFacts.{ListsFacts}
 use Rattle.saturate.specs.Turns.{option_list}
-use Rattle.saturate.specs.State.{IsUnderWay}
 use Rattle.saturate.proofs.Runs.{seen_state}
 use Rattle.saturate.proofs.States.{begun}
 use Rattle.saturate.proofs.Listing.{nothing_listed}
