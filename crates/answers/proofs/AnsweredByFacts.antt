@@ -1,11 +1,6 @@
 -- What the facts of a saturation answer is what follows.
-use Rattle.std.proofs.Common.{◌≡◌, ◌↔◌, ℕ, ◌<◌, ◌⊎◌, inl, inr, ⊎_elim, Bool, List, [], true, false, length, Contains, slice_get, Some, sym, ap, ◌∙◌, subst, arith, ◌≤◌}
-use Rattle.std.proofs.lemmas.Option.{slice_get_within}
+use Rattle.std.proofs.Common.{◌≡◌, ◌↔◌, ℕ, ◌<◌, ◌⊎◌, inl, inr, ⊎_elim, Bool, List, [], length, slice_get, Some, sym, ap, ◌∙◌, subst}
 use Rattle.std.specs.Option.{unwrap_or}
-use Rattle.std.specs.Str.{bytes_eq}
-use Rattle.std.proofs.lemmas.Bool.{false≢true}
-use Rattle.std.proofs.lemmas.Slice.Eq.{bytes_eq-Decides}
-use Rattle.lemmas.proofs.Members.{slice_get-from_Contains}
 use Rattle.axioms.specs.Expression.{Iri}
 use Rattle.axioms.specs.Ontology.{Ontology, IsClassAt, nothing, name_at, individual_name}
 use Rattle.axioms.specs.WellFormedness.{IsOntology}

@@ -1,11 +1,8 @@
 -- The facts of a closure decide the listed interpretation, so that there is one.
 use Rattle.std.proofs.Common.{◌≡◌, ◌↔◌, ℕ, zero, suc, inl, inr, ⊎_elim, Bool, true, false, List, [], ◌∷◌, ◌++◌, length, slice_get, Some, Contains, refl, sym, ap, ◌∙◌, subst, arith}
-use Rattle.std.proofs.lemmas.Option.{same_Some}
 use Rattle.lemmas.proofs.Members.{Contains-from_slice_get, slice_get-from_Contains}
 use Rattle.axioms.specs.Ontology.{Ontology, thing, nothing}
 use Rattle.axioms.specs.WellFormedness.{IsOntology}
-use Rattle.axioms.specs.declared.ids.ExprId.{ExprId}
-use Rattle.axioms.specs.declared.ids.IndId.{IndId}
 use Rattle.axioms.specs.declared.ids.PropId.{PropId}
 use Rattle.facts.specs.declared.contexts.Context as code
 use Rattle.facts.specs.declared.contexts.Context.TheVariants as contexts
@@ -20,6 +17,8 @@ use Rattle.normal_forms.specs.declared.forms.Form.TheVariants as forms
 use Rattle.normal_forms.specs.Forms.{Whole, Property2, Property, Steps, Form, N5, IsForm}
 use Rattle.closure.specs.Closure.{Context, Expression, Individual, Fact, In, Edge, IsFact, IsAtOrBelow, same, step}
 use Rattle.closure.specs.Denotations.{Prefixes, SaysProperty, property, steps, SaysContext, expression, individual, SaysFact, edge, SaysForm, n5, IsProblemOf}
+use Rattle.closure.proofs.Names.{context_one, expr_id, ind_id}
+use Rattle.closure.proofs.Names as names
 use Rattle.exactness.specs.ListedInterpretation.{HasEdge, IsConsistent, IsListedInterpretation, IsSatisfiable, AreSatisfiableContexts}
 use Rattle.exactness.proofs.Listed.{listed_exists}
 use Rattle.interpretation_spec.specs.Interpretation.{Interpretation}
@@ -29,15 +28,6 @@ use Rattle.countermodel.proofs.Facts.{code_of, whole_said, satisfiable_within}
 use Rattle.countermodel.proofs.Listing.{HasListed, HasListedMore, none_listed, listed_more, listed_same, none_listed_more, individual_more, individual_same, no_individual, expressions_done, contexts_done}
 use Rattle.engine.specs.Saturations.{SayTheClosure}
 use Rattle.answers.proofs.Deciding.{Decided, is_yes, tells, SomeOf, some_of, same_context, is_in, Reach, reach, reach_same, reach_on}
-
-abbrev expr_id : ℕ → ExprId
-expr_id n = record { 0 = n }
-
-abbrev ind_id : ℕ → IndId
-ind_id n = record { 0 = n }
-
-abbrev prop_id : ℕ → PropId
-prop_id n = record { 0 = n }
 
 on : {o : Ontology} {r s t : Property2} → IsAtOrBelow o [] r s → IsAtOrBelow o [] s t → IsAtOrBelow o [] r t
 on h same = h
@@ -70,14 +60,7 @@ module _ (o : Ontology) (w : IsOntology o) (b : Prefixes) (k : Problem) (problem
   leads (f ∷ fs) are p q (inl h) = leads fs (λ n. are (suc n)) p q h
   leads (forms.N5 s t ∷ fs) are p q (inr v) =
       on (step s.0 t.0 (leads fs (λ n. are (suc n)) p s.0 v.0) (are 0 s t refl)) (leads fs (λ n. are (suc n)) t.0 q v.1)
-  leads (forms.N1 _ _ ∷ fs) are p q (inr v) = absurd v
-  leads (forms.N2 _ _ _ ∷ fs) are p q (inr v) = absurd v
-  leads (forms.N3 _ _ _ ∷ fs) are p q (inr v) = absurd v
-  leads (forms.N4 _ _ _ ∷ fs) are p q (inr v) = absurd v
-  leads (forms.N6 _ _ _ ∷ fs) are p q (inr v) = absurd v
-  leads (forms.N7 _ ∷ fs) are p q (inr v) = absurd v
-  leads (forms.N8 _ _ ∷ fs) are p q (inr v) = absurd v
-  leads (forms.N9 _ _ _ ∷ fs) are p q (inr v) = absurd v
+  leads (_ ∷ fs) are p q (inr v) = absurd v
 
   abbrev number_in : Property2 → ℕ
   number_in (Property p) = p
@@ -102,19 +85,11 @@ module _ (o : Ontology) (w : IsOntology o) (b : Prefixes) (k : Problem) (problem
 
   -- ---- edges
 
-  context_one : {x : code.Context} {y z : Context} → SaysContext x y → SaysContext x z → y ≡ z
-  context_one (expression h) (expression l) = ap Expression (sym h ∙ l)
-  context_one (individual h) (individual l) = ap Individual (sym h ∙ l)
-
   steps_one : {n : ℕ} {p : Property2} → SaysProperty b (properties.Partial n) p → (rs : List ℕ) × (p ≡ Steps rs)
   steps_one (steps {rs = rs} h) = (rs, refl)
 
   property_one : {q : PropId} {p : Property2} → SaysProperty b (properties.Property q) p → p ≡ Property q.0
   property_one (property h) = ap Property (sym h)
-
-  same_property : {q : code_property.PropId2} {r s : Property2} → SaysProperty b q r → SaysProperty b q s → r ≡ s
-  same_property (property h) (property l) = ap Property (sym h ∙ l)
-  same_property (steps {rs = rs} h) (steps {rs = ss} l) = ap Steps (same_Some rs ss (sym h ∙ l))
 
   edge_parts : {u v : code.Context} {q : code_property.PropId2} {x y : Context} {p : Property2} → SaysFact b (facts.Edge u q v) (Edge x p y) → SaysContext u x × SaysProperty b q p × SaysContext v y
   edge_parts (edge h l m) = (h, l, m)
@@ -145,7 +120,7 @@ module _ (o : Ontology) (w : IsOntology o) (b : Prefixes) (k : Problem) (problem
       go : (f : code_fact.Fact) (g : Fact) → SaysFact b f (Edge x p y) → SaysFact b f g → IsFact o [] g → IsFact o [] (Edge x p y)
       go _ _ (edge h l m) (edge {x' = u} {y' = v} {r' = q} h' l' m') is =
           subst (λ c. IsFact o [] (Edge c p y)) (context_one h' h)
-          (subst (λ c. IsFact o [] (Edge u c y)) (same_property l' l)
+          (subst (λ c. IsFact o [] (Edge u c y)) (names.property_one l' l)
           (subst (λ c. IsFact o [] (Edge u q c)) (context_one m' m) is))
 
   has_edge : (x : Context) (r : ℕ) (y : Context) → SomeOf list (IsEdgeOf x r y) ↔ HasEdge o [] x (Property r) y

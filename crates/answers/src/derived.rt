@@ -167,6 +167,7 @@ pub(crate) fn derived_contradiction(
     ontology.well_formed();
     let all = contradiction(alloc, ontology, saturation)?;
     let Some(goal) = contradictory_line(&all) else {
+        // One of these lines is the contradiction.
         unreachable!()
     };
     let left = trimmed(alloc, &all, goal)?;

@@ -2,46 +2,16 @@
 ghost use Rattle.answers.specs.Questions.{AreAnswers, AreMarks, IsAnswer, IsEvery, nothing_class};
 ghost use Rattle.answers.specs.Names.{IsMarked};
 ghost use Rattle.answers.specs.declared.question.Question.TheVariants as asked;
-ghost use Rattle.classification.specs.Lists.{PutsBelow, PutsInto, SomeFact};
+ghost use Rattle.classification.specs.Lists.{PutsBelow, SomeFact};
 ghost use Rattle.engine.specs.Saturations.{IsSaturated};
-ghost use Rattle.std.specs.Prelude.{◌<◌, ◌↔◌, ◌≡◌, ◌⊎◌, IfOk, IsTrue, MatchOption, Some, length, ℕ};
+ghost use Rattle.std.specs.Prelude.{◌<◌, ◌↔◌, ◌≡◌, ◌⊎◌, IfOk, IsTrue, Some, length, ℕ};
 
 use crate::question::Question;
-use axioms::{ClassId, IndId, Memory, Ontology};
-use classification::is_consistent;
+use axioms::{ClassId, Memory, Ontology};
+use classification::{class_pair, is_consistent, type_pair};
 use engine::Saturation;
-use facts::{Context, Fact, StoredFact};
-use normal_forms::Class2;
+use facts::StoredFact;
 use std::alloc::Global;
-
-/// The class that the fact is about, and the class that it puts above it.
-fn class_pair(ontology: &Ontology, fact: &StoredFact) -> Option<(ClassId, ClassId)>
-    ensures { MatchOption result ((c d : ℕ) → PutsBelow ontology.now fact.now c d → ⊥)
-        (λ p. PutsBelow ontology.now fact.now p.0.0 p.1.0) }
-{
-    match fact.get() {
-        Fact::In(Class2::Expr(above), Context::Expr(expression)) => {
-            let class = ontology.class_of(expression)?;
-            let above = ontology.class_of(above)?;
-            Some((class, above))
-        }
-        _ => None,
-    }
-}
-
-/// The individual that the fact is about, and the class that it puts it into.
-fn type_pair(ontology: &Ontology, fact: &StoredFact) -> Option<(IndId, ClassId)>
-    ensures { MatchOption result ((a d : ℕ) → PutsInto ontology.now fact.now a d → ⊥)
-        (λ p. PutsInto ontology.now fact.now p.0.0 p.1.0) }
-{
-    match fact.get() {
-        Fact::In(Class2::Expr(class), Context::Individual(individual)) => {
-            let class = ontology.class_of(class)?;
-            Some((individual, class))
-        }
-        _ => None,
-    }
-}
 
 /// The class above this one by the fact.
 fn above(ontology: &Ontology, class: usize, fact: &StoredFact) -> Option<usize>

@@ -33,6 +33,7 @@ pub(crate) fn part_for(
     ontology.well_formed();
     let elements = Elements::of(alloc, ontology, saturation)?;
     let Some(from) = elements.element(context) else {
+        // Each satisfiable context is an element.
         unreachable!()
     };
     let whole = listed(alloc, ontology, saturation)?;

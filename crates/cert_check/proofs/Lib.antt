@@ -8,6 +8,7 @@ pub mod Listwise
 pub mod OneMore
 pub mod Relations
 pub mod Claimed
+pub mod Judged
 pub mod ListedRows
 pub mod Verdicts
 pub mod Truth

@@ -1,5 +1,5 @@
 -- What is kept of lines, and of a certificate, that were read and tested one after another.
-use Rattle.std.specs.Prelude.{◌≡◌, ℕ, Bool, List, MatchOption, Result, Ok, Err, option_map}
+use Rattle.std.specs.Prelude.{◌≡◌, ◌↔◌, ℕ, Bool, IsTrue, List, MatchOption, Result, Ok, Err, map, option_map}
 use Rattle.std.specs.declared.option.Option.{Option}
 use Rattle.axioms.specs.Ontology.{Ontology}
 use Rattle.certificate.specs.Certificate.{Conclusion, Line, Listed, Certificate}
@@ -7,11 +7,15 @@ use Rattle.certificate.specs.Writability.{IsTextOf}
 use Rattle.certificate.specs.Outcome.{IsRefused}
 use Rattle.certificate.specs.View.{listed_of}
 use Rattle.certificate.specs.declared.fault.CertFault.{CertFault}
-use Rattle.cert_check.specs.Derivation.{IsDerivation}
+use Rattle.cert_check.specs.Derivation.{IsDerivation, IsDerived}
 use Rattle.cert_check.specs.Faults.{IsFirstBadLine}
 use Rattle.cert_check.specs.Lists.{said_by}
-use Rattle.cert_check.specs.Verdict.{AreShown}
+use Rattle.cert_check.specs.Verdict.{AgainstShown, AreShown}
+use Rattle.cert_check.specs.View.{said_of}
+use Rattle.cert_check.specs.declared.derivation.ShownLines.{ShownLines}
 use Rattle.cert_check.specs.declared.derivation.TestedCertificate.{TestedCertificate}
+use Rattle.cert_check.specs.declared.derivation.TestedLines.{TestedLines}
+use Rattle.cert_check.specs.declared.verdict.Reason.{Reason}
 
 -- what the lines say, and which is the first that does not follow from those before it
 pub record AreTested (o : Ontology) (lines : List Line) (said : List Conclusion) (bad : Option ℕ) : Type 0 where
@@ -23,6 +27,18 @@ pub record AreKept (o : Ontology) (lines : List Line) (said : List Conclusion) (
   pub tested : AreTested o lines said bad
   pub shown : AreShown o lines contradictory above types
 
+-- the answer tells whether the line follows from lines before it, whichever lines say these
+abbrev pub TellsDerived : Ontology → List Conclusion → Line → Bool → Type 0
+TellsDerived o said line follows = (before : List Line) → said ≡ said_by before → IsTrue follows ↔ IsDerived o before line
+
+-- this is what is kept of the lines
+abbrev pub AreKeptIn : TestedLines → Ontology → List Line → Type 0
+AreKeptIn kept o lines = AreKept o lines (map said_of kept.said.items) kept.bad kept.is_contradictory kept.above kept.types
+
+-- what is kept when all lines are read is what was kept while they were, but for what they say
+abbrev pub ShowsThose : TestedLines → ShownLines → Type 0
+ShowsThose kept shown = (shown.bad ≡ kept.bad) × (shown.is_contradictory ≡ kept.is_contradictory) × (shown.above ≡ kept.above) × (shown.types ≡ kept.types)
+
 -- the text is that of a certificate whose lines have this bad line, if there is one, and show this, and with this interpretation, if there is one
 pub record IsTested (o : Ontology) (text : List ℕ) (bad : Option ℕ) (contradictory : Bool) (above types : List (List ℕ)) (listed : Option Listed) : Type 0 where
   pub certificate : Certificate
@@ -31,7 +47,15 @@ pub record IsTested (o : Ontology) (text : List ℕ) (bad : Option ℕ) (contrad
   pub shown : AreShown o certificate.lines contradictory above types
   pub listed_is : listed ≡ certificate.listed
 
+-- this is what is kept of the certificate whose text it is
+abbrev pub IsTestedIn : Ontology → List ℕ → TestedCertificate → Type 0
+IsTestedIn o text c = IsTested o text c.lines.bad c.lines.is_contradictory c.lines.above c.lines.types (option_map listed_of c.listed)
+
+-- what speaks against it, whichever its lines are of which this is kept
+abbrev pub AgainstTested : Ontology → (taxonomy instances : List ℕ) → TestedCertificate → Option Reason → Type 0
+AgainstTested o t i c = AgainstShown o t i c.lines.is_contradictory c.lines.above c.lines.types (option_map listed_of c.listed)
+
 -- what reading a text answers: what is kept of the certificate whose text it is, or why it is that of none
 abbrev pub IsReading : Ontology → List ℕ → Result TestedCertificate CertFault → Type 0
-IsReading o text (Ok c) = IsTested o text c.lines.bad c.lines.is_contradictory c.lines.above c.lines.types (option_map listed_of c.listed)
+IsReading o text (Ok c) = IsTestedIn o text c
 IsReading o text (Err fault) = IsRefused fault o text

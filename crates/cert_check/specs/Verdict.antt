@@ -1,9 +1,11 @@
 -- What the checker's answers mean.
-use Rattle.std.specs.Prelude.{◌≡◌, ◌↔◌, ℕ, ◌<◌, ◌≤◌, List, Bool, IsTrue, length, slice_get, Some, None}
+use Rattle.std.specs.Prelude.{◌≡◌, ◌↔◌, ℕ, ◌<◌, ◌≤◌, List, Bool, IsTrue, MatchOption, length, slice_get, Some, None}
 use Rattle.std.specs.declared.option.Option.{Option}
 use Rattle.std.specs.List.{Contains}
 use Rattle.axioms.specs.Ontology.{Ontology, IsClassAt, axiom_trees, thing, nothing}
 use Rattle.axioms.specs.WellFormedness.{IsOntology}
+use Rattle.axioms.specs.declared.ids.ClassId.{ClassId}
+use Rattle.axioms.specs.declared.ids.IndId.{IndId}
 use Rattle.interpretation_spec.specs.NamedInterpretation.{IsFirstUnsatisfied}
 use Rattle.interpretation_spec.specs.Interpretation.{Interpretation, IsInterpretation, IsModel}
 use Rattle.certificate.specs.Certificate.{Expression, Individual, Conclusion, Sub, Edge, Line, Listed, Certificate}
@@ -30,6 +32,10 @@ IsContradiction (Edge x r y) = ⊥
 -- some line says so
 abbrev pub HasContradiction : List Line → Type 0
 HasContradiction lines = SomeLine lines IsContradiction
+
+-- the answer tells whether some line does
+abbrev pub TellsContradiction : Bool → List Line → Type 0
+TellsContradiction contradictory lines = IsTrue contradictory ↔ HasContradiction lines
 
 -- what speaks against a taxonomy text and an instances text, where these two would be right
 abbrev pub TextsAgainst : (taxonomy instances right_taxonomy right_instances : List ℕ) → Option Reason → Type 0
@@ -78,6 +84,14 @@ Each P = (n : ℕ) → P n
 abbrev pub IsFirstWithout : (ℕ → Type 0) → ℕ → Type 0
 IsFirstWithout P n = (P n → ⊥) × ((k : ℕ) → k < n → P k)
 
+-- the class found is the first without it, and where none is found each number has it
+abbrev pub IsFirstClassWithout : (ℕ → Type 0) → Option ClassId → Type 0
+IsFirstClassWithout P found = MatchOption found (Each P) (λ class. IsFirstWithout P class.0)
+
+-- the same of individuals
+abbrev pub IsFirstIndividualWithout : (ℕ → Type 0) → Option IndId → Type 0
+IsFirstIndividualWithout P found = MatchOption found (Each P) (λ individual. IsFirstWithout P individual.0)
+
 -- which of these, in this order, is the first that not all have, and the first number without it
 abbrev pub ClaimsAgainst : Ontology → Interpretation → List Line → Listed → Option Reason → Type 0
 ClaimsAgainst o i lines listed (Some (ClaimMissing c)) = IsFirstWithout (HasClaim o lines listed) c.0
@@ -121,7 +135,7 @@ pub record ConsistentAgainst (o : Ontology) (taxonomy instances : List ℕ) (lin
 -- what is kept of lines: whether they show a contradiction, and for each class and each individual the list of the classes that
 -- they put it into
 pub record AreShown (o : Ontology) (lines : List Line) (contradictory : Bool) (above types : List (List ℕ)) : Type 0 where
-  pub contradiction : IsTrue contradictory ↔ HasContradiction lines
+  pub contradiction : TellsContradiction contradictory lines
   pub superclasses : AreSuperclasses o (said_by lines) above
   pub members : AreTypes o (said_by lines) types
 
@@ -136,7 +150,7 @@ ConsistentAgainstShown o t i above types listed reason =
 
 -- what speaks against the texts where a derivation is to show a contradiction, for whichever lines show one, or do not
 abbrev pub ContradictionAgainstShown : (taxonomy instances : List ℕ) → Bool → Option Reason → Type 0
-ContradictionAgainstShown t i contradictory reason = (lines : List Line) → (IsTrue contradictory ↔ HasContradiction lines) → ContradictionAgainst t i lines reason
+ContradictionAgainstShown t i contradictory reason = (lines : List Line) → TellsContradiction contradictory lines → ContradictionAgainst t i lines reason
 
 -- what speaks against a certificate
 abbrev pub Against : Ontology → (taxonomy instances : List ℕ) → List Line → Option Listed → Option Reason → Type 0

@@ -3,13 +3,13 @@ ghost use Rattle.axioms.specs.Ontology.{axiom_trees};
 ghost use Rattle.cert_check.specs.Acceptance.{AreRight, IsAcceptable};
 ghost use Rattle.listed_model.specs.Listing.{IsListing};
 ghost use Rattle.cert_check.specs.Lists.{AreLists, ArePreorder};
-ghost use Rattle.cert_check.specs.Tests.{IsReading};
-ghost use Rattle.cert_check.specs.Verdict.{AgainstShown, ClaimsAgainstLists, ConsistentAgainstShown, ContradictionAgainstShown, HasDerivation, HasTrueLines, IsVerdict, PassesLines, RelationAgainstLists, TextsAgainst, verdict_of_reason};
+ghost use Rattle.cert_check.specs.Tests.{AgainstTested, IsReading};
+ghost use Rattle.cert_check.specs.Verdict.{ClaimsAgainstLists, ConsistentAgainstShown, ContradictionAgainstShown, HasDerivation, HasTrueLines, IsVerdict, PassesLines, RelationAgainstLists, TextsAgainst, verdict_of_reason};
 ghost use Rattle.certificate.specs.Writability.{IsListedOf};
 ghost use Rattle.certificate.specs.View.{listed_of};
 ghost use Rattle.interpretation_spec.specs.NamedInterpretation.{IsFirstUnsatisfied};
 ghost use Rattle.interpretation_spec.specs.Interpretation.{Interpretation, IsInterpretation, IsModel};
-ghost use Rattle.std.specs.Prelude.{◌↔◌, ◌≡◌, IfOk, IfSome, IsTrue, List, MatchOption, None, length, map, option_map, ℕ};
+ghost use Rattle.std.specs.Prelude.{◌↔◌, ◌≡◌, IfOk, IfSome, List, MatchOption, None, length, option_map, ℕ};
 ghost use Rattle.taxonomy.specs.Outcome.{IsMadeFor, instances_of, taxonomy_of};
 
 use crate::claims::{
@@ -114,7 +114,7 @@ fn against(
 ) -> Result<Option<Reason>, Memory>
     requires derived { HasDerivation ontology.now read.lines.is_contradictory read.lines.above read.lines.types }
     requires listed { IfSome (option_map listed_of read.listed) (IsListedOf ontology.now) }
-    ensures { IfOk result (AgainstShown ontology.now taxonomy.now instances.now read.lines.is_contradictory read.lines.above read.lines.types (option_map listed_of read.listed)) }
+    ensures { IfOk result (AgainstTested ontology.now taxonomy.now instances.now read) }
 {
     let TestedCertificate { lines, listed } = read;
     match listed {

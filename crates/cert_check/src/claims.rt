@@ -1,13 +1,12 @@
 //! Whether the classes that hold claimed elements, and the elements of individuals, are those that lines put above.
 ghost use Rattle.cert_check.specs.Additions.{ListsMember, thing_class};
-ghost use Rattle.cert_check.specs.Lists.{AddsNumbers, AreClaimed, AreElementClasses, AreLists, ClaimAgrees, ElementAgrees, IsClaimed, IsInExactly, has_number};
+ghost use Rattle.cert_check.specs.Lists.{AddsNumbers, AreClaimed, AreElementClasses, ClaimAgrees, ElementAgrees, IsClaimed, IsInExactly, has_number};
 ghost use Rattle.taxonomy.specs.Relation.{is_listed};
-ghost use Rattle.cert_check.specs.Verdict.{Each, IsFirstWithout};
+ghost use Rattle.cert_check.specs.Verdict.{IsFirstClassWithout, IsFirstIndividualWithout};
 ghost use Rattle.certificate.specs.Writability.{Ascends};
 ghost use Rattle.certificate.specs.View.{claim_of, class_row_of};
 ghost use Rattle.number_sets.specs.Members.{has};
-ghost use Rattle.number_sets.specs.Pieces.{list_at};
-ghost use Rattle.std.specs.Prelude.{◌↔◌, ◌<◌, ◌≤◌, ◌^◌, ◌≡◌, ◌⊎◌, ◌∷◌, [], IfOk, IsTrue, MatchOption, OnOk, Some, length, map, replicate, slice_get, true, ℕ};
+ghost use Rattle.std.specs.Prelude.{◌↔◌, ◌<◌, ◌≤◌, ◌^◌, ◌≡◌, ◌⊎◌, IfOk, IsTrue, OnOk, Some, length, map, true, ℕ};
 ghost use Rattle.taxonomy.specs.Texts.{nothing_class};
 
 use axioms::{ClassId, IndId, Memory, Ontology};
@@ -86,7 +85,7 @@ fn is_claimed(above: &[u32], claim: Option<u32>) -> bool
 pub(crate) fn first_unclaimed(above: &PackedLists, claimed: &[Option<u32>]) -> Option<ClassId>
     requires claimed { length claimed.now ≡ length above.now }
     requires few { length above.now ≤ 2 ^ 32 }
-    ensures { MatchOption result (Each (IsClaimed above.now claimed.now)) (λ class. IsFirstWithout (IsClaimed above.now claimed.now) class.0) }
+    ensures { IsFirstClassWithout (IsClaimed above.now claimed.now) result }
 {
     for class in 0..above.len() {
         if !is_claimed(above.at(class), claimed[class]) {
@@ -173,7 +172,7 @@ pub(crate) fn first_disagreeing_class(
     requires above { (c n : ℕ) → is_listed above.now c n ≡ true → n < length set.old }
     requires holding { (x n : ℕ) → is_listed holding.now x n ≡ true → n < length set.old }
     ensures long { length set.new ≡ length set.old }
-    ensures each { MatchOption result (Each (ClaimAgrees above.now claimed.now holding.now)) (λ class. IsFirstWithout (ClaimAgrees above.now claimed.now holding.now) class.0) }
+    ensures each { IsFirstClassWithout (ClaimAgrees above.now claimed.now holding.now) result }
 {
     for class in 0..above.len() {
         if !agrees(set, holding, class as u32, claimed[class], above.at(class)) {
@@ -194,7 +193,7 @@ pub(crate) fn first_disagreeing_individual(
     requires few { length types.now ≤ 2 ^ 32 }
     requires types { (a n : ℕ) → is_listed types.now a n ≡ true → n < length set.old }
     requires holding { (x n : ℕ) → is_listed holding.now x n ≡ true → n < length set.old }
-    ensures { MatchOption result (Each (ElementAgrees types.now elements.now holding.now)) (λ individual. IsFirstWithout (ElementAgrees types.now elements.now holding.now) individual.0) }
+    ensures { IsFirstIndividualWithout (ElementAgrees types.now elements.now holding.now) result }
 {
     for individual in 0..types.len() {
         let held = holding.at(elements[individual] as usize);

@@ -1,15 +1,14 @@
 //! Whether the lines of a certificate are a derivation, while they are read.
 ghost use Rattle.axioms.specs.View.{at_number, axiom_of};
-ghost use Rattle.cert_check.specs.Derivation.{IsDerived, at_numbers, axiom_at};
-ghost use Rattle.cert_check.specs.Lists.{said_by};
-ghost use Rattle.cert_check.specs.Tests.{AreKept, AreTested, IsTested};
-ghost use Rattle.cert_check.specs.Verdict.{HasContradiction, IsContradiction};
+ghost use Rattle.cert_check.specs.Derivation.{at_numbers, axiom_at};
+ghost use Rattle.cert_check.specs.Tests.{AreKeptIn, AreTested, IsTestedIn, ShowsThose, TellsDerived};
+ghost use Rattle.cert_check.specs.Verdict.{IsContradiction, TellsContradiction};
 ghost use Rattle.cert_check.specs.View.{said_of};
 ghost use Rattle.certificate.specs.Certificate as spec;
 ghost use Rattle.certificate.specs.Writability.{IsLineOf};
 ghost use Rattle.certificate.specs.Outcome.{IsRefused};
 ghost use Rattle.certificate.specs.Rest.{with_lines};
-ghost use Rattle.certificate.specs.View.{conclusion_of, line_of, listed_of};
+ghost use Rattle.certificate.specs.View.{conclusion_of, line_of};
 ghost use Rattle.std.specs.Prelude.{◌↔◌, ◌≡◌, ◌++◌, ◌∷◌, [], List, IfErr, IfOk, IsTrue, None, OnOk, Some, if◌then◌else◌, map, option_map, slice_get};
 
 use crate::rules::follows;
@@ -102,7 +101,7 @@ fn is_derived(
     line: &Line,
 ) -> Result<bool, Memory>
     requires { IsLineOf ontology.now (line_of line.now) }
-    ensures { IfOk result (λ yes. (before : List spec.Line) → map said_of said.now ≡ said_by before → IsTrue yes ↔ IsDerived ontology.now before (line_of line.now)) }
+    ensures { IfOk result (TellsDerived ontology.now (map said_of said.now) (line_of line.now)) }
 {
     if !gather(premises, said, &line.premises)? {
         return Ok(false);
@@ -146,7 +145,7 @@ impl TestedLines {
 
     // Whether a line is a contradiction, with this line behind the others.
     fn is_contradictory_with(&self, line: &Line) -> bool
-        ensures { (lines : List spec.Line) → (IsTrue self.now.is_contradictory ↔ HasContradiction lines) → (IsTrue result ↔ HasContradiction (lines ++ line_of line.now ∷ [])) }
+        ensures { (lines : List spec.Line) → TellsContradiction self.now.is_contradictory lines → TellsContradiction result (lines ++ line_of line.now ∷ []) }
     {
         self.is_contradictory || is_contradiction(line.conclusion)
     }
@@ -159,8 +158,7 @@ impl TestedLines {
         line: &Line,
     ) -> Result<(), Memory>
         requires { IsLineOf ontology.now (line_of line.now) }
-        ensures { OnOk result ((lines : List spec.Line) → AreKept ontology.now lines (map said_of self.old.said.items) self.old.bad self.old.is_contradictory self.old.above self.old.types
-            → AreKept ontology.now (lines ++ line_of line.now ∷ []) (map said_of self.new.said.items) self.new.bad self.new.is_contradictory self.new.above self.new.types) }
+        ensures { OnOk result ((lines : List spec.Line) → AreKeptIn self.old ontology.now lines → AreKeptIn self.new ontology.now (lines ++ line_of line.now ∷ [])) }
     {
         self.bad = self.first_bad_with(ontology, premises, line)?;
         self.is_contradictory = self.is_contradictory_with(line);
@@ -172,7 +170,7 @@ impl TestedLines {
 
     // What is kept of the lines when all are read.
     fn shown(self, alloc: Global) -> Result<ShownLines, Memory>
-        ensures { IfOk result (λ l. (l.bad ≡ self.bad) × (l.is_contradictory ≡ self.is_contradictory) × (l.above ≡ self.above) × (l.types ≡ self.types)) }
+        ensures { IfOk result (ShowsThose self) }
     {
         drop(self.said);
         let above = self.above.packed(alloc)?;
@@ -189,7 +187,7 @@ impl TestedLines {
 
 // What is kept of no lines.
 fn no_lines(alloc: Global, ontology: &Ontology) -> Result<TestedLines, Memory>
-    ensures { IfOk result (λ t. AreKept ontology.now [] (map said_of t.said.items) t.bad t.is_contradictory t.above t.types) }
+    ensures { IfOk result (λ tested. AreKeptIn tested ontology.now []) }
 {
     let above = OpenLists::new(alloc, ontology.classes().len())?;
     let types = OpenLists::new(alloc, ontology.individuals().len())?;
@@ -209,8 +207,7 @@ fn tested_lines(
     reader: &mut LineReader,
 ) -> Result<TestedLines, Memory>
     requires { reader.old.ontology ≡ ontology.now }
-    ensures { IfOk result (λ tested. (lines : List spec.Line) × (reader.old ≡ with_lines lines reader.new) × (reader.new.lines ≡ [])
-        × AreKept ontology.now lines (map said_of tested.said.items) tested.bad tested.is_contradictory tested.above tested.types) }
+    ensures { IfOk result (λ tested. (lines : List spec.Line) × (reader.old ≡ with_lines lines reader.new) × (reader.new.lines ≡ []) × AreKeptIn tested ontology.now lines) }
 {
     let mut tested = no_lines(alloc, ontology)?;
     let mut premises = Vec::new(alloc);
@@ -231,7 +228,7 @@ pub(crate) fn tested_certificate(
     ontology: &Ontology,
     text: &[u8],
 ) -> Result<TestedCertificate, CertFault>
-    ensures tested { IfOk result (λ c. IsTested ontology.now text.now c.lines.bad c.lines.is_contradictory c.lines.above c.lines.types (option_map listed_of c.listed)) }
+    ensures tested { IfOk result (IsTestedIn ontology.now text.now) }
     ensures refused { IfErr result (λ fault. IsRefused fault ontology.now text.now) }
 {
     let mut reader = LineReader::new(ontology, text)?;

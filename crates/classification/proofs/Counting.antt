@@ -1,41 +1,21 @@
 -- The facts of a saturation are as many as those of the closure.
-use Rattle.std.proofs.Common.{◌≡◌, ◌↔◌, ℕ, ◌<◌, Bool, true, length, slice_get, Some, Contains, List, [], sym, ap, ap₂, ◌∙◌, subst}
+use Rattle.std.proofs.Common.{◌≡◌, ◌↔◌, ℕ, ◌<◌, Bool, true, length, slice_get, Some, Contains, List, [], sym, ap, ◌∙◌, subst}
 use Rattle.std.proofs.lemmas.Option.{same_Some, slice_get_within}
 use Rattle.lemmas.proofs.Members.{Contains-from_slice_get, slice_get-from_Contains}
 use Rattle.lemmas.proofs.Places.{slice_get_there}
 use Rattle.axioms.specs.Ontology.{Ontology, axiom_trees}
 use Rattle.axioms.specs.WellFormedness.{AreDistinct}
-use Rattle.closure.specs.Closure.{Context, Expression, Individual, Fact, In, Edge, IsFact}
-use Rattle.closure.specs.Denotations.{Prefixes, SaysClass, whole, prefix, SaysProperty, property, steps, SaysContext, expression, individual, SaysFact, in_context, edge, IsProblemOf}
+use Rattle.closure.specs.Closure.{Fact, IsFact}
+use Rattle.closure.specs.Denotations.{Prefixes, SaysFact, IsProblemOf}
 use Rattle.engine.specs.Saturations.{Saturated, IsSaturated, SayTheClosure}
-use Rattle.engine.proofs.Saying.{fact_same, AreSaid, all_said}
+use Rattle.closure.proofs.Names.{fact_one, fact_same}
+use Rattle.engine.proofs.Saying.{AreSaid, all_said}
 use Rattle.facts.specs.Closure.{Problem}
-use Rattle.facts.specs.declared.contexts.Context as code_context
 use Rattle.facts.specs.declared.contexts.Fact as code_fact
 use Rattle.interpretation_spec.specs.Interpretation.{IsContradictory}
-use Rattle.normal_forms.specs.declared.forms.Class2 as code_class
-use Rattle.normal_forms.specs.declared.forms.PropId2 as code_property
-use Rattle.normal_forms.specs.Forms.{Class2, Whole, Prefix, Property2, Property, Steps}
 use Rattle.normalise.specs.Problem.{prefixes_of}
 use Rattle.classification.specs.Classifications.{HasFacts, AreCountsOf}
 use Rattle.classification.specs.declared.classification.Summary.{Summary}
-
-class_one : {b : Prefixes} {a : code_class.Class2} {c d : Class2} → SaysClass b a c → SaysClass b a d → c ≡ d
-class_one (whole h) (whole k) = ap Whole (sym h ∙ k)
-class_one (prefix {ds = ds} h) (prefix {ds = es} k) = ap Prefix (same_Some ds es (sym h ∙ k))
-
-property_one : {b : Prefixes} {p : code_property.PropId2} {r s : Property2} → SaysProperty b p r → SaysProperty b p s → r ≡ s
-property_one (property h) (property k) = ap Property (sym h ∙ k)
-property_one (steps {rs = rs} h) (steps {rs = ss} k) = ap Steps (same_Some rs ss (sym h ∙ k))
-
-context_one : {x : code_context.Context} {y z : Context} → SaysContext x y → SaysContext x z → y ≡ z
-context_one (expression h) (expression k) = ap Expression (sym h ∙ k)
-context_one (individual h) (individual k) = ap Individual (sym h ∙ k)
-
--- a fact over numbers says one fact
-fact_one : {b : Prefixes} {f : code_fact.Fact} {g h : Fact} → SaysFact b f g → SaysFact b f h → g ≡ h
-fact_one (in_context a x) (in_context c y) = ap₂ In (class_one a c) (context_one x y)
-fact_one (edge x p z) (edge y q u) = ap₂ (λ v (w : Property2 × Context). Edge v w.0 w.1) (context_one x y) (ap₂ (λ r v. (r, v)) (property_one p q) (context_one z u))
 
 module _ (o : Ontology) (b : Prefixes) (k : Problem) (problem : IsProblemOf o [] b k) (fs : List code_fact.Fact) (distinct : AreDistinct fs) (h : SayTheClosure o b fs) where
   -- what is said at one place is one fact
@@ -56,7 +36,7 @@ module _ (o : Ontology) (b : Prefixes) (k : Problem) (problem : IsProblemOf o []
   apart gs are m n g at at' =
       let (f, there, says, _) = are.1 m g at in
       let (f', there', says', _) = are.1 n g at' in
-      distinct m n f there (there' ∙ ap Some (fact_same o b k problem says' says))
+      distinct m n f there (there' ∙ ap Some (fact_same problem says' says))
 
   is_fact : (gs : List Fact) → AreSaid o b k problem fs gs → (g : Fact) → Contains gs g → IsFact o [] g
   is_fact gs are g there = let (n, at) = slice_get-from_Contains gs g there in (are.1 n g at).3

@@ -3,9 +3,11 @@
 
 mod classification;
 mod consistent;
+mod pairs;
 mod relation;
 mod types;
 
 pub use classification::{Classification, Summary, classified, classify};
 pub use consistent::is_consistent;
 pub use engine::Stop;
+pub use pairs::{class_pair, type_pair};

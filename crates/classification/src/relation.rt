@@ -1,30 +1,15 @@
 //! Which named classes lie below which.
 ghost use Rattle.classification.specs.Lists.{Adds, AreClassLists, IsTaxonomyOf, PutsBelow};
 ghost use Rattle.engine.specs.Saturations.{IsSaturated};
-ghost use Rattle.std.specs.Prelude.{◌<◌, ◌≡◌, IfOk, MatchOption, OnOk, length, ℕ};
+ghost use Rattle.std.specs.Prelude.{◌≡◌, IfOk, OnOk, length};
 
-use axioms::{ClassId, Memory, Ontology};
+use crate::pairs::class_pair;
+use axioms::{Memory, Ontology};
 use engine::Saturation;
-use facts::{Context, Fact, StoredFact};
-use normal_forms::Class2;
+use facts::StoredFact;
 use number_sets::{OpenLists, PackedLists};
 use std::alloc::Global;
 use taxonomy::{Relation, Taxonomy, reduce};
-
-/// The class that the fact is about, and the class that it puts above it.
-fn class_pair(ontology: &Ontology, fact: &StoredFact) -> Option<(ClassId, ClassId)>
-    ensures { MatchOption result ((c d : ℕ) → PutsBelow ontology.now fact.now c d → ⊥)
-        (λ p. PutsBelow ontology.now fact.now p.0.0 p.1.0 × (p.0.0 < length ontology.now.names.classes)) }
-{
-    match fact.get() {
-        Fact::In(Class2::Expr(above), Context::Expr(expression)) => {
-            let class = ontology.class_of(expression)?;
-            let above = ontology.class_of(above)?;
-            Some((class, above))
-        }
-        _ => None,
-    }
-}
 
 /// Adds the class that the fact puts above a class.
 fn put_below(ontology: &Ontology, lists: &mut OpenLists, fact: &StoredFact) -> Result<(), Memory>

@@ -1,28 +1,14 @@
 //! Which individuals belong to which named classes.
 ghost use Rattle.classification.specs.Lists.{Adds, AreTypeLists, AreTypesOf, IsAboutIndividualOf, PutsInto};
 ghost use Rattle.engine.specs.Saturations.{IsSaturated};
-ghost use Rattle.std.specs.Prelude.{◌≡◌, All, IfOk, MatchOption, OnOk, length, ℕ};
+ghost use Rattle.std.specs.Prelude.{◌≡◌, All, IfOk, OnOk, length};
 
-use axioms::{ClassId, IndId, Memory, Ontology};
+use crate::pairs::type_pair;
+use axioms::{Memory, Ontology};
 use engine::Saturation;
-use facts::{Context, Fact, StoredFact};
-use normal_forms::Class2;
+use facts::StoredFact;
 use number_sets::{OpenLists, PackedLists};
 use std::alloc::Global;
-
-/// The individual that the fact is about, and the class that it puts it into.
-fn type_pair(ontology: &Ontology, fact: &StoredFact) -> Option<(IndId, ClassId)>
-    ensures { MatchOption result ((a d : ℕ) → PutsInto ontology.now fact.now a d → ⊥)
-        (λ p. PutsInto ontology.now fact.now p.0.0 p.1.0) }
-{
-    match fact.get() {
-        Fact::In(Class2::Expr(class), Context::Individual(individual)) => {
-            let class = ontology.class_of(class)?;
-            Some((individual, class))
-        }
-        _ => None,
-    }
-}
 
 /// Adds the class that the fact puts an individual into.
 fn put_into(ontology: &Ontology, lists: &mut OpenLists, fact: &StoredFact) -> Result<(), Memory>

@@ -1,12 +1,12 @@
 -- Lines with the closure's facts, its listed interpretation and the texts of its relations are acceptable.
-use Rattle.std.proofs.Common.{◌≡◌, ◌↔◌, ℕ, ◌<◌, ◌⊎◌, Bool, true, false, inl, inr, List, [], length, get_or, slice_get, Some, None, Option, All, Contains, refl, sym, subst}
+use Rattle.std.proofs.Common.{◌≡◌, ℕ, ◌<◌, ◌⊎◌, Bool, true, false, inl, inr, List, [], length, get_or, slice_get, Some, None, Option, All, Contains, refl, subst}
 use Rattle.std.specs.Prelude.{IfSome, MatchOption}
 use Rattle.std.proofs.lemmas.List.Elements.{All-nil}
 use Rattle.std.proofs.lemmas.Option.{slice_get_within, slice_get-get_or}
 use Rattle.lemmas.proofs.Members.{Contains-from_slice_get}
-use Rattle.axioms.specs.Ontology.{Ontology, IsClassAt, nothing, individual_name, expression, axiom_trees}
+use Rattle.axioms.specs.Ontology.{Ontology, IsClassAt, nothing, individual_name, expression}
 use Rattle.axioms.specs.WellFormedness.{IsOntology}
-use Rattle.interpretation_spec.specs.Interpretation.{Interpretation, IsIn}
+use Rattle.interpretation_spec.specs.Interpretation.{IsIn}
 use Rattle.certificate.specs.Certificate.{Sub, Line, Listed, Certificate}
 use Rattle.certificate.specs.Certificate as line
 use Rattle.certificate.specs.Writability.{IsTextOf, IsListedOf}
@@ -15,10 +15,10 @@ use Rattle.cert_check.specs.Acceptance.{Agrees, ClaimHolds, LiesBelow, Belongs, 
 use Rattle.normal_forms.specs.Forms.{Whole}
 use Rattle.closure.specs.Closure.{Context, Expression, Individual, In, IsRoot, IsFact}
 use Rattle.closure.proofs.Facts as fact
-use Rattle.exactness.specs.ListedInterpretation.{IsSatisfiable, IsListedInterpretation, IsConsistent}
+use Rattle.exactness.specs.ListedInterpretation.{IsSatisfiable}
 use Rattle.exactness.specs.ListedTheorems.{AreAsked}
 use Rattle.exactness.proofs.Complete.{listed_is_model, answered, individual_at}
-use Rattle.exactness.specs.Acceptance.{AreClaims, AreRelations, AreTextsOfClosure, IsListedFor, ShowsClosure}
+use Rattle.exactness.specs.Acceptance.{AreRelations, AreTextsOfClosure, IsListedFor, ShowsClosure}
 use Rattle.exactness.specs.Theorems.{HaveFacts}
 use Rattle.exactness.proofs.Exact.{meets_claims}
 

@@ -40,7 +40,7 @@ irreflexive (Expression e) h = omega arith
 irreflexive (Individual a) h = omega arith
 
 -- no context stands twice in a list that ascends
-one_place : (elements : List Context) → AllPairs IsBefore elements → (m n : ℕ) (x : Context) → slice_get elements m ≡ Some x → slice_get elements n ≡ Some x → m ≡ n
+pub one_place : (elements : List Context) → AllPairs IsBefore elements → (m n : ℕ) (x : Context) → slice_get elements m ≡ Some x → slice_get elements n ≡ Some x → m ≡ n
 one_place elements ascend m n x at_m at_n = go (cases_order m n)
   where
     earlier : (m n : ℕ) → slice_get elements m ≡ Some x → slice_get elements n ≡ Some x → m < n → ⊥
@@ -191,10 +191,14 @@ same_elements (x ∷ xs) (y ∷ ys) up up' h k =
     ap₂ ◌∷◌ same (same_elements xs ys (tail_ascends x xs up) (tail_ascends y ys up')
     (tail_part x y xs ys same up h) (tail_part y x ys xs (sym same) up' k))
 
+-- two lists of the satisfiable contexts are the same
+pub contexts_determined : (o : Ontology) (asked : List ℕ) (xs ys : List Context) → AreSatisfiableContexts o asked xs → AreSatisfiableContexts o asked ys → xs ≡ ys
+contexts_determined o asked xs ys p q =
+    same_elements xs ys p.ascend q.ascend (λ m x h. q.listed x (p.satisfiable m x h)) (λ m x h. p.listed x (q.satisfiable m x h))
+
 pub elements_determined : (o : Ontology) (asked : List ℕ) (xs ys : List Context) (i j : Interpretation)
     → IsListedInterpretation o asked xs i → IsListedInterpretation o asked ys j → xs ≡ ys
-elements_determined o asked xs ys i j p q =
-    same_elements xs ys p.contexts.ascend q.contexts.ascend (λ m x h. q.contexts.listed x (p.contexts.satisfiable m x h)) (λ m x h. p.contexts.listed x (q.contexts.satisfiable m x h))
+elements_determined o asked xs ys i j p q = contexts_determined o asked xs ys p.contexts q.contexts
 
 pub listed_determined : (o : Ontology) (asked : List ℕ) (elements : List Context) (i j : Interpretation) → IsOntology o → IsConsistent o asked
     → IsListedInterpretation o asked elements i → IsListedInterpretation o asked elements j → AgreeOn o i j

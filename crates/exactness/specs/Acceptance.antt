@@ -1,6 +1,6 @@
 -- What makes texts acceptable: lines that have the closure's facts, the interpretation that it lists, and texts of its relations.
 use Rattle.std.specs.Prelude.{◌≡◌, ℕ, ◌<◌, ◌↔◌, ◌⊎◌, Bool, true, List, [], length, slice_get, Some, MatchOption}
-use Rattle.std.specs.List.{All, Contains}
+use Rattle.std.specs.List.{Contains}
 use Rattle.axioms.specs.Ontology.{Ontology, IsClassAt, nothing}
 use Rattle.axioms.specs.WellFormedness.{IsOntology}
 use Rattle.interpretation_spec.specs.Interpretation.{Interpretation}

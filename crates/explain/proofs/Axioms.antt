@@ -16,7 +16,7 @@ use Rattle.exactness.proofs.Derivable.{conclusions}
 use Rattle.explain.proofs.Prefixes.{take_one, at_first}
 use Rattle.explain.proofs.Births.{TakesByAxiom}
 use Rattle.explain.proofs.Conclusions.{class_shown, edge_shown, property_shown, showing_edge, one_shown, two_shown, both_conclude}
-use Rattle.explain.specs.AxiomRule.{axiom_rule}
+use Rattle.explain.specs.FormRule.{axiom_rule}
 use Rattle.explain.specs.Premises.{AreShowingEach, taken}
 use Rattle.explain.specs.LinesOfFacts.{AreShowing, steps_of}
 use Rattle.explain.specs.Step.{subject_in, said_by}

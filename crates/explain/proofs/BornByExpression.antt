@@ -1,8 +1,6 @@
 -- What gave a fact by the form of an expression.
-use Rattle.std.proofs.Common.{◌≡◌, ℕ, ◌<◌, List, [], ◌∷◌, map, length, slice_get, option_map, Option, Some, None, false, Contains, refl, sym, ap, ◌∙◌, subst, arith}
-use Rattle.std.proofs.lemmas.List.{length-map}
+use Rattle.std.proofs.Common.{◌≡◌, ℕ, ◌<◌, List, [], ◌∷◌, map, length, slice_get, option_map, Option, Some, None, false, Contains, refl, sym, ap, ◌∙◌, subst}
 use Rattle.std.proofs.lemmas.Option.{same_Some, none-some}
-use Rattle.lemmas.proofs.Places.{slice_get_there}
 use Rattle.axioms.specs.Ontology.{Ontology}
 use Rattle.axioms.specs.WellFormedness.{IsOntology}
 use Rattle.axioms.specs.declared.ids.ExprId.{ExprId}
@@ -10,10 +8,11 @@ use Rattle.certificate.specs.Certificate.{Line}
 use Rattle.engine.specs.Saturations.{Saturated, IsSaturated}
 use Rattle.explain.proofs.Births.{born_by, same_each, each_there, none_named}
 use Rattle.explain.proofs.ByExpression.{IsOfExpression, expression_kind, expression_leads, leads_to}
-use Rattle.explain.proofs.Within.{fact_within, form_said, form_there}
+use Rattle.explain.proofs.Within.{fact_within, form_said}
 use Rattle.explain.specs.OlderFacts.{rests_on, by_axiom, is_by_axiom, is_axiom}
 use Rattle.explain.specs.Premises.{AreShowingEach, LiftTo, taken}
-use Rattle.explain.specs.Step.{LeadTo, expression_rule}
+use Rattle.explain.specs.FormRule.{expression_rule}
+use Rattle.explain.specs.Step.{LeadTo}
 use Rattle.facts.specs.Births.{Reason}
 use Rattle.facts.specs.Closure.{Problem, Gives, in_thing, in_itself, by_form, unsatisfiable, loop, Concludes, IsLoop, condition}
 use Rattle.facts.specs.declared.contexts.Context.{Context}
@@ -103,8 +102,9 @@ is_by_expression e None h = absurd (none-some (origins.Expr e) h)
 is_by_expression e (Some entry) h = ap is_axiom (same_Some entry.origin (origins.Expr e) h)
 
 module _ (o : Ontology) (s : Saturated) (w : IsOntology o) (saturated : IsSaturated o s) (n : ℕ) (r : Reason) (born : slice_get s.state.births n ≡ Some r) (f : Fact) (there : slice_get s.state.facts n ≡ Some f) where
-  born_at : (m : ℕ) (e : ExprId) (form : Form) → r.form ≡ Some m → option_map origin_in (slice_get s.normal.entries m) ≡ Some (origins.Expr e) → slice_get (map form_in s.normal.entries) m ≡ Some form → IsBornByExpression o s r form f
-  born_at m e form place origin at_entries =
+  -- the fact is born by the expression
+  pub born_by_expression : (m : ℕ) (e : ExprId) (form : Form) → r.form ≡ Some m → option_map origin_in (slice_get s.normal.entries m) ≡ Some (origins.Expr e) → slice_get (map form_in s.normal.entries) m ≡ Some form → IsBornByExpression o s r form f
+  born_by_expression m e form place origin at_entries =
       let b = prefixes_of s.normal in
       let at = subst (λ (fs : List Form). slice_get fs m ≡ Some form) (sym saturated.forms) at_entries in
       let (g, says, given) = form_said o s.normal m form (origins.Expr e) saturated.normal at_entries origin in
@@ -119,22 +119,3 @@ module _ (o : Ontology) (s : Saturated) (w : IsOntology o) (saturated : IsSatura
         lead_to = λ lines numbers shown. leads_to o b s.state.problem lines numbers (expression_rule form) f (λ c e. fact_within o s n f c w saturated there e)
             (expression_leads o b s.state.problem lines numbers e form g says gives older f is.concludes (shown older at_older));
       }
-
-  module _ (m : ℕ) (e : ExprId) (place : r.form ≡ Some m) (given : (p : ℕ) × (r.form ≡ Some p) × (option_map origin_in (slice_get s.normal.entries p) ≡ Some (origins.Expr e))) where
-    origin : option_map origin_in (slice_get s.normal.entries m) ≡ Some (origins.Expr e)
-    origin =
-        let (p, is, at) = given in
-        subst (λ q. option_map origin_in (slice_get s.normal.entries q) ≡ Some (origins.Expr e)) (same_Some p m (sym is ∙ place)) at
-
-    within : m < length (map form_in s.normal.entries)
-    within = omega (arith, form_there s.normal.entries m (origins.Expr e) origin, length-map s.normal.entries form_in)
-
-    -- the fact is born by the expression, by a form that is read from the forms
-    pub born_by_expression : (read : List Form) (form : Form) → read ≡ map form_in s.normal.entries → slice_get read m ≡ Some form → IsBornByExpression o s r form f
-    born_by_expression read form is at = born_at m e form place origin (ap (λ (fs : List Form). slice_get fs m) (sym is) ∙ at)
-
-    pub rests_on_all : rests_on s.normal.entries r ≡ r.older
-    rests_on_all = let (form, at) = slice_get_there (map form_in s.normal.entries) m within in (born_at m e form place origin at).rests
-
-    pub older_there : (p : ℕ) → Contains r.older p → p < length s.state.facts
-    older_there = let (form, at) = slice_get_there (map form_in s.normal.entries) m within in (born_at m e form place origin at).there

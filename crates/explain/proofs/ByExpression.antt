@@ -18,7 +18,8 @@ use Rattle.explain.proofs.Prefixes.{take_one, at_first}
 use Rattle.explain.proofs.Conclusions.{class_shown, property_shown, showing_class, one_shown, two_shown, both_conclude}
 use Rattle.explain.specs.Premises.{AreShowingEach, taken}
 use Rattle.explain.specs.LinesOfFacts.{AreShowing, operands_of}
-use Rattle.explain.specs.Step.{subject_in, said_by, LeadTo, expression_rule}
+use Rattle.explain.specs.FormRule.{expression_rule}
+use Rattle.explain.specs.Step.{subject_in, said_by, LeadTo}
 use Rattle.facts.specs.Closure.{Problem, Concludes}
 use Rattle.facts.specs.declared.contexts.Context.{Context}
 use Rattle.facts.specs.declared.contexts.Fact.{Fact}
@@ -178,9 +179,6 @@ module _ (o : Ontology) (b : Prefixes) (k : Problem) (lines : List Line) (number
             });
         prefix = λ e. absurd (none-some c (sym e ∙ is));
       }
-
-pub same_rule : {o : Ontology} {b : Prefixes} {lines : List Line} {rule rule' : Rule} {axiom' : Option ℕ} {numbers : List ℕ} {f : Fact} → rule' ≡ rule → LeadTo o b lines rule axiom' numbers f → LeadTo o b lines rule' axiom' numbers f
-same_rule {o} {b} {lines} {axiom' = axiom'} {numbers = numbers} {f = f} is leads = subst (λ r. LeadTo o b lines r axiom' numbers f) (sym is) leads
 
 -- ---- the kinds of forms
 

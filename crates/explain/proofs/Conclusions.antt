@@ -7,7 +7,8 @@ use Rattle.certificate.specs.Certificate as line
 use Rattle.cert_check.specs.Derivation.{at_numbers}
 use Rattle.cert_check.specs.Lines.{IsWalk}
 use Rattle.closure.specs.Closure.{Context, Expression, Individual, Fact, In, Edge}
-use Rattle.closure.specs.Denotations.{Prefixes, SaysClass, whole, prefix, SaysProperty, property, steps, SaysContext, expression, individual, SaysFact, in_context, edge}
+use Rattle.closure.specs.Denotations.{Prefixes, SaysClass, whole, SaysProperty, property, SaysContext, expression, individual, SaysFact, in_context, edge}
+use Rattle.closure.proofs.Names.{class_one, property_one}
 use Rattle.exactness.proofs.Derivable.{conclusions}
 use Rattle.exactness.specs.Derivability.{subject_of}
 use Rattle.explain.proofs.Growing.{at_numbers_joined}
@@ -22,17 +23,9 @@ use Rattle.normal_forms.specs.declared.forms.Class2 as code_class
 use Rattle.normal_forms.specs.declared.forms.Class2.TheVariants as classes
 use Rattle.normal_forms.specs.declared.forms.PropId2 as code_property
 use Rattle.normal_forms.specs.declared.forms.PropId2.TheVariants as properties
-use Rattle.normal_forms.specs.Forms.{Class2, Whole, Prefix, Property2, Property, Steps}
+use Rattle.normal_forms.specs.Forms.{Class2, Property2, Property}
 
--- ---- what is said is one thing
-
-pub one_class : {b : Prefixes} {a : code_class.Class2} {c d : Class2} → SaysClass b a c → SaysClass b a d → c ≡ d
-one_class (whole h) (whole k) = ap Whole (sym h ∙ k)
-one_class (prefix h) (prefix k) = ap Prefix (same_Some _ _ (sym h ∙ k))
-
-pub one_property : {b : Prefixes} {p : code_property.PropId2} {r s : Property2} → SaysProperty b p r → SaysProperty b p s → r ≡ s
-one_property (property h) (property k) = ap Property (sym h ∙ k)
-one_property (steps h) (steps k) = ap Steps (same_Some _ _ (sym h ∙ k))
+-- ---- what is said of contexts
 
 pub said_subject : {x : code_context.Context} {y : Context} → SaysContext x y → subject_of y ≡ subject_in x
 said_subject (expression h) = ap line.Expression (sym h)
@@ -56,13 +49,13 @@ module _ {b : Prefixes} where
   class_says {c = c} {x = x} says _ (in_context {a' = d} {x' = y} s t) cs shown =
       shown
       ∙ ap (λ (z : Subject). map (Sub z) (operands_of d)) (said_subject t)
-      ∙ ap (λ (e : Class2). map (Sub (subject_in x)) (operands_of e)) (one_class s says)
+      ∙ ap (λ (e : Class2). map (Sub (subject_in x)) (operands_of e)) (class_one s says)
 
   edge_says : {r : code_property.PropId2} {s : Property2} {x y : code_context.Context} → SaysProperty b r s → (fact : Fact) → SaysFact b (facts.Edge x r y) fact → (cs : List Conclusion) → IsShownBy fact cs → IsWalk (subject_in x) (steps_of s) (subject_in y) cs
   edge_says {s = s} {x = x} {y = y} says _ (edge {x' = v} {y' = w} {r' = t} says_x says_r says_y) cs shown =
       subst (λ (z : Subject). IsWalk z (steps_of s) (subject_in y) cs) (said_subject says_x)
       (subst (λ (z : Subject). IsWalk (subject_of v) (steps_of s) z cs) (said_subject says_y)
-      (subst (λ (q : Property2). IsWalk (subject_of v) (steps_of q) (subject_of w) cs) (one_property says_r says) shown))
+      (subst (λ (q : Property2). IsWalk (subject_of v) (steps_of q) (subject_of w) cs) (property_one says_r says) shown))
 
   -- those of a class in a context put the subject into each operand
   pub class_shown : {lines : List Line} {ns : List ℕ} {a : code_class.Class2} {c : Class2} {x : code_context.Context} → SaysClass b a c → AreShowing b lines ns (facts.In a x) → at_numbers (conclusions lines) ns ≡ Some (map (Sub (subject_in x)) (operands_of c))

@@ -1,5 +1,6 @@
 -- What leads to a fact that no form gave: of a context, or owl:Nothing from the target of an edge.
 use Rattle.std.proofs.Common.{◌≡◌, ℕ, ◌<◌, List, [], ◌∷◌, ◌++◌, length, map, slice_get, get_or, Option, Some, None, Bool, true, false, ◌==◌, if◌then◌else◌, Contains, refl, sym, ap, ◌∙◌, subst, arith, eqb-true}
+use Rattle.std.proofs.lemmas.List.{length-map}
 use Rattle.std.proofs.lemmas.Option.{same_Some, none-some}
 use Rattle.lemmas.proofs.Members.{Contains-first, Contains-later}
 use Rattle.axioms.specs.Ontology.{Ontology}
@@ -26,7 +27,7 @@ use Rattle.explain.specs.LinesOfFacts.{AreShowing, steps_of}
 use Rattle.explain.specs.Step.{LeadTo, said_by, subject_in}
 use Rattle.explain.specs.Walks.{LeadsToNothing}
 use Rattle.facts.specs.Births.{Reason, numbers_of}
-use Rattle.facts.specs.Closure.{Problem, Gives, in_thing, in_itself, by_form, unsatisfiable, loop, CarriesBack, condition, nothing}
+use Rattle.facts.specs.Closure.{Problem, Gives, in_thing, in_itself, by_form, unsatisfiable, loop, CarriesBack, IsContextBy, condition, nothing}
 use Rattle.facts.specs.declared.births.Older as code_older
 use Rattle.facts.specs.declared.births.Older.TheVariants as older
 use Rattle.facts.specs.declared.births.FactId.{FactId}
@@ -99,6 +100,12 @@ lies_in o e x is = go (e.0 == 0) (eqb-true e.0 0)
     go true h = h refl
     go false h = is
 
+-- no two facts make a context
+not_of_two : (k : Problem) (older : List Fact) (x : Context) → IsContextBy k older x → length older ≡ 2 → ⊥
+not_of_two k [] x by two = absurd (omega arith)
+not_of_two k (g ∷ []) x by two = absurd (omega arith)
+not_of_two k (g ∷ h ∷ more) x by two = absurd by
+
 gives_of_context : (o : Ontology) (k : Problem) {c : ℕ} {place : Option ℕ} {older : List Fact} {f : Fact} → Gives k c place older f → place ≡ None → (c ≡ 8 → ⊥)
     → (d : Conclusion) × (said_by f ≡ Some d) × Follows o (context_rule f) [] None d
 gives_of_context o k (in_thing {x = x} by) e h = (Sub (subject_in x) 0, refl, refl)
@@ -113,6 +120,14 @@ condition_of_context k (in_itself by) e h = refl
 condition_of_context k (by_form n form at c) e h = absurd (none-some n (sym e))
 condition_of_context k (loop x n form at is by) e h = absurd (none-some n (sym e))
 condition_of_context k (unsatisfiable back) e h = absurd (h refl)
+
+-- two facts give one without a form only where owl:Nothing is carried
+two_carry : (k : Problem) {c : ℕ} {place : Option ℕ} {older : List Fact} {f : Fact} → Gives k c place older f → place ≡ None → length older ≡ 2 → c ≡ 8
+two_carry k {older = older} (in_thing {x = x} by) e two = absurd (not_of_two k older x by two)
+two_carry k {older = older} (in_itself {e = e'} by) e two = absurd (not_of_two k older (contexts.Expr e') by two)
+two_carry k (by_form n form at c) e two = absurd (none-some n (sym e))
+two_carry k (loop x n form at is by) e two = absurd (none-some n (sym e))
+two_carry k (unsatisfiable back) e two = refl
 
 -- an edge is shown by a walk
 walk_said : {b : Prefixes} {lines : List Line} {ns : List ℕ} {x y : Context} {r : PropId2} (g : definition.Fact) → SaysFact b (Edge x r y) g → AreShowing b lines ns (Edge x r y)
@@ -157,6 +172,12 @@ module _ (o : Ontology) (s : Saturated) (saturated : IsSaturated o s) (n : ℕ) 
   rests_on_none place other =
       let (older, at, gives) = born_by o s n r f saturated born there in
       subst (λ (c : ℕ). rests_on s.normal.entries (record r { condition = c }) ≡ []) (sym (condition_of_context s.state.problem gives place other)) refl
+
+  -- where no form gave it, it was carried if two facts gave it
+  pub two_are_carried : r.form ≡ None → (x y : ℕ) → r.older ≡ x ∷ y ∷ [] → r.condition ≡ 8
+  two_are_carried place x y two =
+      let (older, at, gives) = born_by o s n r f saturated born there in
+      two_carry s.state.problem gives place (let many : length r.older ≡ length older = sym (length-map r.older (slice_get s.state.facts)) ∙ ap length at ∙ length-map older Some in omega (arith, ap length two))
 
   -- where owl:Nothing was carried over an edge
   pub record IsCarried : Type 0 where

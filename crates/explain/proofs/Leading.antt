@@ -1,6 +1,6 @@
 -- What leads to a fact that the form of an axiom gave.
-use Rattle.std.proofs.Common.{◌≡◌, ℕ, ◌<◌, List, length, map, slice_get, get_or, option_map, Option, Some, sym, ap, ◌∙◌, subst}
-use Rattle.std.proofs.lemmas.Option.{same_Some, slice_get-get_or, slice_get_within}
+use Rattle.std.proofs.Common.{◌≡◌, ℕ, ◌<◌, List, length, map, slice_get, get_or, option_map, Some, sym, ap, ◌∙◌, subst}
+use Rattle.std.proofs.lemmas.Option.{same_Some, slice_get-get_or}
 use Rattle.lemmas.proofs.Mapped.{slice_get_map}
 use Rattle.lemmas.proofs.Places.{slice_get_there}
 use Rattle.axioms.specs.Ontology.{Ontology, Axiom}
@@ -14,7 +14,7 @@ use Rattle.engine.specs.Saturations.{Saturated, IsSaturated}
 use Rattle.explain.proofs.Axioms.{axiom_leads, Lead}
 use Rattle.explain.proofs.Births.{taken_by_axiom}
 use Rattle.explain.proofs.Within.{fact_within, axiom_number_within, form_said, form_there}
-use Rattle.explain.specs.AxiomRule.{axiom_rule}
+use Rattle.explain.specs.FormRule.{axiom_rule}
 use Rattle.explain.specs.OlderFacts.{rests_on}
 use Rattle.explain.specs.Premises.{AreShowingEach, taken}
 use Rattle.explain.specs.Step.{LeadTo, said_by}
@@ -29,10 +29,6 @@ use Rattle.normalise.specs.Entries.{form_in, origin_in}
 use Rattle.normalise.specs.declared.entries.Entry.{Entry}
 use Rattle.normalise.specs.Problem.{prefixes_of}
 
--- the origin of the form that a birth names
-pub origin_of_form : (entries : List Entry) (form : Option ℕ) (m : ℕ) (origin : Origin) → ((n : ℕ) × (form ≡ Some n) × (option_map origin_in (slice_get entries n) ≡ Some origin)) → form ≡ Some m → option_map origin_in (slice_get entries m) ≡ Some origin
-origin_of_form entries form m origin (n, at, by) here = ap (λ k. option_map origin_in (slice_get entries k)) (same_Some m n (sym here ∙ at)) ∙ by
-
 -- what is read in a list that is another
 pub read_in : {X : Type 0} (xs ys : List X) (n : ℕ) (d : X) → ys ≡ xs → n < length xs → slice_get xs n ≡ Some (get_or ys n d)
 read_in xs ys n d e l = slice_get-get_or xs n d l ∙ ap (λ zs. Some (get_or zs n d)) (sym e)
@@ -42,11 +38,6 @@ form_at : (entries : List Entry) (m : ℕ) (origin : Origin) → option_map orig
 form_at entries m origin by =
     let (entry, at) = slice_get_there entries m (form_there entries m origin by) in
     (entry.form, slice_get_map form_in entries m entry at)
-
-pub form_inside : (entries : List Entry) (m : ℕ) (origin : Origin) (ys : List Form) → option_map origin_in (slice_get entries m) ≡ Some origin → ys ≡ map form_in entries → m < length ys
-form_inside entries m origin ys by e =
-    let (form, at) = form_at entries m origin by in
-    subst (λ (fs : List Form). m < length fs) (sym e) (slice_get_within (map form_in entries) m form at)
 
 pub form_read : (o : Ontology) (s : Saturated) (m : ℕ) (ys : List Form) (form : Form) → IsSaturated o s → ys ≡ map form_in s.normal.entries → slice_get ys m ≡ Some form → slice_get s.state.problem.forms m ≡ Some form
 form_read o s m ys form saturated e at = ap (λ (fs : List Form). slice_get fs m) (saturated.forms ∙ sym e) ∙ at

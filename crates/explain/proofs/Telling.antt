@@ -7,7 +7,7 @@ use Rattle.axioms.specs.declared.ids.PropId.{PropId}
 use Rattle.normal_forms.specs.declared.forms.Form.{Form}
 use Rattle.normal_forms.specs.declared.forms.Form.TheVariants.{N5}
 use Rattle.number_sets.specs.Pieces.{list_at}
-use Rattle.property_closure.proofs.Members.{one_more_item}
+use Rattle.number_sets.proofs.Members.{one_more_item}
 use Rattle.explain.specs.declared.told.Told.{Told}
 use Rattle.explain.specs.Search.{as_id, Leads}
 

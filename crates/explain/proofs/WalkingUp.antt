@@ -1,9 +1,9 @@
 -- Ways back are paths, and what is kept of them.
-use Rattle.std.proofs.Common.{◌≡◌, ℕ, ◌+◌, ◌<◌, ◌≤◌, ◌⊎◌, inl, inr, List, [], ◌∷◌, ◌++◌, length, slice_get, Option, Some, None, refl, sym, ap, ◌∙◌, subst, arith}
+use Rattle.std.proofs.Common.{◌≡◌, ℕ, ◌≤◌, ◌⊎◌, inl, inr, List, [], ◌∷◌, ◌++◌, length, slice_get, Option, Some, None, refl, sym, ap, ◌∙◌, subst, arith}
 use Rattle.std.specs.List.{All}
 use Rattle.std.specs.Prelude.{reverse}
-use Rattle.std.proofs.lemmas.Bool.{cases_eq, cases_lt}
-use Rattle.std.proofs.lemmas.List.{reverse-append, get_or_past, get_or_push, get_or_append_left}
+use Rattle.std.proofs.lemmas.Bool.{cases_lt}
+use Rattle.std.proofs.lemmas.List.{reverse-append, get_or_past}
 use Rattle.std.proofs.lemmas.List.Elements.{All-contains}
 use Rattle.std.proofs.lemmas.Option.{none-some, same_Some}
 use Rattle.lemmas.proofs.Members.{Contains-from_slice_get, slice_get-from_Contains}
@@ -14,10 +14,10 @@ use Rattle.normal_forms.specs.declared.forms.PropId2.{PropId2}
 use Rattle.normal_forms.specs.declared.forms.PropId2.TheVariants.{Property}
 use Rattle.normal_forms.specs.Properties.{IsAtOrBelow, IsPropertyFormOf, same, step}
 use Rattle.number_sets.specs.Pieces.{list_at}
-use Rattle.explain.specs.declared.search.Reached.{Reached}
-use Rattle.explain.specs.declared.search.Way.{Way}
+use Rattle.explain.specs.declared.reached.Reached.{Reached}
+use Rattle.explain.specs.declared.reached.Way.{Way}
 use Rattle.explain.specs.Paths.{IsPath}
-use Rattle.explain.specs.Search.{as_id, AreAllReached, AreEarlier, AreLeadsWithin, AreReached, AreWays, HasNo, IsWay, Leads, StandsAt}
+use Rattle.explain.specs.Search.{AreAllReached, AreEarlier, AreLeadsWithin, AreReached, AreWays, HasNo, IsWay, Leads, StandsAt}
 
 pub earlier : (forms : List Form) (c : PropId) (found : List Reached) → AreWays forms c found → AreEarlier found
 earlier forms c found ways place r way g e =
@@ -94,12 +94,3 @@ kept_none forms lists p d list w is hidden apart below = elim (kept_at forms lis
 
 pub leads_within : (n m : ℕ) (forms : List Form) → All (IsPropertyFormOf n m) forms → AreLeadsWithin n forms
 leads_within n m forms all k r s g = All-contains (IsPropertyFormOf n m) forms (N5 r s) all (Contains-from_slice_get forms k (N5 r s) g)
-
--- one list more
-pub one_more_list : (forms : List Form) (k : ℕ) (lists : List (List Reached)) (list : List Reached) → length lists ≡ k → ((p : ℕ) → p < k → AreReached forms (as_id p) (list_at lists p)) → AreReached forms (as_id k) list
-    → (p : ℕ) → p < k + 1 → AreReached forms (as_id p) (list_at (lists ++ list ∷ []) p)
-one_more_list forms k lists list long each new p l = go (cases_eq p k)
-  where
-    go : (p ≡ k) ⊎ (p ≡ k → ⊥) → AreReached forms (as_id p) (list_at (lists ++ list ∷ []) p)
-    go (inl e) = subst (λ i. AreReached forms (as_id i) (list_at (lists ++ list ∷ []) i)) (sym e) (subst (AreReached forms (as_id k)) (sym (get_or_push lists list [] k long)) new)
-    go (inr apart) = subst (AreReached forms (as_id p)) (sym (get_or_append_left lists (list ∷ []) [] p (omega (arith, apart, long)))) (each p (omega (arith, apart)))

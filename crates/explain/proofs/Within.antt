@@ -10,8 +10,7 @@ use Rattle.certificate.specs.Certificate.{Conclusion, Sub}
 use Rattle.certificate.specs.Certificate as line
 use Rattle.certificate.specs.Writability.{IsConclusionOf, IsAxiomNumberOf}
 use Rattle.closure.specs.Closure.{Fact}
-use Rattle.closure.specs.Denotations as said
-use Rattle.closure.specs.Denotations.{Prefixes, whole, prefix, property, steps, SaysFact, in_context, edge, n1, n2, n3, n4, n5, n6, n7, n8, n9, SaysForm}
+use Rattle.closure.specs.Denotations.{Prefixes, whole, prefix, property, steps, SaysFact, in_context, edge, SaysForm}
 use Rattle.exactness.specs.Derivability.{FactIsDerivable}
 use Rattle.exactness.proofs.Facts.{fact_derivable}
 use Rattle.exactness.proofs.Rules.{derivable_within}
@@ -19,21 +18,16 @@ use Rattle.engine.specs.Saturations.{Saturated, IsSaturated}
 use Rattle.explain.proofs.Conclusions.{said_subject}
 use Rattle.explain.specs.Step.{subject_in, said_by}
 use Rattle.facts.specs.declared.contexts.Fact as code
-use Rattle.normal_forms.specs.declared.forms.Class2 as code_class
-use Rattle.normal_forms.specs.declared.forms.Class2.TheVariants as classes
-use Rattle.normal_forms.specs.declared.forms.PropId2 as code_property
-use Rattle.normal_forms.specs.declared.forms.PropId2.TheVariants as properties
 use Rattle.normal_forms.specs.declared.forms.Form as code_form
-use Rattle.normal_forms.specs.declared.forms.Form.TheVariants as forms
 use Rattle.normal_forms.specs.declared.forms.Origin.{Origin}
-use Rattle.normal_forms.specs.Forms.{Class2, Property2, Form}
+use Rattle.normal_forms.specs.Forms.{Form}
 use Rattle.normal_forms.specs.Origins.{GivenBy}
 use Rattle.normalise.specs.Entries.{form_in, origin_in}
 use Rattle.normalise.specs.Growth.{IsNormalFor}
 use Rattle.normalise.specs.Listing.{Listing}
-use Rattle.normalise.specs.View.{SaysClass, SaysProperty, Says}
 use Rattle.normalise.specs.declared.entries.Entry.{Entry}
 use Rattle.normalise.specs.Problem.{prefixes_of}
+use Rattle.normalise.proofs.ProblemForms.{says_form}
 
 -- ---- conclusions
 
@@ -56,26 +50,6 @@ axiom_number_within o zero a at = absurd (none-some a at)
 axiom_number_within o (suc n) a at = let l : n < length o.axioms = slice_get_within o.axioms n a at in (omega arith, omega arith)
 
 -- ---- forms
-
-module _ (b : Prefixes) where
-  says_class : (a : code_class.Class2) (c : Class2) → SaysClass b.operands a c → said.SaysClass b a c
-  says_class (classes.Expr e) c is = subst (said.SaysClass b (classes.Expr e)) (sym is) (whole refl)
-  says_class (classes.Partial n) c (ds, at, is) = subst (said.SaysClass b (classes.Partial n)) (sym is) (prefix at)
-
-  says_property : (p : code_property.PropId2) (q : Property2) → SaysProperty b.steps p q → said.SaysProperty b p q
-  says_property (properties.Property p) q is = subst (said.SaysProperty b (properties.Property p)) (sym is) (property refl)
-  says_property (properties.Partial n) q (rs, at, is) = subst (said.SaysProperty b (properties.Partial n)) (sym is) (steps at)
-
-  says_form : (f : code_form.Form) (g : Form) → Says b.operands b.steps f g → SaysForm b f g
-  says_form (forms.N1 a c) g (x, y, sx, sy, is) = subst (SaysForm b (forms.N1 a c)) (sym is) (n1 (says_class a x sx) (says_class c y sy))
-  says_form (forms.N2 a c d) g (x, y, z, sx, sy, sz, is) = subst (SaysForm b (forms.N2 a c d)) (sym is) (n2 (says_class a x sx) (says_class c y sy) (says_class d z sz))
-  says_form (forms.N3 a r e) g (x, sx, is) = subst (SaysForm b (forms.N3 a r e)) (sym is) (n3 (says_class a x sx) refl refl)
-  says_form (forms.N4 r a c) g (x, y, sx, sy, is) = subst (SaysForm b (forms.N4 r a c)) (sym is) (n4 refl (says_class a x sx) (says_class c y sy))
-  says_form (forms.N5 r s) g is = subst (SaysForm b (forms.N5 r s)) (sym is) (n5 refl refl)
-  says_form (forms.N6 p q r) g (x, y, z, sx, sy, sz, is) = subst (SaysForm b (forms.N6 p q r)) (sym is) (n6 (says_property p x sx) (says_property q y sy) (says_property r z sz))
-  says_form (forms.N7 r) g is = subst (SaysForm b (forms.N7 r)) (sym is) (n7 refl)
-  says_form (forms.N8 i a) g (x, sx, is) = subst (SaysForm b (forms.N8 i a)) (sym is) (n8 refl (says_class a x sx))
-  says_form (forms.N9 i r j) g is = subst (SaysForm b (forms.N9 i r j)) (sym is) (n9 refl refl refl)
 
 -- where a form has an origin, it is there
 pub form_there : (entries : List Entry) (n : ℕ) (origin : Origin) → option_map origin_in (slice_get entries n) ≡ Some origin → n < length entries

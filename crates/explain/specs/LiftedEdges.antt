@@ -1,5 +1,6 @@
 -- Edges lifted by plain property forms.
-use Rattle.std.specs.Prelude.{◌≡◌, ℕ, List, slice_get, Some}
+use Rattle.std.specs.Prelude.{◌≡◌, ℕ, List, Option, MatchOption, slice_get, Some}
+use Rattle.std.specs.Global.{Vec}
 use Rattle.axioms.specs.declared.ids.PropId.{PropId}
 use Rattle.certificate.specs.Certificate.{Line}
 use Rattle.engine.specs.Saturations.{Saturated}
@@ -20,3 +21,12 @@ GivesStep v form r s n = slice_get v.entries form ≡ Some (record { form = N5 r
 pub record LiftsEdgeTo (s : Saturated) (lines : List Line) (numbers : List ℕ) (source target : Context) (form : ℕ) (below above : PropId) : Type 0 where
   pub leads : slice_get s.state.problem.forms form ≡ Some (N5 below above)
   pub shown : AreShowing (prefixes_of s.normal) lines numbers (Edge source (Property below) target)
+
+-- the property that the form of that number leads to, and the number of the axiom that gave it, where it leads from one property to another
+abbrev pub IsStepOf : Listing → ℕ → Option (PropId × ℕ) → Type 0
+IsStepOf v form found = MatchOption found ((r s : PropId) (n : ℕ) → GivesStep v form r s n → ⊥) (λ step. (r : PropId) × GivesStep v form r step.0 step.1)
+
+-- the new lines of the shown numbers show the edge lifted by the form, where the old lines of these numbers show it
+abbrev pub ShowsLedOn : Saturated → (old new : List Line) → List ℕ → (source target : Context) → ℕ → Vec ℕ → Type 0
+ShowsLedOn s old new numbers source target form shown =
+    (below above : PropId) → LiftsEdgeTo s old numbers source target form below above → AreShowing (prefixes_of s.normal) new shown.items (Edge source (Property above) target)

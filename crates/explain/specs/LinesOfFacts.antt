@@ -33,6 +33,10 @@ pub record AreShowing (b : Prefixes) (lines : List Line) (numbers : List ℕ) (f
   pub at : at_numbers (map (λ l. l.conclusion) lines) numbers ≡ Some conclusions
   pub shown : IsShownBy fact conclusions
 
+-- they show what the fact of a saturation says
+abbrev pub AreShowingIn : Saturated → List Line → List ℕ → code.Fact → Type 0
+AreShowingIn s lines numbers f = AreShowing (prefixes_of s.normal) lines numbers f
+
 -- the lines of these numbers show the fact of that number
 abbrev pub ShowsFact : Saturated → List Line → ℕ → List ℕ → Type 0
 ShowsFact s lines fact numbers = (f : code.Fact) → slice_get s.state.facts fact ≡ Some f → AreShowing (prefixes_of s.normal) lines numbers f

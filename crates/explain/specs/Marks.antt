@@ -45,6 +45,10 @@ IsContradictoryFact o (facts.Edge x r y) = ⊥
 abbrev pub IsMarked : List Bool → ℕ → Type 0
 IsMarked marks n = slice_get marks n ≡ Some true
 
+-- some fact is marked, where one is a contradiction
+abbrev pub MarksContradiction : Ontology → List Fact → List Bool → Type 0
+MarksContradiction o facts marks = (n : ℕ) (f : Fact) → slice_get facts n ≡ Some f → IsContradictoryFact o f → (m : ℕ) × IsMarked marks m
+
 -- what the line of a marked fact rests on is marked
 abbrev pub AreClosed : Saturated → List Bool → Type 0
 AreClosed s marks = (n m : ℕ) → IsMarked marks n → RestsOn s n m → IsMarked marks m

@@ -1,5 +1,5 @@
 -- Which older facts the line of a fact rests on.
-use Rattle.std.specs.Prelude.{◌≡◌, ℕ, List, [], Bool, true, false, ◌&&◌, ◌||◌, ◌==◌, if◌then◌else◌, option_map, slice_get, take, Option, Some, None}
+use Rattle.std.specs.Prelude.{◌≡◌, ℕ, List, [], Bool, true, false, ◌&&◌, ◌||◌, ◌==◌, if◌then◌else◌, slice_get, take, Option, Some, None}
 use Rattle.std.specs.List.{Contains}
 use Rattle.certificate.specs.Certificate.{Line}
 use Rattle.engine.specs.Saturations.{Saturated}
@@ -8,7 +8,6 @@ use Rattle.facts.specs.Births.{Reason}
 use Rattle.facts.specs.declared.contexts.Fact.{Fact}
 use Rattle.normal_forms.specs.declared.forms.Origin.{Origin}
 use Rattle.normal_forms.specs.declared.forms.Origin.TheVariants.{Axiom, Expr}
-use Rattle.normalise.specs.Entries.{origin_in}
 use Rattle.normalise.specs.declared.entries.Entry.{Entry}
 use Rattle.number_sets.specs.Pieces.{list_at}
 use Rattle.normalise.specs.Problem.{prefixes_of}
@@ -25,10 +24,6 @@ is_by_axiom (Some e) = is_axiom e.origin
 abbrev pub by_axiom : List Entry → Option ℕ → Bool
 by_axiom entries None = false
 by_axiom entries (Some n) = is_by_axiom (slice_get entries n)
-
--- the reason's form has this origin
-abbrev pub IsFormOf : List Entry → Reason → Origin → Type 0
-IsFormOf entries r origin = (n : ℕ) × (r.form ≡ Some n) × (option_map origin_in (slice_get entries n) ≡ Some origin)
 
 -- a line for a context itself and for a loop rests on none, one by a domain on the edge alone, and any other on all that gave it
 abbrev pub rests_on : List Entry → Reason → List ℕ

@@ -1,7 +1,8 @@
 -- What the line of a fact takes: the older facts that it rests on, each edge lifted to the property that the form names.
-use Rattle.std.specs.Prelude.{◌≡◌, ℕ, List, [], ◌∷◌, ◌++◌, Option, Some, None}
+use Rattle.std.specs.Prelude.{◌≡◌, ℕ, List, [], ◌∷◌, ◌++◌, Option, Some, None, map, slice_get}
 use Rattle.certificate.specs.Certificate.{Line}
 use Rattle.closure.specs.Denotations.{Prefixes}
+use Rattle.engine.specs.Saturations.{Saturated}
 use Rattle.explain.specs.LinesOfFacts.{AreShowing}
 use Rattle.facts.specs.declared.contexts.Fact.{Fact}
 use Rattle.facts.specs.declared.contexts.Fact.TheVariants.{In, Edge}
@@ -10,6 +11,7 @@ use Rattle.normal_forms.specs.declared.forms.Form.TheVariants.{N1, N2, N3, N4, N
 use Rattle.normal_forms.specs.declared.forms.PropId2.{PropId2}
 use Rattle.normal_forms.specs.declared.forms.PropId2.TheVariants.{Property}
 use Rattle.normal_forms.specs.Properties.{IsAtOrBelow}
+use Rattle.normalise.specs.Problem.{prefixes_of}
 
 -- the property that the form names for the first fact that it takes, and for the second, where that is an edge
 abbrev pub first_property : Form → Option PropId2
@@ -63,3 +65,22 @@ abbrev pub LiftTo : List Form → Form → List Fact → Type 0
 LiftTo forms form [] = Unit {0}
 LiftTo forms form (f ∷ []) = LiftsTo forms (first_property form) f
 LiftTo forms form (f ∷ g ∷ more) = LiftsTo forms (first_property form) f × LiftsTo forms (second_property form) g
+
+-- ---- of the facts of a saturation
+
+-- the property of the fact of that number, if it is an edge, is at that one or below it
+abbrev pub LeadsUpAt : Saturated → Option PropId2 → ℕ → Type 0
+LeadsUpAt s property n = (f : Fact) → slice_get s.state.facts n ≡ Some f → LiftsTo s.state.problem.forms property f
+
+-- the lines of these numbers show the fact of that number, lifted
+abbrev pub ShowsLedUp : Saturated → List Line → Option PropId2 → ℕ → List ℕ → Type 0
+ShowsLedUp s lines property n numbers = (f : Fact) → slice_get s.state.facts n ≡ Some f → AreShowing (prefixes_of s.normal) lines numbers (lifted_to property f)
+
+-- the facts of these numbers lift to what the form names
+abbrev pub LeadUpAt : Saturated → Form → List ℕ → Type 0
+LeadUpAt s form older = (fs : List Fact) → map (slice_get s.state.facts) older ≡ map Some fs → LiftTo s.state.problem.forms form fs
+
+-- the lines of these numbers show what the line takes from the older facts
+abbrev pub ShowsTaken : Saturated → List Line → Form → (older numbers : List ℕ) → Type 0
+ShowsTaken s lines form older numbers =
+    (fs : List Fact) → map (slice_get s.state.facts) older ≡ map Some fs → AreShowingEach (prefixes_of s.normal) lines numbers (taken form fs)

@@ -1,17 +1,15 @@
 -- The search for the properties above one, with the way to each.
-use Rattle.std.specs.Prelude.{◌≡◌, ℕ, ◌<◌, ◌≤◌, ◌↔◌, Bool, true, List, [], ◌∷◌, ◌++◌, if◌then◌else◌, length, fold, slice_get, slice_set, Option, Some, None}
+use Rattle.std.specs.Prelude.{◌≡◌, ℕ, ◌<◌, ◌↔◌, List, length, slice_get, Option, Some, None}
 use Rattle.std.specs.List.{Contains}
 use Rattle.axioms.specs.declared.ids.PropId.{PropId}
 use Rattle.normal_forms.specs.declared.forms.Form.{Form}
 use Rattle.normal_forms.specs.declared.forms.Form.TheVariants.{N5}
 use Rattle.normal_forms.specs.declared.forms.PropId2.TheVariants.{Property}
 use Rattle.normal_forms.specs.Properties.{IsAtOrBelow}
-use Rattle.number_sets.specs.Members.{has}
 use Rattle.number_sets.specs.Pieces.{list_at}
 use Rattle.explain.specs.declared.told.Told.{Told}
-use Rattle.explain.specs.declared.search.Reached.{Reached}
-use Rattle.explain.specs.declared.search.Way.{Way}
-use Rattle.explain.specs.declared.search.Search as code
+use Rattle.explain.specs.declared.reached.Reached.{Reached}
+use Rattle.explain.specs.declared.reached.Way.{Way}
 
 abbrev pub as_id : ℕ → PropId
 as_id p = record { 0 = p }
@@ -58,38 +56,12 @@ pub record AreReached (forms : List Form) (c : PropId) (found : List Reached) : 
 
 -- ---- the search
 
--- what was reached, in order, and the same as a set
-pub record Search : Type 0 where
-  pub found : List Reached
-  pub seen : List Bool
-
-abbrev pub search_of : code.Search → Search
-search_of s = record { found = s.found.items; seen = s.seen }
-
--- with one property more, unless it is there
-abbrev pub with_reached : Search → Reached → Search
-with_reached f r = if has f.seen r.property.0 then f else record { found = f.found ++ r ∷ []; seen = slice_set f.seen r.property.0 true }
-
 abbrev pub start_of : PropId → Reached
 start_of c = record { property = c; way = None }
 
 -- what the form leads to from the property at that place
 abbrev pub step_from : ℕ → Told → Reached
 step_from from t = record { property = t.above; way = Some (record { form = t.form; from = from }) }
-
-abbrev pub with_told : ℕ → Search → List Told → Search
-with_told from f ts = fold (λ g t. with_reached g (step_from from t)) f ts
-
--- properties were reached from c, list and set agree, and what leads from those before a place was reached too
-pub record IsSearch (forms : List Form) (bound : ℕ) (c : PropId) (next : ℕ) (f : Search) : Type 0 where
-  pub wide : length f.seen ≡ bound
-  pub reached : next ≤ length f.found
-  pub first : has f.seen c.0 ≡ true
-  pub marked : (k : ℕ) (r : Reached) → slice_get f.found k ≡ Some r → has f.seen r.property.0 ≡ true
-  pub listed : (d : ℕ) → has f.seen d ≡ true → (k : ℕ) × StandsAt f.found (as_id d) k
-  pub distinct : (m n : ℕ) (d : PropId) → StandsAt f.found d m → StandsAt f.found d n → m ≡ n
-  pub ways : AreWays forms c f.found
-  pub closed : (k n : ℕ) (b d : PropId) → k < next → StandsAt f.found b k → Leads forms n b d → has f.seen d.0 ≡ true
 
 -- ---- what is kept
 

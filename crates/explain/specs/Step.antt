@@ -3,8 +3,7 @@ use Rattle.std.specs.Prelude.{◌≡◌, ℕ, List, Option, Some, None}
 use Rattle.axioms.specs.Ontology.{Ontology}
 use Rattle.certificate.specs.Certificate.{Subject, Expression, Individual, Conclusion, Sub, Edge, Line}
 use Rattle.certificate.specs.declared.line.Rule.{Rule}
-use Rattle.certificate.specs.declared.line.Rule.TheVariants.{K5, K6, K8, K9}
-use Rattle.cert_check.specs.Derivation.{IsDerived}
+use Rattle.cert_check.specs.Derivation.{IsDerivation, IsDerived}
 use Rattle.closure.specs.Denotations.{Prefixes}
 use Rattle.explain.specs.LinesOfFacts.{AreShowing}
 use Rattle.facts.specs.declared.contexts.Context as code_context
@@ -12,8 +11,6 @@ use Rattle.facts.specs.declared.contexts.Context.TheVariants as contexts
 use Rattle.facts.specs.declared.contexts.Fact as code
 use Rattle.facts.specs.declared.contexts.Fact.TheVariants as facts
 use Rattle.normal_forms.specs.declared.forms.Class2.TheVariants as classes
-use Rattle.normal_forms.specs.declared.forms.Form.{Form}
-use Rattle.normal_forms.specs.declared.forms.Form.TheVariants.{N1, N2, N3}
 use Rattle.normal_forms.specs.declared.forms.PropId2.TheVariants as properties
 
 -- a context as the subject of lines
@@ -33,9 +30,10 @@ pub record LeadTo (o : Ontology) (b : Prefixes) (lines : List Line) (rule : Rule
   pub line : (c : Conclusion) → said_by f ≡ Some c → IsDerived o lines (record { conclusion = c; rule = rule; axiom' = axiom'; premises = numbers })
   pub prefix : said_by f ≡ None → AreShowing b lines numbers f
 
--- the rule for a form that an expression gave
-abbrev pub expression_rule : Form → Rule
-expression_rule (N1 a b) = K6
-expression_rule (N2 a b c) = K5
-expression_rule (N3 a r b) = K8
-expression_rule _ = K9
+-- with lines of these numbers that give the fact, the new lines are a derivation where the old ones are
+abbrev pub StaysDerivation : (old new : List Line) → Rule → Option ℕ → List ℕ → code.Fact → Type 0
+StaysDerivation old new rule axiom' numbers f = (o : Ontology) (b : Prefixes) → IsDerivation o old → LeadTo o b old rule axiom' numbers f → IsDerivation o new
+
+-- with lines of these numbers that give the fact, those of the shown numbers show it
+abbrev pub ShowsLed : (old new : List Line) → Rule → Option ℕ → List ℕ → code.Fact → List ℕ → Type 0
+ShowsLed old new rule axiom' numbers f shown = (o : Ontology) (b : Prefixes) → LeadTo o b old rule axiom' numbers f → AreShowing b new shown f

@@ -3,11 +3,11 @@ ghost use Rattle.explain.specs.Search.{AreLeadsWithin, AreReached, as_id};
 ghost use Rattle.number_sets.specs.Pieces.{list_at};
 ghost use Rattle.std.specs.Prelude.{◌<◌, ◌≡◌, ◌≤◌, ◌^◌, IfOk, length, ℕ};
 
-use crate::search::{Reached, Search};
+use crate::reached::Reached;
 use crate::told::all_told;
 use axioms::{Memory, PropId};
 use normal_forms::FormList;
-use number_sets::PackedLists;
+use number_sets::{NumberSearch, PackedLists};
 use std::alloc::Global;
 
 /// For each property itself and those above it by plain forms, with the ways to them.
@@ -23,10 +23,14 @@ pub(crate) fn all_above(
     ensures each { IfOk result (λ l. (p : ℕ) → p < properties → AreReached forms.now (as_id p) (list_at l p)) }
 {
     let told = all_told(alloc, properties, forms)?;
-    let mut search = Search::new(alloc, properties)?;
+    let mut search = NumberSearch::new(alloc, properties)?;
     let mut above = PackedLists::new(alloc);
     for property in 0..properties {
-        search.run(&told, PropId(property as u32))?;
+        let start = Reached {
+            property: PropId(property as u32),
+            way: None,
+        };
+        search.run(&told, &[start])?;
         above.push_list(&search.found)?;
     }
     Ok(above)

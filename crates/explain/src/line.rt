@@ -1,11 +1,8 @@
 //! The line of a fact.
-ghost use Rattle.axioms.specs.Ontology.{Ontology as Ontology2};
-ghost use Rattle.cert_check.specs.Derivation.{IsDerivation};
 ghost use Rattle.certificate.specs.View.{conclusion_of, subject_of};
-ghost use Rattle.closure.specs.Denotations.{Prefixes};
 ghost use Rattle.explain.specs.Uses.{IsAmong, Uses};
-ghost use Rattle.explain.specs.LinesOfFacts.{AreShowing, Lengthens};
-ghost use Rattle.explain.specs.Step.{LeadTo, said_by, subject_in};
+ghost use Rattle.explain.specs.LinesOfFacts.{Lengthens};
+ghost use Rattle.explain.specs.Step.{ShowsLed, StaysDerivation, said_by, subject_in};
 ghost use Rattle.std.specs.Prelude.{◌≡◌, ◌<◌, IfOk, OnOk, Some, length, option_map, slice_get};
 
 use crate::derivation::Derivation;
@@ -62,8 +59,8 @@ pub(crate) fn concluded<L: LineSink>(
     premises: Vec<u64>,
 ) -> Result<Vec<u64>, Memory>
     ensures longer { OnOk result (Lengthens derivation.old derivation.new) }
-    ensures derivation { OnOk result ((o : Ontology2) (b : Prefixes) → IsDerivation o derivation.old → LeadTo o b derivation.old rule axiom_number premises.items fact → IsDerivation o derivation.new) }
-    ensures shown { IfOk result (λ numbers. (o : Ontology2) (b : Prefixes) → LeadTo o b derivation.old rule axiom_number premises.items fact → AreShowing b derivation.new numbers.items fact) }
+    ensures derivation { OnOk result (StaysDerivation derivation.old derivation.new rule axiom_number premises.items fact) }
+    ensures shown { IfOk result (λ numbers. ShowsLed derivation.old derivation.new rule axiom_number premises.items fact numbers.items) }
     ensures used { IfOk result (λ numbers. Uses derivation.old derivation.new (IsAmong premises.items) numbers.items) }
 {
     let Some(conclusion) = conclusion(fact) else {

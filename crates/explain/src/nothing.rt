@@ -29,6 +29,7 @@ fn carried_over<L: LineSink>(
 {
     ontology.well_formed();
     let Some(source) = derivation.source(edge) else {
+        // The edge has a line.
         unreachable!()
     };
     let mut premises = Vec::new(alloc);

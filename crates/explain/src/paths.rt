@@ -6,7 +6,7 @@ ghost use Rattle.std.specs.List.{All};
 ghost use Rattle.std.specs.Prelude.{◌≡◌, ◌≤◌, ◌^◌, IfOk, MatchOption};
 
 use crate::above::all_above;
-use crate::search::Reached;
+use crate::reached::Reached;
 use crate::walk::{place_of, walk};
 use axioms::{Memory, PropId};
 use normal_forms::FormList;

@@ -2,23 +2,20 @@
 ghost use Rattle.cert_check.specs.Derivation.{IsDerivation};
 ghost use Rattle.engine.specs.Saturations.{IsSaturated};
 ghost use Rattle.explain.specs.Premises as spec;
-ghost use Rattle.explain.specs.Premises.{AreShowingEach, LiftTo, LiftsTo, taken};
+ghost use Rattle.explain.specs.Premises.{LeadUpAt, LeadsUpAt, ShowsLedUp, ShowsTaken};
 ghost use Rattle.explain.specs.Uses.{IsAmong, IsAmongThose, Uses};
-ghost use Rattle.explain.specs.LinesOfFacts.{AreShowing, Lengthens, ShowsFact};
+ghost use Rattle.explain.specs.LinesOfFacts.{Lengthens, ShowsFact};
 ghost use Rattle.facts.specs.Births.{numbers_of};
-ghost use Rattle.facts.specs.declared.contexts.Fact.{Fact as Fact2};
 ghost use Rattle.number_sets.specs.Pieces.{list_at};
-ghost use Rattle.normalise.specs.Problem.{prefixes_of};
 ghost use Rattle.std.specs.List.{Contains};
-ghost use Rattle.std.specs.Prelude.{◌≡◌, ◌<◌, IfOk, List, OnOk, Some, length, map, slice_get, ℕ};
+ghost use Rattle.std.specs.Prelude.{◌≡◌, ◌<◌, IfOk, OnOk, length, ℕ};
 
+use crate::basis::Basis;
 use crate::derivation::Derivation;
-use crate::lifting::lifted;
+use crate::lifting::{Ends, lifted};
 use crate::line::fact_of;
-use crate::paths::PropertyPaths;
 use crate::sink::LineSink;
-use axioms::{Memory, Ontology};
-use engine::Saturation;
+use axioms::Memory;
 use facts::{Fact, FactId, Older};
 use normal_forms::{Form, PropId2};
 use number_sets::PackedLists;
@@ -56,36 +53,32 @@ fn copied(alloc: Global, numbers: &[u64]) -> Result<Vec<u64>, Memory>
 
 // The numbers of the lines that show an older fact; an edge is lifted to the property, where there is one.
 fn lifted_to<L: LineSink>(
-    alloc: Global,
-    ontology: &Ontology,
-    saturation: &Saturation,
-    paths: &PropertyPaths,
+    basis: &Basis<'_>,
     derivation: &mut Derivation<L>,
     shown: &PackedLists<u64>,
     older: FactId,
     property: Option<PropId2>,
 ) -> Result<Vec<u64>, Memory>
-    requires saturated { IsSaturated ontology.now saturation.now }
-    requires paths { paths.now ≡ saturation.now.state.problem.forms }
-    requires derivation { IsDerivation ontology.now derivation.old }
-    requires there { older.0 < length saturation.now.state.facts }
-    requires shown { ShowsFact saturation.now derivation.old older.0 (list_at shown.now older.0) }
-    requires below { (f : Fact2) → slice_get saturation.now.state.facts older.0 ≡ Some f → LiftsTo saturation.now.state.problem.forms property f }
-    ensures derivation { OnOk result (IsDerivation ontology.now derivation.new) }
+    requires saturated { IsSaturated basis.now.ontology.now basis.now.saturation.now }
+    requires paths { basis.now.paths.now ≡ basis.now.saturation.now.state.problem.forms }
+    requires derivation { IsDerivation basis.now.ontology.now derivation.old }
+    requires there { older.0 < length basis.now.saturation.now.state.facts }
+    requires shown { ShowsFact basis.now.saturation.now derivation.old older.0 (list_at shown.now older.0) }
+    requires below { LeadsUpAt basis.now.saturation.now property older.0 }
+    ensures derivation { OnOk result (IsDerivation basis.now.ontology.now derivation.new) }
     ensures longer { OnOk result (Lengthens derivation.old derivation.new) }
-    ensures shown { IfOk result (λ v. (f : Fact2) → slice_get saturation.now.state.facts older.0 ≡ Some f → AreShowing (prefixes_of saturation.now.normal) derivation.new v.items (spec.lifted_to property f)) }
+    ensures shown { IfOk result (λ v. ShowsLedUp basis.now.saturation.now derivation.new property older.0 v.items) }
     ensures used { IfOk result (λ v. Uses derivation.old derivation.new (IsAmong (list_at shown.now older.0)) v.items) }
 {
     let known = shown.at(older.0 as usize);
-    match (fact_of(saturation, older), property) {
+    match (fact_of(basis.saturation, older), property) {
         (Fact::Edge(source, below, target), Some(above)) => {
-            let numbers = lifted(
-                alloc, ontology, saturation, paths, derivation, known, source, below, target, above,
-            )?;
+            let ends = Ends { source, target };
+            let numbers = lifted(basis, derivation, known, ends, below, above)?;
             Ok(numbers)
         }
         _ => {
-            let numbers = copied(alloc, known)?;
+            let numbers = copied(basis.alloc, known)?;
             Ok(numbers)
         }
     }
@@ -98,44 +91,35 @@ fn lifted_to<L: LineSink>(
 ///
 /// `Memory` where memory was refused.
 pub(crate) fn premises<L: LineSink>(
-    alloc: Global,
-    ontology: &Ontology,
-    saturation: &Saturation,
-    paths: &PropertyPaths,
+    basis: &Basis<'_>,
     derivation: &mut Derivation<L>,
     shown: &PackedLists<u64>,
     older: Older,
     form: &Form,
 ) -> Result<Vec<u64>, Memory>
-    requires saturated { IsSaturated ontology.now saturation.now }
-    requires paths { paths.now ≡ saturation.now.state.problem.forms }
-    requires derivation { IsDerivation ontology.now derivation.old }
-    requires there { (m : ℕ) → Contains (numbers_of older) m → m < length saturation.now.state.facts }
-    requires shown { (m : ℕ) → Contains (numbers_of older) m → ShowsFact saturation.now derivation.old m (list_at shown.now m) }
-    requires below { (fs : List Fact2) → map (slice_get saturation.now.state.facts) (numbers_of older) ≡ map Some fs → LiftTo saturation.now.state.problem.forms form.now fs }
-    ensures derivation { OnOk result (IsDerivation ontology.now derivation.new) }
+    requires saturated { IsSaturated basis.now.ontology.now basis.now.saturation.now }
+    requires paths { basis.now.paths.now ≡ basis.now.saturation.now.state.problem.forms }
+    requires derivation { IsDerivation basis.now.ontology.now derivation.old }
+    requires there { (m : ℕ) → Contains (numbers_of older) m → m < length basis.now.saturation.now.state.facts }
+    requires shown { (m : ℕ) → Contains (numbers_of older) m → ShowsFact basis.now.saturation.now derivation.old m (list_at shown.now m) }
+    requires below { LeadUpAt basis.now.saturation.now form.now (numbers_of older) }
+    ensures derivation { OnOk result (IsDerivation basis.now.ontology.now derivation.new) }
     ensures longer { OnOk result (Lengthens derivation.old derivation.new) }
-    ensures shown { IfOk result (λ v. (fs : List Fact2) → map (slice_get saturation.now.state.facts) (numbers_of older) ≡ map Some fs → AreShowingEach (prefixes_of saturation.now.normal) derivation.new v.items (taken form.now fs)) }
+    ensures shown { IfOk result (λ v. ShowsTaken basis.now.saturation.now derivation.new form.now (numbers_of older) v.items) }
     ensures used { IfOk result (λ v. Uses derivation.old derivation.new (IsAmongThose shown.now (numbers_of older)) v.items) }
 {
     match older {
-        Older::None => Ok(Vec::new(alloc)),
+        Older::None => Ok(Vec::new(basis.alloc)),
         Older::One(only) => {
             let property = first_property(form);
-            let numbers = lifted_to(
-                alloc, ontology, saturation, paths, derivation, shown, only, property,
-            )?;
+            let numbers = lifted_to(basis, derivation, shown, only, property)?;
             Ok(numbers)
         }
         Older::Two(first, second) => {
             let property = first_property(form);
-            let mut numbers = lifted_to(
-                alloc, ontology, saturation, paths, derivation, shown, first, property,
-            )?;
+            let mut numbers = lifted_to(basis, derivation, shown, first, property)?;
             let property = second_property(form);
-            let more = lifted_to(
-                alloc, ontology, saturation, paths, derivation, shown, second, property,
-            )?;
+            let more = lifted_to(basis, derivation, shown, second, property)?;
             numbers.extend_from_slice(&more)?;
             Ok(numbers)
         }

@@ -7,6 +7,7 @@ ghost use Rattle.explain.specs.LineOrder.{AreReady, IsShowing};
 ghost use Rattle.facts.specs.declared.contexts.Fact.{Fact as Fact2};
 ghost use Rattle.std.specs.Prelude.{◌+◌, ◌<◌, ◌≡◌, [], IfOk, OnOk, Some, length, slice_get, ℕ};
 
+use crate::basis::Basis;
 use crate::derivation::Derivation;
 use crate::marking::mark_older;
 use crate::paths::PropertyPaths;
@@ -46,68 +47,50 @@ fn paths_of(
     PropertyPaths::new(alloc, ontology.properties().len(), normal.forms())
 }
 
-/// What lines are made from, and the marks of the facts that are to have them.
-#[derive(Drop)]
-struct Explainer<'a> {
-    alloc: Global,
-    ontology: &'a Ontology,
-    saturation: &'a Saturation,
-    paths: &'a PropertyPaths,
-    marks: &'a [bool],
+// Shows the next fact, if it is marked.
+fn show_next<L: LineSink>(
+    basis: &Basis<'_>,
+    marks: &[bool],
+    fact: FactId,
+    derivation: &mut Derivation<L>,
+    shown: &mut PackedLists<u64>,
+) -> Result<(), Memory>
+    requires ready { AreReady basis.now.ontology.now basis.now.saturation.now basis.now.paths.now marks.now }
+    requires there { fact.0 < length marks.now }
+    requires next { fact.0 ≡ length shown.old }
+    requires showing { IsShowing basis.now.ontology.now basis.now.saturation.now marks.now derivation.old shown.old }
+    ensures next { OnOk result (length shown.new ≡ length shown.old + 1) }
+    ensures showing { OnOk result (IsShowing basis.now.ontology.now basis.now.saturation.now marks.now derivation.new shown.new) }
+{
+    let FactId(number) = fact;
+    if !marks[number as usize] {
+        shown.push_list(&[])?;
+        return Ok(());
+    }
+    let numbers = show(basis, derivation, shown, fact)?;
+    shown.push_list(&numbers)?;
+    Ok(())
 }
 
-impl Explainer<'_> {
-    // Shows the next fact, if it is marked.
-    fn show_next<L: LineSink>(
-        &self,
-        fact: FactId,
-        derivation: &mut Derivation<L>,
-        shown: &mut PackedLists<u64>,
-    ) -> Result<(), Memory>
-        requires ready { AreReady self.now.ontology.now self.now.saturation.now self.now.paths.now self.now.marks.now }
-        requires there { fact.0 < length self.now.marks.now }
-        requires next { fact.0 ≡ length shown.old }
-        requires showing { IsShowing self.now.ontology.now self.now.saturation.now self.now.marks.now derivation.old shown.old }
-        ensures next { OnOk result (length shown.new ≡ length shown.old + 1) }
-        ensures showing { OnOk result (IsShowing self.now.ontology.now self.now.saturation.now self.now.marks.now derivation.new shown.new) }
-    {
-        let FactId(number) = fact;
-        if !self.marks[number as usize] {
-            shown.push_list(&[])?;
-            return Ok(());
-        }
-        let numbers = show(
-            self.alloc,
-            self.ontology,
-            self.saturation,
-            self.paths,
-            derivation,
-            shown,
-            fact,
-        )?;
-        shown.push_list(&numbers)?;
-        Ok(())
+// Adds lines that show each marked fact, of that many facts, to no lines.
+fn show_each<L: LineSink>(
+    basis: &Basis<'_>,
+    marks: &[bool],
+    count: u32,
+    derivation: &mut Derivation<L>,
+) -> Result<(), Memory>
+    requires ready { AreReady basis.now.ontology.now basis.now.saturation.now basis.now.paths.now marks.now }
+    requires count { count ≡ length marks.now }
+    requires none { derivation.old ≡ [] }
+    ensures derivation { OnOk result (IsDerivation basis.now.ontology.now derivation.new) }
+    ensures shown { OnOk result (ShowsMarked basis.now.saturation.now marks.now derivation.new) }
+    ensures needed { OnOk result (EachIsNeeded basis.now.ontology.now derivation.new) }
+{
+    let mut shown = PackedLists::new(basis.alloc);
+    for number in 0..count {
+        show_next(basis, marks, FactId(number), derivation, &mut shown)?;
     }
-
-    // Adds lines that show each marked fact, of that many facts, to no lines.
-    fn add_lines<L: LineSink>(
-        &self,
-        count: u32,
-        derivation: &mut Derivation<L>,
-    ) -> Result<(), Memory>
-        requires ready { AreReady self.now.ontology.now self.now.saturation.now self.now.paths.now self.now.marks.now }
-        requires count { count ≡ length self.now.marks.now }
-        requires none { derivation.old ≡ [] }
-        ensures derivation { OnOk result (IsDerivation self.now.ontology.now derivation.new) }
-        ensures shown { OnOk result (ShowsMarked self.now.saturation.now self.now.marks.now derivation.new) }
-        ensures needed { OnOk result (EachIsNeeded self.now.ontology.now derivation.new) }
-    {
-        let mut shown = PackedLists::new(self.alloc);
-        for number in 0..count {
-            self.show_next(FactId(number), derivation, &mut shown)?;
-        }
-        Ok(())
-    }
+    Ok(())
 }
 
 /// Adds lines that show each marked fact, which is wanted, with those of the facts that they rest on, to no lines.
@@ -133,12 +116,11 @@ pub(crate) fn add_lines<L: LineSink>(
     let count = fact_count(saturation)?;
     mark_older(saturation, count, &mut marks);
     let paths = paths_of(alloc, ontology, saturation)?;
-    let explainer = Explainer {
+    let basis = Basis {
         alloc,
         ontology,
         saturation,
         paths: &paths,
-        marks: &marks,
     };
-    explainer.add_lines(count, derivation)
+    show_each(&basis, &marks, count, derivation)
 }

@@ -1,11 +1,9 @@
 //! The way back through what a search reached.
-ghost use Rattle.axioms.specs.declared.ids.PropId.{PropId as PropId2};
-ghost use Rattle.normal_forms.specs.declared.forms.Form.{Form as Form2};
-ghost use Rattle.explain.specs.Paths.{IsPath};
-ghost use Rattle.explain.specs.Search.{AreEarlier, AreWays, HasNo, StandsAt};
-ghost use Rattle.std.specs.Prelude.{◌<◌, IfOk, List, MatchOption, length};
+ghost use Rattle.explain.specs.Paths.{LeadThere};
+ghost use Rattle.explain.specs.Search.{AreEarlier, HasNo, StandsAt};
+ghost use Rattle.std.specs.Prelude.{◌<◌, IfOk, MatchOption, length};
 
-use crate::search::Reached;
+use crate::reached::Reached;
 use axioms::{Memory, PropId};
 use std::alloc::Global;
 
@@ -25,7 +23,7 @@ pub(crate) fn place_of(reached: &[Reached], property: PropId) -> Option<usize>
 pub(crate) fn walk(alloc: Global, reached: &[Reached], place: usize) -> Result<Vec<u32>, Memory>
     requires earlier { AreEarlier reached.now }
     requires there { place < length reached.now }
-    ensures { IfOk result (λ v. (forms : List Form2) (from to : PropId2) → AreWays forms from reached.now → StandsAt reached.now to place → IsPath forms from v.items to) }
+    ensures { IfOk result (λ v. LeadThere reached.now place v.items) }
 {
     let mut numbers = Vec::new(alloc);
     let mut at = place;

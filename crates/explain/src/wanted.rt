@@ -1,5 +1,5 @@
 //! The facts that are wanted.
-ghost use Rattle.explain.specs.Marks.{IsClass, IsContradictoryFact, IsMarked, IsNamed, IsTopContext, IsWantedFact};
+ghost use Rattle.explain.specs.Marks.{IsClass, IsContradictoryFact, IsMarked, IsNamed, IsTopContext, IsWantedFact, MarksContradiction};
 ghost use Rattle.facts.specs.declared.contexts.Fact.{Fact as Fact2};
 ghost use Rattle.std.specs.Prelude.{◌↔◌, ◌≡◌, IfOk, IsTrue, Some, length, slice_get, ℕ};
 
@@ -91,7 +91,7 @@ pub(crate) fn first_contradiction(
 ) -> Result<Vec<bool>, Memory>
     ensures long { IfOk result (λ v. length v.items ≡ length facts.now) }
     ensures each { IfOk result (λ v. (n : ℕ) (f : Fact2) → slice_get facts.now n ≡ Some f → IsMarked v.items n → IsContradictoryFact ontology.now f) }
-    ensures found { IfOk result (λ v. (n : ℕ) (f : Fact2) → slice_get facts.now n ≡ Some f → IsContradictoryFact ontology.now f → (m : ℕ) × IsMarked v.items m) }
+    ensures found { IfOk result (λ v. MarksContradiction ontology.now facts.now v.items) }
 {
     let mut marks = Vec::new(alloc);
     let mut found = false;

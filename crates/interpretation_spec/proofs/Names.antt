@@ -23,10 +23,11 @@ number_at (x ∷ xs) (suc c) name g only =
     let apart : bytes_eq x name ≡ false = false_from_ne_true (bytes_eq x name) (λ e. other ((bytes_eq-Decides x name).0 e)) in
     rw apart (ap suc (number_at xs c name g (λ m h. (let at : suc m ≡ suc c = only (suc m) h in omega arith))))
 
-named : (names : List Iri) → AreDistinct names → (c : ℕ) (name : Iri) → slice_get names c ≡ Some name → number_of names name ≡ c
+-- the number of a name, where no name stands twice
+pub named : (names : List Iri) → AreDistinct names → (c : ℕ) (name : Iri) → slice_get names c ≡ Some name → number_of names name ≡ c
 named names distinct c name g = number_at names c name g (λ m h. distinct m c name h g)
 
-number_of-name_at : (names : List Iri) → AreDistinct names → (c : ℕ) → c < length names → number_of names (name_at names c) ≡ c
+pub number_of-name_at : (names : List Iri) → AreDistinct names → (c : ℕ) → c < length names → number_of names (name_at names c) ≡ c
 number_of-name_at names distinct c l =
     let (name, g) = slice_get_there names c l in
     ap (λ (o : Option Iri). number_of names (unwrap_or o [])) g ∙ named names distinct c name g

@@ -1,5 +1,5 @@
 -- What rows and targets say of axioms, shape by shape.
-use Rattle.std.proofs.Common.{◌≡◌, ℕ, zero, suc, ◌<◌, ◌↔◌, List, [], ◌∷◌, ◌++◌, length, map, replicate, get_or, Bool, true, false, All, AllPairs, eqb, true≢false, refl, sym, ap, ap₂, ◌∙◌, subst, subst₂, arith, inl, inr}
+use Rattle.std.proofs.Common.{◌≡◌, ℕ, zero, suc, ◌<◌, ◌↔◌, List, [], ◌∷◌, ◌++◌, length, map, replicate, get_or, slice_get, Some, Bool, true, false, All, AllPairs, eqb, true≢false, refl, sym, ap, ap₂, ◌∙◌, subst, subst₂, arith, inl, inr}
 use Rattle.std.specs.List.{list_any}
 use Rattle.std.proofs.lemmas.Bool.{eq-eqb, eqb-true, or_cases, or_left, or_right, cases_order, cases_lt}
 use Rattle.std.proofs.lemmas.List.{length-map, get_or-map, get_or_past}
@@ -13,8 +13,8 @@ use Rattle.axioms.specs.Expression.{ClassExpression}
 use Rattle.axioms.specs.Ontology.{Ontology, property_name, individual_name}
 use Rattle.axioms.specs.WellFormedness.{IsOntology}
 use Rattle.interpretation_spec.specs.Interpretation.{Interpretation, IsIn, IsWithin, IsSubProperty, IsSameProperty, HasPath, Satisfies}
-use Rattle.interpretation_spec.specs.NumberedInterpretation.{NumberedInterpretation, IsNumberedInterpretation, targets_of}
-use Rattle.interpretation_spec.specs.NamedInterpretation.{is_target, interpretation_of, IsExtension, HasNumberedPath}
+use Rattle.interpretation_spec.specs.NumberedInterpretation.{HaveSameTargets, NumberedInterpretation, IsNumberedInterpretation, targets_of}
+use Rattle.interpretation_spec.specs.NamedInterpretation.{is_target, interpretation_of, IsExtension, HasNumberedPath, IsNumberedSubProperty}
 use Rattle.number_sets.specs.Members.{has}
 use Rattle.interpretation_spec.proofs.Names.{StandsFor, stands}
 use Rattle.interpretation_spec.proofs.Elements.{target_within}
@@ -55,6 +55,15 @@ pairs_of_places_twice {A} {B} R f g xs d p = subst (λ (ys : List B). AllPairs R
 
 pub places_of_pairs_twice : {A B : Type 0} (R : B → B → Type 0) (f : ℕ → B) (g : A → ℕ) (xs : List A) (d : A) → AllPairs R (map f (map g xs)) → (m k : ℕ) → m < k → k < length xs → R (f (g (get_or xs m d))) (f (g (get_or xs k d)))
 places_of_pairs_twice {A} {B} R f g xs d p = places_of_pairs R (λ (x : A). f (g x)) xs d (subst (λ (ys : List B). AllPairs R ys) (map-map f g xs) p)
+
+-- what is said of the first of a list and one of it, where it is said of each two
+pub first_and : {A : Type 0} (R : A → A → Type 0) → ((x : A) → R x x) → (xs : List A) (first : A) (at : ℕ) (d : A) → slice_get xs 0 ≡ Some first → at < length xs
+    → ((m k : ℕ) → m < k → k < length xs → R (get_or xs m d) (get_or xs k d)) → R first (get_or xs at d)
+first_and {A} R itself xs first at d e l h =
+    subst (λ (x : A). R x (get_or xs at d)) (get_or_from_slice_get xs 0 first d e) (elim (cases_lt 0 at) [
+      | inl b ↦ h 0 at b l
+      | inr b ↦ (let z : 0 ≡ at = omega arith in subst (λ (k : ℕ). R (get_or xs 0 d) (get_or xs k d)) z (itself (get_or xs 0 d)))
+    ])
 
 -- ---- targets
 
@@ -131,14 +140,14 @@ module _ (o : Ontology) (w : IsOntology o) (n : NumberedInterpretation) (whole :
       )
 
   pub sub_property_said : (rs : List ℕ) (s : ℕ) → All (λ r. r < length o.names.properties) rs → s < length o.names.properties
-      → ((x : ℕ) → x < n.size → (y : ℕ) → y < n.size → HasNumberedPath n rs x y → is_target n s x y ≡ true) ↔ IsSubProperty (interpretation_of o.names n) (map (property_name o) rs) (property_name o s)
+      → IsNumberedSubProperty n rs s ↔ IsSubProperty (interpretation_of o.names n) (map (property_name o) rs) (property_name o s)
   sub_property_said rs s hs ls = (
     λ h x lx y ly p. named.properties s x y ls ∙ h x (inside x lx) y (inside y ly) ((path_said rs hs x y).1 p),
     λ h x lx y ly p. sym (named.properties s x y ls) ∙ h x (outside x lx) y (outside y ly) ((path_said rs hs x y).0 p),
   )
 
   same_property_said : (r s : ℕ) → r < length o.names.properties → s < length o.names.properties
-      → ((x : ℕ) → x < n.size → targets_of n r x ≡ targets_of n s x) ↔ IsSameProperty (interpretation_of o.names n) (property_name o r) (property_name o s)
+      → HaveSameTargets n r s ↔ IsSameProperty (interpretation_of o.names n) (property_name o r) (property_name o s)
   same_property_said r s lr ls = (
     λ h x lx y ly. named.properties r x y lr ∙ ap (λ (ts : List ℕ). list_any (λ z. eqb z y) ts) (h x (inside x lx)) ∙ sym (named.properties s x y ls),
     λ h x lx.
@@ -152,9 +161,9 @@ module _ (o : Ontology) (w : IsOntology o) (n : NumberedInterpretation) (whole :
   )
 
   pub same_properties_said : (rs : List ℕ) → All (λ r. r < length o.names.properties) rs
-      → AllPairs (λ r s. (x : ℕ) → x < n.size → targets_of n r x ≡ targets_of n s x) rs ↔ AllPairs (IsSameProperty (interpretation_of o.names n)) (map (property_name o) rs)
+      → AllPairs (HaveSameTargets n) rs ↔ AllPairs (IsSameProperty (interpretation_of o.names n)) (map (property_name o) rs)
   same_properties_said rs hs =
-      let T : ℕ → ℕ → Type 0 = λ r s. (x : ℕ) → x < n.size → targets_of n r x ≡ targets_of n s x in
+      let T = HaveSameTargets n in
       let S = IsSameProperty (interpretation_of o.names n) in (
         λ h. AllPairs-map S (property_name o) rs (λ a b c d l gc gd.
             let la = slice_get_within rs a c gc in

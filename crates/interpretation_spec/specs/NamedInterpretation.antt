@@ -3,7 +3,7 @@ use Rattle.std.specs.Prelude.{◌≡◌, ℕ, suc, ◌<◌, ◌↔◌, List, [],
 use Rattle.std.specs.List.{list_any}
 use Rattle.std.specs.Str.{bytes_eq}
 use Rattle.axioms.specs.Expression.{Iri, ClassExpression}
-use Rattle.axioms.specs.Ontology.{Names, Ontology, axiom_tree}
+use Rattle.axioms.specs.Ontology.{Axiom, Names, Ontology, axiom_tree}
 use Rattle.axioms.specs.View.{at_number}
 use Rattle.interpretation_spec.specs.Interpretation.{Interpretation, IsIn, Satisfies}
 use Rattle.interpretation_spec.specs.NumberedInterpretation.{NumberedInterpretation, members_of, targets_of}
@@ -23,6 +23,14 @@ abbrev pub HasNumberedPath : NumberedInterpretation → List ℕ → ℕ → ℕ
 HasNumberedPath i [] x y = x ≡ y
 HasNumberedPath i (r ∷ rs) x y = (z : ℕ) × (z < i.size) × (is_target i r x z ≡ true) × HasNumberedPath i rs z y
 
+-- each path along the chain gives a pair of s
+abbrev pub IsNumberedSubProperty : NumberedInterpretation → List ℕ → ℕ → Type 0
+IsNumberedSubProperty i chain s = (x : ℕ) → x < i.size → (y : ℕ) → y < i.size → HasNumberedPath i chain x y → is_target i s x y ≡ true
+
+-- the property joins an element of the row to y
+abbrev pub IsTargetOfSome : NumberedInterpretation → ℕ → List Bool → ℕ → Type 0
+IsTargetOfSome i r row y = (x : ℕ) × (x < i.size) × (has row x ≡ true) × (is_target i r x y ≡ true)
+
 -- each name by its number; a name that the ontology does not have is empty, or element 0
 unfoldable pub interpretation_of : Names → NumberedInterpretation → Interpretation
 interpretation_of names i = record {
@@ -31,6 +39,10 @@ interpretation_of names i = record {
   property = λ r x y. is_target i (number_of names.properties r) x y;
   individual = λ a. slice_index_or i.individuals (number_of names.individuals a) 0;
 }
+
+-- what the axiom over numbers says is satisfied
+abbrev pub SatisfiesNumbered : Ontology → NumberedInterpretation → Axiom → Type 0
+SatisfiesNumbered o i axiom' = Satisfies (interpretation_of o.names i) (axiom_tree o axiom')
 
 -- the row has the elements of the expression
 pub record IsExtension (i : Interpretation) (c : ClassExpression) (row : List Bool) : Type 0 where

@@ -19,6 +19,10 @@ members_of i c = slice_index_or i.classes c []
 abbrev pub targets_of : NumberedInterpretation → ℕ → ℕ → List ℕ
 targets_of i r x = slice_index_or (slice_index_or i.pairs r []) x []
 
+-- the two properties have the same targets at each element
+abbrev pub HaveSameTargets : NumberedInterpretation → ℕ → ℕ → Type 0
+HaveSameTargets i r s = (x : ℕ) → x < i.size → targets_of i r x ≡ targets_of i s x
+
 -- ascending numbers below a bound, none twice
 pub record AreElements (size : ℕ) (xs : List ℕ) : Type 0 where
   pub ascending : IsStrictlyIncreasing xs

@@ -32,6 +32,7 @@ impl Interpretation {
                 let fillers = self.extension(ontology, *filler)?;
                 self.sources(*property, &fillers)
             }
+            // The expression is one of the ontology.
             None => unreachable!(),
         }
     }

@@ -1,7 +1,8 @@
 //! A finite interpretation of an ontology's names.
-ghost use Rattle.std.specs.Prelude.{◌≡◌, ◌<◌, ◌↔◌, IfOk, IfErr, IsOk, OnOk, OnErr, if◌then◌else◌, nat_lt, ◌==◌, ◌&&◌, length, slice_get, option_map, option_and_then, replicate, true, false, ◌∷◌, ◌-◌};
+ghost use Rattle.std.specs.Prelude.{◌≡◌, ◌<◌, ◌↔◌, IfOk, IfErr, IsOk, OnOk, OnErr, if◌then◌else◌, ◌==◌, length, slice_get, option_map, option_and_then, replicate, true, false, ◌∷◌, ◌-◌};
 ghost use Rattle.interpretation_spec.specs.declared.fault.InterpretationFault.TheVariants as faults;
 ghost use Rattle.interpretation_spec.specs.NumberedInterpretation.{IsNumberedInterpretation, empty_interpretation, with_individual, with_member, with_pair};
+ghost use Rattle.interpretation_spec.specs.Refusals.{class_refusal, pair_refusal};
 
 use crate::fault::InterpretationFault;
 use crate::pairs::{put_target, targets_in, without_pairs};
@@ -133,7 +134,7 @@ impl Interpretation {
     pub fn put_class(&mut self, class: ClassId, element: usize) -> Result<(), InterpretationFault>
         ensures taken { IsOk result ↔ ((1 < class.0) × (class.0 < length self.old.classes) × (element < self.old.size)) }
         ensures after { OnOk result (self.new ≡ with_member self.old class.0 element) }
-        ensures refused { IfErr result (λ e. (self.new ≡ self.old) × (e ≡ (if nat_lt class.0 (length self.old.classes) && nat_lt element self.old.size then faults.FixedClass else faults.OutOfDomain))) }
+        ensures refused { IfErr result (λ e. (self.new ≡ self.old) × (e ≡ class_refusal self.old class.0 element)) }
     {
         if class.0 as usize >= self.classes.len() || element >= self.size {
             return Err(InterpretationFault::OutOfDomain);
@@ -155,7 +156,7 @@ impl Interpretation {
     ) -> Result<(), InterpretationFault>
         ensures taken { OnOk result ((property.0 < length self.old.pairs) × (source < self.old.size) × (target < self.old.size)) }
         ensures after { OnOk result (self.new ≡ with_pair self.old property.0 source target) }
-        ensures refused { IfErr result (λ e. (self.new ≡ self.old) × (e ≡ (if nat_lt property.0 (length self.old.pairs) && nat_lt source self.old.size && nat_lt target self.old.size then faults.Memory else faults.OutOfDomain))) }
+        ensures refused { IfErr result (λ e. (self.new ≡ self.old) × (e ≡ pair_refusal self.old property.0 source target)) }
     {
         if property.0 as usize >= self.pairs.len() || source >= self.size || target >= self.size {
             return Err(InterpretationFault::OutOfDomain);

@@ -1,11 +1,11 @@
 //! Which axioms hold.
 ghost use Rattle.std.specs.Prelude.{◌≡◌, ℕ, ◌<◌, ◌↔◌, IfOk, IsNone, IfSome, IsTrue, length, AllPairs, All, true, slice_index_or};
-ghost use Rattle.axioms.specs.Ontology.{axiom_tree, axiom_trees, expression as expression_of, expressions};
+ghost use Rattle.axioms.specs.Ontology.{DisjointClasses, EquivalentClasses, SubClass, axiom_trees};
 ghost use Rattle.axioms.specs.View.{axiom_of, expr_numbers, prop_numbers};
 ghost use Rattle.axioms.specs.WellFormedness.{IsAxiomOf};
-ghost use Rattle.interpretation_spec.specs.NamedInterpretation.{HasNumberedPath, IsFirstUnsatisfied, interpretation_of, is_target};
-ghost use Rattle.interpretation_spec.specs.Interpretation.{IsApart, IsModel, IsSame, IsWithin, Satisfies};
-ghost use Rattle.interpretation_spec.specs.NumberedInterpretation.{IsMadeFor, targets_of};
+ghost use Rattle.interpretation_spec.specs.NamedInterpretation.{HasNumberedPath, IsFirstUnsatisfied, IsNumberedSubProperty, IsTargetOfSome, SatisfiesNumbered, interpretation_of, is_target};
+ghost use Rattle.interpretation_spec.specs.Interpretation.{IsModel};
+ghost use Rattle.interpretation_spec.specs.NumberedInterpretation.{HaveSameTargets, IsMadeFor, targets_of};
 ghost use Rattle.number_sets.specs.Members.{has};
 
 use crate::interpretation::Interpretation;
@@ -35,7 +35,7 @@ impl Interpretation {
     pub fn satisfies(&self, ontology: &Ontology, axiom: &Axiom) -> Result<bool, Memory>
         requires made_for { IsMadeFor ontology.now.names self.now }
         requires of { IsAxiomOf ontology.now (axiom_of «axiom».now) }
-        ensures { IfOk result (λ holds. IsTrue holds ↔ Satisfies (interpretation_of ontology.now.names self.now) (axiom_tree ontology.now (axiom_of «axiom».now))) }
+        ensures { IfOk result (λ holds. IsTrue holds ↔ SatisfiesNumbered ontology.now self.now (axiom_of «axiom».now)) }
     {
         ontology.well_formed();
         match axiom {
@@ -65,7 +65,7 @@ impl Interpretation {
         requires made_for { IsMadeFor ontology.now.names self.now }
         requires sub_there { sub.0 < length ontology.now.nodes }
         requires super_there { sup.0 < length ontology.now.nodes }
-        ensures { IfOk result (λ holds. IsTrue holds ↔ IsWithin (interpretation_of ontology.now.names self.now) (expression_of ontology.now sub.0) (expression_of ontology.now sup.0)) }
+        ensures { IfOk result (λ holds. IsTrue holds ↔ SatisfiesNumbered ontology.now self.now (SubClass sub.0 sup.0)) }
     {
         let sub = self.extension(ontology, sub)?;
         let sup = self.extension(ontology, sup)?;
@@ -76,7 +76,7 @@ impl Interpretation {
     fn are_same(&self, ontology: &Ontology, operands: &[ExprId]) -> Result<bool, Memory>
         requires made_for { IsMadeFor ontology.now.names self.now }
         requires there { All (λ e. e < length ontology.now.nodes) (expr_numbers operands.now) }
-        ensures { IfOk result (λ holds. IsTrue holds ↔ AllPairs (IsSame (interpretation_of ontology.now.names self.now)) (expressions ontology.now (expr_numbers operands.now))) }
+        ensures { IfOk result (λ holds. IsTrue holds ↔ SatisfiesNumbered ontology.now self.now (EquivalentClasses (expr_numbers operands.now))) }
     {
         let Some(first) = operands.first() else {
             return Ok(true);
@@ -98,7 +98,7 @@ impl Interpretation {
     fn are_apart(&self, ontology: &Ontology, operands: &[ExprId]) -> Result<bool, Memory>
         requires made_for { IsMadeFor ontology.now.names self.now }
         requires there { All (λ e. e < length ontology.now.nodes) (expr_numbers operands.now) }
-        ensures { IfOk result (λ holds. IsTrue holds ↔ AllPairs (IsApart (interpretation_of ontology.now.names self.now)) (expressions ontology.now (expr_numbers operands.now))) }
+        ensures { IfOk result (λ holds. IsTrue holds ↔ SatisfiesNumbered ontology.now self.now (DisjointClasses (expr_numbers operands.now))) }
     {
         let mut seen = Row::new(self.alloc, self.size())?;
         for operand in operands {
@@ -152,7 +152,7 @@ impl Interpretation {
     /// Whether the properties join the same elements.
     fn are_same_properties(&self, properties: &[PropId]) -> bool
         requires { All (λ r. r < length self.now.pairs) (prop_numbers properties.now) }
-        ensures { IsTrue result ↔ AllPairs (λ r s. (x : ℕ) → x < self.now.size → targets_of self.now r x ≡ targets_of self.now s x) (prop_numbers properties.now) }
+        ensures { IsTrue result ↔ AllPairs (HaveSameTargets self.now) (prop_numbers properties.now) }
     {
         let Some(first) = properties.first() else {
             return true;
@@ -169,7 +169,7 @@ impl Interpretation {
     fn have_same_targets(&self, first: PropId, second: PropId) -> bool
         requires first_there { first.0 < length self.now.pairs }
         requires second_there { second.0 < length self.now.pairs }
-        ensures { IsTrue result ↔ ((x : ℕ) → x < self.now.size → targets_of self.now first.0 x ≡ targets_of self.now second.0 x) }
+        ensures { IsTrue result ↔ HaveSameTargets self.now first.0 second.0 }
     {
         for source in 0..self.size() {
             if self.targets_at(first, source) != self.targets_at(second, source) {
@@ -183,7 +183,7 @@ impl Interpretation {
     fn is_sub_property(&self, chain: &[PropId], property: PropId) -> Result<bool, Memory>
         requires chain_there { All (λ r. r < length self.now.pairs) (prop_numbers chain.now) }
         requires property_there { property.0 < length self.now.pairs }
-        ensures { IfOk result (λ holds. IsTrue holds ↔ ((x : ℕ) → x < self.now.size → (y : ℕ) → y < self.now.size → HasNumberedPath self.now (prop_numbers chain.now) x y → is_target self.now property.0 x y ≡ true)) }
+        ensures { IfOk result (λ holds. IsTrue holds ↔ IsNumberedSubProperty self.now (prop_numbers chain.now) property.0) }
     {
         for source in 0..self.size() {
             let reached = self.reached(chain, source)?;
@@ -215,7 +215,7 @@ impl Interpretation {
     fn successors(&self, property: PropId, sources: &Row) -> Result<Row, Memory>
         requires there { property.0 < length self.now.pairs }
         ensures long { IfOk result (λ row. length row ≡ self.now.size) }
-        ensures members { IfOk result (λ row. (y : ℕ) → y < self.now.size → (has row y ≡ true) ↔ ((x : ℕ) × (x < self.now.size) × (has sources.now x ≡ true) × (is_target self.now property.0 x y ≡ true))) }
+        ensures members { IfOk result (λ row. (y : ℕ) → y < self.now.size → (has row y ≡ true) ↔ IsTargetOfSome self.now property.0 sources.now y) }
     {
         let mut successors = Row::new(self.alloc, self.size())?;
         for source in 0..self.size() {

@@ -1,42 +1,23 @@
 -- What the listed interpretation says of names.
-use Rattle.std.proofs.Common.{◌≡◌, ◌↔◌, ℕ, zero, suc, ◌+◌, ◌<◌, ◌≤◌, List, [], ◌∷◌, length, get_or, slice_get, Some, Option, unwrap_or, Contains, true, false, refl, sym, ap, ◌∙◌, arith, inl, inr}
+use Rattle.std.proofs.Common.{◌≡◌, ◌↔◌, ℕ, zero, suc, ◌+◌, ◌<◌, ◌≤◌, List, [], ◌∷◌, length, get_or, slice_get, Some, Contains, true, refl, sym, ap, ◌∙◌, arith, inl, inr}
 use Rattle.std.specs.List.{range_with_len}
-use Rattle.std.specs.Str.{bytes_eq}
-use Rattle.std.proofs.lemmas.Bool.{false_from_ne_true, cases_lt, cases_eq, eq-eqb, ne_eqb}
+use Rattle.std.proofs.lemmas.Bool.{cases_lt, cases_eq, eq-eqb, ne_eqb}
 use Rattle.std.proofs.lemmas.List.{get_or_past}
 use Rattle.std.proofs.lemmas.List.FromFn.{length-range_with_len, get_or-range_with_len}
 use Rattle.std.proofs.lemmas.Option.{none-some, same_Some, get_or_from_slice_get, slice_get_within}
-use Rattle.std.proofs.lemmas.Slice.Eq.{bytes_eq-Decides}
-use Rattle.lemmas.proofs.Places.{slice_get_there}
-use Rattle.axioms.specs.Expression.{Iri, owl_thing, owl_nothing}
+use Rattle.axioms.specs.Expression.{owl_thing, owl_nothing}
 use Rattle.axioms.specs.Ontology.{Ontology, Node, Class, And, Exists, IsClassAt, name_at, property_name, individual_name}
-use Rattle.axioms.specs.WellFormedness.{IsOntology, AreDistinct}
+use Rattle.axioms.specs.WellFormedness.{IsOntology}
 use Rattle.axioms.proofs.Trees.{class_number}
 use Rattle.certificate.specs.Certificate.{Listed}
 use Rattle.certificate.specs.Writability.{IsListedOf}
 use Rattle.interpretation_spec.specs.Interpretation.{IsInterpretation}
 use Rattle.interpretation_spec.specs.NamedInterpretation.{number_of}
+use Rattle.interpretation_spec.proofs.Names.{named, number_of-name_at}
 use Rattle.listed_model.specs.Listing.{IsListing, elements_of, targets_of}
 use Rattle.listed_model.specs.Interpretations.{class_place, class_members, listed_interpretation}
 use Rattle.listed_model.specs.Members.{holds}
 use Rattle.listed_model.proofs.Members.{holds_from_Contains, Contains_from_holds}
-
--- the number of the name that stands at a place, and at no other
-number_at : (names : List Iri) (c : ℕ) (name : Iri) → slice_get names c ≡ Some name → ((m : ℕ) → slice_get names m ≡ Some name → m ≡ c) → number_of names name ≡ c
-number_at [] c name g only = absurd (none-some name g)
-number_at (x ∷ xs) zero name g only = rw ((bytes_eq-Decides x name).1 (same_Some x name g)) refl
-number_at (x ∷ xs) (suc c) name g only =
-    let other : x ≡ name → ⊥ = λ e. (let at : 0 ≡ suc c = only 0 (ap Some e) in absurd (omega arith)) in
-    let apart : bytes_eq x name ≡ false = false_from_ne_true (bytes_eq x name) (λ e. other ((bytes_eq-Decides x name).0 e)) in
-    rw apart (ap suc (number_at xs c name g (λ m h. (let at : suc m ≡ suc c = only (suc m) h in omega arith))))
-
-named : (names : List Iri) → AreDistinct names → (c : ℕ) (name : Iri) → slice_get names c ≡ Some name → number_of names name ≡ c
-named names distinct c name g = number_at names c name g (λ m h. distinct m c name h g)
-
-numbered : (names : List Iri) → AreDistinct names → (c : ℕ) → c < length names → number_of names (name_at names c) ≡ c
-numbered names distinct c l =
-    let (name, g) = slice_get_there names c l in
-    ap (λ (o : Option Iri). number_of names (unwrap_or o [])) g ∙ named names distinct c name g
 
 -- a class's place among the expressions
 place_at : (nodes : List Node) (c e : ℕ) → slice_get nodes e ≡ Some (Class c) → ((m : ℕ) → slice_get nodes m ≡ Some (Class c) → m ≡ e) → class_place nodes c ≡ e
@@ -74,15 +55,15 @@ module _ (o : Ontology) (w : IsOntology o) (l : Listed) where
 
   pub class_is : (c e x : ℕ) → IsClassAt o c e → (listed_interpretation o l).class (name_at o.names.classes c) x ≡ holds (class_members l e) x
   unfolding listed_interpretation
-  class_is c e x g = ap (λ k. holds (class_members l (class_place o.nodes k)) x) (numbered o.names.classes w.distinct_classes c (w.nodes e (Class c) g)) ∙ ap (λ k. holds (class_members l k) x) (class_place_of o w c e g)
+  class_is c e x g = ap (λ k. holds (class_members l (class_place o.nodes k)) x) (number_of-name_at o.names.classes w.distinct_classes c (w.nodes e (Class c) g)) ∙ ap (λ k. holds (class_members l k) x) (class_place_of o w c e g)
 
   pub property_is : (r x y : ℕ) → r < length o.names.properties → (listed_interpretation o l).property (property_name o r) x y ≡ holds (targets_of l.pairs r x) y
   unfolding listed_interpretation
-  property_is r x y lr = ap (λ k. holds (targets_of l.pairs k x) y) (numbered o.names.properties w.distinct_properties r lr)
+  property_is r x y lr = ap (λ k. holds (targets_of l.pairs k x) y) (number_of-name_at o.names.properties w.distinct_properties r lr)
 
   pub individual_is : (a : ℕ) → a < length o.names.individuals → (listed_interpretation o l).individual (individual_name o a) ≡ get_or l.individuals a 0
   unfolding listed_interpretation
-  individual_is a la = ap (λ k. get_or l.individuals k 0) (numbered o.names.individuals w.distinct_individuals a la)
+  individual_is a la = ap (λ k. get_or l.individuals k 0) (number_of-name_at o.names.individuals w.distinct_individuals a la)
 
   pub listing_is : IsListedOf o l → IsListing o l (listed_interpretation o l)
   listing_is fits = record {

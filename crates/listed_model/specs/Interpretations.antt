@@ -1,9 +1,9 @@
 -- The interpretation that a list of members lists.
 use Rattle.std.specs.Prelude.{ℕ, zero, suc, List, [], ◌∷◌, if◌then◌else◌, ◌==◌, slice_index_or}
 use Rattle.std.specs.List.{range_with_len}
-use Rattle.axioms.specs.Ontology.{Ontology, Node, Class, And, Exists}
+use Rattle.axioms.specs.Ontology.{Axiom, Ontology, Node, Class, And, Exists, axiom_tree}
 use Rattle.interpretation_spec.specs.NamedInterpretation.{number_of}
-use Rattle.interpretation_spec.specs.Interpretation.{Interpretation}
+use Rattle.interpretation_spec.specs.Interpretation.{Interpretation, Satisfies}
 use Rattle.certificate.specs.Certificate.{Listed}
 use Rattle.listed_model.specs.Listing.{elements_of, targets_of}
 use Rattle.listed_model.specs.Members.{holds}
@@ -29,3 +29,7 @@ listed_interpretation o l = record {
   property = λ r x y. holds (targets_of l.pairs (number_of o.names.properties r) x) y;
   individual = λ a. slice_index_or l.individuals (number_of o.names.individuals a) 0;
 }
+
+-- what the axiom over numbers says is satisfied
+abbrev pub SatisfiesListed : Ontology → Listed → Axiom → Type 0
+SatisfiesListed o l axiom' = Satisfies (listed_interpretation o l) (axiom_tree o axiom')

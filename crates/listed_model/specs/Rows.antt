@@ -42,6 +42,10 @@ HasListedPath rows (r ∷ rs) x y = (z : ℕ) × (holds (targets_of rows r x) z 
 abbrev pub LiesWithin : List (ℕ × ℕ × List ℕ) → ℕ → ℕ → Type 0
 LiesWithin rows r s = (x y : ℕ) → holds (targets_of rows r x) y ≡ true → holds (targets_of rows s x) y ≡ true
 
+-- the two properties have the same pairs
+abbrev pub HaveSamePairs : List (ℕ × ℕ × List ℕ) → ℕ → ℕ → Type 0
+HaveSamePairs rows r s = (x y : ℕ) → holds (targets_of rows r x) y ≡ holds (targets_of rows s x) y
+
 -- from y the property leads to nothing but the targets
 abbrev pub LeadsWithin : List (ℕ × ℕ × List ℕ) → ℕ → List ℕ → ℕ → Type 0
 LeadsWithin rows r targets y = (z : ℕ) → holds (targets_of rows r y) z ≡ true → holds targets z ≡ true

@@ -1,16 +1,15 @@
 //! The elements of class expressions.
 ghost use Rattle.certificate.specs.Writability.{IsListedOf};
-ghost use Rattle.certificate.specs.View.{listed_of, pair_row_of};
+ghost use Rattle.certificate.specs.View.{listed_of};
 ghost use Rattle.listed_model.specs.Extensions.{AreExtensions, IsExtension};
 ghost use Rattle.listed_model.specs.Rows.{AreClassRows, AreHolders};
 ghost use Rattle.listed_model.specs.Interpretations.{class_members};
-ghost use Rattle.listed_model.specs.Listing.{targets_of};
-ghost use Rattle.listed_model.specs.Members.{holds};
+ghost use Rattle.listed_model.specs.Members.{holds, holds_each};
 ghost use Rattle.axioms.specs.View.{expr_numbers};
 ghost use Rattle.number_sets.specs.Pieces.{list_at};
-ghost use Rattle.std.specs.List.{list_all, range_with_len};
+ghost use Rattle.std.specs.List.{range_with_len};
 ghost use Rattle.std.specs.List.Sorted.{IsStrictlyIncreasing};
-ghost use Rattle.std.specs.Prelude.{◌&&◌, ◌<◌, ◌≡◌, ◌⊎◌, ◌↔◌, Contains, IfOk, length, map, true, ℕ};
+ghost use Rattle.std.specs.Prelude.{◌<◌, ◌∷◌, ◌≡◌, ◌⊎◌, Contains, IfOk, length, ℕ};
 
 use crate::ascending::common;
 use crate::restriction::{holders_of, restriction};
@@ -65,7 +64,7 @@ fn in_each(
 ) -> Result<Vec<u32>, Memory>
     requires { (e : ℕ) → IsStrictlyIncreasing (list_at made.now e) }
     ensures ascending { IfOk result (λ both. IsStrictlyIncreasing both.items) }
-    ensures members { IfOk result (λ both. (x : ℕ) → holds both.items x ≡ (holds (list_at made.now first.0) x && list_all (λ e. holds (list_at made.now e) x) (expr_numbers operands.now))) }
+    ensures members { IfOk result (λ both. (x : ℕ) → holds both.items x ≡ holds_each made.now (first.0 ∷ expr_numbers operands.now) x) }
 {
     let mut both = Vec::from_slice(alloc, made.at(first.index()))?;
     for operand in operands {
@@ -79,7 +78,7 @@ fn intersection(alloc: Global, made: &PackedLists, operands: &[ExprId]) -> Resul
     requires some { 0 < length operands.now }
     requires made { (e : ℕ) → IsStrictlyIncreasing (list_at made.now e) }
     ensures ascending { IfOk result (λ both. IsStrictlyIncreasing both.items) }
-    ensures members { IfOk result (λ both. (x : ℕ) → holds both.items x ≡ list_all (λ e. holds (list_at made.now e) x) (expr_numbers operands.now)) }
+    ensures members { IfOk result (λ both. (x : ℕ) → holds both.items x ≡ holds_each made.now (expr_numbers operands.now) x) }
 {
     let least = least_operand(made, operands[0], operands);
     in_each(alloc, made, least, operands)
@@ -111,6 +110,7 @@ fn extension(
             *property,
             made.at(filler.index()),
         ),
+        // The expression is one of the ontology.
         None => unreachable!(),
     }
 }

@@ -3,7 +3,7 @@ ghost use Rattle.axioms.specs.View.{prop_numbers};
 ghost use Rattle.certificate.specs.View.{pair_row_of};
 ghost use Rattle.listed_model.specs.Listing.{targets_of};
 ghost use Rattle.listed_model.specs.Members.{holds};
-ghost use Rattle.listed_model.specs.Rows.{ArePairRows};
+ghost use Rattle.listed_model.specs.Rows.{ArePairRows, HaveSamePairs, LiesWithin};
 ghost use Rattle.std.specs.List.Sorted.{IsStrictlyIncreasing};
 ghost use Rattle.std.specs.Prelude.{◌≡◌, ◌↔◌, ◌<◌, AllPairs, IsTrue, map, true, ℕ};
 
@@ -15,8 +15,7 @@ use certificate::PairRow;
 /// Whether each pair of the property is one of the property above.
 pub(crate) fn are_pairs_within(rows: &[PairRow], property: PropId, above: PropId) -> bool
     requires { ArePairRows rows.now }
-    ensures { IsTrue result ↔ ((x y : ℕ) → holds (targets_of (map pair_row_of rows.now) property.0 x) y ≡ true
-        → holds (targets_of (map pair_row_of rows.now) above.0 x) y ≡ true) }
+    ensures { IsTrue result ↔ LiesWithin (map pair_row_of rows.now) property.0 above.0 }
 {
     for row in rows_of(rows, property) {
         if !are_within(&row.targets, targets_at(rows, above, row.source)) {
@@ -29,7 +28,7 @@ pub(crate) fn are_pairs_within(rows: &[PairRow], property: PropId, above: PropId
 /// Whether the properties have the same pairs.
 pub(crate) fn are_same_properties(rows: &[PairRow], properties: &[PropId]) -> bool
     requires { ArePairRows rows.now }
-    ensures { IsTrue result ↔ AllPairs (λ r s. (x y : ℕ) → holds (targets_of (map pair_row_of rows.now) r x) y ≡ holds (targets_of (map pair_row_of rows.now) s x) y) (prop_numbers properties.now) }
+    ensures { IsTrue result ↔ AllPairs (HaveSamePairs (map pair_row_of rows.now)) (prop_numbers properties.now) }
 {
     let Some(first) = properties.first() else {
         return true;

@@ -104,8 +104,8 @@ pub(crate) fn restriction(
     fillers: &[u32],
 ) -> Result<Vec<u32>, Memory>
     requires rows { ArePairRows rows.now }
-    requires holders { (y : ℕ) → holds fillers.now y ≡ true → IsHolders rows.now y (list_at holders.now y) }
     requires fillers { IsStrictlyIncreasing fillers.now }
+    requires holders { (y : ℕ) → holds fillers.now y ≡ true → IsHolders rows.now y (list_at holders.now y) }
     ensures ascending { IfOk result (λ sources. IsStrictlyIncreasing sources.items) }
     ensures members { IfOk result (λ sources. (x : ℕ) → (holds sources.items x ≡ true) ↔ Joined (map pair_row_of rows.now) property.0 fillers.now x) }
 {

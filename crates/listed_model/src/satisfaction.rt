@@ -1,13 +1,13 @@
 //! Which axioms a listed interpretation satisfies.
-ghost use Rattle.axioms.specs.Ontology.{axiom_tree, axiom_trees};
+ghost use Rattle.axioms.specs.Ontology.{axiom_trees};
 ghost use Rattle.axioms.specs.View.{axiom_of, prop_numbers};
 ghost use Rattle.axioms.specs.WellFormedness.{IsAxiomOf};
 ghost use Rattle.certificate.specs.Writability.{IsListedOf};
 ghost use Rattle.certificate.specs.View.{listed_of, pair_row_of};
 ghost use Rattle.interpretation_spec.specs.NamedInterpretation.{IsFirstUnsatisfied};
-ghost use Rattle.interpretation_spec.specs.Interpretation.{Interpretation, IsInterpretation, IsModel, Satisfies};
+ghost use Rattle.interpretation_spec.specs.Interpretation.{Interpretation, IsInterpretation, IsModel};
 ghost use Rattle.listed_model.specs.Extensions.{AreExtensions};
-ghost use Rattle.listed_model.specs.Interpretations.{listed_interpretation};
+ghost use Rattle.listed_model.specs.Interpretations.{SatisfiesListed, listed_interpretation};
 ghost use Rattle.listed_model.specs.Listing.{IsListing, targets_of};
 ghost use Rattle.listed_model.specs.Members.{holds};
 ghost use Rattle.listed_model.specs.Rows.{ArePairRows, HasListedPath};
@@ -90,7 +90,7 @@ fn satisfies(
     requires of { IsAxiomOf ontology.now (axiom_of «axiom».now) }
     ensures len { length room.new.seen ≡ length room.old.seen }
     ensures shown { OnOk result (AreShown (map pair_row_of listed.now.pairs.items) room.new.shown) }
-    ensures satisfied { IfOk result (λ holds. IsTrue holds ↔ Satisfies (listed_interpretation ontology.now (listed_of listed.now)) (axiom_tree ontology.now (axiom_of «axiom».now))) }
+    ensures satisfied { IfOk result (λ holds. IsTrue holds ↔ SatisfiesListed ontology.now (listed_of listed.now) (axiom_of «axiom».now)) }
 {
     ontology.well_formed();
     match axiom {

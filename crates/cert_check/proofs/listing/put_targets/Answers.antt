@@ -1,6 +1,6 @@
-use Rattle.std.proofs.Common.{◌≡◌, Some, get_or, length, slice_get, Contains, List, ℕ, ap, subst, arith}
+use Rattle.std.proofs.Common.{◌≡◌, get_or, length, Contains, List, ℕ, ap, subst, arith}
 use Rattle.std.proofs.lemmas.List.{take_all}
-use Rattle.std.proofs.lemmas.Option.{slice_get-get_or}
+use Rattle.interpretation_spec.proofs.Steps.{slice_get_same}
 use Rattle.cert_check.specs.Additions.{AddsPairs}
 use Rattle.cert_check.proofs.Additions.{pair_step, went_well}
 use Rattle.cert_check.proofs.listing.put_targets.Goals as goal
@@ -10,12 +10,10 @@ loop-target-preserved c =
     let row = c.args.row.now in
     let items = c.deref-target-items.result.now in
     let k = c.loop-target.target-index in
-    let y = get_or items k 0 in
-    let there : slice_get row.targets.items k ≡ Some y =
-    subst (λ (ys : List ℕ). slice_get ys k ≡ Some y) c.deref-target-items.ensures.value (slice_get-get_or items k 0 c.loop-target-test.true) in
+    let there = slice_get_same items row.targets.items k 0 c.deref-target-items.ensures.value c.loop-target-test.true in
     let well = went_well c.put_pair.result c.is_err.result c.is_err.ensures.negation c.if-is_err.false c.put_pair.ensures.after in
     let taken = (went_well c.put_pair.result c.is_err.result c.is_err.ensures.negation c.if-is_err.false c.put_pair.ensures.taken).1 in
-    pair_step row.property.0 row.source row.targets.items k y there
+    pair_step row.property.0 row.source row.targets.items k (get_or items k 0) there
     c.args.interpretation.now c.loop-target.interpretation c.put_pair.new.self
     c.well_formed-in-loop-target.ensures taken.0 taken.1 well.1 c.loop-target.invariant
 

@@ -4,7 +4,7 @@ use Rattle.classification.proofs.Growing.{adds_none, adds_here, puts_below_once}
 use Rattle.classification.proofs.relation.put_below.Goals as goal
 
 pub returns-in-None : goal.returns-in-None
-returns-in-None c = adds_none _ _ c.in-None.ensures
+returns-in-None c = adds_none _ _ c.in-None.ensures.pair
 
 pub returns-in_ok-push-in-Some : goal.returns-in_ok-push-in-Some
 returns-in_ok-push-in-Some c =
@@ -12,6 +12,6 @@ returns-in_ok-push-in-Some c =
     let class = c.index.result in
     let above = c.in-Some.above.0 in
     let at : class ≡ c.in-Some.class.0 = c.index.ensures in
-    let here : puts class above = subst (λ k. puts k above) (sym at) c.in-Some.ensures.0 in
-    adds_here puts c.args.lists.now c.push.new.self class above (omega (arith, at, c.requires, c.in-Some.ensures.1)) c.in_ok-push-in-Some.ensures.ok here
+    let here : puts class above = subst (λ k. puts k above) (sym at) c.in-Some.ensures.pair in
+    adds_here puts c.args.lists.now c.push.new.self class above (omega (arith, at, c.requires, c.in-Some.ensures.within)) c.in_ok-push-in-Some.ensures.ok here
     (puts_below_once c.args.ontology.now c.args.fact.now class above here)

@@ -14,7 +14,7 @@ use Rattle.explain.proofs.lifting.lifted.Goals.{in_default-via-in-Property+in_de
 pub loop-form-preserved : goal.loop-form-preserved
 loop-form-preserved g c =
     let (r, to, above, path, shown) = c.loop-form.invariant.shown in
-    let (t, at, rest) = path_on c.args.paths.now r to c.deref-form-items.result.now c.loop-form.form-index 0 (omega (arith, c.loop-form-test.true)) path in
+    let (t, at, rest) = path_on c.args.basis.now.paths.now r to c.deref-form-items.result.now c.loop-form.form-index 0 (omega (arith, c.loop-form-test.true)) path in
     record {
       derivation = c.in_ok-lines.ensures.derivation;
       longer = lengthened_twice c.loop-form.invariant.longer c.in_ok-lines.ensures.longer;
@@ -24,10 +24,10 @@ loop-form-preserved g c =
 
 pub returns-in_default-clause-shown : goal.returns-in_default-clause-shown
 returns-in_default-clause-shown g c =
-    let forms = c.args.saturation.now.state.problem.forms in
+    let forms = c.args.basis.now.saturation.now.state.problem.forms in
     let same : c.args.property ≡ c.args.above = elim c.in_default.branch [
       | in_default-via-in-Property+in_default w ↦ stays forms w.in_default.field-0-1 c.args.property c.args.above c.requires.below (inr w.in_default.is-1)
       | in_default-via-in_default w ↦ stays forms w.in_default.field-0-0 c.args.property c.args.above c.requires.below (inl w.in_default.is-0)
     ] in
     let numbers : c.extend_from_slice.new.self.items ≡ c.args.numbers.now = c.in_ok-extend_from_slice.ensures.items ∙ ap (λ ns. ns ++ c.args.numbers.now) c.new-lines.ensures.items in
-    subst₂ (λ (ns : List ℕ) (q : PropId2). AreShowing (prefixes_of c.args.saturation.now.normal) c.args.derivation.now ns (Edge c.args.source q c.args.target)) (sym numbers) same c.requires.shown
+    subst₂ (λ (ns : List ℕ) (q : PropId2). AreShowing (prefixes_of c.args.basis.now.saturation.now.normal) c.args.derivation.now ns (Edge c.args.ends.source q c.args.ends.target)) (sym numbers) same c.requires.shown

@@ -1,7 +1,7 @@
 use Rattle.std.proofs.Common.{inl, inr, arith, ap, ◌∙◌, subst}
 use Rattle.std.proofs.lemmas.Bool.{cases_eq, eq-eqb, false≢true}
 use Rattle.std.proofs.lemmas.Option.{get_or_from_slice_get}
-use Rattle.explain.specs.declared.search.Reached.{Reached}
+use Rattle.explain.specs.declared.reached.Reached.{Reached}
 use Rattle.explain.specs.Search.{StandsAt}
 use Rattle.explain.proofs.Places.{stands_within}
 use Rattle.explain.proofs.walk.place_of.Goals as goal
