@@ -5,29 +5,31 @@ use Rattle.cert_check.specs.declared.verdict.Verdict.{Verdict}
 use Rattle.cert_check.specs.declared.verdict.Verdict.TheVariants.{Accepted}
 use Rattle.axioms.specs.Ontology.{Ontology}
 use Rattle.clap.specs.Words.{Row, Text, takes}
-use Rattle.command_line.specs.CommandLine.{ArePaths, IsNumber, IsTaskOf, Refuses, elc_app, most_bytes}
+use Rattle.command_line.proofs.Numbers.{one_number}
+use Rattle.command_line.specs.CommandLine.{AreLimits, ArePaths, IsCommand, IsTaskOf, Refuses, elc_app}
+use Rattle.command_line.specs.declared.tasks.Command.{Command}
+use Rattle.command_line.specs.declared.tasks.Command.TheVariants.{Check, Classify, Explain, Instances}
 use Rattle.command_line.specs.declared.tasks.LineFault.{LineFault}
 use Rattle.command_line.specs.declared.tasks.LineFault.TheVariants as line
 use Rattle.command_line.specs.declared.tasks.Paths.{Paths}
 use Rattle.command_line.specs.declared.tasks.Task.{Task}
-use Rattle.command_line.specs.declared.tasks.Task.TheVariants.{Check, Classify, Explain, Instances}
 use Rattle.cli.specs.declared.fault.CheckFault.{CheckFault}
 use Rattle.cli.specs.declared.fault.CheckFault.TheVariants as checking
 use Rattle.std.specs.Prelude.{codes}
-use Rattle.std.specs.Str.Parse.{digits_value, without_leading_plus}
 use Rattle.cli.proofs.WrittenAccepted.{written_is_accepted}
 use Rattle.cli.specs.Checks.{IsChecked, IsCheckFault}
 use Rattle.session.specs.Devices.{Device}
-use Rattle.cli.specs.Runs.{AreApart, HoldTexts, IsCheckRun, IsCheckTold, IsCheckedFiles, IsClassifyAnswer, IsClassifyRun, IsClassifyTold, IsPerformed, IsTaskRun}
+use Rattle.cli.specs.Runs.{AreApart, HoldTexts, IsCheckRun, IsCheckTold, IsCheckedFiles, IsClassifyAnswer, IsClassifyRun, IsClassifyTold, IsCommandRun, IsPerformed}
 use Rattle.cli.specs.Files.{Store}
 use Rattle.cli.specs.Messages.{Output, IsAnswered, IsLineTold, IsPrinted, IsTold, classify_status, out_of_memory, verdict_status, verdict_text}
 use Rattle.cli.specs.Theorems.{AreSamePaths, IsAcceptedRun, IsDocumentApart, WrittenFilesAreAccepted}
-use Rattle.cli.specs.Classifications.{IsClassified}
+use Rattle.session.specs.Classifications.{IsClassified}
 use Rattle.session.specs.WrittenTexts.{Texts}
 use Rattle.cli.specs.declared.fault.ClassifyFault.{ClassifyFault}
 use Rattle.cli.specs.declared.fault.ClassifyFault.TheVariants as classifying
 use Rattle.classification.specs.declared.classification.Summary.{Summary}
 use Rattle.profile.specs.Messages.{status_of}
+use Rattle.program.specs.declared.limits.Limits.{Limits}
 use Rattle.program.specs.Status.{code_of}
 use Rattle.program.specs.declared.status.Status.{Status}
 use Rattle.program.specs.declared.status.Status.TheVariants as statuses
@@ -86,21 +88,21 @@ check_accepted paths facts bytes most content old new status document texts summ
     inr (paths, fault, written_is_accepted bytes most facts document texts summary (Err fault) classified (subst P holds is), told.0, told.1)
 
 -- a run that ended with status 0 has classified the document
-answered : (written : Paths) (facts bytes : ℕ) (known : Bool) (content content' : Content) (old new : Output) (answer : Result Summary ClassifyFault) → known ≡ true → AreApart written → IsClassifyAnswer written facts bytes known content content' answer → IsClassifyTold written facts bytes answer old new (code_of statuses.Done) → (summary : Summary) × (texts : Texts) × IsClassified bytes facts (content written.document.now) summary texts × HoldTexts true written texts content'
-answered written facts bytes known content content' old new (Ok summary) is_known apart is told =
+answered : (written : Paths) (limits : Limits) (known : Bool) (content content' : Content) (old new : Output) (answer : Result Summary ClassifyFault) → known ≡ true → AreApart written → IsClassifyAnswer written limits.max_facts limits.max_bytes known content content' answer → IsClassifyTold written limits answer old new (code_of statuses.Done) → (summary : Summary) × (texts : Texts) × IsClassified limits.max_bytes limits.max_facts (content written.document.now) summary texts × HoldTexts true written texts content'
+answered written limits known content content' old new (Ok summary) is_known apart is told =
     let P : Bool → Type 0 = λ k. HoldTexts k written is.0 content' in
     (summary, is.0, is.1, subst P is_known (is.2 apart))
-answered written facts bytes known content content' old new (Err fault) is_known apart is told = absurd (told_not_done old.err new.err _ (classify_status fault) (fault_not_done fault) told.1)
+answered written limits known content content' old new (Err fault) is_known apart is told = absurd (told_not_done old.err new.err _ (classify_status fault) (fault_not_done fault) told.1)
 
 -- the run of a check on the same paths
-runs_accepted : (written checked : Paths) (facts bytes most : ℕ) (s s' : Store) (content content' : Content) (old new old' new' : Output) (status : ℕ) (document : List ℕ) → s.is_known ≡ true → AreSamePaths written checked → AreApart written → IsDocumentApart written → content written.document.now ≡ Some document → IsClassifyRun written facts bytes s content content' old new (code_of statuses.Done) → IsCheckRun checked most s' content' old' new' status → IsAcceptedRun most document old' new' status
-runs_accepted written checked facts bytes most s s' content content' old new old' new' status document known same apart document_apart holds run check =
-    let made = answered written facts bytes s.is_known content content' old new run.answer known apart run.made.answered run.told in
+runs_accepted : (written checked : Paths) (limits : Limits) (most : ℕ) (s s' : Store) (content content' : Content) (old new old' new' : Output) (status : ℕ) (document : List ℕ) → s.is_known ≡ true → AreSamePaths written checked → AreApart written → IsDocumentApart written → content written.document.now ≡ Some document → IsClassifyRun written limits s content content' old new (code_of statuses.Done) → IsCheckRun checked most s' content' old' new' status → IsAcceptedRun most document old' new' status
+runs_accepted written checked limits most s s' content content' old new old' new' status document known same apart document_apart holds run check =
+    let made = answered written limits s.is_known content content' old new run.answer known apart run.made.answered run.told in
     let summary = made.0 in
     let texts = made.1 in
-    let P : Option (List ℕ) → Type 0 = λ d. IsClassified bytes facts d summary texts in
+    let P : Option (List ℕ) → Type 0 = λ d. IsClassified limits.max_bytes limits.max_facts d summary texts in
     let kept = run.made.others written.document.now document_apart.taxonomy document_apart.instances document_apart.certificate in
-    check_accepted checked facts bytes most content' old' new' status document texts summary check.answer (subst P holds made.2)
+    check_accepted checked limits.max_facts limits.max_bytes most content' old' new' status document texts summary check.answer (subst P holds made.2)
     (ap content' (sym same.document) ∙ kept ∙ holds) (ap content' (sym same.taxonomy) ∙ made.3.taxonomy) (ap content' (sym same.instances) ∙ made.3.instances) (ap content' (sym same.certificate) ∙ made.3.certificate) check.checked check.told
 
 -- ---- the words ask for one task
@@ -114,53 +116,30 @@ same_paths rows p q a b = record {
   certificate = one_value _ _ _ a.certificate b.certificate;
 }
 
-same_number : (id : Text) (most : ℕ) (rows : List Row) (m n : ℕ) → IsNumber id most rows m → IsNumber id most rows n → m ≡ n
-same_number id most rows m n a b =
-    let word : a.word ≡ b.word = one_value _ _ _ a.given b.given in
-    a.value ∙ ap (λ w. digits_value 10 (without_leading_plus w)) word ∙ sym b.value
+-- what a run of a command says that the words of `classify` ask for
+classify_run : (name : Text) (rows : List Row) (paths : Paths) (command : Command) (limits : Limits) (s : Store) (content content' : Content) (old new : Output) (status : ℕ) → IsCommand name rows (Classify paths) → IsCommand name rows command → IsCommandRun command limits s content content' old new status → (paths' : Paths) × AreSamePaths paths paths' × IsClassifyRun paths' limits s content content' old new status
+classify_run name rows paths (Classify paths') limits s content content' old new status is is' run = (paths', same_paths rows paths paths' is.1 is'.1, run)
+classify_run name rows paths (Check paths') limits s content content' old new status is is' run = let bad : codes "classify" ≡ codes "check" = sym is.0 ∙ is'.0 in absurd (cc)
+classify_run name rows paths (Instances document class) limits s content content' old new status is is' run = let bad : codes "classify" ≡ codes "instances" = sym is.0 ∙ is'.0 in absurd (cc)
+classify_run name rows paths (Explain question) limits s content content' old new status is is' run = let bad : codes "classify" ≡ codes "explain" = sym is.0 ∙ is'.0 in absurd (cc)
 
--- what a run of a classification says, of the task that the words ask for
-classify_run : (words : List Text) (paths : Paths) (facts bytes : ℕ) (task : Task) (s : Store) (content content' : Content) (old new : Output) (status : ℕ) → IsTaskOf words (Classify paths facts bytes) → IsTaskOf words task → IsTaskRun task s content content' old new status → (paths' : Paths) × (facts' : ℕ) × (bytes' : ℕ) × AreSamePaths paths paths' × IsClassifyRun paths' facts' bytes' s content content' old new status
-classify_run words paths facts bytes (Classify paths' facts' bytes') s content content' old new status of of' run =
-    let rows : (of.name, of.rows) ≡ (of'.name, of'.rows) = one_value _ _ _ of.found of'.found in
-    let P : List Row → Type 0 = λ r. ArePaths r paths in
-    let here = subst P (ap (λ (p : Text × List Row). p.1) rows) of.is.1 in
-    (paths', facts', bytes', same_paths of'.rows paths paths' here of'.is.1, run)
-classify_run words paths facts bytes (Check paths' most) s content content' old new status of of' run =
-    let rows : (of.name, of.rows) ≡ (of'.name, of'.rows) = one_value _ _ _ of.found of'.found in
-    let bad : codes "classify" ≡ codes "check" = sym of.is.0 ∙ ap (λ (p : Text × List Row). p.0) rows ∙ of'.is.0 in
-    absurd (cc)
-classify_run words paths facts bytes (Instances document' class' facts' bytes') s content content' old new status of of' run =
-    let rows : (of.name, of.rows) ≡ (of'.name, of'.rows) = one_value _ _ _ of.found of'.found in
-    let bad : codes "classify" ≡ codes "instances" = sym of.is.0 ∙ ap (λ (p : Text × List Row). p.0) rows ∙ of'.is.0 in
-    absurd (cc)
-classify_run words paths facts bytes (Explain question' facts' bytes') s content content' old new status of of' run =
-    let rows : (of.name, of.rows) ≡ (of'.name, of'.rows) = one_value _ _ _ of.found of'.found in
-    let bad : codes "classify" ≡ codes "explain" = sym of.is.0 ∙ ap (λ (p : Text × List Row). p.0) rows ∙ of'.is.0 in
-    absurd (cc)
+-- what a run of a command says that the words of `check` ask for
+check_run : (name : Text) (rows : List Row) (paths : Paths) (command : Command) (limits : Limits) (s : Store) (content content' : Content) (old new : Output) (status : ℕ) → IsCommand name rows (Check paths) → IsCommand name rows command → IsCommandRun command limits s content content' old new status → (paths' : Paths) × AreSamePaths paths paths' × IsCheckRun paths' limits.max_bytes s content old new status
+check_run name rows paths (Check paths') limits s content content' old new status is is' run = (paths', same_paths rows paths paths' is.1 is'.1, run)
+check_run name rows paths (Classify paths') limits s content content' old new status is is' run = let bad : codes "check" ≡ codes "classify" = sym is.0 ∙ is'.0 in absurd (cc)
+check_run name rows paths (Instances document class) limits s content content' old new status is is' run = let bad : codes "check" ≡ codes "instances" = sym is.0 ∙ is'.0 in absurd (cc)
+check_run name rows paths (Explain question) limits s content content' old new status is is' run = let bad : codes "check" ≡ codes "explain" = sym is.0 ∙ is'.0 in absurd (cc)
 
--- what a run of a check says, of the task that the words ask for
-check_run : (words : List Text) (paths : Paths) (most : ℕ) (task : Task) (s : Store) (content content' : Content) (old new : Output) (status : ℕ) → IsTaskOf words (Check paths most) → IsTaskOf words task → IsTaskRun task s content content' old new status → (paths' : Paths) × AreSamePaths paths paths' × IsCheckRun paths' most s content old new status
-check_run words paths most (Check paths' most') s content content' old new status of of' run =
-    let rows : (of.name, of.rows) ≡ (of'.name, of'.rows) = one_value _ _ _ of.found of'.found in
-    let to : of.rows ≡ of'.rows = ap (λ (p : Text × List Row). p.1) rows in
-    let P : List Row → Type 0 = λ r. ArePaths r paths in
-    let Q : List Row → Type 0 = λ r. IsNumber (codes "max-bytes") most_bytes r most in
-    let number : most' ≡ most = same_number (codes "max-bytes") most_bytes of'.rows most' most of'.is.2 (subst Q to of.is.2) in
-    let R : ℕ → Type 0 = λ m. IsCheckRun paths' m s content old new status in
-    (paths', same_paths of'.rows paths paths' (subst P to of.is.1) of'.is.1, subst R number run)
-check_run words paths most (Classify paths' facts' bytes') s content content' old new status of of' run =
-    let rows : (of.name, of.rows) ≡ (of'.name, of'.rows) = one_value _ _ _ of.found of'.found in
-    let bad : codes "check" ≡ codes "classify" = sym of.is.0 ∙ ap (λ (p : Text × List Row). p.0) rows ∙ of'.is.0 in
-    absurd (cc)
-check_run words paths most (Instances document' class' facts' bytes') s content content' old new status of of' run =
-    let rows : (of.name, of.rows) ≡ (of'.name, of'.rows) = one_value _ _ _ of.found of'.found in
-    let bad : codes "check" ≡ codes "instances" = sym of.is.0 ∙ ap (λ (p : Text × List Row). p.0) rows ∙ of'.is.0 in
-    absurd (cc)
-check_run words paths most (Explain question' facts' bytes') s content content' old new status of of' run =
-    let rows : (of.name, of.rows) ≡ (of'.name, of'.rows) = one_value _ _ _ of.found of'.found in
-    let bad : codes "check" ≡ codes "explain" = sym of.is.0 ∙ ap (λ (p : Text × List Row). p.0) rows ∙ of'.is.0 in
-    absurd (cc)
+-- the words name one command and its matches, of whatever task is asked about them
+record IsNamed (name : Text) (rows : List Row) (command : Command) (task : Task) : Type 0 where
+  is : IsCommand name rows command
+  limits : AreLimits rows command task.limits
+
+named : (words : List Text) (task other : Task) (command : Command) (of : IsTaskOf words other) → IsTaskOf words task → task.command ≡ command → IsNamed of.name of.rows command task
+named words task other command of is same =
+    let P : Text × List Row → Type 0 = λ p. IsNamed p.0 p.1 command task in
+    let Q : Command → Type 0 = λ k. IsNamed is.name is.rows k task in
+    subst P (one_value _ _ _ is.found of.found) (subst Q same (record { is = is.is.command; limits = is.is.limits }))
 
 -- ---- two runs of the program
 
@@ -169,14 +148,31 @@ line_not_done : (fault : LineFault) (old new : Device) → IsLineTold fault old 
 line_not_done (line.Line error) old new h = told_not_done old new _ statuses.Usage (λ e. cc) h
 line_not_done line.Memory old new h = told_not_done old new _ statuses.Memory (λ e. cc) h
 
-classified : (words : List Text) (paths : Paths) (facts bytes : ℕ) (s : Store) (content content' : Content) (old new : Output) → IsTaskOf words (Classify paths facts bytes) → IsPerformed words s content content' old new (code_of statuses.Done) → (paths' : Paths) × (facts' : ℕ) × (bytes' : ℕ) × AreSamePaths paths paths' × IsClassifyRun paths' facts' bytes' s content content' old new (code_of statuses.Done)
-classified words paths facts bytes s content content' old new of (inl run) = classify_run words paths facts bytes run.0 s content content' old new (code_of statuses.Done) of run.1 run.2
-classified words paths facts bytes s content content' old new of (inr run) = absurd (line_not_done run.0 old.err new.err run.3)
+-- the run of a classification that the words ask for
+record IsClassifiedBy (paths : Paths) (s : Store) (content content' : Content) (old new : Output) : Type 0 where
+  paths' : Paths
+  limits : Limits
+  same : AreSamePaths paths paths'
+  run : IsClassifyRun paths' limits s content content' old new (code_of statuses.Done)
+
+classified : (words : List Text) (task : Task) (paths : Paths) (s : Store) (content content' : Content) (old new : Output) → IsTaskOf words task → task.command ≡ Classify paths → IsPerformed words s content content' old new (code_of statuses.Done) → IsClassifiedBy paths s content content' old new
+classified words task paths s content content' old new of is (inl run) =
+    let made = classify_run _ _ paths run.0.command run.0.limits s content content' old new (code_of statuses.Done) (named words task run.0 (Classify paths) run.1 of is).is run.1.is.command run.2 in
+    record { paths' = made.0; limits = run.0.limits; same = made.1; run = made.2 }
+classified words task paths s content content' old new of is (inr run) = absurd (line_not_done run.0 old.err new.err run.3)
+
+-- the run of a check that the words ask for
+checked : (words : List Text) (task other : Task) (paths : Paths) (s : Store) (content content' : Content) (old new : Output) (status : ℕ) → IsTaskOf words task → task.command ≡ Check paths → IsTaskOf words other → IsCommandRun other.command other.limits s content content' old new status → (paths' : Paths) × AreSamePaths paths paths' × IsCheckRun paths' task.limits.max_bytes s content old new status
+checked words task other paths s content content' old new status of is of' run =
+    let here = named words task other (Check paths) of' of is in
+    let made = check_run _ _ paths other.command other.limits s content content' old new status here.is of'.is.command run in
+    let P : ℕ → Type 0 = λ most. IsCheckRun made.0 most s content old new status in
+    (made.0, made.1, subst P (one_number _ _ _ _ of'.is.limits.bytes.number here.limits.bytes.number) made.2)
 
 -- words that clap takes are refused only for want of memory
-refused_check : (words : List Text) (paths : Paths) (most : ℕ) (fault : LineFault) (document : List ℕ) (old new : Output) (status : ℕ) → IsTaskOf words (Check paths most) → takes elc_app words ≡ true → Refuses words fault → new.out ≡ old.out → IsLineTold fault old.err new.err status → IsAcceptedRun most document old new status
-refused_check words paths most (line.Line error) document old new status of taken refuses same told = absurd (refuses taken (Check paths most) of)
-refused_check words paths most line.Memory document old new status of taken refuses same told = inr (paths, checking.Memory, tt, same, told)
+refused_check : (words : List Text) (task : Task) (paths : Paths) (most : ℕ) (fault : LineFault) (document : List ℕ) (old new : Output) (status : ℕ) → IsTaskOf words task → takes elc_app words ≡ true → Refuses words fault → new.out ≡ old.out → IsLineTold fault old.err new.err status → IsAcceptedRun most document old new status
+refused_check words task paths most (line.Line error) document old new status of taken refuses same told = absurd (refuses taken task of)
+refused_check words task paths most line.Memory document old new status of taken refuses same told = inr (paths, checking.Memory, tt, same, told)
 
 -- what the same paths hold apart from one another
 apart_too : (p q : Paths) → AreSamePaths p q → AreApart p → AreApart q
@@ -202,10 +198,10 @@ both p q r s a b d = record {
 }
 
 pub files_are_accepted : WrittenFilesAreAccepted
-files_are_accepted written checked paths paths' facts bytes most s s' content content' content'' old new old' new' status document of of' taken same apart document_apart known holds first (inl second) =
-    let c = classified written paths facts bytes s content content' old new of first in
-    let k = check_run checked paths' most second.0 s' content' content'' old' new' status of' second.1 second.2 in
+files_are_accepted words words' task task' paths paths' s s' content content' content'' old new old' new' status document of is of' is' taken same apart document_apart known holds first (inl second) =
+    let c = classified words task paths s content content' old new of is first in
+    let k = checked words' task' second.0 paths' s' content' content'' old' new' status of' is' second.1 second.2 in
     let P : List ℕ → Type 0 = λ path. content path ≡ Some document in
-    runs_accepted c.0 k.0 c.1 c.2 most s s' content content' old new old' new' status document known (both paths paths' c.0 k.0 same c.3 k.1) (apart_too paths c.0 c.3 apart) (document_apart_too paths c.0 c.3 document_apart) (subst P c.3.document holds) c.4 k.2
-files_are_accepted written checked paths paths' facts bytes most s s' content content' content'' old new old' new' status document of of' taken same apart document_apart known holds first (inr second) =
-    refused_check checked paths' most second.0 document old' new' status of' taken second.1 second.2 second.3
+    runs_accepted c.paths' k.0 c.limits task'.limits.max_bytes s s' content content' old new old' new' status document known (both paths paths' c.paths' k.0 same c.same k.1) (apart_too paths c.paths' c.same apart) (document_apart_too paths c.paths' c.same document_apart) (subst P c.same.document holds) c.run k.2
+files_are_accepted words words' task task' paths paths' s s' content content' content'' old new old' new' status document of is of' is' taken same apart document_apart known holds first (inr second) =
+    refused_check words' task' paths' task'.limits.max_bytes second.0 document old' new' status of' taken second.1 second.2 second.3

@@ -5,7 +5,8 @@ use Rattle.std.specs.Io.KnownBytes.{Consumes, IsAtEnd, Keeps}
 use Rattle.axioms.specs.Ontology.{Ontology}
 use Rattle.cert_check.specs.declared.verdict.Verdict.{Verdict}
 use Rattle.cli.specs.Checks.{AreKnown, IsChecked, IsCheckFault}
-use Rattle.cli.specs.Classifications.{IsClassified, IsFaultOf}
+use Rattle.cli.specs.Classifications.{IsFaultOf}
+use Rattle.session.specs.Classifications.{IsClassified}
 use Rattle.session.specs.WrittenTexts.{Texts}
 use Rattle.classification.specs.declared.classification.Summary.{Summary}
 use Rattle.cli.specs.declared.fault.CheckFault.{CheckFault}

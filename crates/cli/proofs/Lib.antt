@@ -6,7 +6,6 @@ pub mod Blamed
 pub mod Stored
 pub mod SomeTexts
 pub mod Left
-pub mod QuestionsAsked
 pub mod WrittenAccepted
 pub mod FilesAccepted
 pub mod EveryDocument

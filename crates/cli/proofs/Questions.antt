@@ -6,6 +6,7 @@ use Rattle.axioms.specs.Expression.{Iri}
 use Rattle.axioms.specs.Ontology.{Ontology}
 use Rattle.axioms.specs.declared.terms.Kind.{Kind}
 use Rattle.cli.proofs.Kept.{reads_file, refuses_file}
+use Rattle.program.specs.declared.limits.Limits.{Limits}
 use Rattle.session.specs.TextAnswers.{AnswersInstances, AnswersExplanation, IsFaultOf, IsReadAs}
 use Rattle.session.specs.declared.question_fault.QuestionFault.{QuestionFault}
 use Rattle.session.specs.declared.question_fault.QuestionFault.TheVariants.{Document, Limit, UnknownName, Memory}
@@ -15,28 +16,28 @@ use Rattle.answers.specs.declared.asked.Asked.{Asked}
 read_as_file : (file left : Option (List ℕ)) (most : ℕ) (o : Ontology) → Keeps file left → IsReadAs most left o → IsReadAs most file o
 read_as_file file left most o kept is = record { reads = reads_file file left most o kept is.reads; taken = is.taken }
 
-pub instances_of_file : (file left : Option (List ℕ)) (most facts : ℕ) (class text : List ℕ) → Keeps file left → AnswersInstances most facts left class text → AnswersInstances most facts file class text
-instances_of_file file left most facts class text kept is = (is.0, read_as_file file left most is.0 kept is.1, is.2, is.3)
+pub instances_of_file : (file left : Option (List ℕ)) (limits : Limits) (class text : List ℕ) → Keeps file left → AnswersInstances limits left class text → AnswersInstances limits file class text
+instances_of_file file left limits class text kept is = (is.0, read_as_file file left limits.max_bytes is.0 kept is.1, is.2, is.3)
 
-pub why_of_file : (file left : Option (List ℕ)) (most facts : ℕ) (asked : Asked) (class : List ℕ) (form : Form) (text : List ℕ) → Keeps file left → AnswersExplanation most facts left asked class form text → AnswersExplanation most facts file asked class form text
-why_of_file file left most facts asked class form text kept is = (is.0, read_as_file file left most is.0 kept is.1, is.2, is.3)
+pub why_of_file : (file left : Option (List ℕ)) (limits : Limits) (asked : Asked) (class : List ℕ) (form : Form) (text : List ℕ) → Keeps file left → AnswersExplanation limits left asked class form text → AnswersExplanation limits file asked class form text
+why_of_file file left limits asked class form text kept is = (is.0, read_as_file file left limits.max_bytes is.0 kept is.1, is.2, is.3)
 
-pub question_fault_of_file : (file left : Option (List ℕ)) (most facts : ℕ) (names : List (Kind × Iri)) (fault : QuestionFault) → Keeps file left → IsFaultOf most facts left names fault → IsFaultOf most facts file names fault
-question_fault_of_file file left most facts names (Document fault) kept is = refuses_file file left most fault kept is
-question_fault_of_file file left most facts names Limit kept is = (is.0, read_as_file file left most is.0 kept is.1, is.2)
-question_fault_of_file file left most facts names (UnknownName name) kept is = (is.0, read_as_file file left most is.0 kept is.1, is.2, is.3)
-question_fault_of_file file left most facts names Memory kept is = (is.0, read_as_file file left most is.0 kept is.1)
+pub question_fault_of_file : (file left : Option (List ℕ)) (limits : Limits) (names : List (Kind × Iri)) (fault : QuestionFault) → Keeps file left → IsFaultOf limits left names fault → IsFaultOf limits file names fault
+question_fault_of_file file left limits names (Document fault) kept is = refuses_file file left limits.max_bytes fault kept is
+question_fault_of_file file left limits names Limit kept is = (is.0, read_as_file file left limits.max_bytes is.0 kept is.1, is.2)
+question_fault_of_file file left limits names (UnknownName name) kept is = (is.0, read_as_file file left limits.max_bytes is.0 kept is.1, is.2, is.3)
+question_fault_of_file file left limits names Memory kept is = (is.0, read_as_file file left limits.max_bytes is.0 kept is.1)
 
 -- ---- whole answers about a source's bytes are about those of its file
 
-pub instances_in_file : (answer : Result (Vec ℕ) QuestionFault) (file left : Option (List ℕ)) (most facts : ℕ) (class : List ℕ) → Keeps file left → IfOk answer (λ v. AnswersInstances most facts left class v.items) → IfOk answer (λ v. AnswersInstances most facts file class v.items)
-instances_in_file (Ok v) file left most facts class kept is = instances_of_file file left most facts class v.items kept is
-instances_in_file (Err fault) file left most facts class kept is = tt
+pub instances_in_file : (answer : Result (Vec ℕ) QuestionFault) (file left : Option (List ℕ)) (limits : Limits) (class : List ℕ) → Keeps file left → IfOk answer (λ v. AnswersInstances limits left class v.items) → IfOk answer (λ v. AnswersInstances limits file class v.items)
+instances_in_file (Ok v) file left limits class kept is = instances_of_file file left limits class v.items kept is
+instances_in_file (Err fault) file left limits class kept is = tt
 
-pub why_in_file : (answer : Result (Vec ℕ) QuestionFault) (file left : Option (List ℕ)) (most facts : ℕ) (asked : Asked) (class : List ℕ) (form : Form) → Keeps file left → IfOk answer (λ v. AnswersExplanation most facts left asked class form v.items) → IfOk answer (λ v. AnswersExplanation most facts file asked class form v.items)
-why_in_file (Ok v) file left most facts asked class form kept is = why_of_file file left most facts asked class form v.items kept is
-why_in_file (Err fault) file left most facts asked class form kept is = tt
+pub why_in_file : (answer : Result (Vec ℕ) QuestionFault) (file left : Option (List ℕ)) (limits : Limits) (asked : Asked) (class : List ℕ) (form : Form) → Keeps file left → IfOk answer (λ v. AnswersExplanation limits left asked class form v.items) → IfOk answer (λ v. AnswersExplanation limits file asked class form v.items)
+why_in_file (Ok v) file left limits asked class form kept is = why_of_file file left limits asked class form v.items kept is
+why_in_file (Err fault) file left limits asked class form kept is = tt
 
-pub fault_in_file : (answer : Result (Vec ℕ) QuestionFault) (file left : Option (List ℕ)) (most facts : ℕ) (names : List (Kind × Iri)) → Keeps file left → IfErr answer (IsFaultOf most facts left names) → IfErr answer (IsFaultOf most facts file names)
-fault_in_file (Ok v) file left most facts names kept is = tt
-fault_in_file (Err fault) file left most facts names kept is = question_fault_of_file file left most facts names fault kept is
+pub fault_in_file : (answer : Result (Vec ℕ) QuestionFault) (file left : Option (List ℕ)) (limits : Limits) (names : List (Kind × Iri)) → Keeps file left → IfErr answer (IsFaultOf limits left names) → IfErr answer (IsFaultOf limits file names)
+fault_in_file (Ok v) file left limits names kept is = tt
+fault_in_file (Err fault) file left limits names kept is = question_fault_of_file file left limits names fault kept is

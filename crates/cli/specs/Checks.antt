@@ -78,6 +78,10 @@ AreTextsRead (Ok x) old new =
     IsReadToItsEnd old.taxonomy new.taxonomy × IsReadToItsEnd old.instances new.instances × IsReadToItsEnd old.certificate new.certificate
 AreTextsRead (Err fault) old new = AreTextsReadUntil fault old new
 
+-- what was read of the sources of the three texts, by what they tell before and after a call
+abbrev pub ReadsTexts : {T I C X : Type 0} → Ghosts T → Ghosts I → Ghosts C → (old new : T × I × C) → Result X CheckFault → Type 0
+ReadsTexts T I C old new answer = AreTextsRead answer (text_states T I C old) (text_states T I C new)
+
 -- the sources of the document and of the three texts
 pub record Sources : Type 0 where
   pub document : SourceState

@@ -1,10 +1,8 @@
 -- What a classification of a document writes.
 use Rattle.std.specs.Prelude.{◌≡◌, ◌≤◌, ℕ, List, Option, Result, Ok, Err}
 use Rattle.axioms.specs.Ontology.{Ontology}
-use Rattle.axioms.specs.WellFormedness.{IsOntology}
-use Rattle.cert_check.specs.Acceptance.{AreRight, IsAcceptable}
-use Rattle.classification.specs.Classifications.{AreCountsOf, AreTextsOf}
 use Rattle.classification.specs.declared.classification.Summary.{Summary}
+use Rattle.session.specs.Classifications.{IsClassified}
 use Rattle.session.specs.Devices.{SourceState, IsReadToItsEnd, IsReadUntil}
 use Rattle.session.specs.WrittenTexts.{Sinks, Texts, AreWritten, AreWrittenUntil, all_seen}
 use Rattle.cli.specs.declared.fault.ClassifyFault.{ClassifyFault}
@@ -13,18 +11,6 @@ use Rattle.device.specs.declared.device.Sink.{Ghosts}
 use Rattle.profile.specs.Faults.{ReadsKnown, RefusesKnown}
 use Rattle.engine.specs.Saturations.{HasMoreFactsThan}
 use Rattle.program.specs.declared.limits.Limits.{Limits}
-
--- the document, of at most so many bytes, reads as an ontology whose closure has at most so many facts; these are its counts
--- and its texts, the certificate shows that the other two are right, and so they say what follows from the axioms
-pub record IsClassified (most_bytes most_facts : ℕ) (document : Option (List ℕ)) (summary : Summary) (texts : Texts) : Type 0 where
-  pub ontology : Ontology
-  pub reads : ReadsKnown document most_bytes ontology
-  pub well_formed : IsOntology ontology
-  pub counts : AreCountsOf ontology summary
-  pub within : summary.facts ≤ most_facts
-  pub texts_are : AreTextsOf ontology summary.consistent texts.taxonomy texts.instances
-  pub acceptable : IsAcceptable ontology texts.taxonomy texts.instances texts.certificate
-  pub right : AreRight ontology texts.taxonomy texts.instances texts.certificate
 
 -- the document reads as some ontology
 abbrev pub IsRead : (most_bytes : ℕ) → (document : Option (List ℕ)) → Type 0
@@ -64,8 +50,3 @@ IsDocumentRead (Err (Document fault)) old new = IsReadUntil fault old new
 IsDocumentRead (Err Memory) old new = IsReadToItsEnd old new
 IsDocumentRead (Err Limit) old new = IsReadToItsEnd old new
 IsDocumentRead (Err (Io n)) old new = IsReadToItsEnd old new
-
--- the answer came before anything was written
-abbrev pub IsBeforeWriting : ClassifyFault → Type 0
-IsBeforeWriting (Io number) = ⊥
-IsBeforeWriting fault = Unit {0}

@@ -29,3 +29,7 @@ pub record AreFresh (known : Bool) (paths : Paths) (has_place : List ℕ → Boo
 abbrev pub HasFresh : {S : Type 0} → Ghosts S → (known : Bool) → Paths → (has_place : List ℕ → Bool) → (taxonomy instances certificate : S) → Type 0
 HasFresh S known paths has_place taxonomy instances certificate =
     AreFresh known paths has_place (file_sink S taxonomy) (file_sink S instances) (file_sink S certificate)
+
+-- no call of the three sinks has failed
+abbrev pub HaveNotFailed : {S : Type 0} → Ghosts S → (taxonomy instances certificate : S) → Type 0
+HaveNotFailed S taxonomy instances certificate = (S.failures taxonomy ≡ 0) × (S.failures instances ≡ 0) × (S.failures certificate ≡ 0)

@@ -21,6 +21,7 @@ use Rattle.device.specs.declared.device.Sink.{Ghosts}
 use Rattle.profile.specs.Messages.{fault_text, status_of}
 use Rattle.profile.specs.declared.fault.DocumentFault.TheVariants.{TooLarge, Io, TooManyNames}
 use Rattle.program.specs.Status.{code_of}
+use Rattle.program.specs.declared.limits.Limits.{Limits}
 use Rattle.program.specs.declared.status.Status.{Status}
 use Rattle.program.specs.declared.status.Status.TheVariants as statuses
 use Rattle.session.specs.declared.question_fault.QuestionFault.{QuestionFault}
@@ -137,6 +138,10 @@ IsClassifyText paths bytes facts classifying.Memory text = text ≡ out_of_memor
 IsClassifyText paths bytes facts classifying.Limit text = text ≡ codes "limit: more than " ++ (decimal facts ++ codes " facts\n")
 IsClassifyText paths bytes facts (classifying.Io n) text = text ≡ cannot_write (written_path paths n)
 
+-- the message tells of the fault of a classification, with its status
+abbrev pub IsClassifyMessage : Paths → Limits → ClassifyFault → Message → Type 0
+IsClassifyMessage paths limits fault m = IsClassifyText paths limits.max_bytes limits.max_facts fault (string_bytes m.text) × (m.status ≡ classify_status fault)
+
 abbrev pub check_status : CheckFault → Status
 check_status (checking.Document fault) = status_of fault
 check_status checking.Memory = statuses.Memory
@@ -159,6 +164,10 @@ IsQuestionText path bytes facts (asking.Document fault) text = IsDocumentText pa
 IsQuestionText path bytes facts asking.Limit text = text ≡ codes "limit: more than " ++ (decimal facts ++ codes " facts\n")
 IsQuestionText path bytes facts (asking.UnknownName name) text = text ≡ codes "unknown name <" ++ (name.now ++ codes ">\n")
 IsQuestionText path bytes facts asking.Memory text = text ≡ out_of_memory
+
+-- the message tells of the fault of a question about the document at the path, with its status
+abbrev pub IsQuestionMessage : (path : List ℕ) → Limits → QuestionFault → Message → Type 0
+IsQuestionMessage path limits fault m = IsQuestionText path limits.max_bytes limits.max_facts fault (string_bytes m.text) × (m.status ≡ question_status fault)
 
 abbrev pub line_status : LineFault → Status
 line_status (line.Line error) = statuses.Usage

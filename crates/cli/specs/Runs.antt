@@ -4,22 +4,25 @@ use Rattle.axioms.specs.Ontology.{Ontology}
 use Rattle.cert_check.specs.declared.verdict.Verdict.{Verdict}
 use Rattle.classification.specs.declared.classification.Summary.{Summary}
 use Rattle.clap.specs.Words.{Text}
-use Rattle.command_line.specs.CommandLine.{IsTaskOf, Refuses, most_facts}
+use Rattle.command_line.specs.CommandLine.{IsTaskOf, Refuses}
+use Rattle.command_line.specs.declared.tasks.Command.{Command}
+use Rattle.command_line.specs.declared.tasks.Command.TheVariants.{Check, Classify, Explain, Instances}
 use Rattle.command_line.specs.declared.tasks.LineFault.{LineFault}
 use Rattle.command_line.specs.declared.tasks.Paths.{Paths}
 use Rattle.command_line.specs.declared.tasks.Question.{Question}
 use Rattle.command_line.specs.declared.tasks.Task.{Task}
-use Rattle.command_line.specs.declared.tasks.Task.TheVariants.{Check, Classify, Explain, Instances}
 use Rattle.cli.specs.Checks.{IsChecked, IsCheckFault}
 use Rattle.std.specs.Global.{Vec}
 use Rattle.cli.specs.Files.{AsksFile, ChecksFiles, ClassifiesFile, Store, store}
 use Rattle.cli.specs.Messages.{Output, IsAnswered, IsTold, verdict_text, verdict_status, outputs, summary_text, IsCheckText, check_status, IsClassifyText, classify_status, IsQuestionText, question_status, IsLineTold}
-use Rattle.cli.specs.Classifications.{IsClassified, IsFaultOf}
+use Rattle.cli.specs.Classifications.{IsFaultOf}
+use Rattle.session.specs.Classifications.{IsClassified}
 use Rattle.session.specs.WrittenTexts.{Texts}
 use Rattle.cli.specs.declared.fault.CheckFault.{CheckFault}
 use Rattle.cli.specs.declared.fault.ClassifyFault.{ClassifyFault}
 use Rattle.cli.specs.declared.fault.ClassifyFault.TheVariants.{Io}
 use Rattle.device.specs.declared.device.Sink as sinks
+use Rattle.program.specs.declared.limits.Limits.{Limits}
 use Rattle.program.specs.declared.status.Status.TheVariants as statuses
 use Rattle.session.specs.TextAnswers as asking
 use Rattle.session.specs.TextAnswers.{AnswersInstances, AnswersExplanation}
@@ -97,22 +100,22 @@ IsClassifyAnswer paths facts bytes known content content' (Err fault) =
     IsFaultOf bytes facts (content paths.document.now) fault × AreLeft paths facts bytes known content content' fault
 
 -- the answer is that of a classification in files, no other file is written, and a device is blamed only where it failed
-pub record IsClassifyMade (paths : Paths) (facts bytes : ℕ) (s : Store) (content content' : Content) (answer : Result Summary ClassifyFault) : Type 0 where
-  pub answered : IsClassifyAnswer paths facts bytes s.is_known content content' answer
+pub record IsClassifyMade (paths : Paths) (limits : Limits) (s : Store) (content content' : Content) (answer : Result Summary ClassifyFault) : Type 0 where
+  pub answered : IsClassifyAnswer paths limits.max_facts limits.max_bytes s.is_known content content' answer
   pub blames : ClassifiesFile s (content paths.document.now) answer
   pub others : AreOthersKept paths content content'
 
 -- the counts are printed; or a fault is told
-abbrev pub IsClassifyTold : Paths → (facts bytes : ℕ) → Result Summary ClassifyFault → (old new : Output) → (status : ℕ) → Type 0
-IsClassifyTold paths facts bytes (Ok summary) old new status = IsAnswered old new (summary_text summary) statuses.Done status
-IsClassifyTold paths facts bytes (Err fault) old new status =
-    (new.out ≡ old.out) × IsTold old.err new.err (IsClassifyText paths bytes facts fault) (classify_status fault) status
+abbrev pub IsClassifyTold : Paths → Limits → Result Summary ClassifyFault → (old new : Output) → (status : ℕ) → Type 0
+IsClassifyTold paths limits (Ok summary) old new status = IsAnswered old new (summary_text summary) statuses.Done status
+IsClassifyTold paths limits (Err fault) old new status =
+    (new.out ≡ old.out) × IsTold old.err new.err (IsClassifyText paths limits.max_bytes limits.max_facts fault) (classify_status fault) status
 
 -- a run of `classify`
-pub record IsClassifyRun (paths : Paths) (facts bytes : ℕ) (s : Store) (content content' : Content) (old new : Output) (status : ℕ) : Type 0 where
+pub record IsClassifyRun (paths : Paths) (limits : Limits) (s : Store) (content content' : Content) (old new : Output) (status : ℕ) : Type 0 where
   pub answer : Result Summary ClassifyFault
-  pub made : IsClassifyMade paths facts bytes s content content' answer
-  pub told : IsClassifyTold paths facts bytes answer old new status
+  pub made : IsClassifyMade paths limits s content content' answer
+  pub told : IsClassifyTold paths limits answer old new status
 
 -- what an answer says of a check of files: the verdict on them; or why there is none
 abbrev pub IsCheckedFiles : Paths → (bytes : ℕ) → Content → Result (Ontology × Verdict) CheckFault → Type 0
@@ -138,17 +141,17 @@ IsQuestionAnswer Answers IsFault (Ok text) = Answers text.items
 IsQuestionAnswer Answers IsFault (Err fault) = IsFault fault
 
 -- the text is printed; or a fault is told
-abbrev pub IsQuestionTold : (path : List ℕ) → (facts bytes : ℕ) → Result (Vec ℕ) QuestionFault → (old new : Output) → (status : ℕ) → Type 0
-IsQuestionTold path facts bytes (Ok text) old new status = IsAnswered old new text.items statuses.Done status
-IsQuestionTold path facts bytes (Err fault) old new status =
-    (new.out ≡ old.out) × IsTold old.err new.err (IsQuestionText path bytes facts fault) (question_status fault) status
+abbrev pub IsQuestionTold : (path : List ℕ) → Limits → Result (Vec ℕ) QuestionFault → (old new : Output) → (status : ℕ) → Type 0
+IsQuestionTold path limits (Ok text) old new status = IsAnswered old new text.items statuses.Done status
+IsQuestionTold path limits (Err fault) old new status =
+    (new.out ≡ old.out) × IsTold old.err new.err (IsQuestionText path limits.max_bytes limits.max_facts fault) (question_status fault) status
 
 -- a run of `instances`: the individuals of the class are printed; or a fault is told
-pub record IsInstancesRun (path class : List ℕ) (facts bytes : ℕ) (s : Store) (content : Content) (old new : Output) (status : ℕ) : Type 0 where
+pub record IsInstancesRun (path class : List ℕ) (limits : Limits) (s : Store) (content : Content) (old new : Output) (status : ℕ) : Type 0 where
   pub answer : Result (Vec ℕ) QuestionFault
-  pub answered : IsQuestionAnswer (AnswersInstances bytes facts (content path) class) (asking.IsFaultOf bytes facts (content path) (class_name class ∷ [])) answer
+  pub answered : IsQuestionAnswer (AnswersInstances limits (content path) class) (asking.IsFaultOf limits (content path) (class_name class ∷ [])) answer
   pub blames : AsksFile s.reads_fail s.is_known (content path) answer
-  pub told : IsQuestionTold path facts bytes answer old new status
+  pub told : IsQuestionTold path limits answer old new status
 
 -- what a question asks about
 abbrev pub asked_by : Question → Asked
@@ -158,45 +161,46 @@ asked_by q = if q.individual then Individual q.subject else Class q.subject
 abbrev pub form_of : Question → Form
 form_of q = if q.dot then Graph else Lines
 
+-- the text says why the subject of the question is in the class, or is not, by a document
+abbrev pub ExplainsFor : Limits → (document : Option (List ℕ)) → Question → (text : List ℕ) → Type 0
+ExplainsFor limits document q text = AnswersExplanation limits document (asked_by q) q.class.now (form_of q) text
+
+-- what a fault says of the document and of the names in the question
+abbrev pub IsFaultFor : Limits → (document : Option (List ℕ)) → Question → QuestionFault → Type 0
+IsFaultFor limits document q fault = asking.IsFaultOf limits document (subject_name (asked_by q) ∷ class_name q.class.now ∷ []) fault
+
 -- a run of `explain`: why the subject is in the class, or is not, is printed; or a fault is told
-pub record IsExplainRun (q : Question) (facts bytes : ℕ) (s : Store) (content : Content) (old new : Output) (status : ℕ) : Type 0 where
+pub record IsExplainRun (q : Question) (limits : Limits) (s : Store) (content : Content) (old new : Output) (status : ℕ) : Type 0 where
   pub answer : Result (Vec ℕ) QuestionFault
-  pub answered : IsQuestionAnswer (AnswersExplanation bytes facts (content q.document.now) (asked_by q) q.class.now (form_of q)) (asking.IsFaultOf bytes facts (content q.document.now) (subject_name (asked_by q) ∷ class_name q.class.now ∷ [])) answer
+  pub answered : IsQuestionAnswer (ExplainsFor limits (content q.document.now) q) (IsFaultFor limits (content q.document.now) q) answer
   pub blames : AsksFile s.reads_fail s.is_known (content q.document.now) answer
-  pub told : IsQuestionTold q.document.now facts bytes answer old new status
+  pub told : IsQuestionTold q.document.now limits answer old new status
 
--- how many bytes the document of a task may have, and how many facts may be drawn for it: a check draws none, so it has no limit
--- of its own, and the greatest stands for it
-abbrev pub max_bytes_of : Task → ℕ
-max_bytes_of (Classify paths facts bytes) = bytes
-max_bytes_of (Check paths bytes) = bytes
-max_bytes_of (Instances document class facts bytes) = bytes
-max_bytes_of (Explain question facts bytes) = bytes
-
-abbrev pub max_facts_of : Task → ℕ
-max_facts_of (Classify paths facts bytes) = facts
-max_facts_of (Check paths bytes) = most_facts
-max_facts_of (Instances document class facts bytes) = facts
-max_facts_of (Explain question facts bytes) = facts
-
-abbrev pub IsTaskRun : Task → Store → (content content' : Content) → (old new : Output) → (status : ℕ) → Type 0
-IsTaskRun (Classify paths facts bytes) s content content' old new status = IsClassifyRun paths facts bytes s content content' old new status
-IsTaskRun (Check paths bytes) s content content' old new status = IsCheckRun paths bytes s content old new status
-IsTaskRun (Instances document class facts bytes) s content content' old new status = IsInstancesRun document.now class.now facts bytes s content old new status
-IsTaskRun (Explain question facts bytes) s content content' old new status = IsExplainRun question facts bytes s content old new status
+-- a run of a command within the limits
+abbrev pub IsCommandRun : Command → Limits → Store → (content content' : Content) → (old new : Output) → (status : ℕ) → Type 0
+IsCommandRun (Classify paths) limits s content content' old new status = IsClassifyRun paths limits s content content' old new status
+IsCommandRun (Check paths) limits s content content' old new status = IsCheckRun paths limits.max_bytes s content old new status
+IsCommandRun (Instances document class) limits s content content' old new status = IsInstancesRun document.now class.now limits s content old new status
+IsCommandRun (Explain question) limits s content content' old new status = IsExplainRun question limits s content old new status
 
 -- a run of the program: of the task that the words ask for; or the words are no task, which is told
 abbrev pub IsPerformed : List Text → Store → (content content' : Content) → (old new : Output) → (status : ℕ) → Type 0
 IsPerformed words s content content' old new status =
-    ((task : Task) × IsTaskOf words task × IsTaskRun task s content content' old new status)
+    ((task : Task) × IsTaskOf words task × IsCommandRun task.command task.limits s content content' old new status)
     ⊎ ((fault : LineFault) × Refuses words fault × (new.out ≡ old.out) × IsLineTold fault old.err new.err status)
 
 -- the words do not ask for a classification
 abbrev pub AskForNoClassification : List Text → Type 0
-AskForNoClassification words = (paths : Paths) (facts bytes : ℕ) → IsTaskOf words (Classify paths facts bytes) → ⊥
+AskForNoClassification words = (task : Task) (paths : Paths) → IsTaskOf words task → task.command ≡ Classify paths → ⊥
 
--- ---- a run of the program, by files and the two outputs before and after
+-- ---- runs, by files and the two outputs before and after
 
+-- a run of a command
+abbrev pub Runs : {F In Out O E : Type 0} → files.Ghosts F In Out → sinks.Ghosts O → sinks.Ghosts E → Command → Limits → (old new : F × O × E) → (status : ℕ) → Type 0
+Runs F O E command limits old new status =
+    IsCommandRun command limits (store F old.0 new.0) (F.content old.0) (F.content new.0) (outputs O E old.1 old.2) (outputs O E new.1 new.2) status
+
+-- a run of the program
 abbrev pub Performs : {F In Out O E : Type 0} → files.Ghosts F In Out → sinks.Ghosts O → sinks.Ghosts E → List Text → (old new : F × O × E) → (status : ℕ) → Type 0
 Performs F O E words old new status =
     IsPerformed words (store F old.0 new.0) (F.content old.0) (F.content new.0) (outputs O E old.1 old.2) (outputs O E new.1 new.2) status

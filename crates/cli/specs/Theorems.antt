@@ -10,11 +10,13 @@ use Rattle.command_line.specs.declared.tasks.Paths.{Paths}
 use Rattle.cli.specs.Checks.{IsCheckAnswer}
 use Rattle.clap.specs.Words.{Text, takes}
 use Rattle.command_line.specs.CommandLine.{IsTaskOf, elc_app}
-use Rattle.command_line.specs.declared.tasks.Task.TheVariants.{Check, Classify}
+use Rattle.command_line.specs.declared.tasks.Command.TheVariants.{Check, Classify}
+use Rattle.command_line.specs.declared.tasks.Task.{Task}
 use Rattle.cli.specs.Files.{Store}
 use Rattle.cli.specs.Runs.{AreApart, IsPerformed}
 use Rattle.cli.specs.Messages.{Output, IsAnswered, IsCheckText, IsTold, check_status}
-use Rattle.cli.specs.Classifications.{IsClassification, IsClassified}
+use Rattle.cli.specs.Classifications.{IsClassification}
+use Rattle.session.specs.Classifications.{IsClassified}
 use Rattle.session.specs.WrittenTexts.{Texts, AreWritten, Sinks}
 use Rattle.cli.specs.declared.fault.CheckFault.{CheckFault}
 use Rattle.cli.specs.declared.fault.CheckFault.TheVariants.{Document, Memory, Io}
@@ -119,8 +121,8 @@ IsAcceptedRun most document old new status =
 -- `accepted`. The words of both are taken by clap's function of the program's commands
 abbrev pub WrittenFilesAreAccepted : Type 0
 WrittenFilesAreAccepted =
-    (written checked : List Text) (paths paths' : Paths) (facts bytes most : ℕ) (s s' : Store) (content content' content'' : Content) (old new old' new' : Output) (status : ℕ) (document : List ℕ) →
-    IsTaskOf written (Classify paths facts bytes) → IsTaskOf checked (Check paths' most) → takes elc_app checked ≡ true →
+    (written checked : List Text) (task task' : Task) (paths paths' : Paths) (s s' : Store) (content content' content'' : Content) (old new old' new' : Output) (status : ℕ) (document : List ℕ) →
+    IsTaskOf written task → task.command ≡ Classify paths → IsTaskOf checked task' → task'.command ≡ Check paths' → takes elc_app checked ≡ true →
     AreSamePaths paths paths' → AreApart paths → IsDocumentApart paths → s.is_known ≡ true → content paths.document.now ≡ Some document →
     IsPerformed written s content content' old new (code_of statuses.Done) → IsPerformed checked s' content' content'' old' new' status →
-    IsAcceptedRun most document old' new' status
+    IsAcceptedRun task'.limits.max_bytes document old' new' status

@@ -1,15 +1,15 @@
 //! Runs that answer a question about a document.
-ghost use Rattle.cli.specs.Files.{AsksFile, store};
-ghost use Rattle.cli.specs.Runs.{IsExplainRun, IsInstancesRun, IsQuestionTold, asked_by, form_of as form_in};
+ghost use Rattle.cli.specs.Files.{AsksFile};
+ghost use Rattle.cli.specs.Runs.{ExplainsFor, IsFaultFor, IsQuestionTold, Runs, asked_by, form_of as form_in};
 ghost use Rattle.cli.specs.Messages.{outputs};
-ghost use Rattle.session.specs.TextAnswers.{AnswersInstances, AnswersExplanation, IsFaultOf};
-ghost use Rattle.session.specs.Answers.{class_name, subject_name};
+ghost use Rattle.session.specs.TextAnswers.{AnswersInstances, IsFaultOf};
+ghost use Rattle.session.specs.Answers.{class_name};
 ghost use Rattle.std.specs.Prelude.{◌≡◌, [], ◌∷◌, IfErr, IfOk};
 
 use crate::opening::document_of;
 use crate::printing::{print_bytes, question_message, tell};
 use answers::Asked;
-use command_line::Question;
+use command_line::{Command, Question};
 use device::Sink;
 use profile::Limits;
 use program::Status;
@@ -27,7 +27,7 @@ fn tell_answer<O: Sink, E: Sink>(
     out: &mut O,
     err: &mut E,
 ) -> u8
-    ensures { IsQuestionTold path.now limits.now.max_facts limits.now.max_bytes answer.entry (outputs O.Sink E.Sink out.old err.old) (outputs O.Sink E.Sink out.new err.new) result }
+    ensures { IsQuestionTold path.now limits.now answer.entry (outputs O.Sink E.Sink out.old err.old) (outputs O.Sink E.Sink out.new err.new) result }
 {
     match answer {
         Ok(text) => print_bytes(out, &text, Status::Done),
@@ -44,8 +44,8 @@ fn instances_in<'n, F: Files>(
     files: &F,
     state: RandomState,
 ) -> Result<Vec<u8>, QuestionFault<'n>>
-    ensures answered { IfOk result (λ v. AnswersInstances limits.now.max_bytes limits.now.max_facts (F.content files.now path.now) class.now v.items) }
-    ensures fault { IfErr result (IsFaultOf limits.now.max_bytes limits.now.max_facts (F.content files.now path.now) (class_name class.now ∷ [])) }
+    ensures answered { IfOk result (λ v. AnswersInstances limits.now (F.content files.now path.now) class.now v.items) }
+    ensures fault { IfErr result (IsFaultOf limits.now (F.content files.now path.now) (class_name class.now ∷ [])) }
     ensures blames { AsksFile F.reads_fail (F.is_known files.now) (F.content files.now path.now) result }
 {
     match document_of(files, path) {
@@ -65,7 +65,8 @@ pub(crate) fn perform_instances<F: Files, O: Sink, E: Sink>(
     err: &mut E,
     state: RandomState,
 ) -> u8
-    ensures { IsInstancesRun path.now class.now limits.now.max_facts limits.now.max_bytes (store F.Files files.now files.now) (F.content files.now) (outputs O.Sink E.Sink out.old err.old) (outputs O.Sink E.Sink out.new err.new) result }
+    ensures { Runs F.Files O.Sink E.Sink (Command.Instances path.entry class.entry) limits.now
+        (files.now, out.old, err.old) (files.now, out.new, err.new) result }
 {
     let answer = instances_in(alloc, path, class, limits, files, state);
     tell_answer(alloc, answer, path, limits, out, err)
@@ -100,8 +101,8 @@ fn explanation_in<'n, F: Files>(
     files: &F,
     state: RandomState,
 ) -> Result<Vec<u8>, QuestionFault<'n>>
-    ensures answered { IfOk result (λ v. AnswersExplanation limits.now.max_bytes limits.now.max_facts (F.content files.now question.now.document.now) (asked_by question.now) question.now.class.now (form_in question.now) v.items) }
-    ensures fault { IfErr result (IsFaultOf limits.now.max_bytes limits.now.max_facts (F.content files.now question.now.document.now) (subject_name (asked_by question.now) ∷ class_name question.now.class.now ∷ [])) }
+    ensures answered { IfOk result (λ v. ExplainsFor limits.now (F.content files.now question.now.document.now) question.now v.items) }
+    ensures fault { IfErr result (IsFaultFor limits.now (F.content files.now question.now.document.now) question.now) }
     ensures blames { AsksFile F.reads_fail (F.is_known files.now) (F.content files.now question.now.document.now) result }
 {
     let mut document = match document_of(files, question.document) {
@@ -129,7 +130,8 @@ pub(crate) fn perform_explain<F: Files, O: Sink, E: Sink>(
     err: &mut E,
     state: RandomState,
 ) -> u8
-    ensures { IsExplainRun question.now limits.now.max_facts limits.now.max_bytes (store F.Files files.now files.now) (F.content files.now) (outputs O.Sink E.Sink out.old err.old) (outputs O.Sink E.Sink out.new err.new) result }
+    ensures { Runs F.Files O.Sink E.Sink (Command.Explain question.now) limits.now
+        (files.now, out.old, err.old) (files.now, out.new, err.new) result }
 {
     let answer = explanation_in(alloc, question, limits, files, state);
     tell_answer(alloc, answer, question.document, limits, out, err)

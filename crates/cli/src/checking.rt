@@ -1,16 +1,18 @@
 //! The check of a document's texts.
-ghost use Rattle.cli.specs.Checks.{AreKnown, AreTextsRead, IsCheckAnswer, IsChecked, IsCheckFault, IsTextRead, Reads, text_states};
+ghost use Rattle.cert_check.specs.Acceptance.{AreRight, IsAcceptable};
+ghost use Rattle.cert_check.specs.Verdict.{HasTrueLines, IsVerdict, PassesLines};
+ghost use Rattle.cli.specs.Checks.{AreKnown, IsCheckAnswer, IsChecked, IsCheckFault, IsTextRead, Reads, ReadsTexts};
 ghost use Rattle.session.specs.Devices.{source_state};
 ghost use Rattle.cli.specs.Files.{AreTextsThere, BlamesText, ChecksFiles, IsTextUnread};
 ghost use Rattle.cli.specs.Runs.{IsCheckedFiles};
 ghost use Rattle.cli.specs.declared.fault.CheckFault.TheVariants as faults;
 ghost use Rattle.profile.specs.declared.fault.DocumentFault.TheVariants as document_faults;
-ghost use Rattle.std.specs.Prelude.{◌+◌, ◌<◌, IfErr, IfOk, IsErrOf, OnOk};
+ghost use Rattle.std.specs.Prelude.{◌↔◌, ◌≡◌, ◌+◌, ◌<◌, IfErr, IfOk, IsErrOf, OnOk};
 ghost use Rattle.system_files.specs.Contents.{IsThere};
 
 use crate::fault::CheckFault;
 use crate::opening::ontology_of;
-use axioms::Ontology;
+use axioms::{Memory, Ontology};
 use cert_check::{Verdict, check_owned};
 use command_line::Paths;
 use device::{ReadFault, Source, read_all};
@@ -49,7 +51,8 @@ fn texts_of<T: Source, I: Source, C: Source>(
     ensures taxonomy { IfOk result (λ t. AreKnown (T.left taxonomy.old) t.taxonomy.items) }
     ensures instances { IfOk result (λ t. AreKnown (I.left instances.old) t.instances.items) }
     ensures certificate { IfOk result (λ t. AreKnown (C.left certificate.old) t.certificate.items) }
-    ensures read { AreTextsRead result (text_states T.Source I.Source C.Source (taxonomy.old, instances.old, certificate.old)) (text_states T.Source I.Source C.Source (taxonomy.new, instances.new, certificate.new)) }
+    ensures read { ReadsTexts T.Source I.Source C.Source
+        (taxonomy.old, instances.old, certificate.old) (taxonomy.new, instances.new, certificate.new) result }
 {
     let taxonomy = match bytes_of(alloc, taxonomy, 2) {
         Ok(taxonomy) => taxonomy,
@@ -69,6 +72,23 @@ fn texts_of<T: Source, I: Source, C: Source>(
     }
 }
 
+/// The verdict on the three texts, which are let go.
+fn judged(alloc: Global, ontology: &Ontology, texts: TextBytes) -> Result<Verdict, Memory>
+    ensures verdict { IfOk result (IsVerdict ontology.now texts.taxonomy.items texts.instances.items texts.certificate.items) }
+    ensures accepted { IfOk result (λ v. (v ≡ Verdict.Accepted)
+        ↔ IsAcceptable ontology.now texts.taxonomy.items texts.instances.items texts.certificate.items) }
+    ensures lines { IfOk result (λ v. PassesLines v → HasTrueLines ontology.now texts.certificate.items) }
+    ensures right { IfOk result (λ v. v ≡ Verdict.Accepted
+        → AreRight ontology.now texts.taxonomy.items texts.instances.items texts.certificate.items) }
+{
+    let TextBytes {
+        taxonomy,
+        instances,
+        certificate,
+    } = texts;
+    check_owned(alloc, ontology, &taxonomy, &instances, certificate)
+}
+
 /// The ontology of the document, and the verdict on its texts.
 fn checked<D: Source, T: Source, I: Source, C: Source>(
     alloc: Global,
@@ -79,10 +99,12 @@ fn checked<D: Source, T: Source, I: Source, C: Source>(
     limits: &Limits,
     state: RandomState,
 ) -> Result<(Ontology, Verdict), CheckFault>
-    ensures checked { IfOk result (λ p. IsChecked limits.now.max_bytes (D.left document.old) (T.left taxonomy.old) (I.left instances.old) (C.left certificate.old) p.0 p.1) }
+    ensures checked { IfOk result (λ p. IsChecked limits.now.max_bytes
+        (D.left document.old) (T.left taxonomy.old) (I.left instances.old) (C.left certificate.old) p.0 p.1) }
     ensures fault { IfErr result (IsCheckFault limits.now.max_bytes (D.left document.old)) }
     ensures beyond { IsErrOf result (faults.Document document_faults.TooLarge) → D.most document.new + limits.now.max_bytes < D.most document.old }
-    ensures read { Reads D.Source T.Source I.Source C.Source (document.old, taxonomy.old, instances.old, certificate.old) (document.new, taxonomy.new, instances.new, certificate.new) result }
+    ensures read { Reads D.Source T.Source I.Source C.Source
+        (document.old, taxonomy.old, instances.old, certificate.old) (document.new, taxonomy.new, instances.new, certificate.new) result }
 {
     let ontology = match read_document(alloc, document, limits, state) {
         Ok(ontology) => ontology,
@@ -93,12 +115,7 @@ fn checked<D: Source, T: Source, I: Source, C: Source>(
         Ok(texts) => texts,
         Err(fault) => return Err(fault),
     };
-    let TextBytes {
-        taxonomy,
-        instances,
-        certificate,
-    } = texts;
-    match check_owned(alloc, &ontology, &taxonomy, &instances, certificate) {
+    match judged(alloc, &ontology, texts) {
         Ok(verdict) => Ok((ontology, verdict)),
         Err(_) => Err(CheckFault::Memory),
     }
@@ -122,12 +139,14 @@ pub fn check_document<D: Source, T: Source, I: Source, C: Source>(
 ) -> Result<Verdict, CheckFault>
     // The document reads as an ontology, and the verdict is on that ontology and the three texts; or a fault of the
     // document is one.
-    ensures answered { IsCheckAnswer limits.now.max_bytes (D.left document.old) (T.left taxonomy.old) (I.left instances.old) (C.left certificate.old) result }
+    ensures answered { IsCheckAnswer limits.now.max_bytes
+        (D.left document.old) (T.left taxonomy.old) (I.left instances.old) (C.left certificate.old) result }
     // Of a source that does not tell its bytes, too: it gave more than the limit.
     ensures beyond { IsErrOf result (faults.Document document_faults.TooLarge) → D.most document.new + limits.now.max_bytes < D.most document.old }
     // After a verdict each source was read to its end, and none failed. A fault names a source only where it failed: those
     // before it were read to their ends, and those behind it are not touched.
-    ensures read { Reads D.Source T.Source I.Source C.Source (document.old, taxonomy.old, instances.old, certificate.old) (document.new, taxonomy.new, instances.new, certificate.new) result }
+    ensures read { Reads D.Source T.Source I.Source C.Source
+        (document.old, taxonomy.old, instances.old, certificate.old) (document.new, taxonomy.new, instances.new, certificate.new) result }
 {
     match checked(
         alloc,
@@ -207,12 +226,7 @@ pub(crate) fn checked_files<F: Files>(
         Ok(texts) => texts,
         Err(fault) => return Err(fault),
     };
-    let TextBytes {
-        taxonomy,
-        instances,
-        certificate,
-    } = texts;
-    match check_owned(alloc, &ontology, &taxonomy, &instances, certificate) {
+    match judged(alloc, &ontology, texts) {
         Ok(verdict) => Ok((ontology, verdict)),
         Err(_) => Err(CheckFault::Memory),
     }

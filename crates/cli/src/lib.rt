@@ -17,7 +17,7 @@ pub use cert_check::{Reason, Verdict};
 pub use checking::check_document;
 pub use classification::Summary;
 pub use classifying::classify_document;
-pub use command_line::{LineFault, Paths, Question, Task, task};
+pub use command_line::{Command, LineFault, Paths, Question, Task, task};
 pub use fault::{CheckFault, ClassifyFault};
 pub use profile::{DocumentFault, Limits, read_document};
 pub use run::perform;

@@ -1,6 +1,6 @@
 //! What the program prints, and its statuses.
 ghost use Rattle.session.specs.Devices.{FailsIn, Takes, seen};
-ghost use Rattle.cli.specs.Messages.{IsPrinted, IsToldMessage, IsDocumentText, IsClassifyText, IsCheckText, IsQuestionText, classify_status, check_status, question_status, name_at, consistency as word_of, reason_text as text_of_reason, rejected_text, summary_text, verdict_text, verdict_status, written_path as path_written, read_path as path_read, out_of_memory};
+ghost use Rattle.cli.specs.Messages.{IsPrinted, IsToldMessage, IsDocumentText, IsClassifyMessage, IsCheckText, IsQuestionMessage, check_status, name_at, consistency as word_of, reason_text as text_of_reason, rejected_text, summary_text, verdict_text, verdict_status, written_path as path_written, read_path as path_read, out_of_memory};
 ghost use Rattle.profile.specs.Messages.{status_of};
 ghost use Rattle.std.specs.Fmt.{decimal};
 ghost use Rattle.std.specs.List.{flat_map};
@@ -138,7 +138,7 @@ pub(crate) fn classify_message(
     paths: &Paths<'_>,
     limits: &Limits,
 ) -> Result<Message, AllocError>
-    ensures { IfOk result (λ m. IsClassifyText paths.now limits.now.max_bytes limits.now.max_facts fault.now (string_bytes m.text) × (m.status ≡ classify_status fault.now)) }
+    ensures { IfOk result (IsClassifyMessage paths.now limits.now fault.now) }
 {
     match fault {
         ClassifyFault::Document(fault) => document_message(alloc, fault, paths.document, limits),
@@ -201,7 +201,7 @@ pub(crate) fn question_message(
     path: &str,
     limits: &Limits,
 ) -> Result<Message, AllocError>
-    ensures { IfOk result (λ m. IsQuestionText path.now limits.now.max_bytes limits.now.max_facts fault.now (string_bytes m.text) × (m.status ≡ question_status fault.now)) }
+    ensures { IfOk result (IsQuestionMessage path.now limits.now fault.now) }
 {
     match fault {
         QuestionFault::Document(fault) => document_message(alloc, fault, path, limits),

@@ -1,9 +1,9 @@
 //! A whole run of the program.
 ghost use Rattle.session.specs.Devices.{seen};
 ghost use Rattle.cli.specs.Files.{store};
-ghost use Rattle.cli.specs.Runs.{AskForNoClassification, IsCheckRun, IsCheckTold, IsClassifyMade, IsClassifyRun, IsClassifyTold, Performs, max_bytes_of, max_facts_of};
+ghost use Rattle.cli.specs.Runs.{AskForNoClassification, IsCheckTold, IsClassifyMade, IsClassifyTold, Performs, Runs};
 ghost use Rattle.cli.specs.Messages.{IsLineTold, outputs};
-ghost use Rattle.cli.specs.FileSinks.{HasFresh};
+ghost use Rattle.cli.specs.FileSinks.{HasFresh, HaveNotFailed};
 ghost use Rattle.std.specs.Prelude.{◌≡◌, ℕ, List, IfOk, map};
 
 use crate::asking::{perform_explain, perform_instances};
@@ -18,9 +18,9 @@ use crate::printing::{
 use axioms::{Memory, Ontology};
 use cert_check::Verdict;
 use classification::Summary;
-use command_line::{LineFault, Paths, Task, task};
+use command_line::{Command, LineFault, Paths, task};
 use device::Sink;
-use profile::{DocumentFault, Limits, MOST_FACTS};
+use profile::{DocumentFault, Limits};
 use std::alloc::Global;
 use std::hash::RandomState;
 use system_files::Files;
@@ -35,8 +35,9 @@ struct TextSinks<S: Drop> {
 
 /// Sinks of the files of the three texts, which have taken nothing. The files hold what they did.
 fn sinks_of<F: Files>(files: &mut F, paths: &Paths<'_>) -> Result<TextSinks<F::Out>, Memory>
-    ensures fresh { IfOk result (λ s. HasFresh F.Out.Sink (F.is_known files.old) paths.now (F.has_place files.new) s.taxonomy s.instances s.certificate) }
-    ensures working { IfOk result (λ s. (F.Out.Sink.failures s.taxonomy ≡ 0) × (F.Out.Sink.failures s.instances ≡ 0) × (F.Out.Sink.failures s.certificate ≡ 0)) }
+    ensures fresh { IfOk result (λ s. HasFresh F.Out.Sink (F.is_known files.old) paths.now (F.has_place files.new)
+        s.taxonomy s.instances s.certificate) }
+    ensures working { IfOk result (λ s. HaveNotFailed F.Out.Sink s.taxonomy s.instances s.certificate) }
     ensures kept { (path : List ℕ) → F.content files.new path ≡ F.content files.old path }
     ensures known { F.is_known files.new ≡ F.is_known files.old }
     ensures unfailed { F.failed_writes files.new ≡ F.failed_writes files.old }
@@ -59,7 +60,7 @@ fn classified_files<F: Files>(
     files: &mut F,
     state: RandomState,
 ) -> Result<Summary, ClassifyFault>
-    ensures { IsClassifyMade paths.now limits.now.max_facts limits.now.max_bytes (store F.Files files.old files.new) (F.content files.old) (F.content files.new) result }
+    ensures { IsClassifyMade paths.now limits.now (store F.Files files.old files.new) (F.content files.old) (F.content files.new) result }
 {
     let mut document = match document_of(files, paths.document) {
         Ok(document) => document,
@@ -92,7 +93,7 @@ fn tell_classified<O: Sink, E: Sink>(
     out: &mut O,
     err: &mut E,
 ) -> u8
-    ensures { IsClassifyTold paths.now limits.now.max_facts limits.now.max_bytes answer (outputs O.Sink E.Sink out.old err.old) (outputs O.Sink E.Sink out.new err.new) result }
+    ensures { IsClassifyTold paths.now limits.now answer (outputs O.Sink E.Sink out.old err.old) (outputs O.Sink E.Sink out.new err.new) result }
 {
     match answer {
         Ok(summary) => print_summary(out, &summary),
@@ -110,7 +111,7 @@ fn perform_classify<F: Files, O: Sink, E: Sink>(
     err: &mut E,
     state: RandomState,
 ) -> u8
-    ensures { IsClassifyRun paths.now limits.now.max_facts limits.now.max_bytes (store F.Files files.old files.new) (F.content files.old) (F.content files.new) (outputs O.Sink E.Sink out.old err.old) (outputs O.Sink E.Sink out.new err.new) result }
+    ensures { Runs F.Files O.Sink E.Sink (Command.Classify paths.now) limits.now (files.old, out.old, err.old) (files.new, out.new, err.new) result }
 {
     let answer = classified_files(alloc, paths, limits, files, state);
     tell_classified(alloc, answer, paths, limits, out, err)
@@ -125,7 +126,8 @@ fn tell_checked<O: Sink, E: Sink>(
     out: &mut O,
     err: &mut E,
 ) -> u8
-    ensures { IsCheckTold paths.now limits.now.max_bytes answer (outputs O.Sink E.Sink out.old err.old) (outputs O.Sink E.Sink out.new err.new) result }
+    ensures { IsCheckTold paths.now limits.now.max_bytes answer
+        (outputs O.Sink E.Sink out.old err.old) (outputs O.Sink E.Sink out.new err.new) result }
 {
     match answer {
         Ok((ontology, verdict)) => print_verdict(out, &ontology, &verdict),
@@ -143,7 +145,7 @@ fn perform_check<F: Files, O: Sink, E: Sink>(
     err: &mut E,
     state: RandomState,
 ) -> u8
-    ensures { IsCheckRun paths.now limits.now.max_bytes (store F.Files files.now files.now) (F.content files.now) (outputs O.Sink E.Sink out.old err.old) (outputs O.Sink E.Sink out.new err.new) result }
+    ensures { Runs F.Files O.Sink E.Sink (Command.Check paths.now) limits.now (files.now, out.old, err.old) (files.now, out.new, err.new) result }
 {
     let answer = checked_files(alloc, paths, limits, files, state);
     tell_checked(alloc, answer, paths, limits, out, err)
@@ -159,30 +161,6 @@ fn refuse<E: Sink>(alloc: Global, fault: &LineFault, err: &mut E) -> u8
     }
 }
 
-/// How many bytes the document may have.
-fn max_bytes(task: &Task<'_>) -> u64
-    ensures { result ≡ max_bytes_of task.now }
-{
-    match *task {
-        Task::Classify { max_bytes, .. } => max_bytes,
-        Task::Check { max_bytes, .. } => max_bytes,
-        Task::Instances { max_bytes, .. } => max_bytes,
-        Task::Explain { max_bytes, .. } => max_bytes,
-    }
-}
-
-/// How many facts may be drawn: a check draws none, and has the greatest number.
-fn max_facts(task: &Task<'_>) -> u64
-    ensures { result ≡ max_facts_of task.now }
-{
-    match *task {
-        Task::Classify { max_facts, .. } => max_facts,
-        Task::Check { .. } => MOST_FACTS,
-        Task::Instances { max_facts, .. } => max_facts,
-        Task::Explain { max_facts, .. } => max_facts,
-    }
-}
-
 /// Does what the words ask for, the first being the program's name: reads and writes the files, prints to `out` and
 /// `err`, and gives the exit status.
 pub fn perform<F: Files, O: Sink, E: Sink>(
@@ -194,7 +172,8 @@ pub fn perform<F: Files, O: Sink, E: Sink>(
     state: RandomState,
 ) -> u8
     // What the words ask for, which file holds which text, what is printed, and the status.
-    ensures performed { Performs F.Files O.Sink E.Sink (map (λ w. w.now) words.entry.now) (files.old, out.old, err.old) (files.new, out.new, err.new) result }
+    ensures performed { Performs F.Files O.Sink E.Sink (map (λ w. w.now) words.entry.now)
+        (files.old, out.old, err.old) (files.new, out.new, err.new) result }
     // Only a classification writes files.
     ensures untouched { AskForNoClassification (map (λ w. w.now) words.entry.now) → files.new ≡ files.old }
 {
@@ -202,20 +181,16 @@ pub fn perform<F: Files, O: Sink, E: Sink>(
         Ok(task) => task,
         Err(fault) => return refuse(alloc, &fault, err),
     };
-    let Some(limits) = Limits::new(max_bytes(&task), max_facts(&task)) else {
-        unreachable!()
-    };
-    match task {
-        Task::Classify { paths, .. } => {
+    let limits = task.limits;
+    match task.command {
+        Command::Classify(paths) => {
             perform_classify(alloc, &paths, &limits, files, out, err, state)
         }
-        Task::Check { paths, .. } => perform_check(alloc, &paths, &limits, files, out, err, state),
-        Task::Instances {
-            document,
-            class,
-            ..
-        } => perform_instances(alloc, document, class, &limits, files, out, err, state),
-        Task::Explain { question, .. } => {
+        Command::Check(paths) => perform_check(alloc, &paths, &limits, files, out, err, state),
+        Command::Instances { document, class } => {
+            perform_instances(alloc, document, class, &limits, files, out, err, state)
+        }
+        Command::Explain(question) => {
             perform_explain(alloc, &question, &limits, files, out, err, state)
         }
     }

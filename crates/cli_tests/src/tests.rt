@@ -207,64 +207,49 @@ const NO_INSTANCES: &str = "elinst 1 consistent\n";
 
 const ONE_DOCUMENT: &[u8] = b"Ontology(SubClassOf(<x:A> <x:B>))";
 
-/// The words that classify within a limit.
-const THREE_FACTS: &[&str] = &[
-    "elc",
-    "classify",
-    "doc",
-    "tax",
-    "inst",
-    "cert",
-    "--max-facts",
-    "3",
-];
-
-const TWO_FACTS: &[&str] = &[
-    "elc",
-    "classify",
-    "doc",
-    "tax",
-    "inst",
-    "cert",
-    "--max-facts",
-    "2",
+/// Lines that classify a document within a limit.
+const WITHIN: &[(&str, &[u8])] = &[
+    (
+        "elc classify doc tax inst cert --max-facts 3",
+        b"Ontology()",
+    ),
+    (
+        "elc classify doc tax inst cert --max-bytes 33",
+        ONE_DOCUMENT,
+    ),
 ];
 
 #[test]
-fn limit_of_facts(rt: HostRuntime) -> Result<(), Fail> {
-    assert!(rt; status(&rt, THREE_FACTS, b"Ontology()")? == 0);
-    let told = "limit: more than 2 facts\n";
-    assert!(rt; refuses(&rt, TWO_FACTS, b"Ontology()", 5, told)?);
+fn within_a_limit(rt: HostRuntime) -> Result<(), Fail> {
+    for row in WITHIN {
+        let (line, document) = *row;
+        let words: Vec<&str> = line.split(' ').collect(rt.alloc())?;
+        assert!(rt; status(&rt, &words, document)? == 0, "{line}");
+    }
     Ok(())
 }
 
-const ALL_BYTES: &[&str] = &[
-    "elc",
-    "classify",
-    "doc",
-    "tax",
-    "inst",
-    "cert",
-    "--max-bytes",
-    "33",
-];
-
-const LESS_BYTES: &[&str] = &[
-    "elc",
-    "classify",
-    "doc",
-    "tax",
-    "inst",
-    "cert",
-    "--max-bytes",
-    "32",
+/// Lines that classify a document beyond a limit, and what is told.
+const BEYOND: &[(&str, &[u8], &str)] = &[
+    (
+        "elc classify doc tax inst cert --max-facts 2",
+        b"Ontology()",
+        "limit: more than 2 facts\n",
+    ),
+    (
+        "elc classify doc tax inst cert --max-bytes 32",
+        ONE_DOCUMENT,
+        "limit: more than 32 bytes\n",
+    ),
 ];
 
 #[test]
-fn limit_of_bytes(rt: HostRuntime) -> Result<(), Fail> {
-    assert!(rt; status(&rt, ALL_BYTES, ONE_DOCUMENT)? == 0);
-    let told = "limit: more than 32 bytes\n";
-    assert!(rt; refuses(&rt, LESS_BYTES, ONE_DOCUMENT, 5, told)?);
+fn beyond_a_limit(rt: HostRuntime) -> Result<(), Fail> {
+    for row in BEYOND {
+        let (line, document, told) = *row;
+        let words: Vec<&str> = line.split(' ').collect(rt.alloc())?;
+        assert!(rt; refuses(&rt, &words, document, 5, told)?, "{line}");
+    }
     Ok(())
 }
 

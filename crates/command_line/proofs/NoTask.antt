@@ -1,53 +1,49 @@
 -- Where the words name no task.
-use Rattle.std.proofs.Common.{◌≡◌, ℕ, List, codes}
+use Rattle.std.proofs.Common.{◌≡◌, ◌∙◌, ℕ, List, Option, Some, codes, refl, subst, sym}
+use Rattle.std.proofs.lemmas.Option.{same_Some}
 use Rattle.clap.specs.Words.{Row, Text}
+use Rattle.command_line.specs.declared.tasks.Command.{Command}
+use Rattle.command_line.specs.declared.tasks.Command.TheVariants.{Check, Classify, Explain, Instances}
 use Rattle.command_line.specs.declared.tasks.LineFault.{LineFault}
 use Rattle.command_line.specs.declared.tasks.LineFault.TheVariants.{Line, Memory}
+use Rattle.command_line.specs.declared.tasks.Paths.{Paths}
 use Rattle.command_line.specs.declared.tasks.Task.{Task}
-use Rattle.command_line.specs.declared.tasks.Task.TheVariants.{Check, Classify, Explain, Instances}
-use Rattle.command_line.specs.CommandLine.{IsNumber, IsTask, IsTaskOf, Refuses, most_bytes, most_facts}
+use Rattle.command_line.specs.CommandLine.{AreLimits, IsCommand, IsLimit, IsLimitOfFacts, IsTask, IsTaskOf, NamesTask, Refuses, most_facts}
+use Rattle.program.specs.declared.limits.Limits.{Limits}
 
-pub no_check : (rows : List Row) → ((n : ℕ) → IsNumber (codes "max-bytes") most_bytes rows n → ⊥) → (task : Task) → IsTask (codes "check") rows task → ⊥
-no_check rows none (Classify paths facts bytes) h = let other : codes "check" ≡ codes "classify" = h.0 in cc
-no_check rows none (Check paths bytes) h = none bytes h.2
-no_check rows none (Instances document class facts bytes) h = let other : codes "check" ≡ codes "instances" = h.0 in cc
-no_check rows none (Explain question facts bytes) h = let other : codes "check" ≡ codes "explain" = h.0 in cc
+-- commands of one name have one limit of facts
+pub one_limit : (name : Text) (rows : List Row) (c d : Command) (limit : ℕ) → IsCommand name rows c → IsCommand name rows d → IsLimitOfFacts c rows limit → IsLimitOfFacts d rows limit
+one_limit name rows (Check p) (Check q) limit h k is = is
+one_limit name rows (Check p) (Classify q) limit h k is = let a : name ≡ codes "check" = h.0 in let b : name ≡ codes "classify" = k.0 in absurd (cc)
+one_limit name rows (Check p) (Instances document class) limit h k is = let a : name ≡ codes "check" = h.0 in let b : name ≡ codes "instances" = k.0 in absurd (cc)
+one_limit name rows (Check p) (Explain question) limit h k is = let a : name ≡ codes "check" = h.0 in let b : name ≡ codes "explain" = k.0 in absurd (cc)
+one_limit name rows (Classify p) (Check q) limit h k is = let a : name ≡ codes "classify" = h.0 in let b : name ≡ codes "check" = k.0 in absurd (cc)
+one_limit name rows (Instances document class) (Check q) limit h k is = let a : name ≡ codes "instances" = h.0 in let b : name ≡ codes "check" = k.0 in absurd (cc)
+one_limit name rows (Explain question) (Check q) limit h k is = let a : name ≡ codes "explain" = h.0 in let b : name ≡ codes "check" = k.0 in absurd (cc)
+one_limit name rows (Classify p) (Classify q) limit h k is = is
+one_limit name rows (Classify p) (Instances document class) limit h k is = is
+one_limit name rows (Classify p) (Explain question) limit h k is = is
+one_limit name rows (Instances document class) (Classify q) limit h k is = is
+one_limit name rows (Instances document class) (Instances document' class') limit h k is = is
+one_limit name rows (Instances document class) (Explain question) limit h k is = is
+one_limit name rows (Explain question) (Classify q) limit h k is = is
+one_limit name rows (Explain question) (Instances document class) limit h k is = is
+one_limit name rows (Explain question) (Explain question') limit h k is = is
 
-pub no_classify_facts : (rows : List Row) → ((n : ℕ) → IsNumber (codes "max-facts") most_facts rows n → ⊥) → (task : Task) → IsTask (codes "classify") rows task → ⊥
-no_classify_facts rows none (Classify paths facts bytes) h = none facts h.2
-no_classify_facts rows none (Check paths bytes) h = let other : codes "classify" ≡ codes "check" = h.0 in cc
-no_classify_facts rows none (Instances document class facts bytes) h = let other : codes "classify" ≡ codes "instances" = h.0 in cc
-no_classify_facts rows none (Explain question facts bytes) h = let other : codes "classify" ≡ codes "explain" = h.0 in cc
+-- a command that is no check has an option for its limit of facts
+pub limit_of_facts : (rows : List Row) (command : Command) (limit : ℕ) → ((paths : Paths) → command ≡ Check paths → ⊥) → IsLimitOfFacts command rows limit → IsLimit (codes "max-facts") most_facts rows limit
+limit_of_facts rows (Check paths) limit other is = absurd (other paths refl)
+limit_of_facts rows (Classify paths) limit other is = is
+limit_of_facts rows (Instances document class) limit other is = is
+limit_of_facts rows (Explain question) limit other is = is
 
-pub no_classify_bytes : (rows : List Row) → ((n : ℕ) → IsNumber (codes "max-bytes") most_bytes rows n → ⊥) → (task : Task) → IsTask (codes "classify") rows task → ⊥
-no_classify_bytes rows none (Classify paths facts bytes) h = none bytes h.3
-no_classify_bytes rows none (Check paths bytes) h = let other : codes "classify" ≡ codes "check" = h.0 in cc
-no_classify_bytes rows none (Instances document class facts bytes) h = let other : codes "classify" ≡ codes "instances" = h.0 in cc
-no_classify_bytes rows none (Explain question facts bytes) h = let other : codes "classify" ≡ codes "explain" = h.0 in cc
-
-pub no_instances_facts : (rows : List Row) → ((n : ℕ) → IsNumber (codes "max-facts") most_facts rows n → ⊥) → (task : Task) → IsTask (codes "instances") rows task → ⊥
-no_instances_facts rows none (Classify paths facts bytes) h = let other : codes "instances" ≡ codes "classify" = h.0 in cc
-no_instances_facts rows none (Check paths bytes) h = let other : codes "instances" ≡ codes "check" = h.0 in cc
-no_instances_facts rows none (Instances document class facts bytes) h = none facts h.3
-no_instances_facts rows none (Explain question facts bytes) h = let other : codes "instances" ≡ codes "explain" = h.0 in cc
-
-pub no_instances_bytes : (rows : List Row) → ((n : ℕ) → IsNumber (codes "max-bytes") most_bytes rows n → ⊥) → (task : Task) → IsTask (codes "instances") rows task → ⊥
-no_instances_bytes rows none (Classify paths facts bytes) h = let other : codes "instances" ≡ codes "classify" = h.0 in cc
-no_instances_bytes rows none (Check paths bytes) h = let other : codes "instances" ≡ codes "check" = h.0 in cc
-no_instances_bytes rows none (Instances document class facts bytes) h = none bytes h.4
-no_instances_bytes rows none (Explain question facts bytes) h = let other : codes "instances" ≡ codes "explain" = h.0 in cc
-
-pub no_explain_facts : (rows : List Row) → ((n : ℕ) → IsNumber (codes "max-facts") most_facts rows n → ⊥) → (task : Task) → IsTask (codes "explain") rows task → ⊥
-no_explain_facts rows none (Classify paths facts bytes) h = let other : codes "explain" ≡ codes "classify" = h.0 in cc
-no_explain_facts rows none (Check paths bytes) h = let other : codes "explain" ≡ codes "check" = h.0 in cc
-no_explain_facts rows none (Instances document class facts bytes) h = let other : codes "explain" ≡ codes "instances" = h.0 in cc
-no_explain_facts rows none (Explain question facts bytes) h = none facts h.2
-
-pub no_explain_bytes : (rows : List Row) → ((n : ℕ) → IsNumber (codes "max-bytes") most_bytes rows n → ⊥) → (task : Task) → IsTask (codes "explain") rows task → ⊥
-no_explain_bytes rows none (Classify paths facts bytes) h = let other : codes "explain" ≡ codes "classify" = h.0 in cc
-no_explain_bytes rows none (Check paths bytes) h = let other : codes "explain" ≡ codes "check" = h.0 in cc
-no_explain_bytes rows none (Instances document class facts bytes) h = let other : codes "explain" ≡ codes "instances" = h.0 in cc
-no_explain_bytes rows none (Explain question facts bytes) h = none bytes h.3
+-- where the command of the name has no limits there is no task
+pub no_limits : (name : Text) (rows : List Row) (entered : Option (Text × List Row)) (command : Command) → entered ≡ Some (name, rows) → IsCommand name rows command → ((limits : Limits) → AreLimits rows command limits → ⊥) → (task : Task) → NamesTask entered task → ⊥
+no_limits name rows entered command here is none task h =
+    let same : (h.name, h.rows) ≡ (name, rows) = same_Some _ _ (sym h.found ∙ here) in
+    let P : Text × List Row → Type 0 = λ p. IsTask p.0 p.1 task in
+    let asked : IsTask name rows task = subst P same h.is in
+    none task.limits (record { bytes = asked.limits.bytes; facts = one_limit name rows task.command command task.limits.max_facts asked.command is asked.limits.facts })
 
 -- words that are no task are refused
 pub refuses : (words : List Text) (fault : LineFault) → ((task : Task) → IsTaskOf words task → ⊥) → Refuses words fault

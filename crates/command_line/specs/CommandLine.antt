@@ -1,5 +1,5 @@
 -- The program's command line, as clap reads it.
-use Rattle.std.specs.Prelude.{◌≡◌, ◌≤◌, ℕ, Bool, List, [], ◌∷◌, Option, Some, None, codes, if◌then◌else◌, true, ⊤}
+use Rattle.std.specs.Prelude.{◌≡◌, ◌≤◌, ◌<◌, ◌^◌, ℕ, Bool, false, List, [], ◌∷◌, Option, Some, None, codes, if◌then◌else◌, true, ⊤}
 use Rattle.std.specs.Fmt.{decimal}
 use Rattle.std.specs.Str.Parse.{IsNumeral, digits_value, without_leading_plus}
 use Rattle.clap.specs.Words.{App, Row, Rule, Text, new_app, new_rule, with_rule, with_subcommand, first_of, one_of, subcommand_of, takes}
@@ -10,8 +10,10 @@ use Rattle.command_line.specs.declared.tasks.Paths.{Paths}
 use Rattle.command_line.specs.declared.tasks.Question.{Question}
 use Rattle.command_line.specs.declared.tasks.LineFault.{LineFault}
 use Rattle.command_line.specs.declared.tasks.LineFault.TheVariants.{Line, Memory}
+use Rattle.command_line.specs.declared.tasks.Command.{Command}
+use Rattle.command_line.specs.declared.tasks.Command.TheVariants.{Check, Classify, Explain, Instances}
 use Rattle.command_line.specs.declared.tasks.Task.{Task}
-use Rattle.command_line.specs.declared.tasks.Task.TheVariants.{Check, Classify, Explain, Instances}
+use Rattle.program.specs.declared.limits.Limits.{Limits}
 use Rattle.program.specs.declared.limits.TheConstants.{MOST_BYTES, MOST_FACTS}
 
 -- ---- the commands
@@ -55,7 +57,7 @@ with_paths app =
 
 -- `classify DOC TAX INST CERT [--max-facts N] [--max-bytes N]`
 abbrev pub classify_app : App
-classify_app = with_rule (with_rule (with_paths (new_app (codes "classify"))) max_facts) max_bytes
+classify_app = with_limits (with_paths (new_app (codes "classify")))
 
 -- `check DOC TAX INST CERT [--max-bytes N]`
 abbrev pub check_app : App
@@ -87,14 +89,19 @@ elc_app = with_questions (with_subcommand (with_subcommand (on_top (λ s. record
 
 -- ---- what the words ask for
 
--- the number is what the option's word says in decimal digits, or its default where it has none, and lies from 1 to `most`
-pub record IsNumber (id : Text) (most : ℕ) (rows : List Row) (number : ℕ) : Type 0 where
+-- the number is what the option's word says in decimal digits, or its default where it has none, and 64 bits hold it
+pub record IsNumber (id : Text) (rows : List Row) (number : ℕ) : Type 0 where
   pub word : Text
   pub given : one_of id rows ≡ Some word
   pub numeral : IsNumeral 10 (without_leading_plus word)
   pub value : number ≡ digits_value 10 (without_leading_plus word)
-  pub least : 1 ≤ number
-  pub within : number ≤ most
+  pub fits : number < 2 ^ 64
+
+-- the limit is the number of the option, and lies from 1 to `most`
+pub record IsLimit (id : Text) (most : ℕ) (rows : List Row) (limit : ℕ) : Type 0 where
+  pub number : IsNumber id rows limit
+  pub least : 1 ≤ limit
+  pub within : limit ≤ most
 
 -- the paths are the words that stand in their places
 pub record ArePaths (rows : List Row) (paths : Paths) : Type 0 where
@@ -115,12 +122,27 @@ pub record IsQuestion (rows : List Row) (question : Question) : Type 0 where
   pub individual : IsFlag (codes "individual") rows question.individual
   pub dot : IsFlag (codes "dot") rows question.dot
 
+-- the command is what its name and its matches say
+abbrev pub IsCommand : Text → List Row → Command → Type 0
+IsCommand name rows (Classify paths) = (name ≡ codes "classify") × ArePaths rows paths
+IsCommand name rows (Check paths) = (name ≡ codes "check") × ArePaths rows paths
+IsCommand name rows (Instances document class) = (name ≡ codes "instances") × (first_of (codes "DOC") rows ≡ Some document.now) × (first_of (codes "CLASS") rows ≡ Some class.now)
+IsCommand name rows (Explain question) = (name ≡ codes "explain") × IsQuestion rows question
+
+-- how many facts the command may draw: what its option says. A check draws none and has no such option: its limit is the greatest
+abbrev pub IsLimitOfFacts : Command → List Row → ℕ → Type 0
+IsLimitOfFacts (Check paths) rows limit = limit ≡ most_facts
+IsLimitOfFacts command rows limit = IsLimit (codes "max-facts") most_facts rows limit
+
+-- the limits are those of the command's options
+pub record AreLimits (rows : List Row) (command : Command) (limits : Limits) : Type 0 where
+  pub bytes : IsLimit (codes "max-bytes") most_bytes rows limits.max_bytes
+  pub facts : IsLimitOfFacts command rows limits.max_facts
+
 -- the task is what a command's name and its matches say
-abbrev pub IsTask : Text → List Row → Task → Type 0
-IsTask name rows (Classify paths facts bytes) = (name ≡ codes "classify") × ArePaths rows paths × IsNumber (codes "max-facts") most_facts rows facts × IsNumber (codes "max-bytes") most_bytes rows bytes
-IsTask name rows (Check paths bytes) = (name ≡ codes "check") × ArePaths rows paths × IsNumber (codes "max-bytes") most_bytes rows bytes
-IsTask name rows (Instances document class facts bytes) = (name ≡ codes "instances") × (first_of (codes "DOC") rows ≡ Some document.now) × (first_of (codes "CLASS") rows ≡ Some class.now) × IsNumber (codes "max-facts") most_facts rows facts × IsNumber (codes "max-bytes") most_bytes rows bytes
-IsTask name rows (Explain question facts bytes) = (name ≡ codes "explain") × IsQuestion rows question × IsNumber (codes "max-facts") most_facts rows facts × IsNumber (codes "max-bytes") most_bytes rows bytes
+pub record IsTask (name : Text) (rows : List Row) (task : Task) : Type 0 where
+  pub command : IsCommand name rows task.command
+  pub limits : AreLimits rows task.command task.limits
 
 -- there is a command, and the task is what it says
 pub record NamesTask (entered : Option (Text × List Row)) (task : Task) : Type 0 where

@@ -5,7 +5,7 @@ ghost use Rattle.clap.specs.declared.builder.command.Command.TheViews.{out-Comma
 ghost use Rattle.command_line.specs.CommandLine.{path, flag, max_facts, max_bytes, with_paths as app_with_paths, with_names as app_with_names, with_flags as app_with_flags, with_limits as app_with_limits, with_questions as app_with_questions, check_app, classify_app, instances_app, explain_app, elc_app};
 
 use clap::{Arg, ArgAction, Command, value_parser};
-use program::{MOST_BYTES, MOST_FACTS};
+use program::{MOST_BYTES, MOST_BYTES_TEXT, MOST_FACTS, MOST_FACTS_TEXT};
 use std::alloc::{AllocError, Global};
 
 const ABOUT: &str = "Classifies ontologies in OWL 2 EL, and says why";
@@ -45,6 +45,10 @@ const INDIVIDUAL_HELP: &str = "SUB is an individual";
 
 const DOT_HELP: &str = "Prints a graph for the program dot";
 
+const MAX_FACTS_HELP: &str = "The most facts to draw from the document, from 1 up to the default";
+
+const MAX_BYTES_HELP: &str = "The most bytes to read of the document, from 1 up to the default";
+
 /// The command with one path or name more.
 fn with_path<'a>(
     alloc: Global,
@@ -75,9 +79,9 @@ fn max_facts_option<'a>(alloc: Global) -> Arg<'a>
 {
     Arg::new(alloc, "max-facts")
         .long("max-facts")
-        .help("The most facts to draw from the document, from 1 to 100000000")
+        .help(MAX_FACTS_HELP)
         .value_parser(value_parser!(u64).range(1..=MOST_FACTS as i64))
-        .default_value("100000000")
+        .default_value(MOST_FACTS_TEXT)
 }
 
 fn max_bytes_option<'a>(alloc: Global) -> Arg<'a>
@@ -86,9 +90,9 @@ fn max_bytes_option<'a>(alloc: Global) -> Arg<'a>
 {
     Arg::new(alloc, "max-bytes")
         .long("max-bytes")
-        .help("The most bytes to read of the document, from 1 to 268435456")
+        .help(MAX_BYTES_HELP)
         .value_parser(value_parser!(u64).range(1..=MOST_BYTES as i64))
-        .default_value("268435456")
+        .default_value(MOST_BYTES_TEXT)
 }
 
 /// The command with the two limits.
@@ -105,9 +109,9 @@ fn classify_command<'a>(alloc: Global) -> Result<Command<'a>, AllocError>
     ensures app { IfOk result (λ c. app_of c ≡ classify_app) }
     ensures local { IfOk result (λ c. (fields_of c).has_globals ≡ false) }
 {
-    with_paths(alloc, Command::new(alloc, "classify").about(CLASSIFY_ABOUT))?
-        .arg(max_facts_option(alloc))?
-        .arg(max_bytes_option(alloc))
+    let command = Command::new(alloc, "classify").about(CLASSIFY_ABOUT);
+    let command = with_paths(alloc, command)?;
+    with_limits(alloc, command)
 }
 
 fn check_command<'a>(alloc: Global) -> Result<Command<'a>, AllocError>

@@ -1,5 +1,7 @@
 //! Tasks, and why words are none.
 
+use program::Limits;
+
 /// The files that a task reads or writes.
 #[derive(Clone, Copy, Debug, PartialEq, Eq)]
 pub struct Paths<'a> {
@@ -25,31 +27,23 @@ pub struct Question<'a> {
 
 /// What the program is asked to do.
 #[derive(Clone, Copy, Debug, PartialEq, Eq)]
-pub enum Task<'a> {
+pub enum Command<'a> {
     /// Classify the document and write the other three files.
-    Classify {
-        paths: Paths<'a>,
-        max_facts: u64,
-        max_bytes: u64,
-    },
+    Classify(Paths<'a>),
     /// Check the other three files against the document.
-    Check {
-        paths: Paths<'a>,
-        max_bytes: u64,
-    },
+    Check(Paths<'a>),
     /// Print the individuals that belong to the class.
-    Instances {
-        document: &'a str,
-        class: &'a str,
-        max_facts: u64,
-        max_bytes: u64,
-    },
+    Instances { document: &'a str, class: &'a str },
     /// Answer the question, with the reason.
-    Explain {
-        question: Question<'a>,
-        max_facts: u64,
-        max_bytes: u64,
-    },
+    Explain(Question<'a>),
+}
+
+/// What the program is asked to do, and within which limits.
+#[derive(Clone, Copy, Debug, PartialEq, Eq)]
+pub struct Task<'a> {
+    pub command: Command<'a>,
+    /// A check draws no facts, and has the greatest limit of them.
+    pub limits: Limits,
 }
 
 /// Why the words are no task.

@@ -1,13 +1,13 @@
 //! Reads the program's words.
-ghost use Rattle.std.specs.Prelude.{◌≡◌, ℕ, IfOk, IfErr, map, codes, option_map, true};
+ghost use Rattle.std.specs.Prelude.{◌≡◌, ℕ, IfOk, IfErr, map, option_map, true};
 ghost use Rattle.clap.specs.Words.{subcommand_rows_of, rows_of, found_of, first_of, takes};
-ghost use Rattle.command_line.specs.CommandLine.{ArePaths, IsFlag, IsNumber, IsQuestion, IsTask, IsTaskOf, NamesTask, Finds, Refuses};
+ghost use Rattle.command_line.specs.CommandLine.{AreLimits, ArePaths, IsCommand, IsFlag, IsNumber, IsQuestion, IsTaskOf, NamesTask, Finds, Refuses};
 
 use crate::command::elc_command;
-use crate::tasks::{LineFault, Paths, Question, Task};
+use crate::tasks::{Command, LineFault, Paths, Question, Task};
+use clap::ArgMatches;
 use clap::error::ErrorKind;
-use clap::{ArgMatches, Command};
-use program::{MOST_BYTES, MOST_FACTS};
+use program::{Limits, MOST_FACTS};
 use std::alloc::Global;
 
 /// The word that stands for the argument.
@@ -53,55 +53,39 @@ fn question<'a>(inner: &ArgMatches<'a>) -> Option<Question<'a>>
     })
 }
 
-/// The number of an option, from 1 to `most`.
-fn number(inner: &ArgMatches<'_>, id: &str, most: u64) -> Option<u64>
-    ensures { Finds (IsNumber id.now most (rows_of (found_of inner.now))) result }
+/// The number of an option.
+fn number(inner: &ArgMatches<'_>, id: &str) -> Option<u64>
+    ensures { Finds (IsNumber id.now (rows_of (found_of inner.now))) result }
 {
-    let number = inner.get_one::<u64>(id)?;
-    if number < 1 || number > most {
-        return None;
+    inner.get_one::<u64>(id)
+}
+
+/// The limits of the command. A check draws no facts, and has no option for them.
+fn limits(inner: &ArgMatches<'_>, command: &Command<'_>) -> Option<Limits>
+    ensures { Finds (AreLimits (rows_of (found_of inner.now)) command.now) result }
+{
+    let max_bytes = number(inner, "max-bytes")?;
+    let max_facts = match command {
+        Command::Check(_) => MOST_FACTS,
+        _ => number(inner, "max-facts")?,
+    };
+    Limits::new(max_bytes, max_facts)
+}
+
+/// The command of that name.
+fn named<'a>(name: &str, inner: &ArgMatches<'a>) -> Option<Command<'a>>
+    ensures { Finds (IsCommand name.now (rows_of (found_of inner.now))) result }
+{
+    match name {
+        "classify" => Some(Command::Classify(paths(inner)?)),
+        "check" => Some(Command::Check(paths(inner)?)),
+        "instances" => Some(Command::Instances {
+            document: word(inner, "DOC")?,
+            class: word(inner, "CLASS")?,
+        }),
+        "explain" => Some(Command::Explain(question(inner)?)),
+        _ => None,
     }
-    Some(number)
-}
-
-fn classify_task<'a>(inner: &ArgMatches<'a>) -> Option<Task<'a>>
-    ensures { Finds (IsTask (codes "classify") (rows_of (found_of inner.now))) result }
-{
-    Some(Task::Classify {
-        paths: paths(inner)?,
-        max_facts: number(inner, "max-facts", MOST_FACTS)?,
-        max_bytes: number(inner, "max-bytes", MOST_BYTES)?,
-    })
-}
-
-fn check_task<'a>(inner: &ArgMatches<'a>) -> Option<Task<'a>>
-    ensures { Finds (IsTask (codes "check") (rows_of (found_of inner.now))) result }
-{
-    Some(Task::Check {
-        paths: paths(inner)?,
-        max_bytes: number(inner, "max-bytes", MOST_BYTES)?,
-    })
-}
-
-fn instances_task<'a>(inner: &ArgMatches<'a>) -> Option<Task<'a>>
-    ensures { Finds (IsTask (codes "instances") (rows_of (found_of inner.now))) result }
-{
-    Some(Task::Instances {
-        document: word(inner, "DOC")?,
-        class: word(inner, "CLASS")?,
-        max_facts: number(inner, "max-facts", MOST_FACTS)?,
-        max_bytes: number(inner, "max-bytes", MOST_BYTES)?,
-    })
-}
-
-fn explain_task<'a>(inner: &ArgMatches<'a>) -> Option<Task<'a>>
-    ensures { Finds (IsTask (codes "explain") (rows_of (found_of inner.now))) result }
-{
-    Some(Task::Explain {
-        question: question(inner)?,
-        max_facts: number(inner, "max-facts", MOST_FACTS)?,
-        max_bytes: number(inner, "max-bytes", MOST_BYTES)?,
-    })
 }
 
 /// The task of the command that was entered.
@@ -109,13 +93,9 @@ fn entered<'a>(matches: &ArgMatches<'a>) -> Option<Task<'a>>
     ensures { Finds (NamesTask (subcommand_rows_of matches.now)) result }
 {
     let (name, inner) = matches.subcommand()?;
-    match name {
-        "classify" => classify_task(inner),
-        "check" => check_task(inner),
-        "instances" => instances_task(inner),
-        "explain" => explain_task(inner),
-        _ => None,
-    }
+    let command = named(name, inner)?;
+    let limits = limits(inner, &command)?;
+    Some(Task { command, limits })
 }
 
 /// The task that the program's words ask for, the first word being the program's name.
@@ -145,7 +125,7 @@ pub fn task<'a>(alloc: Global, words: &'a [&'a str]) -> Result<Task<'a>, LineFau
 }
 
 /// What to tell of words that name no command.
-fn missing_command(command: &mut Command<'_>) -> LineFault {
+fn missing_command(command: &mut clap::Command<'_>) -> LineFault {
     match command.error(ErrorKind::MissingSubcommand, "no command") {
         Ok(error) => LineFault::Line(error),
         Err(_) => LineFault::Memory,

@@ -1,6 +1,7 @@
 //! Command lines and their tasks.
 
-use command_line::{LineFault, Paths, Question, Task, task};
+use command_line::{Command, LineFault, Paths, Question, Task, task};
+use program::Limits;
 use std::alloc::{AllocError, Global};
 use std::test::Fail;
 
@@ -39,20 +40,21 @@ const CLASSIFY: &[(&[&str], u64, u64)] = &[
 fn classify_with_and_without_options(rt: HostRuntime) -> Result<(), Fail> {
     for row in CLASSIFY {
         let (words, max_facts, max_bytes) = *row;
-        let wanted = Task::Classify {
-            paths: PATHS,
-            max_facts,
-            max_bytes,
+        let limits = Limits::new(max_bytes, max_facts).ok_or("limits")?;
+        let wanted = Task {
+            command: Command::Classify(PATHS),
+            limits,
         };
         assert!(rt; task(rt.alloc(), words)? == wanted);
     }
     Ok(())
 }
 
-/// Words of `check`, and the limit that they give.
-const CHECK: &[(&[&str], u64)] = &[
+/// Words of `check`, and the limits that they give: the greatest number of facts, which it draws none of.
+const CHECK: &[(&[&str], u64, u64)] = &[
     (
         &["elc", "check", "a.ofn", "a.tax", "a.inst", "a.cert"],
+        100_000_000,
         268_435_456,
     ),
     (
@@ -64,19 +66,21 @@ const CHECK: &[(&[&str], u64)] = &[
             "a.inst",
             "a.cert",
             "--max-bytes",
-            "268435456",
+            "1000",
         ],
-        268_435_456,
+        100_000_000,
+        1000,
     ),
 ];
 
 #[test]
 fn check_with_and_without_its_option(rt: HostRuntime) -> Result<(), Fail> {
     for row in CHECK {
-        let (words, max_bytes) = *row;
-        let wanted = Task::Check {
-            paths: PATHS,
-            max_bytes,
+        let (words, max_facts, max_bytes) = *row;
+        let limits = Limits::new(max_bytes, max_facts).ok_or("limits")?;
+        let wanted = Task {
+            command: Command::Check(PATHS),
+            limits,
         };
         assert!(rt; task(rt.alloc(), words)? == wanted);
     }
@@ -109,29 +113,30 @@ const INSTANCES: &[(&[&str], u64, u64)] = &[
 fn instances_with_and_without_options(rt: HostRuntime) -> Result<(), Fail> {
     for row in INSTANCES {
         let (words, max_facts, max_bytes) = *row;
-        let wanted = Task::Instances {
-            document: "a.ofn",
-            class: "x:A",
-            max_facts,
-            max_bytes,
+        let limits = Limits::new(max_bytes, max_facts).ok_or("limits")?;
+        let wanted = Task {
+            command: Command::Instances {
+                document: "a.ofn",
+                class: "x:A",
+            },
+            limits,
         };
         assert!(rt; task(rt.alloc(), words)? == wanted);
     }
     Ok(())
 }
 
-/// The task of a question about two names of a document, within the greatest limits.
-fn asked(individual: bool, dot: bool) -> Task<'static> {
-    Task::Explain {
-        question: Question {
+/// The task of a question about two names of a document, within the limits.
+fn asked(individual: bool, dot: bool, limits: Limits) -> Task<'static> {
+    Task {
+        command: Command::Explain(Question {
             document: "a.ofn",
             subject: "x:A",
             class: "x:B",
             individual,
             dot,
-        },
-        max_facts: 100_000_000,
-        max_bytes: 268_435_456,
+        }),
+        limits,
     }
 }
 
@@ -165,9 +170,10 @@ const EXPLAIN: &[(&[&str], bool, bool)] = &[
 
 #[test]
 fn explain_with_and_without_flags(rt: HostRuntime) -> Result<(), Fail> {
+    let defaults = Limits::new(268_435_456, 100_000_000).ok_or("limits")?;
     for row in EXPLAIN {
         let (words, individual, dot) = *row;
-        assert!(rt; task(rt.alloc(), words)? == asked(individual, dot));
+        assert!(rt; task(rt.alloc(), words)? == asked(individual, dot, defaults));
     }
     Ok(())
 }
@@ -185,15 +191,8 @@ const EXPLAIN_WITHIN: &[&str] = &[
 
 #[test]
 fn explain_with_limits(rt: HostRuntime) -> Result<(), Fail> {
-    let Task::Explain {
-        max_facts,
-        max_bytes,
-        ..
-    } = task(rt.alloc(), EXPLAIN_WITHIN)?
-    else {
-        return Err(Fail::from("another task"));
-    };
-    assert!(rt; (max_facts, max_bytes) == (9, 1000));
+    let given = Limits::new(1000, 9).ok_or("limits")?;
+    assert!(rt; task(rt.alloc(), EXPLAIN_WITHIN)? == asked(false, false, given));
     Ok(())
 }
 

@@ -4,5 +4,5 @@
 mod limits;
 mod status;
 
-pub use limits::{Limits, MOST_BYTES, MOST_FACTS};
+pub use limits::{Limits, MOST_BYTES, MOST_BYTES_TEXT, MOST_FACTS, MOST_FACTS_TEXT};
 pub use status::Status;

@@ -5,14 +5,20 @@ ghost use Rattle.program.specs.declared.limits.TheConstants.{MOST_BYTES, MOST_FA
 /// The greatest number of bytes of a document: 268,435,456.
 pub const MOST_BYTES: u64 = 268_435_456;
 
+/// `MOST_BYTES` in decimal digits.
+pub const MOST_BYTES_TEXT: &str = "268435456";
+
 /// The greatest number of facts of a closure: 100,000,000.
 pub const MOST_FACTS: u64 = 100_000_000;
+
+/// `MOST_FACTS` in decimal digits.
+pub const MOST_FACTS_TEXT: &str = "100000000";
 
 /// How many bytes a document may have, and how many facts its closure.
 #[derive(Clone, Copy, Debug, PartialEq, Eq)]
 pub struct Limits {
     pub max_bytes: u64,
-    pub max_facts: u64,
+    pub max_facts: u32,
     ghost some_bytes: { 0 < max_bytes },
     ghost bytes: { max_bytes ≤ MOST_BYTES },
     ghost some_facts: { 0 < max_facts },
@@ -30,7 +36,7 @@ impl Limits {
         }
         Some(Limits {
             max_bytes,
-            max_facts,
+            max_facts: max_facts as u32,
         })
     }
 }

@@ -2,3 +2,4 @@ pub mod Outcomes
 pub mod SessionOpened
 pub mod Finding
 pub mod Counting
+pub mod AtEnd

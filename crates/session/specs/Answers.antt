@@ -12,6 +12,8 @@ use Rattle.classification.specs.declared.classification.Summary.{Summary}
 use Rattle.device.specs.declared.device.Sink.{Ghosts}
 use Rattle.engine.specs.Saturations.{IsFinished}
 use Rattle.answers.specs.Explanations.{IsKnown}
+use Rattle.answers.specs.Entailment.{BelongsTo, LiesBelow}
+use Rattle.answers.specs.Names.{AreThose}
 use Rattle.answers.specs.declared.asked.Asked.{Asked}
 use Rattle.answers.specs.declared.asked.Asked.TheVariants as subjects
 use Rattle.session.specs.Sessions.{Opened}
@@ -32,6 +34,20 @@ abbrev pub IsClassRefusal : Opened → Iri → AskFault → Type 0
 IsClassRefusal s name asking.Unfinished = ¬ IsFinished s.saturation
 IsClassRefusal s name (asking.UnknownName unknown) = IsFinished s.saturation × (unknown.now ≡ name) × ¬ Contains s.ontology.names.classes name
 IsClassRefusal s name asking.Memory = IsFinished s.saturation
+
+-- ---- names in an answer
+
+-- these are the named classes that lie above the class, each once and in byte order
+abbrev pub AreSuperclasses : Ontology → (class : Iri) → (names : List Iri) → Type 0
+AreSuperclasses o class names = AreThose o.names.classes (LiesBelow o class) names
+
+-- these are the named classes that lie below the class, each once and in byte order
+abbrev pub AreSubclasses : Ontology → (class : Iri) → (names : List Iri) → Type 0
+AreSubclasses o class names = AreThose o.names.classes (λ name. LiesBelow o name class) names
+
+-- these are the individuals that belong to the class, each once and in byte order
+abbrev pub AreInstances : Ontology → (class : Iri) → (names : List Iri) → Type 0
+AreInstances o class names = AreThose o.names.individuals (λ name. BelongsTo o name class) names
 
 -- ---- names in a question
 

@@ -5,3 +5,5 @@ pub mod Answers
 pub mod FactCounts
 pub mod Texts
 pub mod TextAnswers
+pub mod Run
+pub mod Classifications

@@ -5,8 +5,6 @@ use Rattle.answer_texts.specs.Graphs.{proof_graph, refutation_graph}
 use Rattle.answer_texts.specs.Names.{line_feed, name_text}
 use Rattle.answer_texts.specs.Proof.{proof_text}
 use Rattle.answer_texts.specs.Refutation.{refutation_text}
-use Rattle.answers.specs.Entailment.{BelongsTo}
-use Rattle.answers.specs.Names.{AreThose}
 use Rattle.axioms.specs.Expression.{Iri}
 use Rattle.axioms.specs.Ontology.{Ontology}
 use Rattle.axioms.specs.declared.terms.Kind.{Kind}
@@ -14,6 +12,7 @@ use Rattle.certificate.specs.View.{lines_of}
 use Rattle.profile.specs.Documents.{IsTaken}
 use Rattle.profile.specs.Faults.{ReadsKnown, RefusesKnown}
 use Rattle.engine.specs.Saturations.{HasMoreFactsThan}
+use Rattle.program.specs.declared.limits.Limits.{Limits}
 use Rattle.session.specs.declared.question_fault.QuestionFault.{QuestionFault}
 use Rattle.session.specs.declared.question_fault.QuestionFault.TheVariants.{Document, Limit, UnknownName, Memory}
 use Rattle.session.specs.declared.form.Form.{Form}
@@ -22,7 +21,7 @@ use Rattle.answers.specs.Explanations.{Explains, IsKnown}
 use Rattle.answers.specs.declared.asked.Asked.{Asked}
 use Rattle.answers.specs.declared.explanation.Explanation.{Explanation}
 use Rattle.answers.specs.declared.explanation.Explanation.TheVariants.{Yes, No, Contradictory}
-use Rattle.session.specs.Answers.{IsFirstUnknown}
+use Rattle.session.specs.Answers.{AreInstances, IsFirstUnknown}
 use Rattle.session.specs.FactCounts.{HasNoMoreFactsThan}
 use Rattle.session.specs.Devices.{SourceState, IsReadToItsEnd, IsReadUntil}
 
@@ -42,13 +41,13 @@ name_lines names = flat_map (λ name. name_text name ++ line_feed) names
 pub record ListsInstances (o : Ontology) (class : Iri) (text : List ℕ) : Type 0 where
   pub known : Contains o.names.classes class
   pub names : List Iri
-  pub those : AreThose o.names.individuals (λ name. BelongsTo o name class) names
+  pub those : AreInstances o class names
   pub lines : text ≡ name_lines names
 
 -- the document reads as an ontology whose closure has at most so many facts and which has the class, and the lines of the text are of
 -- exactly the individuals that belong to it in every finite interpretation of the axioms, each once and in byte order
-abbrev pub AnswersInstances : (most_bytes most_facts : ℕ) → (document : Option (List ℕ)) → (class : Iri) → (text : List ℕ) → Type 0
-AnswersInstances bytes facts document class text = (o : Ontology) × IsReadAs bytes document o × HasNoMoreFactsThan o facts × ListsInstances o class text
+abbrev pub AnswersInstances : Limits → (document : Option (List ℕ)) → (class : Iri) → (text : List ℕ) → Type 0
+AnswersInstances limits document class text = (o : Ontology) × IsReadAs limits.max_bytes document o × HasNoMoreFactsThan o limits.max_facts × ListsInstances o class text
 
 -- ---- why something follows, or why not
 
@@ -79,26 +78,27 @@ pub record ShowsExplanation (o : Ontology) (asked : Asked) (class : Iri) (form :
 
 -- the document reads as an ontology whose closure has at most so many facts and which has both names, and the text is that of an
 -- explanation that shows whether the subject is in the class
-abbrev pub AnswersExplanation : (most_bytes most_facts : ℕ) → (document : Option (List ℕ)) → Asked → (class : Iri) → Form → (text : List ℕ) → Type 0
-AnswersExplanation bytes facts document asked class form text = (o : Ontology) × IsReadAs bytes document o × HasNoMoreFactsThan o facts × ShowsExplanation o asked class form text
+abbrev pub AnswersExplanation : Limits → (document : Option (List ℕ)) → Asked → (class : Iri) → Form → (text : List ℕ) → Type 0
+AnswersExplanation limits document asked class form text =
+    (o : Ontology) × IsReadAs limits.max_bytes document o × HasNoMoreFactsThan o limits.max_facts × ShowsExplanation o asked class form text
 
 -- ---- faults
 
 -- the document reads as an ontology whose closure has at most so many facts, and the name is the first of these, each of its kind,
 -- that the ontology lacks
-abbrev pub LacksName : (most_bytes most_facts : ℕ) → (document : Option (List ℕ)) → (names : List (Kind × Iri)) → Iri → Type 0
-LacksName bytes facts document names name = (o : Ontology) × IsReadAs bytes document o × HasNoMoreFactsThan o facts × IsFirstUnknown o names name
+abbrev pub LacksName : Limits → (document : Option (List ℕ)) → (names : List (Kind × Iri)) → Iri → Type 0
+LacksName limits document names name = (o : Ontology) × IsReadAs limits.max_bytes document o × HasNoMoreFactsThan o limits.max_facts × IsFirstUnknown o names name
 
 -- the document reads as an ontology whose closure has more facts
-abbrev pub IsBeyondLimit : (most_bytes most_facts : ℕ) → (document : Option (List ℕ)) → Type 0
-IsBeyondLimit bytes facts document = (o : Ontology) × IsReadAs bytes document o × HasMoreFactsThan o facts
+abbrev pub IsBeyondLimit : Limits → (document : Option (List ℕ)) → Type 0
+IsBeyondLimit limits document = (o : Ontology) × IsReadAs limits.max_bytes document o × HasMoreFactsThan o limits.max_facts
 
 -- what a fault says of the document and of the names in the question: it is refused, or it is read and this came behind that
-abbrev pub IsFaultOf : (most_bytes most_facts : ℕ) → (document : Option (List ℕ)) → (names : List (Kind × Iri)) → QuestionFault → Type 0
-IsFaultOf bytes facts document names (Document fault) = RefusesKnown document bytes fault
-IsFaultOf bytes facts document names Limit = IsBeyondLimit bytes facts document
-IsFaultOf bytes facts document names (UnknownName name) = LacksName bytes facts document names name.now
-IsFaultOf bytes facts document names Memory = (o : Ontology) × IsReadAs bytes document o
+abbrev pub IsFaultOf : Limits → (document : Option (List ℕ)) → (names : List (Kind × Iri)) → QuestionFault → Type 0
+IsFaultOf limits document names (Document fault) = RefusesKnown document limits.max_bytes fault
+IsFaultOf limits document names Limit = IsBeyondLimit limits document
+IsFaultOf limits document names (UnknownName name) = LacksName limits document names name.now
+IsFaultOf limits document names Memory = (o : Ontology) × IsReadAs limits.max_bytes document o
 
 -- what was read of the document: all of it, where it was read as an ontology; otherwise some of it; and the fault of a source
 -- is told only where it failed

@@ -1,19 +1,17 @@
 -- What explanations can be written, and what a session does not answer.
-use Rattle.std.specs.Prelude.{ℕ, List}
+use Rattle.std.specs.Prelude.{List}
 use Rattle.std.specs.List.{All}
 use Rattle.axioms.specs.Expression.{Iri}
 use Rattle.axioms.specs.Ontology.{Ontology}
 use Rattle.axioms.specs.declared.terms.Kind.{Kind}
 use Rattle.certificate.specs.Writability.{IsLineOf}
 use Rattle.certificate.specs.View.{lines_of}
-use Rattle.engine.specs.Saturations.{HasMoreFactsThan}
 use Rattle.interpretation_spec.specs.NumberedInterpretation.{IsMadeFor}
 use Rattle.session.specs.declared.question_fault.QuestionFault.{QuestionFault}
 use Rattle.session.specs.declared.question_fault.QuestionFault.TheVariants.{Document, Limit, UnknownName, Memory}
 use Rattle.answers.specs.declared.explanation.Explanation.{Explanation}
 use Rattle.answers.specs.declared.explanation.Explanation.TheVariants.{Yes, No, Contradictory}
 use Rattle.session.specs.Answers.{IsFirstUnknown}
-use Rattle.session.specs.FactCounts.{HasNoMoreFactsThan}
 
 -- its lines speak of what the ontology has, or its interpretation was made for the names of the ontology
 abbrev pub HasText : Ontology → Explanation → Type 0
@@ -21,10 +19,9 @@ HasText o (Yes lines) = All (IsLineOf o) (lines_of lines.items)
 HasText o (No i x) = IsMadeFor o.names i
 HasText o (Contradictory lines) = All (IsLineOf o) (lines_of lines.items)
 
--- what a fault says of an ontology that was read, and of the names in the question: the closure has more facts, or it does not and
--- a name is told
-abbrev pub IsUnanswered : Ontology → (most_facts : ℕ) → (names : List (Kind × Iri)) → QuestionFault → Type 0
-IsUnanswered o facts names (UnknownName name) = HasNoMoreFactsThan o facts × IsFirstUnknown o names name.now
-IsUnanswered o facts names Memory = Unit {0}
-IsUnanswered o facts names (Document fault) = ⊥
-IsUnanswered o facts names Limit = HasMoreFactsThan o facts
+-- what a fault says of an ontology whose closure is known, and of the names in the question: a name is told, or memory was refused
+abbrev pub IsUnanswered : Ontology → (names : List (Kind × Iri)) → QuestionFault → Type 0
+IsUnanswered o names (UnknownName name) = IsFirstUnknown o names name.now
+IsUnanswered o names Memory = Unit {0}
+IsUnanswered o names (Document fault) = ⊥
+IsUnanswered o names Limit = ⊥

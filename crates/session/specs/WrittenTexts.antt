@@ -19,6 +19,10 @@ pub record Texts : Type 0 where
   pub instances : List ℕ
   pub certificate : List ℕ
 
+-- the texts of a classification in memory
+abbrev pub texts_of : Classification → Texts
+texts_of c = record { taxonomy = c.taxonomy.items; instances = c.instances.items; certificate = c.certificate.items }
+
 -- each sink has taken the whole of its text
 abbrev pub AreWritten : (old new : Sinks) → Texts → Type 0
 AreWritten old new texts =
@@ -40,10 +44,10 @@ abbrev pub AreWrittenAsFar : {X : Type 0} → Result X ℕ → (old new : Sinks)
 AreWrittenAsFar (Ok x) old new texts = AreWritten old new texts
 AreWrittenAsFar (Err n) old new texts = AreWrittenUntil n old new texts
 
+-- the texts of a classification are written to three sinks: all of them, or until the sink of the number that is told
+abbrev pub WritesTexts : {T I C X : Type 0} → Ghosts T → Ghosts I → Ghosts C → Classification → (old new : T × I × C) → Result X ℕ → Type 0
+WritesTexts T I C made old new answer = AreWrittenAsFar answer (all_seen T I C old) (all_seen T I C new) (texts_of made)
+
 -- each sink is that of the path that it was of
 abbrev pub KeepPaths : {T I C : Type 0} → Ghosts T → Ghosts I → Ghosts C → (old new : T × I × C) → Type 0
 KeepPaths T I C old new = (T.path new.0 ≡ T.path old.0) × (I.path new.1 ≡ I.path old.1) × (C.path new.2 ≡ C.path old.2)
-
--- the texts of a classification in memory
-abbrev pub texts_of : Classification → Texts
-texts_of c = record { taxonomy = c.taxonomy.items; instances = c.instances.items; certificate = c.certificate.items }

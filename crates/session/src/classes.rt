@@ -1,7 +1,5 @@
 //! The classes above and below a class.
-ghost use Rattle.answers.specs.Entailment.{LiesBelow};
-ghost use Rattle.answers.specs.Names.{AreThose};
-ghost use Rattle.session.specs.Answers.{HasClass, IsClassRefusal};
+ghost use Rattle.session.specs.Answers.{AreSubclasses, AreSuperclasses, HasClass, IsClassRefusal};
 ghost use Rattle.std.specs.Prelude.{IfErr, IfOk, OnOk, map};
 
 use crate::fault::AskFault;
@@ -16,7 +14,7 @@ impl Session {
     /// `Unfinished`, before all others, where facts are pending; `UnknownName` where the ontology has no class of that name;
     /// `Memory` where memory was refused.
     pub fn superclasses<'s, 'n>(&'s self, class: &'n str) -> Result<Vec<&'s str>, AskFault<'n>>
-        ensures exact { IfOk result (λ v. AreThose self.now.ontology.names.classes (LiesBelow self.now.ontology class.now) (map (λ s. s.now) v.items)) }
+        ensures exact { IfOk result (λ v. AreSuperclasses self.now.ontology class.now (map (λ s. s.now) v.items)) }
         ensures asked { OnOk result (HasClass self.now class.now) }
         ensures refused { IfErr result (IsClassRefusal self.now class.now) }
     {
@@ -38,7 +36,7 @@ impl Session {
     /// `Unfinished`, before all others, where facts are pending; `UnknownName` where the ontology has no class of that name;
     /// `Memory` where memory was refused.
     pub fn subclasses<'s, 'n>(&'s self, class: &'n str) -> Result<Vec<&'s str>, AskFault<'n>>
-        ensures exact { IfOk result (λ v. AreThose self.now.ontology.names.classes (λ name. LiesBelow self.now.ontology name class.now) (map (λ s. s.now) v.items)) }
+        ensures exact { IfOk result (λ v. AreSubclasses self.now.ontology class.now (map (λ s. s.now) v.items)) }
         ensures asked { OnOk result (HasClass self.now class.now) }
         ensures refused { IfErr result (IsClassRefusal self.now class.now) }
     {

@@ -28,7 +28,7 @@ fn is_known(ontology: &Ontology, asked: Asked<'_>) -> bool
 }
 
 /// The first of the two names that the ontology lacks.
-fn first_unknown<'n>(ontology: &Ontology, asked: Asked<'n>, class: &'n str) -> &'n str
+pub(crate) fn first_unknown<'n>(ontology: &Ontology, asked: Asked<'n>, class: &'n str) -> &'n str
     requires { IsKnown ontology.now asked → Contains ontology.now.names.classes class.now → ⊥ }
     ensures { IsFirstUnknown ontology.now (subject_name asked.entry ∷ class_name class.now ∷ []) result.now }
 {

@@ -1,7 +1,5 @@
 //! The individuals of a class.
-ghost use Rattle.answers.specs.Entailment.{BelongsTo};
-ghost use Rattle.answers.specs.Names.{AreThose};
-ghost use Rattle.session.specs.Answers.{HasClass, IsClassRefusal};
+ghost use Rattle.session.specs.Answers.{AreInstances, HasClass, IsClassRefusal};
 ghost use Rattle.std.specs.Prelude.{IfErr, IfOk, OnOk, map};
 
 use crate::fault::AskFault;
@@ -16,7 +14,7 @@ impl Session {
     /// `Unfinished`, before all others, where facts are pending; `UnknownName` where the ontology has no class of that name;
     /// `Memory` where memory was refused.
     pub fn instances<'s, 'n>(&'s self, class: &'n str) -> Result<Vec<&'s str>, AskFault<'n>>
-        ensures exact { IfOk result (λ v. AreThose self.now.ontology.names.individuals (λ name. BelongsTo self.now.ontology name class.now) (map (λ s. s.now) v.items)) }
+        ensures exact { IfOk result (λ v. AreInstances self.now.ontology class.now (map (λ s. s.now) v.items)) }
         ensures asked { OnOk result (HasClass self.now class.now) }
         ensures refused { IfErr result (IsClassRefusal self.now class.now) }
     {

@@ -2,12 +2,9 @@
 ghost use Rattle.device.specs.Device.{HasFailed, LosesFront};
 ghost use Rattle.profile.specs.Documents.{IsTaken};
 ghost use Rattle.profile.specs.Faults.{ReadsKnown, RefusesKnown};
-ghost use Rattle.engine.specs.Saturations.{HasMoreFactsThan, IsFinished, IsSaturated, IsSound};
-ghost use Rattle.saturate.specs.Run.{IsRun, IsRunUntil};
-ghost use Rattle.saturate.specs.State.{Extends};
-ghost use Rattle.inference.specs.declared.known_facts.Stop.TheVariants as stops;
+ghost use Rattle.engine.specs.Saturations.{HasResumed, IsFinished, IsSaturated, IsSound, Saturates};
 ghost use Rattle.std.specs.Io.KnownBytes.{IsAtEnd};
-ghost use Rattle.std.specs.Prelude.{◌≡◌, ◌+◌, ◌<◌, ◌≤◌, [], Err, IfErr, IfOk, IsErrOf, OnErr, OnOk, length};
+ghost use Rattle.std.specs.Prelude.{◌≡◌, ◌+◌, ◌<◌, ◌≤◌, [], IfErr, IfOk, IsErrOf, OnOk, length};
 
 use axioms::Ontology;
 use device::Source;
@@ -96,19 +93,9 @@ impl Session {
     /// `Limit` where the closure has more facts than `max_facts`, and `Memory` where memory was refused. After either the session
     /// is as far as it came, and it may be called again.
     pub fn resume(&mut self, max_facts: u32) -> Result<(), Stop>
-        // The ontology is the same, and each fact stays at its place, and served if it was.
         ensures ontology { self.new.ontology ≡ self.old.ontology }
-        ensures extends { Extends self.old.saturation.state self.new.saturation.state }
-        ensures finished { OnOk result (IsFinished self.new.saturation) }
-        ensures saturated { OnOk result (IsSaturated self.new.ontology self.new.saturation) }
-        ensures within { OnOk result (length self.new.saturation.state.facts ≤ max_facts) }
-        ensures limit { result ≡ Err stops.Limit → HasMoreFactsThan self.old.ontology max_facts }
-        // It is a run; or one that was given up, whose last facts are pending.
-        ensures whole { OnOk result (IsRun self.old.saturation.state self.new.saturation.state) }
-        ensures until { OnErr result (IsRunUntil self.old.saturation.state self.new.saturation.state) }
-        ensures most { length self.old.saturation.state.facts ≤ max_facts → length self.new.saturation.state.facts ≤ max_facts }
-        // With nothing pending nothing changes, and memory is not refused.
-        ensures idle { IsFinished self.old.saturation → (self.new ≡ self.old) × ¬ (result ≡ Err stops.Memory) }
+        ensures resumed { HasResumed max_facts self.old.saturation self.new.saturation result }
+        ensures saturates { Saturates self.new.ontology max_facts self.new.saturation result }
     {
         self.saturation.resume(max_facts)
     }

@@ -38,7 +38,8 @@ impl Session {
         certificate: &mut C,
     ) -> Result<Summary, TextFault>
         // What the answer says of the session, and what each sink has taken; a sink is named only where it failed.
-        ensures written { Writes T.Sink I.Sink C.Sink self.now (taxonomy.old, instances.old, certificate.old) (taxonomy.new, instances.new, certificate.new) result }
+        ensures written { Writes T.Sink I.Sink C.Sink self.now
+            (taxonomy.old, instances.old, certificate.old) (taxonomy.new, instances.new, certificate.new) result }
         ensures paths { KeepPaths T.Sink I.Sink C.Sink (taxonomy.old, instances.old, certificate.old) (taxonomy.new, instances.new, certificate.new) }
     {
         let made = match self.made() {

@@ -1,5 +1,5 @@
 //! The three texts of a classification, written to sinks.
-ghost use Rattle.session.specs.WrittenTexts.{AreWrittenAsFar, KeepPaths, all_seen, texts_of};
+ghost use Rattle.session.specs.WrittenTexts.{KeepPaths, WritesTexts};
 
 use classification::Classification;
 use device::{Sink, write_all};
@@ -15,7 +15,8 @@ pub fn write_texts<T: Sink, I: Sink, C: Sink>(
     instances: &mut I,
     certificate: &mut C,
 ) -> Result<(), usize>
-    ensures written { AreWrittenAsFar result (all_seen T.Sink I.Sink C.Sink (taxonomy.old, instances.old, certificate.old)) (all_seen T.Sink I.Sink C.Sink (taxonomy.new, instances.new, certificate.new)) (texts_of made.now) }
+    ensures written { WritesTexts T.Sink I.Sink C.Sink made.now
+        (taxonomy.old, instances.old, certificate.old) (taxonomy.new, instances.new, certificate.new) result }
     ensures paths { KeepPaths T.Sink I.Sink C.Sink (taxonomy.old, instances.old, certificate.old) (taxonomy.new, instances.new, certificate.new) }
 {
     if write_all(taxonomy, &made.taxonomy).is_err() {

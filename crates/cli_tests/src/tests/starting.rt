@@ -81,7 +81,16 @@ const ENDS: &[(&[&str], &[u8], bool, u8, &str, &str)] = &[
     ),
     (CLASSIFY, b"Ontology(", false, 3, "", "P2 at byte 9\n"),
     (
-        TWO_FACTS,
+        &[
+            "elc",
+            "classify",
+            "doc",
+            "tax",
+            "inst",
+            "cert",
+            "--max-facts",
+            "2",
+        ],
         b"Ontology()",
         false,
         5,

@@ -12,13 +12,12 @@ use Rattle.cli.proofs.asking.explanation_in.Goals as goal
 pub returns-clause-answered : goal.returns-clause-answered
 returns-clause-answered g c =
     let q = c.args.question.now in
-    let most = c.args.limits.now.max_bytes in
-    let facts = c.args.limits.now.max_facts in
+    let limits = c.args.limits.now in
     let file = g.F.Files.content c.args.files.now q.document.now in
     let r = c.explanation_text.result in
-    let is = why_in_file r _ _ most facts c.asked.result q.class.now c.form_of.result c.in-Ok.ensures.left c.explanation_text.ensures.answered in
-    let OfAsked : Asked → Type 0 = λ asked. IfOk r (λ v. AnswersExplanation most facts file asked q.class.now c.form_of.result v.items) in
-    let OfForm : Form → Type 0 = λ form. IfOk r (λ v. AnswersExplanation most facts file (asked_by q) q.class.now form v.items) in
+    let is = why_in_file r _ _ limits c.asked.result q.class.now c.form_of.result c.in-Ok.ensures.left c.explanation_text.ensures.answered in
+    let OfAsked : Asked → Type 0 = λ asked. IfOk r (λ v. AnswersExplanation limits file asked q.class.now c.form_of.result v.items) in
+    let OfForm : Form → Type 0 = λ form. IfOk r (λ v. AnswersExplanation limits file (asked_by q) q.class.now form v.items) in
     subst OfForm c.form_of.ensures (subst OfAsked c.asked.ensures is)
 
 pub returns-clause-fault : goal.returns-clause-fault
@@ -27,8 +26,8 @@ returns-clause-fault g c =
     let limits = c.args.limits.now in
     let file = g.F.Files.content c.args.files.now q.document.now in
     let r = c.explanation_text.result in
-    let is = fault_in_file r _ _ limits.max_bytes limits.max_facts (subject_name c.asked.result ∷ class_name q.class.now ∷ []) c.in-Ok.ensures.left c.explanation_text.ensures.fault in
-    let OfAsked : Asked → Type 0 = λ asked. IfErr r (IsFaultOf limits.max_bytes limits.max_facts file (subject_name asked ∷ class_name q.class.now ∷ [])) in
+    let is = fault_in_file r _ _ limits (subject_name c.asked.result ∷ class_name q.class.now ∷ []) c.in-Ok.ensures.left c.explanation_text.ensures.fault in
+    let OfAsked : Asked → Type 0 = λ asked. IfErr r (IsFaultOf limits file (subject_name asked ∷ class_name q.class.now ∷ [])) in
     subst OfAsked c.asked.ensures is
 
 pub returns-clause-blames : goal.returns-clause-blames

@@ -6,10 +6,10 @@ use Rattle.session.specs.Devices.{SourceState}
 use Rattle.cli.proofs.asking.instances_in.Goals as goal
 
 pub returns-in-Ok-clause-answered : goal.returns-in-Ok-clause-answered
-returns-in-Ok-clause-answered g c = instances_in_file c.instances_text.result _ _ c.args.limits.now.max_bytes c.args.limits.now.max_facts c.args.class.now c.in-Ok.ensures.left c.instances_text.ensures.answered
+returns-in-Ok-clause-answered g c = instances_in_file c.instances_text.result _ _ c.args.limits.now c.args.class.now c.in-Ok.ensures.left c.instances_text.ensures.answered
 
 pub returns-in-Ok-clause-fault : goal.returns-in-Ok-clause-fault
-returns-in-Ok-clause-fault g c = fault_in_file c.instances_text.result _ _ c.args.limits.now.max_bytes c.args.limits.now.max_facts (class_name c.args.class.now ∷ []) c.in-Ok.ensures.left c.instances_text.ensures.fault
+returns-in-Ok-clause-fault g c = fault_in_file c.instances_text.result _ _ c.args.limits.now (class_name c.args.class.now ∷ []) c.in-Ok.ensures.left c.instances_text.ensures.fault
 
 pub returns-in-Ok-clause-blames : goal.returns-in-Ok-clause-blames
 returns-in-Ok-clause-blames g c =

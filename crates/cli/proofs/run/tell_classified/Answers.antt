@@ -13,5 +13,5 @@ returns-in-Err g c =
     let fault = c.in-Err.fault in
     let old : Output = record { out = (g.O.Sink.taken c.args.out.now, g.O.Sink.failures c.args.out.now); err = (g.E.Sink.taken c.args.err.now, g.E.Sink.failures c.args.err.now) } in
     let new : Output = record { out = old.out; err = (g.E.Sink.taken c.tell.new.err, g.E.Sink.failures c.tell.new.err) } in
-    let P : Result Summary ClassifyFault → Type 0 = λ answer. IsClassifyTold paths limits.max_facts limits.max_bytes answer old new c.tell.result in
+    let P : Result Summary ClassifyFault → Type 0 = λ answer. IsClassifyTold paths limits answer old new c.tell.result in
     subst P (sym c.in-Err.is) (refl, told old.err new.err c.classify_message.result (IsClassifyText paths limits.max_bytes limits.max_facts fault) (classify_status fault) c.tell.result c.classify_message.ensures c.tell.ensures)

@@ -1,11 +1,11 @@
 use Rattle.std.proofs.Common.{rules, ◌≡◌, ℕ, List, subst}
 use Rattle.std.specs.Prelude.{codes}
 use Rattle.clap.specs.Words.{rule_of}
-use Rattle.command_line.proofs.Defaults.{facts_default}
 use Rattle.command_line.specs.CommandLine.{most_facts, number}
+use Rattle.program.proofs.Texts.{facts_text}
 use Rattle.command_line.proofs.command.max_facts_option.Goals as goal
 
 pub returns-clause-rule : goal.returns-clause-rule
 returns-clause-rule c =
     let P : List ℕ → Type 0 = λ text. rule_of c.default_value.result ≡ number (codes "max-facts") most_facts text in
-    subst P facts_default (search rules)
+    subst P facts_text (search rules)

@@ -1,10 +1,9 @@
 use Rattle.std.proofs.Common.{map, subst}
-use Rattle.answers.specs.Entailment.{LiesBelow}
-use Rattle.answers.specs.Names.{AreThose}
+use Rattle.session.specs.Answers.{AreSubclasses}
 use Rattle.session.specs.Sessions.{Opened}
 use Rattle.session.proofs.session.Session.subclasses.Goals as goal
 
 pub returns-in-Ok-Some-clause-exact : goal.returns-in-Ok-Some-clause-exact
 returns-in-Ok-Some-clause-exact c =
-    let P : Opened → Type 0 = λ o. AreThose o.ontology.names.classes (λ name. LiesBelow o.ontology name c.args.class.now) (map (λ s. s.now) c.in-Ok-Some.names.items) in
+    let P : Opened → Type 0 = λ o. AreSubclasses o.ontology c.args.class.now (map (λ s. s.now) c.in-Ok-Some.names.items) in
     subst P c.self.view_is (rw (c.in-Ok-Some.field-0-is) at c.in-Ok-Some.ensures.exact)

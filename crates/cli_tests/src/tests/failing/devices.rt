@@ -1,0 +1,139 @@
+//! Devices and files that answer some calls, little at a time, and then fail.
+
+use axioms::Memory;
+use device::{Failed, Sink, Source};
+use system_files::{Files, MemoryFiles, MemorySink, MemorySource, OpenFault};
+
+/// A source that gives at most seven bytes a read, and fails after some reads.
+#[derive(Drop)]
+pub(super) struct FailingSource<S: Source + Drop> {
+    pub(super) inner: S,
+    pub(super) reads: usize,
+    pub(super) failures: u64,
+}
+
+impl<S: Source + Drop> Source for FailingSource<S> {
+    ghost left = { λ s. S.left s.inner };
+
+    ghost failures = { λ s. s.failures };
+
+    ghost most = { λ s. S.most s.inner };
+
+    fn read(&mut self, buffer: &mut [u8]) -> Result<usize, Failed> {
+        let n = buffer.len().min(7);
+        if self.reads > 0 {
+            if let Ok(n) = self.inner.read(&mut buffer[..n]) {
+                self.reads -= 1;
+                return Ok(n);
+            }
+        }
+        self.failures = self.failures.saturating_add(1);
+        Err(Failed)
+    }
+}
+
+/// A sink that takes one byte a write, and fails after some writes.
+#[derive(Drop)]
+pub(super) struct FailingSink<S: Sink + Drop> {
+    pub(super) inner: S,
+    pub(super) writes: usize,
+    pub(super) failures: u64,
+}
+
+impl<S: Sink + Drop> Sink for FailingSink<S> {
+    ghost taken = { λ s. S.taken s.inner };
+
+    ghost failures = { λ s. s.failures };
+
+    ghost path = { λ s. S.path s.inner };
+
+    fn write(&mut self, piece: &[u8]) -> Result<usize, Failed> {
+        let n = piece.len().min(1);
+        if self.writes > 0 {
+            if let Ok(n) = self.inner.write(&piece[..n]) {
+                self.writes -= 1;
+                return Ok(n);
+            }
+        }
+        self.failures = self.failures.saturating_add(1);
+        Err(Failed)
+    }
+}
+
+/// Files in memory, of which that at the path fails after some calls.
+#[derive(Drop)]
+pub(super) struct FailingFiles {
+    pub(super) inner: MemoryFiles,
+    pub(super) path: &'static str,
+    pub(super) calls: usize,
+    pub(super) failed_writes: u64,
+}
+
+impl FailingFiles {
+    /// How many calls the file at the path answers.
+    fn calls_of(&self, path: &str) -> usize {
+        if path == self.path {
+            self.calls
+        } else {
+            usize::MAX
+        }
+    }
+}
+
+impl Files for FailingFiles {
+    ghost use Rattle.std.specs.Prelude.{false, true};
+    ghost use Rattle.system_files.specs.Contents.{not_false, not_true};
+
+    type In = FailingSource<MemorySource>;
+
+    type Out = FailingSink<MemorySink>;
+
+    ghost is_known = { λ f. ⟦<MemoryFiles as Files>⟧.is_known f.inner };
+
+    ghost content = { λ f. ⟦<MemoryFiles as Files>⟧.content f.inner };
+
+    ghost has_place = { λ f. ⟦<MemoryFiles as Files>⟧.has_place f.inner };
+
+    ghost is_locked = { λ _. false };
+
+    ghost is_shut = { λ _. false };
+
+    ghost failed_writes = { λ f. f.failed_writes };
+
+    ghost reads_fail = { true };
+
+    ghost untaken = { λ _ shut. not_true shut };
+
+    ghost unfailing = { λ bad _. not_false bad };
+
+    fn reader(&self, path: &str) -> Result<Self::In, OpenFault> {
+        let reads = self.calls_of(path);
+        match self.inner.reader(path) {
+            Ok(inner) => Ok(FailingSource {
+                inner,
+                reads,
+                failures: 0,
+            }),
+            Err(fault) => Err(fault),
+        }
+    }
+
+    fn writer(&mut self, path: &str) -> Result<Self::Out, Memory> {
+        let writes = self.calls_of(path);
+        Ok(FailingSink {
+            inner: self.inner.writer(path)?,
+            writes,
+            failures: 0,
+        })
+    }
+
+    fn close(&mut self, sink: Self::Out) {
+        let FailingSink {
+            inner,
+            failures,
+            ..
+        } = sink;
+        self.failed_writes = self.failed_writes.saturating_add(failures);
+        self.inner.close(inner);
+    }
+}

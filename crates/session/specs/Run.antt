@@ -1,0 +1,39 @@
+-- What is said of a document that is read and run to its end.
+use Rattle.std.specs.Prelude.{◌≤◌, ℕ, List, Option, Result, Ok, Err, length}
+use Rattle.axioms.specs.Ontology.{Ontology}
+use Rattle.engine.specs.Saturations.{IsSaturated}
+use Rattle.profile.specs.Faults.{RefusesKnown}
+use Rattle.program.specs.declared.limits.Limits.{Limits}
+use Rattle.session.specs.TextAnswers.{IsBeyondLimit, IsReadAs}
+use Rattle.session.specs.Devices.{SourceState, IsReadToItsEnd, IsReadUntil}
+use Rattle.session.specs.Sessions.{Opened}
+use Rattle.session.specs.declared.question_fault.QuestionFault.{QuestionFault}
+use Rattle.session.specs.declared.question_fault.QuestionFault.TheVariants as asking
+use Rattle.session.specs.declared.run_fault.RunFault.{RunFault}
+use Rattle.session.specs.declared.run_fault.RunFault.TheVariants.{Document, Limit, Memory}
+
+-- the document reads as the ontology, within the limit of bytes; the facts are those of its closure, within that of facts
+pub record IsRun (limits : Limits) (document : Option (List ℕ)) (s : Opened) : Type 0 where
+  pub read : IsReadAs limits.max_bytes document s.ontology
+  pub saturated : IsSaturated s.ontology s.saturation
+  pub within : length s.saturation.state.facts ≤ limits.max_facts
+
+-- what a fault says of the document: it is refused, or it is read and this came behind that
+abbrev pub IsRunFault : Limits → (document : Option (List ℕ)) → RunFault → Type 0
+IsRunFault limits document (Document fault) = RefusesKnown document limits.max_bytes fault
+IsRunFault limits document Limit = IsBeyondLimit limits document
+IsRunFault limits document Memory = (o : Ontology) × IsReadAs limits.max_bytes document o
+
+-- what was read of the document: all of it, where it was read as an ontology; otherwise some of it; and the fault of a source
+-- is told only where it failed
+abbrev pub IsRunRead : {X : Type 0} → Result X RunFault → (old new : SourceState) → Type 0
+IsRunRead (Ok x) old new = IsReadToItsEnd old new
+IsRunRead (Err (Document fault)) old new = IsReadUntil fault old new
+IsRunRead (Err Limit) old new = IsReadToItsEnd old new
+IsRunRead (Err Memory) old new = IsReadToItsEnd old new
+
+-- the fault, as one of a question
+abbrev pub question_fault : RunFault → QuestionFault
+question_fault (Document fault) = asking.Document fault
+question_fault Limit = asking.Limit
+question_fault Memory = asking.Memory

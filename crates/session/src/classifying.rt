@@ -1,0 +1,48 @@
+//! The texts of a document.
+ghost use Rattle.profile.specs.declared.fault.DocumentFault.TheVariants as reading;
+ghost use Rattle.session.specs.Classifications.{IsClassified};
+ghost use Rattle.session.specs.Devices.{source_state};
+ghost use Rattle.session.specs.Run.{IsRunFault, IsRunRead};
+ghost use Rattle.session.specs.WrittenTexts.{texts_of};
+ghost use Rattle.session.specs.declared.run_fault.RunFault.TheVariants as run_faults;
+ghost use Rattle.std.specs.Prelude.{◌+◌, ◌<◌, IfErr, IfOk, IsErrOf};
+
+use crate::opening::run_document;
+use crate::run_fault::RunFault;
+use classification::{Classification, classified};
+use device::Source;
+use profile::Limits;
+use std::alloc::Global;
+use std::hash::RandomState;
+
+/// The taxonomy, the instances and the certificate of the document that the source gives, in memory, and its counts. Nothing else of
+/// it is kept.
+///
+/// # Errors
+///
+/// `Document` where the document is not read as an ontology; `Limit` where its closure has more facts than the limit; `Memory` where
+/// memory was refused.
+pub fn classification_of<S: Source>(
+    alloc: Global,
+    source: &mut S,
+    limits: &Limits,
+    state: RandomState,
+) -> Result<Classification, RunFault>
+    // The texts and the counts are those of the document, or the fault says why there are none; and what was read of the document.
+    ensures classified { IfOk result (λ c. IsClassified limits.now.max_bytes limits.now.max_facts (S.left source.old) c.summary (texts_of c)) }
+    ensures fault { IfErr result (IsRunFault limits.now (S.left source.old)) }
+    // Of a source that does not tell its bytes, too: it gave more than the limit.
+    ensures beyond { IsErrOf result (run_faults.Document reading.TooLarge) → S.most source.new + limits.now.max_bytes < S.most source.old }
+    ensures read { IsRunRead result (source_state S.Source source.old) (source_state S.Source source.new) }
+{
+    let session = match run_document(alloc, source, limits, state) {
+        Ok(session) => session,
+        Err(fault) => return Err(fault),
+    };
+    let made = classified(alloc, session.ontology(), &session.saturation);
+    drop(session);
+    match made {
+        Ok(made) => Ok(made),
+        Err(_) => Err(RunFault::Memory),
+    }
+}
