@@ -1,5 +1,5 @@
 -- Reading tokens from the front of the bytes.
-use Rattle.std.specs.Prelude.{◌≡◌, ℕ, ◌+◌, List, [], ◌∷◌, ◌++◌, Bool, true, false, ◌&&◌, ◌||◌, not, ◌==◌, length, if◌then◌else◌, codes, Option, Some, None}
+use Rattle.std.specs.Prelude.{◌≡◌, ℕ, ◌+◌, List, [], ◌∷◌, ◌++◌, Bool, true, false, ◌&&◌, ◌||◌, not, ◌==◌, length, drop, if◌then◌else◌, codes, Option, Some, None}
 use Rattle.std.specs.List.{list_all}
 use Rattle.std.specs.Char.{is_ascii_alphabetic, is_ascii_digit}
 use Rattle.fs_lexer.specs.Spelling.{Token, Kind, Opening, Closing, Equals, Carets, FullIri, Quoted, LanguageTag, Keyword, Integer, PrefixName, ShortName, NodeLabel, is_word_byte, is_line_end, is_white, is_iri_byte, is_run, is_tag_body, is_local_name}
@@ -135,6 +135,18 @@ AreReadFrom n bytes (token ∷ tokens) =
 
 abbrev pub IsRead : List ℕ → List Token → Type 0
 IsRead bytes tokens = AreReadFrom (length bytes) bytes tokens
+
+-- tokens that are read behind so many bytes of the text
+abbrev pub AreReadBehind : ℕ → List ℕ → List Token → Type 0
+AreReadBehind from text tokens = AreReadFrom (length text) (drop from text) tokens
+
+-- the token is read first behind so many bytes of the text, and the others behind so many
+abbrev pub IsReadFirst : ℕ → List ℕ → Token → ℕ → Type 0
+IsReadFirst from text token to = (more : List Token) → AreReadBehind to text more → AreReadBehind from text (token ∷ more)
+
+-- no token is read behind so many bytes of the text
+abbrev pub NoneIsRead : ℕ → List ℕ → Type 0
+NoneIsRead from text = (token : Token) (more : List Token) → AreReadBehind from text (token ∷ more) → ⊥
 
 -- ---- what the code gives: kinds, and what follows
 

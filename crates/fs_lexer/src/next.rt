@@ -1,7 +1,6 @@
 //! Tokens one by one.
-ghost use Rattle.std.specs.Prelude.{◌≡◌, ◌<◌, ◌≤◌, ◌↔◌, List, ℕ, [], ◌∷◌, drop, length, IfSome, IfNone, IsTrue};
-ghost use Rattle.fs_lexer.specs.Reading.{AreReadFrom};
-ghost use Rattle.fs_lexer.specs.Spelling as spelling;
+ghost use Rattle.std.specs.Prelude.{◌<◌, ◌≤◌, ◌↔◌, [], length, IfSome, IfNone, IsTrue};
+ghost use Rattle.fs_lexer.specs.Reading.{AreReadBehind, IsReadFirst, NoneIsRead};
 ghost use Rattle.fs_lexer.specs.Views.{token_of};
 
 use crate::front::{skip, token_at};
@@ -13,10 +12,10 @@ use crate::token::Token;
 pub fn next_token<'a>(text: &'a str, from: usize) -> Option<(Token<'a>, usize)>
     requires { from ≤ length text.now }
     // What follows it spells the other tokens.
-    ensures read { IfSome result (λ r. (more : List spelling.Token) → AreReadFrom (length text.now) (drop r.1 text.now) more → AreReadFrom (length text.now) (drop from text.now) (token_of r.0 ∷ more)) }
+    ensures read { IfSome result (λ r. IsReadFirst from text.now (token_of r.0) r.1) }
     ensures within { IfSome result (λ r. r.1 ≤ length text.now) }
     ensures later { IfSome result (λ r. from < r.1) }
-    ensures none { IfNone result ((token : spelling.Token) (more : List spelling.Token) → AreReadFrom (length text.now) (drop from text.now) (token ∷ more) → ⊥) }
+    ensures none { IfNone result (NoneIsRead from text.now) }
 {
     let bytes = text.as_bytes();
     let rest = skip(&bytes[from..]);
@@ -30,7 +29,7 @@ pub fn next_token<'a>(text: &'a str, from: usize) -> Option<(Token<'a>, usize)>
 /// Whether only separators stand behind so many bytes of the text.
 pub fn only_separators(text: &str, from: usize) -> bool
     requires { from ≤ length text.now }
-    ensures { IsTrue result ↔ AreReadFrom (length text.now) (drop from text.now) [] }
+    ensures { IsTrue result ↔ AreReadBehind from text.now [] }
 {
     let bytes = text.as_bytes();
     skip(&bytes[from..]).is_empty()

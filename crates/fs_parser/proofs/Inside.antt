@@ -9,12 +9,12 @@ use Rattle.fs_lexer.specs.Spelling.{Token}
 use Rattle.fs_parser.specs.Name.{Prefixes, StandForOne}
 use Rattle.fs_parser.specs.Tree.{Tree, Trees, AreClosed}
 use Rattle.fs_parser.specs.View.{trees_from}
-use Rattle.fs_parser.specs.Machine.{Pending, Nothing, Word, Text, Typed, Frame, State, step_at, step, ends_at, ends, finish_at, finish, finish_before}
+use Rattle.fs_parser.specs.Machine.{Pending, Nothing, Word, Text, Typed, Frame, State, step_at, step, ends_at, ends, finish_at, finish, finish_before, start}
 use Rattle.fs_parser.specs.State.{Gives, Fails}
 use Rattle.fs_parser.specs.declared.fault.ParseFault.{ParseFault}
 use Rattle.fs_parser.specs.declared.fault.ParseFault.TheVariants as faults
 use Rattle.fs_parser.proofs.Names.{name_of}
-use Rattle.fs_parser.proofs.Run.{then_run, run, start, closed_or, inside}
+use Rattle.fs_parser.proofs.Run.{then_run, run, closed_or, inside}
 use Rattle.fs_parser.proofs.Complete.{list_from, back, all_read}
 use Rattle.fs_parser.proofs.Sound.{read_is}
 

@@ -3,7 +3,7 @@ use Rattle.std.proofs.Common.{ℕ, Bool, true, false, List, [], ◌∷◌, Optio
 use Rattle.fs_lexer.specs.Spelling.{Token}
 use Rattle.fs_parser.specs.Name.{Prefixes}
 use Rattle.fs_parser.specs.Tree.{Tree}
-use Rattle.fs_parser.specs.Machine.{Nothing, State, state, step, ends, finish}
+use Rattle.fs_parser.specs.Machine.{State, start, step, ends, finish}
 use Rattle.fs_parser.proofs.Names.{name_of}
 
 abbrev pub then_run : Option State → (State → Option (List Tree)) → Option (List Tree)
@@ -13,9 +13,6 @@ then_run (Some s) f = f s
 abbrev pub run : ℕ → Prefixes → List Token → State → Option (List Tree)
 run limit prefixes [] s = finish s
 run limit prefixes (t ∷ ts) s = then_run (step limit (name_of prefixes t) s t) (run limit prefixes ts)
-
-abbrev pub start : State
-start = state [] [] Nothing
 
 -- the trees of a list of tokens, in which at most so many parentheses are open at once
 abbrev pub read : ℕ → Prefixes → List Token → Option (List Tree)

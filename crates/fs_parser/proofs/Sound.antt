@@ -10,8 +10,8 @@ use Rattle.fs_parser.specs.Name.{Prefixes, IsNameOf}
 use Rattle.fs_parser.specs.Tree.{IsTree, AreTrees, IsToken, IsSign, Tree, Name, PlainLiteral, TaggedLiteral, TypedLiteral, Anonymous, Number, depth, depth_of}
 use Rattle.fs_parser.specs.View.{trees_from}
 use Rattle.fs_parser.proofs.Names.{name_of, name_is}
-use Rattle.fs_parser.specs.Machine.{Pending, Nothing, Word, Text, Typed, Frame, State, state, add, if_named, enter_if, enter, whole, leave, plain, behind_text, behind_word, step_at, step, finish_at}
-use Rattle.fs_parser.proofs.Run.{then_run, run, start, read}
+use Rattle.fs_parser.specs.Machine.{Pending, Nothing, Word, Text, Typed, Frame, State, state, add, if_named, enter_if, enter, whole, leave, plain, behind_text, behind_word, step_at, step, finish_at, start}
+use Rattle.fs_parser.proofs.Run.{then_run, run, read}
 
 -- ---- one more tree
 

@@ -22,7 +22,8 @@ use Rattle.fs_parser.specs.View.{tokens_of, iri_of, tree_of, layer_of}
 use Rattle.fs_parser.specs.State.{Fails, frame_of, frames_of, name_of_code}
 use Rattle.fs_parser.specs.Machine as machine
 use Rattle.fs_parser.proofs.Complete.{list_from}
-use Rattle.fs_parser.proofs.Run.{inside, start}
+use Rattle.fs_parser.specs.Machine.{start}
+use Rattle.fs_parser.proofs.Run.{inside}
 use Rattle.fs_parser.proofs.Inside.{goes_on, stops, is_ended, all_inside, fails_by}
 use Rattle.fs_parser.specs.declared.fault.ParseFault.{ParseFault}
 use Rattle.fs_parser.specs.declared.reader.Frame as code_frame

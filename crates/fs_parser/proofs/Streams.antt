@@ -7,8 +7,8 @@ use Rattle.std.specs.Result.{IfOk, result_ok}
 use Rattle.fs_lexer.specs.Reading.{AreReadFrom, IsRead}
 use Rattle.fs_lexer.specs.Spelling.{Token}
 use Rattle.fs_lexer.proofs.Whole.{spelling_is_reading}
-use Rattle.fs_parser.specs.Document.{Document, IsDocument, IsDeclaration, AreDeclarations, prefixes_of}
-use Rattle.fs_parser.specs.Machine.{State, step, ends, finish}
+use Rattle.fs_parser.specs.Document.{Document, IsDocument, AreDeclarations, prefixes_of}
+use Rattle.fs_parser.specs.Machine.{State, step, ends, start}
 use Rattle.fs_parser.specs.Name.{Prefixes, StandForOne, IsNameOf, standard_prefixes}
 use Rattle.fs_parser.specs.State.{name_of_code}
 use Rattle.fs_parser.specs.Stream.{AreFormsOf, BeginText, AreWhole, AreTreesBehind, IsHeader}
@@ -19,7 +19,6 @@ use Rattle.fs_parser.specs.declared.tree.Tree as code
 use Rattle.fs_parser.proofs.Documents.{document_prefixes}
 use Rattle.fs_parser.proofs.Inside.{ends_closing}
 use Rattle.fs_parser.proofs.Names.{name_of}
-use Rattle.fs_parser.proofs.Run.{start}
 use Rattle.fs_parser.proofs.Sound.{HasRead, step_reads, run_reads}
 use Rattle.fs_parser.proofs.Steps.{name_same}
 

@@ -10,7 +10,7 @@ use Rattle.fs_lexer.specs.Views.{token_of}
 use Rattle.fs_lexer.specs.declared.token.Kind.{Kind}
 use Rattle.fs_lexer.specs.declared.token.Kind.TheVariants.{Opening, Closing, Equals, Carets, FullIri, Quoted, LanguageTag, Keyword, Integer, PrefixName, ShortName, NodeLabel}
 use Rattle.fs_lexer.specs.declared.token.Token as lexer
-use Rattle.fs_parser.specs.Machine.{Pending, Nothing, Word, Text, Typed, Frame, State, if_named, enter_if, enter, whole, leave, plain, behind_text, behind_word, begins_second_at, begins_second, step_at, step, finish_at, finish, only_one}
+use Rattle.fs_parser.specs.Machine.{Pending, Nothing, Word, Text, Typed, Frame, State, if_named, enter_if, enter, whole, leave, plain, behind_text, behind_word, begins_second_at, begins_second, step_at, step, finish_at, finish, only_one, start}
 use Rattle.fs_parser.specs.Name.{Prefixes, StandForOne, IsNameOf}
 use Rattle.fs_parser.specs.State.{Gives, Fails, IsRefusal, name_of_code}
 use Rattle.fs_parser.specs.Tree.{Tree, Trees, Name, PlainLiteral, TypedLiteral, Empty, Then, AreShallow, IsShallow}
@@ -21,7 +21,7 @@ use Rattle.fs_parser.proofs.Complete.{list_from, back, all_read}
 use Rattle.fs_parser.proofs.Documents.{refusal_fails}
 use Rattle.fs_parser.proofs.Inside.{fails_by}
 use Rattle.fs_parser.proofs.Names.{name_of}
-use Rattle.fs_parser.proofs.Run.{then_run, run, start}
+use Rattle.fs_parser.proofs.Run.{then_run, run}
 use Rattle.fs_parser.proofs.Sound.{read_is}
 use Rattle.fs_parser.proofs.Steps.{name_same, tokens_front}
 

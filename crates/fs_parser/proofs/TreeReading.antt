@@ -1,12 +1,11 @@
 -- Reading the trees of a text one by one.
 use Rattle.std.proofs.Common.{◌≡◌, ℕ, ◌<◌, ◌≤◌, max, inl, inr, ◌⊎◌, List, [], ◌∷◌, ◌++◌, Option, Some, length, drop, refl, sym, ap, ◌∙◌, subst, arith, append_assoc}
 use Rattle.std.proofs.lemmas.List.{append-nil}
-use Rattle.std.proofs.lemmas.Option.{same_Some}
 use Rattle.std.specs.Option.{IfSome, IfNone}
 use Rattle.fs_lexer.specs.Reading.{AreReadFrom}
 use Rattle.fs_lexer.specs.Spelling.{Token}
 use Rattle.fs_lexer.specs.declared.token.Kind.TheVariants.{Closing}
-use Rattle.fs_parser.specs.Machine.{State, step, finish}
+use Rattle.fs_parser.specs.Machine.{State, step, finish, start}
 use Rattle.fs_parser.specs.Name.{Prefixes, StandForOne, IsNameOf, standard_prefixes}
 use Rattle.fs_parser.specs.State.{name_of_code}
 use Rattle.fs_parser.specs.Stream.{AreTreesBehind, BeginText, IsHeader}
@@ -14,7 +13,6 @@ use Rattle.fs_parser.specs.Tree.{Tree, Empty, depth}
 use Rattle.fs_parser.specs.Rest.{IsFirst, IsStartOf, IsTreeAt, text_left}
 use Rattle.fs_parser.specs.View.{trees_from, iri_of}
 use Rattle.fs_parser.specs.declared.iri.Iri as code_iri
-use Rattle.fs_parser.proofs.Run.{start}
 use Rattle.fs_parser.proofs.Sound.{run_reads}
 use Rattle.fs_parser.proofs.Streams.{IsBetween, forms_are, next_between, none_between}
 

@@ -34,6 +34,10 @@ AreDeclarations (d ∷ ds) tokens rest = (others : List Token) × IsDeclaration 
 abbrev pub IsAllowed : Prefixes → List ℕ × List ℕ → Type 0
 IsAllowed known d = Contains standard_prefixes d ⊎ ((iri : List ℕ) → Contains known (d.0, iri) → ⊥)
 
+-- the tokens begin with no declaration that may stand behind these
+abbrev pub NoneIsDeclared : Prefixes → List Token → Type 0
+NoneIsDeclared known tokens = (d : List ℕ × List ℕ) (rest : List Token) → IsDeclaration d tokens rest → IsAllowed known d → ⊥
+
 abbrev pub AreAllowed : Prefixes → Prefixes → Type 0
 AreAllowed known [] = Unit {0}
 AreAllowed known (d ∷ ds) = IsAllowed known d × AreAllowed (known ++ d ∷ []) ds

@@ -27,6 +27,10 @@ pub record State : Type 0 where
 abbrev pub state : List Frame → List Tree → Pending → State
 state frames done pending = record { frames = frames; done = done; pending = pending }
 
+-- where nothing was read
+abbrev pub start : State
+start = state [] [] Nothing
+
 abbrev pub add : List Frame → List Tree → Tree → State
 add frames done tree = state frames (done ++ tree ∷ []) Nothing
 
@@ -64,10 +68,18 @@ plain limit name frames done PrefixName t = None
 plain limit name frames done ShortName t = if_named name frames done (Name t.at)
 plain limit name frames done NodeLabel t = Some (add frames done (Anonymous t.at t.text))
 
+-- the state after a token where nothing is pending
+abbrev pub plain_step : ℕ → Option (List ℕ) → State → Token → Option State
+plain_step limit name s t = plain limit name s.frames s.done t.kind t
+
 abbrev pub behind_text : ℕ → Option (List ℕ) → List Frame → List Tree → ℕ → List ℕ → Kind → Token → Option State
 behind_text limit name frames done at text LanguageTag t = Some (add frames done (TaggedLiteral at text t.text))
 behind_text limit name frames done at text Carets t = Some (state frames done (Typed at text))
 behind_text limit name frames done at text kind t = plain limit name frames (done ++ PlainLiteral at text ∷ []) kind t
+
+-- the state after a token where this text is pending
+abbrev pub text_step : ℕ → Option (List ℕ) → State → ℕ → List ℕ → Token → Option State
+text_step limit name s at text t = behind_text limit name s.frames s.done at text t.kind t
 
 abbrev pub behind_word : ℕ → List Frame → List Tree → ℕ → List ℕ → Kind → Option State
 behind_word limit frames done at keyword Opening = enter limit frames done at (Some keyword)

@@ -34,8 +34,14 @@ abbrev pub frames_of : List code_frame.Frame → List machine.Frame
 frames_of [] = []
 frames_of (f ∷ fs) = frames_of fs ++ frame_of f ∷ []
 
+abbrev pub frames_in : code_state.State → List machine.Frame
+frames_in s = frames_of s.frames.items
+
+abbrev pub trees_in : code_state.State → List Tree
+trees_in s = map tree_of s.done.items
+
 abbrev pub state_of : code_state.State → machine.State
-state_of s = machine.state (frames_of s.frames.items) (map tree_of s.done.items) (pending_of s.pending)
+state_of s = machine.state (frames_in s) (trees_in s) (pending_of s.pending)
 
 -- any fault but that memory ran out
 abbrev pub IsRefusal : ParseFault → Type 0
@@ -50,6 +56,10 @@ Fails _ o = o ≡ None
 abbrev pub Gives : {X Y : Type 0} → (X → Y) → Result X ParseFault → Option Y → Type 0
 Gives view (Ok x) o = o ≡ Some (view x)
 Gives view (Err e) o = Fails e o
+
+-- the call left the state that the machine gives, unless memory ran out
+abbrev pub Leaves : code_state.State → Result (Unit {0}) ParseFault → Option machine.State → Type 0
+Leaves s result o = Gives (λ _. state_of s) result o
 
 abbrev pub whole_of : ℕ → Option (List ℕ) → List Tree → Tree
 whole_of = machine.whole

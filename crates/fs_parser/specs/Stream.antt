@@ -1,5 +1,5 @@
 -- Documents as texts, without their list of tokens.
-use Rattle.std.specs.Prelude.{◌≡◌, ℕ, ◌≤◌, List, [], ◌∷◌, ◌++◌, Option, Some, drop, length}
+use Rattle.std.specs.Prelude.{◌≡◌, ℕ, ◌≤◌, List, [], ◌∷◌, ◌++◌, Some, drop, length}
 use Rattle.fs_lexer.specs.Reading.{AreReadFrom, IsRead}
 use Rattle.fs_lexer.specs.Spelling.{Token, Spells}
 use Rattle.fs_parser.specs.Document.{Document, IsDocument}

@@ -2,7 +2,6 @@
 
 ghost use Rattle.std.specs.Prelude.{◌≡◌, ◌++◌, ◌∷◌, List, ℕ, Some, codes, drop, IsTrue, ◌↔◌, IfOk, OnErr, IfErr};
 ghost use Rattle.fs_lexer.specs.declared.token.Kind.TheVariants.{Keyword};
-ghost use Rattle.fs_lexer.specs.Spelling as spelling;
 ghost use Rattle.fs_lexer.specs.Views.{token_of};
 ghost use Rattle.fs_parser.specs.Document as spec;
 ghost use Rattle.fs_parser.specs.Faults.{IsPlaced, last_place};
@@ -17,8 +16,8 @@ ghost use Rattle.fs_parser.specs.View.{tokens_of, prefix_of, prefixes_of_code, t
 use crate::fault::ParseFault;
 use crate::known::Known;
 use crate::prefix::{Prefix, before_colon, in_brackets, standard_iri};
-use crate::reader::trees_inside;
 use crate::tree::{Document, Tree};
+use crate::trees::trees_inside;
 use fs_lexer::{Kind, Token};
 use std::alloc::Global;
 
@@ -150,7 +149,7 @@ fn declaration<'a>(
 ) -> Result<Prefix<'a>, ParseFault>
     ensures found { IfOk result (λ p. spec.IsDeclaration (prefix_of p) (tokens_of tokens.now) (drop 6 (tokens_of tokens.now))) }
     ensures allowed { IfOk result (λ p. spec.IsAllowed (known_of known.now) (prefix_of p)) }
-    ensures refused { OnErr result ((d : List ℕ × List ℕ) (rest : List spelling.Token) → spec.IsDeclaration d (tokens_of tokens.now) rest → spec.IsAllowed (known_of known.now) d → ⊥) }
+    ensures refused { OnErr result (spec.NoneIsDeclared (known_of known.now) (tokens_of tokens.now)) }
     ensures said { IfErr result (IsSaid here (prefixes_of_code known.now.declared.items) (tokens_of tokens.now)) }
 {
     let rest = expect_word("Prefix", tokens, here)?;

@@ -11,9 +11,9 @@ use std::collections::BTreeMap;
 /// The prefixes that names are expanded with: the standard ones, and these. The index finds each of them in a time that
 /// grows with the logarithm of their number.
 #[derive(Drop)]
-pub struct Known<'a> {
-    pub declared: Vec<Prefix<'a>>,
-    pub index: BTreeMap<&'a str, &'a str>,
+pub(crate) struct Known<'a> {
+    pub(crate) declared: Vec<Prefix<'a>>,
+    pub(crate) index: BTreeMap<&'a str, &'a str>,
     ghost indexed: { (name : List ℕ) → iri_at index name ≡ last_iri (prefixes_of_code declared.items) name },
 }
 
@@ -25,7 +25,7 @@ impl<'a> Known<'a> {
     ghost use Rattle.fs_parser.specs.View.{prefix_of};
 
     /// The standard prefixes alone.
-    pub fn new(alloc: Global) -> Known<'a>
+    pub(crate) fn new(alloc: Global) -> Known<'a>
         ensures { prefixes_of_code result.declared.items ≡ [] }
     {
         Known {
@@ -45,7 +45,7 @@ impl<'a> Known<'a> {
 
     /// The IRI of a prefix.
     #[inline(always)]
-    pub fn iri(&self, name: &str) -> Option<&'a str>
+    pub(crate) fn iri(&self, name: &str) -> Option<&'a str>
         ensures some { IfSome result (λ iri. Contains (known_of self.now) (name.now, iri.now)) }
         ensures none { IfNone result ((iri : List ℕ) → Contains (known_of self.now) (name.now, iri) → ⊥) }
     {
@@ -56,7 +56,7 @@ impl<'a> Known<'a> {
     }
 
     /// These and one more prefix.
-    pub fn declare(self, prefix: Prefix<'a>) -> Result<Known<'a>, AllocError>
+    pub(crate) fn declare(self, prefix: Prefix<'a>) -> Result<Known<'a>, AllocError>
         ensures { IfOk result (λ known. map prefix_of known.declared.items ≡ map prefix_of self.entry.declared.items ++ prefix_of prefix.entry ∷ []) }
     {
         let Known {
@@ -69,7 +69,7 @@ impl<'a> Known<'a> {
     }
 
     /// The standard prefixes and these.
-    pub fn of(alloc: Global, prefixes: &[Prefix<'a>]) -> Result<Known<'a>, AllocError>
+    pub(crate) fn of(alloc: Global, prefixes: &[Prefix<'a>]) -> Result<Known<'a>, AllocError>
         ensures { IfOk result (λ known. prefixes_of_code known.declared.items ≡ prefixes_of_code prefixes.now) }
     {
         let mut known = Known::new(alloc);

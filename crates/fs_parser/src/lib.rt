@@ -14,6 +14,7 @@ mod reader;
 mod stream;
 mod tree;
 mod tree_reader;
+mod trees;
 
 pub use document::forms;
 pub use fault::ParseFault;

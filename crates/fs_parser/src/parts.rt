@@ -9,8 +9,8 @@ ghost use Rattle.fs_parser.specs.View.{tokens_of, tree_of, trees_of};
 use crate::document::end_of;
 use crate::fault::ParseFault;
 use crate::prefixes::Prefixes;
-use crate::reader::{tree_to_end, trees_to_end};
 use crate::tree::Tree;
+use crate::trees::{tree_to_end, trees_to_end};
 use fs_lexer::Token;
 use std::alloc::Global;
 

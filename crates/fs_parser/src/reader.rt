@@ -6,19 +6,13 @@ ghost use Rattle.fs_lexer.specs.declared.token.Kind.TheVariants.{ShortName};
 ghost use Rattle.fs_lexer.specs.Views.{token_of};
 ghost use Rattle.fs_parser.specs.declared.fault.ParseFault.TheVariants as faults;
 ghost use Rattle.fs_parser.specs.Machine as machine;
-ghost use Rattle.fs_parser.specs.Machine.{add, enter, leave, plain, behind_text, begins_second, step, ends, finish, finish_before, only_one};
-ghost use Rattle.fs_parser.specs.Name.{StandForOne};
-ghost use Rattle.fs_parser.specs.FaultMeanings.{IsEnd, IsMemory, IsPlain, IsPlainAt, IsSaidOfToken, IsSaidOfTrees, IsTooDeepAt};
-ghost use Rattle.fs_parser.specs.State.{Gives, Fails, whole_of, frames_of, keyword_of, name_of_code, state_of};
-ghost use Rattle.fs_parser.specs.Tree as spec;
-ghost use Rattle.fs_parser.specs.Tree.{Trees, AreClosed, AreShallow, IsShallow};
-ghost use Rattle.fs_parser.specs.KnownPrefixes.{known_of};
-ghost use Rattle.fs_parser.specs.View.{tokens_of, tree_of, trees_of};
+ghost use Rattle.fs_parser.specs.Machine.{add, begins_second, ends, enter, finish, leave, plain_step, start, step, text_step};
+ghost use Rattle.fs_parser.specs.FaultMeanings.{IsEnd, IsMemory, IsPlainAt, IsSaidOfToken, IsTooDeepAt};
+ghost use Rattle.fs_parser.specs.State.{Gives, Fails, Leaves, whole_of, frames_in, keyword_of, name_of_code, state_of, trees_in};
+ghost use Rattle.fs_parser.specs.View.{tree_of};
 
 use crate::fault::ParseFault;
 use crate::iri::Iri;
-use crate::known::Known;
-use crate::prefix::expand;
 use crate::tree::Tree;
 use fs_lexer::{Kind, Token};
 use std::alloc::Global;
@@ -26,7 +20,7 @@ use std::mem;
 
 /// What was read and is no whole tree yet.
 #[derive(Clone, Copy)]
-pub enum Pending<'a> {
+pub(crate) enum Pending<'a> {
     Nothing,
     Word(usize, &'a str),
     Text(usize, &'a str),
@@ -35,25 +29,40 @@ pub enum Pending<'a> {
 
 /// An open parenthesis: where its tree begins, its keyword, and the trees before it.
 #[derive(Drop)]
-pub struct Frame<'a> {
-    pub at: usize,
-    pub keyword: Option<&'a str>,
-    pub before: Vec<Tree<'a>>,
+pub(crate) struct Frame<'a> {
+    pub(crate) at: usize,
+    pub(crate) keyword: Option<&'a str>,
+    pub(crate) before: Vec<Tree<'a>>,
 }
 
 /// What was read so far, and a list whose room the next trees in parentheses take.
 #[derive(Drop)]
-pub struct State<'a> {
-    pub frames: Vec<Frame<'a>>,
-    pub done: Vec<Tree<'a>>,
-    pub pending: Pending<'a>,
-    pub spare: Vec<Tree<'a>>,
+pub(crate) struct State<'a> {
+    pub(crate) frames: Vec<Frame<'a>>,
+    pub(crate) done: Vec<Tree<'a>>,
+    pub(crate) pending: Pending<'a>,
+    pub(crate) spare: Vec<Tree<'a>>,
+}
+
+impl<'a> State<'a> {
+    /// Nothing was read.
+    #[inline(always)]
+    pub(crate) fn new(alloc: Global) -> State<'a>
+        ensures { state_of result ≡ start }
+    {
+        State {
+            frames: Vec::new(alloc),
+            done: Vec::new(alloc),
+            pending: Pending::Nothing,
+            spare: Vec::new(alloc),
+        }
+    }
 }
 
 /// One more tree.
 #[inline(always)]
 fn push<'a>(state: &mut State<'a>, tree: Tree<'a>) -> Result<(), ParseFault>
-    ensures given { Gives (λ _. state_of state.new) result (Some (add (frames_of state.old.frames.items) (map tree_of state.old.done.items) (tree_of tree.entry))) }
+    ensures given { Leaves state.new result (Some (add (frames_in state.old) (trees_in state.old) (tree_of tree.entry))) }
     ensures kept { OnOk result (state.new.frames ≡ state.old.frames) }
     ensures said { IfErr result IsMemory }
 {
@@ -72,7 +81,7 @@ fn open<'a>(
     keyword: Option<&'a str>,
     here: usize,
 ) -> Result<(), ParseFault>
-    ensures given { Gives (λ _. state_of state.new) result (enter limit (frames_of state.old.frames.items) (map tree_of state.old.done.items) at (keyword_of keyword.entry)) }
+    ensures given { Leaves state.new result (enter limit (frames_in state.old) (trees_in state.old) at (keyword_of keyword.entry)) }
     ensures said { IfErr result (IsTooDeepAt limit (length state.old.frames.items) here) }
 {
     if state.frames.len() >= limit {
@@ -116,7 +125,7 @@ fn fitted<'a>(alloc: Global, trees: &mut Vec<Tree<'a>>) -> Result<Vec<Tree<'a>>,
 /// One open parenthesis less.
 #[inline(always)]
 fn close(alloc: Global, state: &mut State<'_>, here: usize) -> Result<(), ParseFault>
-    ensures given { Gives (λ _. state_of state.new) result (leave (frames_of state.old.frames.items) (map tree_of state.old.done.items)) }
+    ensures given { Leaves state.new result (leave (frames_in state.old) (trees_in state.old)) }
     ensures said { IfErr result (IsPlainAt here) }
 {
     match state.frames.pop() {
@@ -152,7 +161,7 @@ fn take_plain<'a>(
     token: &Token<'a>,
     name: Option<Iri<'a>>,
 ) -> Result<(), ParseFault>
-    ensures given { Gives (λ _. state_of state.new) result (plain limit (name_of_code name.entry) (frames_of state.old.frames.items) (map tree_of state.old.done.items) token.now.kind (token_of token.now)) }
+    ensures given { Leaves state.new result (plain_step limit (name_of_code name.entry) (state_of state.old) (token_of token.now)) }
     ensures said { IfErr result (IsSaidOfToken limit (length state.old.frames.items) (name_of_code name.entry) (token_of token.now)) }
 {
     match token.kind {
@@ -201,7 +210,7 @@ fn take_behind_text<'a>(
     token: &Token<'a>,
     name: Option<Iri<'a>>,
 ) -> Result<(), ParseFault>
-    ensures given { Gives (λ _. state_of state.new) result (behind_text limit (name_of_code name.entry) (frames_of state.old.frames.items) (map tree_of state.old.done.items) at text.now token.now.kind (token_of token.now)) }
+    ensures given { Leaves state.new result (text_step limit (name_of_code name.entry) (state_of state.old) at text.now (token_of token.now)) }
     ensures said { IfErr result (IsSaidOfToken limit (length state.old.frames.items) (name_of_code name.entry) (token_of token.now)) }
 {
     match token.kind {
@@ -233,7 +242,7 @@ pub(crate) fn take<'a>(
     token: &Token<'a>,
     name: Option<Iri<'a>>,
 ) -> Result<(), ParseFault>
-    ensures given { Gives (λ _. state_of state.new) result (step limit (name_of_code name.entry) (state_of state.old) (token_of token.now)) }
+    ensures given { Leaves state.new result (step limit (name_of_code name.entry) (state_of state.old) (token_of token.now)) }
     ensures said { IfErr result (IsSaidOfToken limit (length state.old.frames.items) (name_of_code name.entry) (token_of token.now)) }
 {
     match state.pending {
@@ -292,85 +301,8 @@ pub(crate) fn is_ended_by(state: &State<'_>, token: &Token<'_>) -> bool
     }
 }
 
-/// The trees, at the parenthesis that closes them. No token may follow it.
-fn end_before<'a>(
-    rest: &[Token<'_>],
-    state: State<'a>,
-    here: usize,
-) -> Result<Vec<Tree<'a>>, ParseFault>
-    ensures given { Gives (λ v. map tree_of v.items) result (finish_before (tokens_of rest.now) (state_of state.entry)) }
-    ensures said { IfErr result (IsPlain here (tokens_of rest.now)) }
-{
-    match rest {
-        [] => end(state, here),
-        [next, ..] => Err(ParseFault::Unexpected { at: next.at }),
-    }
-}
-
-/// The trees that the tokens are up to a closing parenthesis, which is the last token. At most `limit` parentheses are
-/// open at once in the trees. `here` is where the tokens end.
-pub(crate) fn trees_inside<'a>(
-    alloc: Global,
-    limit: usize,
-    known: &Known<'a>,
-    tokens: &[Token<'a>],
-    here: usize,
-) -> Result<Vec<Tree<'a>>, ParseFault>
-    requires { StandForOne (known_of known.now) }
-    ensures found { IfOk result (λ v. AreClosed limit (known_of known.now) (trees_of v.items) (tokens_of tokens.now)) }
-    // Where they are such trees these are found, unless memory runs out.
-    ensures only { (ts : Trees) → AreClosed limit (known_of known.now) ts (tokens_of tokens.now) → Gives (λ v. trees_of v.items) result (Some ts) }
-    // What a refusal speaks of stands at its place.
-    ensures said { IfErr result (IsSaidOfTrees limit here (known_of known.now) (tokens_of tokens.now)) }
-{
-    let mut state = State {
-        frames: Vec::new(alloc),
-        done: Vec::new(alloc),
-        pending: Pending::Nothing,
-        spare: Vec::new(alloc),
-    };
-    let mut rest = tokens;
-    while let [token, others @ ..] = rest {
-        if is_ended_by(&state, token) {
-            return end_before(others, state, here);
-        }
-        take(alloc, limit, &mut state, token, expand(known, token))?;
-        rest = others;
-    }
-    Err(ParseFault::UnexpectedEnd { at: here })
-}
-
-/// The trees that the tokens are. At most `limit` parentheses are open at once in them. `here` is where the tokens end.
-pub(crate) fn trees_to_end<'a>(
-    alloc: Global,
-    limit: usize,
-    known: &Known<'a>,
-    tokens: &[Token<'a>],
-    here: usize,
-) -> Result<Vec<Tree<'a>>, ParseFault>
-    requires { StandForOne (known_of known.now) }
-    ensures found { IfOk result (λ v. AreShallow limit (known_of known.now) (trees_of v.items) (tokens_of tokens.now)) }
-    // Where they are such trees these are found, unless memory runs out.
-    ensures only { (ts : Trees) → AreShallow limit (known_of known.now) ts (tokens_of tokens.now) → Gives (λ v. trees_of v.items) result (Some ts) }
-    // What a refusal speaks of stands at its place.
-    ensures said { IfErr result (IsSaidOfTrees limit here (known_of known.now) (tokens_of tokens.now)) }
-{
-    let mut state = State {
-        frames: Vec::new(alloc),
-        done: Vec::new(alloc),
-        pending: Pending::Nothing,
-        spare: Vec::new(alloc),
-    };
-    let mut rest = tokens;
-    while let [token, others @ ..] = rest {
-        take(alloc, limit, &mut state, token, expand(known, token))?;
-        rest = others;
-    }
-    end(state, here)
-}
-
 /// Whether the token begins a tree behind one that is whole, outside of all parentheses.
-fn begins_second(state: &State<'_>, token: &Token<'_>) -> bool
+pub(crate) fn begins_second(state: &State<'_>, token: &Token<'_>) -> bool
     ensures { result ≡ begins_second (state_of state.now) (token_of token.now) }
 {
     if !state.frames.is_empty() {
@@ -381,48 +313,4 @@ fn begins_second(state: &State<'_>, token: &Token<'_>) -> bool
         Pending::Text(..) => !matches!(token.kind, Kind::LanguageTag | Kind::Carets),
         Pending::Word(..) | Pending::Typed(..) => false,
     }
-}
-
-/// The one tree, at the end of the tokens, where no token began a second one.
-fn end_of_tree(state: State<'_>, here: usize) -> Result<Tree<'_>, ParseFault>
-    ensures given { Gives tree_of result (only_one (finish (state_of state.entry))) }
-    ensures said { IfErr result (IsEnd here) }
-{
-    let mut trees = end(state, here)?;
-    match trees.pop() {
-        Some(tree) if trees.is_empty() => Ok(tree),
-        _ => Err(ParseFault::UnexpectedEnd { at: here }),
-    }
-}
-
-/// The one tree that the tokens are. At most `limit` parentheses are open at once in it. `here` is where the tokens end.
-pub(crate) fn tree_to_end<'a>(
-    alloc: Global,
-    limit: usize,
-    known: &Known<'a>,
-    tokens: &[Token<'a>],
-    here: usize,
-) -> Result<Tree<'a>, ParseFault>
-    requires { StandForOne (known_of known.now) }
-    ensures found { IfOk result (λ t. IsShallow limit (known_of known.now) (tree_of t) (tokens_of tokens.now)) }
-    // Where they are such a tree it is found, unless memory runs out.
-    ensures only { (t : spec.Tree) → IsShallow limit (known_of known.now) t (tokens_of tokens.now) → Gives tree_of result (Some t) }
-    // What a refusal speaks of stands at its place.
-    ensures said { IfErr result (IsSaidOfTrees limit here (known_of known.now) (tokens_of tokens.now)) }
-{
-    let mut state = State {
-        frames: Vec::new(alloc),
-        done: Vec::new(alloc),
-        pending: Pending::Nothing,
-        spare: Vec::new(alloc),
-    };
-    let mut rest = tokens;
-    while let [token, others @ ..] = rest {
-        if begins_second(&state, token) {
-            return Err(ParseFault::Unexpected { at: token.at });
-        }
-        take(alloc, limit, &mut state, token, expand(known, token))?;
-        rest = others;
-    }
-    end_of_tree(state, here)
 }

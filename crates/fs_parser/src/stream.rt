@@ -10,7 +10,7 @@ ghost use Rattle.fs_parser.specs.View.{document_of, prefixes_of_code, tokens_of,
 use crate::document::{DEEPEST, forms, is_word};
 use crate::known::Known;
 use crate::prefix::expand;
-use crate::reader::{Pending, State, end, is_ended_by, take};
+use crate::reader::{State, end, is_ended_by, take};
 use crate::tree::{Document, Tree};
 use fs_lexer::{Kind, Token, next_token, only_separators};
 use std::alloc::Global;
@@ -91,12 +91,7 @@ fn trees_behind<'a>(
     requires within { start ≤ length text.now }
     ensures { IfSome result (λ v. AreTreesBehind text.now start (known_of known.now) (trees_of v.items)) }
 {
-    let mut state = State {
-        frames: Vec::new(alloc),
-        done: Vec::new(alloc),
-        pending: Pending::Nothing,
-        spare: Vec::new(alloc),
-    };
+    let mut state = State::new(alloc);
     let mut from = start;
     while let Some((token, behind)) = next_token(text, from) {
         from = behind;

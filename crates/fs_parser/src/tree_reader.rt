@@ -1,8 +1,7 @@
 //! Reading the trees of a document one by one.
 ghost use Rattle.std.specs.Prelude.{◌≡◌, ◌≤◌, ◌∷◌, [], IfNone, IfOk, IfSome, IsTrue, OnErr, Some, length, option_map};
 ghost use Rattle.fs_parser.specs.KnownPrefixes.{known_of};
-ghost use Rattle.fs_parser.specs.Machine as machine;
-ghost use Rattle.fs_parser.specs.Machine.{finish};
+ghost use Rattle.fs_parser.specs.Machine.{finish, start};
 ghost use Rattle.fs_parser.specs.Name.{Prefixes, StandForOne};
 ghost use Rattle.fs_parser.specs.State.{state_of};
 ghost use Rattle.fs_parser.specs.Stream.{AreTreesBehind};
@@ -52,7 +51,7 @@ impl<'a> Model for TreeReader<'a> {
 /// Forgets what was read. The lists keep their room.
 #[inline(always)]
 fn clear(state: &mut State<'_>)
-    ensures { state_of state.new ≡ machine.state [] [] machine.Nothing }
+    ensures { state_of state.new ≡ start }
 {
     state.frames.clear();
     state.done.clear();
@@ -146,12 +145,7 @@ impl<'a> TreeReader<'a> {
     {
         let (header, from) = header(alloc, text)?;
         let known = declared_by(alloc, header)?;
-        let state = State {
-            frames: Vec::new(alloc),
-            done: Vec::new(alloc),
-            pending: Pending::Nothing,
-            spare: Vec::new(alloc),
-        };
+        let state = State::new(alloc);
         Some(TreeReader {
             alloc,
             text,

@@ -6,6 +6,7 @@ pub mod Reading
 pub mod Operands
 pub mod Growth
 pub mod Intake
+pub mod Finishing
 pub mod Documents
 pub mod Faults
 pub mod DocumentTheorems

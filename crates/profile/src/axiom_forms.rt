@@ -6,7 +6,7 @@ ghost use Rattle.axioms.specs.WellFormedness.{IsAxiomOf};
 ghost use Rattle.fs_parser.specs.View.{tree_of, trees_of};
 ghost use Rattle.profile.specs.Additions.{AxiomRead, StatementRead};
 ghost use Rattle.profile.specs.ClassTrees.{AreClassTrees, AreManyDistinct, AreManyDistinctNames, IsChain, IsClassTree};
-ghost use Rattle.profile.specs.Statements.{chain_of, class_of, classes_of, iri_of, iris_of};
+ghost use Rattle.profile.specs.Statements.{chain_of, class_in, classes_of, iri_in, iris_of};
 
 use crate::expressions::{class_expression, class_expressions};
 use crate::name_builder::NameBuilder;
@@ -38,7 +38,7 @@ pub(crate) fn sub_class(
 ) -> Result<(), BuildFault>
     requires sub { IsClassTree (tree_of sub.now) }
     requires superclass { IsClassTree (tree_of superclass.now) }
-    ensures { StatementRead result (States (SubClassOf (class_of (tree_of sub.now)) (class_of (tree_of superclass.now)))) builder.old builder.new }
+    ensures { StatementRead result (States (SubClassOf (class_in sub.now) (class_in superclass.now))) builder.old builder.new }
 {
     let sub = match class_expression(alloc, builder, sub) {
         Ok(sub) => sub,
@@ -93,7 +93,7 @@ pub(crate) fn property_domain(
     second: &Tree<'_>,
 ) -> Result<(), BuildFault>
     requires { IsClassTree (tree_of second.now) }
-    ensures { StatementRead result (States (PropertyDomain (iri_of (tree_of first.now)) (class_of (tree_of second.now)))) builder.old builder.new }
+    ensures { StatementRead result (States (PropertyDomain (iri_in first.now) (class_in second.now))) builder.old builder.new }
 {
     let property = match property(builder, first) {
         Ok(property) => property,
@@ -111,7 +111,7 @@ pub(crate) fn transitive_property(
     builder: &mut NameBuilder,
     tree: &Tree<'_>,
 ) -> Result<(), BuildFault>
-    ensures { StatementRead result (States (TransitiveProperty (iri_of (tree_of tree.now)))) builder.old builder.new }
+    ensures { StatementRead result (States (TransitiveProperty (iri_in tree.now))) builder.old builder.new }
 {
     let property = match property(builder, tree) {
         Ok(property) => property,
@@ -125,7 +125,7 @@ pub(crate) fn reflexive_property(
     builder: &mut NameBuilder,
     tree: &Tree<'_>,
 ) -> Result<(), BuildFault>
-    ensures { StatementRead result (States (ReflexiveProperty (iri_of (tree_of tree.now)))) builder.old builder.new }
+    ensures { StatementRead result (States (ReflexiveProperty (iri_in tree.now))) builder.old builder.new }
 {
     let property = match property(builder, tree) {
         Ok(property) => property,
@@ -142,7 +142,7 @@ pub(crate) fn class_assertion(
     second: &Tree<'_>,
 ) -> Result<(), BuildFault>
     requires { IsClassTree (tree_of first.now) }
-    ensures { StatementRead result (States (ClassAssertion (class_of (tree_of first.now)) (iri_of (tree_of second.now)))) builder.old builder.new }
+    ensures { StatementRead result (States (ClassAssertion (class_in first.now) (iri_in second.now))) builder.old builder.new }
 {
     let class = match class_expression(alloc, builder, first) {
         Ok(class) => class,
@@ -162,7 +162,7 @@ pub(crate) fn property_assertion(
     second: &Tree<'_>,
     third: &Tree<'_>,
 ) -> Result<(), BuildFault>
-    ensures { StatementRead result (States (PropertyAssertion (iri_of (tree_of first.now)) (iri_of (tree_of second.now)) (iri_of (tree_of third.now)))) builder.old builder.new }
+    ensures { StatementRead result (States (PropertyAssertion (iri_in first.now) (iri_in second.now) (iri_in third.now))) builder.old builder.new }
 {
     let property = match property(builder, first) {
         Ok(property) => property,
@@ -203,7 +203,7 @@ pub(crate) fn sub_property(
     second: &Tree<'_>,
 ) -> Result<(), BuildFault>
     requires { IsChain (tree_of first.now) }
-    ensures { StatementRead result (States (SubPropertyOf (chain_of (tree_of first.now)) (iri_of (tree_of second.now)))) builder.old builder.new }
+    ensures { StatementRead result (States (SubPropertyOf (chain_of (tree_of first.now)) (iri_in second.now))) builder.old builder.new }
 {
     let steps = match chain(alloc, builder, first) {
         Ok(steps) => steps,

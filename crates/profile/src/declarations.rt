@@ -1,8 +1,7 @@
 //! Declarations of names.
 ghost use Rattle.axioms.specs.Numbering.{DeclaresClass, DeclaresIndividual, DeclaresProperty};
-ghost use Rattle.fs_parser.specs.View.{tree_of};
 ghost use Rattle.profile.specs.Additions.{StatementRead};
-ghost use Rattle.profile.specs.Statements.{iri_of};
+ghost use Rattle.profile.specs.Statements.{iri_in};
 
 use crate::name_builder::NameBuilder;
 use crate::operands::{class, individual, property};
@@ -11,7 +10,7 @@ use fs_parser::Tree;
 
 /// Declares the class that the tree names.
 pub(crate) fn declare_class(builder: &mut NameBuilder, tree: &Tree<'_>) -> Result<(), BuildFault>
-    ensures { StatementRead result (DeclaresClass (iri_of (tree_of tree.now))) builder.old builder.new }
+    ensures { StatementRead result (DeclaresClass (iri_in tree.now)) builder.old builder.new }
 {
     match class(builder, tree) {
         Ok(_) => Ok(()),
@@ -21,7 +20,7 @@ pub(crate) fn declare_class(builder: &mut NameBuilder, tree: &Tree<'_>) -> Resul
 
 /// Declares the property that the tree names.
 pub(crate) fn declare_property(builder: &mut NameBuilder, tree: &Tree<'_>) -> Result<(), BuildFault>
-    ensures { StatementRead result (DeclaresProperty (iri_of (tree_of tree.now))) builder.old builder.new }
+    ensures { StatementRead result (DeclaresProperty (iri_in tree.now)) builder.old builder.new }
 {
     match property(builder, tree) {
         Ok(_) => Ok(()),
@@ -34,7 +33,7 @@ pub(crate) fn declare_individual(
     builder: &mut NameBuilder,
     tree: &Tree<'_>,
 ) -> Result<(), BuildFault>
-    ensures { StatementRead result (DeclaresIndividual (iri_of (tree_of tree.now))) builder.old builder.new }
+    ensures { StatementRead result (DeclaresIndividual (iri_in tree.now)) builder.old builder.new }
 {
     match individual(builder, tree) {
         Ok(_) => Ok(()),

@@ -3,7 +3,7 @@ ghost use Rattle.axioms.specs.Ontology.{intersection};
 ghost use Rattle.fs_parser.specs.View.{tree_of, trees_of};
 ghost use Rattle.profile.specs.Additions.{ClassRead, ClassesRead};
 ghost use Rattle.profile.specs.ClassTrees.{AreClassTrees, AreManyDistinct, AreSomeTrees, IsClassTree};
-ghost use Rattle.profile.specs.Statements.{class_of, classes_of, some_values};
+ghost use Rattle.profile.specs.Statements.{class_in, classes_of, some_values};
 
 use crate::name_builder::NameBuilder;
 use crate::names;
@@ -20,7 +20,7 @@ pub(crate) fn class_expression(
     tree: &Tree<'_>,
 ) -> Result<ExprId, BuildFault>
     requires { IsClassTree (tree_of tree.now) }
-    ensures { ClassRead result (class_of (tree_of tree.now)) builder.old builder.new }
+    ensures { ClassRead result (class_in tree.now) builder.old builder.new }
 {
     match tree {
         Tree::Form { keyword, trees, .. } => {

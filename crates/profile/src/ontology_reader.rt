@@ -1,13 +1,10 @@
 //! From trees, taken one by one, to an ontology.
-ghost use Rattle.fs_parser.specs.Tree.{Tree as SpecTree};
-ghost use Rattle.fs_parser.specs.View.{tree_of, trees_from};
-ghost use Rattle.axioms.specs.Ontology.{Ontology as SpecOntology};
+ghost use Rattle.fs_parser.specs.View.{tree_of};
+ghost use Rattle.profile.specs.Finishing.{IsGrown, IsNotGrown, IsRead, IsRefused};
 ghost use Rattle.profile.specs.Operands.{IsFitting};
-ghost use Rattle.profile.specs.Growth.{AreAddedAs, RefusesStatements};
-ghost use Rattle.profile.specs.Reading.{AreReadAs, Refuses};
 ghost use Rattle.profile.specs.Intake.{AreStated, AreTaken, AreTakenBehind, of_document, of_growth};
 ghost use Rattle.shapes.specs.TreeStatements.{meaning, stated};
-ghost use Rattle.std.specs.Prelude.{◌∷◌, [], List, IfErr, IfOk, OnOk, option_map};
+ghost use Rattle.std.specs.Prelude.{◌∷◌, [], IfErr, IfOk, OnOk, option_map};
 
 use crate::acceptance::Refusal;
 use crate::name_builder::NameBuilder;
@@ -142,10 +139,10 @@ impl OntologyReader {
     /// Every fault of the trees, in the order of the text; `TooManyNames` where they have none, and of a kind more than
     /// 1,000,000 names.
     pub fn finish(self) -> Result<Ontology, Refusal>
-        ensures read { IfOk result (λ o. (version : Version) (trees : List SpecTree) → AreTaken (of_document version) trees self → AreReadAs version (trees_from trees) o) }
-        ensures refused { IfErr result (λ r. (version : Version) (trees : List SpecTree) → AreTaken (of_document version) trees self → Refuses r version (trees_from trees)) }
-        ensures added { IfOk result (λ o. (version : Version) (old : SpecOntology) (trees : List SpecTree) → AreTaken (of_growth version old) trees self → AreAddedAs version old (trees_from trees) o) }
-        ensures not_added { IfErr result (λ r. (version : Version) (old : SpecOntology) (trees : List SpecTree) → AreTaken (of_growth version old) trees self → RefusesStatements r version old (trees_from trees)) }
+        ensures read { IfOk result (IsRead self) }
+        ensures refused { IfErr result (IsRefused self) }
+        ensures added { IfOk result (IsGrown self) }
+        ensures not_added { IfErr result (IsNotGrown self) }
     {
         if !self.found.is_empty() {
             drop(self.builder);

@@ -2,7 +2,7 @@
 ghost use Rattle.fs_parser.specs.View.{tree_of, trees_of};
 ghost use Rattle.profile.specs.Additions.{PropertiesRead};
 ghost use Rattle.profile.specs.ClassTrees.{IsChain};
-ghost use Rattle.profile.specs.Statements.{chain_of, iri_of, iris_of};
+ghost use Rattle.profile.specs.Statements.{chain_of, iri_in, iris_of};
 ghost use Rattle.std.specs.Prelude.{[], ◌∷◌};
 
 use crate::name_builder::NameBuilder;
@@ -40,7 +40,7 @@ fn one_property(
     builder: &mut NameBuilder,
     tree: &Tree<'_>,
 ) -> Result<Vec<PropId>, BuildFault>
-    ensures { PropertiesRead result (iri_of (tree_of tree.now) ∷ []) builder.old builder.new }
+    ensures { PropertiesRead result (iri_in tree.now ∷ []) builder.old builder.new }
 {
     let property = match property(builder, tree) {
         Ok(property) => property,

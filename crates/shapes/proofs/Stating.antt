@@ -35,35 +35,6 @@ many_there ts many = lt-ltb 1 (count_of (trees_of ts)) (omega (arith, count_is t
 pub not_many : (ts : List code.Tree) → length ts ≤ 1 → nat_lt 1 (count_of (trees_of ts)) ≡ false
 not_many ts few = le-ltb 1 (count_of (trees_of ts)) (omega (arith, count_is ts))
 
--- ---- forms that state nothing by themselves
-
--- the form is none of these
-abbrev pub IsNone : List shapes.Form → shapes.Form → Type 0
-IsNone [] f = Unit {0}
-IsNone (g ∷ gs) f = (f ≡ g → ⊥) × IsNone gs f
-
-abbrev pub stating_forms : List shapes.Form
-stating_forms =
-    forms.SubClassOf ∷ forms.EquivalentClasses ∷ forms.DisjointClasses ∷ forms.SubObjectPropertyOf ∷ forms.EquivalentObjectProperties
-    ∷ forms.ObjectPropertyDomain ∷ forms.TransitiveObjectProperty ∷ forms.ReflexiveObjectProperty ∷ forms.ClassAssertion
-    ∷ forms.ObjectPropertyAssertion ∷ forms.Class ∷ forms.ObjectProperty ∷ forms.NamedIndividual ∷ []
-
-pub silent : (f : shapes.Form) (ts : Trees) → IsNone stating_forms f → None ≡ stated_by f ts
-silent forms.SubClassOf ts h = absurd (h.0 refl)
-silent forms.EquivalentClasses ts h = absurd (h.1.0 refl)
-silent forms.DisjointClasses ts h = absurd (h.1.1.0 refl)
-silent forms.SubObjectPropertyOf ts h = absurd (h.1.1.1.0 refl)
-silent forms.EquivalentObjectProperties ts h = absurd (h.1.1.1.1.0 refl)
-silent forms.ObjectPropertyDomain ts h = absurd (h.1.1.1.1.1.0 refl)
-silent forms.TransitiveObjectProperty ts h = absurd (h.1.1.1.1.1.1.0 refl)
-silent forms.ReflexiveObjectProperty ts h = absurd (h.1.1.1.1.1.1.1.0 refl)
-silent forms.ClassAssertion ts h = absurd (h.1.1.1.1.1.1.1.1.0 refl)
-silent forms.ObjectPropertyAssertion ts h = absurd (h.1.1.1.1.1.1.1.1.1.0 refl)
-silent forms.Class ts h = absurd (h.1.1.1.1.1.1.1.1.1.1.0 refl)
-silent forms.ObjectProperty ts h = absurd (h.1.1.1.1.1.1.1.1.1.1.1.0 refl)
-silent forms.NamedIndividual ts h = absurd (h.1.1.1.1.1.1.1.1.1.1.1.1.0 refl)
-silent _ ts h = refl
-
 -- ---- declarations
 
 pub no_declaration : (version : Version) (f : shapes.Form) (ts : Trees) → (f ≡ forms.Declaration → ⊥) → stated_by f ts ≡ axiom_by version (Some f) ts

@@ -125,11 +125,15 @@ each_faults version names expected (Then first rest) = faults_among version name
 abbrev pub axiom_faults : Version → Trees → List Fault
 axiom_faults version trees = each_faults version None Axiom trees
 
+-- the fault of a name in front of an ontology, where so many more may stand there
+abbrev pub front_name_faults : ℕ → Tree → List Fault
+front_name_faults count name = if nat_lt 0 count then [] else WrongShape (place_of name) ∷ []
+
 -- what an ontology holds: some names, then annotations, then axioms
 abbrev pub ontology_faults : Version → Option Names → (count : ℕ) → Trees → List Fault
 ontology_faults version names count Empty = []
 ontology_faults version names count (Then first rest) =
-    if is_name first then (if nat_lt 0 count then [] else WrongShape (place_of first) ∷ []) ++ ontology_faults version names (count - 1) rest
+    if is_name first then front_name_faults count first ++ ontology_faults version names (count - 1) rest
     else (if is_annotation first then faults_among version names Annotation first ++ ontology_faults version names 0 rest
     else each_faults version names Axiom (Then first rest))
 

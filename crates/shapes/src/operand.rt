@@ -2,12 +2,11 @@
 
 ghost use Rattle.std.specs.Hash.{fed_then};
 ghost use Rattle.std.specs.List.{list_any};
-ghost use Rattle.std.specs.Prelude.{◌≡◌, ◌||◌, IfOk, OnOk, fold, map, not};
-ghost use Rattle.fs_parser.specs.Tree as trees;
+ghost use Rattle.std.specs.Prelude.{◌≡◌, IfOk, OnOk, fold, map, not};
 ghost use Rattle.fs_parser.specs.View.{iri_of, tree_of, trees_of};
 ghost use Rattle.shapes.specs.TreeLaws.{same_tree_equiv, same_tree_alike};
 ghost use Rattle.shapes.specs.TreeEquality.{same_tree};
-ghost use Rattle.shapes.specs.View.{operand_trees};
+ghost use Rattle.shapes.specs.View.{HoldsAlso, operand_trees};
 ghost use Rattle.shapes.specs.HashInput.{name_writes, writes, writes_of};
 
 use crate::equality::same_tree;
@@ -105,7 +104,7 @@ pub(crate) fn is_new<'t, 'a>(
     tree: &'t Tree<'a>,
 ) -> Result<bool, Memory>
     ensures new { IfOk result (λ new. new ≡ not (list_any (same_tree (tree_of tree.now)) (operand_trees seen.old.keys))) }
-    ensures seen { OnOk result ((t : trees.Tree) → list_any (same_tree t) (operand_trees seen.new.keys) ≡ (list_any (same_tree t) (operand_trees seen.old.keys) || same_tree t (tree_of tree.now))) }
+    ensures seen { OnOk result (HoldsAlso (tree_of tree.now) seen.old.keys seen.new.keys) }
 {
     let (_, new) = seen.insert(Operand { tree })?;
     Ok(new)

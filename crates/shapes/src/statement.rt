@@ -110,7 +110,16 @@ fn stated_by<'t, 'a>(form: Form, operands: &'t [Tree<'a>]) -> Option<Statement<'
         Form::Class => Some(Statement::DeclareClass(one(operands)?)),
         Form::ObjectProperty => Some(Statement::DeclareProperty(one(operands)?)),
         Form::NamedIndividual => Some(Statement::DeclareIndividual(one(operands)?)),
-        _ => None,
+        Form::Declaration
+        | Form::AnnotationAssertion
+        | Form::SubAnnotationPropertyOf
+        | Form::AnnotationPropertyDomain
+        | Form::AnnotationPropertyRange
+        | Form::Annotation
+        | Form::AnnotationProperty
+        | Form::ObjectIntersectionOf
+        | Form::ObjectSomeValuesFrom
+        | Form::ObjectPropertyChain => None,
     }
 }
 

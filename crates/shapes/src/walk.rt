@@ -1,13 +1,13 @@
 //! Every fault of a document's trees, in the order of the text.
 
-ghost use Rattle.std.specs.Prelude.{◌≡◌, ◌≤◌, ◌++◌, ◌∷◌, [], drop, false, if◌then◌else◌, length, map, nat_lt, option_map, true, None, OnOk, IfOk};
-ghost use Rattle.fs_parser.specs.Tree.{Form as FormTree, place_of};
+ghost use Rattle.std.specs.Prelude.{◌≡◌, ◌≤◌, ◌∷◌, [], drop, length, map, option_map, true, None, OnOk, IfOk};
+ghost use Rattle.fs_parser.specs.Tree.{Form as FormTree};
 ghost use Rattle.fs_parser.specs.View.{iri_of, tree_of, trees_of};
-ghost use Rattle.shapes.specs.Faults.{WrongShape, behind_annotations, expression_faults, faults_among, faults_inside, front_faults, is_annotation, is_name, is_repeated, literal_faults, misplaced, name_faults, own_trees};
+ghost use Rattle.shapes.specs.Faults.{behind_annotations, expression_faults, front_faults, front_name_faults, is_annotation, is_name, is_repeated, literal_faults, misplaced, name_faults, own_trees};
 ghost use Rattle.shapes.specs.Places.{faults_at, place_behind};
 ghost use Rattle.shapes.specs.Shapes.{Many, form_of};
 ghost use Rattle.shapes.specs.TreeStatements.{stated, statement_in};
-ghost use Rattle.shapes.specs.View.{fault_of, faults_of, names_of, operands_view};
+ghost use Rattle.shapes.specs.View.{AreTold, fault_of, faults_of, names_of, operand_faults, operands_view, tree_faults};
 
 use crate::context::Context;
 use crate::equality::is_among;
@@ -74,7 +74,7 @@ fn annotations_in_front(expected: Expected, trees: &[Tree<'_>]) -> usize
 
 /// One more fault.
 fn tell(found: &mut Vec<Fault>, fault: Fault) -> Result<(), Memory>
-    ensures { OnOk result (faults_of found.new.items ≡ faults_of found.old.items ++ fault_of fault ∷ []) }
+    ensures { OnOk result (AreTold found.old found.new (fault_of fault ∷ [])) }
 {
     found.push(fault)?;
     Ok(())
@@ -112,7 +112,7 @@ fn name_faults(
     at: usize,
     iri: &Iri<'_>,
 ) -> Result<(), Memory>
-    ensures { OnOk result (faults_of found.new.items ≡ faults_of found.old.items ++ name_faults (names_of context.now) expected at (iri_of iri.now)) }
+    ensures { OnOk result (AreTold found.old found.new (name_faults (names_of context.now) expected at (iri_of iri.now))) }
 {
     if !may_be_name(expected) {
         return tell(found, Fault::WrongShape { at });
@@ -129,7 +129,7 @@ fn name_faults(
 /// The fault of a literal, if it has one.
 #[inline(always)]
 fn literal_faults(found: &mut Vec<Fault>, expected: Expected, at: usize) -> Result<(), Memory>
-    ensures { OnOk result (faults_of found.new.items ≡ faults_of found.old.items ++ literal_faults expected at) }
+    ensures { OnOk result (AreTold found.old found.new (literal_faults expected at)) }
 {
     match expected {
         Expected::NameOrLiteral => Ok(()),
@@ -145,7 +145,7 @@ fn tree_faults(
     expected: Expected,
     tree: &Tree<'_>,
 ) -> Result<(), Memory>
-    ensures { OnOk result (faults_of found.new.items ≡ faults_of found.old.items ++ faults_among context.now.version (names_of context.now) expected (tree_of tree.now)) }
+    ensures { OnOk result (AreTold found.old found.new (tree_faults context.now expected (tree_of tree.now))) }
 {
     match tree {
         Tree::Name { at, iri } => name_faults(context, found, expected, *at, iri),
@@ -173,7 +173,7 @@ fn form_faults(
     keyword: &str,
     trees: &[Tree<'_>],
 ) -> Result<Option<Form>, Memory>
-    ensures found { OnOk result (faults_of found.new.items ≡ faults_of found.old.items ++ faults_among context.now.version (names_of context.now) expected (FormTree at keyword.now (trees_of trees.now))) }
+    ensures found { OnOk result (AreTold found.old found.new (tree_faults context.now expected (FormTree at keyword.now (trees_of trees.now)))) }
     ensures form { IfOk result (λ form. form ≡ form_of context.now.version expected keyword.now) }
 {
     let Some(shape) = shape_of(expected, keyword, context.version) else {
@@ -198,7 +198,7 @@ fn annotation_faults(
     expected: Expected,
     trees: &[Tree<'_>],
 ) -> Result<(), Memory>
-    ensures { OnOk result (faults_of found.new.items ≡ faults_of found.old.items ++ front_faults context.now.version (names_of context.now) expected (trees_of trees.now)) }
+    ensures { OnOk result (AreTold found.old found.new (front_faults context.now.version (names_of context.now) expected (trees_of trees.now))) }
 {
     if !expected.may_be_annotated() {
         return Ok(());
@@ -222,7 +222,7 @@ fn operand_faults(
     in_front: usize,
 ) -> Result<(), Memory>
     requires { in_front ≤ length trees.now }
-    ensures { OnOk result (faults_of found.new.items ≡ faults_of found.old.items ++ faults_inside context.now.version (names_of context.now) false [] (operands_view operands.entry) (trees_of (drop in_front trees.now))) }
+    ensures { OnOk result (AreTold found.old found.new (operand_faults context.now (operands_view operands.entry) (drop in_front trees.now))) }
 {
     match operands {
         Operands::Many {
@@ -244,7 +244,7 @@ fn few_faults(
     trees: &[Tree<'_>],
     in_front: usize,
 ) -> Result<(), Memory>
-    ensures { OnOk result (faults_of found.new.items ≡ faults_of found.old.items ++ faults_inside context.now.version (names_of context.now) false [] (operands_view operands.entry) (trees_of (drop in_front trees.now))) }
+    ensures { OnOk result (AreTold found.old found.new (operand_faults context.now (operands_view operands.entry) (drop in_front trees.now))) }
 {
     let mut left = operands;
     for index in in_front..trees.len() {
@@ -268,7 +268,7 @@ fn distinct_faults(
     trees: &[Tree<'_>],
     in_front: usize,
 ) -> Result<(), Memory>
-    ensures { OnOk result (faults_of found.new.items ≡ faults_of found.old.items ++ faults_inside context.now.version (names_of context.now) false [] (Many true operand) (trees_of (drop in_front trees.now))) }
+    ensures { OnOk result (AreTold found.old found.new (operand_faults context.now (Many true operand) (drop in_front trees.now))) }
 {
     let mut seen = NumberedSet::new(context.alloc, KeyedState::new(&context.state));
     for index in in_front..trees.len() {
@@ -288,7 +288,7 @@ fn axiom_faults<'t, 'a>(
     found: &mut Vec<Fault>,
     tree: &'t Tree<'a>,
 ) -> Result<Option<Statement<'t, 'a>>, Memory>
-    ensures found { OnOk result (faults_of found.new.items ≡ faults_of found.old.items ++ faults_among context.now.version (names_of context.now) Expected.Axiom (tree_of tree.now)) }
+    ensures found { OnOk result (AreTold found.old found.new (tree_faults context.now Expected.Axiom (tree_of tree.now))) }
     ensures statement { IfOk result (λ s. option_map stated s ≡ statement_in context.now.version (tree_of tree.now)) }
 {
     let Tree::Form { at, keyword, trees } = tree else {
@@ -310,7 +310,7 @@ fn front_name_faults(
     names_left: usize,
     tree: &Tree<'_>,
 ) -> Result<(), Memory>
-    ensures { OnOk result (faults_of found.new.items ≡ faults_of found.old.items ++ (if nat_lt 0 names_left then [] else WrongShape (place_of (tree_of tree.now)) ∷ [])) }
+    ensures { OnOk result (AreTold found.old found.new (front_name_faults names_left (tree_of tree.now))) }
 {
     if names_left == 0 {
         return tell(found, Fault::WrongShape { at: tree.at() });
@@ -332,7 +332,7 @@ pub fn part_faults<'t, 'a>(
     version: Version,
     state: RandomState,
 ) -> Result<(Place, Option<Statement<'t, 'a>>), Memory>
-    ensures found { OnOk result (faults_of found.new.items ≡ faults_of found.old.items ++ faults_at version None place (tree_of tree.now)) }
+    ensures found { OnOk result (AreTold found.old found.new (faults_at version None place (tree_of tree.now))) }
     ensures behind { IfOk result (λ part. part.0 ≡ place_behind place (tree_of tree.now)) }
     ensures statement { IfOk result (λ part. option_map stated part.1 ≡ statement_in version (tree_of tree.now)) }
 {

@@ -5,6 +5,14 @@ use Rattle.std.specs.Prelude.{◌≡◌, ℕ, List, [], ◌∷◌, Bool, true, f
 abbrev pub Content : Type 0
 Content = List ℕ → Option (List ℕ)
 
+-- the files hold what they did
+abbrev pub AreKept : Content → Content → Type 0
+AreKept old new = (path : List ℕ) → new path ≡ old path
+
+-- where there was a place for a file there still is
+abbrev pub PlacesStay : (List ℕ → Bool) → (List ℕ → Bool) → Type 0
+PlacesStay old new = (path : List ℕ) → old path ≡ true → new path ≡ true
+
 -- there is a file that holds this, as far as it is known
 abbrev pub IsThere : Bool → Option (List ℕ) → Type 0
 IsThere true held = IsSome held

@@ -2,7 +2,7 @@
 ghost use Rattle.std.specs.Prelude.{◌≡◌, ◌<◌, ℕ, List, Bool, true, false, Option, IfOk, IsErrOf, OnOk};
 ghost use Rattle.std.specs.Io.KnownBytes.{Keeps};
 ghost use Rattle.device.specs.Device.{HasFailed};
-ghost use Rattle.system_files.specs.Contents.{HasTakenSome, IsClosed, IsMissing, IsThere, nothing_taken};
+ghost use Rattle.system_files.specs.Contents.{AreKept, HasTakenSome, IsClosed, IsMissing, IsThere, PlacesStay, nothing_taken};
 
 use axioms::Memory;
 use device::{Sink, Source};
@@ -66,8 +66,8 @@ pub trait Files {
         ensures path { IfOk result (λ sink. Self.Out.path sink ≡ path.now) }
         ensures shut { IfOk result (λ sink. is_shut sink ≡ is_locked self.old) }
         ensures place { OnOk result (has_place self.new path.now ≡ true) }
-        ensures places { (other : List ℕ) → has_place self.old other ≡ true → has_place self.new other ≡ true }
-        ensures kept { (other : List ℕ) → content self.new other ≡ content self.old other }
+        ensures places { PlacesStay (has_place self.old) (has_place self.new) }
+        ensures kept { AreKept (content self.old) (content self.new) }
         ensures known { is_known self.new ≡ is_known self.old }
         ensures locked { is_locked self.new ≡ is_locked self.old }
         ensures unfailed { failed_writes self.new ≡ failed_writes self.old };
@@ -76,7 +76,7 @@ pub trait Files {
     fn close(&mut self, sink: Self::Out)
         requires { has_place self.old (Self.Out.path sink) ≡ true }
         ensures closed { IsClosed (content self.old) (content self.new) (Self.Out.path sink) (Self.Out.taken sink) }
-        ensures places { (other : List ℕ) → has_place self.old other ≡ true → has_place self.new other ≡ true }
+        ensures places { PlacesStay (has_place self.old) (has_place self.new) }
         ensures known { is_known self.new ≡ is_known self.old }
         ensures locked { is_locked self.new ≡ is_locked self.old }
         ensures unfailed { Self.Out.failures sink ≡ 0 → failed_writes self.new ≡ failed_writes self.old }

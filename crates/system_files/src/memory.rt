@@ -1,7 +1,7 @@
 //! Files in memory.
 ghost use Rattle.std.specs.Prelude.{◌≡◌, ◌≤◌, ℕ, List, true, OnOk, OnErr, find, option_map, position, vec_len, length, if◌then◌else◌};
 ghost use Rattle.std.specs.Option.{option_copied};
-ghost use Rattle.system_files.specs.Contents.{IsPut};
+ghost use Rattle.system_files.specs.Contents.{AreKept, IsPut, PlacesStay};
 ghost use Rattle.system_files.specs.MemoryFiles.{file_at, has_place_at, is_at};
 
 use crate::files::{Files, OpenFault};
@@ -50,7 +50,7 @@ fn bytes_of(file: &MemoryFile) -> Option<&[u8]>
 }
 
 impl MemoryFiles {
-    ghost use Rattle.std.specs.Prelude.{◌≡◌, None, Some, IfOk, OnOk, OnErr, option_map, true, false};
+    ghost use Rattle.std.specs.Prelude.{◌≡◌, None, OnOk, OnErr, option_map, true, false};
     ghost use Rattle.system_files.specs.Contents.{IsPut};
 
     /// No files, which are not locked.
@@ -70,7 +70,7 @@ impl MemoryFiles {
     /// From now on no file can be written: each sink that is made takes nothing.
     pub fn lock(&mut self)
         ensures locked { ⟦<MemoryFiles as Files>⟧.is_locked self.new ≡ true }
-        ensures kept { (path : List ℕ) → ⟦<MemoryFiles as Files>⟧.content self.new path ≡ ⟦<MemoryFiles as Files>⟧.content self.old path }
+        ensures kept { AreKept (⟦<MemoryFiles as Files>⟧.content self.old) (⟦<MemoryFiles as Files>⟧.content self.new) }
     {
         self.is_locked = true;
     }
@@ -88,8 +88,8 @@ impl MemoryFiles {
     /// Makes sure that there is a place of the path.
     fn add_place(&mut self, path: &str) -> Result<(), Memory>
         ensures place { OnOk result (has_place_at self.new.files.items path.now ≡ true) }
-        ensures places { (other : List ℕ) → has_place_at self.old.files.items other ≡ true → has_place_at self.new.files.items other ≡ true }
-        ensures kept { (other : List ℕ) → file_at self.new.files.items other ≡ file_at self.old.files.items other }
+        ensures places { PlacesStay (has_place_at self.old.files.items) (has_place_at self.new.files.items) }
+        ensures kept { AreKept (file_at self.old.files.items) (file_at self.new.files.items) }
         ensures locked { self.new.is_locked ≡ self.old.is_locked }
         ensures unfailed { self.new.failed_writes ≡ self.old.failed_writes }
     {
@@ -105,23 +105,20 @@ impl MemoryFiles {
     fn store(&mut self, path: &str, bytes: Vec<u8>)
         requires { has_place_at self.old.files.items path.now ≡ true }
         ensures put { IsPut (file_at self.old.files.items) (file_at self.new.files.items) path.now bytes.items }
-        ensures places { (other : List ℕ) → has_place_at self.old.files.items other ≡ true → has_place_at self.new.files.items other ≡ true }
+        ensures places { PlacesStay (has_place_at self.old.files.items) (has_place_at self.new.files.items) }
         ensures locked { self.new.is_locked ≡ self.old.is_locked }
         ensures unfailed { self.new.failed_writes ≡ self.old.failed_writes }
     {
-        match place_of(&self.files, path) {
-            Some(place) => {
-                let file = &mut self.files[place];
-                file.bytes = Some(bytes);
-            }
-            None => unreachable!(),
+        if let Some(place) = place_of(&self.files, path) {
+            let file = &mut self.files[place];
+            file.bytes = Some(bytes);
         }
     }
 
     /// Puts a file with these bytes at the path, also where the files are locked.
     pub fn put(&mut self, path: &str, bytes: &[u8]) -> Result<(), Memory>
         ensures put { OnOk result (IsPut (⟦<MemoryFiles as Files>⟧.content self.old) (⟦<MemoryFiles as Files>⟧.content self.new) path.now bytes.now) }
-        ensures kept { OnErr result ((other : List ℕ) → ⟦<MemoryFiles as Files>⟧.content self.new other ≡ ⟦<MemoryFiles as Files>⟧.content self.old other) }
+        ensures kept { OnErr result (AreKept (⟦<MemoryFiles as Files>⟧.content self.old) (⟦<MemoryFiles as Files>⟧.content self.new)) }
         ensures locked { ⟦<MemoryFiles as Files>⟧.is_locked self.new ≡ ⟦<MemoryFiles as Files>⟧.is_locked self.old }
     {
         let bytes = bytes.to_vec(self.alloc)?;

@@ -56,6 +56,10 @@ groups lies_below all = firsts lies_below [] all
 abbrev pub is_strictly_above : (ℕ → ℕ → Bool) → ℕ → ℕ → Bool
 is_strictly_above lies_below g h = lies_below g h && not (lies_below h g)
 
+-- the class is strictly above one of these
+abbrev pub is_above_one : (ℕ → ℕ → Bool) → List ℕ → ℕ → Bool
+is_above_one lies_below classes h = list_any (λ g. is_strictly_above lies_below g h) classes
+
 -- a number below n passes
 abbrev pub some_below : ℕ → (ℕ → Bool) → Bool
 some_below n p = list_any p (numbers_below n)

@@ -1,12 +1,12 @@
 //! Of classes, those that are strictly above no other of them.
 ghost use Rattle.number_sets.specs.Members.{has};
-ghost use Rattle.std.specs.List.{filter, list_any};
+ghost use Rattle.std.specs.List.{filter};
 ghost use Rattle.std.specs.List.Sorted.{IsPermutation};
 ghost use Rattle.std.specs.Prelude.{◌<◌, ◌||◌, ◌≡◌, IfOk, false, length, map, not, replicate, ℕ};
 ghost use Rattle.taxonomy.specs.Relation.{is_listed};
 ghost use Rattle.taxonomy.specs.ClassMarks.{HasRoom};
 ghost use Rattle.taxonomy.specs.Superclasses.{AreSuperclasses, is_larger};
-ghost use Rattle.taxonomy.specs.Texts.{is_strictly_above};
+ghost use Rattle.taxonomy.specs.Texts.{is_above_one};
 
 use crate::superclasses::Superclasses;
 use axioms::Memory;
@@ -55,7 +55,7 @@ fn mark_each(marks: &mut Marks, classes: &Superclasses, numbers: &[u32])
     requires empty { (k : ℕ) → has marks.old.above k ≡ false }
     requires none { (k : ℕ) → has marks.old.strictly k ≡ false }
     ensures room { HasRoom (length classes.now) marks.new }
-    ensures strictly { (k : ℕ) → k < length classes.now → has marks.new.strictly k ≡ list_any (λ c. is_strictly_above (is_listed classes.now) c k) numbers.now }
+    ensures strictly { (k : ℕ) → k < length classes.now → has marks.new.strictly k ≡ is_above_one (is_listed classes.now) numbers.now k }
 {
     for c in numbers {
         let c = *c as usize;
@@ -116,8 +116,7 @@ pub(crate) fn least_of(
     requires superclasses { AreSuperclasses classes.now }
     requires room { HasRoom (length classes.now) marks.old }
     ensures room { HasRoom (length classes.now) marks.new }
-    ensures least { IfOk result
-        (λ v. v.items ≡ filter (λ g. not (list_any (λ k. is_strictly_above (is_listed classes.now) k g) numbers.now)) numbers.now) }
+    ensures least { IfOk result (λ v. v.items ≡ filter (λ g. not (is_above_one (is_listed classes.now) numbers.now g)) numbers.now) }
 {
     let ordered = largest_first(alloc, classes, numbers)?;
     marks.above.clear();

@@ -7,15 +7,15 @@ use Rattle.system_files.specs.MemoryFiles.{file_at, has_place_at, is_at}
 use Rattle.system_files.proofs.Places.{bytes_put, missing_place, places_kept}
 use Rattle.system_files.proofs.memory.MemoryFiles.store.Goals as goal
 
-pub unreachable-requires : goal.unreachable-requires
-unreachable-requires c =
+pub returns-in_default-clause-put : goal.returns-in_default-clause-put
+returns-in_default-clause-put c =
     let files = c.args.self.now.files.items in
     let path = c.args.path.now in
-    let none : position (is_at path) files ≡ None = ap (position (is_at path)) (sym c.deref.ensures.value) ∙ sym c.place_of.ensures ∙ c.in-None.is in
-    missing_place files path c.requires none
+    let none : position (is_at path) files ≡ None = ap (position (is_at path)) (sym c.deref.ensures.value) ∙ sym c.in_default.ensures in
+    absurd (missing_place files path c.requires none)
 
-pub returns-clause-put : goal.returns-clause-put
-returns-clause-put c =
+pub returns-in-Some-clause-put : goal.returns-in-Some-clause-put
+returns-in-Some-clause-put c =
     let files = c.args.self.now.files.items in
     let path = c.args.path.now in
     let is : position (is_at path) files ≡ Some c.in-Some.place = ap (position (is_at path)) (sym c.deref.ensures.value) ∙ sym c.place_of.ensures ∙ c.in-Some.is in
@@ -23,8 +23,8 @@ returns-clause-put c =
     let P : MemoryFile → Type 0 = λ f. IsPut (file_at files) (file_at (set files c.in-Some.place (record { path = f.path; bytes = Some c.args.bytes }))) path c.args.bytes.items in
     subst P (sym c.index_mut-file.ensures.value) (bytes_put files path c.in-Some.place c.args.bytes file is)
 
-pub returns-clause-places : goal.returns-clause-places
-returns-clause-places c = λ other has.
+pub returns-in-Some-clause-places : goal.returns-in-Some-clause-places
+returns-in-Some-clause-places c = λ other has.
     let files = c.args.self.now.files.items in
     let path = c.args.path.now in
     let is : position (is_at path) files ≡ Some c.in-Some.place = ap (position (is_at path)) (sym c.deref.ensures.value) ∙ sym c.place_of.ensures ∙ c.in-Some.is in

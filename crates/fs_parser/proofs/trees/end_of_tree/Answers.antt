@@ -3,8 +3,8 @@ use Rattle.std.proofs.lemmas.List.{map_push, length-map}
 use Rattle.fs_parser.specs.Machine.{only_one}
 use Rattle.fs_parser.specs.View.{tree_of}
 use Rattle.fs_parser.proofs.Steps.{not_only, no_items}
-use Rattle.fs_parser.proofs.reader.end_of_tree.Goals.{in_default-via-in-Some+else-is_empty, in_default-via-in_default}
-use Rattle.fs_parser.proofs.reader.end_of_tree.Goals as goal
+use Rattle.fs_parser.proofs.trees.end_of_tree.Goals.{in_default-via-in-Some+else-is_empty, in_default-via-in_default}
+use Rattle.fs_parser.proofs.trees.end_of_tree.Goals as goal
 
 pub returns-clause-given : goal.returns-clause-given
 returns-clause-given c = elim c.in_default.branch [

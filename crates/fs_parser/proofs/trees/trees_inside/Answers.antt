@@ -3,11 +3,12 @@ use Rattle.std.proofs.lemmas.Result.{err_from_is_err_and}
 use Rattle.fs_parser.specs.KnownPrefixes.{known_of}
 use Rattle.fs_parser.specs.View.{tree_of, tokens_of}
 use Rattle.fs_parser.specs.State.{state_of}
-use Rattle.fs_parser.proofs.Run.{inside, start}
+use Rattle.fs_parser.specs.Machine.{start}
+use Rattle.fs_parser.proofs.Run.{inside}
 use Rattle.fs_parser.proofs.Inside.{found_by, only_by}
 use Rattle.fs_parser.proofs.Faults.{balanced, reads_on, token_trees, end_trees}
 use Rattle.fs_parser.proofs.Steps.{loop_goes_on, loop_stops, loop_ends, loop_none}
-use Rattle.fs_parser.proofs.reader.trees_inside.Goals as goal
+use Rattle.fs_parser.proofs.trees.trees_inside.Goals as goal
 
 pub loop-rest-preserved : goal.loop-rest-preserved
 loop-rest-preserved c =

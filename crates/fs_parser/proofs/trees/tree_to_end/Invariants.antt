@@ -2,9 +2,10 @@ use Rattle.std.proofs.Common.{◌≡◌, length}
 use Rattle.fs_parser.specs.State.{state_of, frames_of}
 use Rattle.fs_parser.specs.KnownPrefixes.{known_of}
 use Rattle.fs_parser.specs.View.{tokens_of}
-use Rattle.fs_parser.proofs.Run.{run, start}
+use Rattle.fs_parser.specs.Machine.{start}
+use Rattle.fs_parser.proofs.Run.{run}
 use Rattle.fs_parser.proofs.Faults.{IsReadTo}
-use Rattle.fs_parser.proofs.reader.trees_to_end.Given as goal
+use Rattle.fs_parser.proofs.trees.tree_to_end.Given as goal
 
 -- what is left gives the trees of all, and the open parentheses are those before it
 abbrev pub invariant-loop-rest : goal.invariant-loop-rest
