@@ -7,6 +7,7 @@ use engine::{Saturation, saturated};
 use profile::read_bytes;
 use std::alloc::Global;
 use std::hash::RandomState;
+use std::process::Abort;
 use std::random::RandomSource;
 use std::test::Fail;
 
@@ -38,7 +39,7 @@ fn answer_for(alloc: Global, state: RandomState, ontology: &Ontology, asked: Ask
 }
 
 /// The answer for the ontology of the document.
-pub(crate) fn is_so<R: AllocGlobal + RandomSource>(
+fn is_so<R: AllocGlobal + RandomSource>(
     rt: &R,
     document: &str,
     asked: Asked,
@@ -46,4 +47,16 @@ pub(crate) fn is_so<R: AllocGlobal + RandomSource>(
     let state = RandomState::new(rt)?;
     let ontology = read_bytes(rt.alloc(), document.as_bytes(), state)?;
     Ok(answer_for(rt.alloc(), state, &ontology, asked))
+}
+
+/// Of each document the answer is right.
+pub(crate) fn assert_rows<R: AllocGlobal + Abort + RandomSource>(
+    rt: &R,
+    rows: &[(&str, Asked)],
+) -> Result<(), Fail> {
+    for row in rows {
+        let (document, asked) = *row;
+        assert!(rt; is_so(rt, document, asked)?, "{document}");
+    }
+    Ok(())
 }

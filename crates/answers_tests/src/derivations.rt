@@ -157,21 +157,20 @@ pub(crate) fn answer(
 }
 
 /// Documents, and what is asked of each.
-const ROWS: &[(&str, Asked)] = &[
-    (ONE_SUBCLASS, Asked::Lines),
-    (ONE_SUBCLASS, Asked::Text),
-    (INDIVIDUAL_OF_NOTHING, Asked::Contradiction),
-    (INDIVIDUAL_OF_NOTHING, Asked::ContradictionText),
+const ROWS: &[(&str, asked::Asked)] = &[
+    (ONE_SUBCLASS, asked::Asked::Derivation(Asked::Lines)),
+    (ONE_SUBCLASS, asked::Asked::Derivation(Asked::Text)),
+    (
+        INDIVIDUAL_OF_NOTHING,
+        asked::Asked::Derivation(Asked::Contradiction),
+    ),
+    (
+        INDIVIDUAL_OF_NOTHING,
+        asked::Asked::Derivation(Asked::ContradictionText),
+    ),
 ];
 
 #[test]
 fn lines_of_worked_documents(rt: HostRuntime) -> Result<(), Fail> {
-    for row in ROWS {
-        let (document, asked) = *row;
-        assert!(rt;
-            asked::is_so(&rt, document, asked::Asked::Derivation(asked))?,
-            "{document}"
-        );
-    }
-    Ok(())
+    asked::assert_rows(&rt, ROWS)
 }

@@ -1,12 +1,14 @@
-//! Ontologies that documents state, and interpretations that certificates list.
+//! Ontologies that documents state, sessions over documents, and interpretations that certificates list.
 ghost use Rattle.interpretation_spec.specs.NumberedInterpretation.{IsMadeFor};
 ghost use Rattle.std.specs.Prelude.{IfSome};
 
 use axioms::Ontology;
 use cert_check::interpretation_of;
 use certificate::read_certificate;
+use device::SliceSource;
 use interpretation_spec::Interpretation;
 use profile::read_bytes;
+use session::{Limits, Session};
 use std::alloc::Global;
 use std::hash::RandomState;
 use std::random::RandomSource;
@@ -18,6 +20,17 @@ pub(crate) fn ontology_of<R: AllocGlobal + RandomSource>(
     document: &str,
 ) -> Result<Ontology, Fail> {
     Ok(read_bytes(rt.alloc(), document.as_bytes(), RandomState::new(rt)?)?)
+}
+
+/// A session over the document, of which nothing was run.
+pub(crate) fn session_of(
+    alloc: Global,
+    state: RandomState,
+    limits: &Limits,
+    document: &str,
+) -> Option<Session> {
+    let mut source = SliceSource::new(document.as_bytes());
+    Session::open(alloc, &mut source, limits, state).ok()
 }
 
 /// The interpretation that the certificate lists.

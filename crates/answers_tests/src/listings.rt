@@ -219,23 +219,25 @@ pub(crate) fn answer(
 }
 
 /// Documents, and what is asked of each.
-const ROWS: &[(&str, Asked)] = &[
-    (CHAIN_INTO_A_DEFINITION, Asked::ElementsAndPairs),
-    (IRREGULAR_HIERARCHY, Asked::ElementsAndPairs),
-    (CHAIN_INTO_A_DEFINITION, Asked::Listing),
-    (CHAIN_INTO_A_DEFINITION, Asked::Text),
-    (ONE_SUBCLASS, Asked::Model),
-    (ONE_SUBCLASS, Asked::OneForm),
+const ROWS: &[(&str, asked::Asked)] = &[
+    (
+        CHAIN_INTO_A_DEFINITION,
+        asked::Asked::Listing(Asked::ElementsAndPairs),
+    ),
+    (
+        IRREGULAR_HIERARCHY,
+        asked::Asked::Listing(Asked::ElementsAndPairs),
+    ),
+    (
+        CHAIN_INTO_A_DEFINITION,
+        asked::Asked::Listing(Asked::Listing),
+    ),
+    (CHAIN_INTO_A_DEFINITION, asked::Asked::Listing(Asked::Text)),
+    (ONE_SUBCLASS, asked::Asked::Listing(Asked::Model)),
+    (ONE_SUBCLASS, asked::Asked::Listing(Asked::OneForm)),
 ];
 
 #[test]
 fn reads_what_worked_documents_list(rt: HostRuntime) -> Result<(), Fail> {
-    for row in ROWS {
-        let (document, asked) = *row;
-        assert!(rt;
-            asked::is_so(&rt, document, asked::Asked::Listing(asked))?,
-            "{document}"
-        );
-    }
-    Ok(())
+    asked::assert_rows(&rt, ROWS)
 }

@@ -1,6 +1,6 @@
 //! What sessions over worked documents explain, and what they do not.
 
-use device::SliceSource;
+use crate::documents::session_of;
 use session::{AskFault, Asked, Explanation, Limits, Session};
 use std::alloc::Global;
 use std::hash::RandomState;
@@ -117,8 +117,7 @@ fn is_row(session: &mut Session, row: &Row) -> bool {
 
 /// Whether a session over the document of the row does.
 fn is_explained(alloc: Global, state: RandomState, limits: &Limits, row: &Row) -> bool {
-    let mut source = SliceSource::new(row.document.as_bytes());
-    let Ok(mut session) = Session::open(alloc, &mut source, limits, state) else {
+    let Some(mut session) = session_of(alloc, state, limits, row.document) else {
         return false;
     };
     let right = is_row(&mut session, row);

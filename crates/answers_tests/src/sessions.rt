@@ -1,7 +1,8 @@
 //! Sessions over documents worked out by hand: what they answer before they are run, and when they are.
 ghost use Rattle.engine.specs.Saturations.{IsSound};
 
-use device::{BufferSink, SliceSource};
+use crate::documents::session_of;
+use device::BufferSink;
 use session::{AskFault, Limits, Session, Stop, Summary, TextFault};
 use std::alloc::Global;
 use std::hash::RandomState;
@@ -138,8 +139,7 @@ fn is_row(session: &mut Session, row: &Row) -> bool {
 
 /// Whether a session over the document of the row answers as it says.
 fn is_answered(alloc: Global, state: RandomState, limits: &Limits, row: &Row) -> bool {
-    let mut source = SliceSource::new(row.document.as_bytes());
-    let Ok(mut session) = Session::open(alloc, &mut source, limits, state) else {
+    let Some(mut session) = session_of(alloc, state, limits, row.document) else {
         return false;
     };
     let right = is_row(&mut session, row);
@@ -220,8 +220,8 @@ fn writes(alloc: Global, session: &mut Session) -> bool {
 
 /// Whether a session over the document of one subclass axiom writes its texts.
 fn is_told(alloc: Global, state: RandomState, limits: &Limits) -> bool {
-    let mut source = SliceSource::new(b"Ontology(SubClassOf(<x:A> <x:B>))".as_slice());
-    let Ok(mut session) = Session::open(alloc, &mut source, limits, state) else {
+    let document = "Ontology(SubClassOf(<x:A> <x:B>))";
+    let Some(mut session) = session_of(alloc, state, limits, document) else {
         return false;
     };
     let right = writes(alloc, &mut session);

@@ -2,15 +2,20 @@
 //!
 //! Two tests make the ontologies, and functions that borrow them look at all the rest.
 
+mod readers;
+
 ghost use Rattle.certificate.specs.Writability.{HasText};
 
 use crate::documents::ontology_of;
 use axioms::{ExprId, IndId, Memory, Ontology, PropId};
 use certificate::{
-    CertFault, Certificate, Claim, Conclusion, Line, LineReader, MakeFault, Rule, Subject,
-    certificate_bytes, one_certificate, one_text, read_certificate, write_certificate,
+    CertFault, Certificate, Claim, Conclusion, Line, LineText, Listed, ListedText, MakeFault, Rule,
+    Subject, certificate_bytes, one_certificate, one_text, read_certificate, write_certificate,
 };
 use device::BufferSink;
+use readers::{
+    LINES, assert_lines, assert_listed_behind_lines, assert_no_readers, assert_refused_behind_lines,
+};
 use std::alloc::{AllocError, Global};
 use std::process::Abort;
 use std::random::RandomSource;
@@ -19,10 +24,6 @@ use std::test::Fail;
 /// A certificate of the ontology of the one axiom SubClassOf(A B).
 const TEXT: &[u8] =
     b"elcert 1 consistent\nsub e0 e0 K1\nsub e1 e1 K1\nsub e2 e2 K1\nsub e2 e0 K2\nsub e2 e3 K4 a1 3\nsub e3 e3 K1\nsub e3 e0 K2\ndomain 3\nclass e2 1\nclass e3 1 2\nclaim e0 0\nclaim e2 1\nclaim e3 2\nend\n";
-
-/// Lines with no premise, with two and with one, one after another.
-const LINES: &[u8] =
-    b"elcert 1 inconsistent\nsub e0 e0 K1\nedge i0 p0 i1 K11 18446744073709551615 2\nsub i0 e2 K9 1\nend\n";
 
 /// SubClassOf(A B), of the classes of the numbers 2 and 3.
 fn one_subclass<R: AllocGlobal + RandomSource>(rt: &R) -> Result<Ontology, Fail> {
@@ -63,10 +64,50 @@ fn is_text(alloc: Global, ontology: &Ontology, certificate: &Certificate, text: 
         && has_bytes(alloc, certificate, text)
 }
 
+/// The lines as the text of a certificate.
+fn grown_lines(alloc: Global, lines: &[Line]) -> Result<LineText, Memory> {
+    let mut text = LineText::new(alloc)?;
+    for line in lines {
+        text.push(line)?;
+    }
+    Ok(text)
+}
+
+/// Adds the rows of classes and of pairs.
+fn add_rows(text: &mut ListedText, listed: &Listed) -> Result<(), Memory> {
+    for row in &listed.classes {
+        text.push_class(row)?;
+    }
+    for row in &listed.pairs {
+        text.push_pairs(row)?;
+    }
+    Ok(())
+}
+
+/// The text of the certificate of the lines and of the interpretation, grown line by line and row by row.
+fn grown(alloc: Global, lines: &[Line], listed: &Listed) -> Result<Vec<u8>, Memory> {
+    let mut text = grown_lines(alloc, lines)?.with_domain(listed.domain)?;
+    add_rows(&mut text, listed)?;
+    text.end(&listed.individuals, &listed.claims)
+}
+
+/// Whether the text of a certificate grows to this, where it lists an interpretation.
+fn grows_to(alloc: Global, certificate: &Certificate, text: &[u8]) -> bool {
+    let Some(listed) = certificate.listed() else {
+        return true;
+    };
+    match grown(alloc, certificate.lines(), listed) {
+        Ok(bytes) => bytes.as_slice() == text,
+        Err(_) => false,
+    }
+}
+
 /// Whether the text is read, and written again as it was.
 fn is_kept(alloc: Global, ontology: &Ontology, text: &[u8]) -> bool {
     match read_certificate(alloc, ontology, text) {
-        Ok(certificate) => is_text(alloc, ontology, &certificate, text),
+        Ok(certificate) => {
+            is_text(alloc, ontology, &certificate, text) && grows_to(alloc, &certificate, text)
+        }
         Err(_) => false,
     }
 }
@@ -109,117 +150,6 @@ fn has_members(alloc: Global, ontology: &Ontology) -> bool {
 fn assert_kept<R: AllocGlobal + Abort>(rt: &R, ontology: &Ontology) {
     assert!(rt; is_kept(rt.alloc(), ontology, TEXT), "kept");
     assert!(rt; has_members(rt.alloc(), ontology), "members");
-}
-
-/// The premises of the line that the reader gives next, which take the room, where that is the line.
-fn premises_of_next(
-    reader: &mut LineReader,
-    room: Vec<u64>,
-    expected: &Line,
-) -> Result<Option<Vec<u64>>, Memory> {
-    match reader.next(room)? {
-        Some(line) if line == *expected => Ok(Some(line.premises)),
-        _ => Ok(None),
-    }
-}
-
-/// Whether the reader gives these lines, one after another, and then no more.
-fn gives_lines(alloc: Global, reader: &mut LineReader, lines: &[Line]) -> Result<bool, Memory> {
-    let mut room = Vec::new(alloc);
-    for line in lines {
-        let Some(premises) = premises_of_next(reader, room, line)? else {
-            return Ok(false);
-        };
-        room = premises;
-    }
-    Ok(reader.next(room)?.is_none())
-}
-
-/// Whether a reader of the text gives these lines.
-fn reader_gives(alloc: Global, ontology: &Ontology, text: &[u8], lines: &[Line]) -> bool {
-    match LineReader::new(ontology, text) {
-        Ok(mut reader) => gives_lines(alloc, &mut reader, lines) == Ok(true),
-        Err(_) => false,
-    }
-}
-
-/// Whether a reader gives the lines of the certificate that is read from the text.
-fn gives_all(alloc: Global, ontology: &Ontology, text: &[u8]) -> bool {
-    match read_certificate(alloc, ontology, text) {
-        Ok(certificate) => reader_gives(alloc, ontology, text, certificate.lines()),
-        Err(_) => false,
-    }
-}
-
-/// A reader gives the lines of the text's certificate.
-fn assert_lines<R: AllocGlobal + Abort>(rt: &R, ontology: &Ontology, text: &[u8]) {
-    assert!(rt; gives_all(rt.alloc(), ontology, text));
-}
-
-/// Whether the reader gives so many lines and then, behind them, an interpretation or none, or refuses what stands there.
-fn finishes(
-    alloc: Global,
-    reader: &mut LineReader,
-    lines: usize,
-    expected: Result<bool, CertFault>,
-) -> Result<bool, Memory> {
-    for _ in 0..lines {
-        if reader.next(Vec::new(alloc))?.is_none() {
-            return Ok(false);
-        }
-    }
-    match reader.next(Vec::new(alloc))? {
-        Some(_) => Ok(false),
-        None => Ok(reader.finish(alloc).map(|listed| listed.is_some()) == expected),
-    }
-}
-
-/// The same of a reader of the text.
-fn text_finishes(
-    alloc: Global,
-    ontology: &Ontology,
-    text: &[u8],
-    lines: usize,
-    expected: Result<bool, CertFault>,
-) -> bool {
-    match LineReader::new(ontology, text) {
-        Ok(mut reader) => finishes(alloc, &mut reader, lines, expected) == Ok(true),
-        Err(_) => false,
-    }
-}
-
-/// What stands behind one line names what is not there; behind three stands no interpretation.
-fn assert_refused_behind_lines<R: AllocGlobal + Abort>(rt: &R, ontology: &Ontology) {
-    let text = b"elcert 1 inconsistent\nsub e0 e0 K1\nsub e9 e0 K2\nsub e0 e0 K1\nend\n";
-    let refused = Err(CertFault::BadText { at: 35 });
-    assert!(rt;
-        text_finishes(rt.alloc(), ontology, text, 1, refused),
-        "refused"
-    );
-    assert!(rt;
-        text_finishes(rt.alloc(), ontology, LINES, 3, Ok(false)),
-        "none"
-    );
-}
-
-/// Behind the seven lines of the text an interpretation is listed.
-fn assert_listed_behind_lines<R: AllocGlobal + Abort>(rt: &R, ontology: &Ontology) {
-    assert!(rt; text_finishes(rt.alloc(), ontology, TEXT, 7, Ok(true)));
-}
-
-/// Whether no reader is made for the text.
-fn has_no_reader(ontology: &Ontology, text: &[u8]) -> bool {
-    LineReader::new(ontology, text).err() == Some(CertFault::BadText { at: 0 })
-}
-
-/// Nothing, a text of another version and a first line that is cut have no reader.
-fn assert_no_readers<R: Abort>(rt: &R, ontology: &Ontology) {
-    assert!(rt; has_no_reader(ontology, b""), "nothing");
-    assert!(rt;
-        has_no_reader(ontology, b"elcert 2 consistent\nend\n"),
-        "version 2"
-    );
-    assert!(rt; has_no_reader(ontology, b"elcert 1 consistent"), "cut");
 }
 
 #[test]
@@ -326,11 +256,13 @@ const TEXTS: &[(&str, Option<usize>)] = &[
     ),
 ];
 
-/// Reading each of the texts stops there.
+/// Reading each of the texts stops there, and those that are read are kept.
 fn are_read<R: AllocGlobal + Abort>(rt: &R, ontology: &Ontology) {
     for (text, at) in TEXTS {
+        let bytes = text.as_bytes();
         assert!(rt;
-            stops_at(rt.alloc(), ontology, text.as_bytes(), *at),
+            stops_at(rt.alloc(), ontology, bytes, *at)
+                && (at.is_some() || is_kept(rt.alloc(), ontology, bytes)),
             "{text}"
         );
     }
@@ -402,6 +334,7 @@ fn assert_made<R: AllocGlobal + Abort>(rt: &R, ontology: &Ontology) {
         is_not_made(alloc, ontology, 2, None, 0) == Ok(true),
         "premise"
     );
+    assert!(rt; Rule::K16.number() == 16, "number");
 }
 
 #[test]

@@ -8,4 +8,6 @@ mod checks;
 #[cfg(test)]
 mod documents;
 #[cfg(test)]
+mod relations;
+#[cfg(test)]
 mod taxonomies;

@@ -1,8 +1,10 @@
 //! Small ontologies of subclass axioms, worked out by hand.
 
-use axioms::Ontology;
+use axioms::{ClassId, ExprId, IndId, Ontology};
 use cert_check::{Verdict, check};
-use classification::{Classification, Stop, Summary, classify};
+use classification::{Classification, Stop, Summary, class_pair, classify, type_pair};
+use facts::{Context, Fact, StoredFact};
+use normal_forms::Class2;
 use profile::read_bytes;
 use std::alloc::Global;
 use std::hash::RandomState;
@@ -130,5 +132,29 @@ fn one_subclass_is_classified<R: AllocGlobal + RandomSource>(rt: &R) -> Result<b
 fn classifies_one_subclass(rt: HostRuntime) -> Result<(), Fail> {
     let is_expected = one_subclass_is_classified(&rt)?;
     assert!(rt; is_expected);
+    Ok(())
+}
+
+/// A fact that puts the second class of one subclass axiom above a context.
+fn in_second(context: Context) -> StoredFact {
+    StoredFact::new(Fact::In(Class2::Expr(ExprId(3)), context))
+}
+
+/// Whether facts say of the classes of one subclass axiom what they say by hand.
+fn speak_of_named_classes<R: AllocGlobal + RandomSource>(rt: &R) -> Result<bool, Fail> {
+    let ontology = read_bytes(rt.alloc(), ONE_SUBCLASS.as_bytes(), RandomState::new(rt)?)?;
+    let below = in_second(Context::Expr(ExprId(2)));
+    let member = in_second(Context::Individual(IndId(0)));
+    Ok(
+        class_pair(&ontology, &below) == Some((ClassId(2), ClassId(3)))
+            && type_pair(&ontology, &below).is_none()
+            && type_pair(&ontology, &member) == Some((IndId(0), ClassId(3)))
+            && class_pair(&ontology, &member).is_none(),
+    )
+}
+
+#[test]
+fn facts_speak_of_named_classes(rt: HostRuntime) -> Result<(), Fail> {
+    assert!(rt; speak_of_named_classes(&rt)?);
     Ok(())
 }

@@ -57,6 +57,21 @@ fn each_form_is_given_back(rt: HostRuntime) -> Result<(), Fail> {
     Ok(())
 }
 
+/// Whether the list's forms of properties are the fifth, the sixth and the seventh.
+fn has_property_forms(list: &FormList) -> Result<bool, AllocError> {
+    let forms = list.property_forms()?;
+    Ok(forms.as_slice() == &FORMS[4..7])
+}
+
+#[test]
+fn forms_of_properties_in_order(rt: HostRuntime) -> Result<(), Fail> {
+    let list = FormList::of(rt.alloc(), FORMS)?;
+    let has = has_property_forms(&list);
+    drop(list);
+    assert!(rt; has?);
+    Ok(())
+}
+
 /// Whether a copy of the first four has a form more that it is pushed, and they have not.
 fn grows_alone(first: &FormList) -> Result<bool, AllocError> {
     let mut longer = first.copy()?;

@@ -43,3 +43,16 @@ fn forms_of_properties(rt: HostRuntime) -> Result<(), Fail> {
     }
     Ok(())
 }
+
+#[test]
+fn parts_of_classes_and_properties(rt: HostRuntime) -> Result<(), Fail> {
+    assert!(rt; CLASS.parts() == (false, 2));
+    assert!(rt; Class2::Partial(3).parts() == (true, 3));
+    assert!(rt; Class2::from_parts(false, 2) == CLASS);
+    assert!(rt; Class2::from_parts(true, 3) == Class2::Partial(3));
+    for property in ASCENDING {
+        let (is_partial, number) = property.parts();
+        assert!(rt; PropId2::from_parts(is_partial, number) == *property);
+    }
+    Ok(())
+}

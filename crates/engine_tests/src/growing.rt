@@ -1,10 +1,14 @@
 //! States that grow: whatever the list of work and the script, the facts at the end are those of one run over all forms.
+
+mod acts;
+
 ghost use Rattle.std.specs.Prelude.{◌≡◌, []};
 
 use crate::lists::{Refusing, Scripted};
 use crate::problems::{
     ALL_GO_ON, Born, ONE_ENDS, PROBLEMS, Problem, SUBCLASSES_IN_A_CIRCLE, TWO_SUBCLASSES,
 };
+use acts::{ALL, AT_ONCE, Act, SCRIPTS};
 use axioms::Memory;
 use facts::{FactId, Older, StoredFact};
 use normal_forms::{Form, FormList};
@@ -13,64 +17,6 @@ use std::alloc::Global;
 use std::hash::RandomState;
 use std::test::Fail;
 use work_list::{ByContext, Fifo, Lifo, WorkList};
-
-/// What is done to a state of a problem.
-#[derive(Clone, Copy)]
-enum Act {
-    /// Adds the next so many forms and contexts of the problem, or those that are left.
-    Extend(usize, usize),
-    /// Serves one fact.
-    Step,
-    /// Runs to the end.
-    Run,
-    /// Runs with one fact fewer than there are in the end.
-    Stop,
-    /// Looks whether so many facts are served.
-    Serves(usize),
-}
-
-/// All that a problem has.
-const ALL: Act = Act::Extend(100, 100);
-
-const AT_ONCE: &[Act] = &[ALL, Act::Stop, Act::Run];
-
-const SCRIPTS: &[&[Act]] = &[
-    AT_ONCE,
-    &[
-        Act::Extend(1, 1),
-        Act::Run,
-        Act::Extend(1, 1),
-        Act::Run,
-        Act::Extend(1, 1),
-        Act::Run,
-        Act::Extend(1, 1),
-        Act::Run,
-        Act::Extend(1, 1),
-        Act::Run,
-        Act::Extend(1, 1),
-        Act::Run,
-    ],
-    &[
-        Act::Extend(0, 3),
-        Act::Step,
-        Act::Step,
-        Act::Extend(2, 0),
-        Act::Step,
-        Act::Stop,
-        Act::Extend(1, 1),
-        Act::Run,
-    ],
-    &[
-        Act::Step,
-        Act::Extend(100, 1),
-        Act::Run,
-        Act::Extend(0, 2),
-        Act::Step,
-        Act::Extend(0, 0),
-        Act::Stop,
-    ],
-    &[Act::Extend(0, 100), Act::Run, Act::Extend(3, 0), Act::Run],
-];
 
 /// How much of a problem a state has by now, and how many calls were refused.
 #[derive(Drop)]

@@ -16,6 +16,8 @@ mod listed_facts;
 #[cfg(test)]
 mod lists;
 #[cfg(test)]
+mod numbered;
+#[cfg(test)]
 mod numbers;
 #[cfg(test)]
 mod ontologies;

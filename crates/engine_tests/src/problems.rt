@@ -1,64 +1,12 @@
 //! Worked problems, their facts counted by hand.
 
-use axioms::{ExprId, IndId, PropId};
+use crate::numbered::{
+    C0, C1, C2, C3, C4, C5, C6, C7, C8, EDGES_R, EDGES_S, EDGES_T, EDGES_U, IN0, IN1, IN2, IN3,
+    IN4, IN5, IN7, IND0, IND1, IND2, IND4, R, S, U,
+};
+use axioms::{ExprId, IndId};
 use facts::{Context, Fact};
-use normal_forms::{Class2, Form, PropId2};
-
-const R: PropId = PropId(0);
-
-const S: PropId = PropId(1);
-
-const T: PropId = PropId(2);
-
-const U: PropId = PropId(3);
-
-const EDGES_R: PropId2 = PropId2::Property(R);
-
-const EDGES_S: PropId2 = PropId2::Property(S);
-
-const EDGES_T: PropId2 = PropId2::Property(T);
-
-const EDGES_U: PropId2 = PropId2::Property(U);
-
-const C0: Class2 = Class2::Expr(ExprId(0));
-
-const C1: Class2 = Class2::Expr(ExprId(1));
-
-const C2: Class2 = Class2::Expr(ExprId(2));
-
-const C3: Class2 = Class2::Expr(ExprId(3));
-
-const C4: Class2 = Class2::Expr(ExprId(4));
-
-const C5: Class2 = Class2::Expr(ExprId(5));
-
-const C6: Class2 = Class2::Expr(ExprId(6));
-
-const C7: Class2 = Class2::Expr(ExprId(7));
-
-const C8: Class2 = Class2::Expr(ExprId(8));
-
-const IN0: Context = Context::Expr(ExprId(0));
-
-const IN1: Context = Context::Expr(ExprId(1));
-
-const IN2: Context = Context::Expr(ExprId(2));
-
-const IN3: Context = Context::Expr(ExprId(3));
-
-const IN4: Context = Context::Expr(ExprId(4));
-
-const IN5: Context = Context::Expr(ExprId(5));
-
-const IN7: Context = Context::Expr(ExprId(7));
-
-const IND0: Context = Context::Individual(IndId(0));
-
-const IND1: Context = Context::Individual(IndId(1));
-
-const IND2: Context = Context::Individual(IndId(2));
-
-const IND4: Context = Context::Individual(IndId(4));
+use normal_forms::Form;
 
 /// A fact, and by which condition and form two older ones gave it.
 #[derive(Drop)]

@@ -1,7 +1,7 @@
 //! Closures of a few properties, worked out by hand.
 
 use axioms::{Memory, PropId};
-use normal_forms::{Class2, Form, PropId2};
+use normal_forms::{Class2, Form, FormList, PropId2};
 use property_closure::{PropertyClosure, close};
 use std::alloc::Global;
 use std::test::Fail;
@@ -30,6 +30,17 @@ const ALL: &[PropId2] = &[R, S, T, U];
 
 const OTHERS: &[PropId2] = &[S, T, U];
 
+/// The closure of so many properties and prefixes of chains by these forms.
+fn closed(
+    alloc: Global,
+    properties: usize,
+    partials: usize,
+    forms: &[Form],
+) -> Result<PropertyClosure, Memory> {
+    let forms = FormList::of(alloc, forms)?;
+    close(alloc, properties, partials, &forms)
+}
+
 /// Whether r is below all, and each of the others below the others.
 fn is_circle(closure: &PropertyClosure) -> bool {
     closure.supers(R) == ALL
@@ -40,7 +51,7 @@ fn is_circle(closure: &PropertyClosure) -> bool {
 
 #[test]
 fn equivalences_in_a_circle(rt: HostRuntime) -> Result<(), Fail> {
-    let closure = close(rt.alloc(), 4, 0, CIRCLE)?;
+    let closure = closed(rt.alloc(), 4, 0, CIRCLE)?;
     let right = is_circle(&closure);
     drop(closure);
     assert!(rt; right);
@@ -65,7 +76,7 @@ fn is_hierarchy(closure: &PropertyClosure) -> bool {
 
 #[test]
 fn reflexivity_through_a_hierarchy(rt: HostRuntime) -> Result<(), Fail> {
-    let closure = close(rt.alloc(), 4, 0, HIERARCHY)?;
+    let closure = closed(rt.alloc(), 4, 0, HIERARCHY)?;
     let right = is_hierarchy(&closure);
     drop(closure);
     assert!(rt; right);
@@ -91,7 +102,7 @@ fn is_out_of_range(closure: &PropertyClosure, id: PropId2) -> bool {
 
 #[test]
 fn chain_of_three_and_what_is_out_of_range(rt: HostRuntime) -> Result<(), Fail> {
-    let closure = close(rt.alloc(), 4, 1, LONG_CHAIN)?;
+    let closure = closed(rt.alloc(), 4, 1, LONG_CHAIN)?;
     let chain = is_long_chain(&closure);
     let property = is_out_of_range(&closure, PropId2::Property(PropId(4)));
     let prefix = is_out_of_range(&closure, PropId2::Partial(1));
@@ -116,20 +127,32 @@ const ENDS: &[(PropId2, PropId2)] = &[(R, R), (S, U), (S, PREFIX), (T, U)];
 
 #[test]
 fn chains_ascend_and_none_stands_twice(rt: HostRuntime) -> Result<(), Fail> {
-    let closure = close(rt.alloc(), 4, 1, MANY_CHAINS)?;
+    let closure = closed(rt.alloc(), 4, 1, MANY_CHAINS)?;
     let right = closure.chains_from(R) == ENDS;
     drop(closure);
     assert!(rt; right);
     Ok(())
 }
 
+/// The closure with that form too, of so many properties and prefixes of chains.
+fn grown_by(
+    alloc: Global,
+    mut closure: PropertyClosure,
+    properties: usize,
+    partials: usize,
+    form: Form,
+) -> Result<PropertyClosure, Memory> {
+    let forms = FormList::of(alloc, &[form])?;
+    closure.grow(properties, partials, &forms)?;
+    Ok(closure)
+}
+
 /// The closure of r alone, grown by s and `SubObjectPropertyOf(r s)`, and then by t, u and forms that are not of properties.
 fn grown(alloc: Global) -> Result<PropertyClosure, Memory> {
-    let mut closure = close(alloc, 1, 0, &[Form::N7(PropId(0))])?;
-    closure.grow(2, 0, &[Form::N5(PropId(0), PropId(1))])?;
+    let closure = closed(alloc, 1, 0, &[Form::N7(PropId(0))])?;
+    let closure = grown_by(alloc, closure, 2, 0, Form::N5(PropId(0), PropId(1)))?;
     let thing = Class2::Partial(0);
-    closure.grow(4, 1, &[Form::N1(thing, thing)])?;
-    Ok(closure)
+    grown_by(alloc, closure, 4, 1, Form::N1(thing, thing))
 }
 
 /// Whether s is above r and reflexive, and u and the prefix are only above themselves.

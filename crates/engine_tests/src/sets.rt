@@ -1,7 +1,7 @@
 //! Sets and lists of a few numbers, worked out by hand.
-ghost use Rattle.std.specs.Prelude.{◌≡◌, IfOk, length};
+ghost use Rattle.std.specs.Prelude.{◌<◌, ◌≡◌, ◌∷◌, [], IfOk, OnOk, length};
 
-use number_sets::{EpochSet, OpenLists, PackedLists, sort_ascending, turned};
+use number_sets::{EpochSet, NumberSearch, OpenLists, PackedLists, sort_ascending, turned};
 use std::alloc::{AllocError, Global};
 use std::test::Fail;
 
@@ -203,5 +203,45 @@ fn sorting_leaves_equal_numbers_once(rt: HostRuntime) -> Result<(), Fail> {
     let is_sorted = is_sorted_to(&mut list, &[1, 2, 3]);
     drop(list);
     assert!(rt; is_sorted);
+    Ok(())
+}
+
+/// The lists of a circle of three numbers.
+fn circle(alloc: Global) -> Result<PackedLists, AllocError>
+    ensures { IfOk result (λ l. l ≡ (1 ∷ []) ∷ (2 ∷ []) ∷ (0 ∷ []) ∷ []) }
+{
+    let mut lists = PackedLists::new(alloc);
+    lists.push_list(&[1])?;
+    lists.push_list(&[2])?;
+    lists.push_list(&[0])?;
+    Ok(lists)
+}
+
+/// Whether the search around the circle finds these numbers, in this order.
+fn finds(
+    search: &mut NumberSearch<u32>,
+    lists: &PackedLists,
+    start: u32,
+    numbers: &[u32],
+) -> Result<bool, AllocError>
+    requires circle { lists.now ≡ (1 ∷ []) ∷ (2 ∷ []) ∷ (0 ∷ []) ∷ [] }
+    requires start { start < 3 }
+    requires wide { length search.old.seen ≡ 3 }
+    ensures wide { OnOk result (length search.new.seen ≡ 3) }
+{
+    search.run(lists, &[start])?;
+    Ok(search.found.as_slice() == numbers)
+}
+
+/// Whether one search after another goes all around the circle.
+fn goes_around(alloc: Global) -> Result<bool, AllocError> {
+    let lists = circle(alloc)?;
+    let mut search = NumberSearch::new(alloc, 3)?;
+    Ok(finds(&mut search, &lists, 0, &[0, 1, 2])? && finds(&mut search, &lists, 2, &[2, 0, 1])?)
+}
+
+#[test]
+fn search_around_a_circle(rt: HostRuntime) -> Result<(), Fail> {
+    assert!(rt; goes_around(rt.alloc())?);
     Ok(())
 }

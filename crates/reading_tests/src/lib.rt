@@ -2,6 +2,8 @@
 #![tactic(auto)]
 
 #[cfg(test)]
+mod deep_documents;
+#[cfg(test)]
 mod documents;
 #[cfg(test)]
 mod faults;
@@ -23,3 +25,5 @@ mod sources;
 mod stream;
 #[cfg(test)]
 mod tables;
+#[cfg(test)]
+mod tree_texts;

@@ -1,80 +1,11 @@
 //! Texts and the trees of the documents that they are.
 
-use fs_lexer::{LexFault, Token, tokens};
-use fs_parser::{Document, Iri, ParseFault, Tree, forms, tokens_are_one_document};
+use crate::deep_documents::deep;
+use crate::tree_texts::is_shown;
+use fs_lexer::tokens;
+use fs_parser::{Document, Iri, ParseFault, forms, tokens_are_one_document};
 use std::alloc::{AllocError, Global};
 use std::test::Fail;
-
-/// What the text is as a document: the trees, each with a space behind it, or the fault.
-fn shown(alloc: Global, text: &str) -> Result<String, AllocError> {
-    match tokens(alloc, text) {
-        Ok(tokens) => shown_forms(alloc, tokens.as_slice()),
-        Err(fault) => format!(in alloc; "{fault}"),
-    }
-}
-
-fn shown_forms(alloc: Global, tokens: &[Token<'_>]) -> Result<String, AllocError> {
-    match forms(alloc, tokens) {
-        Ok(document) => {
-            let mut out = String::new(alloc);
-            for tree in &document.trees {
-                push_tree(alloc, &mut out, tree)?;
-            }
-            Ok(out)
-        }
-        Err(fault) => format!(in alloc; "{fault}"),
-    }
-}
-
-fn push_name(alloc: Global, out: &mut String, iri: &Iri<'_>) -> Result<(), AllocError> {
-    let text = iri.text(alloc)?;
-    out.push_str("<")?;
-    out.push_str(text.as_str())?;
-    out.push_str(">")
-}
-
-pub(crate) fn push_tree(
-    alloc: Global,
-    out: &mut String,
-    tree: &Tree<'_>,
-) -> Result<(), AllocError> {
-    match tree {
-        Tree::Name { iri, .. } => push_name(alloc, out, iri)?,
-        Tree::PlainLiteral { text, .. } => out.push_str(text)?,
-        Tree::TaggedLiteral { text, tag, .. } => {
-            out.push_str(text)?;
-            out.push_str(tag)?;
-        }
-        Tree::TypedLiteral { text, datatype, .. } => {
-            out.push_str(text)?;
-            out.push_str("^^")?;
-            push_name(alloc, out, datatype)?;
-        }
-        Tree::Anonymous { label, .. } => out.push_str(label)?,
-        Tree::Number { digits, .. } => out.push_str(digits)?,
-        Tree::Group { trees, .. } => {
-            out.push_str("(")?;
-            for inner in trees {
-                push_tree(alloc, out, inner)?;
-            }
-            out.push_str(")")?;
-        }
-        Tree::Form { keyword, trees, .. } => {
-            out.push_str(keyword)?;
-            out.push_str("(")?;
-            for inner in trees {
-                push_tree(alloc, out, inner)?;
-            }
-            out.push_str(")")?;
-        }
-    }
-    out.push_str(" ")
-}
-
-fn is_shown(alloc: Global, text: &str, expected: &str) -> Result<bool, AllocError> {
-    let found = shown(alloc, text)?;
-    Ok(found.as_str() == expected)
-}
 
 /// Documents, each with its name and what it is.
 const ROWS: &[(&str, &str, &str)] = &[
@@ -371,24 +302,9 @@ fn cut_documents(rt: HostRuntime) -> Result<(), Fail> {
     Ok(())
 }
 
-/// A chain of so many class expressions, each inside of the one before it, in a document that begins so.
-fn deep(alloc: Global, front: &str, levels: usize) -> Result<String, AllocError> {
-    let mut text = String::from_str(alloc, front)?;
-    text.push_str("Ontology(SubClassOf(<x:A> ")?;
-    for _ in 0..levels {
-        text.push_str("ObjectSomeValuesFrom(<x:r> ")?;
-    }
-    text.push_str("<x:B>")?;
-    for _ in 0..levels {
-        text.push_str(")")?;
-    }
-    text.push_str("))")?;
-    Ok(text)
-}
-
 /// Whether a document with 63 levels is read.
 fn is_deepest_read(alloc: Global) -> Result<bool, AllocError> {
-    let text = deep(alloc, "", 63)?;
+    let text = deep(alloc, "", 63, "<x:B>")?;
     match tokens(alloc, text.as_str()) {
         Ok(tokens) => Ok(forms(alloc, tokens.as_slice()).is_ok()),
         Err(_) => Ok(false),
@@ -397,7 +313,7 @@ fn is_deepest_read(alloc: Global) -> Result<bool, AllocError> {
 
 /// Whether one with 64 that begins so is that.
 fn is_deeper(alloc: Global, front: &str, expected: &str) -> Result<bool, AllocError> {
-    let text = deep(alloc, front, 64)?;
+    let text = deep(alloc, front, 64, "<x:B>")?;
     is_shown(alloc, text.as_str(), expected)
 }
 

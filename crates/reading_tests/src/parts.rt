@@ -1,6 +1,6 @@
 //! Statements and expressions by the prefixes of a document.
 
-use crate::parser::push_tree;
+use crate::tree_texts::push_tree;
 use fs_lexer::{Token, tokens};
 use fs_parser::{ParseFault, Prefixes, expression, forms, statements, tokens_are_one_document};
 use std::alloc::{AllocError, Global};

@@ -1,6 +1,6 @@
 //! Documents that are read token by token, and trees one by one.
 
-use crate::parser::push_tree;
+use crate::tree_texts::push_tree;
 use fs_lexer::{next_token, only_separators};
 use fs_parser::{Stopped, TreeReader, streamed_forms};
 use std::alloc::{AllocError, Global};

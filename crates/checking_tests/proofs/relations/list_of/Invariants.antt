@@ -1,5 +1,5 @@
 use Rattle.std.proofs.Common.{◌<◌, All}
-use Rattle.checking_tests.proofs.taxonomies.list_of.Given as goal
+use Rattle.checking_tests.proofs.relations.list_of.Given as goal
 
 abbrev pub invariant-loop-first : goal.invariant-loop-first
 invariant-loop-first l = All (λ d. d < l.n) l.list.items

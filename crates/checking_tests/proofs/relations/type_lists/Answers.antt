@@ -5,7 +5,7 @@ use Rattle.std.proofs.lemmas.Bool.{eqb-true, false≢true, or_cases}
 use Rattle.std.proofs.lemmas.List.{length-append}
 use Rattle.std.proofs.lemmas.List.Elements.{All-head, All-tail}
 use Rattle.taxonomy.specs.Relation.{is_listed}
-use Rattle.checking_tests.proofs.taxonomies.type_lists.Goals as goal
+use Rattle.checking_tests.proofs.relations.type_lists.Goals as goal
 
 among_all : (n : ℕ) (xs : List ℕ) (d : ℕ) → All (λ k. k < n) xs → list_any (λ x. x == d) xs ≡ true → d < n
 among_all n [] d all e = absurd (false≢true e)

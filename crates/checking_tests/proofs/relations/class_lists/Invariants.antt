@@ -1,5 +1,5 @@
 use Rattle.std.proofs.Common.{◌≡◌, length}
-use Rattle.checking_tests.proofs.taxonomies.class_lists.Given as goal
+use Rattle.checking_tests.proofs.relations.class_lists.Given as goal
 
 abbrev pub invariant-loop-c : goal.invariant-loop-c
 invariant-loop-c l = length l.lists ≡ l.c

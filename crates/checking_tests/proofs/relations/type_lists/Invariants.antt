@@ -1,6 +1,6 @@
 use Rattle.std.proofs.Common.{◌≡◌, ◌<◌, ℕ, true, length}
 use Rattle.taxonomy.specs.Relation.{is_listed}
-use Rattle.checking_tests.proofs.taxonomies.type_lists.Given as goal
+use Rattle.checking_tests.proofs.relations.type_lists.Given as goal
 
 abbrev pub invariant-loop-a : goal.invariant-loop-a
 invariant-loop-a l = record {

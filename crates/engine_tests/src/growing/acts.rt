@@ -1,0 +1,59 @@
+//! Scripts of what is done to a state.
+
+/// What is done to a state of a problem.
+#[derive(Clone, Copy)]
+pub(super) enum Act {
+    /// Adds the next so many forms and contexts of the problem, or those that are left.
+    Extend(usize, usize),
+    /// Serves one fact.
+    Step,
+    /// Runs to the end.
+    Run,
+    /// Runs with one fact fewer than there are in the end.
+    Stop,
+    /// Looks whether so many facts are served.
+    Serves(usize),
+}
+
+/// All that a problem has.
+pub(super) const ALL: Act = Act::Extend(100, 100);
+
+pub(super) const AT_ONCE: &[Act] = &[ALL, Act::Stop, Act::Run];
+
+pub(super) const SCRIPTS: &[&[Act]] = &[
+    AT_ONCE,
+    &[
+        Act::Extend(1, 1),
+        Act::Run,
+        Act::Extend(1, 1),
+        Act::Run,
+        Act::Extend(1, 1),
+        Act::Run,
+        Act::Extend(1, 1),
+        Act::Run,
+        Act::Extend(1, 1),
+        Act::Run,
+        Act::Extend(1, 1),
+        Act::Run,
+    ],
+    &[
+        Act::Extend(0, 3),
+        Act::Step,
+        Act::Step,
+        Act::Extend(2, 0),
+        Act::Step,
+        Act::Stop,
+        Act::Extend(1, 1),
+        Act::Run,
+    ],
+    &[
+        Act::Step,
+        Act::Extend(100, 1),
+        Act::Run,
+        Act::Extend(0, 2),
+        Act::Step,
+        Act::Extend(0, 0),
+        Act::Stop,
+    ],
+    &[Act::Extend(0, 100), Act::Run, Act::Extend(3, 0), Act::Run],
+];
