@@ -1,4 +1,7 @@
 //! Closures of a few properties, worked out by hand.
+ghost use Rattle.normal_forms.specs.Properties.{IsPropertyFormOf};
+ghost use Rattle.std.specs.List.{All};
+ghost use Rattle.std.specs.Prelude.{◌≡◌, ◌≤◌, ◌^◌, IfOk, OnOk};
 
 use axioms::{Memory, PropId};
 use normal_forms::{Class2, Form, FormList, PropId2};
@@ -36,7 +39,13 @@ fn closed(
     properties: usize,
     partials: usize,
     forms: &[Form],
-) -> Result<PropertyClosure, Memory> {
+) -> Result<PropertyClosure, Memory>
+    requires property_numbers { properties ≤ 2 ^ 32 }
+    requires partial_numbers { partials ≤ 2 ^ 32 }
+    requires forms { All (IsPropertyFormOf properties partials) forms.now }
+    ensures properties { IfOk result (λ c. c.properties ≡ properties) }
+    ensures partials { IfOk result (λ c. c.partials ≡ partials) }
+{
     let forms = FormList::of(alloc, forms)?;
     close(alloc, properties, partials, &forms)
 }
@@ -134,25 +143,33 @@ fn chains_ascend_and_none_stands_twice(rt: HostRuntime) -> Result<(), Fail> {
     Ok(())
 }
 
-/// The closure with that form too, of so many properties and prefixes of chains.
-fn grown_by(
+/// Grows the closure by these forms, to so many properties and prefixes of chains.
+fn grow_by(
     alloc: Global,
-    mut closure: PropertyClosure,
+    closure: &mut PropertyClosure,
     properties: usize,
     partials: usize,
-    form: Form,
-) -> Result<PropertyClosure, Memory> {
-    let forms = FormList::of(alloc, &[form])?;
-    closure.grow(properties, partials, &forms)?;
-    Ok(closure)
+    forms: &[Form],
+) -> Result<(), Memory>
+    requires properties { closure.old.properties ≤ properties }
+    requires partials { closure.old.partials ≤ partials }
+    requires property_numbers { properties ≤ 2 ^ 32 }
+    requires partial_numbers { partials ≤ 2 ^ 32 }
+    requires forms { All (IsPropertyFormOf properties partials) forms.now }
+    ensures properties { OnOk result (closure.new.properties ≡ properties) }
+    ensures partials { OnOk result (closure.new.partials ≡ partials) }
+{
+    let forms = FormList::of(alloc, forms)?;
+    closure.grow(properties, partials, &forms)
 }
 
 /// The closure of r alone, grown by s and `SubObjectPropertyOf(r s)`, and then by t, u and forms that are not of properties.
 fn grown(alloc: Global) -> Result<PropertyClosure, Memory> {
-    let closure = closed(alloc, 1, 0, &[Form::N7(PropId(0))])?;
-    let closure = grown_by(alloc, closure, 2, 0, Form::N5(PropId(0), PropId(1)))?;
+    let mut closure = closed(alloc, 1, 0, &[Form::N7(PropId(0))])?;
+    grow_by(alloc, &mut closure, 2, 0, &[Form::N5(PropId(0), PropId(1))])?;
     let thing = Class2::Partial(0);
-    grown_by(alloc, closure, 4, 1, Form::N1(thing, thing))
+    grow_by(alloc, &mut closure, 4, 1, &[Form::N1(thing, thing)])?;
+    Ok(closure)
 }
 
 /// Whether s is above r and reflexive, and u and the prefix are only above themselves.

@@ -7,7 +7,7 @@ use Rattle.explain.specs.LinesOfFacts.{AreShowing}
 use Rattle.facts.specs.declared.contexts.Fact.{Fact}
 use Rattle.facts.specs.declared.contexts.Fact.TheVariants.{In, Edge}
 use Rattle.normal_forms.specs.declared.forms.Form.{Form}
-use Rattle.normal_forms.specs.declared.forms.Form.TheVariants.{N1, N2, N3, N4, N5, N6, N7, N8, N9}
+use Rattle.normal_forms.specs.declared.forms.Form.TheVariants.{N4, N6}
 use Rattle.normal_forms.specs.declared.forms.PropId2.{PropId2}
 use Rattle.normal_forms.specs.declared.forms.PropId2.TheVariants.{Property}
 use Rattle.normal_forms.specs.Properties.{IsAtOrBelow}
@@ -15,26 +15,13 @@ use Rattle.normalise.specs.Problem.{prefixes_of}
 
 -- the property that the form names for the first fact that it takes, and for the second, where that is an edge
 abbrev pub first_property : Form → Option PropId2
-first_property (N1 _ _) = None
-first_property (N2 _ _ _) = None
-first_property (N3 _ _ _) = None
 first_property (N4 r _ _) = Some (Property r)
-first_property (N5 _ _) = None
 first_property (N6 r _ _) = Some r
-first_property (N7 _) = None
-first_property (N8 _ _) = None
-first_property (N9 _ _ _) = None
+first_property _ = None
 
 abbrev pub second_property : Form → Option PropId2
-second_property (N1 _ _) = None
-second_property (N2 _ _ _) = None
-second_property (N3 _ _ _) = None
-second_property (N4 _ _ _) = None
-second_property (N5 _ _) = None
 second_property (N6 _ s _) = Some s
-second_property (N7 _) = None
-second_property (N8 _ _) = None
-second_property (N9 _ _ _) = None
+second_property _ = None
 
 -- an edge between the same contexts by that property
 abbrev pub lifted_to : Option PropId2 → Fact → Fact
