@@ -60,6 +60,62 @@ impl<S: Sink + Drop> Sink for FailingSink<S> {
     }
 }
 
+/// A sink of a file in memory that takes one byte a write, and fails after some writes.
+#[derive(Drop)]
+pub(super) struct FailingFileSink {
+    inner: MemorySink,
+    writes: usize,
+    failures: u64,
+}
+
+impl Sink for FailingFileSink {
+    ghost taken = { λ s. ⟦<MemorySink as Sink>⟧.taken s.inner };
+
+    ghost failures = { λ s. s.failures };
+
+    ghost path = { λ s. ⟦<MemorySink as Sink>⟧.path s.inner };
+
+    fn write(&mut self, piece: &[u8]) -> Result<usize, Failed> {
+        let n = piece.len().min(1);
+        if self.writes > 0 {
+            if let Ok(n) = self.inner.write(&piece[..n]) {
+                self.writes -= 1;
+                return Ok(n);
+            }
+        }
+        self.failures = self.failures.saturating_add(1);
+        Err(Failed)
+    }
+}
+
+/// A source of a file in memory that gives at most seven bytes a read, and fails after some reads.
+#[derive(Drop)]
+pub(super) struct FailingFileSource {
+    inner: MemorySource,
+    reads: usize,
+    failures: u64,
+}
+
+impl Source for FailingFileSource {
+    ghost left = { λ s. ⟦<MemorySource as Source>⟧.left s.inner };
+
+    ghost failures = { λ s. s.failures };
+
+    ghost most = { λ s. ⟦<MemorySource as Source>⟧.most s.inner };
+
+    fn read(&mut self, buffer: &mut [u8]) -> Result<usize, Failed> {
+        let n = buffer.len().min(7);
+        if self.reads > 0 {
+            if let Ok(n) = self.inner.read(&mut buffer[..n]) {
+                self.reads -= 1;
+                return Ok(n);
+            }
+        }
+        self.failures = self.failures.saturating_add(1);
+        Err(Failed)
+    }
+}
+
 /// Files in memory, of which that at the path fails after some calls.
 #[derive(Drop)]
 pub(super) struct FailingFiles {
@@ -84,9 +140,9 @@ impl Files for FailingFiles {
     ghost use Rattle.std.specs.Prelude.{false, true};
     ghost use Rattle.system_files.specs.Contents.{not_false, not_true};
 
-    type In = FailingSource<MemorySource>;
+    type In = FailingFileSource;
 
-    type Out = FailingSink<MemorySink>;
+    type Out = FailingFileSink;
 
     ghost is_known = { λ f. ⟦<MemoryFiles as Files>⟧.is_known f.inner };
 
@@ -109,7 +165,7 @@ impl Files for FailingFiles {
     fn reader(&self, path: &str) -> Result<Self::In, OpenFault> {
         let reads = self.calls_of(path);
         match self.inner.reader(path) {
-            Ok(inner) => Ok(FailingSource {
+            Ok(inner) => Ok(FailingFileSource {
                 inner,
                 reads,
                 failures: 0,
@@ -120,7 +176,7 @@ impl Files for FailingFiles {
 
     fn writer(&mut self, path: &str) -> Result<Self::Out, Memory> {
         let writes = self.calls_of(path);
-        Ok(FailingSink {
+        Ok(FailingFileSink {
             inner: self.inner.writer(path)?,
             writes,
             failures: 0,
@@ -128,7 +184,7 @@ impl Files for FailingFiles {
     }
 
     fn close(&mut self, sink: Self::Out) {
-        let FailingSink {
+        let FailingFileSink {
             inner,
             failures,
             ..
