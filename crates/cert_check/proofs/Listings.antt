@@ -7,6 +7,7 @@ use Rattle.axioms.specs.WellFormedness.{IsOntology}
 use Rattle.axioms.proofs.Trees.{one_class}
 use Rattle.interpretation_spec.specs.Interpretation.{Interpretation, IsInterpretation}
 use Rattle.interpretation_spec.specs.Agreement.{AgreeOn}
+use Rattle.interpretation_spec.proofs.Agreement.{agreeing}
 use Rattle.certificate.specs.Certificate.{Listed}
 use Rattle.certificate.specs.Writability.{IsListedOf}
 use Rattle.listed_model.specs.Listing.{IsListing}
@@ -34,17 +35,16 @@ module _ (o : Ontology) (w : IsOntology o) (l : Listed) (i j : Interpretation) (
       (p.classes c (suc (suc e)) x g (omega arith) h) (q.classes c (suc (suc e)) x g (omega arith) (in_second x h))
 
   agree : IsListedOf o l → AgreeOn o i j
-  agree fits = record {
-    size = same_size;
-    classes = λ c x lc h. (let (e, g) = w.class_nodes c lc in same_class c e x g h);
-    pairs = λ r x y lr lx ly.
-        same_answer (i.property (name_at o.names.properties r) x y) (j.property (name_at o.names.properties r) x y) _
-        (p.pairs r x y lr lx ly) (q.pairs r x y lr (in_second x lx) (in_second y ly));
-    individuals = λ a la.
-        let x = get_or l.individuals a 0 in
-        let g : slice_get l.individuals a ≡ Some x = slice_get-get_or l.individuals a 0 (rw fits.individuals_each la) in
-        p.individuals a x g ∙ sym (q.individuals a x g);
-  }
+  agree fits =
+      agreeing o i j same_size
+      (λ c x lc h. (let (e, g) = w.class_nodes c lc in same_class c e x g h))
+      (λ r x y lr lx ly.
+      same_answer (i.property (name_at o.names.properties r) x y) (j.property (name_at o.names.properties r) x y) _
+      (p.pairs r x y lr lx ly) (q.pairs r x y lr (in_second x lx) (in_second y ly)))
+      (λ a la.
+      let x = get_or l.individuals a 0 in
+      let g : slice_get l.individuals a ≡ Some x = slice_get-get_or l.individuals a 0 (rw fits.individuals_each la) in
+      p.individuals a x g ∙ sym (q.individuals a x g))
 
 -- a list of members stands for one interpretation
 pub listings_agree : (o : Ontology) → IsOntology o → (listed : Listed) → IsListedOf o listed → (i j : Interpretation) → IsListing o listed i → IsListing o listed j → IsInterpretation i → IsInterpretation j → AgreeOn o i j

@@ -9,6 +9,7 @@ use Rattle.axioms.specs.WellFormedness.{IsOntology}
 use Rattle.std.specs.Cmp.{both_ways as same_tests}
 use Rattle.interpretation_spec.specs.Interpretation.{Interpretation}
 use Rattle.interpretation_spec.specs.Agreement.{AgreeOn}
+use Rattle.interpretation_spec.proofs.Agreement.{agreeing}
 use Rattle.normal_forms.specs.Forms.{Whole, Property}
 use Rattle.closure.specs.Closure.{Context, Expression, Individual, In, IsRoot, IsFact}
 use Rattle.closure.proofs.Facts as fact
@@ -202,24 +203,23 @@ elements_determined o asked xs ys i j p q = contexts_determined o asked xs ys p.
 
 pub listed_determined : (o : Ontology) (asked : List ℕ) (elements : List Context) (i j : Interpretation) → IsOntology o → IsConsistent o asked
     → IsListedInterpretation o asked elements i → IsListedInterpretation o asked elements j → AgreeOn o i j
-listed_determined o asked elements i j wf consistent p q = record {
-  size = p.size ∙ sym q.size;
-  classes = λ c m l h.
-      let (e, node) = wf.class_nodes c l in
-      let (x, at) = element m h in
-      let a = p.classes c e m x node at in
-      let b = q.classes c e m x node at in
-      same_tests (i.class (name_at o.names.classes c) m) (j.class (name_at o.names.classes c) m) (λ t. b.1 (a.0 t)) (λ t. a.1 (b.0 t));
-  pairs = λ r m n l h k.
-      let (x, at_m) = element m h in
-      let (y, at_n) = element n k in
-      let a = p.pairs r m n x y l at_m at_n in
-      let b = q.pairs r m n x y l at_m at_n in
-      same_tests (i.property (property_name o r) m n) (j.property (property_name o r) m n) (λ t. b.1 (a.0 t)) (λ t. a.1 (b.0 t));
-  individuals = λ a l.
-      let (m, at) = p.contexts.listed (Individual a) (record { context = fact.root (IsRoot.individual a l); without_nothing = consistent.individuals a l }) in
-      p.individuals a m l at ∙ sym (q.individuals a m l at);
-}
+listed_determined o asked elements i j wf consistent p q =
+    agreeing o i j (p.size ∙ sym q.size)
+    (λ c m l h.
+    let (e, node) = wf.class_nodes c l in
+    let (x, at) = element m h in
+    let a = p.classes c e m x node at in
+    let b = q.classes c e m x node at in
+    same_tests (i.class (name_at o.names.classes c) m) (j.class (name_at o.names.classes c) m) (λ t. b.1 (a.0 t)) (λ t. a.1 (b.0 t)))
+    (λ r m n l h k.
+    let (x, at_m) = element m h in
+    let (y, at_n) = element n k in
+    let a = p.pairs r m n x y l at_m at_n in
+    let b = q.pairs r m n x y l at_m at_n in
+    same_tests (i.property (name_at o.names.properties r) m n) (j.property (name_at o.names.properties r) m n) (λ t. b.1 (a.0 t)) (λ t. a.1 (b.0 t)))
+    (λ a l.
+    let (m, at) = p.contexts.listed (Individual a) (record { context = fact.root (IsRoot.individual a l); without_nothing = consistent.individuals a l }) in
+    p.individuals a m l at ∙ sym (q.individuals a m l at))
   where
     element : (m : ℕ) → m < i.size → (x : Context) × (slice_get elements m ≡ Some x)
     element m h = (get_or elements m (Expression thing), slice_get-get_or elements m (Expression thing) (rw (← p.size) h))

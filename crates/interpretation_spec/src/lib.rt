@@ -11,4 +11,4 @@ mod theory;
 pub use fault::InterpretationFault;
 pub use interpretation::Interpretation;
 pub use number_sets::Row;
-pub use theory::extensions_and_names;
+pub use theory::{extensions_and_names, folded_interpretations};
