@@ -1,0 +1,10 @@
+//! What narrowing keeps.
+ghost use Rattle.narrowing.specs.Narrowed.{NarrowedIsFolded, NarrowedIsListed, NarrowedIsNarrow};
+
+/// What a listed interpretation lists is folded onto what the narrowed one lists, which names what is there in the order of the
+/// text and has at most one element more than stand in lines.
+pub fn narrowed_interpretations()
+    ensures folded { NarrowedIsFolded }
+    ensures listed { NarrowedIsListed }
+    ensures narrow { NarrowedIsNarrow }
+{}
