@@ -17,6 +17,7 @@ pub mod Decisions
 pub mod Headline
 pub mod Determined
 pub mod Listings
+pub mod SameReasons
 pub mod Exactness
 pub mod OneSubclass
 pub mod Contradiction

@@ -8,5 +8,6 @@ pub mod Lists
 pub mod Verdict
 pub mod Tests
 pub mod Acceptance
+pub mod NarrowedListings
 pub mod Soundness
 pub mod Examples

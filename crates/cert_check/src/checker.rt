@@ -22,6 +22,7 @@ use crate::verdict::{Reason, Verdict};
 use axioms::{Memory, Ontology};
 use certificate::{CertFault, Listed};
 use listed_model::first_unsatisfied;
+use narrowing::narrowed;
 use number_sets::{EpochSet, PackedLists};
 use std::alloc::Global;
 use taxonomy::{Outcome, Relation, instances_bytes, reduce, taxonomy_bytes};
@@ -118,13 +119,31 @@ fn against(
 {
     let TestedCertificate { lines, listed } = read;
     match listed {
-        Some(listed) => against_consistent(alloc, ontology, taxonomy, instances, lines, &listed),
+        Some(listed) => against_consistent(alloc, ontology, taxonomy, instances, lines, listed),
         None => against_contradiction(alloc, ontology, taxonomy, instances, lines.is_contradictory),
     }
 }
 
-// What speaks against a certificate with a listed interpretation whose lines are a derivation.
+// What speaks against a certificate with a listed interpretation whose lines are a derivation, by the narrowed one.
 fn against_consistent(
+    alloc: Global,
+    ontology: &Ontology,
+    taxonomy: &[u8],
+    instances: &[u8],
+    lines: ShownLines,
+    listed: Listed,
+) -> Result<Option<Reason>, Memory>
+    requires derived { HasDerivation ontology.now lines.is_contradictory lines.above lines.types }
+    requires listed { IsListedOf ontology.now (listed_of listed) }
+    ensures { IfOk result (ConsistentAgainstShown ontology.now taxonomy.now instances.now lines.above lines.types (listed_of listed)) }
+{
+    ontology.well_formed();
+    let narrow = narrowed(alloc, listed)?;
+    against_listed(alloc, ontology, taxonomy, instances, lines, &narrow)
+}
+
+// The same, by the interpretation that is listed here.
+fn against_listed(
     alloc: Global,
     ontology: &Ontology,
     taxonomy: &[u8],

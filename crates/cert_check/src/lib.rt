@@ -19,5 +19,6 @@ pub use certificate::{
 };
 pub use checker::{check, check_owned};
 pub use listing::interpretation_of;
-pub use theory::{soundness, worked_certificates};
+pub use narrowing::narrow;
+pub use theory::{narrowed_listings, soundness, worked_certificates};
 pub use verdict::{Reason, Verdict};

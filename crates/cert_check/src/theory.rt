@@ -1,5 +1,6 @@
 //! What an acceptable certificate means.
 ghost use Rattle.cert_check.specs.Examples.{ContradictionIsAccepted, OneSubclassIsAccepted};
+ghost use Rattle.cert_check.specs.NarrowedListings.{NarrowedAgreesSame, NarrowedClaimsSame, NarrowedReasonsAreSame};
 ghost use Rattle.cert_check.specs.Soundness.{AcceptableSays, LinesAreTrue, ListingsAgree, RulesKeepTruth, TextsAreDetermined};
 
 /// Rules keep truth, each line of a derivation is true wherever the axioms hold, acceptable texts are those of what
@@ -16,4 +17,12 @@ pub fn soundness()
 pub fn worked_certificates()
     ensures one_subclass { OneSubclassIsAccepted }
     ensures contradiction { ContradictionIsAccepted }
+{}
+
+/// The elements of a narrowed listing agree with the same lines as those that come to them, its claims hold together with the
+/// claims that they come from, and the same speaks against a certificate with either listing.
+pub fn narrowed_listings()
+    ensures agree { NarrowedAgreesSame }
+    ensures claims { NarrowedClaimsSame }
+    ensures reasons { NarrowedReasonsAreSame }
 {}
