@@ -1,5 +1,6 @@
 //! Verdicts on small certificates that were worked out by hand: right ones, cut ones and ones that were changed.
 
+mod domains;
 mod lines;
 mod models;
 mod one_subclass;
@@ -10,7 +11,9 @@ mod rules;
 
 use crate::documents::ontology_of;
 use axioms::{ClassId, Ontology};
-use cert_check::{Reason, Verdict, check, check_owned, soundness, worked_certificates};
+use cert_check::{
+    Reason, Verdict, check, check_owned, narrowed_listings, soundness, worked_certificates,
+};
 use ontologies::{ONE_MEMBER_DOCUMENT, ONE_SUBCLASS_DOCUMENT};
 use std::alloc::{AllocError, Global};
 use std::process::Abort;
@@ -181,4 +184,5 @@ fn claim_missing(class: u32) -> Verdict {
 fn laws() {
     soundness();
     worked_certificates();
+    narrowed_listings();
 }

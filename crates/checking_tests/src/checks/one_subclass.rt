@@ -64,6 +64,7 @@ const FORGED_CERTIFICATES_OF_ONE_SUBCLASS: &[Change] = &[
         Some(Reason::BadText { at: 72 }),
     ),
     ("K4 a1 3", "K4 a2 3", Some(Reason::BadText { at: 72 })),
+    ("domain 3", "domain 4294967295", None),
     (
         "domain 3",
         "domain 4294967296",
