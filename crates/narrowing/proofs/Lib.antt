@@ -1,6 +1,8 @@
 pub mod Climbing
+pub mod Each
 pub mod Folded
 pub mod Keeping
+pub mod Marking
 pub mod Ordered
 pub mod Placed
 pub mod Standing

@@ -1,9 +1,8 @@
 -- Places of numbers in ascending lists.
-use Rattle.std.proofs.Common.{◌≡◌, ◌≢◌, ℕ, zero, suc, ◌+◌, ◌-◌, ◌<◌, ◌≤◌, List, [], ◌∷◌, length, get_or, All, AllPairs, Ok, Err, refl, sym, ap, ◌∙◌, subst, arith, inl, inr}
+use Rattle.std.proofs.Common.{◌≡◌, ◌≢◌, ℕ, zero, suc, ◌<◌, List, [], ◌∷◌, length, get_or, AllPairs, Ok, Err, refl, sym, ap, ◌∙◌, arith, inl, inr}
 use Rattle.std.specs.List.Sorted.{IsBinarySearchResult}
 use Rattle.std.specs.Ordering.{nat_cmp}
 use Rattle.std.proofs.lemmas.Bool.{cases_lt, eq-eqb, ne_eqb}
-use Rattle.std.proofs.lemmas.List.{get_or_default}
 use Rattle.std.proofs.lemmas.List.Sorted.{searched}
 use Rattle.lemmas.proofs.Pairs.{AllPairs-head, AllPairs-tail}
 use Rattle.interpretation_spec.proofs.Ascending.{no_descent}
@@ -38,33 +37,3 @@ place_not_found xs x i up found =
       | inl b ↦ (let m = below k b in omega arith)
       | inr b ↦ (let m = above k b l in omega arith)
     ]))
-
--- ---- numbers below a bound, as many as there are
-
--- a number is at least its place
-not_below : (xs : List ℕ) → AllPairs (λ x y. x < y) xs → (i : ℕ) → i < length xs → i ≤ get_or xs i 0
-not_below xs up zero l = omega arith
-not_below xs up (suc i) l =
-    let before = not_below xs up i (omega arith) in
-    let next = up i (suc i) 0 (omega arith) l in
-    omega arith
-
--- and so much below a later one
-room_up : (xs : List ℕ) → AllPairs (λ x y. x < y) xs → (i m : ℕ) → i + m < length xs → get_or xs i 0 + m ≤ get_or xs (i + m) 0
-room_up xs up i zero l = let e : i + 0 ≡ i = omega arith in rw e (omega arith)
-room_up xs up i (suc m) l =
-    let e : i + suc m ≡ suc (i + m) = omega arith in
-    let k : suc (i + m) < length xs = omega arith in
-    let before = room_up xs up i m (omega arith) in
-    let next = up (i + m) (suc (i + m)) 0 (omega arith) k in
-    rw e (omega arith)
-
-pub own_place : (xs : List ℕ) → Ascends xs → (last : ℕ) → last ≡ get_or xs (length xs - 1) 0 → last < length xs → All (λ x. place_among xs x ≡ x) xs
-own_place xs ascend last is below k d l =
-    let up = ascends_pairs xs ascend in
-    let at : k + (length xs - 1 - k) ≡ length xs - 1 = omega arith in
-    let low = not_below xs up k l in
-    let high = subst (λ (j : ℕ). get_or xs k 0 + (length xs - 1 - k) ≤ get_or xs j 0) at (room_up xs up k (length xs - 1 - k) (omega arith)) in
-    let here : get_or xs k 0 ≡ k = omega (arith, is) in
-    let there : get_or xs k d ≡ k = get_or_default xs k d 0 l ∙ here in
-    rw there (ap (place_among xs) (sym here) ∙ place_at xs up k l)

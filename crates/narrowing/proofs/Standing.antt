@@ -14,7 +14,7 @@ use Rattle.narrowing.specs.Narrowed.{StandsIn, in_class, as_source, as_target, o
 
 -- ---- members of lists of lists
 
-Contains-flat_map : {X A : Type 0} (f : X → List A) (xs : List X) (x : X) (y : A) → Contains xs x → Contains (f x) y → Contains (flat_map f xs) y
+pub Contains-flat_map : {X A : Type 0} (f : X → List A) (xs : List X) (x : X) (y : A) → Contains xs x → Contains (f x) y → Contains (flat_map f xs) y
 Contains-flat_map f [] x y c d = absurd (Contains-none x c)
 Contains-flat_map {X} {A} f (z ∷ zs) x y c d =
     elim (Contains-cons_cases z x zs c) [
@@ -76,19 +76,23 @@ module _ (l : Listed) (x : ℕ) where
       Contains-append_left (class_elements l.classes.items ++ pair_elements l.pairs.items ++ l.individuals.items) (claim_elements l.claims.items) x
       (Contains-append_left (class_elements l.classes.items ++ pair_elements l.pairs.items) l.individuals.items x c)
 
+  pub classes_among : Contains (class_elements l.classes.items) x → Contains (elements_of_lines l) x
+  classes_among c = among_rows (Contains-append_left (class_elements l.classes.items) (pair_elements l.pairs.items) x c)
+
+  pub pairs_among : Contains (pair_elements l.pairs.items) x → Contains (elements_of_lines l) x
+  pairs_among c = among_rows (Contains-append_right (class_elements l.classes.items) (pair_elements l.pairs.items) x c)
+
   class_stands : (row : ℕ × List ℕ) → Contains (map class_row_of l.classes.items) row → Contains row.1 x → Contains (elements_of_lines l) x
   class_stands row c d =
       let r = Contains-from_map class_row_of l.classes.items row c in
-      among_rows (Contains-append_left (class_elements l.classes.items) (pair_elements l.pairs.items) x
-      (Contains-flat_map (λ (row : ClassRow). row.elements.items) l.classes.items r.0 x r.1 (subst (λ (w : ℕ × List ℕ). Contains w.1 x) (sym r.2) d)))
+      classes_among (Contains-flat_map (λ (row : ClassRow). row.elements.items) l.classes.items r.0 x r.1 (subst (λ (w : ℕ × List ℕ). Contains w.1 x) (sym r.2) d))
 
   pair_stands : (row : ℕ × ℕ × List ℕ) → Contains (map pair_row_of l.pairs.items) row → Contains (row.1 ∷ row.2) x → Contains (elements_of_lines l) x
   pair_stands row c d =
       let r = Contains-from_map pair_row_of l.pairs.items row c in
-      among_rows (Contains-append_right (class_elements l.classes.items) (pair_elements l.pairs.items) x
-      (Contains-flat_map (λ (row : PairRow). row.source ∷ row.targets.items) l.pairs.items r.0 x r.1 (subst (λ (w : ℕ × ℕ × List ℕ). Contains (w.1 ∷ w.2) x) (sym r.2) d)))
+      pairs_among (Contains-flat_map (λ (row : PairRow). row.source ∷ row.targets.items) l.pairs.items r.0 x r.1 (subst (λ (w : ℕ × ℕ × List ℕ). Contains (w.1 ∷ w.2) x) (sym r.2) d))
 
-  individual_stands : Contains l.individuals.items x → Contains (elements_of_lines l) x
+  pub individual_stands : Contains l.individuals.items x → Contains (elements_of_lines l) x
   individual_stands c =
       Contains-append_left (class_elements l.classes.items ++ pair_elements l.pairs.items ++ l.individuals.items) (claim_elements l.claims.items) x
       (Contains-append_right (class_elements l.classes.items ++ pair_elements l.pairs.items) l.individuals.items x c)

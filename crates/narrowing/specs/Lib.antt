@@ -1,2 +1,3 @@
-pub mod Narrowed
 pub mod Gathered
+pub mod Marked
+pub mod Narrowed

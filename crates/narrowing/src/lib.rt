@@ -4,6 +4,7 @@
 mod copies;
 mod elements;
 mod listing;
+mod marks;
 mod places;
 mod renumbering;
 mod theory;

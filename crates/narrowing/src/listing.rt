@@ -5,7 +5,7 @@ ghost use Rattle.narrowing.specs.Narrowed.{IsNarrowed};
 
 use crate::copies::copy_of;
 use crate::elements::used_elements;
-use crate::places::are_all;
+use crate::marks::stands_in_each;
 use crate::renumbering::renumbered;
 use axioms::Memory;
 use certificate::Listed;
@@ -24,10 +24,10 @@ pub fn narrow(alloc: Global, listed: &Listed) -> Result<Listed, Memory>
 pub fn narrowed(alloc: Global, listed: Listed) -> Result<Listed, Memory>
     ensures { IfOk result (λ narrowed. IsNarrowed (listed_of listed) (listed_of narrowed)) }
 {
-    let used = used_elements(alloc, &listed)?;
-    if are_all(&used, listed.domain) {
+    if stands_in_each(alloc, &listed)? {
         return Ok(listed);
     }
+    let used = used_elements(alloc, &listed)?;
     if used.len() > u32::MAX as usize {
         return Err(Memory);
     }

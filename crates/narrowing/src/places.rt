@@ -1,7 +1,7 @@
 //! The places of numbers in an ascending list.
 ghost use Rattle.certificate.specs.Writability.{Ascends};
 ghost use Rattle.narrowing.specs.Narrowed.{place_among};
-ghost use Rattle.std.specs.Prelude.{◌≡◌, ◌<◌, ◌^◌, All, length, true};
+ghost use Rattle.std.specs.Prelude.{◌≡◌, ◌<◌, ◌^◌, length};
 
 /// The place of the element among those that are used, or how many these are where it is none of them.
 pub(crate) fn place_of(used: &[u32], element: u32) -> u32
@@ -12,17 +12,5 @@ pub(crate) fn place_of(used: &[u32], element: u32) -> u32
     match used.binary_search(&element) {
         Ok(place) => place as u32,
         Err(_) => used.len() as u32,
-    }
-}
-
-/// Whether the elements that are used are all those of the domain, so that each stands at the place of its own number.
-pub(crate) fn are_all(used: &[u32], domain: u32) -> bool
-    requires { Ascends used.now }
-    ensures many { result ≡ true → length used.now ≡ domain }
-    ensures places { result ≡ true → All (λ x. place_among used.now x ≡ x) used.now }
-{
-    match used.last() {
-        None => domain == 0,
-        Some(last) => used.len() == domain as usize && *last < domain,
     }
 }
