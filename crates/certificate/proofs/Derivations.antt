@@ -163,7 +163,7 @@ rule_small K16 = lit< tt
 rule_word_reads : Reads IsApart IsNumber (λ n. codes " K" ++ decimal n) (behind (codes " K") number_at)
 rule_word_reads = behind_reads IsApart IsNumber decimal number_at (codes " K") number_reads
 
-abbrev AnyRule : Rule → Type 0
+abbrev pub AnyRule : Rule → Type 0
 AnyRule rule = Unit {0}
 
 pub rule_reads : Reads IsApart AnyRule (λ rule. lettered_number (codes " K") (rule_number rule)) rule_at
@@ -266,16 +266,16 @@ not_letter n rest v h =
     none_is (after (codes "a") (decimal n ++ rest)) (λ others e.
     none-some (n, rest) (ap number_at (sym (after_takes (codes "a") (decimal n ++ rest) others e)) ∙ number_again n rest v h))
 
-premises_follow_apart : (ns rest : List ℕ) → EndsLine rest → IsApart (spaced_numbers ns ++ rest)
+pub premises_follow_apart : (ns rest : List ℕ) → EndsLine rest → IsApart (spaced_numbers ns ++ rest)
 premises_follow_apart [] rest h = subst IsApart (sym h.1) refl
 premises_follow_apart (n ∷ ns) rest h = refl
 
-premises_follow : (last : Option ℕ) (ns rest : List ℕ) → Chain (λ (last : Option ℕ). IsNumber) last ns → EndsLine rest → after (codes " a") (spaced_numbers ns ++ rest) ≡ None
+pub premises_follow : (last : Option ℕ) (ns rest : List ℕ) → Chain (λ (last : Option ℕ). IsNumber) last ns → EndsLine rest → after (codes " a") (spaced_numbers ns ++ rest) ≡ None
 premises_follow last [] rest v h = ap (after (codes " a")) h.1
 premises_follow last (n ∷ ns) rest v h =
     ap (λ (s : List ℕ). after (codes "a") s) (append_assoc (decimal n) (spaced_numbers ns) rest) ∙ not_letter n (spaced_numbers ns ++ rest) v.0 (premises_follow_apart ns rest h)
 
-axiom_follows : (a : Option ℕ) (s : List ℕ) → IsApart s → IsApart (axiom_text a ++ s)
+pub axiom_follows : (a : Option ℕ) (s : List ℕ) → IsApart s → IsApart (axiom_text a ++ s)
 axiom_follows None s h = h
 axiom_follows (Some n) s h = refl
 

@@ -1,5 +1,5 @@
 -- The text of lines, which is read again as it grows.
-use Rattle.std.proofs.Common.{◌≡◌, ℕ, zero, suc, ◌+◌, ◌^◌, arith, slice_get, Bool, true, ◌&&◌, List, [], ◌∷◌, ◌++◌, length, map, drop, Option, Some, None, refl, sym, ap, subst, ◌∙◌, append_assoc}
+use Rattle.std.proofs.Common.{◌≡◌, ℕ, zero, suc, ◌+◌, ◌^◌, arith, slice_get, true, ◌&&◌, List, [], ◌∷◌, ◌++◌, length, map, Option, Some, None, refl, sym, ap, subst, ◌∙◌}
 use Rattle.std.specs.List.{list_all, flat_map}
 use Rattle.std.proofs.lemmas.Bool.{and_parts, and_from, ltb-true}
 use Rattle.std.proofs.lemmas.List.{append-nil, map-append, flat_map_more}
@@ -16,7 +16,7 @@ use Rattle.certificate.specs.Reading.{many_from, many}
 use Rattle.certificate.specs.Text.{line_text}
 use Rattle.certificate.specs.View.{subject_of}
 use Rattle.certificate.specs.declared.line.Subject.{Subject as Subject2}
-use Rattle.certificate.proofs.Derivations.{IsSmall, IsNumber, FitsSubject, FitsConclusion, FitsAxiom, FitsPremises, FitsLine, line_reads}
+use Rattle.certificate.proofs.Derivations.{IsSmall, IsNumber, FitsSubject, FitsConclusion, FitsAxiom, FitsLine, line_reads}
 use Rattle.certificate.proofs.Laws.{Reads, Anything}
 use Rattle.certificate.proofs.LineMeaning.{premise_means}
 use Rattle.certificate.proofs.Many.{Chain, ReadsEach, many_reads}

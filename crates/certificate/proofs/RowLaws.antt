@@ -57,7 +57,7 @@ NoWord word rest = after word rest ≡ None
 abbrev pub IsClassRow : ℕ × List ℕ → Type 0
 IsClassRow c = IsSmall c.0 × AreSmall c.1
 
-class_row_reads : Reads Anything IsClassRow class_text class_row_at
+pub class_row_reads : Reads Anything IsClassRow class_text class_row_at
 unfolding class_row_at
 class_row_reads =
     ended_reads EndsLine IsClassRow (λ c. lettered_number (codes "class e") c.0 ++ spaced_numbers c.1) _ line_feed
@@ -105,7 +105,7 @@ pair_valid p h = subst IsPairRow h.1 (h.2.0, h.2.1.0, h.2.1.1)
 pair_from_valid : (p : ℕ × ℕ × List ℕ) → IsPairRow p → (q : PairParts) × (pair_row_from q ≡ p) × FitPairParts q
 pair_from_valid p h = ((p.0, (p.1, p.2)), refl, (h.0, (h.1, h.2)))
 
-pair_row_reads : Reads Anything IsPairRow pairs_text pair_row_at
+pub pair_row_reads : Reads Anything IsPairRow pairs_text pair_row_at
 unfolding pair_row_at
 pair_row_reads =
     let targets = both_reads IsApart EndsLine IsSmall AreSmall premise_text spaced_numbers element_at elements_at element_reads elements_reads (λ xs rest v h. elements_apart xs rest h) in
@@ -140,7 +140,7 @@ pairs_reads o d = many_reads Anything (NoWord (codes "succ p")) (FitsPairsAfter 
 abbrev pub IsClaimRow : ℕ × ℕ → Type 0
 IsClaimRow c = IsSmall c.0 × IsSmall c.1
 
-numbered_row_reads : (word : List ℕ) → Reads Anything IsClaimRow (λ c. lettered_number word c.0 ++ spaced_numbers (c.1 ∷ []) ++ line_feed) (ended (both (behind word small_at) element_at) line_feed)
+pub numbered_row_reads : (word : List ℕ) → Reads Anything IsClaimRow (λ c. lettered_number word c.0 ++ spaced_numbers (c.1 ∷ []) ++ line_feed) (ended (both (behind word small_at) element_at) line_feed)
 numbered_row_reads word =
     restated Anything Anything IsClaimRow IsClaimRow (λ c. (lettered_number word c.0 ++ premise_text c.1) ++ line_feed) _ _
     (ended_reads IsApart IsClaimRow (λ c. lettered_number word c.0 ++ premise_text c.1) _ line_feed
@@ -152,7 +152,7 @@ no_claim : (rest : List ℕ) → NoWord (codes "claim e") rest → claim_row_at 
 unfolding claim_row_at
 no_claim rest h = rw h refl
 
-claim_row_reads : Reads Anything IsClaimRow claim_text claim_row_at
+pub claim_row_reads : Reads Anything IsClaimRow claim_text claim_row_at
 unfolding claim_row_at
 claim_row_reads = numbered_row_reads (codes "claim e")
 
@@ -190,7 +190,7 @@ individual_valid d k x h =
 individual_from_valid : (d k x : ℕ) → d ≤ 2 ^ 32 → IsElementOf d (k, x) → (p : ℕ × ℕ) × (p.1 ≡ x) × IsIndividual d k p
 individual_from_valid d k x small v = ((k, x), refl, ((v.0, omega (arith, v.1)), rw (eq-eqb k k refl, lt-ltb x d v.1) refl))
 
-individual_reads : (d k : ℕ) → d ≤ 2 ^ 32 → Reads Anything (λ x. IsElementOf d (k, x)) (λ x. individual_text (k, x)) (individual_at d k)
+pub individual_reads : (d k : ℕ) → d ≤ 2 ^ 32 → Reads Anything (λ x. IsElementOf d (k, x)) (λ x. individual_text (k, x)) (individual_at d k)
 unfolding individual_at
 individual_reads d k small =
     restated Anything Anything _ (λ x. IsElementOf d (k, x)) _ (λ x. individual_text (k, x)) (individual_at d k)

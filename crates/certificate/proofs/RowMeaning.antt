@@ -23,7 +23,7 @@ class_found (Some (Class c)) t = (c, refl)
 class_found (Some (And ds)) t = cc
 class_found (Some (Exists r c)) t = cc
 
-named_means : (o : Ontology) (e : ℕ) → is_named o e ≡ true → IsNamedClass o e × IsSmall e
+pub named_means : (o : Ontology) (e : ℕ) → is_named o e ≡ true → IsNamedClass o e × IsSmall e
 named_means o e t =
     let p = and_parts (is_class (slice_get o.nodes e)) (is_small e) t in
     (class_found (slice_get o.nodes e) p.0, ltb-true e (2 ^ 32) p.1)

@@ -65,7 +65,7 @@ lines_reads o = many_reads Anything NoLine (FitsLineOf o) line_text (λ last. fi
 abbrev pub IsDomain : ℕ → Type 0
 IsDomain d = IsSmall d × (fits_domain d ≡ true)
 
-domain_reads : Reads Anything IsDomain (λ d. lettered_number (codes "domain ") d ++ line_feed) domain_at
+pub domain_reads : Reads Anything IsDomain (λ d. lettered_number (codes "domain ") d ++ line_feed) domain_at
 unfolding domain_at
 domain_reads =
     such_reads Anything IsSmall _ _ fits_domain

@@ -8,5 +8,10 @@ pub mod LineReading
 pub mod Tests
 pub mod ListedReading
 pub mod Outcome
-pub mod Rest
 pub mod LineText
+pub mod TextLines
+pub mod Prefixes
+pub mod SourceReading
+pub mod LineValues
+pub mod SingleLines
+pub mod SourceFaults

@@ -1,8 +1,7 @@
 -- What a call answers, beside what it reads.
-use Rattle.std.specs.Prelude.{◌≡◌, ℕ, ◌≤◌, List, length, Option, Some, None, Result, Ok, Err}
+use Rattle.std.specs.Prelude.{◌≡◌, ℕ, List, Option, Some, None, Result, Ok, Err}
 use Rattle.axioms.specs.Ontology.{Ontology}
-use Rattle.certificate.specs.Certificate.{Certificate}
-use Rattle.certificate.specs.Writability.{IsTextOf}
+use Rattle.certificate.specs.Prefixes.{IsNoText}
 use Rattle.certificate.specs.declared.fault.ReadFault.{ReadFault}
 use Rattle.certificate.specs.declared.fault.ReadFault.TheVariants as faults
 use Rattle.certificate.specs.declared.fault.CertFault.{CertFault}
@@ -18,7 +17,8 @@ abbrev pub Gives : {X Y : Type 0} → (X → Y) → Result X ReadFault → Optio
 Gives view (Ok x) read = read ≡ Some (view x)
 Gives view (Err e) read = Stops e read
 
--- the bytes are the text of no certificate of the ontology, and the place is in them or at their end; or memory was refused
+-- the bytes are the text of no certificate of the ontology, and the first line that cannot follow those before it begins at that
+-- place; or memory was refused
 abbrev pub IsRefused : CertFault → Ontology → List ℕ → Type 0
 IsRefused cert_faults.Memory o bytes = Unit {0}
-IsRefused (cert_faults.BadText at) o bytes = (at ≤ length bytes) × ((c : Certificate) → IsTextOf o bytes c → ⊥)
+IsRefused (cert_faults.BadText at) o bytes = IsNoText o bytes at

@@ -3,8 +3,11 @@
 ghost use Rattle.std.specs.Prelude.{◌≡◌, length};
 ghost use Rattle.certificate.specs.declared.fault.CertFault.TheVariants as cert_faults;
 ghost use Rattle.certificate.specs.declared.fault.ReadFault.TheVariants as read_faults;
+ghost use Rattle.certificate.specs.declared.fault.TextFault.TheVariants as text_faults;
+ghost use Rattle.certificate.specs.SourceFaults.{stream_fault_as_text};
 
 use axioms::Memory;
+use source_lines::StreamFault;
 use std::alloc::{AllocError, AllocFailed};
 
 /// Why there is no certificate of some lines and an interpretation.
@@ -31,6 +34,53 @@ impl From<Memory> for CertFault {
 
     fn from(_error: Memory) -> CertFault {
         CertFault::Memory
+    }
+}
+
+/// Why a certificate is not read from a source.
+#[derive(Clone, Copy, Debug, PartialEq, Eq)]
+pub enum TextFault {
+    /// The source gives the text of none. The first line that cannot follow those before it begins at that byte; where the
+    /// last line is missing it is the number of bytes.
+    BadText { at: usize },
+    /// The source failed.
+    Io,
+    /// A growth of memory was refused.
+    Memory,
+}
+
+impl From<StreamFault> for TextFault {
+    ghost from_gives = { λ s e. e ≡ stream_fault_as_text s };
+
+    fn from(error: StreamFault) -> TextFault {
+        match error {
+            StreamFault::Io => TextFault::Io,
+            StreamFault::Memory => TextFault::Memory,
+        }
+    }
+}
+
+impl From<Memory> for TextFault {
+    ghost from_gives = { λ _ e. e ≡ text_faults.Memory };
+
+    fn from(_error: Memory) -> TextFault {
+        TextFault::Memory
+    }
+}
+
+impl From<AllocError> for TextFault {
+    ghost from_gives = { λ _ e. e ≡ text_faults.Memory };
+
+    fn from(_error: AllocError) -> TextFault {
+        TextFault::Memory
+    }
+}
+
+impl<T: Drop> From<AllocFailed<T>> for TextFault {
+    ghost from_gives = { λ _ e. e ≡ text_faults.Memory };
+
+    fn from(_error: AllocFailed<T>) -> TextFault {
+        TextFault::Memory
     }
 }
 

@@ -18,7 +18,7 @@ fn fits_subject(ontology: &Ontology, subject: Subject) -> bool
     }
 }
 
-fn fits_conclusion(ontology: &Ontology, conclusion: Conclusion) -> bool
+pub(crate) fn fits_conclusion(ontology: &Ontology, conclusion: Conclusion) -> bool
     ensures { result ≡ fits_conclusion ontology.now (conclusion_of conclusion) }
 {
     match conclusion {
@@ -33,7 +33,7 @@ fn fits_conclusion(ontology: &Ontology, conclusion: Conclusion) -> bool
     }
 }
 
-fn fits_axiom(ontology: &Ontology, number: Option<usize>) -> bool
+pub(crate) fn fits_axiom(ontology: &Ontology, number: Option<usize>) -> bool
     ensures { result ≡ fits_axiom ontology.now number }
 {
     ontology.bounded();

@@ -13,11 +13,13 @@ mod listed_reading;
 mod listed_text;
 mod number;
 mod reading;
+mod single_lines;
+mod single_rows;
 mod writing;
 
 pub use certificate::Certificate;
 pub use device::WriteFault;
-pub use fault::{CertFault, MakeFault};
+pub use fault::{CertFault, MakeFault, TextFault};
 pub use line::{Conclusion, Line, Rule, Subject};
 pub use line_reader::LineReader;
 pub use line_text::LineText;

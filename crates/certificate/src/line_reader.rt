@@ -1,98 +1,241 @@
 //! Certificates read line by line.
 
-ghost use Rattle.std.specs.Prelude.{◌≡◌, [], IfOk, IfErr, OnErr, Some, option_map};
-ghost use Rattle.certificate.specs.Certificate as spec;
-ghost use Rattle.certificate.specs.Writability.{IsTextOf};
-ghost use Rattle.certificate.specs.Rest.{IsNext, IsNoEnd, IsStartOf};
+ghost use Rattle.std.specs.Prelude.{◌≡◌, ◌≤◌, [], true, IfErr, IfOk, OnOk, Some, option_map};
+ghost use Rattle.axioms.specs.Growth.{IsBounded};
+ghost use Rattle.source_lines.specs.Sources.{source_state};
+ghost use Rattle.certificate.specs.SourceReading.{AreRowsNext, HasLines, HasNoLine, HasNoRow, IsDomainNext, IsFinished, IsLastNext, IsNext, IsStopped, LetsGo, StopsAtHand, StopsLast, StopsLetting, StopsNext, StopsRows};
+ghost use Rattle.certificate.specs.TextLines.{no_rows};
 ghost use Rattle.certificate.specs.View.{line_of, listed_of};
 
-use crate::fault::{CertFault, ReadFault};
+use crate::fault::TextFault;
 use crate::line::Line;
 use crate::listed::Listed;
-use crate::listed_reading::{ending, fitting_line_at};
-use crate::number::after;
-use axioms::{Memory, Ontology};
+use crate::single_lines::{derived_line, domain_line, first_line, is_last_line};
+use crate::single_rows::take_row;
+use axioms::Ontology;
+use device::Source;
+use source_lines::SourceLines;
 use std::alloc::Global;
 use std::marker::Model;
 
-/// A reader of a certificate's text that keeps no line: it gives the lines one after another, and then what they show.
+/// A reader of a certificate's text that keeps one line of it: it gives the lines one after another, and then what they show.
+///
+/// Once a call has failed nothing more is promised of the reader.
 #[derive(Drop)]
 pub struct LineReader<'a> {
     ontology: &'a Ontology,
-    size: usize,
+    most_premises: Option<usize>,
     is_consistent: bool,
-    rest: &'a [u8],
+    at: usize,
+    lines: SourceLines,
 }
 
 impl<'a> Model for LineReader<'a> {
-    ghost use Rattle.certificate.specs.Rest.{Remaining, remaining};
+    ghost use Rattle.certificate.specs.SourceReading.{Reading};
 
-    ghost Value = { Remaining };
+    ghost Value = { Reading };
 
-    ghost view = { λ r. remaining r.ontology.now r.size r.is_consistent r.rest.now };
+    ghost view = { λ r. record {
+      ontology = r.ontology.now;
+      most_premises = r.most_premises;
+      is_consistent = r.is_consistent;
+      at = r.at;
+      hand = r.lines;
+    } };
+}
+
+/// The interpretation of no rows.
+fn without_rows(alloc: Global, domain: u32) -> Listed
+    ensures { listed_of result ≡ no_rows domain }
+{
+    Listed {
+        domain,
+        classes: Vec::new(alloc),
+        pairs: Vec::new(alloc),
+        individuals: Vec::new(alloc),
+        claims: Vec::new(alloc),
+    }
 }
 
 impl<'a> LineReader<'a> {
-    /// A reader at the first line of the derivation.
+    /// A reader at the first line of the derivation. Of the premises of a line one more than `most_premises` at most is kept.
     ///
-    /// Refused with `BadText` where the first line of the text is that of no certificate.
-    pub fn new(ontology: &'a Ontology, text: &'a [u8]) -> Result<LineReader<'a>, CertFault>
-        ensures start { IfOk result (IsStartOf ontology.now text.now) }
-        ensures refused { IfErr result (λ fault. fault ≡ CertFault.BadText 0) }
-        ensures none { OnErr result ((c : spec.Certificate) → IsTextOf ontology.now text.now c → ⊥) }
+    /// # Errors
+    ///
+    /// `BadText` at 0 where the first line of the text is that of no certificate, `Io` where the source failed, and `Memory` where
+    /// memory was refused.
+    pub fn new<S: Source>(
+        alloc: Global,
+        ontology: &'a Ontology,
+        most_premises: Option<usize>,
+        source: &mut S,
+    ) -> Result<LineReader<'a>, TextFault>
+        ensures start { IfOk result (λ r. (r.ontology ≡ ontology.now) × (r.most_premises ≡ most_premises) × HasLines (source_state S.Source source.old) [] r (source_state S.Source source.new)) }
+        ensures fault { IfErr result (λ fault. IsStopped fault ontology.now (source_state S.Source source.old) (source_state S.Source source.new)) }
+        ensures count { S.failures source.old ≤ S.failures source.new }
     {
-        let size = text.len();
-        if let Some(rest) = after(b"elcert 1 consistent\n", text) {
-            return Ok(LineReader {
-                ontology,
-                size,
-                is_consistent: true,
-                rest,
-            });
-        }
-        let Some(rest) = after(b"elcert 1 inconsistent\n", text) else {
-            return Err(CertFault::BadText { at: 0 });
-        };
-        Ok(LineReader {
+        let mut reader = LineReader {
             ontology,
-            size,
+            most_premises,
             is_consistent: false,
-            rest,
-        })
+            at: 0,
+            lines: SourceLines::new(alloc),
+        };
+        reader.let_go(source)?;
+        let Some(is_consistent) = first_line(reader.line()) else {
+            return Err(reader.bad_text());
+        };
+        reader.is_consistent = is_consistent;
+        reader.let_go(source)?;
+        Ok(reader)
     }
 
     /// The line that comes next, if one does. Its premises take the room of the list, and what was in it goes.
     ///
-    /// It fails only where memory is refused; the same line comes next then.
-    pub fn next(&mut self, room: Vec<u64>) -> Result<Option<Line>, Memory>
-        ensures next { IfOk result (λ line. IsNext self.old (option_map line_of line) self.new) }
-        ensures kept { OnErr result (self.new ≡ self.old) }
+    /// # Errors
+    ///
+    /// `Io` where the source failed, and `Memory` where memory was refused.
+    pub fn next<S: Source>(
+        &mut self,
+        source: &mut S,
+        room: Vec<u64>,
+    ) -> Result<Option<Line>, TextFault>
+        ensures next { IfOk result (λ line. IsNext self.old self.new (source_state S.Source source.old) (source_state S.Source source.new) (option_map line_of line)) }
+        ensures fault { IfErr result (λ fault. StopsNext fault self.old (source_state S.Source source.old) (source_state S.Source source.new)) }
+        ensures count { S.failures source.old ≤ S.failures source.new }
     {
-        match fitting_line_at(room, self.ontology, self.rest) {
-            Ok((line, rest)) => {
-                self.rest = rest;
+        match derived_line(room, self.most_premises, self.ontology, self.line())? {
+            None => Ok(None),
+            Some(line) => {
+                self.let_go(source)?;
                 Ok(Some(line))
             }
-            Err(ReadFault::Text { .. }) => Ok(None),
-            Err(ReadFault::Memory) => Err(Memory),
         }
     }
 
     /// What the certificate lists behind its lines: the interpretation of a consistent one.
     ///
-    /// Refused with `BadText` exactly where the bytes behind the lines are not the end of a certificate, and with `Memory` only
-    /// where memory was refused.
-    pub fn finish(&self, alloc: Global) -> Result<Option<Listed>, CertFault>
-        requires { self.now.lines ≡ [] }
-        ensures listed { IfOk result (λ listed. self.now.listed ≡ Some (option_map listed_of listed)) }
-        ensures refused { IfErr result (λ fault. IsNoEnd fault self.now) }
+    /// # Errors
+    ///
+    /// `BadText` where the source gives the text of no certificate: at the first line that cannot follow those before it, or, where the
+    /// last line is missing, at the end. `Io` where the source failed, and `Memory` where memory was refused.
+    pub fn finish<S: Source>(
+        &mut self,
+        alloc: Global,
+        source: &mut S,
+    ) -> Result<Option<Listed>, TextFault>
+        requires { HasNoLine self.old }
+        ensures listed { IfOk result (λ listed. IsFinished self.old (source_state S.Source source.old) (source_state S.Source source.new) (option_map listed_of listed)) }
+        ensures fault { IfErr result (λ fault. StopsNext fault self.old (source_state S.Source source.old) (source_state S.Source source.new)) }
+        ensures count { S.failures source.old ≤ S.failures source.new }
     {
-        match ending(alloc, self.ontology, self.is_consistent, self.rest) {
-            Ok(listed) => Ok(listed),
-            Err(ReadFault::Text { left }) => Err(CertFault::BadText {
-                at: self.size.saturating_sub(left),
-            }),
-            Err(ReadFault::Memory) => Err(CertFault::Memory),
+        if self.is_consistent {
+            let listed = self.interpretation(alloc, source)?;
+            return Ok(Some(listed));
         }
+        self.last(source)?;
+        Ok(None)
+    }
+
+    // The interpretation that the lines of a consistent certificate list, and the last line.
+    fn interpretation<S: Source>(
+        &mut self,
+        alloc: Global,
+        source: &mut S,
+    ) -> Result<Listed, TextFault>
+        requires none { HasNoLine self.old }
+        requires consistent { self.old.is_consistent ≡ true }
+        ensures listed { IfOk result (λ listed. IsFinished self.old (source_state S.Source source.old) (source_state S.Source source.new) (Some (listed_of listed))) }
+        ensures fault { IfErr result (λ fault. StopsNext fault self.old (source_state S.Source source.old) (source_state S.Source source.new)) }
+        ensures count { S.failures source.old ≤ S.failures source.new }
+    {
+        let domain = self.domain(source)?;
+        let mut listed = without_rows(alloc, domain);
+        self.rows(alloc, source, &mut listed)?;
+        if listed.individuals.len() != self.ontology.individuals().len() {
+            return Err(self.bad_text());
+        }
+        self.last(source)?;
+        Ok(listed)
+    }
+
+    // How many elements the interpretation has.
+    fn domain<S: Source>(&mut self, source: &mut S) -> Result<u32, TextFault>
+        requires none { HasNoLine self.old }
+        requires consistent { self.old.is_consistent ≡ true }
+        ensures domain { IfOk result (λ domain. IsDomainNext self.old self.new (source_state S.Source source.old) (source_state S.Source source.new) domain) }
+        ensures fault { IfErr result (λ fault. StopsNext fault self.old (source_state S.Source source.old) (source_state S.Source source.new)) }
+        ensures count { S.failures source.old ≤ S.failures source.new }
+    {
+        let Some(domain) = domain_line(self.line()) else {
+            return Err(self.bad_text());
+        };
+        self.let_go(source)?;
+        Ok(domain)
+    }
+
+    // Puts the rows that come into the interpretation, behind those that it has.
+    fn rows<S: Source>(
+        &mut self,
+        alloc: Global,
+        source: &mut S,
+        listed: &mut Listed,
+    ) -> Result<(), TextFault>
+        ensures rows { OnOk result (AreRowsNext self.old self.new (source_state S.Source source.old) (source_state S.Source source.new) (listed_of listed.old) (listed_of listed.new)) }
+        ensures none { OnOk result (HasNoRow self.new (listed_of listed.new)) }
+        ensures fault { IfErr result (λ fault. StopsRows fault self.old (source_state S.Source source.old) (source_state S.Source source.new) (listed_of listed.old)) }
+        ensures count { S.failures source.old ≤ S.failures source.new }
+    {
+        while take_row(alloc, self.ontology, listed, self.line())? {
+            self.let_go(source)?;
+        }
+        Ok(())
+    }
+
+    // The last line, and nothing behind it.
+    fn last<S: Source>(&mut self, source: &mut S) -> Result<(), TextFault>
+        ensures last { OnOk result (IsLastNext self.old (source_state S.Source source.old) (source_state S.Source source.new)) }
+        ensures fault { IfErr result (λ fault. StopsLast fault self.old (source_state S.Source source.old) (source_state S.Source source.new)) }
+        ensures count { S.failures source.old ≤ S.failures source.new }
+    {
+        if !is_last_line(self.line()) {
+            return Err(self.bad_text());
+        }
+        self.let_go(source)?;
+        if !self.line().is_empty() {
+            return Err(self.bad_text());
+        }
+        Ok(())
+    }
+
+    // The line at hand.
+    fn line(&self) -> &[u8]
+        ensures { result.now ≡ self.now.hand.line }
+    {
+        self.lines.line()
+    }
+
+    // The fault of a line at hand that cannot follow those before it.
+    fn bad_text(&self) -> TextFault
+        ensures { StopsAtHand result self.now }
+    {
+        self.ontology.bounded();
+        TextFault::BadText { at: self.at }
+    }
+
+    // Lets the line at hand go and brings the next one.
+    fn let_go<S: Source>(&mut self, source: &mut S) -> Result<(), TextFault>
+        ensures ok { OnOk result (LetsGo self.old self.new (source_state S.Source source.old) (source_state S.Source source.new)) }
+        ensures fault { IfErr result (λ fault. StopsLetting fault self.old (source_state S.Source source.old) (source_state S.Source source.new)) }
+        ensures bounded { IsBounded self.old.ontology }
+        ensures count { S.failures source.old ≤ S.failures source.new }
+    {
+        self.ontology.bounded();
+        let Some(at) = self.at.checked_add(self.lines.line().len()) else {
+            return Err(TextFault::Memory);
+        };
+        self.lines.advance(source)?;
+        self.at = at;
+        Ok(())
     }
 }

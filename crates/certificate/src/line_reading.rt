@@ -1,15 +1,12 @@
 //! Derivation lines at the front of bytes.
 
-ghost use Rattle.std.specs.Prelude.{◌≡◌, Some, option_map, IfOk};
-ghost use Rattle.certificate.specs.LineReading.{subject_at, conclusion_at, numbered_rule, rule_at, axiom_at, premise_at, premises_at, line_at};
-ghost use Rattle.certificate.specs.View.{subject_of, conclusion_of, line_of};
-ghost use Rattle.certificate.specs.Outcome.{Gives};
+ghost use Rattle.std.specs.Prelude.{◌≡◌, Some, option_map};
+ghost use Rattle.certificate.specs.LineReading.{subject_at, conclusion_at, numbered_rule, rule_at, axiom_at, premise_at};
+ghost use Rattle.certificate.specs.View.{subject_of, conclusion_of};
 
-use crate::fault::{ReadFault, stopped};
-use crate::line::{Conclusion, Line, RULES, Rule, Subject};
+use crate::line::{Conclusion, RULES, Rule, Subject};
 use crate::number::{after, number_at, small_at};
 use axioms::{ExprId, IndId, PropId};
-use std::alloc::AllocError;
 
 #[tactic(auto, unfolding(crate::specs::LineReading::subject_at))]
 fn subject_at(bytes: &[u8]) -> Option<(Subject, &[u8])>
@@ -24,7 +21,7 @@ fn subject_at(bytes: &[u8]) -> Option<(Subject, &[u8])>
 }
 
 #[tactic(auto, unfolding(crate::specs::LineReading::conclusion_at))]
-fn conclusion_at(bytes: &[u8]) -> Option<(Conclusion, &[u8])>
+pub(crate) fn conclusion_at(bytes: &[u8]) -> Option<(Conclusion, &[u8])>
     ensures { option_map (λ x. (conclusion_of x.0, x.1.now)) result ≡ conclusion_at bytes.now }
 {
     if let Some(rest) = after(b"sub ", bytes) {
@@ -49,7 +46,7 @@ fn numbered_rule(number: u64) -> Option<Rule>
 }
 
 #[tactic(auto, unfolding(crate::specs::LineReading::rule_at))]
-fn rule_at(bytes: &[u8]) -> Option<(Rule, &[u8])>
+pub(crate) fn rule_at(bytes: &[u8]) -> Option<(Rule, &[u8])>
     ensures { option_map (λ x. (x.0, x.1.now)) result ≡ rule_at bytes.now }
 {
     let (number, rest) = number_at(after(b" K", bytes)?)?;
@@ -57,7 +54,7 @@ fn rule_at(bytes: &[u8]) -> Option<(Rule, &[u8])>
 }
 
 #[tactic(auto, unfolding(crate::specs::LineReading::axiom_at))]
-fn axiom_at(bytes: &[u8]) -> Option<(Option<usize>, &[u8])>
+pub(crate) fn axiom_at(bytes: &[u8]) -> Option<(Option<usize>, &[u8])>
     ensures { option_map (λ x. (x.0, x.1.now)) result ≡ axiom_at bytes.now }
 {
     if let Some(rest) = after(b" a", bytes) {
@@ -68,41 +65,8 @@ fn axiom_at(bytes: &[u8]) -> Option<(Option<usize>, &[u8])>
 }
 
 #[tactic(auto, unfolding(crate::specs::LineReading::premise_at))]
-fn premise_at(bytes: &[u8]) -> Option<(u64, &[u8])>
+pub(crate) fn premise_at(bytes: &[u8]) -> Option<(u64, &[u8])>
     ensures { option_map (λ x. (x.0, x.1.now)) result ≡ premise_at bytes.now }
 {
     number_at(after(b" ", bytes)?)
-}
-
-// The premises at the front, in the list, whose room is used again.
-fn premises_at(room: Vec<u64>, bytes: &[u8]) -> Result<(Vec<u64>, &[u8]), AllocError>
-    ensures { IfOk result (λ x. premises_at bytes.now ≡ Some (x.0.items, x.1.now)) }
-{
-    let mut items = room;
-    items.clear();
-    let mut rest = bytes;
-    while let Some((number, others)) = premise_at(rest) {
-        items.push(number)?;
-        rest = others;
-    }
-    Ok((items, rest))
-}
-
-/// The line at the front, of any numbers that fit the types. Its premises take the room of the list.
-#[tactic(auto, unfolding(crate::specs::LineReading::line_at))]
-pub(crate) fn line_at(room: Vec<u64>, bytes: &[u8]) -> Result<(Line, &[u8]), ReadFault>
-    ensures { Gives (λ x. (line_of x.0, x.1.now)) result (line_at bytes.now) }
-{
-    let (conclusion, rest) = conclusion_at(bytes).ok_or(stopped(bytes))?;
-    let (rule, rest) = rule_at(rest).ok_or(stopped(bytes))?;
-    let (axiom, rest) = axiom_at(rest).ok_or(stopped(bytes))?;
-    let (premises, rest) = premises_at(room, rest)?;
-    let rest = after(b"\n", rest).ok_or(stopped(bytes))?;
-    let line = Line {
-        conclusion,
-        rule,
-        axiom,
-        premises,
-    };
-    Ok((line, rest))
 }

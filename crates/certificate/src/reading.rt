@@ -1,29 +1,37 @@
 //! Certificates from their texts.
 
-ghost use Rattle.std.specs.Prelude.{◌≡◌, List, [], ℕ, IfOk, IfErr};
+ghost use Rattle.std.specs.Prelude.{◌≡◌, ◌≤◌, List, ℕ, IfOk, IfErr};
 ghost use Rattle.axioms.specs.Ontology as numbered;
+ghost use Rattle.source_lines.specs.Sources.{source_state};
 ghost use Rattle.certificate.specs.Certificate as spec;
 ghost use Rattle.certificate.specs.Writability.{IsTextOf};
 ghost use Rattle.certificate.specs.Outcome.{IsRefused};
-ghost use Rattle.certificate.specs.Rest.{with_lines};
-ghost use Rattle.certificate.specs.View.{lines_of};
+ghost use Rattle.certificate.specs.SourceReading.{IsReadAs, IsStopped};
 
 use crate::certificate::Certificate;
-use crate::fault::CertFault;
-use crate::line::Line;
+use crate::fault::{CertFault, TextFault};
 use crate::line_reader::LineReader;
-use axioms::{Memory, Ontology};
+use axioms::Ontology;
+use device::{SliceSource, Source};
 use std::alloc::Global;
 
-// The lines of a certificate that is read, and the reader behind the last of them.
-fn all_lines(alloc: Global, reader: &mut LineReader) -> Result<Vec<Line>, Memory>
-    ensures { IfOk result (λ lines. (reader.old ≡ with_lines (lines_of lines.items) reader.new) × (reader.new.lines ≡ [])) }
+/// The certificate whose text is all that the source gives.
+fn certificate_from<S: Source>(
+    alloc: Global,
+    ontology: &Ontology,
+    source: &mut S,
+) -> Result<Certificate, TextFault>
+    ensures found { IfOk result (λ c. IsReadAs ontology.now (source_state S.Source source.old) (source_state S.Source source.new) c) }
+    ensures fault { IfErr result (λ fault. IsStopped fault ontology.now (source_state S.Source source.old) (source_state S.Source source.new)) }
+    ensures count { S.failures source.old ≤ S.failures source.new }
 {
+    let mut reader = LineReader::new(alloc, ontology, None, source)?;
     let mut lines = Vec::new(alloc);
-    while let Some(line) = reader.next(Vec::new(alloc))? {
+    while let Some(line) = reader.next(source, Vec::new(alloc))? {
         lines.push(line)?;
     }
-    Ok(lines)
+    let listed = reader.finish(alloc, source)?;
+    Ok(Certificate { lines, listed })
 }
 
 /// The certificate whose text the bytes are.
@@ -38,10 +46,12 @@ pub fn read_certificate(
     ensures found { IfOk result (λ c. IsTextOf ontology.now bytes.now c) }
     ensures refused { IfErr result (λ fault. IsRefused fault ontology.now bytes.now) }
 {
-    let mut reader = LineReader::new(ontology, bytes)?;
-    let lines = all_lines(alloc, &mut reader)?;
-    let listed = reader.finish(alloc)?;
-    Ok(Certificate { lines, listed })
+    let mut source = SliceSource::new(bytes);
+    match certificate_from(alloc, ontology, &mut source) {
+        Ok(certificate) => Ok(certificate),
+        Err(TextFault::BadText { at }) => Err(CertFault::BadText { at }),
+        Err(TextFault::Io | TextFault::Memory) => Err(CertFault::Memory),
+    }
 }
 
 /// A text is that of one certificate.
