@@ -49,9 +49,9 @@ numbered_axiom o (suc n) = go (slice_get o.axioms n) (λ a g. Contains-from_slic
     go None h = tt
     go (Some a) h = h a refl
 
-axiom_of : (o : Ontology) (n : Option ℕ) → IfSome (axiom_at o n) (Contains o.axioms)
-axiom_of o None = tt
-axiom_of o (Some n) = numbered_axiom o n
+pub axiom_there : (o : Ontology) (n : Option ℕ) → IfSome (axiom_at o n) (Contains o.axioms)
+axiom_there o None = tt
+axiom_there o (Some n) = numbered_axiom o n
 
 -- every rule keeps truth
 pub follows_keeps_truth : (o : Ontology) → IsOntology o → (i : Interpretation) → IsModel i (axiom_trees o) → (rule : Rule) (premises : List Conclusion) (axiom' : Option Axiom) (conclusion : Conclusion) → IfSome axiom' (Contains o.axioms) → Follows o rule premises axiom' conclusion → AllByRecursion (IsTrueIn o i) premises → IsTrueIn o i conclusion
@@ -70,7 +70,7 @@ taken P xs n h k d l =
 derived_true : (o : Ontology) → IsOntology o → (i : Interpretation) → IsModel i (axiom_trees o) → (before : List Line) (line : Line) → All (λ l. IsTrueIn o i l.conclusion) before → IsDerived o before line → IsTrueIn o i line.conclusion
 derived_true o w i m before line h d =
     follows_keeps_truth o w i m line.rule d.premises (axiom_at o line.axiom') line.conclusion
-    (axiom_of o line.axiom') d.follows
+    (axiom_there o line.axiom') d.follows
     (at_the_numbers (IsTrueIn o i) (map (λ l. l.conclusion) before) line.premises d.premises (All-map (IsTrueIn o i) (λ l. l.conclusion) before h) d.premises_at)
 
 lines_up_to : (o : Ontology) → IsOntology o → (i : Interpretation) → IsModel i (axiom_trees o) → (lines : List Line) → IsDerivation o lines → (bound n : ℕ) → n < bound → (line : Line) → slice_get lines n ≡ Some line → IsTrueIn o i line.conclusion

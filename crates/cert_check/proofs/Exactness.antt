@@ -192,7 +192,7 @@ bad_line_not o t i text a n b =
     b.first.bad (derivation b.first.place b.first.line b.first.there)
 
 rejected_not : (o : Ontology) → IsOntology o → (t i text : List ℕ) → IsAcceptable o t i text → (reason : Reason) → IsVerdict o t i text (Rejected reason) → ⊥
-rejected_not o w t i text a (BadText at) v = v.1 a.certificate a.text_is
+rejected_not o w t i text a (BadText at) v = v.none a.certificate a.text_is
 rejected_not o w t i text a (BadLine n) v = bad_line_not o t i text a n v
 rejected_not o w t i text a (AxiomFails n) v = judged_not o w t i text a (AxiomFails n) v
 rejected_not o w t i text a (ClaimMissing c) v = judged_not o w t i text a (ClaimMissing c) v

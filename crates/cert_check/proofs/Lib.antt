@@ -14,6 +14,9 @@ pub mod Verdicts
 pub mod Truth
 pub mod Derivations
 pub mod Decisions
+pub mod RulesTake
+pub mod KeptLines
+pub mod LinesCome
 pub mod Headline
 pub mod Determined
 pub mod Listings
@@ -22,3 +25,4 @@ pub mod Exactness
 pub mod OneSubclass
 pub mod Contradiction
 pub mod Preorders
+pub mod Judging

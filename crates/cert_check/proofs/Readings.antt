@@ -1,13 +1,13 @@
--- What reading a certificate answers.
-use Rattle.std.proofs.Common.{ℕ, List, Result, Ok, Err, IfOk, IfErr}
+-- What reading a source answers.
+use Rattle.std.proofs.Common.{Result, Ok, Err, IfOk, IfErr}
 use Rattle.axioms.specs.Ontology.{Ontology}
-use Rattle.certificate.specs.Outcome.{IsRefused}
-use Rattle.certificate.specs.declared.fault.CertFault.{CertFault}
-use Rattle.cert_check.specs.Tests.{IsTestedIn, IsReading}
+use Rattle.source_lines.specs.Sources.{SourceState}
+use Rattle.certificate.specs.SourceReading.{IsStopped}
+use Rattle.certificate.specs.declared.fault.TextFault.{TextFault}
+use Rattle.cert_check.specs.Tests.{IsReading, IsTestedFrom}
 use Rattle.cert_check.specs.declared.derivation.TestedCertificate.{TestedCertificate}
 
-pub reading : (o : Ontology) (text : List ℕ) (read : Result TestedCertificate CertFault)
-    → IfOk read (IsTestedIn o text)
-    → IfErr read (λ fault. IsRefused fault o text) → IsReading o text read
-reading o text (Ok c) tested refused = tested
-reading o text (Err fault) tested refused = refused
+pub reading : (o : Ontology) (start now : SourceState) (read : Result TestedCertificate TextFault) → IfOk read (IsTestedFrom o start now) → IfErr read (λ fault. IsStopped fault o start now)
+    → IsReading o start now read
+reading o start now (Ok c) tested stopped = tested
+reading o start now (Err fault) tested stopped = stopped

@@ -1,5 +1,6 @@
 pub mod Lines
 pub mod View
+pub mod Premises
 pub mod Derivation
 pub mod Faults
 pub mod Rows
@@ -8,6 +9,7 @@ pub mod Lists
 pub mod Verdict
 pub mod Tests
 pub mod Acceptance
+pub mod SourceVerdicts
 pub mod NarrowedListings
 pub mod Soundness
 pub mod Examples

@@ -1,15 +1,18 @@
 -- What is kept of lines, and of a certificate, that were read and tested one after another.
-use Rattle.std.specs.Prelude.{◌≡◌, ◌↔◌, ℕ, Bool, IsTrue, List, MatchOption, Result, Ok, Err, map, option_map}
+use Rattle.std.specs.Prelude.{◌≡◌, ◌↔◌, ℕ, Bool, IsTrue, List, [], MatchOption, Result, Ok, Err, Some, map, option_map}
+use Rattle.std.specs.Io.KnownBytes.{IsAtEnd}
 use Rattle.std.specs.declared.option.Option.{Option}
 use Rattle.axioms.specs.Ontology.{Ontology}
 use Rattle.certificate.specs.Certificate.{Conclusion, Line, Listed, Certificate}
 use Rattle.certificate.specs.Writability.{IsTextOf}
-use Rattle.certificate.specs.Outcome.{IsRefused}
+use Rattle.certificate.specs.SourceReading.{HasLines, HasNoLine, IsStopped, Reading}
 use Rattle.certificate.specs.View.{listed_of}
-use Rattle.certificate.specs.declared.fault.CertFault.{CertFault}
+use Rattle.certificate.specs.declared.fault.TextFault.{TextFault}
+use Rattle.source_lines.specs.Sources.{SourceState, Gives}
 use Rattle.cert_check.specs.Derivation.{IsDerivation, IsDerived}
 use Rattle.cert_check.specs.Faults.{IsFirstBadLine}
 use Rattle.cert_check.specs.Lists.{said_by}
+use Rattle.cert_check.specs.Premises.{RulesTakeAtMost}
 use Rattle.cert_check.specs.Verdict.{AgainstShown, AreShown}
 use Rattle.cert_check.specs.View.{said_of}
 use Rattle.cert_check.specs.declared.derivation.ShownLines.{ShownLines}
@@ -55,7 +58,34 @@ IsTestedIn o text c = IsTested o text c.lines.bad c.lines.is_contradictory c.lin
 abbrev pub AgainstTested : Ontology → (taxonomy instances : List ℕ) → TestedCertificate → Option Reason → Type 0
 AgainstTested o t i c = AgainstShown o t i c.lines.is_contradictory c.lines.above c.lines.types (option_map listed_of c.listed)
 
--- what reading a text answers: what is kept of the certificate whose text it is, or why it is that of none
-abbrev pub IsReading : Ontology → List ℕ → Result TestedCertificate CertFault → Type 0
-IsReading o text (Ok c) = IsTestedIn o text c
-IsReading o text (Err fault) = IsRefused fault o text
+-- all that the source gave, to its end, is the text of the certificate of which this is kept
+pub record IsTestedFrom (o : Ontology) (start now : SourceState) (c : TestedCertificate) : Type 0 where
+  pub taken : List ℕ
+  pub given : Gives start now taken
+  pub unfailed : now.failures ≡ start.failures
+  pub end : IsAtEnd now.left
+  pub tested : IsTestedIn o taken c
+
+-- what reading a source answers: what is kept of the certificate whose text it gave, or why it gave none
+abbrev pub IsReading : Ontology → (start now : SourceState) → Result TestedCertificate TextFault → Type 0
+IsReading o start now (Ok c) = IsTestedFrom o start now c
+IsReading o start now (Err fault) = IsStopped fault o start now
+
+-- ---- lines that a reader gives
+
+-- since the first line of the derivation was at hand, these lines were read
+pub record HaveCome (old new : Reading) (before after : SourceState) (lines : List Line) : Type 0 where
+  pub ontology : new.ontology ≡ old.ontology
+  pub most_premises : new.most_premises ≡ old.most_premises
+  pub behind : (start : SourceState) → HasLines start [] old before → HasLines start lines new after
+
+-- of a line no more premises are kept than one more than a rule can take
+abbrev pub KeepsEnough : Reading → Type 0
+KeepsEnough reading = (most : ℕ) × (reading.most_premises ≡ Some most) × RulesTakeAtMost reading.ontology most
+
+-- all lines of the derivation have come, and this is kept of them
+pub record AllAreKept (o : Ontology) (old new : Reading) (before after : SourceState) (tested : TestedLines) : Type 0 where
+  pub lines : List Line
+  pub come : HaveCome old new before after lines
+  pub none : HasNoLine new
+  pub kept : AreKeptIn tested o lines

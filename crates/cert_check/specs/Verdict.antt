@@ -10,6 +10,7 @@ use Rattle.interpretation_spec.specs.NamedInterpretation.{IsFirstUnsatisfied}
 use Rattle.interpretation_spec.specs.Interpretation.{Interpretation, IsInterpretation, IsModel}
 use Rattle.certificate.specs.Certificate.{Expression, Individual, Conclusion, Sub, Edge, Line, Listed, Certificate}
 use Rattle.certificate.specs.Writability.{IsTextOf, IsListedOf}
+use Rattle.certificate.specs.Prefixes.{IsNoText}
 use Rattle.taxonomy.specs.Texts.{taxonomy_text, instances_text, inconsistent_taxonomy_text, inconsistent_instances_text}
 use Rattle.cert_check.specs.declared.verdict.Reason.{Reason}
 use Rattle.cert_check.specs.declared.verdict.Reason.TheVariants.{BadText, BadLine, AxiomFails, ClaimMissing, ClaimDisagrees, IndividualDisagrees, NoContradiction, TaxonomyDiffers, InstancesDiffer}
@@ -180,7 +181,7 @@ pub record HasBadLine (o : Ontology) (text : List ℕ) (number : ℕ) : Type 0 w
 
 -- what the verdict says of an ontology, a taxonomy text, an instances text and a certificate text
 abbrev pub IsVerdict : Ontology → (taxonomy instances text : List ℕ) → Verdict → Type 0
-IsVerdict o t i text (Rejected (BadText at)) = (at ≤ length text) × ((c : Certificate) → IsTextOf o text c → ⊥)
+IsVerdict o t i text (Rejected (BadText at)) = IsNoText o text at
 IsVerdict o t i text (Rejected (BadLine n)) = HasBadLine o text n
 IsVerdict o t i text (Rejected reason) = IsJudged o t i text (Some reason)
 IsVerdict o t i text Accepted = IsJudged o t i text None

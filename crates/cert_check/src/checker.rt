@@ -3,13 +3,17 @@ ghost use Rattle.axioms.specs.Ontology.{axiom_trees};
 ghost use Rattle.cert_check.specs.Acceptance.{AreRight, IsAcceptable};
 ghost use Rattle.listed_model.specs.Listing.{IsListing};
 ghost use Rattle.cert_check.specs.Lists.{AreLists, ArePreorder};
-ghost use Rattle.cert_check.specs.Tests.{AgainstTested, IsReading};
+ghost use Rattle.cert_check.specs.SourceVerdicts.{IsJudgedFrom};
+ghost use Rattle.cert_check.specs.Tests.{AgainstTested, IsReading, IsTestedIn};
 ghost use Rattle.cert_check.specs.Verdict.{ClaimsAgainstLists, ConsistentAgainstShown, ContradictionAgainstShown, HasDerivation, HasTrueLines, IsVerdict, PassesLines, RelationAgainstLists, TextsAgainst, verdict_of_reason};
 ghost use Rattle.certificate.specs.Writability.{IsListedOf};
+ghost use Rattle.certificate.specs.SourceFaults.{stream_fault_as_text};
+ghost use Rattle.certificate.specs.SourceReading.{IsStopped};
 ghost use Rattle.certificate.specs.View.{listed_of};
 ghost use Rattle.interpretation_spec.specs.NamedInterpretation.{IsFirstUnsatisfied};
 ghost use Rattle.interpretation_spec.specs.Interpretation.{Interpretation, IsInterpretation, IsModel};
-ghost use Rattle.std.specs.Prelude.{◌↔◌, ◌≡◌, IfOk, IfSome, List, MatchOption, None, length, option_map, ℕ};
+ghost use Rattle.source_lines.specs.Sources.{SourceState, source_state};
+ghost use Rattle.std.specs.Prelude.{◌↔◌, ◌≡◌, ◌≤◌, IfErr, IfOk, IfSome, List, MatchOption, None, length, option_map, ℕ};
 ghost use Rattle.taxonomy.specs.Outcome.{IsMadeFor, instances_of, taxonomy_of};
 
 use crate::claims::{
@@ -20,10 +24,12 @@ use crate::compare::first_difference;
 use crate::derivation::{ShownLines, TestedCertificate, tested_certificate};
 use crate::verdict::{Reason, Verdict};
 use axioms::{Memory, Ontology};
-use certificate::{CertFault, Listed};
+use certificate::{Listed, TextFault};
+use device::{SliceSource, Source};
 use listed_model::first_unsatisfied;
 use narrowing::narrowed;
 use number_sets::{EpochSet, PackedLists};
+use source_lines::StreamFault;
 use std::alloc::Global;
 use taxonomy::{Outcome, Relation, instances_bytes, reduce, taxonomy_bytes};
 
@@ -46,48 +52,76 @@ pub fn check(
     // What it accepts says what follows from the axioms.
     ensures says { IfOk result (λ v. v ≡ Verdict.Accepted → AreRight ontology.now taxonomy.now instances.now certificate.now) }
 {
-    let read = tested_certificate(alloc, ontology, certificate);
-    let verdict = verdict_on(alloc, ontology, taxonomy, instances, read)?;
-    ontology.well_formed();
-    Ok(verdict)
+    let mut source = SliceSource::new(certificate);
+    // A slice never fails, so nothing but memory is refused.
+    match check_from(alloc, ontology, taxonomy, instances, &mut source) {
+        Ok(verdict) => Ok(verdict),
+        Err(_) => Err(Memory),
+    }
 }
 
-/// The same as [`check`]. The text of the certificate, which may be the greatest of all, is let go as soon as it is read.
-pub fn check_owned(
+/// Whether the certificate that the source gives shows that the taxonomy text and the instances text are those of what
+/// follows from the axioms of the ontology; where it does not, the first reason.
+///
+/// After a line that cannot follow those before it the source is read no further.
+pub fn check_from<S: Source>(
     alloc: Global,
     ontology: &Ontology,
     taxonomy: &[u8],
     instances: &[u8],
-    certificate: Vec<u8>,
-) -> Result<Verdict, Memory>
-    ensures verdict { IfOk result (IsVerdict ontology.now taxonomy.now instances.now certificate.items) }
-    ensures accepted { IfOk result (λ v. (v ≡ Verdict.Accepted) ↔ IsAcceptable ontology.now taxonomy.now instances.now certificate.items) }
-    ensures lines { IfOk result (λ v. PassesLines v → HasTrueLines ontology.now certificate.items) }
-    ensures says { IfOk result (λ v. v ≡ Verdict.Accepted → AreRight ontology.now taxonomy.now instances.now certificate.items) }
+    certificate: &mut S,
+) -> Result<Verdict, StreamFault>
+    ensures judged { IfOk result (IsJudgedFrom ontology.now taxonomy.now instances.now (source_state S.Source certificate.old) (source_state S.Source certificate.new)) }
+    // Io only where the source failed in this call and every whole line that it gave goes on.
+    ensures fault { IfErr result (λ fault. IsStopped (stream_fault_as_text fault) ontology.now (source_state S.Source certificate.old) (source_state S.Source certificate.new)) }
+    ensures count { S.failures certificate.old ≤ S.failures certificate.new }
 {
-    let read = tested_certificate(alloc, ontology, &certificate);
-    drop(certificate);
-    let found = verdict_on(alloc, ontology, taxonomy, instances, read)?;
-    ontology.well_formed();
-    Ok(found)
+    let read = tested_certificate(alloc, ontology, certificate);
+    verdict_on(alloc, ontology, taxonomy, instances, read)
 }
 
-// The verdict on a certificate that was read: the first reason that holds, where there is one.
+// The verdict on what a source gave, or why there is none.
 fn verdict_on(
     alloc: Global,
     ontology: &Ontology,
     taxonomy: &[u8],
     instances: &[u8],
-    read: Result<TestedCertificate, CertFault>,
-) -> Result<Verdict, Memory>
-    requires { (text : List ℕ) × IsReading ontology.now text read }
-    ensures { IfOk result (λ v. (text : List ℕ) → IsReading ontology.now text read → IsVerdict ontology.now taxonomy.now instances.now text v) }
+    read: Result<TestedCertificate, TextFault>,
+) -> Result<Verdict, StreamFault>
+    requires { (start : SourceState) × (now : SourceState) × IsReading ontology.now start now read }
+    ensures judged { IfOk result (λ v. (start now : SourceState) → IsReading ontology.now start now read → IsJudgedFrom ontology.now taxonomy.now instances.now start now v) }
+    ensures fault { IfErr result (λ fault. (start now : SourceState) → IsReading ontology.now start now read → IsStopped (stream_fault_as_text fault) ontology.now start now) }
 {
-    let read = match read {
-        Ok(read) => read,
-        Err(CertFault::BadText { at }) => return Ok(Verdict::Rejected(Reason::BadText { at })),
-        Err(CertFault::Memory) => return Err(Memory),
-    };
+    ontology.well_formed();
+    match read {
+        Ok(tested) => Ok(verdict_on_tested(alloc, ontology, taxonomy, instances, tested)?),
+        Err(fault) => verdict_on_fault(fault),
+    }
+}
+
+// The verdict where no certificate was read: its text is that of none, or there is no verdict.
+fn verdict_on_fault(fault: TextFault) -> Result<Verdict, StreamFault>
+    ensures rejected { IfOk result (λ v. (at : ℕ) × (fault ≡ TextFault.BadText at) × (v ≡ Verdict.Rejected (Reason.BadText at))) }
+    ensures fault { IfErr result (λ same. fault ≡ stream_fault_as_text same) }
+{
+    match fault {
+        TextFault::BadText { at } => Ok(Verdict::Rejected(Reason::BadText { at })),
+        TextFault::Io => Err(StreamFault::Io),
+        TextFault::Memory => Err(StreamFault::Memory),
+    }
+}
+
+// The verdict on a certificate that was read: the first reason that holds, where there is one.
+fn verdict_on_tested(
+    alloc: Global,
+    ontology: &Ontology,
+    taxonomy: &[u8],
+    instances: &[u8],
+    read: TestedCertificate,
+) -> Result<Verdict, Memory>
+    requires { (text : List ℕ) × IsTestedIn ontology.now text read }
+    ensures { IfOk result (λ v. (text : List ℕ) → IsTestedIn ontology.now text read → IsVerdict ontology.now taxonomy.now instances.now text v) }
+{
     if let Some(number) = read.lines.bad {
         return Ok(Verdict::Rejected(Reason::BadLine { number }));
     }

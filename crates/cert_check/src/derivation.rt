@@ -1,21 +1,23 @@
 //! Whether the lines of a certificate are a derivation, while they are read.
 ghost use Rattle.axioms.specs.View.{at_number, axiom_of};
 ghost use Rattle.cert_check.specs.Derivation.{at_numbers, axiom_at};
-ghost use Rattle.cert_check.specs.Tests.{AreKeptIn, AreTested, IsTestedIn, ShowsThose, TellsDerived};
+ghost use Rattle.cert_check.specs.Tests.{AllAreKept, AreKeptIn, AreTested, IsTestedFrom, KeepsEnough, ShowsThose, TellsDerived};
 ghost use Rattle.cert_check.specs.Verdict.{IsContradiction, TellsContradiction};
 ghost use Rattle.cert_check.specs.View.{said_of};
 ghost use Rattle.certificate.specs.Certificate as spec;
 ghost use Rattle.certificate.specs.Writability.{IsLineOf};
-ghost use Rattle.certificate.specs.Outcome.{IsRefused};
-ghost use Rattle.certificate.specs.Rest.{with_lines};
+ghost use Rattle.certificate.specs.SourceReading.{HasLines, IsStopped};
 ghost use Rattle.certificate.specs.View.{conclusion_of, line_of};
-ghost use Rattle.std.specs.Prelude.{◌↔◌, ◌≡◌, ◌++◌, ◌∷◌, [], List, IfErr, IfOk, IsTrue, None, OnOk, Some, if◌then◌else◌, map, option_map, slice_get};
+ghost use Rattle.source_lines.specs.Sources.{SourceState, source_state};
+ghost use Rattle.std.specs.Prelude.{◌↔◌, ◌≡◌, ◌≤◌, ◌++◌, ◌∷◌, [], List, IfErr, IfOk, IsTrue, None, OnOk, Some, if◌then◌else◌, map, option_map, slice_get};
 
+use crate::premises::most_premises;
 use crate::rules::follows;
 use crate::short_conclusion::ShortConclusion;
 use crate::superclasses::{put_below, put_into};
 use axioms::{Axiom, ExprId, Memory, Ontology};
-use certificate::{CertFault, Conclusion, Line, LineReader, Listed, Subject};
+use certificate::{Conclusion, Line, LineReader, Listed, Subject, TextFault};
+use device::Source;
 use number_sets::{OpenLists, PackedLists};
 use std::alloc::Global;
 
@@ -201,38 +203,46 @@ fn no_lines(alloc: Global, ontology: &Ontology) -> Result<TestedLines, Memory>
 }
 
 // Reads and tests all lines that come.
-fn tested_lines(
+fn tested_lines<S: Source>(
     alloc: Global,
     ontology: &Ontology,
     reader: &mut LineReader,
-) -> Result<TestedLines, Memory>
-    requires { reader.old.ontology ≡ ontology.now }
-    ensures { IfOk result (λ tested. (lines : List spec.Line) × (reader.old ≡ with_lines lines reader.new) × (reader.new.lines ≡ []) × AreKeptIn tested ontology.now lines) }
+    source: &mut S,
+) -> Result<TestedLines, TextFault>
+    requires ontology { reader.old.ontology ≡ ontology.now }
+    requires enough { KeepsEnough reader.old }
+    requires start { (start : SourceState) × HasLines start [] reader.old (source_state S.Source source.old) }
+    ensures kept { IfOk result (AllAreKept ontology.now reader.old reader.new (source_state S.Source source.old) (source_state S.Source source.new)) }
+    ensures fault { IfErr result (λ fault. (start : SourceState) → HasLines start [] reader.old (source_state S.Source source.old)
+        → IsStopped fault ontology.now start (source_state S.Source source.new)) }
+    ensures count { S.failures source.old ≤ S.failures source.new }
 {
     let mut tested = no_lines(alloc, ontology)?;
     let mut premises = Vec::new(alloc);
     let mut room = Vec::new(alloc);
-    while let Some(line) = reader.next(room)? {
+    while let Some(line) = reader.next(source, room)? {
         tested.add(ontology, &mut premises, &line)?;
         room = line.premises;
     }
     Ok(tested)
 }
 
-/// Reads the certificate whose text this is, and tests each line when it is read, by those before it.
+/// Reads the certificate whose text the source gives, and tests each line when it is read, by those before it.
 ///
-/// Of a line only what it says is kept, and when all are read only the classes that they put above classes and individuals. Refused as by [`read_certificate`](certificate::read_certificate): a text that is that of no
-/// certificate is, whichever line of it is bad.
-pub(crate) fn tested_certificate(
+/// Of a line only what it says is kept, and when all are read only the classes that they put above classes and individuals.
+/// The text is that of none where some line cannot follow those before it, whichever line of it is bad.
+pub(crate) fn tested_certificate<S: Source>(
     alloc: Global,
     ontology: &Ontology,
-    text: &[u8],
-) -> Result<TestedCertificate, CertFault>
-    ensures tested { IfOk result (IsTestedIn ontology.now text.now) }
-    ensures refused { IfErr result (λ fault. IsRefused fault ontology.now text.now) }
+    source: &mut S,
+) -> Result<TestedCertificate, TextFault>
+    ensures tested { IfOk result (IsTestedFrom ontology.now (source_state S.Source source.old) (source_state S.Source source.new)) }
+    ensures fault { IfErr result (λ fault. IsStopped fault ontology.now (source_state S.Source source.old) (source_state S.Source source.new)) }
+    ensures count { S.failures source.old ≤ S.failures source.new }
 {
-    let mut reader = LineReader::new(ontology, text)?;
-    let lines = tested_lines(alloc, ontology, &mut reader)?.shown(alloc)?;
-    let listed = reader.finish(alloc)?;
+    let most = most_premises(ontology);
+    let mut reader = LineReader::new(alloc, ontology, Some(most), source)?;
+    let lines = tested_lines(alloc, ontology, &mut reader, source)?.shown(alloc)?;
+    let listed = reader.finish(alloc, source)?;
     Ok(TestedCertificate { lines, listed })
 }

@@ -7,6 +7,7 @@ mod compare;
 mod derivation;
 mod listing;
 mod operands;
+mod premises;
 mod rules;
 mod short_conclusion;
 mod superclasses;
@@ -17,8 +18,9 @@ pub use certificate::{
     CertFault, Certificate, Conclusion, Line, Listed, MakeFault, Rule, Subject, read_certificate,
     write_certificate,
 };
-pub use checker::{check, check_owned};
+pub use checker::{check, check_from};
 pub use listing::interpretation_of;
 pub use narrowing::narrow;
+pub use source_lines::StreamFault;
 pub use theory::{narrowed_listings, soundness, worked_certificates};
 pub use verdict::{Reason, Verdict};

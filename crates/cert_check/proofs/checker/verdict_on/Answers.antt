@@ -1,21 +1,12 @@
-use Rattle.std.proofs.Common.{ℕ, Option, MatchOption, sym, subst}
-use Rattle.certificate.specs.Certificate.{Listed}
-use Rattle.cert_check.specs.Derivation.{IsDerivation}
-use Rattle.cert_check.specs.Faults.{IsFirstBadLine}
+use Rattle.std.proofs.Common.{subst}
+use Rattle.certificate.specs.SourceReading.{IsStopped}
 use Rattle.cert_check.specs.Tests.{IsReading}
-use Rattle.cert_check.specs.Verdict.{Against, IsVerdict}
-use Rattle.cert_check.proofs.Verdicts.{judged_verdict}
+use Rattle.cert_check.proofs.Judging.{judged_at_end, judged_no_text}
 use Rattle.cert_check.proofs.checker.verdict_on.Goals as goal
 
-pub returns : goal.returns
-returns c = λ text r.
+pub returns-in_ok-verdict_on_tested-in-Ok-clause-judged : goal.returns-in_ok-verdict_on_tested-in-Ok-clause-judged
+returns-in_ok-verdict_on_tested-in-Ok-clause-judged c = λ start now r.
     let o = c.args.ontology.now in
-    let t = c.args.taxonomy.now in
-    let i = c.args.instances.now in
-    let tested = subst (IsReading o text) c.in-Ok.is r in
-    let lines = tested.certificate.lines in
-    let found = c.in_ok-found.found in
-    let derivation = subst (λ (bad : Option ℕ). MatchOption bad (IsDerivation o lines) (IsFirstBadLine o lines)) c.in_default.is tested.bad_is in
-    let against = c.in_ok-found.ensures lines tested.shown in
-    subst (IsVerdict o t i text) (sym c.verdict_of.ensures)
-    (judged_verdict o t i text tested.certificate found tested.text_is derivation (subst (λ (listed : Option Listed). Against o t i lines listed found) tested.listed_is against))
+    let read = subst (IsReading o start now) c.in-Ok.is r in
+    judged_at_end o c.well_formed-2.ensures c.args.taxonomy.now c.args.instances.now start now c.in-Ok.tested c.in_ok-verdict_on_tested-in-Ok.field-0 read
+    (c.in_ok-verdict_on_tested-in-Ok.ensures read.taken read.tested)
