@@ -1,6 +1,7 @@
 -- Which files the answers of calls blame.
 use Rattle.std.proofs.Common.{◌≡◌, ◌∙◌, ◌<◌, ◌≤◌, ◌-◌, ◌^◌, ℕ, zero, suc, List, Bool, false, Option, Some, None, Result, Ok, Err, refl, sym, ap, subst, inl, inr, arith}
-use Rattle.session.specs.Devices.{Device, FailsIn, IsReadUntil, SourceState, Takes}
+use Rattle.session.specs.Devices.{Device, FailsIn, IsReadUntil, Takes}
+use Rattle.source_lines.specs.Sources.{SourceState}
 use Rattle.cli.specs.Files.{AsksFile, BlamesFile, ClassifiesFile, IsUnopened, IsUnreadable, NoWriteFails, SomeWriteFails, Store}
 use Rattle.cli.specs.Classifications.{IsClassification, IsDocumentRead}
 use Rattle.session.specs.WrittenTexts.{AreWritten, AreWrittenUntil, Sinks, Texts}

@@ -44,7 +44,7 @@ pub refused_memory : (file : Option (List ℕ)) (most : ℕ) → RefusesKnown fi
 refused_memory None most = tt
 refused_memory (Some bytes) most = tt
 
-known_file : (file left : Option (List ℕ)) (bytes : List ℕ) → Keeps file left → AreKnown left bytes → AreKnown file bytes
+pub known_file : (file left : Option (List ℕ)) (bytes : List ℕ) → Keeps file left → AreKnown left bytes → AreKnown file bytes
 known_file None left bytes kept known = tt
 known_file (Some xs) None bytes kept known = absurd kept
 known_file (Some xs) (Some ys) bytes kept known = sym kept ∙ known

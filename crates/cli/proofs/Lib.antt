@@ -1,4 +1,5 @@
 pub mod Kept
+pub mod Certificates
 pub mod Questions
 pub mod Telling
 pub mod Pieces

@@ -1,12 +1,15 @@
 -- What a check of the texts of a document says.
-use Rattle.std.specs.Prelude.{◌≡◌, ◌≤◌, ◌↔◌, ℕ, zero, suc, List, Option, Some, None, Result, Ok, Err}
+use Rattle.std.specs.Prelude.{◌≡◌, ◌≤◌, ◌↔◌, ◌⊎◌, ℕ, zero, suc, List, Option, Some, None, Result, Ok, Err}
 use Rattle.axioms.specs.Ontology.{Ontology}
 use Rattle.axioms.specs.WellFormedness.{IsOntology}
 use Rattle.cert_check.specs.Acceptance.{AreRight, IsAcceptable}
+use Rattle.cert_check.specs.SourceVerdicts.{IsBadText, IsVerdictWith}
 use Rattle.cert_check.specs.Verdict.{HasTrueLines, IsVerdict, PassesLines}
 use Rattle.cert_check.specs.declared.verdict.Verdict.{Verdict}
 use Rattle.cert_check.specs.declared.verdict.Verdict.TheVariants.{Accepted}
-use Rattle.session.specs.Devices.{SourceState, source_state, IsReadOn, IsReadToItsEnd, IsReadUntil, FailsInReading}
+use Rattle.certificate.specs.SourceReading.{StopsGoingOn}
+use Rattle.session.specs.Devices.{IsReadUntil}
+use Rattle.source_lines.specs.Sources.{SourceState, source_state, IsReadOn, IsReadToItsEnd, FailsInReading}
 use Rattle.cli.specs.Classifications.{IsRead}
 use Rattle.cli.specs.declared.fault.CheckFault.{CheckFault}
 use Rattle.cli.specs.declared.fault.CheckFault.TheVariants.{Document, Memory, Io}
@@ -33,6 +36,20 @@ pub record IsChecked (most : ℕ) (document taxonomy instances certificate : Opt
   pub lines : PassesLines verdict → HasTrueLines o certificate_text
   pub accepted : (verdict ≡ Accepted) ↔ IsAcceptable o taxonomy_text instances_text certificate_text
   pub right : verdict ≡ Accepted → AreRight o taxonomy_text instances_text certificate_text
+
+-- the verdict is on that ontology, the two texts and the certificate's
+pub record IsCertificateJudged (o : Ontology) (taxonomy instances : List ℕ) (certificate : Option (List ℕ)) (verdict : Verdict) : Type 0 where
+  pub certificate_text : List ℕ
+  pub certificate_is : AreKnown certificate certificate_text
+  pub judged : IsVerdictWith o taxonomy instances certificate_text verdict
+
+-- the verdict is on that ontology and the three texts
+pub record AreTextsJudged (o : Ontology) (taxonomy instances certificate : Option (List ℕ)) (verdict : Verdict) : Type 0 where
+  pub taxonomy_text : List ℕ
+  pub instances_text : List ℕ
+  pub taxonomy_is : AreKnown taxonomy taxonomy_text
+  pub instances_is : AreKnown instances instances_text
+  pub judged : IsCertificateJudged o taxonomy_text instances_text certificate verdict
 
 -- what a fault says of the document: it is refused, or it is read and this came behind that. The sources of the texts are
 -- numbered from 2
@@ -72,14 +89,19 @@ AreTextsReadUntil (Io (suc (suc (suc (suc zero))))) old new =
     IsReadToItsEnd old.taxonomy new.taxonomy × IsReadToItsEnd old.instances new.instances × FailsInReading old.certificate new.certificate
 AreTextsReadUntil (Io n) old new = ⊥
 
--- what was read of the sources of the three texts: each to its end, or until this fault
-abbrev pub AreTextsRead : {X : Type 0} → Result X CheckFault → (old new : TextSources) → Type 0
-AreTextsRead (Ok x) old new =
-    IsReadToItsEnd old.taxonomy new.taxonomy × IsReadToItsEnd old.instances new.instances × IsReadToItsEnd old.certificate new.certificate
+-- what was read of the certificate's source where this is the verdict: all; or some, where it is that the text is that of no certificate
+abbrev pub IsCertificateRead : Verdict → (old new : SourceState) → Type 0
+IsCertificateRead verdict old new = IsReadToItsEnd old new ⊎ (IsBadText verdict × IsReadOn old new)
+
+-- what was read of the sources of the three texts: each to its end, but the certificate's maybe less where its text is that of none; or
+-- until this fault
+abbrev pub AreTextsRead : Result Verdict CheckFault → (old new : TextSources) → Type 0
+AreTextsRead (Ok verdict) old new =
+    IsReadToItsEnd old.taxonomy new.taxonomy × IsReadToItsEnd old.instances new.instances × IsCertificateRead verdict old.certificate new.certificate
 AreTextsRead (Err fault) old new = AreTextsReadUntil fault old new
 
 -- what was read of the sources of the three texts, by what they tell before and after a call
-abbrev pub ReadsTexts : {T I C X : Type 0} → Ghosts T → Ghosts I → Ghosts C → (old new : T × I × C) → Result X CheckFault → Type 0
+abbrev pub ReadsTexts : {T I C : Type 0} → Ghosts T → Ghosts I → Ghosts C → (old new : T × I × C) → Result Verdict CheckFault → Type 0
 ReadsTexts T I C old new answer = AreTextsRead answer (text_states T I C old) (text_states T I C new)
 
 -- the sources of the document and of the three texts
@@ -91,16 +113,16 @@ pub record Sources : Type 0 where
 abbrev pub states : {D T I C : Type 0} → Ghosts D → Ghosts T → Ghosts I → Ghosts C → D × T × I × C → Sources
 states D T I C four = record { document = source_state D four.0; texts = text_states T I C (four.1, four.2, four.3) }
 
--- what was read of the four: each to its end, or until this fault. The texts are not touched where the document is at fault,
--- and the document was read to its end where one of them is
-abbrev pub AreRead : {X : Type 0} → Result X CheckFault → (old new : Sources) → Type 0
-AreRead (Ok x) old new = IsReadToItsEnd old.document new.document × AreTextsRead (Ok x) old.texts new.texts
+-- what was read of the four: each to its end, but the certificate's maybe less, as above; or until this fault. The texts are not
+-- touched where the document is at fault, and the document was read to its end where one of them is
+abbrev pub AreRead : Result Verdict CheckFault → (old new : Sources) → Type 0
+AreRead (Ok verdict) old new = IsReadToItsEnd old.document new.document × AreTextsRead (Ok verdict) old.texts new.texts
 AreRead (Err (Document fault)) old new = IsReadUntil fault old.document new.document × (new.texts ≡ old.texts)
 AreRead (Err Memory) old new = IsReadToItsEnd old.document new.document × AreTextsReadUntil Memory old.texts new.texts
 AreRead (Err (Io n)) old new = IsReadToItsEnd old.document new.document × AreTextsReadUntil (Io n) old.texts new.texts
 
--- what was read of the four sources, by what they tell before and after a call: each to its end, or until this fault
-abbrev pub Reads : {D T I C X : Type 0} → Ghosts D → Ghosts T → Ghosts I → Ghosts C → (old new : D × T × I × C) → Result X CheckFault → Type 0
+-- what was read of the four sources, by what they tell before and after a call
+abbrev pub Reads : {D T I C : Type 0} → Ghosts D → Ghosts T → Ghosts I → Ghosts C → (old new : D × T × I × C) → Result Verdict CheckFault → Type 0
 Reads D T I C old new answer = AreRead answer (states D T I C old) (states D T I C new)
 
 -- what was read of the source of a text: all; or memory was refused; or the fault is the number of the source, and it failed
@@ -109,3 +131,18 @@ IsTextRead number (Ok x) old new = IsReadToItsEnd old new
 IsTextRead number (Err (Document fault)) old new = ⊥
 IsTextRead number (Err Memory) old new = IsReadOn old new
 IsTextRead number (Err (Io n)) old new = (n ≡ number) × FailsInReading old new
+
+-- why there is no verdict on the text that the certificate's source gives: it failed, and every whole line that it gave can follow those
+-- before it; or memory was refused
+abbrev pub IsUnjudged : Ontology → (old new : SourceState) → CheckFault → Type 0
+IsUnjudged o old new (Document fault) = ⊥
+IsUnjudged o old new Memory = IsReadOn old new
+IsUnjudged o old new (Io n) = (n ≡ 4) × StopsGoingOn o old new
+
+-- the certificate's source failed: the document reads as this ontology, and every whole line that the source gave can follow those before
+-- it
+pub record StopsInCertificate (most : ℕ) (document : Option (List ℕ)) (old new : SourceState) : Type 0 where
+  pub ontology : Ontology
+  pub reads : ReadsKnown document most ontology
+  pub well_formed : IsOntology ontology
+  pub stops : StopsGoingOn ontology old new

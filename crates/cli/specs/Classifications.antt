@@ -3,7 +3,8 @@ use Rattle.std.specs.Prelude.{◌≡◌, ◌≤◌, ℕ, List, Option, Result, O
 use Rattle.axioms.specs.Ontology.{Ontology}
 use Rattle.classification.specs.declared.classification.Summary.{Summary}
 use Rattle.session.specs.Classifications.{IsClassified}
-use Rattle.session.specs.Devices.{SourceState, IsReadToItsEnd, IsReadUntil}
+use Rattle.session.specs.Devices.{IsReadUntil}
+use Rattle.source_lines.specs.Sources.{SourceState, IsReadToItsEnd}
 use Rattle.session.specs.WrittenTexts.{Sinks, Texts, AreWritten, AreWrittenUntil, all_seen}
 use Rattle.cli.specs.declared.fault.ClassifyFault.{ClassifyFault}
 use Rattle.cli.specs.declared.fault.ClassifyFault.TheVariants.{Document, Memory, Limit, Io}

@@ -1,19 +1,19 @@
 //! The check of a document's texts.
-ghost use Rattle.cert_check.specs.Acceptance.{AreRight, IsAcceptable};
-ghost use Rattle.cert_check.specs.Verdict.{HasTrueLines, IsVerdict, PassesLines};
-ghost use Rattle.cli.specs.Checks.{AreKnown, IsCheckAnswer, IsChecked, IsCheckFault, IsTextRead, Reads, ReadsTexts};
-ghost use Rattle.session.specs.Devices.{source_state};
+ghost use Rattle.cert_check.specs.SourceVerdicts.{IsJudgedFrom};
+ghost use Rattle.certificate.specs.SourceReading.{StopsGoingOn};
+ghost use Rattle.cli.specs.Checks.{AreKnown, AreTextsJudged, IsCertificateJudged, IsCheckAnswer, IsTextRead, IsUnjudged, Reads, ReadsTexts, StopsInCertificate};
+ghost use Rattle.source_lines.specs.Sources.{source_state};
 ghost use Rattle.cli.specs.Files.{AreTextsThere, BlamesText, ChecksFiles, IsTextUnread};
 ghost use Rattle.cli.specs.Runs.{IsCheckedFiles};
 ghost use Rattle.cli.specs.declared.fault.CheckFault.TheVariants as faults;
 ghost use Rattle.profile.specs.declared.fault.DocumentFault.TheVariants as document_faults;
-ghost use Rattle.std.specs.Prelude.{◌↔◌, ◌≡◌, ◌+◌, ◌<◌, IfErr, IfOk, IsErrOf, OnOk};
+ghost use Rattle.std.specs.Prelude.{◌+◌, ◌<◌, IfErr, IfOk, IsErrOf, OnOk};
 ghost use Rattle.system_files.specs.Contents.{IsThere};
 
 use crate::fault::CheckFault;
 use crate::opening::ontology_of;
-use axioms::{Memory, Ontology};
-use cert_check::{Verdict, check_owned};
+use axioms::Ontology;
+use cert_check::{StreamFault, Verdict, check_from};
 use command_line::Paths;
 use device::{ReadFault, Source, read_all};
 use profile::{Limits, read_document};
@@ -33,24 +33,36 @@ fn bytes_of<S: Source>(alloc: Global, source: &mut S, number: usize) -> Result<V
     }
 }
 
-/// The bytes of the three texts.
-#[derive(Drop)]
-struct TextBytes {
-    taxonomy: Vec<u8>,
-    instances: Vec<u8>,
-    certificate: Vec<u8>,
+/// The verdict on the two texts and that of the certificate's source, which is the fourth.
+fn judged<C: Source>(
+    alloc: Global,
+    ontology: &Ontology,
+    taxonomy: &[u8],
+    instances: &[u8],
+    certificate: &mut C,
+) -> Result<Verdict, CheckFault>
+    ensures judged { IfOk result (IsJudgedFrom ontology.now taxonomy.now instances.now
+        (source_state C.Source certificate.old) (source_state C.Source certificate.new)) }
+    ensures fault { IfErr result (IsUnjudged ontology.now (source_state C.Source certificate.old) (source_state C.Source certificate.new)) }
+{
+    match check_from(alloc, ontology, taxonomy, instances, certificate) {
+        Ok(verdict) => Ok(verdict),
+        Err(StreamFault::Io) => Err(CheckFault::Io(4)),
+        Err(StreamFault::Memory) => Err(CheckFault::Memory),
+    }
 }
 
-/// All the bytes of the three sources, in their order, which are numbered from 2.
-fn texts_of<T: Source, I: Source, C: Source>(
+/// The verdict on the texts of the three sources, which are read in their order and are numbered from 2.
+fn texts_judged<T: Source, I: Source, C: Source>(
     alloc: Global,
+    ontology: &Ontology,
     taxonomy: &mut T,
     instances: &mut I,
     certificate: &mut C,
-) -> Result<TextBytes, CheckFault>
-    ensures taxonomy { IfOk result (λ t. AreKnown (T.left taxonomy.old) t.taxonomy.items) }
-    ensures instances { IfOk result (λ t. AreKnown (I.left instances.old) t.instances.items) }
-    ensures certificate { IfOk result (λ t. AreKnown (C.left certificate.old) t.certificate.items) }
+) -> Result<Verdict, CheckFault>
+    ensures judged { IfOk result (AreTextsJudged ontology.now (T.left taxonomy.old) (I.left instances.old) (C.left certificate.old)) }
+    ensures stops { IsErrOf result (faults.Io 4) → StopsGoingOn ontology.now
+        (source_state C.Source certificate.old) (source_state C.Source certificate.new) }
     ensures read { ReadsTexts T.Source I.Source C.Source
         (taxonomy.old, instances.old, certificate.old) (taxonomy.new, instances.new, certificate.new) result }
 {
@@ -62,67 +74,12 @@ fn texts_of<T: Source, I: Source, C: Source>(
         Ok(instances) => instances,
         Err(fault) => return Err(fault),
     };
-    match bytes_of(alloc, certificate, 4) {
-        Ok(certificate) => Ok(TextBytes {
-            taxonomy,
-            instances,
-            certificate,
-        }),
-        Err(fault) => Err(fault),
-    }
-}
-
-/// The verdict on the three texts, which are let go.
-fn judged(alloc: Global, ontology: &Ontology, texts: TextBytes) -> Result<Verdict, Memory>
-    ensures verdict { IfOk result (IsVerdict ontology.now texts.taxonomy.items texts.instances.items texts.certificate.items) }
-    ensures accepted { IfOk result (λ v. (v ≡ Verdict.Accepted)
-        ↔ IsAcceptable ontology.now texts.taxonomy.items texts.instances.items texts.certificate.items) }
-    ensures lines { IfOk result (λ v. PassesLines v → HasTrueLines ontology.now texts.certificate.items) }
-    ensures right { IfOk result (λ v. v ≡ Verdict.Accepted
-        → AreRight ontology.now texts.taxonomy.items texts.instances.items texts.certificate.items) }
-{
-    let TextBytes {
-        taxonomy,
-        instances,
-        certificate,
-    } = texts;
-    check_owned(alloc, ontology, &taxonomy, &instances, certificate)
-}
-
-/// The ontology of the document, and the verdict on its texts.
-fn checked<D: Source, T: Source, I: Source, C: Source>(
-    alloc: Global,
-    document: &mut D,
-    taxonomy: &mut T,
-    instances: &mut I,
-    certificate: &mut C,
-    limits: &Limits,
-    state: RandomState,
-) -> Result<(Ontology, Verdict), CheckFault>
-    ensures checked { IfOk result (λ p. IsChecked limits.now.max_bytes
-        (D.left document.old) (T.left taxonomy.old) (I.left instances.old) (C.left certificate.old) p.0 p.1) }
-    ensures fault { IfErr result (IsCheckFault limits.now.max_bytes (D.left document.old)) }
-    ensures beyond { IsErrOf result (faults.Document document_faults.TooLarge) → D.most document.new + limits.now.max_bytes < D.most document.old }
-    ensures read { Reads D.Source T.Source I.Source C.Source
-        (document.old, taxonomy.old, instances.old, certificate.old) (document.new, taxonomy.new, instances.new, certificate.new) result }
-{
-    let ontology = match read_document(alloc, document, limits, state) {
-        Ok(ontology) => ontology,
-        Err(fault) => return Err(CheckFault::Document(fault)),
-    };
-    ontology.well_formed();
-    let texts = match texts_of(alloc, taxonomy, instances, certificate) {
-        Ok(texts) => texts,
-        Err(fault) => return Err(fault),
-    };
-    match judged(alloc, &ontology, texts) {
-        Ok(verdict) => Ok((ontology, verdict)),
-        Err(_) => Err(CheckFault::Memory),
-    }
+    judged(alloc, ontology, &taxonomy, &instances, certificate)
 }
 
 /// Reads the document and the three texts, in this order up to the first fault, and answers whether the certificate
-/// shows that the other two are right.
+/// shows that the other two are right. The certificate is not held in memory: it is checked as it is read, and behind a
+/// line that cannot follow those before it it is read no further.
 ///
 /// # Errors
 ///
@@ -143,23 +100,21 @@ pub fn check_document<D: Source, T: Source, I: Source, C: Source>(
         (D.left document.old) (T.left taxonomy.old) (I.left instances.old) (C.left certificate.old) result }
     // Of a source that does not tell its bytes, too: it gave more than the limit.
     ensures beyond { IsErrOf result (faults.Document document_faults.TooLarge) → D.most document.new + limits.now.max_bytes < D.most document.old }
-    // After a verdict each source was read to its end, and none failed. A fault names a source only where it failed: those
-    // before it were read to their ends, and those behind it are not touched.
+    // After a verdict each source was read to its end, and none failed; but where the certificate's text is that of none,
+    // its source may have more. A fault names a source only where it failed: those before it were read to their ends, and
+    // those behind it are not touched.
     ensures read { Reads D.Source T.Source I.Source C.Source
         (document.old, taxonomy.old, instances.old, certificate.old) (document.new, taxonomy.new, instances.new, certificate.new) result }
+    // The certificate's source is at fault only where every whole line that it gave can follow those before it.
+    ensures stops { IsErrOf result (faults.Io 4) → StopsInCertificate limits.now.max_bytes (D.left document.old)
+        (source_state C.Source certificate.old) (source_state C.Source certificate.new) }
 {
-    match checked(
-        alloc,
-        document,
-        taxonomy,
-        instances,
-        certificate,
-        limits,
-        state,
-    ) {
-        Ok((_ontology, verdict)) => Ok(verdict),
-        Err(fault) => Err(fault),
-    }
+    let ontology = match read_document(alloc, document, limits, state) {
+        Ok(ontology) => ontology,
+        Err(fault) => return Err(CheckFault::Document(fault)),
+    };
+    ontology.well_formed();
+    texts_judged(alloc, &ontology, taxonomy, instances, certificate)
 }
 
 /// All the bytes of the file at the path, which is the text of that number.
@@ -180,11 +135,35 @@ fn file_bytes<F: Files>(
     }
 }
 
-/// All the bytes of the files of the three texts, in their order.
-fn texts_in<F: Files>(alloc: Global, files: &F, paths: &Paths<'_>) -> Result<TextBytes, CheckFault>
-    ensures taxonomy { IfOk result (λ t. AreKnown (F.content files.now paths.now.taxonomy.now) t.taxonomy.items) }
-    ensures instances { IfOk result (λ t. AreKnown (F.content files.now paths.now.instances.now) t.instances.items) }
-    ensures certificate { IfOk result (λ t. AreKnown (F.content files.now paths.now.certificate.now) t.certificate.items) }
+/// The verdict on the two texts and that of the certificate in the file at the path.
+fn judged_in<F: Files>(
+    alloc: Global,
+    ontology: &Ontology,
+    taxonomy: &[u8],
+    instances: &[u8],
+    files: &F,
+    path: &str,
+) -> Result<Verdict, CheckFault>
+    ensures judged { IfOk result (IsCertificateJudged ontology.now taxonomy.now instances.now (F.content files.now path.now)) }
+    ensures there { OnOk result (IsThere (F.is_known files.now) (F.content files.now path.now)) }
+    ensures fault { IfErr result (IsTextUnread 4 F.reads_fail (F.is_known files.now) (F.content files.now path.now)) }
+{
+    match files.reader(path) {
+        Ok(mut source) => judged(alloc, ontology, taxonomy, instances, &mut source),
+        Err(OpenFault::Missing) => Err(CheckFault::Io(4)),
+        Err(OpenFault::Memory) => Err(CheckFault::Memory),
+    }
+}
+
+/// The verdict on the texts in the three files, which are read in their order.
+fn files_judged<F: Files>(
+    alloc: Global,
+    ontology: &Ontology,
+    files: &F,
+    paths: &Paths<'_>,
+) -> Result<Verdict, CheckFault>
+    ensures judged { IfOk result (AreTextsJudged ontology.now (F.content files.now paths.now.taxonomy.now)
+        (F.content files.now paths.now.instances.now) (F.content files.now paths.now.certificate.now)) }
     ensures there { OnOk result (AreTextsThere (F.is_known files.now) (F.content files.now) paths.now) }
     ensures fault { IfErr result (BlamesText F.reads_fail (F.is_known files.now) (F.content files.now) paths.now) }
 {
@@ -196,14 +175,14 @@ fn texts_in<F: Files>(alloc: Global, files: &F, paths: &Paths<'_>) -> Result<Tex
         Ok(instances) => instances,
         Err(fault) => return Err(fault),
     };
-    match file_bytes(alloc, files, paths.certificate, 4) {
-        Ok(certificate) => Ok(TextBytes {
-            taxonomy,
-            instances,
-            certificate,
-        }),
-        Err(fault) => Err(fault),
-    }
+    judged_in(
+        alloc,
+        ontology,
+        &taxonomy,
+        &instances,
+        files,
+        paths.certificate,
+    )
 }
 
 /// The ontology of the document in a file, and the verdict on its texts in three more.
@@ -222,12 +201,8 @@ pub(crate) fn checked_files<F: Files>(
         Err(fault) => return Err(CheckFault::Document(fault)),
     };
     ontology.well_formed();
-    let texts = match texts_in(alloc, files, paths) {
-        Ok(texts) => texts,
-        Err(fault) => return Err(fault),
-    };
-    match judged(alloc, &ontology, texts) {
+    match files_judged(alloc, &ontology, files, paths) {
         Ok(verdict) => Ok((ontology, verdict)),
-        Err(_) => Err(CheckFault::Memory),
+        Err(fault) => Err(fault),
     }
 }

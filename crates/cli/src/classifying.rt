@@ -1,5 +1,5 @@
 //! Classification of a document.
-ghost use Rattle.session.specs.Devices.{source_state};
+ghost use Rattle.source_lines.specs.Sources.{source_state};
 ghost use Rattle.cli.specs.Classifications.{Classifies, IsDocumentRead};
 ghost use Rattle.session.specs.WrittenTexts.{KeepPaths};
 ghost use Rattle.cli.specs.declared.fault.ClassifyFault.TheVariants as faults;

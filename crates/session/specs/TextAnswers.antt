@@ -23,7 +23,8 @@ use Rattle.answers.specs.declared.explanation.Explanation.{Explanation}
 use Rattle.answers.specs.declared.explanation.Explanation.TheVariants.{Yes, No, Contradictory}
 use Rattle.session.specs.Answers.{AreInstances, IsFirstUnknown}
 use Rattle.session.specs.FactCounts.{HasNoMoreFactsThan}
-use Rattle.session.specs.Devices.{SourceState, IsReadToItsEnd, IsReadUntil}
+use Rattle.session.specs.Devices.{IsReadUntil}
+use Rattle.source_lines.specs.Sources.{SourceState, IsReadToItsEnd}
 
 -- the document, of at most so many bytes, reads as the ontology
 pub record IsReadAs (most_bytes : ℕ) (document : Option (List ℕ)) (o : Ontology) : Type 0 where

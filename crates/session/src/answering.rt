@@ -3,7 +3,7 @@ ghost use Rattle.engine.specs.Saturations.{IsSaturated};
 ghost use Rattle.session.specs.TextAnswers.{AnswersInstances, AnswersExplanation, IsFaultOf, IsRead, ListsInstances, ShowsExplanation};
 ghost use Rattle.session.specs.Texts.{IsUnanswered};
 ghost use Rattle.session.specs.Answers.{class_name, subject_name};
-ghost use Rattle.session.specs.Devices.{source_state};
+ghost use Rattle.source_lines.specs.Sources.{source_state};
 ghost use Rattle.profile.specs.declared.fault.DocumentFault.TheVariants as reading;
 ghost use Rattle.session.specs.declared.question_fault.QuestionFault.TheVariants as asking;
 ghost use Rattle.std.specs.Prelude.{[], ◌∷◌, ◌+◌, ◌<◌, IfErr, IfOk, IsErrOf};

@@ -1,7 +1,7 @@
 //! The texts of a document.
 ghost use Rattle.profile.specs.declared.fault.DocumentFault.TheVariants as reading;
 ghost use Rattle.session.specs.Classifications.{IsClassified};
-ghost use Rattle.session.specs.Devices.{source_state};
+ghost use Rattle.source_lines.specs.Sources.{source_state};
 ghost use Rattle.session.specs.Run.{IsRunFault, IsRunRead};
 ghost use Rattle.session.specs.WrittenTexts.{texts_of};
 ghost use Rattle.session.specs.declared.run_fault.RunFault.TheVariants as run_faults;

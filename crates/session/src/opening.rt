@@ -2,7 +2,7 @@
 ghost use Rattle.engine.specs.Saturations.{HasMoreFactsThan, IsSaturated};
 ghost use Rattle.inference.specs.declared.known_facts.Stop.TheVariants as stops;
 ghost use Rattle.profile.specs.declared.fault.DocumentFault.TheVariants as reading;
-ghost use Rattle.session.specs.Devices.{source_state};
+ghost use Rattle.source_lines.specs.Sources.{source_state};
 ghost use Rattle.session.specs.Run.{IsRun, IsRunFault, IsRunRead};
 ghost use Rattle.session.specs.declared.run_fault.RunFault.TheVariants as run_faults;
 ghost use Rattle.std.specs.Prelude.{◌≡◌, ◌+◌, ◌<◌, ◌≤◌, Err, IfErr, IfOk, IsErrOf, length};

@@ -5,7 +5,7 @@ use Rattle.cli.proofs.Questions.{fault_in_file, why_in_file}
 use Rattle.cli.specs.Runs.{asked_by}
 use Rattle.session.specs.TextAnswers.{AnswersExplanation, IsFaultOf}
 use Rattle.session.specs.Answers.{class_name, subject_name}
-use Rattle.session.specs.Devices.{SourceState}
+use Rattle.source_lines.specs.Sources.{SourceState}
 use Rattle.session.specs.declared.form.Form.{Form}
 use Rattle.cli.proofs.asking.explanation_in.Goals as goal
 

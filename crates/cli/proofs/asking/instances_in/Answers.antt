@@ -2,7 +2,7 @@ use Rattle.std.proofs.Common.{[], ◌∷◌}
 use Rattle.cli.proofs.Blamed.{asks_file, unopened_is_blamed, unopened_is_refused}
 use Rattle.cli.proofs.Questions.{fault_in_file, instances_in_file}
 use Rattle.session.specs.Answers.{class_name}
-use Rattle.session.specs.Devices.{SourceState}
+use Rattle.source_lines.specs.Sources.{SourceState}
 use Rattle.cli.proofs.asking.instances_in.Goals as goal
 
 pub returns-in-Ok-clause-answered : goal.returns-in-Ok-clause-answered

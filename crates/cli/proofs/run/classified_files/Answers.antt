@@ -3,7 +3,7 @@ use Rattle.cli.proofs.Blamed.{AreCounted, AreWorking, classifies_file, unopened_
 use Rattle.cli.proofs.Kept.{refused_memory}
 use Rattle.cli.proofs.Left.{at_path, classify_answer}
 use Rattle.cli.proofs.Stored.{AreNew, AreSinksClosed, others_kept, stays}
-use Rattle.session.specs.Devices.{SourceState}
+use Rattle.source_lines.specs.Sources.{SourceState}
 use Rattle.cli.specs.Files.{Store}
 use Rattle.session.specs.WrittenTexts.{Sinks}
 use Rattle.cli.proofs.run.classified_files.Goals as goal

@@ -1,0 +1,71 @@
+-- What is read of a certificate's source, and what the verdict on it is on.
+use Rattle.std.proofs.Common.{◌≡◌, ℕ, List, [], ◌++◌, Option, Some, None, Result, Ok, Err, IfOk, IfErr, inl, inr, sym, subst}
+use Rattle.std.specs.Io.KnownBytes.{Consumes, Keeps}
+use Rattle.axioms.specs.Ontology.{Ontology}
+use Rattle.cert_check.specs.SourceVerdicts.{IsJudgedFrom}
+use Rattle.cert_check.specs.declared.verdict.Verdict.{Verdict}
+use Rattle.certificate.specs.SourceReading.{StopsGoingOn}
+use Rattle.cli.proofs.Kept.{all_known, known_file}
+use Rattle.cli.specs.Checks.{AreKnown, AreTextsJudged, AreTextsRead, AreTextsReadUntil, IsCertificateJudged, IsCertificateRead, IsUnjudged, TextSources}
+use Rattle.cli.specs.declared.fault.CheckFault.{CheckFault}
+use Rattle.cli.specs.declared.fault.CheckFault.TheVariants.{Document, Memory, Io}
+use Rattle.source_lines.specs.Sources.{FailsInReading, Gives, IsReadOn, IsReadToItsEnd, SourceState}
+
+-- a source that gave some bytes and did not fail is read on
+read_on : (old new : SourceState) (taken : List ℕ) → Gives old new taken → new.failures ≡ old.failures → IsReadOn old new
+read_on old new taken given unfailed = record { lost = (taken, given.consumed, given.fell); unfailed = unfailed }
+
+-- what was read of a certificate on which there is a verdict
+certificate_read : (o : Ontology) (taxonomy instances : List ℕ) (old new : SourceState) (verdict : Verdict) → IsJudgedFrom o taxonomy instances old new verdict → IsCertificateRead verdict old new
+certificate_read o taxonomy instances old new verdict is =
+    let on = read_on old new is.taken is.given is.unfailed in
+    elim is.judged [ inl whole ↦ inl (record { on = on; end = whole.0 }) | inr bad ↦ inr (bad.0, on) ]
+
+-- a source that stops the check failed
+certificate_failed : (o : Ontology) (old new : SourceState) → StopsGoingOn o old new → FailsInReading old new
+certificate_failed o old new stops = record { lost = (stops.taken, stops.given.consumed, stops.given.fell); failed = stops.failed }
+
+-- the bytes that a source gave, and those that it has left, are all that it had
+with_rest : (left rest : Option (List ℕ)) (bytes : List ℕ) → Consumes left rest bytes → (others : List ℕ) × AreKnown left (bytes ++ others)
+with_rest None rest bytes all = ([], tt)
+with_rest (Some xs) None bytes all = absurd all
+with_rest (Some xs) (Some ys) bytes all = (ys, all)
+
+-- the verdict is on all the bytes of the source
+certificate_judged : (o : Ontology) (taxonomy instances : List ℕ) (old new : SourceState) (verdict : Verdict) → IsJudgedFrom o taxonomy instances old new verdict → IsCertificateJudged o taxonomy instances old.left verdict
+certificate_judged o taxonomy instances old new verdict is =
+    elim is.judged [
+      | inl whole ↦ record { certificate_text = is.taken; certificate_is = all_known old.left new.left is.taken is.given.consumed whole.0; judged = whole.1 }
+      | inr bad ↦
+          let all = with_rest old.left new.left is.taken is.given.consumed in
+          record { certificate_text = is.taken ++ all.0; certificate_is = all.1; judged = bad.1 all.0 }
+    ]
+
+-- the verdict on a source of a file is one on the file
+pub file_judged : (o : Ontology) (taxonomy instances : List ℕ) (held : Option (List ℕ)) (old new : SourceState) (answer : Result Verdict CheckFault) → Keeps held old.left → IfOk answer (IsJudgedFrom o taxonomy instances old new) → IfOk answer (IsCertificateJudged o taxonomy instances held)
+file_judged o taxonomy instances held old new (Ok verdict) kept is =
+    let judged = certificate_judged o taxonomy instances old new verdict is in
+    record { certificate_text = judged.certificate_text; certificate_is = known_file held old.left judged.certificate_text kept judged.certificate_is; judged = judged.judged }
+file_judged o taxonomy instances held old new (Err fault) kept is = tt
+
+-- ---- the three texts
+
+-- the verdict is on the texts of the three sources
+pub texts_judged : (o : Ontology) (taxonomy instances : List ℕ) (t i : Option (List ℕ)) (old new : SourceState) (answer : Result Verdict CheckFault) → AreKnown t taxonomy → AreKnown i instances → IfOk answer (IsJudgedFrom o taxonomy instances old new) → IfOk answer (AreTextsJudged o t i old.left)
+texts_judged o taxonomy instances t i old new (Ok verdict) known known' is = record {
+  taxonomy_text = taxonomy;
+  instances_text = instances;
+  taxonomy_is = known;
+  instances_is = known';
+  judged = certificate_judged o taxonomy instances old new verdict is;
+}
+texts_judged o taxonomy instances t i old new (Err fault) known known' is = tt
+
+-- what was read of the three sources where the other two were read to their ends
+pub texts_read : (o : Ontology) (taxonomy instances : List ℕ) (old new : TextSources) (answer : Result Verdict CheckFault) → IsReadToItsEnd old.taxonomy new.taxonomy → IsReadToItsEnd old.instances new.instances → IfOk answer (IsJudgedFrom o taxonomy instances old.certificate new.certificate) → IfErr answer (IsUnjudged o old.certificate new.certificate) → AreTextsRead answer old new
+texts_read o taxonomy instances old new (Ok verdict) all all' is fault = (all, all', certificate_read o taxonomy instances old.certificate new.certificate verdict is)
+texts_read o taxonomy instances old new (Err (Document other)) all all' is fault = absurd fault
+texts_read o taxonomy instances old new (Err Memory) all all' is fault = (all.on, all'.on, fault)
+texts_read o taxonomy instances old new (Err (Io n)) all all' is fault =
+    let P : ℕ → Type 0 = λ number. AreTextsReadUntil (Io number) old new in
+    subst P (sym fault.0) (all, all', certificate_failed o old.certificate new.certificate fault.1)
