@@ -14,7 +14,8 @@ use certificate::{
 };
 use device::BufferSink;
 use readers::{
-    LINES, assert_lines, assert_listed_behind_lines, assert_no_readers, assert_refused_behind_lines,
+    LINES, assert_failing_reads, assert_lines, assert_listed_behind_lines, assert_no_readers,
+    assert_premises_kept, assert_refused_behind_lines,
 };
 use std::alloc::{AllocError, Global};
 use std::process::Abort;
@@ -343,6 +344,7 @@ fn certificates_of_one_subclass(rt: HostRuntime) -> Result<(), Fail> {
     assert_kept(&rt, &ontology);
     assert_lines(&rt, &ontology, TEXT);
     assert_listed_behind_lines(&rt, &ontology);
+    assert_failing_reads(&rt, &ontology);
     are_cut(&rt, &ontology);
     are_changed(&rt, &ontology);
     Ok(())
@@ -354,6 +356,7 @@ fn certificates_over_names(rt: HostRuntime) -> Result<(), Fail> {
     assert_lines(&rt, &ontology, LINES);
     assert_refused_behind_lines(&rt, &ontology);
     assert_no_readers(&rt, &ontology);
+    assert_premises_kept(&rt, &ontology);
     are_read(&rt, &ontology);
     assert_made(&rt, &ontology);
     Ok(())

@@ -7,13 +7,16 @@ mod one_subclass;
 mod ontologies;
 mod order;
 mod other_texts;
+mod reading;
 mod rules;
 
 use crate::documents::ontology_of;
+use crate::sources::Pieces;
 use axioms::{ClassId, Ontology};
 use cert_check::{
-    Reason, Verdict, check, check_owned, narrowed_listings, soundness, worked_certificates,
+    Reason, Verdict, check, check_from, narrowed_listings, soundness, worked_certificates,
 };
+use device::{SliceSource, Source};
 use ontologies::{ONE_MEMBER_DOCUMENT, ONE_SUBCLASS_DOCUMENT};
 use std::alloc::{AllocError, Global};
 use std::process::Abort;
@@ -28,11 +31,15 @@ struct Texts<'a> {
     certificate: &'a str,
 }
 
+/// The right certificate of SubClassOf(A B).
+const ONE_SUBCLASS_CERTIFICATE: &str =
+    "elcert 1 consistent\nsub e0 e0 K1\nsub e1 e1 K1\nsub e2 e2 K1\nsub e2 e0 K2\nsub e2 e3 K4 a1 3\nsub e3 e3 K1\nsub e3 e0 K2\ndomain 3\nclass e2 1\nclass e3 1 2\nclaim e0 0\nclaim e2 1\nclaim e3 2\nend\n";
+
 /// The right texts of SubClassOf(A B).
 const ONE_SUBCLASS: Texts<'static> = Texts {
     taxonomy: "eltax 1 consistent\n<http://www.w3.org/2002/07/owl#Thing>\n<x:A> < <x:B>\n<x:B> < <http://www.w3.org/2002/07/owl#Thing>\nbottom <http://www.w3.org/2002/07/owl#Nothing>\n",
     instances: "elinst 1 consistent\n",
-    certificate: "elcert 1 consistent\nsub e0 e0 K1\nsub e1 e1 K1\nsub e2 e2 K1\nsub e2 e0 K2\nsub e2 e3 K4 a1 3\nsub e3 e3 K1\nsub e3 e0 K2\ndomain 3\nclass e2 1\nclass e3 1 2\nclaim e0 0\nclaim e2 1\nclaim e3 2\nend\n",
+    certificate: ONE_SUBCLASS_CERTIFICATE,
 };
 
 /// The right texts of ClassAssertion(A a).
@@ -66,7 +73,50 @@ fn with_lines(alloc: Global, front: &str, lines: &str, back: &str) -> Result<Str
     Ok(text)
 }
 
-/// Whether this is the verdict on the texts with the certificate in place of theirs, which is lent or given away.
+/// Whether this is the verdict on the texts with the certificate in place of theirs.
+fn is_judged_whole(
+    alloc: Global,
+    ontology: &Ontology,
+    texts: Texts<'_>,
+    certificate: &str,
+    expected: Verdict,
+) -> bool {
+    let taxonomy = texts.taxonomy.as_bytes();
+    let instances = texts.instances.as_bytes();
+    check(alloc, ontology, taxonomy, instances, certificate.as_bytes()) == Ok(expected)
+}
+
+/// Whether this is the verdict on the texts with what the source gives in place of their certificate.
+fn is_judged_from<S: Source>(
+    alloc: Global,
+    ontology: &Ontology,
+    texts: Texts<'_>,
+    source: &mut S,
+    expected: Verdict,
+) -> bool {
+    let taxonomy = texts.taxonomy.as_bytes();
+    let instances = texts.instances.as_bytes();
+    check_from(alloc, ontology, taxonomy, instances, source) == Ok(expected)
+}
+
+/// The same where the source gives the certificate in pieces of at most so many bytes.
+fn is_judged_in_pieces(
+    alloc: Global,
+    ontology: &Ontology,
+    texts: Texts<'_>,
+    certificate: &str,
+    most: usize,
+    expected: Verdict,
+) -> bool {
+    let mut source = Pieces::new(certificate.as_bytes(), most);
+    is_judged_from(alloc, ontology, texts, &mut source, expected)
+}
+
+/// The sizes of the pieces in which certificates are read.
+const SIZES: &[usize] = &[1, 2, 7, 4_096, 65_536];
+
+/// Whether this is the verdict on the texts with the certificate in place of theirs, which is lent, given by a source at once, or
+/// given in pieces.
 fn has_verdict(
     alloc: Global,
     ontology: &Ontology,
@@ -74,24 +124,14 @@ fn has_verdict(
     certificate: &str,
     expected: Verdict,
 ) -> bool {
-    let found = check(
-        alloc,
-        ontology,
-        texts.taxonomy.as_bytes(),
-        texts.instances.as_bytes(),
-        certificate.as_bytes(),
-    );
-    let Ok(bytes) = Vec::from_slice(alloc, certificate.as_bytes()) else {
-        return false;
-    };
-    let owned = check_owned(
-        alloc,
-        ontology,
-        texts.taxonomy.as_bytes(),
-        texts.instances.as_bytes(),
-        bytes,
-    );
-    found == Ok(expected) && owned == Ok(expected)
+    for size in SIZES {
+        if !is_judged_in_pieces(alloc, ontology, texts, certificate, *size, expected) {
+            return false;
+        }
+    }
+    let mut source = SliceSource::new(certificate.as_bytes());
+    is_judged_from(alloc, ontology, texts, &mut source, expected)
+        && is_judged_whole(alloc, ontology, texts, certificate, expected)
 }
 
 /// A part of a certificate, what stands in its place, and why the certificate is rejected then, if it is.
@@ -108,12 +148,8 @@ fn changed(alloc: Global, text: &str, old: &str, new: &str) -> Result<String, Al
 /// Whether the change has its verdict.
 fn is_judged(alloc: Global, ontology: &Ontology, texts: Texts<'_>, change: Change) -> bool {
     let (old, new, reason) = change;
-    let expected = match reason {
-        Some(reason) => Verdict::Rejected(reason),
-        None => Verdict::Accepted,
-    };
     match changed(alloc, texts.certificate, old, new) {
-        Ok(certificate) => has_verdict(alloc, ontology, texts, &certificate, expected),
+        Ok(certificate) => has_verdict(alloc, ontology, texts, &certificate, verdict_of(reason)),
         Err(_) => false,
     }
 }
@@ -160,6 +196,14 @@ fn judge_one_member<R: AllocGlobal + Abort + RandomSource>(
     changes: &[Change],
 ) -> Result<(), Fail> {
     judge(rt, ONE_MEMBER_DOCUMENT, ONE_MEMBER, changes)
+}
+
+/// The verdict where this is why the certificate is rejected, if it is.
+fn verdict_of(reason: Option<Reason>) -> Verdict {
+    match reason {
+        Some(reason) => Verdict::Rejected(reason),
+        None => Verdict::Accepted,
+    }
 }
 
 fn bad_text(at: usize) -> Verdict {

@@ -12,4 +12,6 @@ mod narrowed_listings;
 #[cfg(test)]
 mod relations;
 #[cfg(test)]
+mod sources;
+#[cfg(test)]
 mod taxonomies;

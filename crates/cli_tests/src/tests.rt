@@ -3,6 +3,7 @@
 mod asking;
 mod checking;
 mod failing;
+mod forged;
 mod hierarchies;
 mod refusals;
 mod starting;

@@ -127,11 +127,11 @@ fn a_member_with_another_instances_text(rt: HostRuntime) -> Result<(), Fail> {
 }
 
 /// A certificate of the document of one subclass axiom.
-const ONE_CERTIFICATE: &str =
+pub(super) const ONE_CERTIFICATE: &str =
     "elcert 1 consistent\nsub e0 e0 K1\nsub e1 e1 K1\nsub e2 e2 K1\nsub e2 e0 K2\nsub e2 e3 K4 a1 3\nsub e3 e3 K1\nsub e3 e0 K2\ndomain 3\nclass e2 1\nclass e3 1 2\nclaim e0 0\nclaim e2 1\nclaim e3 2\nend\n";
 
 /// The text with one part of it replaced.
-fn changed(alloc: Global, text: &str, old: &str, new: &str) -> Result<String, Fail> {
+pub(super) fn changed(alloc: Global, text: &str, old: &str, new: &str) -> Result<String, Fail> {
     let (front, back) = text.split_once(old).ok_or("the part to be replaced")?;
     Ok(format!(in alloc; "{front}{new}{back}")?)
 }

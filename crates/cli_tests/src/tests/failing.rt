@@ -4,7 +4,7 @@ mod devices;
 
 use super::*;
 use cli::{
-    CheckFault, ClassifyFault, DocumentFault, Limits, Summary, Verdict, check_document,
+    CheckFault, ClassifyFault, DocumentFault, Limits, Reason, Summary, Verdict, check_document,
     classify_document,
 };
 use device::SliceSource;
@@ -299,6 +299,20 @@ fn a_source_that_fails(rt: HostRuntime) -> Result<(), Fail> {
     assert!(rt; verdict == Ok(Verdict::Accepted));
     assert!(rt; unread == [false; 3]);
     fail_each_read(&rt, &texts)
+}
+
+/// A certificate whose first line, of twenty bytes, is that of none.
+const BAD_CERTIFICATE: &[u8] = b"elcert 2 consistent\nend\n";
+
+#[test]
+fn a_bad_certificate_whose_source_fails(rt: HostRuntime) -> Result<(), Fail> {
+    let (_answer, mut texts) = classified(&rt, NOWHERE, 0)?;
+    texts.certificate = BAD_CERTIFICATE.to_vec(rt.alloc())?;
+    let (in_the_line, _unread) = checked(&rt, &texts, 4, 2)?;
+    assert!(rt; in_the_line == Err(4));
+    let (behind_the_line, _unread) = checked(&rt, &texts, 4, 3)?;
+    assert!(rt; behind_the_line == Ok(Verdict::Rejected(Reason::BadText { at: 0 })));
+    Ok(())
 }
 
 /// Fails the document of a classification at each of its reads.

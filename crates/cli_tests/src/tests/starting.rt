@@ -7,21 +7,21 @@ use std::process::ExitCode;
 
 /// How a program ended, and what it printed.
 #[derive(Drop)]
-struct Ended {
+pub(super) struct Ended {
     status: ExitCode,
     out: Vec<u8>,
     err: Vec<u8>,
 }
 
 /// Whether it ended so.
-fn is_end(ended: &Ended, status: u8, out: &str, err: &str) -> bool {
+pub(super) fn is_end(ended: &Ended, status: u8, out: &str, err: &str) -> bool {
     ended.status == ExitCode::from(status)
         && ended.out.as_slice() == out.as_bytes()
         && ended.err.as_slice() == err.as_bytes()
 }
 
 /// A program that is started with these words and this seed, over the files.
-fn started(
+pub(super) fn started(
     alloc: Global,
     words: io::Result<Vec<String>>,
     state: io::Result<RandomState>,
@@ -38,7 +38,7 @@ fn started(
 }
 
 /// The words as the system gives them.
-fn owned(alloc: Global, words: &[&str]) -> Result<Vec<String>, AllocError> {
+pub(super) fn owned(alloc: Global, words: &[&str]) -> Result<Vec<String>, AllocError> {
     let mut all = Vec::new(alloc);
     for word in words {
         all.push(String::from_str(alloc, *word)?)?;
@@ -47,7 +47,7 @@ fn owned(alloc: Global, words: &[&str]) -> Result<Vec<String>, AllocError> {
 }
 
 /// A program that is started with these words over a document alone, where nothing can be written if the files are locked.
-fn run_to_end<R: AllocGlobal + RandomSource>(
+pub(super) fn run_to_end<R: AllocGlobal + RandomSource>(
     rt: &R,
     words: &[&str],
     document: &[u8],

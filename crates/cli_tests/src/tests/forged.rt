@@ -1,0 +1,176 @@
+//! Documents that are cut and certificates that are forged, by whole programs.
+
+use super::checking::{ONE_CERTIFICATE, changed};
+use super::starting::{Ended, is_end, owned, run_to_end, started};
+use super::*;
+
+/// Whether `classify` refuses the document of one subclass axiom so and writes nothing, cut after each number of bytes from
+/// the first to the last.
+fn is_cut<R: AllocGlobal + RandomSource>(
+    rt: &R,
+    first: usize,
+    last: usize,
+    told: &str,
+) -> Result<bool, Fail> {
+    let mut is_told = true;
+    for k in first..last.saturating_add(1) {
+        if let Some(cut) = ONE_DOCUMENT.get(..k) {
+            let end = run_to_end(rt, CLASSIFY, cut, true)?;
+            is_told = is_told && is_end(&end, 3, "", told);
+        }
+    }
+    Ok(is_told)
+}
+
+/// Numbers of bytes, from the first to the last, and what is told of a document that is cut after them.
+const CUTS: &[(usize, usize, &str)] = &[
+    (0, 0, "P2 at byte 0\n"),
+    (1, 7, "P1 at byte 0\n"),
+    (21, 24, "X3 at byte 20\n"),
+    (25, 26, "P2 at byte 25\n"),
+    (27, 30, "X3 at byte 26\n"),
+];
+
+#[test]
+fn cut_documents(rt: HostRuntime) -> Result<(), Fail> {
+    for row in CUTS {
+        let (first, last, told) = *row;
+        assert!(rt; is_cut(&rt, first, last, told)?, "{told}");
+    }
+    Ok(())
+}
+
+/// Numbers of bytes, from the first to the last, that are told themselves.
+const CUTS_TOLD_AT_THEIR_END: &[(usize, usize)] = &[(8, 20), (31, 32)];
+
+#[test]
+fn cut_documents_told_at_their_end(rt: HostRuntime) -> Result<(), Fail> {
+    for row in CUTS_TOLD_AT_THEIR_END {
+        let (first, last) = *row;
+        for k in first..last.saturating_add(1) {
+            let told = format!(in rt.alloc(); "P2 at byte {k}\n")?;
+            assert!(rt; is_cut(&rt, k, k, told.as_str())?, "{k}");
+        }
+    }
+    Ok(())
+}
+
+/// The end of a program that checks these texts of the document, without individuals.
+fn checked<R: AllocGlobal + RandomSource>(
+    rt: &R,
+    document: &[u8],
+    taxonomy: &str,
+    certificate: &str,
+) -> Result<Ended, Fail> {
+    let mut files = files_with(rt.alloc(), document)?;
+    files.put("tax", taxonomy.as_bytes())?;
+    files.put("inst", NO_INSTANCES.as_bytes())?;
+    files.put("cert", certificate.as_bytes())?;
+    let words = owned(rt.alloc(), CHECK)?;
+    Ok(started(rt.alloc(), Ok(words), RandomState::new(rt), &mut files))
+}
+
+/// A part of the certificate of one subclass axiom, what stands in its place, and the status and what is printed then.
+const FORGED: &[(&str, &str, u8, &str)] = &[
+    ("K4 a1 3", "K4 a1 6", 1, "rejected: C2 line 5\n"),
+    ("K4 a1 3", "K4 a1 99999999999", 1, "rejected: C2 line 5\n"),
+    ("K4 a1 3", "K4 a1 0", 1, "rejected: C1 at byte 72\n"),
+    (
+        "K4 a1 3",
+        "K4 a1 18446744073709551616",
+        1,
+        "rejected: C1 at byte 72\n",
+    ),
+    ("K4 a1 3", "K4 a2 3", 1, "rejected: C1 at byte 72\n"),
+    (
+        "domain 3",
+        "domain 4294967296",
+        1,
+        "rejected: C1 at byte 116\n",
+    ),
+    (
+        "class e2 1\n",
+        "class e2 1\nclass e2 1\n",
+        1,
+        "rejected: C1 at byte 136\n",
+    ),
+    ("domain 3", "domain 4294967295", 0, "accepted\n"),
+    // lines behind the end, an empty line, and a line that stands behind those that it must stand before
+    ("end\n", "end\nend\n", 1, "rejected: C1 at byte 186\n"),
+    ("end\n", "end\n\n", 1, "rejected: C1 at byte 186\n"),
+    (
+        "claim e0 0\n",
+        "claim e0 0\n\n",
+        1,
+        "rejected: C1 at byte 160\n",
+    ),
+    (
+        "claim e2 1\n",
+        "claim e2 1\ndomain 3\n",
+        1,
+        "rejected: C1 at byte 171\n",
+    ),
+];
+
+#[test]
+fn forged_certificates(rt: HostRuntime) -> Result<(), Fail> {
+    for row in FORGED {
+        let (old, new, status, printed) = *row;
+        let certificate = changed(rt.alloc(), ONE_CERTIFICATE, old, new)?;
+        let end = checked(&rt, ONE_DOCUMENT, ONE, certificate.as_str())?;
+        assert!(rt; is_end(&end, status, printed, ""), "{new}");
+    }
+    Ok(())
+}
+
+/// A part of a certificate of which a premise is bad too, what stands in its place, and what is printed then.
+const FORGED_TWICE: &[(&str, &str, &str)] = &[
+    ("claim e3 2", "claim e3 3", "rejected: C1 at byte 171\n"),
+    ("class e3 1 2", "class e3 2", "rejected: C2 line 5\n"),
+    ("end\n", "", "rejected: C1 at byte 182\n"),
+];
+
+#[test]
+fn certificates_forged_twice(rt: HostRuntime) -> Result<(), Fail> {
+    let bad_line = changed(rt.alloc(), ONE_CERTIFICATE, "K4 a1 3", "K4 a1 5")?;
+    for row in FORGED_TWICE {
+        let (old, new, printed) = *row;
+        let certificate = changed(rt.alloc(), bad_line.as_str(), old, new)?;
+        let end = checked(&rt, ONE_DOCUMENT, ONE, certificate.as_str())?;
+        assert!(rt; is_end(&end, 1, printed, ""), "{printed}");
+    }
+    Ok(())
+}
+
+const RESTRICTION: &[u8] =
+    b"Prefix(:=<x:>) Ontology(EquivalentClasses(:A ObjectSomeValuesFrom(:r :B)))";
+
+/// A certificate of that document, in which few elements of a huge domain stand.
+const RESTRICTION_CERTIFICATE: &str =
+    "elcert 1 consistent\nsub e0 e0 K1\nsub e1 e1 K1\nsub e2 e2 K1\nsub e2 e0 K2\nsub e3 e3 K1\nsub e3 e0 K2\ndomain 4294967295\nclass e2 4294967293\nclass e3 5\nsucc p0 4294967293 5\nclaim e0 0\nclaim e2 4294967293\nclaim e3 5\nend\n";
+
+/// The element that the class is claimed to have, and the status and what is printed then.
+const CLAIMED: &[(&str, u8, &str)] = &[
+    ("claim e2 4294967293", 0, "accepted\n"),
+    ("claim e2 4294967295", 1, "rejected: C1 at byte 179\n"),
+];
+
+#[test]
+fn claims_in_a_huge_domain(rt: HostRuntime) -> Result<(), Fail> {
+    let taxonomy = text_of(
+        rt.alloc(),
+        "eltax 1 consistent/T/<x:A> < T/<x:B> < T/bottom N/",
+    )?;
+    for row in CLAIMED {
+        let (claim, status, printed) = *row;
+        let certificate = changed(
+            rt.alloc(),
+            RESTRICTION_CERTIFICATE,
+            "claim e2 4294967293",
+            claim,
+        )?;
+        let end = checked(&rt, RESTRICTION, taxonomy.as_str(), certificate.as_str())?;
+        assert!(rt; is_end(&end, status, printed, ""), "{claim}");
+    }
+    Ok(())
+}
