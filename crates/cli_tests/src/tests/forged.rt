@@ -174,3 +174,164 @@ fn claims_in_a_huge_domain(rt: HostRuntime) -> Result<(), Fail> {
     }
     Ok(())
 }
+
+/// The end of a program that checks this certificate, in short, of the document with this axiom, beside the texts that
+/// `classify` writes for it.
+fn checked_beside<R: AllocGlobal + RandomSource>(
+    rt: &R,
+    axiom: &str,
+    lines: &str,
+) -> Result<Ended, Fail> {
+    let alloc = rt.alloc();
+    let document = format!(in alloc; "Prefix(:=<x:>) Ontology({axiom})")?;
+    let mut files = files_with(alloc, document.as_bytes())?;
+    let classify = owned(alloc, CLASSIFY)?;
+    started(alloc, Ok(classify), RandomState::new(rt), &mut files);
+    let lines = text_of(alloc, lines)?;
+    let certificate = format!(in alloc; "elcert 1 consistent\n{lines}end\n")?;
+    files.put("cert", certificate.as_bytes())?;
+    let check = owned(alloc, CHECK)?;
+    Ok(started(alloc, Ok(check), RandomState::new(rt), &mut files))
+}
+
+/// An axiom, the lines of a certificate, the status and what is printed.
+const DOMAINS: &[(&str, &str, u8, &str)] = &[
+    (
+        "ReflexiveObjectProperty(:r)",
+        "sub e0 e0 K1/sub e1 e1 K1/domain 1/succ p0 0 0/claim e0 0/",
+        0,
+        "accepted\n",
+    ),
+    (
+        "ReflexiveObjectProperty(:r)",
+        "sub e0 e0 K1/sub e1 e1 K1/domain 2/succ p0 0 0/claim e0 0/",
+        1,
+        "rejected: C3 axiom 1\n",
+    ),
+    (
+        "ReflexiveObjectProperty(:r)",
+        "sub e0 e0 K1/sub e1 e1 K1/domain 4294967295/succ p0 0 0/claim e0 0/",
+        1,
+        "rejected: C3 axiom 1\n",
+    ),
+    (
+        "SubClassOf(owl:Thing :A)",
+        "sub e0 e0 K1/sub e0 e2 K4 a1 1/sub e1 e1 K1/sub e2 e2 K1/sub e2 e0 K2/domain 1/class e2 0/claim e0 0/claim e2 0/",
+        0,
+        "accepted\n",
+    ),
+    (
+        "SubClassOf(owl:Thing :A)",
+        "sub e0 e0 K1/sub e0 e2 K4 a1 1/sub e1 e1 K1/sub e2 e2 K1/sub e2 e0 K2/domain 4294967295/class e2 0/claim e0 0/claim e2 0/",
+        1,
+        "rejected: C3 axiom 1\n",
+    ),
+    (
+        "TransitiveObjectProperty(:r)",
+        "sub e0 e0 K1/sub e1 e1 K1/domain 4294967295/succ p0 7 4000000000/succ p0 4000000000 9/claim e0 4294967294/",
+        1,
+        "rejected: C3 axiom 1\n",
+    ),
+    (
+        "TransitiveObjectProperty(:r)",
+        "sub e0 e0 K1/sub e1 e1 K1/domain 4294967295/succ p0 7 9 4000000000/succ p0 4000000000 9/claim e0 4294967294/",
+        0,
+        "accepted\n",
+    ),
+    (
+        "EquivalentClasses(:A ObjectSomeValuesFrom(:r :B))",
+        "sub e0 e0 K1/sub e1 e1 K1/sub e2 e2 K1/sub e2 e0 K2/sub e3 e3 K1/sub e3 e0 K2/domain 4294967295/class e2 4294967292 4294967293/class e3 5/succ p0 4294967293 5/claim e0 0/claim e2 4294967293/claim e3 5/",
+        1,
+        "rejected: C3 axiom 1\n",
+    ),
+    (
+        "EquivalentClasses(:A ObjectSomeValuesFrom(:r :B))",
+        "sub e0 e0 K1/sub e1 e1 K1/sub e2 e2 K1/sub e2 e0 K2/sub e3 e3 K1/sub e3 e0 K2/domain 4294967295/class e2 4294967293/class e3 5/succ p0 4294967293 5/claim e0 0/claim e2 4294967294/claim e3 5/",
+        1,
+        "rejected: C5 <x:A>\n",
+    ),
+    (
+        "Declaration(NamedIndividual(:a))",
+        "sub e0 e0 K1/sub e1 e1 K1/sub i0 e0 K2/domain 4294967295/ind i0 4294967294/claim e0 0/",
+        0,
+        "accepted\n",
+    ),
+    (
+        "Declaration(NamedIndividual(:a))",
+        "sub e0 e0 K1/sub e1 e1 K1/sub i0 e0 K2/domain 4294967295/claim e0 0/",
+        1,
+        "rejected: C1 at byte 77\n",
+    ),
+    (
+        "DisjointClasses(:A :B)",
+        "sub e0 e0 K1/sub e1 e1 K1/sub e2 e2 K1/sub e2 e0 K2/sub e3 e3 K1/sub e3 e0 K2/domain 4294967295/class e2 10 20/class e3 20 30/claim e0 0/claim e2 10/claim e3 30/",
+        1,
+        "rejected: C3 axiom 1\n",
+    ),
+    (
+        "DisjointClasses(:A :B)",
+        "sub e0 e0 K1/sub e1 e1 K1/sub e2 e2 K1/sub e2 e0 K2/sub e3 e3 K1/sub e3 e0 K2/domain 4294967295/class e2 10 20/class e3 30/claim e0 0/claim e2 10/claim e3 30/",
+        0,
+        "accepted\n",
+    ),
+];
+
+#[test]
+fn huge_domains(rt: HostRuntime) -> Result<(), Fail> {
+    for row in DOMAINS {
+        let (axiom, lines, status, printed) = *row;
+        let end = checked_beside(&rt, axiom, lines)?;
+        assert!(rt; is_end(&end, status, printed, ""), "{lines}");
+    }
+    Ok(())
+}
+
+/// A part of the certificate of one subclass axiom, what comes in its place: a beginning, a piece and how often it comes; and
+/// what is printed.
+const LONG: &[(&str, &str, &str, usize, &str)] = &[
+    (
+        "sub e2 e0 K2",
+        "sub e2 e0 K2",
+        " 1",
+        300_000,
+        "rejected: C2 line 4\n",
+    ),
+    (
+        "K4 a1 3",
+        "K4 a1 ",
+        "1",
+        1_000_000,
+        "rejected: C1 at byte 72\n",
+    ),
+    (
+        ONE_CERTIFICATE,
+        "elcert 1 consistent\n",
+        "sub e0 e0 K1\n",
+        0,
+        "rejected: C1 at byte 20\n",
+    ),
+    (
+        ONE_CERTIFICATE,
+        "elcert 1 consistent",
+        "",
+        0,
+        "rejected: C1 at byte 0\n",
+    ),
+    (ONE_CERTIFICATE, "", "", 0, "rejected: C1 at byte 0\n"),
+    (ONE_CERTIFICATE, "", "x", 5_000, "rejected: C1 at byte 0\n"),
+];
+
+#[test]
+fn long_lines(rt: HostRuntime) -> Result<(), Fail> {
+    for row in LONG {
+        let (old, begun, piece, times, printed) = *row;
+        let mut new = String::from_str(rt.alloc(), begun)?;
+        for _ in 0..times {
+            new.push_str(piece)?;
+        }
+        let certificate = changed(rt.alloc(), ONE_CERTIFICATE, old, new.as_str())?;
+        let end = checked(&rt, ONE_DOCUMENT, ONE, certificate.as_str())?;
+        assert!(rt; is_end(&end, 1, printed, ""), "{printed}");
+    }
+    Ok(())
+}
