@@ -37,7 +37,7 @@ fn put_elements(
 fn put_targets(interpretation: &mut Interpretation, row: &PairRow) -> Result<(), Memory>
     ensures { OnOk result (AddsPairs (ListsPair (pair_row_of row.now)) interpretation.old interpretation.new) }
 {
-    for target in &row.targets {
+    for target in row.targets.as_slice() {
         interpretation.well_formed();
         if interpretation
             .put_pair(row.property, row.source as usize, *target as usize)

@@ -1,6 +1,7 @@
 //! Listed interpretations.
 
 use axioms::{ExprId, PropId};
+use smallvec::SmallVec;
 
 /// A class other than owl:Thing and owl:Nothing that is not empty, with its elements, ascending.
 #[derive(Debug, PartialEq, Eq, Drop)]
@@ -9,12 +10,13 @@ pub struct ClassRow {
     pub elements: Vec<u32>,
 }
 
-/// The elements, ascending, that an element leads to by a property; there is at least one.
+/// The elements, ascending, that an element leads to by a property; there is at least one. Most rows have few: these take no memory
+/// of their own.
 #[derive(Debug, PartialEq, Eq, Drop)]
 pub struct PairRow {
     pub property: PropId,
     pub source: u32,
-    pub targets: Vec<u32>,
+    pub targets: SmallVec<u32, 4>,
 }
 
 /// An element that is said to be in the class and in no more classes than it must.

@@ -10,6 +10,7 @@ use crate::fitting::{fits_claim, fits_class, fits_pairs};
 use crate::listed::{Claim, ClassRow, PairRow};
 use crate::number::{after, small_at};
 use axioms::{ExprId, Ontology, PropId};
+use smallvec::SmallVec;
 use std::alloc::{AllocError, Global};
 
 #[tactic(auto, unfolding(crate::specs::ListedReading::element_at))]
@@ -19,10 +20,10 @@ fn element_at(bytes: &[u8]) -> Option<(u32, &[u8])>
     small_at(after(b" ", bytes)?)
 }
 
-fn elements_at(alloc: Global, bytes: &[u8]) -> Result<(Vec<u32>, &[u8]), AllocError>
+fn elements_at(alloc: Global, bytes: &[u8]) -> Result<(SmallVec<u32, 4>, &[u8]), AllocError>
     ensures { IfOk result (λ x. elements_at bytes.now ≡ Some (x.0.items, x.1.now)) }
 {
-    let mut items = Vec::new(alloc);
+    let mut items = SmallVec::new(alloc);
     let mut rest = bytes;
     while let Some((element, others)) = element_at(rest) {
         items.push(element)?;
@@ -46,6 +47,7 @@ pub(crate) fn fitting_class_at<'a>(
     let (elements, rest) = elements_at(alloc, rest)?;
     let rest = after(b"\n", rest).ok_or(stopped(bytes))?;
     let class = ExprId(class);
+    let elements = Vec::from_slice(alloc, &elements)?;
     let row = ClassRow { class, elements };
     if !fits_class(ontology, domain, last, &row) {
         return Err(stopped(bytes));

@@ -12,7 +12,7 @@ use Rattle.facts.specs.declared.contexts.Context as code
 use Rattle.facts.specs.declared.contexts.Fact.{Fact}
 use Rattle.facts.specs.declared.contexts.Fact.TheVariants.{Edge}
 use Rattle.closure.specs.Closure.{Context}
-use Rattle.countermodel.specs.Elements.{context_of}
+use Rattle.closure.specs.Denotations.{context_of}
 use Rattle.countermodel.specs.declared.pair.Pair.{Pair}
 use Rattle.countermodel.specs.Edges.{AddsPairs, IsAboveIn, IsGiven, IsGivenBy, IsSuper}
 

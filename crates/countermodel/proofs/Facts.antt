@@ -10,10 +10,9 @@ use Rattle.facts.specs.declared.contexts.Fact.TheVariants as facts
 use Rattle.normal_forms.specs.declared.forms.Class2.TheVariants as classes
 use Rattle.normal_forms.specs.Forms.{Whole}
 use Rattle.closure.specs.Closure.{Context, Expression, Individual, Fact, In, IsFact}
-use Rattle.closure.specs.Denotations.{Prefixes, whole, SaysContext, expression, individual, SaysFact, in_context}
+use Rattle.closure.specs.Denotations.{Prefixes, whole, SaysContext, expression, individual, SaysFact, in_context, context_of}
 use Rattle.exactness.specs.ListedInterpretation.{IsSatisfiable}
 use Rattle.engine.specs.Saturations.{SayTheClosure}
-use Rattle.countermodel.specs.Elements.{context_of}
 use Rattle.countermodel.specs.Sets.{IsWithin, holds, admits}
 use Rattle.countermodel.specs.declared.context_set.ContextSet.{ContextSet}
 use Rattle.countermodel.specs.declared.satisfiable.Satisfiable.{Satisfiable}

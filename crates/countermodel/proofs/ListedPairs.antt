@@ -18,11 +18,10 @@ use Rattle.facts.specs.declared.contexts.Context as code_context
 use Rattle.facts.specs.declared.contexts.Fact as code_fact
 use Rattle.facts.specs.declared.contexts.Fact.TheVariants as facts
 use Rattle.closure.specs.Closure.{Context, Expression, Individual, Fact, Edge, IsAtOrBelow, IsFact}
-use Rattle.closure.specs.Denotations.{Prefixes, property, SaysFact, edge}
+use Rattle.closure.specs.Denotations.{Prefixes, property, SaysFact, edge, context_of}
 use Rattle.exactness.specs.ListedInterpretation.{HasEdge, IsBefore}
 use Rattle.exactness.proofs.Facts.{fact_derivable}
 use Rattle.exactness.proofs.Rules.{axiom_within, derivable_within}
-use Rattle.countermodel.specs.Elements.{context_of}
 use Rattle.engine.specs.Saturations.{IsSaturated, Saturated}
 use Rattle.normalise.specs.Problem.{prefixes_of}
 use Rattle.property_closure.specs.PropertyClosures.{Known, Has}

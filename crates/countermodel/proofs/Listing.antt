@@ -13,7 +13,8 @@ use Rattle.facts.specs.declared.contexts.Context as code
 use Rattle.facts.specs.declared.contexts.Context.TheVariants.{Expr, Individual as Individual2}
 use Rattle.closure.specs.Closure.{Context, Expression, Individual}
 use Rattle.exactness.specs.ListedInterpretation.{IsBefore, IsSatisfiable, AreSatisfiableContexts}
-use Rattle.countermodel.specs.Elements.{context_of, contexts_of}
+use Rattle.closure.specs.Denotations.{context_of}
+use Rattle.countermodel.specs.Elements.{contexts_of}
 use Rattle.countermodel.specs.ContextLists.{AreBefore, PlacesExpressions, PlacesIndividuals, place_in}
 
 -- ---- contexts of the code and of the definitions

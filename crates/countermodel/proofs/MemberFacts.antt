@@ -7,13 +7,12 @@ use Rattle.number_sets.specs.Pieces.{list_at}
 use Rattle.certificate.specs.Writability.{AreElements, Ascends, IsNamedClass}
 use Rattle.cert_check.proofs.ListedRows.{HasMember, listed_member}
 use Rattle.closure.specs.Closure.{Context, In, IsFact}
-use Rattle.closure.specs.Denotations.{Prefixes}
+use Rattle.closure.specs.Denotations.{Prefixes, context_of}
 use Rattle.engine.specs.Saturations.{SayTheClosure}
 use Rattle.facts.specs.declared.contexts.Fact as code_fact
 use Rattle.facts.specs.declared.contexts.Fact.TheVariants as facts
 use Rattle.normal_forms.specs.declared.forms.Class2.TheVariants as classes
 use Rattle.normal_forms.specs.Forms.{Whole}
-use Rattle.countermodel.specs.Elements.{context_of}
 use Rattle.countermodel.proofs.Facts.{code_of, code_of-is, whole_said}
 use Rattle.countermodel.proofs.Listing.{same_code}
 use Rattle.countermodel.specs.Members.{IsOwnClass, AreMembers, AreRowsOf, expr_id}

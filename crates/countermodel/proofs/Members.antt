@@ -10,7 +10,7 @@ use Rattle.exactness.specs.ListedInterpretation.{IsBefore}
 use Rattle.facts.specs.declared.contexts.Fact.{Fact}
 use Rattle.number_sets.specs.Pieces.{list_at}
 use Rattle.number_sets.proofs.Members.{one_more_item, list_at_none}
-use Rattle.countermodel.specs.Elements.{context_of}
+use Rattle.closure.specs.Denotations.{context_of}
 use Rattle.countermodel.specs.Members.{IsMember, AreMembers, expr_id}
 use Rattle.exactness.proofs.Listed.{one_place}
 

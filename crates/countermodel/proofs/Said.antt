@@ -9,10 +9,9 @@ use Rattle.normal_forms.specs.Forms.{Property2, Property, Steps}
 use Rattle.normal_forms.specs.Properties as code_below
 use Rattle.facts.specs.declared.contexts.Context as code_context
 use Rattle.closure.specs.Closure.{Context, Expression, Individual, IsAtOrBelow}
-use Rattle.closure.specs.Denotations.{Prefixes, SaysProperty, property, SaysContext, expression, individual}
+use Rattle.closure.specs.Denotations.{Prefixes, SaysProperty, property, SaysContext, expression, individual, context_of}
 use Rattle.closure.proofs.Names.{prop_id}
 use Rattle.closure.proofs.Said.{below_as, below_by}
-use Rattle.countermodel.specs.Elements.{context_of}
 use Rattle.engine.specs.Saturations.{IsSaturated, Saturated}
 use Rattle.normalise.specs.Problem.{prefixes_of}
 

@@ -14,7 +14,7 @@ use Rattle.normal_forms.specs.declared.forms.Class2.TheVariants as classes
 use Rattle.closure.specs.Closure.{Context, Expression, Individual}
 use Rattle.number_sets.proofs.Members.{has_none, has_set_same, has_set_grows, has_set_cases}
 use Rattle.countermodel.specs.declared.context_set.ContextSet.{ContextSet}
-use Rattle.countermodel.specs.Elements.{context_of}
+use Rattle.closure.specs.Denotations.{context_of}
 use Rattle.countermodel.specs.Sets.{holds, with_context, IsWithin}
 
 -- the set has room for the contexts of the ontology

@@ -8,7 +8,7 @@ use Rattle.property_closure.specs.PropertyClosures.{Known, Has}
 use Rattle.facts.specs.declared.contexts.Fact.{Fact}
 use Rattle.facts.specs.declared.contexts.Fact.TheVariants.{In, Edge}
 use Rattle.closure.specs.Closure.{Context}
-use Rattle.countermodel.specs.Elements.{context_of}
+use Rattle.closure.specs.Denotations.{context_of}
 use Rattle.countermodel.specs.declared.pair.Pair.{Pair}
 
 -- q is at or above p

@@ -9,7 +9,7 @@ use Rattle.facts.specs.declared.contexts.Context as code
 use Rattle.facts.specs.declared.contexts.Fact.{Fact}
 use Rattle.facts.specs.declared.contexts.Fact.TheVariants.{In}
 use Rattle.normal_forms.specs.declared.forms.Class2.TheVariants.{Expr}
-use Rattle.countermodel.specs.Elements.{context_of}
+use Rattle.closure.specs.Denotations.{context_of}
 use Rattle.number_sets.specs.Pieces.{list_at}
 
 abbrev pub expr_id : ℕ → ExprId

@@ -1,5 +1,5 @@
 //! Sets of contexts.
-ghost use Rattle.countermodel.specs.Elements.{context_of};
+ghost use Rattle.closure.specs.Denotations.{context_of};
 ghost use Rattle.countermodel.specs.Sets.{holds, with_context};
 ghost use Rattle.std.specs.Prelude.{◌≡◌, IfOk, false, replicate};
 

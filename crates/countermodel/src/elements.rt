@@ -1,7 +1,8 @@
 //! Contexts as elements.
 ghost use Rattle.closure.specs.Closure.{Expression as Expression2, Individual as Individual2};
 ghost use Rattle.exactness.specs.ListedInterpretation.{AreSatisfiableContexts};
-ghost use Rattle.countermodel.specs.Elements.{context_of, contexts_of};
+ghost use Rattle.closure.specs.Denotations.{context_of};
+ghost use Rattle.countermodel.specs.Elements.{contexts_of};
 ghost use Rattle.countermodel.specs.ContextLists.{AreBefore, PlacesExpressions, PlacesIndividuals, place_in};
 ghost use Rattle.countermodel.specs.Sets.{admits};
 ghost use Rattle.engine.specs.Saturations.{IsSaturated};

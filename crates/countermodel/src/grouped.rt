@@ -10,6 +10,7 @@ use crate::pair::Pair;
 use crate::sink::RowSink;
 use axioms::Memory;
 use certificate::PairRow;
+use smallvec::SmallVec;
 use std::alloc::Global;
 
 /// Whether the row is of the pair's property and source.
@@ -23,7 +24,7 @@ fn is_of(row: &PairRow, pair: Pair) -> bool
 fn row_of(alloc: Global, pair: Pair) -> Result<PairRow, Memory>
     ensures { IfOk result (λ row. pair_row_of row ≡ row_with pair (pair.target ∷ [])) }
 {
-    let mut targets = Vec::new(alloc);
+    let mut targets = SmallVec::new(alloc);
     targets.push(pair.target)?;
     Ok(PairRow {
         property: pair.property,

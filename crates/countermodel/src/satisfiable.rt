@@ -1,7 +1,7 @@
 //! Which contexts are satisfiable.
 ghost use Rattle.closure.specs.Closure.{Context as Context2};
 ghost use Rattle.exactness.specs.ListedInterpretation.{IsSatisfiable};
-ghost use Rattle.countermodel.specs.Elements.{context_of};
+ghost use Rattle.closure.specs.Denotations.{context_of};
 ghost use Rattle.countermodel.specs.Sets.{IsWithin, admits, holds};
 ghost use Rattle.engine.specs.Saturations.{IsSaturated};
 ghost use Rattle.facts.specs.declared.contexts.Context.{Context as Context3};

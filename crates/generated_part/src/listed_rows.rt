@@ -34,7 +34,7 @@ fn push_class(
 fn push_pairs(lists: &mut OpenLists<(PropId, usize)>, row: &PairRow) -> Result<(), Memory>
     ensures { OnOk result (AddsItems (λ x pair. ListsPair (pair_row_of row.now) pair.0.0 x pair.1) lists.old lists.new) }
 {
-    for target in &row.targets {
+    for target in row.targets.as_slice() {
         lists.push(row.source as usize, (row.property, *target as usize))?;
     }
     Ok(())

@@ -37,9 +37,6 @@ whole_back : {X : Type 0} (n : ℕ) (old now : List X) → n ≡ length old → 
 whole_back n old now e s =
     rw (e, s, drop_all (length old) old (omega arith), append-nil now) (take_all (length old) now (omega arith))
 
-pub mapped_back : {Y : Type 0} (f : Y → Y) (n k : ℕ) (old now : List Y) → n ≡ length old → length old ≤ k → now ≡ mapped_until f k old → take n (now ++ drop (length now) old) ≡ map f old
-mapped_back f n k old now e l h = whole_back n old now e (ap length h ∙ length-mapped_until f k old) ∙ h ∙ mapped_whole f k old l
-
 -- the same of what is seen of the elements, and one more of them
 pub seen_back : {X Y : Type 0} (v : X → Y) (f : Y → Y) (n k : ℕ) (old now : List X) → n ≡ length old → length old ≤ k → map v now ≡ mapped_until f k (map v old) → map v (take n (now ++ drop (length now) old)) ≡ map f (map v old)
 seen_back v f n k old now e l h =

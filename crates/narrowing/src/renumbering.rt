@@ -7,10 +7,10 @@ ghost use Rattle.std.specs.Prelude.{◌≡◌, ◌<◌, ◌^◌, length, map};
 use crate::places::place_of;
 use certificate::{Claim, ClassRow, Listed, PairRow};
 
-fn renumber_elements(used: &[u32], elements: &mut Vec<u32>)
+fn renumber_elements(used: &[u32], elements: &mut [u32])
     requires ascend { Ascends used.now }
     requires few { length used.now < 2 ^ 32 }
-    ensures { elements.new.items ≡ map (place_among used.now) elements.old.items }
+    ensures { elements.new ≡ map (place_among used.now) elements.old }
 {
     for element in elements.iter_mut() {
         *element = place_of(used, *element);

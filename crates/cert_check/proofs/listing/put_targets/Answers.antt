@@ -8,9 +8,9 @@ use Rattle.cert_check.proofs.listing.put_targets.Goals as goal
 pub loop-target-preserved : goal.loop-target-preserved
 loop-target-preserved c =
     let row = c.args.row.now in
-    let items = c.deref-target-items.result.now in
+    let items = c.as_slice-target-items.result.now in
     let k = c.loop-target.target-index in
-    let there = slice_get_same items row.targets.items k 0 c.deref-target-items.ensures.value c.loop-target-test.true in
+    let there = slice_get_same items row.targets.items k 0 c.as_slice-target-items.ensures c.loop-target-test.true in
     let well = went_well c.put_pair.result c.is_err.result c.is_err.ensures.negation c.if-is_err.false c.put_pair.ensures.after in
     let taken = (went_well c.put_pair.result c.is_err.result c.is_err.ensures.negation c.if-is_err.false c.put_pair.ensures.taken).1 in
     pair_step row.property.0 row.source row.targets.items k (get_or items k 0) there
@@ -20,7 +20,7 @@ loop-target-preserved c =
 pub returns : goal.returns
 returns c =
     let row = c.args.row.now in
-    let value = c.deref-target-items.ensures.value in
-    let long : length c.deref-target-items.result.now ≡ length row.targets.items = ap length value in
+    let value = c.as_slice-target-items.ensures in
+    let long : length c.as_slice-target-items.result.now ≡ length row.targets.items = ap length value in
     subst (λ (ys : List ℕ). AddsPairs (λ r x y. (row.property.0 ≡ r) × (row.source ≡ x) × Contains ys y) c.args.interpretation.now c.loop-target.interpretation)
     (take_all c.loop-target.target-index row.targets.items (omega arith)) c.loop-target.invariant

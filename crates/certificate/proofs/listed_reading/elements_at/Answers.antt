@@ -12,7 +12,7 @@ loop-element-smaller c =
 
 pub loop-element-preserved : goal.loop-element-preserved
 loop-element-preserved c =
-    rw c.in_ok-push.ensures.items (one_more_read _ c.args.bytes.now c.loop-element.items.items c.loop-element.rest.now c.in-Some.element c.in-Some.others.now c.loop-element.invariant (sym c.in-Some.ensures))
+    rw c.in_ok-push.ensures.ok (one_more_read _ c.args.bytes.now c.loop-element.items.items c.loop-element.rest.now c.in-Some.element c.in-Some.others.now c.loop-element.invariant (sym c.in-Some.ensures))
 
 pub returns : goal.returns
 unfolding elements_at

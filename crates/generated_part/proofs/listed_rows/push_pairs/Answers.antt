@@ -11,18 +11,18 @@ loop-target-init c = no_pair c.args.row.now.property c.args.row.now.source c.arg
 pub loop-target-preserved : goal.loop-target-preserved
 loop-target-preserved c =
     let row = c.args.row.now in
-    let items = c.deref-target-items.result.now in
+    let items = c.as_slice-target-items.result.now in
     let k = c.loop-target.target-index in
     let y = get_or items k 0 in
     let there : slice_get row.targets.items k ≡ Some y =
-    subst (λ (ys : List ℕ). slice_get ys k ≡ Some y) c.deref-target-items.ensures.value (slice_get-get_or items k 0 c.loop-target-test.true) in
+    subst (λ (ys : List ℕ). slice_get ys k ≡ Some y) c.as_slice-target-items.ensures (slice_get-get_or items k 0 c.loop-target-test.true) in
     pair_step row.property row.source row.targets.items k y there
     c.args.lists.now c.loop-target.lists c.push.new.self c.in_ok-push.ensures.ok c.loop-target.invariant
 
 pub returns : goal.returns
 returns c =
     let row = c.args.row.now in
-    let value = c.deref-target-items.ensures.value in
-    let long : length c.deref-target-items.result.now ≡ length row.targets.items = ap length value in
+    let value = c.as_slice-target-items.ensures in
+    let long : length c.as_slice-target-items.result.now ≡ length row.targets.items = ap length value in
     subst (λ (ys : List ℕ). AddsItems (PairUpTo row.property row.source ys) c.args.lists.now c.loop-target.lists)
     (take_all c.loop-target.target-index row.targets.items (omega arith)) c.loop-target.invariant

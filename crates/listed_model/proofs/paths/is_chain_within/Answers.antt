@@ -19,7 +19,7 @@ returns-then-not-are_within-clause-within c =
       λ e. absurd (true≢false (sym e)),
       λ h. sym c.if-not-are_within.true ∙ c.are_within.ensures ∙ (list_all_means c.targets_at.result.now c.deref-in-loop-row.result.now).1 (λ y t.
           let (z, s, p) = (c.in_ok-ends.ensures.members y).0 (ap (λ xs. holds xs y) (sym c.deref-in-loop-row.ensures.value) ∙ t) in
-          let q = row_pair rows items c.args.first.0 c.requires c.rows_of-row-items.ensures at row g z (ap (λ xs. holds xs z) (sym c.deref.ensures.value) ∙ s) in
+          let q = row_pair rows items c.args.first.0 c.requires c.rows_of-row-items.ensures at row g z (ap (λ xs. holds xs z) (sym c.deref.ensures) ∙ s) in
           ap (λ ts. holds ts y) c.targets_at.ensures.targets ∙ h row.source y z q p),
     )
 
@@ -34,7 +34,7 @@ loop-row-preserved c =
     record {
       len = c.ends_of.ensures.len ∙ c.loop-row.invariant.len;
       each = all_before_next P items at row g c.loop-row.invariant.each (λ z y s p.
-          let t = (c.in_ok-ends.ensures.members y).1 (z, ap (λ xs. holds xs z) c.deref.ensures.value ∙ s, p) in
+          let t = (c.in_ok-ends.ensures.members y).1 (z, ap (λ xs. holds xs z) c.deref.ensures ∙ s, p) in
           ap (λ ts. holds ts y) (sym c.targets_at.ensures.targets)
           ∙ (list_all_means c.targets_at.result.now c.deref-in-loop-row.result.now).0 (sym c.are_within.ensures ∙ c.if-not-are_within.false) y (ap (λ xs. holds xs y) c.deref-in-loop-row.ensures.value ∙ t));
     }

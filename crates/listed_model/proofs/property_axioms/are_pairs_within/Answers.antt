@@ -16,7 +16,7 @@ returns-then-not-are_within c =
     let g : slice_get items at ≡ Some row = slice_get-get_or items at row c.loop-row-test.true ∙ ap Some (sym c.row-item.is) in (
       λ e. absurd (true≢false (sym e)),
       λ h. sym c.if-not-are_within.true ∙ c.are_within.ensures ∙ (list_all_means c.targets_at.result.now c.deref.result.now).1 (λ y t.
-          ap (λ ts. holds ts y) c.targets_at.ensures.targets ∙ h row.source y (row_pair rows items c.args.property.0 c.requires c.rows_of-row-items.ensures at row g y (ap (λ ts. holds ts y) (sym c.deref.ensures.value) ∙ t))),
+          ap (λ ts. holds ts y) c.targets_at.ensures.targets ∙ h row.source y (row_pair rows items c.args.property.0 c.requires c.rows_of-row-items.ensures at row g y (ap (λ ts. holds ts y) (sym c.deref.ensures) ∙ t))),
     )
 
 pub loop-row-preserved : goal.loop-row-preserved
@@ -29,7 +29,7 @@ loop-row-preserved c =
     let P : PairRow → Type 0 = λ (row : PairRow). (y : ℕ) → holds row.targets.items y ≡ true → holds (targets_of (map pair_row_of rows) c.args.above.0 row.source) y ≡ true in
     all_before_next P items at row g c.loop-row.invariant (λ y t.
     ap (λ ts. holds ts y) (sym c.targets_at.ensures.targets)
-    ∙ (list_all_means c.targets_at.result.now c.deref.result.now).0 (sym c.are_within.ensures ∙ c.if-not-are_within.false) y (ap (λ ts. holds ts y) c.deref.ensures.value ∙ t))
+    ∙ (list_all_means c.targets_at.result.now c.deref.result.now).0 (sym c.are_within.ensures ∙ c.if-not-are_within.false) y (ap (λ ts. holds ts y) c.deref.ensures ∙ t))
 
 pub returns : goal.returns
 returns c =

@@ -21,7 +21,7 @@ loop-row-preserved c = λ x.
     let g : slice_get items at ≡ Some row = slice_get-get_or items at row c.loop-row-test.true ∙ ap Some (sym c.row-item.is) in
     let next = some_before_next (IsSource fillers x) items at row g in
     let old = c.loop-row.invariant x in
-    let said : c.have_common.result ≡ list_any (holds fillers) row.targets.items = c.have_common.ensures ∙ ap (list_any (holds fillers)) c.deref.ensures.value in
+    let said : c.have_common.result ≡ list_any (holds fillers) row.targets.items = c.have_common.ensures ∙ ap (list_any (holds fillers)) c.deref.ensures in
     elim c.if-have_common.branch [
       | then-have_common+in_ok-push w ↦
           (let is = ap (λ v. v.items) w.sources-is ∙ w.in_ok-push.ensures.items in

@@ -24,7 +24,7 @@ returns-then-row-source-clause-targets c =
     let row = c.index-rows-place.result in
     let g : slice_get rows place ≡ Some row = slice_get-get_or rows place row c.if-place-rows.false ∙ ap Some (sym c.index-rows-place.is) in
     let r : row.property.0 ≡ c.args.property.0 = eqb-true row.property.0 c.args.property.0 (sym c.eq.ensures ∙ c.if-eq.true) in
-    c.deref.ensures.value ∙ sym (subst₂ (λ (s x : ℕ). targets_of (map pair_row_of rows) s x ≡ row.targets.items) r c.if-row-source.true (targets_found rows c.requires.ordered place row g))
+    c.deref.ensures ∙ sym (subst₂ (λ (s x : ℕ). targets_of (map pair_row_of rows) s x ≡ row.targets.items) r c.if-row-source.true (targets_found rows c.requires.ordered place row g))
 
 pub returns-else-eq-clause-targets : goal.returns-else-eq-clause-targets
 returns-else-eq-clause-targets c =
@@ -43,4 +43,4 @@ pub returns-then-row-source-clause-ascending : goal.returns-then-row-source-clau
 returns-then-row-source-clause-ascending c =
     let rows = c.args.rows.now in
     let row = c.index-rows-place.result in
-    subst IsStrictlyIncreasing (sym (c.deref.ensures.value ∙ ap (λ (p : PairRow). p.targets.items) c.index-rows-place.is)) (c.requires.targets c.rows_before-place.result row c.if-place-rows.false)
+    subst IsStrictlyIncreasing (sym (c.deref.ensures ∙ ap (λ (p : PairRow). p.targets.items) c.index-rows-place.is)) (c.requires.targets c.rows_before-place.result row c.if-place-rows.false)

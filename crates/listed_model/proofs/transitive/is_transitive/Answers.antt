@@ -50,7 +50,7 @@ leads_within-requires-clause-targets c =
     let place = get_or c.deref-place-items.result.now c.loop-place.place-index 0 in
     let within = place_below c.in_ok-places.places.items c.deref-place-items.result.now (length items) c.loop-place.place-index c.deref-place-items.ensures.value c.in_ok-places.ensures.within c.loop-place-test.true in
     let g : slice_get items place ≡ Some row = slice_get-get_or items place row within ∙ ap Some (sym c.index-items-place.is) in
-    subst IsStrictlyIncreasing (sym c.deref-in-loop-place-2.ensures.value) (row_rises rows items c.args.property.0 c.requires c.rows_of-items.ensures place row g)
+    subst IsStrictlyIncreasing (sym c.deref-in-loop-place-2.ensures) (row_rises rows items c.args.property.0 c.requires c.rows_of-items.ensures place row g)
 
 pub returns-then-not-leads_within-clause-transitive : goal.returns-then-not-leads_within-clause-transitive
 returns-then-not-leads_within-clause-transitive c =
@@ -61,9 +61,9 @@ returns-then-not-leads_within-clause-transitive c =
     let place = get_or c.deref-place-items.result.now c.loop-place.place-index 0 in
     let within = place_below c.in_ok-places.places.items c.deref-place-items.result.now (length items) c.loop-place.place-index c.deref-place-items.ensures.value c.in_ok-places.ensures.within c.loop-place-test.true in
     let g : slice_get items place ≡ Some row = slice_get-get_or items place row within ∙ ap Some (sym c.index-items-place.is) in
-    let is = row_targets rows items r c.requires c.rows_of-items.ensures place row g ∙ sym c.deref-in-loop-place-2.ensures.value in
+    let is = row_targets rows items r c.requires c.rows_of-items.ensures place row g ∙ sym c.deref-in-loop-place-2.ensures in
     let same : (y : ℕ) → holds c.deref-in-loop-place.result.now y ≡ holds c.deref-in-loop-place-2.result.now y =
-    λ y. ap (λ xs. holds xs y) c.deref-in-loop-place.ensures.value ∙ c.in_ok-ordered.ensures y ∙ ap (λ xs. holds xs y) (c.deref.ensures.value ∙ sym c.deref-in-loop-place-2.ensures.value) in
+    λ y. ap (λ xs. holds xs y) c.deref-in-loop-place.ensures.value ∙ c.in_ok-ordered.ensures y ∙ ap (λ xs. holds xs y) (c.deref.ensures ∙ sym c.deref-in-loop-place-2.ensures) in
     let closed = closed_row (map pair_row_of rows) r row.source c.deref-in-loop-place-2.result.now c.deref-in-loop-place.result.now is same in (
       λ e. absurd (true≢false (sym e)),
       λ h. sym c.if-not-leads_within.true ∙ c.leads_within.ensures.within.1 (closed.1 (h row.source)),
@@ -80,9 +80,9 @@ loop-place-preserved c =
     let place = get_or place_items at 0 in
     let within = place_below c.in_ok-places.places.items place_items (length items) at c.deref-place-items.ensures.value c.in_ok-places.ensures.within c.loop-place-test.true in
     let g : slice_get items place ≡ Some row = slice_get-get_or items place row within ∙ ap Some (sym c.index-items-place.is) in
-    let is = row_targets rows items r c.requires c.rows_of-items.ensures place row g ∙ sym c.deref-in-loop-place-2.ensures.value in
+    let is = row_targets rows items r c.requires c.rows_of-items.ensures place row g ∙ sym c.deref-in-loop-place-2.ensures in
     let same : (y : ℕ) → holds c.deref-in-loop-place.result.now y ≡ holds c.deref-in-loop-place-2.result.now y =
-    λ y. ap (λ xs. holds xs y) c.deref-in-loop-place.ensures.value ∙ c.in_ok-ordered.ensures y ∙ ap (λ xs. holds xs y) (c.deref.ensures.value ∙ sym c.deref-in-loop-place-2.ensures.value) in
+    λ y. ap (λ xs. holds xs y) c.deref-in-loop-place.ensures.value ∙ c.in_ok-ordered.ensures y ∙ ap (λ xs. holds xs y) (c.deref.ensures ∙ sym c.deref-in-loop-place-2.ensures) in
     let closed : ClosedAt (map pair_row_of rows) r row.source = (closed_row (map pair_row_of rows) r row.source c.deref-in-loop-place-2.result.now c.deref-in-loop-place.result.now is same).0 (c.leads_within.ensures.within.0 c.if-not-leads_within.false) in
     let old = c.loop-place.invariant in
     record {

@@ -7,5 +7,5 @@ returns-then-put-clause-in_range c =
     let row = c.args.row.now in
     let source = c.args.pair.now.source in
     let first = marked_more row row [] (source ∷ []) c.put.result (none_marked row) (one_in_range row source c.put.result c.put.ensures.in_range) c.put.new.self (λ t. c.put.ensures.after) c.if-put.true in
-    let rest = subst (λ (xs : List ℕ). IsTrue c.mark_elements.result ↔ All (λ x. x < length c.put.new.self) xs) c.deref.ensures.value c.mark_elements.ensures.in_range in
+    let rest = subst (λ (xs : List ℕ). IsTrue c.mark_elements.result ↔ All (λ x. x < length c.put.new.self) xs) c.deref.ensures c.mark_elements.ensures.in_range in
     answered row c.put.new.self (source ∷ []) c.args.pair.now.targets.items c.mark_elements.result first rest

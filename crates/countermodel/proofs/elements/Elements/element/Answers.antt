@@ -2,7 +2,7 @@ use Rattle.std.proofs.Common.{◌≡◌, ap₂, sym, ◌∙◌, subst, Some, sli
 use Rattle.std.proofs.lemmas.Bool.{both_ways}
 use Rattle.std.proofs.lemmas.Option.{same_Some}
 use Rattle.lemmas.proofs.Mapped.{slice_get_map}
-use Rattle.countermodel.specs.Elements.{context_of}
+use Rattle.closure.specs.Denotations.{context_of}
 use Rattle.countermodel.specs.ContextLists.{place_in}
 use Rattle.countermodel.proofs.Listing.{nowhere}
 use Rattle.countermodel.proofs.elements.Elements.element.Goals as goal
