@@ -113,7 +113,7 @@ fn is_judged_in_pieces(
 }
 
 /// The sizes of the pieces in which certificates are read.
-const SIZES: &[usize] = &[1, 2, 7, 4_096, 65_536];
+const SIZES: &[usize] = &[1, 2, 7, 1_000, 4_096, 65_536];
 
 /// Whether this is the verdict on the texts with the certificate in place of theirs, which is lent, given by a source at once, or
 /// given in pieces.

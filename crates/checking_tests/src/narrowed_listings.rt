@@ -3,6 +3,7 @@
 use axioms::{ExprId, Memory, PropId};
 use cert_check::narrow;
 use certificate::{Claim, ClassRow, Listed, PairRow};
+use smallvec::SmallVec;
 use std::alloc::Global;
 use std::test::Fail;
 
@@ -177,7 +178,7 @@ fn pair_rows(alloc: Global, members: Members) -> Result<Vec<PairRow>, Memory> {
         rows.push(PairRow {
             property: PropId(*property),
             source: *source,
-            targets: Vec::from_slice(alloc, targets)?,
+            targets: SmallVec::from_slice(alloc, targets)?,
         })?;
     }
     Ok(rows)

@@ -2,8 +2,8 @@
 
 use super::ontologies::ONE_SUBCLASS_DOCUMENT;
 use super::{
-    Change, ONE_SUBCLASS, ONE_SUBCLASS_CERTIFICATE, changed, has_verdict, is_judged_in_pieces,
-    is_judged_whole, judge_one_subclass, verdict_of,
+    Change, ONE_SUBCLASS, ONE_SUBCLASS_CERTIFICATE, changed, has_verdict, judge_one_subclass,
+    verdict_of,
 };
 use crate::documents::ontology_of;
 use crate::sources::Pieces;
@@ -339,24 +339,18 @@ const A_CUT_LINE_BEHIND_MANY_LINES: &[LongChange] = &[LongChange {
     other: ("elcert", "elcert", Some(Reason::BadText { at: 2_600_020 })),
 }];
 
-/// Whether this is the verdict on the certificate, whole and in pieces of that size.
-fn has_long_verdict(
-    alloc: Global,
-    ontology: &Ontology,
-    certificate: &str,
-    size: usize,
-    expected: Verdict,
-) -> bool {
-    is_judged_whole(alloc, ontology, ONE_SUBCLASS, certificate, expected)
-        && is_judged_in_pieces(alloc, ontology, ONE_SUBCLASS, certificate, size, expected)
-}
-
-/// Whether the changed certificate has its verdict, whole and in pieces.
+/// Whether the changed certificate has its verdict.
 fn is_long_change_judged(alloc: Global, ontology: &Ontology, change: LongChange) -> bool {
     let (_, _, reason) = change.other;
     match long_certificate(alloc, change) {
         Ok(certificate) => {
-            has_long_verdict(alloc, ontology, &certificate, 1_000, verdict_of(reason))
+            has_verdict(
+                alloc,
+                ontology,
+                ONE_SUBCLASS,
+                &certificate,
+                verdict_of(reason),
+            )
         }
         Err(_) => false,
     }
@@ -421,11 +415,11 @@ fn a_long_row(rt: HostRuntime) -> Result<(), Fail> {
     let certificate = with_long_row(rt.alloc())?;
     assert!(rt; certificate.len() > 70_000);
     assert!(rt;
-        has_long_verdict(
+        has_verdict(
             rt.alloc(),
             &ontology,
+            ONE_SUBCLASS,
             &certificate,
-            65_536,
             Verdict::Accepted
         )
     );

@@ -2,6 +2,7 @@
 
 mod devices;
 
+use super::checking::{ONE_CERTIFICATE, changed};
 use super::*;
 use cli::{
     CheckFault, ClassifyFault, DocumentFault, Limits, Reason, Summary, Verdict, check_document,
@@ -179,6 +180,19 @@ fn is_run_stopped<R: AllocGlobal + RandomSource>(
     Ok(is_run(&run, 6, "", told) && are_cut(&texts, whole, place, calls))
 }
 
+/// A run that checks the texts, where the file at the path fails after some reads.
+fn checking_run<R: AllocGlobal + RandomSource>(
+    rt: &R,
+    texts: &Texts,
+    path: &'static str,
+    reads: usize,
+) -> Result<Run, Fail> {
+    let mut files = files_with(rt.alloc(), ONE_DOCUMENT)?;
+    put_texts(&mut files, texts)?;
+    let (run, _texts) = run_failing(rt, CHECK, files, path, reads)?;
+    Ok(run)
+}
+
 /// Whether a checking run is stopped so by the file at the path that fails after some reads.
 fn is_checking_run_stopped<R: AllocGlobal + RandomSource>(
     rt: &R,
@@ -187,9 +201,7 @@ fn is_checking_run_stopped<R: AllocGlobal + RandomSource>(
     told: &str,
     reads: usize,
 ) -> Result<bool, Fail> {
-    let mut files = files_with(rt.alloc(), ONE_DOCUMENT)?;
-    put_texts(&mut files, texts)?;
-    let (run, _texts) = run_failing(rt, CHECK, files, path, reads)?;
+    let run = checking_run(rt, texts, path, reads)?;
     Ok(is_run(&run, 6, "", told))
 }
 
@@ -301,17 +313,58 @@ fn a_source_that_fails(rt: HostRuntime) -> Result<(), Fail> {
     fail_each_read(&rt, &texts)
 }
 
-/// A certificate whose first line, of twenty bytes, is that of none.
-const BAD_CERTIFICATE: &[u8] = b"elcert 2 consistent\nend\n";
+/// Whether a check of the texts is stopped by the certificate's source that fails after one read less than so many, and answers
+/// that the text is bad there where it fails after so many.
+fn is_told_before_the_failure<R: AllocGlobal + RandomSource>(
+    rt: &R,
+    texts: &Texts,
+    reads: usize,
+    at: usize,
+) -> Result<bool, Fail> {
+    let (in_the_line, _unread) = checked(rt, texts, 4, reads.saturating_sub(1))?;
+    let (behind_the_line, _unread) = checked(rt, texts, 4, reads)?;
+    Ok(in_the_line == Err(4) && behind_the_line == Ok(Verdict::Rejected(Reason::BadText { at })))
+}
+
+/// The same of runs.
+fn is_run_told_before_the_failure<R: AllocGlobal + RandomSource>(
+    rt: &R,
+    texts: &Texts,
+    reads: usize,
+    at: usize,
+) -> Result<bool, Fail> {
+    let printed = format!(in rt.alloc(); "rejected: C1 at byte {at}\n")?;
+    let in_the_line = checking_run(rt, texts, "cert", reads.saturating_sub(1))?;
+    let behind_the_line = checking_run(rt, texts, "cert", reads)?;
+    Ok(
+        is_run(&in_the_line, 6, "", "cannot read cert\n")
+            && is_run(&behind_the_line, 1, printed.as_str(), ""),
+    )
+}
+
+/// A part of the certificate of one subclass axiom, what stands in its place so that its line cannot follow those before it, in how
+/// many reads the bytes up to the end of this line are given, and where it begins.
+const BAD_LINES: &[(&str, &str, usize, usize)] = &[
+    ("elcert 1", "elcert 2", 3, 0),
+    ("claim e3 2", "claim e3 3", 26, 171),
+];
 
 #[test]
 fn a_bad_certificate_whose_source_fails(rt: HostRuntime) -> Result<(), Fail> {
     let (_answer, mut texts) = classified(&rt, NOWHERE, 0)?;
-    texts.certificate = BAD_CERTIFICATE.to_vec(rt.alloc())?;
-    let (in_the_line, _unread) = checked(&rt, &texts, 4, 2)?;
-    assert!(rt; in_the_line == Err(4));
-    let (behind_the_line, _unread) = checked(&rt, &texts, 4, 3)?;
-    assert!(rt; behind_the_line == Ok(Verdict::Rejected(Reason::BadText { at: 0 })));
+    for row in BAD_LINES {
+        let (old, new, reads, at) = *row;
+        let certificate = changed(rt.alloc(), ONE_CERTIFICATE, old, new)?;
+        texts.certificate = certificate.as_bytes().to_vec(rt.alloc())?;
+        assert!(rt;
+            is_told_before_the_failure(&rt, &texts, reads, at)?,
+            "{new}"
+        );
+        assert!(rt;
+            is_run_told_before_the_failure(&rt, &texts, reads, at)?,
+            "{new}"
+        );
+    }
     Ok(())
 }
 

@@ -5,7 +5,7 @@ use super::starting::{Ended, is_end, owned, run_to_end, started};
 use super::*;
 
 /// Whether `classify` refuses the document of one subclass axiom so and writes nothing, cut after each number of bytes from
-/// the first to the last.
+/// the first to the last, and `check` tells it too, though there are no texts to check.
 fn is_cut<R: AllocGlobal + RandomSource>(
     rt: &R,
     first: usize,
@@ -15,8 +15,9 @@ fn is_cut<R: AllocGlobal + RandomSource>(
     let mut is_told = true;
     for k in first..last.saturating_add(1) {
         if let Some(cut) = ONE_DOCUMENT.get(..k) {
-            let end = run_to_end(rt, CLASSIFY, cut, true)?;
-            is_told = is_told && is_end(&end, 3, "", told);
+            let classified = run_to_end(rt, CLASSIFY, cut, true)?;
+            let checked = run_to_end(rt, CHECK, cut, true)?;
+            is_told = is_told && is_end(&classified, 3, "", told) && is_end(&checked, 3, "", told);
         }
     }
     Ok(is_told)
@@ -95,6 +96,20 @@ const FORGED: &[(&str, &str, u8, &str)] = &[
         "rejected: C1 at byte 136\n",
     ),
     ("domain 3", "domain 4294967295", 0, "accepted\n"),
+    // no text, a first line without its line feed, and a first line alone
+    (ONE_CERTIFICATE, "", 1, "rejected: C1 at byte 0\n"),
+    (
+        ONE_CERTIFICATE,
+        "elcert 1 consistent",
+        1,
+        "rejected: C1 at byte 0\n",
+    ),
+    (
+        ONE_CERTIFICATE,
+        "elcert 1 consistent\n",
+        1,
+        "rejected: C1 at byte 20\n",
+    ),
     // lines behind the end, an empty line, and a line that stands behind those that it must stand before
     ("end\n", "end\nend\n", 1, "rejected: C1 at byte 186\n"),
     ("end\n", "end\n\n", 1, "rejected: C1 at byte 186\n"),
@@ -119,6 +134,56 @@ fn forged_certificates(rt: HostRuntime) -> Result<(), Fail> {
         let certificate = changed(rt.alloc(), ONE_CERTIFICATE, old, new)?;
         let end = checked(&rt, ONE_DOCUMENT, ONE, certificate.as_str())?;
         assert!(rt; is_end(&end, status, printed, ""), "{new}");
+    }
+    Ok(())
+}
+
+/// Whether a program that checks the certificate of one subclass axiom, cut after each number of bytes from the first to the
+/// last, ends so.
+fn is_cut_certificate<R: AllocGlobal + RandomSource>(
+    rt: &R,
+    first: usize,
+    last: usize,
+    printed: &str,
+) -> Result<bool, Fail> {
+    let mut is_printed = true;
+    for k in first..last.saturating_add(1) {
+        if let Some(cut) = ONE_CERTIFICATE.get(..k) {
+            let end = checked(rt, ONE_DOCUMENT, ONE, cut)?;
+            is_printed = is_printed && is_end(&end, 1, printed, "");
+        }
+    }
+    Ok(is_printed)
+}
+
+/// The first and the last place in each line of that certificate.
+const LINES: &[(usize, usize)] = &[
+    (0, 19),
+    (20, 32),
+    (33, 45),
+    (46, 58),
+    (59, 71),
+    (72, 89),
+    (90, 102),
+    (103, 115),
+    (116, 124),
+    (125, 135),
+    (136, 148),
+    (149, 159),
+    (160, 170),
+    (171, 181),
+    (182, 185),
+];
+
+#[test]
+fn cut_certificates(rt: HostRuntime) -> Result<(), Fail> {
+    for row in LINES {
+        let (first, last) = *row;
+        let printed = format!(in rt.alloc(); "rejected: C1 at byte {first}\n")?;
+        assert!(rt;
+            is_cut_certificate(&rt, first, last, printed.as_str())?,
+            "{first}"
+        );
     }
     Ok(())
 }
@@ -286,52 +351,122 @@ fn huge_domains(rt: HostRuntime) -> Result<(), Fail> {
     Ok(())
 }
 
-/// A part of the certificate of one subclass axiom, what comes in its place: a beginning, a piece and how often it comes; and
-/// what is printed.
-const LONG: &[(&str, &str, &str, usize, &str)] = &[
-    (
-        "sub e2 e0 K2",
-        "sub e2 e0 K2",
-        " 1",
-        300_000,
-        "rejected: C2 line 4\n",
-    ),
-    (
-        "K4 a1 3",
-        "K4 a1 ",
-        "1",
-        1_000_000,
-        "rejected: C1 at byte 72\n",
-    ),
-    (
-        ONE_CERTIFICATE,
-        "elcert 1 consistent\n",
-        "sub e0 e0 K1\n",
-        0,
-        "rejected: C1 at byte 20\n",
-    ),
-    (
-        ONE_CERTIFICATE,
-        "elcert 1 consistent",
-        "",
-        0,
-        "rejected: C1 at byte 0\n",
-    ),
-    (ONE_CERTIFICATE, "", "", 0, "rejected: C1 at byte 0\n"),
-    (ONE_CERTIFICATE, "", "x", 5_000, "rejected: C1 at byte 0\n"),
+/// A part of the certificate of one subclass axiom; what begins what stands in its place, what then stands there so many times,
+/// and what ends it; another part and what stands in its place; and what is printed then.
+#[derive(Clone, Copy)]
+struct LongChange {
+    part: &'static str,
+    front: &'static str,
+    repeated: &'static str,
+    times: usize,
+    back: &'static str,
+    other: (&'static str, &'static str),
+    printed: &'static str,
+}
+
+/// The text that stands in the place of the part.
+fn long_part(alloc: Global, change: LongChange) -> Result<String, AllocError> {
+    let mut text = String::from_str(alloc, change.front)?;
+    for _ in 0..change.times {
+        text.push_str(change.repeated)?;
+    }
+    text.push_str(change.back)?;
+    Ok(text)
+}
+
+/// The changed certificate.
+fn long_certificate(alloc: Global, change: LongChange) -> Result<String, Fail> {
+    let (old, new) = change.other;
+    let once = changed(alloc, ONE_CERTIFICATE, old, new)?;
+    let part = long_part(alloc, change)?;
+    changed(alloc, once.as_str(), change.part, part.as_str())
+}
+
+/// Whether a program that checks the changed certificate ends so.
+fn is_long_change_told<R: AllocGlobal + RandomSource>(
+    rt: &R,
+    change: LongChange,
+) -> Result<bool, Fail> {
+    let certificate = long_certificate(rt.alloc(), change)?;
+    let end = checked(rt, ONE_DOCUMENT, ONE, certificate.as_str())?;
+    Ok(is_end(&end, 1, change.printed, ""))
+}
+
+/// The certificate with more premises in a line than any rule takes, alone and before a line that cannot follow; with a number of
+/// a million digits; and a first line that does not end.
+const LONG_LINES: &[LongChange] = &[
+    LongChange {
+        part: "sub e2 e0 K2",
+        front: "sub e2 e0 K2",
+        repeated: " 1",
+        times: 300_000,
+        back: "",
+        other: ("end", "end"),
+        printed: "rejected: C2 line 4\n",
+    },
+    LongChange {
+        part: "sub e2 e0 K2",
+        front: "sub e2 e0 K2",
+        repeated: " 1",
+        times: 300_000,
+        back: "",
+        other: ("claim e3 2", "claim e3 3"),
+        printed: "rejected: C1 at byte 600171\n",
+    },
+    LongChange {
+        part: "K4 a1 3",
+        front: "K4 a1 ",
+        repeated: "1",
+        times: 1_000_000,
+        back: "",
+        other: ("end", "end"),
+        printed: "rejected: C1 at byte 72\n",
+    },
+    LongChange {
+        part: ONE_CERTIFICATE,
+        front: "",
+        repeated: "x",
+        times: 5_000,
+        back: "",
+        other: ("end", "end"),
+        printed: "rejected: C1 at byte 0\n",
+    },
 ];
 
 #[test]
 fn long_lines(rt: HostRuntime) -> Result<(), Fail> {
-    for row in LONG {
-        let (old, begun, piece, times, printed) = *row;
-        let mut new = String::from_str(rt.alloc(), begun)?;
-        for _ in 0..times {
-            new.push_str(piece)?;
-        }
-        let certificate = changed(rt.alloc(), ONE_CERTIFICATE, old, new.as_str())?;
-        let end = checked(&rt, ONE_DOCUMENT, ONE, certificate.as_str())?;
-        assert!(rt; is_end(&end, 1, printed, ""), "{printed}");
+    for change in LONG_LINES {
+        assert!(rt; is_long_change_told(&rt, *change)?, "{}", change.printed);
+    }
+    Ok(())
+}
+
+/// Many equal lines with nothing behind them, and with the beginning of another one.
+const MANY_LINES: &[LongChange] = &[
+    LongChange {
+        part: ONE_CERTIFICATE,
+        front: "elcert 1 consistent\n",
+        repeated: "sub e0 e0 K1\n",
+        times: 200_000,
+        back: "",
+        other: ("end", "end"),
+        printed: "rejected: C1 at byte 2600020\n",
+    },
+    LongChange {
+        part: ONE_CERTIFICATE,
+        front: "elcert 1 consistent\n",
+        repeated: "sub e0 e0 K1\n",
+        times: 200_000,
+        back: "sub e0",
+        other: ("end", "end"),
+        printed: "rejected: C1 at byte 2600020\n",
+    },
+];
+
+#[test]
+fn many_lines(rt: HostRuntime) -> Result<(), Fail> {
+    for change in MANY_LINES {
+        assert!(rt; is_long_change_told(&rt, *change)?, "{}", change.back);
     }
     Ok(())
 }
