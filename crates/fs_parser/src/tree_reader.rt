@@ -1,8 +1,8 @@
 //! Reading the trees of a document one by one.
-ghost use Rattle.std.specs.Prelude.{◌≡◌, ◌≤◌, ◌∷◌, [], IfNone, IfOk, IfSome, IsTrue, OnErr, Some, length, option_map};
+ghost use Rattle.std.specs.Prelude.{◌≡◌, ◌≤◌, ◌++◌, ◌∷◌, [], IfNone, IfOk, IfSome, IsTrue, OnErr, Some, length, option_map};
 ghost use Rattle.fs_parser.specs.KnownPrefixes.{known_of};
 ghost use Rattle.fs_parser.specs.Machine.{finish, start};
-ghost use Rattle.fs_parser.specs.Name.{Prefixes, StandForOne};
+ghost use Rattle.fs_parser.specs.Name.{Prefixes as PrefixList, StandForOne, standard_prefixes};
 ghost use Rattle.fs_parser.specs.State.{state_of};
 ghost use Rattle.fs_parser.specs.Stream.{AreTreesBehind};
 ghost use Rattle.fs_parser.specs.Tree.{Empty};
@@ -12,11 +12,12 @@ ghost use Rattle.fs_parser.specs.View.{tree_of};
 use crate::document::DEEPEST;
 use crate::known::Known;
 use crate::prefix::expand;
+use crate::prefixes::Prefixes;
 use crate::reader::{Pending, State, take};
 use crate::stream::{declared_by, header};
 use crate::tree::Tree;
 use fs_lexer::{Kind, Token, next_token, only_separators};
-use std::alloc::Global;
+use std::alloc::{AllocError, Global};
 use std::marker::Model;
 
 /// No tree of a document stands where one was read, or memory was refused: then `tokens` and `forms` tell the fault.
@@ -127,7 +128,7 @@ fn tree_at<'a>(
 /// Whether what stands behind so many bytes of the text is a closing parenthesis, with which its tokens end.
 fn is_end(text: &str, from: usize) -> bool
     requires { from ≤ length text.now }
-    ensures { IsTrue result → (prefixes : Prefixes) → AreTreesBehind text.now from prefixes Empty }
+    ensures { IsTrue result → (prefixes : PrefixList) → AreTreesBehind text.now from prefixes Empty }
 {
     let Some((token, behind)) = next_token(text, from) else {
         return false;
@@ -153,6 +154,17 @@ impl<'a> TreeReader<'a> {
             known,
             state,
         })
+    }
+
+    /// What names are expanded with: the standard prefixes, and those that the document declares. The text need not stay.
+    ///
+    /// # Errors
+    ///
+    /// `AllocError` where memory was refused.
+    pub fn prefixes(&self, alloc: Global) -> Result<Prefixes, AllocError>
+        ensures { IfOk result (λ p. p ≡ standard_prefixes ++ self.now.declared) }
+    {
+        Prefixes::of(alloc, &self.known.declared)
     }
 
     /// The tree that comes next. None behind the last one, where the text is a whole document.

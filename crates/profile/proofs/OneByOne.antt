@@ -1,12 +1,12 @@
 -- What is read of a text whose trees are taken one by one.
-use Rattle.std.proofs.Common.{◌≡◌, ℕ, List, [], ◌∷◌, ◌++◌, Result, Ok, Err, sym, subst, append_assoc}
+use Rattle.std.proofs.Common.{◌≡◌, ℕ, List, [], ◌∷◌, ◌++◌, length, Result, Ok, Err, sym, subst, append_assoc}
 use Rattle.std.proofs.lemmas.List.{append-nil}
 use Rattle.std.specs.Result.{IfErr, IfOk}
 use Rattle.std.specs.Str.{IsUtf8}
 use Rattle.axioms.specs.Ontology.{Ontology}
 use Rattle.axioms.specs.WellFormedness.{IsOntology}
-use Rattle.fs_parser.specs.Stream.{AreFormsOf}
 use Rattle.fs_parser.specs.Document.{Document}
+use Rattle.fs_parser.specs.Name.{Prefixes, standard_prefixes}
 use Rattle.fs_parser.specs.Tree.{Tree}
 use Rattle.fs_parser.specs.Rest.{AreLeft, IsFirst, IsStartOf, TextLeft}
 use Rattle.fs_parser.specs.View.{trees_from}
@@ -17,7 +17,7 @@ use Rattle.shapes.specs.declared.version.Version.{Version}
 use Rattle.shapes.specs.declared.version.Version.TheVariants.{One}
 use Rattle.profile.specs.declared.acceptance.Refusal.{Refusal}
 use Rattle.profile.specs.declared.acceptance.Refusal.TheVariants as refusing
-use Rattle.profile.specs.Documents.{AreTextOf, IsTaken, ReadsAs}
+use Rattle.profile.specs.Documents.{AreTextOf, IsTaken, OpensAs, ReadsAs}
 use Rattle.profile.specs.Faults.{Refuses, of_refusal}
 use Rattle.profile.specs.Streams.{AllTaken, IsAnswerTo}
 
@@ -60,8 +60,11 @@ module _ (text : List ℕ) (utf8 : IsUtf8 text) (left : TextLeft) (start : IsSta
   text_of : (trees : List Tree) → AreLeft left trees → AreTextOf text (the_document trees)
   text_of trees h = let forms = start trees h in record { utf8 = utf8; tokens = forms.tokens; spelled = forms.spelled; written = forms.written }
 
-  pub streamed_reads : (o : Ontology) → IsAnswerTo left (Ok o) → IsOntology o → ReadsAs text o
-  streamed_reads o h whole = record { document = the_document h.trees; text = text_of h.trees h.left_are; read = h.read; well_formed = whole }
+  pub streamed_opens : (o : Ontology) (prefixes : Prefixes) (n : ℕ) → prefixes ≡ standard_prefixes ++ left.declared → n ≡ length text → IsAnswerTo left (Ok o) → IsOntology o
+      → OpensAs text (record { ontology = o; prefixes = prefixes; bytes = n })
+  streamed_opens o prefixes n are many h whole =
+      let reads : ReadsAs text o = record { document = the_document h.trees; text = text_of h.trees h.left_are; read = h.read; well_formed = whole } in
+      record { reads = record { reads = reads; prefixes_are = are }; number = many }
 
   pub streamed_taken : (o : Ontology) → IsAnswerTo left (Ok o) → IsOntology o → IsTaken o
   streamed_taken o h whole = record { statements = _; numbered = h.read.ontology; few_names = h.read.few_names; well_formed = whole }

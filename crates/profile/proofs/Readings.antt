@@ -1,19 +1,24 @@
 -- What a document reads as, from what its parts are.
-use Rattle.std.proofs.Common.{◌≡◌, ℕ, ◌++◌, ◌≤◌, List, length, Some, None, Option, Result, Ok, Err, IfOk, IfErr, sym, ap, ◌∙◌, subst, arith}
+use Rattle.std.proofs.Common.{◌≡◌, ℕ, ◌++◌, ◌≤◌, List, length, Some, None, Option, Result, Ok, Err, IfOk, IfErr, refl, sym, ap, ◌∙◌, subst, arith}
 use Rattle.std.proofs.lemmas.List.{append-nil}
 use Rattle.std.specs.Io.KnownBytes.{Consumes, IsAtEnd}
 use Rattle.std.specs.Str.{IsUtf8}
 use Rattle.axioms.specs.Ontology.{Ontology}
+use Rattle.axioms.specs.WellFormedness.{IsOntology}
 use Rattle.fs_lexer.specs.Spelling.{Token, Spells}
-use Rattle.fs_parser.specs.Document.{Document, IsDocument}
+use Rattle.fs_parser.specs.Document.{Document, IsDocument, prefixes_of}
+use Rattle.fs_parser.specs.Name.{Prefixes}
 use Rattle.fs_parser.specs.Faults.{IsPlaced}
 use Rattle.fs_parser.specs.State as parser
 use Rattle.fs_parser.specs.declared.fault.ParseFault.{ParseFault}
 use Rattle.fs_parser.specs.declared.fault.ParseFault.TheVariants as parsing
+use Rattle.shapes.specs.declared.version.Version.TheVariants.{One}
 use Rattle.profile.specs.declared.fault.DocumentFault.{DocumentFault}
+use Rattle.profile.specs.declared.opened.Opened.{Opened}
 use Rattle.profile.specs.declared.fault.DocumentFault.TheVariants as faults
-use Rattle.profile.specs.Documents.{ReadsAs}
-use Rattle.profile.specs.Faults.{AreNoDocument, Refuses, RefusesKnown, of_parsing}
+use Rattle.profile.specs.Documents.{AreTextOf, OpensAs, ReadsAs}
+use Rattle.profile.specs.Reading.{AreReadAs}
+use Rattle.profile.specs.Faults.{AreNoDocument, OpensKnown, ReadsKnown, Refuses, RefusesKnown, of_parsing}
 use Rattle.profile.proofs.Bounds.{axioms_take_bytes}
 
 module _ (text : List ℕ) (tokens : List Token) (utf8 : IsUtf8 text) (spelled : Spells text tokens) where
@@ -32,10 +37,17 @@ module _ (text : List ℕ) (tokens : List Token) (utf8 : IsUtf8 text) (spelled :
   parse_fault (parsing.TooDeep at) none placed = no_document (parsing.TooDeep at) tt none placed
   parse_fault parsing.Memory none placed = tt
 
+-- a document that was read from its trees
+pub listed_opens : (text : List ℕ) (document : Document) → AreTextOf text document → (o : Ontology) → AreReadAs One document.trees o → IsOntology o
+    → (prefixes : Prefixes) → prefixes ≡ prefixes_of document → OpensAs text (record { ontology = o; prefixes = prefixes; bytes = length text })
+listed_opens text document is o read whole prefixes are =
+    let reads : ReadsAs text o = record { document = document; text = is; read = read; well_formed = whole } in
+    record { reads = record { reads = reads; prefixes_are = are }; number = refl }
+
 -- a document has room for its axioms
-pub axioms_fit : (r : Result Ontology DocumentFault) (text bytes : List ℕ) → text ≡ bytes → IfOk r (ReadsAs text) → IfOk r (λ o. length o.axioms ≤ length bytes)
-axioms_fit (Err e) text bytes same h = tt
-axioms_fit (Ok o) text bytes same h = omega (arith, axioms_take_bytes text o h, ap length same)
+pub axioms_fit : (r : Result Opened DocumentFault) (text : List ℕ) → IfOk r (OpensAs text) → IfOk r (λ d. length d.ontology.axioms ≤ d.bytes)
+axioms_fit (Err e) text h = tt
+axioms_fit (Ok d) text h = omega (arith, axioms_take_bytes text d.ontology h.reads.reads, h.number)
 
 -- ---- all the bytes of a source
 
@@ -49,17 +61,40 @@ not_read xs most faults.Memory h fit = tt
 not_read xs most faults.TooLarge h fit = absurd h
 not_read xs most faults.Io h fit = absurd h
 
+-- what was consumed to the end is all that there was
+all_consumed : (xs ys bytes : List ℕ) → Consumes (Some xs) (Some ys) bytes → IsAtEnd (Some ys) → bytes ≡ xs
+all_consumed xs ys bytes all end = sym (all ∙ ap (λ zs. bytes ++ zs) end ∙ append-nil bytes)
+
 known_refused :
     (left rest : Option (List ℕ)) (bytes : List ℕ) (most : ℕ) (e : DocumentFault) → Consumes left rest bytes → IsAtEnd rest → Refuses e bytes → length bytes ≤ most → RefusesKnown left most e
 known_refused None rest bytes most e all end h fit = tt
 known_refused (Some xs) None bytes most e all end h fit = absurd all
 known_refused (Some xs) (Some ys) bytes most e all end h fit =
-    let same : bytes ≡ xs = sym (all ∙ ap (λ zs. bytes ++ zs) end ∙ append-nil bytes) in
+    let same = all_consumed xs ys bytes all end in
     let P : List ℕ → Type 0 = Refuses e in not_read xs most e (subst P same h) (omega (arith, ap length same, fit))
 
 pub answer_refused :
-    (r : Result Ontology DocumentFault) (left rest : Option (List ℕ)) (bytes text : List ℕ) (most : ℕ) → Consumes left rest bytes → IsAtEnd rest → length bytes ≤ most → text ≡ bytes →
+    (r : Result Opened DocumentFault) (left rest : Option (List ℕ)) (bytes text : List ℕ) (most : ℕ) → Consumes left rest bytes → IsAtEnd rest → length bytes ≤ most → text ≡ bytes →
     IfErr r (λ e. Refuses e text) → IfErr r (RefusesKnown left most)
 answer_refused (Ok o) left rest bytes text most all end fit same h = tt
 answer_refused (Err e) left rest bytes text most all end fit same h =
     let P : List ℕ → Type 0 = Refuses e in known_refused left rest bytes most e all end (subst P same h) fit
+
+known_opened : (left rest : Option (List ℕ)) (bytes : List ℕ) (most : ℕ) (d : Opened) → Consumes left rest bytes → IsAtEnd rest → OpensAs bytes d → length bytes ≤ most → OpensKnown left most d
+known_opened None rest bytes most d all end h fit = tt
+known_opened (Some xs) None bytes most d all end h fit = absurd all
+known_opened (Some xs) (Some ys) bytes most d all end h fit =
+    let same = all_consumed xs ys bytes all end in
+    (subst (λ zs. OpensAs zs d) same h, omega (arith, ap length same, fit))
+
+pub answer_opened :
+    (r : Result Opened DocumentFault) (left rest : Option (List ℕ)) (bytes text : List ℕ) (most : ℕ) → Consumes left rest bytes → IsAtEnd rest → length bytes ≤ most → text ≡ bytes →
+    IfOk r (OpensAs text) → IfOk r (OpensKnown left most)
+answer_opened (Err e) left rest bytes text most all end fit same h = tt
+answer_opened (Ok d) left rest bytes text most all end fit same h =
+    known_opened left rest bytes most d all end (subst (λ zs. OpensAs zs d) same h) fit
+
+-- what was opened is read
+pub opened_read : (left : Option (List ℕ)) (most : ℕ) (d : Opened) → OpensKnown left most d → ReadsKnown left most d.ontology
+opened_read None most d h = tt
+opened_read (Some bytes) most d h = (h.0.reads.reads, h.1)

@@ -7,7 +7,7 @@ use Rattle.fs_parser.specs.Tree.{Tree, Trees, Form, Empty, Then}
 use Rattle.shapes.specs.Faults.{behind_annotations, count_of, faults}
 use Rattle.shapes.specs.Places.{faults_at}
 use Rattle.shapes.specs.Shapes.{Operands, Each, Shape, axiom_forms, entity_forms, fits_count, form_of, row, shape, shape_in, since, takes}
-use Rattle.shapes.specs.TreeStatements.{Stated, axiom_by, entity_by, entity_in, stated_by, statement_in}
+use Rattle.shapes.specs.TreeStatements.{axiom_by, entity_by, entity_in, stated_by, statement_in}
 use Rattle.shapes.specs.declared.expected.Expected.TheVariants.{Annotation, Axiom, Entity}
 use Rattle.shapes.specs.declared.form.Form as shapes
 use Rattle.shapes.specs.declared.form.Form.TheVariants as forms

@@ -19,7 +19,7 @@ use Rattle.axioms.proofs.Trees.{node_tree, class_named, length_trees}
 use Rattle.axioms.proofs.Growing.{keeps_numbers, new_class_node}
 use Rattle.device.specs.declared.fault.Memory.{Memory}
 use Rattle.axioms.specs.declared.ids.ExprId.{ExprId}
-use Rattle.profile.specs.Additions.{Appends, Adds, Grows, HasAdded, HasFewNames}
+use Rattle.profile.specs.Additions.{Appends, Adds, Grows, HasAdded, HasFewNames, IsPrefix, KeepsNumbers}
 use Rattle.profile.proofs.FirstPlaces.{one_expression}
 use Rattle.profile.proofs.Appending.{appends_nothing, appends_join, appends_number, appends_old, appends_new, once}
 use Rattle.profile.proofs.Overflowing.{few_with_name}
@@ -49,10 +49,29 @@ numbered : {A : Type 0} (old : List A) (x : A) (new : List A) (n : ℕ) → Numb
 numbered old x new n (inl (at, same)) = ap (λ xs. slice_get xs n) same ∙ at
 numbered old x new n (inr (apart, last, longer)) = ap₂ slice_get longer last ∙ slice_get_push old x
 
+-- ---- what was there stands in front
+
+prefix_self : {A : Type 0} (xs : List A) → IsPrefix xs xs
+prefix_self xs = ([], sym (append-nil xs))
+
+prefix_join : {A : Type 0} (xs ys zs : List A) → IsPrefix xs ys → IsPrefix ys zs → IsPrefix xs zs
+prefix_join xs ys zs first second = (first.0 ++ second.0, second.1 ∙ ap (λ us. us ++ second.0) first.1 ∙ append_assoc xs first.0 second.0)
+
+prefix_numbered : {A : Type 0} (old : List A) (x : A) (new : List A) (n : ℕ) → Numbers old x new n → IsPrefix old new
+prefix_numbered old x new n (inl (at, same)) = ([], same ∙ sym (append-nil old))
+prefix_numbered old x new n (inr (apart, last, longer)) = (x ∷ [], longer)
+
+kept_same : (o : Ontology) → KeepsNumbers o o
+kept_same o = record { nodes = prefix_self o.nodes; axioms = prefix_self o.axioms }
+
+kept_join : (o p q : Ontology) → KeepsNumbers o p → KeepsNumbers p q → KeepsNumbers o q
+kept_join o p q first second =
+    record { nodes = prefix_join o.nodes p.nodes q.nodes first.nodes second.nodes; axioms = prefix_join o.axioms p.axioms q.axioms first.axioms second.axioms }
+
 pub adds_join : (es fs : List ClassExpression) (rs ss as' bs : List Iri) (xs ys : List tree.Axiom) (o p q : Ontology) →
     Adds es rs as' xs o p → Adds fs ss bs ys p q → Adds (es ++ fs) (rs ++ ss) (as' ++ bs) (xs ++ ys) o q
 adds_join es fs rs ss as' bs xs ys o p q first second =
-    record { grows = grows_join es fs rs ss as' bs xs ys o p q first.grows second.grows; few_names = λ few. second.few_names (first.few_names few) }
+    record { grows = grows_join es fs rs ss as' bs xs ys o p q first.grows second.grows; kept = kept_join o p q first.kept second.kept; few_names = λ few. second.few_names (first.few_names few) }
 
 pub keeps_of : (es : List ClassExpression) (rs as' : List Iri) (xs : List tree.Axiom) (o p : Ontology) → Adds es rs as' xs o p → KeepsAll o p
 keeps_of es rs as' xs o p adds = record {
@@ -235,7 +254,7 @@ same_few o p same few = record {
 }
 
 pub adds_nothing : (o : Ontology) → IsOntology o → Adds [] [] [] [] o o
-adds_nothing o whole = record { grows = grows_nothing o whole; few_names = λ few. few }
+adds_nothing o whole = record { grows = grows_nothing o whole; kept = kept_same o; few_names = λ few. few }
 
 pub class_declared : (o p : Ontology) (iri : Iri) (c e : ℕ) → IsOntology o → IsOntology p → (IsFull o.names.classes iri → ⊥) → DeclaresClass o iri p c e → HasAdded o p e (Named iri)
 class_declared o p iri c e whole whole' room declares =
@@ -245,14 +264,18 @@ class_declared o p iri c e whole whole' room declares =
     subst P (sym declares.others) (class_added o whole iri p.names.classes p.nodes c e (subst IsOntology declares.others whole') declares.name declares.node) in
     let others : HasFewNames o → HasFewNames q =
     λ few. record { classes = few_with_name o.names.classes iri p.names.classes c declares.name room few.classes; properties = few.properties; individuals = few.individuals } in
-    record { adds = record { grows = grown.grows; few_names = λ few. subst HasFewNames (sym declares.others) (others few) }; at = grown.at }
+    let kept : KeepsNumbers o q = record { nodes = prefix_numbered o.nodes (Class c) p.nodes e declares.node; axioms = prefix_self o.axioms } in
+    record {
+      adds = record { grows = grown.grows; kept = subst (KeepsNumbers o) (sym declares.others) kept; few_names = λ few. subst HasFewNames (sym declares.others) (others few) };
+      at = grown.at;
+    }
 
 pub property_declared : (o p : Ontology) (iri : Iri) (n : ℕ) → IsOntology o → (IsFull o.names.properties iri → ⊥) → DeclaresProperty o iri p n → Adds [] (iri ∷ []) [] [] o p × (slice_get p.names.properties n ≡ Some iri)
 property_declared o p iri n whole room declares =
     let q : Ontology = record o { names = record o.names { properties = p.names.properties } } in
     let others : HasFewNames o → HasFewNames q =
     λ few. record { classes = few.classes; properties = few_with_name o.names.properties iri p.names.properties n declares.name room few.properties; individuals = few.individuals } in
-    let added : Adds [] (iri ∷ []) [] [] o q = record { grows = property_added o whole iri p.names.properties n declares.name; few_names = others } in
+    let added : Adds [] (iri ∷ []) [] [] o q = record { grows = property_added o whole iri p.names.properties n declares.name; kept = record { nodes = prefix_self o.nodes; axioms = prefix_self o.axioms }; few_names = others } in
     let P : Ontology → Type 0 = λ x. Adds [] (iri ∷ []) [] [] o x in
     (subst P (sym declares.others) added, numbered o.names.properties iri p.names.properties n declares.name)
 
@@ -261,7 +284,7 @@ individual_declared o p iri n whole room declares =
     let q : Ontology = record o { names = record o.names { individuals = p.names.individuals } } in
     let others : HasFewNames o → HasFewNames q =
     λ few. record { classes = few.classes; properties = few.properties; individuals = few_with_name o.names.individuals iri p.names.individuals n declares.name room few.individuals } in
-    let added : Adds [] [] (iri ∷ []) [] o q = record { grows = individual_added o whole iri p.names.individuals n declares.name; few_names = others } in
+    let added : Adds [] [] (iri ∷ []) [] o q = record { grows = individual_added o whole iri p.names.individuals n declares.name; kept = record { nodes = prefix_self o.nodes; axioms = prefix_self o.axioms }; few_names = others } in
     let P : Ontology → Type 0 = λ x. Adds [] [] (iri ∷ []) [] o x in
     (subst P (sym declares.others) added, numbered o.names.individuals iri p.names.individuals n declares.name)
 
@@ -269,7 +292,11 @@ pub node_stated : (o p : Ontology) (node : Node) (e : ℕ) → IsOntology o → 
 node_stated o p node e whole whole' numbers others t is none =
     let P : Ontology → Type 0 = λ x. IsGrownAt o x e t in
     let grown : IsGrownAt o p e t = subst P (sym others) (node_added o whole node p.nodes e (subst IsOntology others whole') numbers t is none) in
-    record { adds = record { grows = grown.grows; few_names = same_few o p (ap (λ (x : Ontology). x.names) others) }; at = grown.at }
+    let kept : KeepsNumbers o (record o { nodes = p.nodes }) = record { nodes = prefix_numbered o.nodes node p.nodes e numbers; axioms = prefix_self o.axioms } in
+    record {
+      adds = record { grows = grown.grows; kept = subst (KeepsNumbers o) (sym others) kept; few_names = same_few o p (ap (λ (x : Ontology). x.names) others) };
+      at = grown.at;
+    }
 
 -- an axiom comes last
 pub axiom_stated : (o : Ontology) (axiom' : Axiom) → IsOntology o → Adds [] [] [] (axiom_tree o axiom' ∷ []) o (with_axiom o axiom')
@@ -283,6 +310,7 @@ axiom_stated o axiom' whole =
         individuals_grow = nothing.individuals_grow;
         axioms_grow = map-append (axiom_tree o) o.axioms (axiom' ∷ []);
       };
+      kept = record { nodes = prefix_self o.nodes; axioms = (axiom' ∷ [], refl) };
       few_names = same_few o (with_axiom o axiom') refl;
     }
 

@@ -5,7 +5,7 @@ use Rattle.std.proofs.lemmas.Option.{slice_get-get_or}
 use Rattle.lemmas.proofs.Places.{take_push}
 use Rattle.axioms.specs.Growth.{IsBounded}
 use Rattle.axioms.specs.Ontology.{Ontology}
-use Rattle.axioms.specs.Numbering.{IsOntologyOf, Statement}
+use Rattle.axioms.specs.Numbering.{Statement}
 use Rattle.axioms.specs.WellFormedness.{IsOntology}
 use Rattle.fs_parser.specs.Tree.{Tree}
 use Rattle.fs_parser.specs.View.{tree_of, trees_from, trees_of}
@@ -146,6 +146,7 @@ growth_told version old trees t h o is bounded none room =
     record {
       faultless = all_faults start trees t h ∙ none;
       adds = adds;
+      kept = adds.kept;
       few_names = few o bounded;
       ontology = λ ss k. joined ss (statements version (trees_from trees)) old o k adds;
     }

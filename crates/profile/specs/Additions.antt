@@ -30,15 +30,25 @@ pub record Grows (expressions : List ClassExpression) (properties individuals : 
   pub individuals_grow : Appends bytes_eq old.names.individuals individuals new.names.individuals
   pub axioms_grow : axiom_trees new ≡ axiom_trees old ++ axioms
 
+-- the first list is the prefix of the second
+abbrev pub IsPrefix : {A : Type 0} → List A → List A → Type 0
+IsPrefix {A} xs ys = (rest : List A) × (ys ≡ xs ++ rest)
+
+-- old's expressions and axioms, as they are kept, have the same numbers in new
+pub record KeepsNumbers (old new : Ontology) : Type 0 where
+  pub nodes : IsPrefix old.nodes new.nodes
+  pub axioms : IsPrefix old.axioms new.axioms
+
 -- of each kind as many names as there may be
 pub record HasFewNames (o : Ontology) : Type 0 where
   pub classes : length o.names.classes ≤ most_names
   pub properties : length o.names.properties ≤ most_names
   pub individuals : length o.names.individuals ≤ most_names
 
--- new is old with these, and no kind has got too many names
+-- new is old with these, what was there keeps its number, and no kind has got too many names
 pub record Adds (expressions : List ClassExpression) (properties individuals : List Iri) (axioms : List Axiom) (old new : Ontology) : Type 0 where
   pub grows : Grows expressions properties individuals axioms old new
+  pub kept : KeepsNumbers old new
   pub few_names : HasFewNames old → HasFewNames new
 
 -- each of these has the number beside it

@@ -1,12 +1,14 @@
 -- The documents that are read, and what they read as.
-use Rattle.std.specs.Prelude.{ℕ, List}
+use Rattle.std.specs.Prelude.{◌≡◌, ℕ, List, length}
 use Rattle.std.specs.Str.{IsUtf8}
 use Rattle.axioms.specs.Ontology.{Ontology}
 use Rattle.axioms.specs.Numbering.{Statement, IsOntologyOf}
 use Rattle.axioms.specs.WellFormedness.{IsOntology}
 use Rattle.fs_lexer.specs.Spelling.{Token, Spells}
-use Rattle.fs_parser.specs.Document.{Document, IsDocument}
+use Rattle.fs_parser.specs.Document.{Document, IsDocument, prefixes_of}
+use Rattle.fs_parser.specs.Name.{Prefixes}
 use Rattle.profile.specs.Reading.{AreReadAs, HasFewNames}
+use Rattle.profile.specs.declared.opened.Opened.{Opened}
 use Rattle.shapes.specs.declared.version.Version.TheVariants.{One}
 
 -- the bytes are the text of the document
@@ -22,6 +24,16 @@ pub record ReadsAs (bytes : List ℕ) (o : Ontology) : Type 0 where
   pub text : AreTextOf bytes document
   pub read : AreReadAs One document.trees o
   pub well_formed : IsOntology o
+
+-- the bytes read as the ontology, and these are the prefixes with which the names of their document are expanded
+pub record ReadsWith (bytes : List ℕ) (o : Ontology) (prefixes : Prefixes) : Type 0 where
+  pub reads : ReadsAs bytes o
+  pub prefixes_are : prefixes ≡ prefixes_of reads.document
+
+-- what was opened is what the bytes read as, with the prefixes of their document, and how many they are
+pub record OpensAs (bytes : List ℕ) (opened : Opened) : Type 0 where
+  pub reads : ReadsWith bytes opened.ontology opened.prefixes
+  pub number : opened.bytes ≡ length bytes
 
 -- what holds of every ontology that is read, also of a source that does not tell its bytes: it is well formed, and that of
 -- some statements, with as many names as there may be

@@ -21,7 +21,8 @@ use Rattle.shapes.specs.declared.version.Version.TheVariants.{One}
 use Rattle.profile.specs.Statements.{statements}
 use Rattle.profile.specs.declared.fault.DocumentFault.{DocumentFault}
 use Rattle.profile.specs.declared.fault.DocumentFault.TheVariants.{NotUtf8, TooLarge, Io, Lex, Parse, Faults, TooManyNames, Memory}
-use Rattle.profile.specs.Documents.{AreTextOf, ReadsAs}
+use Rattle.profile.specs.declared.opened.Opened.{Opened}
+use Rattle.profile.specs.Documents.{AreTextOf, OpensAs, ReadsAs}
 
 -- the faults of the parts as faults of the whole: a refused growth is one thing everywhere
 abbrev pub of_lexing : LexFault → DocumentFault
@@ -86,6 +87,10 @@ Refuses Io bytes = ⊥
 abbrev pub ReadsKnown : Option (List ℕ) → ℕ → Ontology → Type 0
 ReadsKnown None most o = Unit {0}
 ReadsKnown (Some bytes) most o = ReadsAs bytes o × (length bytes ≤ most)
+
+abbrev pub OpensKnown : Option (List ℕ) → ℕ → Opened → Type 0
+OpensKnown None most opened = Unit {0}
+OpensKnown (Some bytes) most opened = OpensAs bytes opened × (length bytes ≤ most)
 
 abbrev pub RefusesKnown : Option (List ℕ) → ℕ → DocumentFault → Type 0
 RefusesKnown None most e = Unit {0}

@@ -6,7 +6,7 @@ use Rattle.fs_parser.specs.Tree.{Tree, Trees}
 use Rattle.shapes.specs.Faults.{axiom_faults, expression_faults}
 use Rattle.shapes.specs.View.{faults_of}
 use Rattle.shapes.specs.declared.version.Version.{Version}
-use Rattle.profile.specs.Additions.{Adds, HasFewNames, AddsStatements, StatementsOverflow}
+use Rattle.profile.specs.Additions.{Adds, HasFewNames, AddsStatements, KeepsNumbers, StatementsOverflow}
 use Rattle.profile.specs.Statements.{class_of, statements}
 use Rattle.profile.specs.declared.acceptance.Refusal.{Refusal}
 use Rattle.profile.specs.declared.acceptance.Refusal.TheVariants.{Faults, TooManyNames, Memory}
@@ -16,6 +16,7 @@ use Rattle.profile.specs.declared.acceptance.Refusal.TheVariants.{Faults, TooMan
 pub record AreAddedAs (version : Version) (old : Ontology) (trees : Trees) (new : Ontology) : Type 0 where
   pub faultless : axiom_faults version trees ≡ []
   pub adds : AddsStatements (statements version trees) old new
+  pub kept : KeepsNumbers old new
   pub few_names : HasFewNames new
   -- so it is that of the statements of both
   pub ontology : (ss : List Statement) → IsOntologyOf ss old → IsOntologyOf (ss ++ statements version trees) new

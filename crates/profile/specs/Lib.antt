@@ -9,6 +9,7 @@ pub mod Intake
 pub mod Finishing
 pub mod Documents
 pub mod Faults
+pub mod AddedTexts
 pub mod DocumentTheorems
 pub mod Messages
 pub mod Streams

@@ -4,7 +4,7 @@ use Rattle.std.specs.List.{filter_map}
 use Rattle.axioms.specs.Expression.{ClassExpression}
 use Rattle.axioms.specs.Ontology.{Ontology, trees, axiom_trees}
 use Rattle.axioms.specs.Numbering.{Statement, IsOntologyOf, first_places, same_expression, logical_axiom, statement_expressions, statement_properties, statement_individuals}
-use Rattle.profile.specs.Additions.{Grows}
+use Rattle.profile.specs.Additions.{Grows, IsPrefix}
 
 -- first places of first places and more are those of all
 abbrev pub FirstPlacesJoin : Type 0
@@ -16,10 +16,6 @@ OneMoreStatement =
     (statements : List Statement) (statement : Statement) (o p : Ontology) → IsOntologyOf statements o →
     Grows (statement_expressions statement) (statement_properties statement) (statement_individuals statement) (filter_map logical_axiom (statement ∷ [])) o p →
     IsOntologyOf (statements ++ statement ∷ []) p
-
--- the first list is the prefix of the second
-abbrev pub IsPrefix : {A : Type 0} → List A → List A → Type 0
-IsPrefix {A} xs ys = (rest : List A) × (ys ≡ xs ++ rest)
 
 -- names, expressions and what axioms say have the same numbers in the second ontology
 pub record ArePrefixes (o p : Ontology) : Type 0 where

@@ -1,18 +1,19 @@
 //! From bytes to an ontology.
 ghost use Rattle.device.specs.Device.{HasFailed, LosesFront};
-ghost use Rattle.profile.specs.Documents.{AreTextOf, IsTaken, ReadsAs};
-ghost use Rattle.profile.specs.Faults.{ReadsKnown, Refuses, RefusesKnown};
+ghost use Rattle.profile.specs.Documents.{AreTextOf, IsTaken, OpensAs, ReadsAs};
+ghost use Rattle.profile.specs.Faults.{OpensKnown, ReadsKnown, Refuses, RefusesKnown};
 ghost use Rattle.std.specs.Io.KnownBytes.{IsAtEnd};
 ghost use Rattle.fs_parser.specs.View.{document_of};
 ghost use Rattle.std.specs.Prelude.{◌≡◌, ◌+◌, ◌<◌, ◌≤◌, IfErr, IfOk, IsErrOf, OnOk, length};
 
 use crate::acceptance::accept;
 use crate::fault::DocumentFault;
+use crate::opened::Opened;
 use crate::streamed::streamed;
 use axioms::Ontology;
 use device::{ReadFault, Source, read_all};
 use fs_lexer::tokens;
-use fs_parser::{Document, forms};
+use fs_parser::{Document, Prefixes, forms, tokens_are_one_document};
 use program::Limits;
 use shapes::Version;
 use std::alloc::Global;
@@ -34,35 +35,59 @@ fn listed_document<'a>(alloc: Global, text: &'a str) -> Result<Document<'a>, Doc
     }
 }
 
-/// The ontology that a text reads as, by the document with all its trees.
-fn listed_text(alloc: Global, text: &str, state: RandomState) -> Result<Ontology, DocumentFault>
-    ensures read { IfOk result (ReadsAs text.now) }
-    ensures taken { IfOk result IsTaken }
+/// What a text reads as, by the document with all its trees.
+fn listed_text(alloc: Global, text: &str, state: RandomState) -> Result<Opened, DocumentFault>
+    ensures read { IfOk result (OpensAs text.now) }
+    ensures taken { IfOk result (λ d. IsTaken d.ontology) }
     ensures refused { IfErr result (λ e. Refuses e text.now) }
 {
     let document = match listed_document(alloc, text) {
         Ok(document) => document,
         Err(fault) => return Err(fault),
     };
+    tokens_are_one_document();
+    let prefixes = match Prefixes::of(alloc, &document.prefixes) {
+        Ok(prefixes) => prefixes,
+        Err(_) => return Err(DocumentFault::Memory),
+    };
     match accept(alloc, &document, Version::One, state) {
         Ok(ontology) => {
             ontology.well_formed();
-            Ok(ontology)
+            Ok(Opened {
+                ontology,
+                prefixes,
+                bytes: text.len(),
+            })
         }
         Err(refusal) => Err(DocumentFault::from(refusal)),
     }
 }
 
-/// The ontology that a text reads as. Its trees are read one by one; the lists of all tokens and of all trees are made only where
-/// it is no document, for the fault.
-fn read_text(alloc: Global, text: &str, state: RandomState) -> Result<Ontology, DocumentFault>
-    ensures read { IfOk result (ReadsAs text.now) }
-    ensures taken { IfOk result IsTaken }
+/// What a text reads as. Its trees are read one by one; the lists of all tokens and of all trees are made only where it is no
+/// document, for the fault.
+fn read_text(alloc: Global, text: &str, state: RandomState) -> Result<Opened, DocumentFault>
+    ensures read { IfOk result (OpensAs text.now) }
+    ensures taken { IfOk result (λ d. IsTaken d.ontology) }
     ensures refused { IfErr result (λ e. Refuses e text.now) }
 {
     match streamed(alloc, text, state) {
         Some(answer) => answer,
         None => listed_text(alloc, text, state),
+    }
+}
+
+/// What the bytes of a document read as.
+fn opened_bytes(alloc: Global, bytes: &[u8], state: RandomState) -> Result<Opened, DocumentFault>
+    ensures read { IfOk result (OpensAs bytes.now) }
+    ensures taken { IfOk result (λ d. IsTaken d.ontology) }
+    ensures axioms { IfOk result (λ d. length d.ontology.axioms ≤ d.bytes) }
+    ensures refused { IfErr result (λ e. Refuses e bytes.now) }
+{
+    match str::from_utf8(bytes) {
+        Ok(text) => read_text(alloc, text, state),
+        Err(error) => Err(DocumentFault::NotUtf8 {
+            at: error.valid_up_to(),
+        }),
     }
 }
 
@@ -83,11 +108,47 @@ pub fn read_bytes(
     ensures axioms { IfOk result (λ o. length o.axioms ≤ length bytes.now) }
     ensures refused { IfErr result (λ e. Refuses e bytes.now) }
 {
-    match str::from_utf8(bytes) {
-        Ok(text) => read_text(alloc, text, state),
-        Err(error) => Err(DocumentFault::NotUtf8 {
-            at: error.valid_up_to(),
-        }),
+    match opened_bytes(alloc, bytes, state) {
+        Ok(opened) => Ok(opened.ontology),
+        Err(fault) => Err(fault),
+    }
+}
+
+/// The document that the source gives, within the limit of bytes: its ontology, its prefixes, and how many bytes it has.
+///
+/// What was read of the source by then is lost where the answer is a fault.
+///
+/// # Errors
+///
+/// `TooLarge` where there are more bytes than the limit, `Io` where the source failed in this call, and those of `read_bytes`.
+pub fn read_opened<S: Source>(
+    alloc: Global,
+    source: &mut S,
+    limits: &Limits,
+    state: RandomState,
+) -> Result<Opened, DocumentFault>
+    // The source's bytes read as this ontology, with these prefixes, and are so many; or they are refused, or too many, or the
+    // source failed in this call.
+    ensures read { IfOk result (OpensKnown (S.left source.old) limits.now.max_bytes) }
+    ensures taken { IfOk result (λ d. IsTaken d.ontology) }
+    ensures axioms { IfOk result (λ d. length d.ontology.axioms ≤ d.bytes) }
+    ensures refused { IfErr result (RefusesKnown (S.left source.old) limits.now.max_bytes) }
+    // Of a source that does not tell its bytes, too: how many it gave, and that it gave more than the limit.
+    ensures within { IfOk result (λ d. d.bytes ≤ limits.now.max_bytes) }
+    ensures bytes { IfOk result (λ d. S.most source.new + d.bytes ≡ S.most source.old) }
+    ensures beyond { IsErrOf result DocumentFault.TooLarge → S.most source.new + limits.now.max_bytes < S.most source.old }
+    // What was read of the source, and whether a read failed.
+    ensures end { OnOk result (IsAtEnd (S.left source.new)) }
+    ensures lost { LosesFront (S.left source.old) (S.left source.new) (S.most source.old) (S.most source.new) }
+    ensures unfailed { ¬ IsErrOf result DocumentFault.Io → S.failures source.new ≡ S.failures source.old }
+    ensures failed { IsErrOf result DocumentFault.Io → HasFailed (S.failures source.old) (S.failures source.new) }
+{
+    let most = limits.max_bytes as usize;
+    match read_all(alloc, source, most) {
+        Ok(bytes) => opened_bytes(alloc, &bytes, state),
+        Err(ReadFault::TooLarge) => Err(DocumentFault::TooLarge),
+        Err(ReadFault::Failed) => Err(DocumentFault::Io),
+        Err(ReadFault::Memory) => Err(DocumentFault::Memory),
     }
 }
 
@@ -117,11 +178,8 @@ pub fn read_document<S: Source>(
     ensures unfailed { ¬ IsErrOf result DocumentFault.Io → S.failures source.new ≡ S.failures source.old }
     ensures failed { IsErrOf result DocumentFault.Io → HasFailed (S.failures source.old) (S.failures source.new) }
 {
-    let most = limits.max_bytes as usize;
-    match read_all(alloc, source, most) {
-        Ok(bytes) => read_bytes(alloc, &bytes, state),
-        Err(ReadFault::TooLarge) => Err(DocumentFault::TooLarge),
-        Err(ReadFault::Failed) => Err(DocumentFault::Io),
-        Err(ReadFault::Memory) => Err(DocumentFault::Memory),
+    match read_opened(alloc, source, limits, state) {
+        Ok(opened) => Ok(opened.ontology),
+        Err(fault) => Err(fault),
     }
 }

@@ -6,6 +6,7 @@ ghost use Rattle.profile.specs.DocumentTheorems.{AxiomsTakeBytes, BytesHaveOneFa
 ghost use Rattle.profile.specs.Theorems.{AdditionsChangeNoNumber, FirstPlacesJoin, OneMoreStatement};
 
 mod acceptance;
+mod addition;
 mod axiom_forms;
 mod declarations;
 mod document;
@@ -15,16 +16,19 @@ mod growth;
 mod name_builder;
 mod names;
 mod ontology_reader;
+mod opened;
 mod operands;
 mod properties;
 mod statement;
 mod streamed;
 
 pub use acceptance::{Refusal, accept};
-pub use document::{read_bytes, read_document};
+pub use addition::{read_addition, read_expression};
+pub use document::{read_bytes, read_document, read_opened};
 pub use fault::DocumentFault;
 pub use growth::{accept_expression, accept_statements};
 pub use ontology_reader::OntologyReader;
+pub use opened::Opened;
 pub use program::{Limits, MOST_BYTES, MOST_FACTS, Status};
 pub use shapes::{Fault, Version};
 

@@ -1,5 +1,5 @@
 //! Reading a text without all its trees at once.
-ghost use Rattle.profile.specs.Documents.{IsTaken, ReadsAs};
+ghost use Rattle.profile.specs.Documents.{IsTaken, OpensAs};
 ghost use Rattle.profile.specs.Faults.{Refuses};
 ghost use Rattle.profile.specs.Streams.{AllTaken, IsAnswerTo};
 ghost use Rattle.std.specs.Prelude.{IfErr, IfOk, IfSome};
@@ -7,6 +7,7 @@ ghost use Rattle.std.specs.Prelude.{IfErr, IfOk, IfSome};
 use crate::acceptance::Refusal;
 use crate::fault::DocumentFault;
 use crate::ontology_reader::OntologyReader;
+use crate::opened::Opened;
 use axioms::Ontology;
 use fs_parser::TreeReader;
 use shapes::Version;
@@ -54,21 +55,31 @@ fn answer_to(
     }
 }
 
-/// The ontology that a text reads as, or the faults of its trees. None where it is no document, and where memory was refused.
+/// What a text reads as, or the faults of its trees. None where it is no document, and where memory was refused.
 pub(crate) fn streamed(
     alloc: Global,
     text: &str,
     state: RandomState,
-) -> Option<Result<Ontology, DocumentFault>>
-    ensures { IfSome result (λ r. IfOk r (ReadsAs text.now) × IfOk r IsTaken × IfErr r (λ e. Refuses e text.now)) }
+) -> Option<Result<Opened, DocumentFault>>
+    ensures read { IfSome result (λ r. IfOk r (OpensAs text.now)) }
+    ensures taken { IfSome result (λ r. IfOk r (λ d. IsTaken d.ontology)) }
+    ensures refused { IfSome result (λ r. IfErr r (λ e. Refuses e text.now)) }
 {
     let mut trees = TreeReader::start(alloc, text)?;
+    let prefixes = match trees.prefixes(alloc) {
+        Ok(prefixes) => prefixes,
+        Err(_) => return None,
+    };
     let answer = answer_to(alloc, &mut trees, state);
     drop(trees);
     match answer? {
         Ok(ontology) => {
             ontology.well_formed();
-            Some(Ok(ontology))
+            Some(Ok(Opened {
+                ontology,
+                prefixes,
+                bytes: text.len(),
+            }))
         }
         Err(refusal) => Some(Err(DocumentFault::from(refusal))),
     }

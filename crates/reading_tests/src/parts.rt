@@ -145,7 +145,7 @@ fn prefixes_of_an_opened_document(rt: HostRuntime) {
 }
 
 /// A chain of so many class expressions, each inside of the one before it.
-fn nested(alloc: Global, levels: usize) -> Result<String, AllocError> {
+pub(crate) fn nested(alloc: Global, levels: usize) -> Result<String, AllocError> {
     let mut text = String::new(alloc);
     for _ in 0..levels {
         text.push_str("ObjectSomeValuesFrom(<x:r> ")?;

@@ -1,7 +1,5 @@
-use Rattle.std.proofs.Common.{arith}
-use Rattle.profile.proofs.Readings.{answer_refused}
+use Rattle.profile.proofs.Readings.{opened_read}
 use Rattle.profile.proofs.document.read_document.Goals as goal
 
-pub returns-in-Ok-clause-refused : goal.returns-in-Ok-clause-refused
-returns-in-Ok-clause-refused g c =
-    answer_refused c.read_bytes.result (g.S.Source.left c.args.source.now) (g.S.Source.left c.read_all.new.source) c.in-Ok.bytes.items c.deref.result.now c.args.limits.now.max_bytes c.in-Ok.ensures.ok c.in-Ok.ensures.end (omega (arith, c.in-Ok.ensures.within)) c.deref.ensures.value c.read_bytes.ensures.refused
+pub returns-in-Ok-clause-read : goal.returns-in-Ok-clause-read
+returns-in-Ok-clause-read g c = opened_read (g.S.Source.left c.args.source.now) c.args.limits.now.max_bytes c.in-Ok.opened c.in-Ok.ensures.read

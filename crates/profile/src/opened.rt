@@ -1,0 +1,12 @@
+//! What is kept of a document.
+use axioms::Ontology;
+use fs_parser::Prefixes;
+
+/// A document that was read, and may be added to: the ontology that it states, what its names were expanded with, and how many
+/// bytes it had.
+#[derive(Drop)]
+pub struct Opened {
+    pub ontology: Ontology,
+    pub prefixes: Prefixes,
+    pub bytes: usize,
+}
