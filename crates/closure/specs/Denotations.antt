@@ -39,6 +39,11 @@ pub data SaysContext : code_context.Context → Context → Type 0 where
   expression : {e : ExprId} {c : ℕ} → e.0 ≡ c → SaysContext (contexts.Expr e) (Expression c)
   individual : {i : IndId} {a : ℕ} → i.0 ≡ a → SaysContext (contexts.Individual i) (Individual a)
 
+-- the context that the code's one says
+abbrev pub context_of : code_context.Context → Context
+context_of (contexts.Expr e) = Expression e.0
+context_of (contexts.Individual a) = Individual a.0
+
 pub data SaysFact (b : Prefixes) : code_fact.Fact → Fact → Type 0 where
   in_context : {a : code_class.Class2} {a' : Class2} {x : code_context.Context} {x' : Context} → SaysClass b a a' → SaysContext x x' → SaysFact b (facts.In a x) (In a' x')
   edge : {x y : code_context.Context} {x' y' : Context} {r : code_property.PropId2} {r' : Property2} → SaysContext x x' → SaysProperty b r r' → SaysContext y y' → SaysFact b (facts.Edge x r y) (Edge x' r' y')

@@ -1,2 +1,3 @@
 pub mod Saying
 pub mod Saturating
+pub mod GrownSaturations

@@ -1,5 +1,5 @@
 -- What the forms of an ontology lead to is its closure.
-use Rattle.std.proofs.Common.{◌≡◌, ℕ, List, [], ◌∷◌, map, Result, Ok, Err, Contains, refl, arith, ap, ◌∙◌, sym, subst}
+use Rattle.std.proofs.Common.{◌≡◌, ℕ, Bool, List, [], ◌∷◌, map, Result, Ok, Err, Contains, refl, arith, ap, ◌∙◌, sym, subst}
 use Rattle.lemmas.proofs.Members.{slice_get-from_Contains}
 use Rattle.axioms.specs.Ontology.{Ontology}
 use Rattle.normal_forms.specs.declared.forms.Form.{Form}
@@ -46,24 +46,24 @@ says_facts o v s problem born f there =
     said o [] (prefixes_of v) s.problem problem f (sound born n f at)
 
 -- facts that are born of the forms of the ontology are of its closure
-pub is_sound : (o : Ontology) (v : Listing) (s : Seen) → IsNormalFor o v → v.asked ≡ [] → s.problem.forms ≡ map form_in v.entries → IsProblemOf o [] (prefixes_of v) s.problem → AreBorn s
-    → IsSound o (record { normal = v; state = s })
-is_sound o v s normal asked forms problem born = record { normal = normal; asked = asked; forms = forms; problem = problem; facts = says_facts o v s problem born; born = born }
+pub is_sound : (o : Ontology) (v : Listing) (s : Seen) (b : Bool) → IsNormalFor o v → v.asked ≡ [] → s.problem.forms ≡ map form_in v.entries → IsProblemOf o [] (prefixes_of v) s.problem → AreBorn s
+    → IsSound o (record { normal = v; state = s; can_grow = b })
+is_sound o v s b normal asked forms problem born = record { normal = normal; asked = asked; forms = forms; problem = problem; facts = says_facts o v s problem born; born = born }
 
 -- in another state of the same problem, facts that are born of its forms are of the closure too
-pub still_sound : (o : Ontology) (v : Listing) (s t : Seen) → IsSound o (record { normal = v; state = s }) → t.problem ≡ s.problem → AreBorn t → IsSound o (record { normal = v; state = t })
-still_sound o v s t h same born = is_sound o v t h.normal h.asked
+pub still_sound : (o : Ontology) (v : Listing) (s t : Seen) (b b' : Bool) → IsSound o (record { normal = v; state = s; can_grow = b }) → t.problem ≡ s.problem → AreBorn t → IsSound o (record { normal = v; state = t; can_grow = b' })
+still_sound o v s t b b' h same born = is_sound o v t b' h.normal h.asked
     (ap (λ (k : Problem). k.forms) same ∙ h.forms)
     (subst (IsProblemOf o [] (prefixes_of v)) (sym same) h.problem)
     born
 
 -- where they are all that the forms lead to, they are the closure
-pub is_saturated : (o : Ontology) (v : Listing) (s : Seen) → IsSound o (record { normal = v; state = s }) → IsClosure s.problem s.facts → IsSaturated o (record { normal = v; state = s })
-is_saturated o v s h closure = record { normal = h.normal; asked = h.asked; forms = h.forms; problem = h.problem; facts = says_the_closure o v s h.problem closure; born = h.born }
+pub is_saturated : (o : Ontology) (v : Listing) (s : Seen) (b : Bool) → IsSound o (record { normal = v; state = s; can_grow = b }) → IsClosure s.problem s.facts → IsSaturated o (record { normal = v; state = s; can_grow = b })
+is_saturated o v s b h closure = record { normal = h.normal; asked = h.asked; forms = h.forms; problem = h.problem; facts = says_the_closure o v s h.problem closure; born = h.born }
 
 -- a state with the same problem, facts and births is saturated too, whichever were served
-pub saturated_still : (o : Ontology) (v : Listing) (s t : Seen) → t.problem ≡ s.problem → t.facts ≡ s.facts → t.births ≡ s.births → IsSaturated o (record { normal = v; state = s }) → IsSaturated o (record { normal = v; state = t })
-saturated_still o v s t problem facts births h = record {
+pub saturated_still : (o : Ontology) (v : Listing) (s t : Seen) (b b' : Bool) → t.problem ≡ s.problem → t.facts ≡ s.facts → t.births ≡ s.births → IsSaturated o (record { normal = v; state = s; can_grow = b }) → IsSaturated o (record { normal = v; state = t; can_grow = b' })
+saturated_still o v s t b b' problem facts births h = record {
   normal = h.normal;
   asked = h.asked;
   forms = ap (λ (k : Problem). k.forms) problem ∙ h.forms;
@@ -74,8 +74,8 @@ saturated_still o v s t problem facts births h = record {
       (subst (λ (rs : List Reason). derived.IsDerived s.problem (record { facts = s.facts; births = rs })) (sym births) h.born));
 }
 
-pub has_more : (o : Ontology) (v : Listing) (s : Seen) (most : ℕ) → IsSound o (record { normal = v; state = s }) → derived.HasMoreFactsThan s.problem most → HasMoreFactsThan o most
-has_more o v s most h more = more_facts o (prefixes_of v) s.problem h.problem most more
+pub has_more : (o : Ontology) (v : Listing) (s : Seen) (b : Bool) (most : ℕ) → IsSound o (record { normal = v; state = s; can_grow = b }) → derived.HasMoreFactsThan s.problem most → HasMoreFactsThan o most
+has_more o v s b most h more = more_facts o (prefixes_of v) s.problem h.problem most more
 
 abbrev err_or : {T E : Type 0} → E → Result T E → E
 err_or d (Ok x) = d
@@ -101,7 +101,7 @@ no_members : (ns : List ℕ) → ((n : ℕ) → Contains ns n → ⊥) → ns �
 no_members [] none = refl
 no_members (n ∷ ns) none = absurd (none n (0, omega arith, refl))
 
-pub nothing_served : (old new : Seen) (forms added : List Form) → old ≡ nothing_seen → KeepsServed forms added old.facts old.served new.served → new.served ≡ []
-nothing_served old new forms added empty keeps = no_members new.served (λ n there.
-    let before = subst (λ (ns : List ℕ). Contains ns n) (ap (λ (s : Seen). s.served) empty) ((keeps n).0 there).0 in
-    absurd (omega (arith, before.1)))
+pub nothing_served : (old new : Seen) → old ≡ nothing_seen → KeepsServed old.problem.forms new.problem.forms old.facts old.served new.served → new.served ≡ []
+nothing_served old new empty keeps = no_members new.served (λ n there.
+    let was = subst (λ (ns : List ℕ). Contains ns n) (ap (λ (s : Seen). s.served) empty) ((keeps n).0 there).0 in
+    absurd (omega (arith, was.1)))

@@ -1,5 +1,5 @@
 -- What a saturation has.
-use Rattle.std.specs.Prelude.{◌≡◌, ℕ, ◌<◌, ◌≤◌, List, [], length, map, Result, Err, OnOk, OnErr}
+use Rattle.std.specs.Prelude.{◌≡◌, ℕ, ◌<◌, ◌≤◌, Bool, List, [], length, map, Result, Err, OnOk, OnErr}
 use Rattle.std.specs.List.{All, Contains}
 use Rattle.axioms.specs.Ontology.{Ontology}
 use Rattle.axioms.specs.WellFormedness.{AreDistinct}
@@ -7,18 +7,21 @@ use Rattle.facts.specs.declared.contexts.Fact as code
 use Rattle.closure.specs.Closure.{Fact, IsFact}
 use Rattle.closure.specs.Denotations.{Prefixes, SaysFact, IsProblemOf}
 use Rattle.normalise.specs.Entries.{form_in}
-use Rattle.normalise.specs.Growth.{IsNormalFor}
+use Rattle.normalise.specs.Growth.{Grown, IsNormalFor}
 use Rattle.normalise.specs.Listing.{Listing}
 use Rattle.normalise.specs.Problem.{prefixes_of}
 use Rattle.inference.specs.declared.known_facts.Stop.{Stop}
 use Rattle.inference.specs.declared.known_facts.Stop.TheVariants.{Limit, Memory}
+use Rattle.inference.specs.Derivations.{Keeps}
+use Rattle.saturate.specs.Growth.{KeepsServed}
 use Rattle.saturate.specs.State.{Seen, AreBorn, Extends}
 use Rattle.saturate.specs.Run.{IsRun, IsRunUntil}
 
--- normal forms, and what they lead to
+-- normal forms, what they lead to, and whether more may be added
 pub record Saturated : Type 0 where
   pub normal : Listing
   pub state : Seen
+  pub can_grow : Bool
 
 -- the facts over numbers say facts of the closure, where nothing is asked about
 abbrev pub SayFactsOfTheClosure : Ontology → Prefixes → List code.Fact → Type 0
@@ -65,6 +68,7 @@ pub record HasResumed (max_facts : ℕ) (old new : Saturated) (result : Result U
   -- the forms are the same, and each fact stays at its place, with what gave it, and is served if it was
   pub normal : new.normal ≡ old.normal
   pub extends : Extends old.state new.state
+  pub can_grow : new.can_grow ≡ old.can_grow
   -- it is a run; or one that was given up, whose last facts are pending
   pub whole : OnOk result (IsRun old.state new.state)
   pub until : OnErr result (IsRunUntil old.state new.state)
@@ -79,3 +83,11 @@ pub record Saturates (o : Ontology) (max_facts : ℕ) (new : Saturated) (result 
   pub sound : IsSound o new
   pub saturated : OnOk result (IsSaturated o new)
   pub limit : result ≡ Err Limit → HasMoreFactsThan o max_facts
+
+-- forms, and what fresh names stand for, keep their numbers; facts stay at their places, with what gave them; and exactly the served
+-- facts that a form asks for to which none was equal before are pending again
+pub record KeepsFacts (old new : Saturated) : Type 0 where
+  pub forms : Grown old.normal new.normal
+  pub facts : Keeps old.state.facts new.state.facts
+  pub births : Keeps old.state.births new.state.births
+  pub served : KeepsServed old.state.problem.forms new.state.problem.forms old.state.facts old.state.served new.state.served

@@ -9,7 +9,7 @@ ghost use Rattle.normalise.specs.Problem.{prefixes_of};
 ghost use Rattle.inference.specs.PropertyClosures.{IsClosureOf};
 ghost use Rattle.saturate.specs.State.{GaveFact};
 ghost use Rattle.inference.specs.declared.known_facts.Stop.TheVariants as stops;
-ghost use Rattle.std.specs.Prelude.{◌≡◌, ◌≤◌, ◌↔◌, Err, IfNone, IfOk, IfSome, IsTrue, Some, [], length, map, slice_get};
+ghost use Rattle.std.specs.Prelude.{◌≡◌, ◌≤◌, ◌↔◌, true, false, Err, IfNone, IfOk, IfSome, IsTrue, Some, [], length, map, slice_get};
 
 use axioms::{Memory, Ontology};
 use facts::{Birth, FactId, StoredFact};
@@ -24,8 +24,9 @@ use work_list::ByContext;
 /// The normal forms of an ontology, and facts that they lead to: after a run to the end all of them.
 #[derive(Drop)]
 pub struct Saturation {
-    normal: Normal,
-    state: Progress<ByContext>,
+    pub(crate) alloc: Global,
+    pub(crate) normal: Normal,
+    pub(crate) state: Progress<ByContext>,
 }
 
 impl Model for Saturation {
@@ -33,7 +34,7 @@ impl Model for Saturation {
 
     ghost Value = { Saturated };
 
-    ghost view = { λ s. record { normal = s.normal; state = s.state } };
+    ghost view = { λ s. record { normal = s.normal; state = s.state.seen; can_grow = s.state.can_grow } };
 }
 
 impl Saturation {
@@ -49,11 +50,13 @@ impl Saturation {
     ) -> Result<Saturation, Memory>
         ensures sound { IfOk result (IsSound ontology.now) }
         ensures unserved { IfOk result (λ s. s.state.served ≡ []) }
+        ensures can_grow { IfOk result (λ s. s.can_grow ≡ true) }
     {
         let normal = normalise(alloc, state, ontology)?.share();
         let state = begun(alloc, state, ontology, &normal)?;
         state.well_formed();
         Ok(Saturation {
+            alloc,
             normal,
             state: Progress::new(state),
         })
@@ -74,7 +77,7 @@ impl Saturation {
     }
 
     /// Lets go what only a run needs: the tables that find facts, and whose turn it is. All facts are served. What is left is read as
-    /// before, and may be resumed.
+    /// before, and may be resumed; nothing can be added to it.
     pub fn release(self) -> Saturation
         requires { IsFinished self }
         ensures normal { result.normal ≡ self.normal }
@@ -83,9 +86,15 @@ impl Saturation {
         ensures births { result.state.births ≡ self.state.births }
         ensures finished { IsFinished result }
         ensures saturated { (o : Ontology2) → IsSaturated o self → IsSaturated o result }
+        ensures can_grow { result.can_grow ≡ false }
     {
-        let Saturation { normal, state } = self;
+        let Saturation {
+            alloc,
+            normal,
+            state,
+        } = self;
         Saturation {
+            alloc,
             normal,
             state: state.release(),
         }
@@ -153,7 +162,7 @@ fn begun(
 {
     let roots = roots(alloc, ontology, &[])?;
     let mut begun = State::new(alloc, state, ByContext::new(alloc))?;
-    match begun.extend(normal.forms(), &roots) {
+    match begun.extend(normal.forms(), 0, &roots) {
         Ok(()) => Ok(begun),
         Err(error) => {
             drop(begun);

@@ -4,9 +4,11 @@ mod acts;
 
 ghost use Rattle.std.specs.Prelude.{◌≡◌, []};
 
+use crate::adding::add;
 use crate::lists::{Refusing, Scripted};
 use crate::problems::{
-    ALL_GO_ON, Born, ONE_ENDS, PROBLEMS, Problem, SUBCLASSES_IN_A_CIRCLE, TWO_SUBCLASSES,
+    ALL_GO_ON, Born, CLASSES_MADE_DISJOINT, ONE_ENDS, PROBLEMS, Problem, SUBCLASS_STATED_AGAIN,
+    SUBCLASSES_IN_A_CIRCLE, TWO_SUBCLASSES,
 };
 use acts::{ALL, AT_ONCE, Act, SCRIPTS};
 use axioms::Memory;
@@ -46,7 +48,7 @@ fn extend<W: WorkList>(
     let Ok(more) = FormList::of(progress.alloc, more) else {
         return Err(Stop::Memory);
     };
-    let added = state.extend(&more, next(problem.roots, progress.roots, roots));
+    let added = add(state, &more, next(problem.roots, progress.roots, roots));
     if added.is_err() {
         return Err(Stop::Memory);
     }
@@ -263,7 +265,7 @@ fn run_whole(state: &mut State<Fifo>, alloc: Global, problem: &Problem) -> Resul
     let Ok(forms) = FormList::of(alloc, problem.forms) else {
         return Err(Stop::Memory);
     };
-    let Ok(()) = state.extend(&forms, problem.roots) else {
+    let Ok(()) = add(state, &forms, problem.roots) else {
         return Err(Stop::Memory);
     };
     state.run(problem.facts)
@@ -311,14 +313,37 @@ const APART: &[Act] = &[
     Act::Serves(13),
 ];
 
-/// The second addition names a class of the first.
+/// The second addition names a class of the first, which two contexts have: both facts wait again.
 const TOGETHER: &[Act] = &[
     Act::Extend(1, 4),
     Act::Run,
     Act::Serves(8),
     Act::Extend(1, 0),
+    Act::Serves(6),
     Act::Run,
     Act::Serves(9),
+];
+
+/// The second addition makes a fact of its first class wait again, and no fact of its second.
+const DISJOINT: &[Act] = &[
+    Act::Extend(1, 4),
+    Act::Run,
+    Act::Serves(8),
+    Act::Extend(1, 0),
+    Act::Serves(7),
+    Act::Run,
+    Act::Serves(9),
+];
+
+/// The second addition is the first once more: no fact waits again.
+const AGAIN: &[Act] = &[
+    Act::Extend(1, 4),
+    Act::Run,
+    Act::Serves(8),
+    Act::Extend(1, 0),
+    Act::Serves(8),
+    Act::Run,
+    Act::Serves(8),
 ];
 
 /// The chain comes last: the edge that it begins with waits again, and those by the transitive property that it ends with do not.
@@ -349,6 +374,8 @@ fn what_waits_again(rt: HostRuntime) -> Result<(), Fail> {
     let seed = RandomState::new(&rt)?;
     assert!(rt; in_any_order(alloc, seed, &TWO_SUBCLASSES, &[], APART));
     assert!(rt; in_any_order(alloc, seed, &SUBCLASSES_IN_A_CIRCLE, &[], TOGETHER));
+    assert!(rt; in_any_order(alloc, seed, &CLASSES_MADE_DISJOINT, &[], DISJOINT));
+    assert!(rt; in_any_order(alloc, seed, &SUBCLASS_STATED_AGAIN, &[], AGAIN));
     assert!(rt; with_each_push_refused(alloc, seed, &TWO_SUBCLASSES, &[], APART));
     assert!(rt; with_each_push_refused(alloc, seed, &SUBCLASSES_IN_A_CIRCLE, &[], TOGETHER));
     Ok(())

@@ -1,5 +1,6 @@
 //! States with many facts: one that grows, and one that has its axioms at once.
 
+use crate::adding::add;
 use axioms::{ExprId, Memory};
 use facts::Context;
 use normal_forms::{Class2, Form, FormList};
@@ -36,7 +37,7 @@ fn extend<W: WorkList>(
     for pair in from..to {
         add_pair(&mut forms, &mut roots, pair)?;
     }
-    state.extend(&forms, &roots)
+    add(state, &forms, &roots)
 }
 
 /// How many facts there are once these pairs are added, and the state has run.
@@ -58,7 +59,7 @@ fn facts_with<W: WorkList>(
 /// Adds `owl:Thing` and `owl:Nothing` as contexts.
 fn add_ends<W: WorkList>(state: &mut State<W>, alloc: Global) -> Result<(), Memory> {
     let ends = [Context::Expr(ExprId::THING), Context::Expr(ExprId::NOTHING)];
-    state.extend(&FormList::new(alloc), &ends)
+    add(state, &FormList::new(alloc), &ends)
 }
 
 /// Whether 100,000 pairs lead to as many facts as they should, and 10,000 more to theirs: three facts in the context of each first

@@ -2,7 +2,11 @@
 #![tactic(auto)]
 
 #[cfg(test)]
+mod adding;
+#[cfg(test)]
 mod classifications;
+#[cfg(test)]
+mod extended;
 #[cfg(test)]
 mod form_lists;
 #[cfg(test)]

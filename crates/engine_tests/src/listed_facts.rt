@@ -1,5 +1,6 @@
 //! The served facts of contexts, by number: as facts are served, after steps that were refused, and where forms are added.
 
+use crate::adding::add;
 use crate::problems::{PROBLEMS, Problem};
 use axioms::{ExprId, IndId, PropId};
 use facts::{Context, Fact};
@@ -70,7 +71,7 @@ fn extends<W: WorkList>(
     let Ok(forms) = FormList::of(alloc, forms) else {
         return false;
     };
-    state.extend(&forms, roots).is_ok() && lists_served(state) && serves(state, facts, refused)
+    add(state, &forms, roots).is_ok() && lists_served(state) && serves(state, facts, refused)
 }
 
 /// Whether the lists are right throughout, with half of the forms first and then the others.

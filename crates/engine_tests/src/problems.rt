@@ -339,3 +339,21 @@ pub(crate) const SUBCLASSES_IN_A_CIRCLE: Problem = Problem {
     facts: 9,
     born: None,
 };
+
+/// A below B, and then the two are disjoint.
+pub(crate) const CLASSES_MADE_DISJOINT: Problem = Problem {
+    name: "classes_made_disjoint",
+    forms: &[Form::N1(C2, C3), Form::N2(C2, C3, C1)],
+    roots: &[IN0, IN1, IN2, IN3],
+    facts: 9,
+    born: None,
+};
+
+/// A below B, and then the same again.
+pub(crate) const SUBCLASS_STATED_AGAIN: Problem = Problem {
+    name: "subclass_stated_again",
+    forms: &[Form::N1(C2, C3), Form::N1(C2, C3)],
+    roots: &[IN0, IN1, IN2, IN3],
+    facts: 8,
+    born: None,
+};

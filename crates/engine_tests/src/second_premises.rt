@@ -1,6 +1,7 @@
 //! Edges that a transitive property gave are no second premises where each chain that they could end goes on.
 ghost use Rattle.std.specs.Prelude.{◌≡◌, []};
 
+use crate::adding::add;
 use crate::problems::{ALL_GO_ON, ONE_ENDS, Problem};
 use facts::{Fact, FactId, Older};
 use normal_forms::FormList;
@@ -50,11 +51,11 @@ fn run_in_two_parts<W: WorkList>(
     let (Ok(first), Ok(rest)) = (FormList::of(alloc, first), FormList::of(alloc, rest)) else {
         return Err(Stop::Memory);
     };
-    let Ok(()) = state.extend(&first, problem.roots) else {
+    let Ok(()) = add(state, &first, problem.roots) else {
         return Err(Stop::Memory);
     };
     state.run(problem.facts)?;
-    let Ok(()) = state.extend(&rest, &[]) else {
+    let Ok(()) = add(state, &rest, &[]) else {
         return Err(Stop::Memory);
     };
     state.run(problem.facts)

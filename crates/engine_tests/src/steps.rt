@@ -1,6 +1,7 @@
 //! A run from the start takes as many steps as there are facts, whatever the list of work.
 ghost use Rattle.std.specs.Prelude.{◌≡◌, []};
 
+use crate::adding::add;
 use crate::lists::Scripted;
 use crate::problems::{ALL_GO_ON, ONE_ENDS, PROBLEMS, Problem};
 use axioms::Memory;
@@ -37,7 +38,7 @@ fn add_all<W: WorkList>(
     problem: &Problem,
 ) -> Result<(), Memory> {
     let forms = FormList::of(alloc, problem.forms)?;
-    state.extend(&forms, problem.roots)
+    add(state, &forms, problem.roots)
 }
 
 /// Whether the state has the facts of the problem after as many steps.

@@ -67,13 +67,13 @@ impl IndexedProblem {
         }
     }
 
-    /// The problem with these forms and contexts behind its own; the problem itself stays. Fails where memory is refused, and where
-    /// there would be 2^32 forms.
+    /// The problem of these forms, with these contexts behind its own; the problem itself stays. The memory of a list that is shared
+    /// already is shared. Fails where memory is refused, and where there are 2^32 forms.
     pub fn grown(&self, forms: &FormList, roots: &[Context]) -> Result<Self, AllocError>
-        ensures forms { IfOk result (λ p. p.forms ≡ self.now.forms ++ forms.now) }
+        ensures forms { IfOk result (λ p. p.forms ≡ forms.now) }
         ensures roots { IfOk result (λ p. p.roots ≡ self.now.roots ++ roots.now) }
     {
-        let forms = self.forms.joined(forms)?;
+        let forms = forms.copy()?;
         let roots = joined(self.alloc, &self.roots, roots)?;
         IndexedProblem::new(self.alloc, forms, roots)
     }

@@ -10,6 +10,7 @@ mod key_lists;
 mod key_pairs;
 mod keys;
 mod lists;
+mod membership;
 mod named;
 mod roles;
 mod table;

@@ -1,6 +1,6 @@
 -- Contexts that are added one by one, until they are the roots.
-use Rattle.std.proofs.Common.{◌≡◌, ◌↔◌, ◌⊎◌, ◌++◌, ◌∷◌, ◌+◌, ◌<◌, ℕ, inl, inr, List, [], length, map, slice_get, Some, Contains, refl, sym, ap, ◌∙◌, subst, arith}
-use Rattle.std.proofs.lemmas.Bool.{cases_eq}
+use Rattle.std.proofs.Common.{◌≡◌, ◌↔◌, ◌⊎◌, ◌++◌, ◌∷◌, ◌+◌, ◌<◌, ◌≤◌, ℕ, inl, inr, List, [], length, map, Contains, refl, sym, ap, ◌∙◌, subst, arith}
+use Rattle.std.proofs.lemmas.Bool.{cases_eq, cases_lt}
 use Rattle.std.proofs.lemmas.List.Elements.{All-contains, Contains-push, Contains-push_cases, Contains-append_cases, Contains-append_left, Contains-append_right}
 use Rattle.std.specs.List.{All}
 use Rattle.lemmas.proofs.Mapped.{Contains-map, slice_get_map_from}
@@ -13,7 +13,8 @@ use Rattle.facts.specs.declared.contexts.Context as code
 use Rattle.facts.specs.declared.contexts.Context.TheVariants as contexts
 use Rattle.closure.specs.Closure.{Context, Expression, Individual, IsRoot}
 use Rattle.closure.specs.Denotations.{SaysContext, expression, individual}
-use Rattle.normalise.specs.Roots.{AddsThose, AreRoots, IsIndividual, IsIndividualBelow, IsNamed, IsNamedBelow}
+use Rattle.normalise.specs.Roots.{AddsThose, AreRoots, AreRootsFrom, HasMoreNames, IsIndividualFrom, IsIndividualWithin, IsNamedFrom, IsNamedWithin}
+use Rattle.normalise.proofs.Adding.{keeps_long}
 
 -- nothing is added
 pub adds_none : (P : code.Context → Type 0) (old : List code.Context) → ((x : code.Context) → P x → ⊥) → AddsThose P old old
@@ -56,42 +57,73 @@ class_there : (o : Ontology) → IsOntology o → (c e : ℕ) → IsClassAt o c 
 class_there o w c e at = w.nodes e (Class c) at
 
 -- the classes and the individuals below the next number
-pub adds_class : (o : Ontology) (k : ℕ) (e : ExprId) (old now : List code.Context) → IsOntology o → IsClassAt o k e.0 → AddsThose (IsNamedBelow o k) old now → AddsThose (IsNamedBelow o (k + 1)) old (now ++ contexts.Expr e ∷ [])
-adds_class o k e old now w class adds =
-    adds_one (IsNamedBelow o k) (IsNamedBelow o (k + 1)) old now (contexts.Expr e) adds
-    (λ x (c, f, l, at, is). (c, f, omega arith, at, is))
-    (λ x (c, f, l, at, is). elim (cases_eq c k) [
+pub adds_class : (o : Ontology) (from k : ℕ) (e : ExprId) (old now : List code.Context) → IsOntology o → from ≤ k → IsClassAt o k e.0 → AddsThose (IsNamedWithin o from k) old now → AddsThose (IsNamedWithin o from (k + 1)) old (now ++ contexts.Expr e ∷ [])
+adds_class o from k e old now w late class adds =
+    adds_one (IsNamedWithin o from k) (IsNamedWithin o from (k + 1)) old now (contexts.Expr e) adds
+    (λ x (c, f, m, l, at, is). (c, f, m, omega arith, at, is))
+    (λ x (c, f, m, l, at, is). elim (cases_eq c k) [
       | inl same ↦ inr (ap contexts.Expr (one_expression o k e f w class (subst (λ n. IsClassAt o n f.0) same at)) ∙ sym is)
-      | inr apart ↦ inl (c, f, omega arith, at, is)
+      | inr apart ↦ inl (c, f, m, omega arith, at, is)
     ])
-    (k, e, omega arith, class, refl)
+    (k, e, late, omega arith, class, refl)
 
-pub adds_individual : (k : ℕ) (i : IndId) (old now : List code.Context) → i.0 ≡ k → AddsThose (IsIndividualBelow k) old now → AddsThose (IsIndividualBelow (k + 1)) old (now ++ contexts.Individual i ∷ [])
-adds_individual k i old now number adds =
-    adds_one (IsIndividualBelow k) (IsIndividualBelow (k + 1)) old now (contexts.Individual i) adds
-    (λ x (j, l, is). (j, omega arith, is))
-    (λ x (j, l, is). elim (cases_eq j.0 k) [
+pub adds_individual : (from k : ℕ) (i : IndId) (old now : List code.Context) → i.0 ≡ k → from ≤ k → AddsThose (IsIndividualWithin from k) old now → AddsThose (IsIndividualWithin from (k + 1)) old (now ++ contexts.Individual i ∷ [])
+adds_individual from k i old now number late adds =
+    adds_one (IsIndividualWithin from k) (IsIndividualWithin from (k + 1)) old now (contexts.Individual i) adds
+    (λ x (j, m, l, is). (j, m, omega arith, is))
+    (λ x (j, m, l, is). elim (cases_eq j.0 k) [
       | inl same ↦ inr (ap contexts.Individual (ap ind_id (number ∙ sym same)) ∙ sym is)
-      | inr apart ↦ inl (j, omega arith, is)
+      | inr apart ↦ inl (j, m, omega arith, is)
     ])
-    (i, omega (arith, number), refl)
+    (i, omega (arith, number, late), omega (arith, number), refl)
+
+-- those up to where none is are all
+pub all_classes : (o : Ontology) (from k : ℕ) (old now : List code.Context) → IsOntology o → length o.names.classes ≤ k → AddsThose (IsNamedWithin o from k) old now → AddsThose (IsNamedFrom o from) old now
+all_classes o from k old now w past adds =
+    adds_same (IsNamedWithin o from k) (IsNamedFrom o from) old now adds
+    (λ x (c, e, m, l, at, is). (c, e, m, class_there o w c e.0 at, at, is))
+    (λ x (c, e, m, l, at, is). (c, e, m, omega (arith, l, past), at, is))
+
+pub all_individuals : (o : Ontology) (from k : ℕ) (old now : List code.Context) → length o.names.individuals ≤ k → (k ≡ from) ⊎ (k ≤ length o.names.individuals) → AddsThose (IsIndividualWithin from k) old now → AddsThose (IsIndividualFrom o from) old now
+all_individuals o from k old now past within adds =
+    adds_same (IsIndividualWithin from k) (IsIndividualFrom o from) old now adds
+    (λ x (i, m, l, is). elim within [
+      | inl none ↦ absurd (omega (arith, none, m, l))
+      | inr all ↦ (i, m, omega (arith, all, l), is)
+    ])
+    (λ x (i, m, l, is). (i, m, omega (arith, l, past), is))
+
+-- both behind none
+pub both : (P Q : code.Context → Type 0) (first second : List code.Context) → AddsThose P [] first → AddsThose Q first second → (x : code.Context) → Contains second x ↔ (P x ⊎ Q x)
+both P Q first second ps qs x = (
+  λ c. elim ((qs x).0 c) [
+    | inl d ↦ elim ((ps x).0 d) [ inl none ↦ absurd (omega (arith, none.1)) | inr p ↦ inl p ]
+    | inr q ↦ inr q
+  ],
+  λ s. elim s [ inl p ↦ (qs x).1 (inl ((ps x).1 (inr p))) | inr q ↦ (qs x).1 (inr q) ],
+)
+
+-- ---- roots
+
+abbrev IsOneOf : Ontology → List ℕ → code.Context → Type 0
+IsOneOf o asked x = (y : Context) × SaysContext x y × IsRoot o asked y
+
+named : (o : Ontology) (asked : List ℕ) (from : ℕ) (x : code.Context) → IsNamedFrom o from x → IsOneOf o asked x
+named o asked from x (c, e, m, l, at, is) = (Expression e.0, subst (λ z. SaysContext z (Expression e.0)) (sym is) (expression refl), IsRoot.named c e.0 at)
+
+is_individual : (o : Ontology) (asked : List ℕ) (from : ℕ) (x : code.Context) → IsIndividualFrom o from x → IsOneOf o asked x
+is_individual o asked from x (i, m, l, is) = (Individual i.0, subst (λ z. SaysContext z (Individual i.0)) (sym is) (individual refl), IsRoot.individual i.0 l)
+
+is_from : (o : Ontology) (asked : List ℕ) (m n : ℕ) (x : code.Context) → IsNamedFrom o m x ⊎ IsIndividualFrom o n x → IsOneOf o asked x
+is_from o asked m n x s = elim s [ inl p ↦ named o asked m x p | inr p ↦ is_individual o asked n x p ]
 
 -- these together are the roots
 module _ (o : Ontology) (w : IsOntology o) (asked : List ExprId) (first second third : List code.Context) (inside : All (λ e. e.0 < length o.nodes) asked)
-    (classes : AddsThose (IsNamed o) [] first) (individuals : AddsThose (IsIndividual o) first second) (is : third ≡ second ++ map contexts.Expr asked) where
+    (classes : AddsThose (IsNamedFrom o 0) [] first) (individuals : AddsThose (IsIndividualFrom o 0) first second) (is : third ≡ second ++ map contexts.Expr asked) where
   abbrev numbers : List ℕ
   numbers = map (λ (e : ExprId). e.0) asked
 
-  abbrev Root : code.Context → Type 0
-  Root x = (y : Context) × SaysContext x y × IsRoot o numbers y
-
-  named : (x : code.Context) → IsNamed o x → Root x
-  named x (c, e, l, at, is) = (Expression e.0, subst (λ z. SaysContext z (Expression e.0)) (sym is) (expression refl), IsRoot.named c e.0 at)
-
-  is_individual : (x : code.Context) → IsIndividual o x → Root x
-  is_individual x (i, l, is) = (Individual i.0, subst (λ z. SaysContext z (Individual i.0)) (sym is) (individual refl), IsRoot.individual i.0 l)
-
-  question : (x : code.Context) → Contains (map contexts.Expr asked) x → Root x
+  question : (x : code.Context) → Contains (map contexts.Expr asked) x → IsOneOf o numbers x
   question x there =
       let (n, at) = slice_get-from_Contains (map contexts.Expr asked) x there in
       let (e, at_n, same) = slice_get_map_from contexts.Expr asked n x at in
@@ -101,13 +133,10 @@ module _ (o : Ontology) (w : IsOntology o) (asked : List ExprId) (first second t
         IsRoot.question e.0 (All-contains (λ e. e.0 < length o.nodes) asked e inside e_there) (Contains-map (λ (e : ExprId). e.0) asked e e_there),
       )
 
-  each : (x : code.Context) → Contains third x → (y : Context) × SaysContext x y × IsRoot o numbers y
+  each : (x : code.Context) → Contains third x → IsOneOf o numbers x
   each x there =
       elim (Contains-append_cases second (map contexts.Expr asked) x (subst (λ xs. Contains xs x) is there)) [
-        | inl c ↦ elim ((individuals x).0 c) [
-          | inl d ↦ elim ((classes x).0 d) [ inl none ↦ absurd (omega (arith, none.1)) | inr p ↦ named x p ]
-          | inr p ↦ is_individual x p
-        ]
+        | inl c ↦ is_from o numbers 0 0 x ((both (IsNamedFrom o 0) (IsIndividualFrom o 0) first second classes individuals x).0 c)
         | inr c ↦ question x c
       ]
 
@@ -117,10 +146,10 @@ module _ (o : Ontology) (w : IsOntology o) (asked : List ExprId) (first second t
   all : (y : Context) → IsRoot o numbers y → (x : code.Context) × Contains third x × SaysContext x y
   all y (IsRoot.named c e at) =
       let x = contexts.Expr (expr_id e) in
-      (x, before x ((individuals x).1 (inl ((classes x).1 (inr (c, expr_id e, class_there o w c e at, at, refl))))), expression refl)
+      (x, before x ((individuals x).1 (inl ((classes x).1 (inr (c, expr_id e, omega arith, class_there o w c e at, at, refl))))), expression refl)
   all y (IsRoot.individual a l) =
       let x = contexts.Individual (ind_id a) in
-      (x, before x ((individuals x).1 (inr (ind_id a, l, refl))), individual refl)
+      (x, before x ((individuals x).1 (inr (ind_id a, omega arith, l, refl))), individual refl)
   all y (IsRoot.question e l there) =
       let (n, at) = slice_get-from_Contains (map (λ (e : ExprId). e.0) asked) e there in
       let (f, at_n, same) = slice_get_map_from (λ (e : ExprId). e.0) asked n e at in
@@ -129,3 +158,44 @@ module _ (o : Ontology) (w : IsOntology o) (asked : List ExprId) (first second t
 
   pub are_roots : AreRoots o (map (λ (e : ExprId). e.0) asked) third
   are_roots = record { each = each; all = all }
+
+-- behind the roots of an ontology that has become p they are those of p
+module _ (p : Ontology) (wp : IsOntology p) (classes individuals : ℕ) (more : List code.Context) (those : AreRootsFrom p classes individuals more)
+    (o : Ontology) (asked : List ℕ) (roots : List code.Context) (w : IsOntology o) (inside : All (λ e. e < length o.nodes) asked) (grows : HasMoreNames o p classes individuals) (are : AreRoots o asked roots) where
+  root_stays : (y : Context) → IsRoot o asked y → IsRoot p asked y
+  root_stays y (IsRoot.named c e at) = IsRoot.named c e (grows.nodes e (Class c) at)
+  root_stays y (IsRoot.individual a l) = IsRoot.individual a (omega (arith, l, keeps_long o.names.individuals p.names.individuals grows.names.individuals))
+  root_stays y (IsRoot.question e l there) = IsRoot.question e (omega (arith, l, keeps_long o.nodes p.nodes grows.nodes)) there
+
+  old_or_new : (x : code.Context) → Contains (roots ++ more) x → IsOneOf p asked x
+  old_or_new x there =
+      elim (Contains-append_cases roots more x there) [
+        | inl c ↦ (let (y, says, root) = are.each x c in (y, says, root_stays y root))
+        | inr c ↦ is_from p asked classes individuals x ((those x).0 c)
+      ]
+
+  from_old : (y : Context) → IsRoot o asked y → (x : code.Context) × Contains (roots ++ more) x × SaysContext x y
+  from_old y root = let (x, there, says) = are.all y root in (x, Contains-append_left roots more x there, says)
+
+  from_new : (x : code.Context) (y : Context) → IsNamedFrom p classes x ⊎ IsIndividualFrom p individuals x → SaysContext x y → (x : code.Context) × Contains (roots ++ more) x × SaysContext x y
+  from_new x y new says = (x, Contains-append_right roots more x ((those x).1 new), says)
+
+  -- a class that the old ontology has is the same expression there
+  old_class : (c e : ℕ) → IsClassAt p c e → c < length o.names.classes → IsClassAt o c e
+  old_class c e at l =
+      let (f, was) = w.class_nodes c l in
+      subst (IsClassAt o c) (wp.distinct_nodes f e (Class c) (grows.nodes f (Class c) was) at) was
+
+  each_there : (y : Context) → IsRoot p asked y → (x : code.Context) × Contains (roots ++ more) x × SaysContext x y
+  each_there y (IsRoot.named c e at) = elim (cases_lt c classes) [
+    | inl was ↦ from_old y (IsRoot.named c e (old_class c e at (omega (arith, was, grows.new_classes))))
+    | inr new ↦ from_new (contexts.Expr (expr_id e)) y (inl (c, expr_id e, new, class_there p wp c e at, at, refl)) (expression refl)
+  ]
+  each_there y (IsRoot.individual a l) = elim (cases_lt a individuals) [
+    | inl was ↦ from_old y (IsRoot.individual a (omega (arith, was, grows.new_individuals)))
+    | inr new ↦ from_new (contexts.Individual (ind_id a)) y (inr (ind_id a, new, l, refl)) (individual refl)
+  ]
+  each_there y (IsRoot.question e l there) = from_old y (IsRoot.question e (All-contains (λ e. e < length o.nodes) asked e inside there) there)
+
+  pub roots_again : AreRoots p asked (roots ++ more)
+  roots_again = record { each = old_or_new; all = each_there }

@@ -90,15 +90,16 @@ impl Entries {
         Ok(())
     }
 
-    // Adds these forms behind the others.
-    pub(crate) fn join(&mut self, more: &Entries) -> Result<(), Memory>
-        ensures ok { OnOk result (self.new ≡ self.old ++ more.now) }
-        ensures err { OnErr result (self.new ≡ self.old) }
+    // These forms, and the others behind them.
+    pub(crate) fn joined(&self, alloc: Global, more: &Entries) -> Result<Entries, Memory>
+        ensures { IfOk result (λ e. e ≡ self.now ++ more.now) }
     {
         let forms = self.forms.joined(&more.forms)?;
-        self.origins.extend_from_slice(&more.origins)?;
-        self.forms = forms;
-        Ok(())
+        let count = self.origins.len().saturating_add(more.origins.len());
+        let mut origins = Vec::with_capacity(alloc, count)?;
+        origins.extend_from_slice(&self.origins)?;
+        origins.extend_from_slice(&more.origins)?;
+        Ok(Entries { forms, origins })
     }
 
     // The same.

@@ -82,10 +82,9 @@ impl Normal {
         })
     }
 
-    // Adds it.
-    fn join(&mut self, more: More) -> Result<(), Memory>
-        ensures ok { OnOk result (self.new ≡ joined self.old more) }
-        ensures err { OnErr result (self.new ≡ self.old) }
+    // These forms, and what is added to them.
+    fn joined(&self, more: More) -> Result<Normal, Memory>
+        ensures { IfOk result (λ n. n ≡ joined self.now more) }
     {
         let More {
             made,
@@ -93,11 +92,31 @@ impl Normal {
             right,
             left,
         } = more;
-        self.made.join(made)?;
-        self.asked = asked;
-        self.right = right;
-        self.left = left;
-        Ok(())
+        let made = self.made.joined(self.alloc, made)?;
+        Ok(Normal {
+            alloc: self.alloc,
+            made,
+            asked,
+            right,
+            left,
+        })
+    }
+
+    /// These forms and those of the axioms after `from`, and of what occurs in them and did not before, as a new value. The ontology is
+    /// that of these forms, grown at the end after axiom `from`. Forms and fresh names keep their numbers.
+    ///
+    /// # Errors
+    ///
+    /// `Memory` where memory was refused, or there are 2^32 - 1 fresh names of a kind.
+    pub fn grown(&self, ontology: &Ontology, from: usize) -> Result<Normal, Memory>
+        requires { from ≤ length ontology.now.axioms }
+        ensures forms { IfOk result (AreNormalAgain ontology.now from self.now) }
+        ensures asked { IfOk result (λ n. n.asked ≡ self.now.asked) }
+        ensures kept { IfOk result (Grown self.now) }
+    {
+        let asked = copied(self.alloc, &self.asked)?;
+        let more = self.more(ontology, from, asked)?;
+        self.joined(more)
     }
 
     /// Adds the forms of the axioms after `from`, and of what occurs in them and did not before. The ontology is that of these forms,
@@ -113,9 +132,7 @@ impl Normal {
         ensures kept { Grown self.old self.new }
         ensures err { OnErr result (self.new ≡ self.old) }
     {
-        let asked = copied(self.alloc, &self.asked)?;
-        let more = self.more(ontology, from, asked)?;
-        self.join(more)?;
+        *self = self.grown(ontology, from)?;
         Ok(())
     }
 
@@ -133,7 +150,7 @@ impl Normal {
     {
         let asked = with_asked(self.alloc, &self.asked, expr)?;
         let more = self.more(ontology, ontology.axioms().len(), asked)?;
-        self.join(more)?;
+        *self = self.joined(more)?;
         Ok(())
     }
 }

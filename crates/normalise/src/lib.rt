@@ -25,5 +25,5 @@ pub use growth::normalise;
 pub use normal::Normal;
 pub use normal_forms::{Class2, Form, FormList, Origin, PropId2};
 pub use problem::normal_forms_make_the_problem;
-pub use starting::roots;
+pub use starting::{roots, roots_from};
 pub use theory::{normal_forms_are_listed, property_forms_are_named};

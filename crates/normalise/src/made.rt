@@ -87,22 +87,14 @@ impl Made {
         }
     }
 
-    // Adds the forms behind the others, for which room is made before anything changes, and takes their fresh names.
-    pub(crate) fn join(&mut self, more: Made) -> Result<(), Memory>
-        ensures entries { OnOk result (self.new.entries ≡ self.old.entries ++ more.entries) }
-        ensures operands { OnOk result (self.new.operands ≡ more.operands) }
-        ensures steps { OnOk result (self.new.steps ≡ more.steps) }
-        ensures err { OnErr result (self.new ≡ self.old) }
+    // These forms, and the others behind them, with the fresh names of those.
+    pub(crate) fn joined(&self, alloc: Global, mut more: Made) -> Result<Made, Memory>
+        ensures entries { IfOk result (λ m. m.entries ≡ self.now.entries ++ more.entries) }
+        ensures operands { IfOk result (λ m. m.operands ≡ more.operands) }
+        ensures steps { IfOk result (λ m. m.steps ≡ more.steps) }
     {
-        self.entries.join(&more.entries)?;
-        let Made {
-            entries: _,
-            operands,
-            steps,
-        } = more;
-        self.operands = operands;
-        self.steps = steps;
-        Ok(())
+        more.entries = self.entries.joined(alloc, &more.entries)?;
+        Ok(more)
     }
 
     pub(crate) fn add(&mut self, form: Form, origin: Origin) -> Result<(), Memory>

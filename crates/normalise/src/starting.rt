@@ -1,20 +1,20 @@
 //! The contexts that are there from the start.
 ghost use Rattle.axioms.specs.View.{expr_numbers};
 ghost use Rattle.facts.specs.declared.contexts.Context.TheVariants as contexts;
-ghost use Rattle.normalise.specs.Roots.{AddsThose, AreRoots, IsIndividual, IsNamed};
+ghost use Rattle.normalise.specs.Roots.{AddsThose, AreRoots, AreRootsAgain, AreRootsFrom, IsIndividualFrom, IsNamedFrom};
 ghost use Rattle.std.specs.Prelude.{◌++◌, ◌<◌, ◌≡◌, All, IfOk, OnOk, length, map};
 
 use axioms::{ClassId, ExprId, IndId, Memory, Ontology};
 use facts::Context;
 use std::alloc::Global;
 
-// Adds the expression of each named class.
-fn push_classes(ontology: &Ontology, roots: &mut Vec<Context>) -> Result<(), Memory>
-    ensures { OnOk result (AddsThose (IsNamed ontology.now) roots.old.items roots.new.items) }
+// Adds the expression of each named class from that number on.
+fn push_classes(ontology: &Ontology, from: usize, roots: &mut Vec<Context>) -> Result<(), Memory>
+    ensures { OnOk result (AddsThose (IsNamedFrom ontology.now from) roots.old.items roots.new.items) }
 {
     ontology.well_formed();
     ontology.bounded();
-    for number in 0..ontology.classes().len() {
+    for number in from..ontology.classes().len() {
         if let Some(expression) = ontology.class_expr(ClassId(number as u32)) {
             roots.push(Context::Expr(expression))?;
         }
@@ -22,11 +22,16 @@ fn push_classes(ontology: &Ontology, roots: &mut Vec<Context>) -> Result<(), Mem
     Ok(())
 }
 
-fn push_individuals(ontology: &Ontology, roots: &mut Vec<Context>) -> Result<(), Memory>
-    ensures { OnOk result (AddsThose (IsIndividual ontology.now) roots.old.items roots.new.items) }
+// Adds each individual from that number on.
+fn push_individuals(
+    ontology: &Ontology,
+    from: usize,
+    roots: &mut Vec<Context>,
+) -> Result<(), Memory>
+    ensures { OnOk result (AddsThose (IsIndividualFrom ontology.now from) roots.old.items roots.new.items) }
 {
     ontology.bounded();
-    for number in 0..ontology.individuals().len() {
+    for number in from..ontology.individuals().len() {
         roots.push(Context::Individual(IndId(number as u32)))?;
     }
     Ok(())
@@ -53,8 +58,30 @@ pub fn roots(alloc: Global, ontology: &Ontology, asked: &[ExprId]) -> Result<Vec
 {
     ontology.well_formed();
     let mut roots = Vec::new(alloc);
-    push_classes(ontology, &mut roots)?;
-    push_individuals(ontology, &mut roots)?;
+    push_classes(ontology, 0, &mut roots)?;
+    push_individuals(ontology, 0, &mut roots)?;
     push_asked(asked, &mut roots)?;
+    Ok(roots)
+}
+
+/// The named classes from number `classes` on, and the individuals from number `individuals` on. Where the ontology had so many of
+/// each before it grew, these are what its roots have to be followed by.
+///
+/// # Errors
+///
+/// `Memory` where memory was refused.
+pub fn roots_from(
+    alloc: Global,
+    ontology: &Ontology,
+    classes: usize,
+    individuals: usize,
+) -> Result<Vec<Context>, Memory>
+    ensures those { IfOk result (λ v. AreRootsFrom ontology.now classes individuals v.items) }
+    ensures again { IfOk result (λ v. AreRootsAgain ontology.now classes individuals v.items) }
+{
+    ontology.well_formed();
+    let mut roots = Vec::new(alloc);
+    push_classes(ontology, classes, &mut roots)?;
+    push_individuals(ontology, individuals, &mut roots)?;
     Ok(roots)
 }

@@ -1,6 +1,7 @@
 -- What holds of more forms and roots.
-use Rattle.std.proofs.Common.{◌≡◌, ℕ, zero, suc, ◌<◌, ◌≤◌, ◌⊎◌, inl, inr, ⊎_elim, List, [], ◌∷◌, ◌++◌, length, take, slice_get, Some, None, Option, Contains, refl, sym, ap, ap₂, ◌∙◌, subst, arith}
-use Rattle.std.proofs.lemmas.List.Elements.{Contains-append_left, Contains-append_cases}
+use Rattle.std.proofs.Common.{◌≡◌, ℕ, zero, suc, ◌<◌, ◌≤◌, ◌⊎◌, inl, inr, ⊎_elim, List, [], ◌∷◌, ◌++◌, length, take, drop, slice_get, Some, None, Option, Contains, refl, sym, ap, ap₂, ◌∙◌, subst, arith}
+use Rattle.std.proofs.lemmas.List.{take-append-drop}
+use Rattle.std.proofs.lemmas.List.Elements.{Contains-append_left}
 use Rattle.std.proofs.lemmas.Option.{none-some, same_Some}
 use Rattle.normal_forms.specs.declared.forms.Form.{Form}
 use Rattle.normal_forms.specs.declared.forms.Form.TheVariants.{N1, N2, N3, N4, N5, N6, N7, N8, N9}
@@ -13,12 +14,13 @@ use Rattle.facts.specs.declared.contexts.Fact.TheVariants.{In, Edge}
 use Rattle.facts.specs.Closure.{Problem, IsContextBy, FromOne, FromTwo, Concludes, Gives, in_thing, in_itself, by_form, unsatisfiable, loop}
 use Rattle.facts.specs.Births.{Reason}
 use Rattle.facts.proofs.Premises.{no_three}
-use Rattle.saturate.specs.Requests.{Asks, IsAsked}
+use Rattle.saturate.specs.Requests.{Asks, IsAskedAnew, IsNew}
 use Rattle.inference.specs.Derivations.{Derived, IsDerived, Grows, Keeps}
 use Rattle.saturate.specs.Growth.{with_more, KeepsServed}
 use Rattle.inference.specs.Entry.{HasBegun}
 use Rattle.inference.specs.Completeness.{IsCompleteUpToRedundancy, IsServed, AreRedundant, EndsAbove, GoesOn}
-use Rattle.inference.proofs.Lists.{Contains-from_slice_get}
+use Rattle.saturate.proofs.EqualForms.{is_there}
+use Rattle.inference.proofs.Lists.{Contains-from_slice_get, slice_get-from_Contains}
 use Rattle.inference.proofs.Growth.{there_still}
 use Rattle.inference.proofs.Redundancy.{redundant_still}
 use Rattle.saturate.specs.State.{IsUnderWay}
@@ -36,16 +38,18 @@ slice_get_more [] ys n x e = absurd (none-some x e)
 slice_get_more (y ∷ xs) ys zero x e = e
 slice_get_more (y ∷ xs) ys (suc n) x e = slice_get_more xs ys n x e
 
-slice_get_cases : {X : Type 0} (xs ys : List X) (n : ℕ) (x : X) → slice_get (xs ++ ys) n ≡ Some x → (slice_get xs n ≡ Some x) ⊎ Contains ys x
-slice_get_cases [] ys n x e = inr (Contains-from_slice_get ys n x e)
-slice_get_cases (y ∷ xs) ys zero x e = inl e
-slice_get_cases (y ∷ xs) ys (suc n) x e = slice_get_cases xs ys n x e
-
 -- what was there at first is the first part
 pub front : {X : Type 0} (xs ys : List X) → Keeps xs ys → take (length xs) ys ≡ xs
 front [] ys keeps = refl
 front (x ∷ xs) [] keeps = absurd (none-some x (keeps 0 x refl))
 front (x ∷ xs) (y ∷ ys) keeps = ap₂ (λ z zs. z ∷ zs) (same_Some y x (keeps 0 x refl)) (front xs ys (λ n z e. keeps (suc n) z e))
+
+-- a form is new, or it was there at some place
+new_or_there : (forms added : List Form) (form : Form) → Contains (forms ++ added) form → IsNew forms (forms ++ added) form ⊎ ((m : ℕ) × (slice_get forms m ≡ Some form))
+new_or_there forms added form there = ⊎_elim
+    (λ before. inr (slice_get-from_Contains forms form before))
+    (λ not_before. inl (there, not_before))
+    (is_there forms form)
 
 -- ---- properties
 
@@ -53,14 +57,14 @@ below_more : (forms added : List Form) (p q : PropId2) → IsAtOrBelow forms p q
 below_more forms added p _ same = same
 below_more forms added p _ (step s t h c) = step s t (below_more forms added p (Property s) h) (Contains-append_left forms added (N5 s t) c)
 
--- a path that is new has a form that is added, whose lower property lies above its start
-below_cases : (forms added : List Form) (p q : PropId2) → IsAtOrBelow (forms ++ added) p q → IsAtOrBelow forms p q ⊎ ((x y : Context) → IsAsked (forms ++ added) added (Edge x p y))
+-- a path that is new has a form that is new, whose lower property lies above its start
+below_cases : (forms added : List Form) (p q : PropId2) → IsAtOrBelow (forms ++ added) p q → IsAtOrBelow forms p q ⊎ ((x y : Context) → IsAskedAnew forms (forms ++ added) (Edge x p y))
 below_cases forms added p _ same = inl same
 below_cases forms added p _ (step s t h c) = ⊎_elim
     (λ low. ⊎_elim
-    (λ old. inl (step s t low old))
     (λ new. inr (λ x y. (N5 s t, new, h)))
-    (Contains-append_cases forms added (N5 s t) c))
+    (λ old. inl (step s t low (Contains-from_slice_get forms old.0 (N5 s t) old.1)))
+    (new_or_there forms added (N5 s t) c))
     (λ asked. inr asked)
     (below_cases forms added p (Property s) h)
 
@@ -110,10 +114,10 @@ module _ (k : Problem) (forms : List Form) (roots : List Context) where
     born = λ n f r at why. let b = s.born n f r at why in (b.0, b.1, gives_more b.2);
   }
 
-  -- ---- what facts that no added form asks for give was given before
+  -- ---- what facts that no new form asks for give was given before
 
   abbrev Unasked : Fact → Type 0
-  Unasked f = IsAsked (k.forms ++ forms) forms f → ⊥
+  Unasked f = ¬ IsAskedAnew k.forms (k.forms ++ forms) f
 
   asks_one : (form : Form) (g f : Fact) → FromOne form g f → Asks (k.forms ++ forms) form g
   asks_one (N1 a b) (In c x) f w = w.0
@@ -189,13 +193,12 @@ module _ (k : Problem) (forms : List Form) (roots : List Context) where
   ends_more p (N8 _ _) low = low
   ends_more p (N9 _ _ _) low = low
 
-  redundant_more : (d : Derived) (older : List Fact) (o : Option ℕ) → AreRedundant k d older o → AreRedundant (with_more k forms roots) d older o
-  redundant_more d [] o w = w
-  redundant_more d (g ∷ []) o w = w
-  redundant_more d (g ∷ h ∷ []) None w = w
-  redundant_more d (g ∷ h ∷ []) (Some n) w = (
+  -- what is redundant by a form is redundant by each that is equal to it
+  redundant_more : (d : Derived) (g h : Fact) (m n : ℕ) (form : Form) → slice_get k.forms m ≡ Some form → slice_get (k.forms ++ forms) n ≡ Some form
+      → AreRedundant k d (g ∷ h ∷ []) (Some m) → AreRedundant (with_more k forms roots) d (g ∷ h ∷ []) (Some n)
+  redundant_more d g h m n form before at w = (
     w.0,
-    slice_get_more k.forms forms n w.0 w.1,
+    at ∙ sym before ∙ w.1,
     record {
       goes_on = goes_on_more w.0 w.2.goes_on;
       property = w.2.property;
@@ -211,12 +214,11 @@ module _ (k : Problem) (forms : List Form) (roots : List Context) where
       };
     },
   )
-  redundant_more d (g ∷ h ∷ i ∷ more) o w = w
 
   -- ---- so what served facts give is there still
 
   module _ {most : ℕ} {old new : Derived} (s : HasBegun (with_more k forms roots) most old new) (served : List ℕ)
-      (within : (n : ℕ) → Contains served n → n < length old.facts) (complete : IsCompleteUpToRedundancy k old served) (now : List ℕ) (keeps : KeepsServed (k.forms ++ forms) forms old.facts served now) where
+      (within : (n : ℕ) → Contains served n → n < length old.facts) (complete : IsCompleteUpToRedundancy k old served) (now : List ℕ) (keeps : KeepsServed k.forms (k.forms ++ forms) old.facts served now) where
     was_served : (f : Fact) → IsServed new.facts now f → (n : ℕ) × Contains served n × (slice_get old.facts n ≡ Some f) × Unasked f
     was_served f w =
         let before = (keeps w.0).0 w.1 in
@@ -232,18 +234,18 @@ module _ (k : Problem) (forms : List Form) (roots : List Context) where
     one g f w (by_form n form at gives) =
         let v = was_served g w in
         ⊎_elim
-        (λ before. alone g f (v.0, v.1, v.2) (by_form n form before gives))
-        (λ added. absurd (v.3 (form, added, asks_one form g f gives)))
-        (slice_get_cases k.forms forms n form at)
+        (λ new. absurd (v.3 (form, new, asks_one form g f gives)))
+        (λ before. alone g f (v.0, v.1, v.2) (by_form before.0 form before.1 gives))
+        (new_or_there k.forms forms form (Contains-from_slice_get (k.forms ++ forms) n form at))
     one g f w (unsatisfiable b) = absurd b
     one g f w (loop x n form at l c) = let v = was_served g w in s.loops v.0 g x v.2 c form (Contains-from_slice_get (k.forms ++ forms) n form at) f l
 
-    -- what two facts gave is there still, or redundant still
-    given_before : (g h f : Fact) {c : ℕ} {o : Option ℕ} → IsServed old.facts served g → IsServed old.facts served h → Gives k c o (g ∷ h ∷ []) f → Contains new.facts f ⊎ AreRedundant (with_more k forms roots) new (g ∷ h ∷ []) o
-    given_before g h f {c} {o} w v gives = ⊎_elim
+    -- what two facts gave by a form is there still, or redundant still, also by an equal form
+    by_earlier : (g h f : Fact) (m n : ℕ) (form : Form) → IsServed old.facts served g → IsServed old.facts served h → slice_get k.forms m ≡ Some form → slice_get (k.forms ++ forms) n ≡ Some form → FromTwo k form g h f → Contains new.facts f ⊎ AreRedundant (with_more k forms roots) new (g ∷ h ∷ []) (Some n)
+    by_earlier g h f m n form w v before at gives = ⊎_elim
         (λ there. inl (there_still s.grows f there))
-        (λ redundant. inr (redundant_still s.grows (g ∷ h ∷ []) o (redundant_more old (g ∷ h ∷ []) o redundant)))
-        (complete (g ∷ h ∷ []) (w, (v, tt)) c o f gives)
+        (λ redundant. inr (redundant_still s.grows (g ∷ h ∷ []) (Some n) (redundant_more old g h m n form before at redundant)))
+        (complete (g ∷ h ∷ []) (w, (v, tt)) _ (Some m) f (by_form m form before gives))
 
     two : (g h f : Fact) {c : ℕ} {o : Option ℕ} → IsServed new.facts now g → IsServed new.facts now h → Gives (with_more k forms roots) c o (g ∷ h ∷ []) f → Contains new.facts f ⊎ AreRedundant (with_more k forms roots) new (g ∷ h ∷ []) o
     two g h _ w v (in_thing c) = absurd c
@@ -252,13 +254,16 @@ module _ (k : Problem) (forms : List Form) (roots : List Context) where
         let a = was_served g w in
         let b = was_served h v in
         ⊎_elim
-        (λ before. given_before g h f (a.0, a.1, a.2) (b.0, b.1, b.2) (by_form n form before (two_before form g h f a.3 b.3 gives)))
-        (λ added. ⊎_elim (λ asks. absurd (a.3 (form, added, asks))) (λ asks. absurd (b.3 (form, added, asks))) (asks_two form g h f gives))
-        (slice_get_cases k.forms forms n form at)
+        (λ new. ⊎_elim (λ asks. absurd (a.3 (form, new, asks))) (λ asks. absurd (b.3 (form, new, asks))) (asks_two form g h f gives))
+        (λ before. by_earlier g h f before.0 n form (a.0, a.1, a.2) (b.0, b.1, b.2) before.1 at (two_before form g h f a.3 b.3 gives))
+        (new_or_there k.forms forms form (Contains-from_slice_get (k.forms ++ forms) n form at))
     two g h f w v (unsatisfiable back) =
         let a = was_served g w in
         let b = was_served h v in
-        given_before g h f (a.0, a.1, a.2) (b.0, b.1, b.2) (unsatisfiable back)
+        ⊎_elim
+        (λ there. inl (there_still s.grows f there))
+        (λ redundant. absurd redundant)
+        (complete (g ∷ h ∷ []) ((a.0, a.1, a.2), ((b.0, b.1, b.2), tt)) _ None f (unsatisfiable back))
     two g h f w v (loop x n form at l c) = absurd c
 
     pub complete_still : IsCompleteUpToRedundancy (with_more k forms roots) new now
@@ -269,18 +274,25 @@ module _ (k : Problem) (forms : List Form) (roots : List Context) where
 
 -- ---- the state of what has grown
 
+abbrev problem_of : List Form → List Context → Problem
+problem_of forms roots = record { forms = forms; roots = roots }
+
+-- a list of forms is those that it begins with, and then those that are added
+pub parted : (k j : Problem) (all : List Form) (roots : List Context) (from : ℕ) → take from all ≡ k.forms → j.forms ≡ all → j.roots ≡ k.roots ++ roots → j ≡ with_more k (drop from all) roots
+parted k j all roots from front forms roots_are = ap₂ problem_of (forms ∙ sym (take-append-drop from all) ∙ ap (λ (fs : List Form). fs ++ drop from all) front) roots_are
+
 module _ (k : Problem) (forms : List Form) (roots : List Context) {j : Problem} (same : j ≡ with_more k forms roots) where
   pub derived_then : {d : Derived} → IsDerived k d → IsDerived j d
   derived_then {d} s = subst (λ (i : Problem). IsDerived i d) (sym same) (derived_more k forms roots s)
 
-  pub extended : {most : ℕ} {old new : Derived} {q r : Queued} → IsUnderWay k old q → HasBegun j most old new → r.queued ≤ length new.facts → KeepsServed j.forms forms old.facts q.served r.served → IsUnderWay j new r
+  pub extended : {most : ℕ} {old new : Derived} {q r : Queued} → IsUnderWay k old q → HasBegun j most old new → r.queued ≤ length new.facts → KeepsServed k.forms j.forms old.facts q.served r.served → IsUnderWay j new r
   extended {most} {old} {new} {q} {r} s begun queued keeps = record {
     derived = begun.grows.derived;
     queued = queued;
     within = λ n c. omega (arith, s.within n ((keeps n).0 c).0, begun.grows.longer);
     complete = subst (λ (i : Problem). IsCompleteUpToRedundancy i new r.served) (sym same)
         (complete_still k forms roots (subst (λ (i : Problem). HasBegun i most old new) same begun) q.served s.within s.complete r.served
-        (subst (λ (i : Problem). KeepsServed i.forms forms old.facts q.served r.served) same keeps));
+        (subst (λ (i : Problem). KeepsServed k.forms i.forms old.facts q.served r.served) same keeps));
   }
 
 pub listed_again : {k : Problem} {d : Derived} {index : Index} (r : Queued) → ListsFacts k d r.served r.served index → ListsServed k d r index

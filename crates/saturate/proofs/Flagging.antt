@@ -1,5 +1,5 @@
 -- Flags of the facts that added forms ask for.
-use Rattle.std.proofs.Common.{◌≡◌, ℕ, ◌+◌, ◌<◌, ◌⊎◌, inl, inr, ⊎_elim, Bool, true, false, not, List, [], ◌∷◌, ◌++◌, length, take, get_or, cond, slice_get, Some, Contains, refl, sym, ap, ◌∙◌, subst, arith}
+use Rattle.std.proofs.Common.{◌≡◌, ◌↔◌, ℕ, ◌+◌, ◌<◌, ◌⊎◌, inl, inr, ⊎_elim, Bool, true, false, not, List, [], ◌∷◌, ◌++◌, length, take, get_or, cond, slice_get, Some, Contains, refl, sym, ap, ◌∙◌, subst, arith}
 use Rattle.std.proofs.Math.Seq.{get_or-append_seam}
 use Rattle.std.proofs.lemmas.Bool.Decides.{eqb_tells}
 use Rattle.std.proofs.lemmas.List.{append-nil, get_or_append_left}
@@ -8,22 +8,22 @@ use Rattle.std.proofs.lemmas.Option.{slice_get-get_or}
 use Rattle.normal_forms.specs.declared.forms.Form.{Form}
 use Rattle.facts.specs.declared.contexts.Fact.{Fact}
 use Rattle.normal_forms.proofs.Filters.{kept as is_kept_of, from_kept, passes}
-use Rattle.saturate.specs.Requests.{IsAsked}
+use Rattle.saturate.specs.Requests.{IsAskedAnew}
 use Rattle.saturate.specs.Flags.{IsFlagged, is_flagged, is_kept, kept}
 use Rattle.saturate.specs.Growth.{KeepsServed}
 use Rattle.inference.proofs.Lists.{one_value}
 
 -- one flag more
-pub flag_more : (all added : List Form) (facts : List Fact) (flags : List Bool) (flag : Bool) (i : ℕ) (f : Fact) → length flags ≡ i → slice_get facts i ≡ Some f
-    → ((n : ℕ) → n < i → IsFlagged all added facts flags n) → (flag ≡ true → IsAsked all added f) → (flag ≡ false → IsAsked all added f → ⊥)
-    → (n : ℕ) → n < i + 1 → IsFlagged all added facts (flags ++ flag ∷ []) n
-flag_more all added facts flags flag i f long at before asked unasked n low = ⊎_elim
+pub flag_more : (P : Fact → Type 0) (facts : List Fact) (flags : List Bool) (flag : Bool) (i : ℕ) (f : Fact) → length flags ≡ i → slice_get facts i ≡ Some f
+    → ((n : ℕ) → n < i → IsFlagged P facts flags n) → (flag ≡ true → P f) → (flag ≡ false → ¬ P f)
+    → (n : ℕ) → n < i + 1 → IsFlagged P facts (flags ++ flag ∷ []) n
+flag_more P facts flags flag i f long at before asked unasked n low = ⊎_elim
     (λ w.
     let here : is_flagged (flags ++ flag ∷ []) n ≡ flag = subst (λ (j : ℕ). get_or (flags ++ flag ∷ []) j false ≡ flag) (long ∙ sym w.1) (get_or-append_seam flags flag [] false) in
     let there : slice_get facts n ≡ Some f = subst (λ (j : ℕ). slice_get facts j ≡ Some f) (sym w.1) at in
     record {
       yes = λ e. (f, there, asked (sym here ∙ e));
-      no = λ e h. unasked (sym here ∙ e) (subst (λ (g : Fact). IsAsked all added g) (one_value _ h.0 f h.1 there) h.2);
+      no = λ e h. unasked (sym here ∙ e) (subst P (one_value _ h.0 f h.1 there) h.2);
     })
     (λ w.
     let less : n < i = omega (arith, low, w.1) in
@@ -31,6 +31,13 @@ flag_more all added facts flags flag i f long at before asked unasked n low = �
     let b = before n less in
     record { yes = λ e. b.yes (sym same ∙ e); no = λ e. b.no (sym same ∙ e) })
     (eqb_tells n i)
+
+-- flags of facts of one kind are flags of those of another, where a fact is of one exactly where it is of the other
+pub flagged_too : (P Q : Fact → Type 0) (facts : List Fact) (flags : List Bool) (n : ℕ) → ((f : Fact) → P f ↔ Q f) → IsFlagged P facts flags n → IsFlagged Q facts flags n
+flagged_too P Q facts flags n same flagged = record {
+  yes = λ e. let h = flagged.yes e in (h.0, h.1, (same h.0).0 h.2);
+  no = λ e h. flagged.no e (h.0, h.1, (same h.0).1 h.2);
+}
 
 not_flagged : (b : Bool) → not b ≡ true → b ≡ false
 not_flagged true e = sym e
@@ -40,10 +47,10 @@ by_flag : (b : Bool) → (b ≡ true) ⊎ (b ≡ false)
 by_flag true = inl refl
 by_flag false = inr refl
 
--- those that are not flagged are exactly those that no added form asks for
-pub keeps_served : (all added : List Form) (facts : List Fact) (flags : List Bool) (served : List ℕ) → ((n : ℕ) → Contains served n → IsFlagged all added facts flags n) → KeepsServed all added facts served (kept flags served)
-keeps_served all added facts flags served flagged n = (
-  λ there. let before = from_kept (is_kept flags) served n there in (before, (flagged n before).no (not_flagged (is_flagged flags n) (passes (is_kept flags) served n there))),
+-- those that are not flagged are exactly those that no new form asks for
+pub keeps_served : (before now : List Form) (facts : List Fact) (flags : List Bool) (served : List ℕ) → ((n : ℕ) → Contains served n → IsFlagged (IsAskedAnew before now) facts flags n) → KeepsServed before now facts served (kept flags served)
+keeps_served before now facts flags served flagged n = (
+  λ there. let was = from_kept (is_kept flags) served n there in (was, (flagged n was).no (not_flagged (is_flagged flags n) (passes (is_kept flags) served n there))),
   λ w. is_kept_of (is_kept flags) served n w.0 (⊎_elim (λ yes_flag. absurd (w.1 ((flagged n w.0).yes yes_flag))) (λ no_flag. ap not no_flag) (by_flag (is_flagged flags n))),
 )
 

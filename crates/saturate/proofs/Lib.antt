@@ -9,3 +9,5 @@ pub mod Extending
 pub mod Naming
 pub mod Flagging
 pub mod Runs
+pub mod EqualForms
+pub mod NewForms

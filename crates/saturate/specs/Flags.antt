@@ -1,12 +1,11 @@
 -- Numbers that are flagged.
 use Rattle.std.specs.Prelude.{◌≡◌, ℕ, Bool, true, false, not, List, [], ◌∷◌, ◌++◌, slice_index_or}
 use Rattle.std.specs.List.{filter}
-use Rattle.normal_forms.specs.declared.forms.Form.{Form}
 use Rattle.facts.specs.declared.contexts.Fact.{Fact}
 use Rattle.facts.specs.Closure.{Problem}
 use Rattle.indexes.specs.declared.index.Index.{Index}
 use Rattle.inference.specs.Derivations.{Derived}
-use Rattle.saturate.specs.Requests.{IsAskedAt}
+use Rattle.saturate.specs.Requests.{IsSuchAt}
 use Rattle.saturate.specs.IndexedFacts.{ListsFacts}
 
 -- whether the number is flagged: past the end it is not
@@ -24,10 +23,10 @@ kept flags numbers = filter (is_kept flags) numbers
 abbrev pub asked : List Bool → List ℕ → List ℕ
 asked flags numbers = filter (is_flagged flags) numbers
 
--- the number is flagged exactly where the fact is asked for
-pub record IsFlagged (all added : List Form) (facts : List Fact) (flags : List Bool) (n : ℕ) : Type 0 where
-  pub yes : is_flagged flags n ≡ true → IsAskedAt all added facts n
-  pub no : is_flagged flags n ≡ false → IsAskedAt all added facts n → ⊥
+-- the number is flagged exactly where its fact is such
+pub record IsFlagged (P : Fact → Type 0) (facts : List Fact) (flags : List Bool) (n : ℕ) : Type 0 where
+  pub yes : is_flagged flags n ≡ true → IsSuchAt P facts n
+  pub no : is_flagged flags n ≡ false → ¬ IsSuchAt P facts n
 
 -- an index that lists the facts of some numbers, and then that one too, unless it is flagged
 abbrev pub ListsUnlessFlagged : Problem → Derived → List Bool → ℕ → Index → Index → Type 0

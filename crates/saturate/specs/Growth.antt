@@ -19,6 +19,6 @@ pub record HasGrown (forms : List Form) (roots : List Context) (old new : Seen) 
   pub facts : Keeps old.facts new.facts
   pub births : Keeps old.births new.births
 
--- exactly the served facts that no added form asks for are served still
+-- exactly the served facts that no new form asks for are served still
 abbrev pub KeepsServed : List Form → List Form → List Fact → List ℕ → List ℕ → Type 0
-KeepsServed forms added facts old new = (n : ℕ) → Contains new n ↔ (Contains old n × (IsAskedAt forms added facts n → ⊥))
+KeepsServed before now facts old new = (n : ℕ) → Contains new n ↔ (Contains old n × ¬ IsAskedAt before now facts n)

@@ -21,19 +21,35 @@ Asks forms (N5 r s) (Edge x p y) = IsAtOrBelow forms p (Property r)
 Asks forms (N6 r s t) (Edge x p y) = IsAtOrBelow forms p r
 Asks forms _ _ = ⊥
 
+-- the form asks for no fact
+abbrev pub AsksNothing : Form → Type 0
+AsksNothing form = (forms : List Form) (f : Fact) → ¬ Asks forms form f
+
 -- the form puts the property below another, or is a chain that begins with it
 abbrev pub BeginsWith : Form → PropId2 → Type 0
 BeginsWith (N5 r s) p = p ≡ Property r
 BeginsWith (N6 r s t) p = p ≡ r
 BeginsWith _ p = ⊥
 
+-- a form that is there now, and to which none was equal before
+abbrev pub IsNew : List Form → List Form → Form → Type 0
+IsNew before now form = Contains now form × ¬ Contains before form
+
 -- one of the added forms asks for the fact, by all forms
 abbrev pub IsAsked : List Form → List Form → Fact → Type 0
 IsAsked forms added f = (form : Form) × Contains added form × Asks forms form f
 
--- one of the added forms asks for the fact of that number, by all forms
+-- a new form asks for the fact, by all that are there now
+abbrev pub IsAskedAnew : List Form → List Form → Fact → Type 0
+IsAskedAnew before now f = (form : Form) × IsNew before now form × Asks now form f
+
+-- the fact of that number is such
+abbrev pub IsSuchAt : (Fact → Type 0) → List Fact → ℕ → Type 0
+IsSuchAt P facts n = (f : Fact) × (slice_get facts n ≡ Some f) × P f
+
+-- a new form asks for the fact of that number
 abbrev pub IsAskedAt : List Form → List Form → List Fact → ℕ → Type 0
-IsAskedAt forms added facts n = (f : Fact) × (slice_get facts n ≡ Some f) × IsAsked forms added f
+IsAskedAt before now facts n = IsSuchAt (IsAskedAnew before now) facts n
 
 -- one of the added forms asks for the fact, or none does, by all forms, if the closure is that of all
 abbrev pub IsAskedUnder : Known → List Form → Fact → Type 0

@@ -3,16 +3,17 @@ ghost use Rattle.saturate.specs.IndexedFacts.{ListsFacts};
 ghost use Rattle.inference.specs.Derivations.{IsDerived};
 ghost use Rattle.saturate.specs.Flags.{IsFlagged, ListsUnlessFlagged, kept};
 ghost use Rattle.saturate.specs.Growth.{KeepsServed};
+ghost use Rattle.saturate.specs.Requests.{IsAsked, IsAskedAnew};
 ghost use Rattle.inference.specs.Entry.{HasBegun};
-ghost use Rattle.std.specs.Prelude.{◌≡◌, ◌<◌, ◌≤◌, ℕ, Contains, IfOk, OnErr, OnOk, length};
+ghost use Rattle.std.specs.Prelude.{◌≡◌, ◌<◌, ◌≤◌, ℕ, Contains, IfOk, OnErr, OnOk, length, take};
 
 use crate::additions::asks_for;
 use crate::ground::Ground;
+use crate::new_forms::new_forms;
 use crate::queue::{Queue, has_flag};
 use axioms::Memory;
 use indexes::{Index, IndexedProblem};
 use inference::{KnownFacts, Rules, is_filler, is_second_premise};
-use normal_forms::FormList;
 use std::alloc::Global;
 use work_list::WorkList;
 
@@ -24,7 +25,7 @@ fn flagged(
     facts: &KnownFacts,
 ) -> Result<Vec<bool>, Memory>
     requires { IsDerived ground.now facts.now }
-    ensures { IfOk result (λ flags. (n : ℕ) → n < length facts.now.facts → IsFlagged ground.now.forms added.now.forms facts.now.facts flags.items n) }
+    ensures { IfOk result (λ flags. (n : ℕ) → n < length facts.now.facts → IsFlagged (IsAsked ground.now.forms added.now.forms) facts.now.facts flags.items n) }
 {
     let closure = ground.closure();
     let mut flags = Vec::new(alloc);
@@ -34,22 +35,25 @@ fn flagged(
     Ok(flags)
 }
 
-/// Of the facts that are served whether one of the added forms asks for them.
+/// Of the facts that are served whether a new one of the forms from that number on asks for them.
 fn flags_of(
     alloc: Global,
+    earlier: &IndexedProblem,
     ground: &Ground,
-    forms: &FormList,
+    from: usize,
     facts: &KnownFacts,
     served: &[u32],
 ) -> Result<Vec<bool>, Memory>
+    requires earlier { take from ground.now.forms ≡ earlier.now.forms }
     requires derived { IsDerived ground.now facts.now }
     requires served { (n : ℕ) → Contains served.now n → n < length facts.now.facts }
-    ensures { IfOk result (λ flags. (n : ℕ) → Contains served.now n → IsFlagged ground.now.forms forms.now facts.now.facts flags.items n) }
+    ensures { IfOk result (λ flags. (n : ℕ) → Contains served.now n → IsFlagged (IsAskedAnew earlier.now.forms ground.now.forms) facts.now.facts flags.items n) }
 {
     if served.is_empty() {
         return Ok(Vec::new(alloc));
     }
-    let added = IndexedProblem::empty(alloc).grown(forms, &[])?;
+    let new = new_forms(alloc, earlier, ground.problem().forms(), from)?;
+    let added = IndexedProblem::new(alloc, new, Vec::new(alloc))?;
     let flags = flagged(alloc, ground, &added, facts);
     drop(added);
     flags
@@ -155,28 +159,30 @@ fn begun_again<W: WorkList>(
     Ok(())
 }
 
-/// Goes on from more forms and roots. Changes nothing where memory is refused.
+/// Goes on from more roots, and more forms, from that number on. Changes nothing where memory is refused.
 pub(crate) fn restart<W: WorkList>(
     alloc: Global,
+    earlier: &IndexedProblem,
     ground: &Ground,
-    forms: &FormList,
+    from: usize,
     facts: &mut KnownFacts,
     queue: &mut Queue<W>,
     index: &mut Index,
 ) -> Result<(), Memory>
+    requires earlier { take from ground.now.forms ≡ earlier.now.forms }
     requires derived { IsDerived ground.now facts.old }
     requires served { (n : ℕ) → Contains queue.old.served n → n < length facts.old.facts }
     requires queued { queue.old.queued ≤ length facts.old.facts }
     ensures begun { OnOk result (HasBegun ground.now u32.MAX facts.old facts.new) }
     ensures queued { queue.new.queued ≤ length facts.new.facts }
     ensures waiting { queue.new.waiting ≡ queue.old.waiting }
-    ensures served { OnOk result (KeepsServed ground.now.forms forms.now facts.old.facts queue.old.served queue.new.served) }
+    ensures served { OnOk result (KeepsServed earlier.now.forms ground.now.forms facts.old.facts queue.old.served queue.new.served) }
     ensures index { OnOk result (ListsFacts ground.now facts.new queue.new.served queue.new.served index.new) }
     ensures facts { OnErr result (facts.new ≡ facts.old) }
     ensures queue { OnErr result (queue.new ≡ queue.old) }
     ensures same { OnErr result (index.new ≡ index.old) }
 {
-    let flags = flags_of(alloc, ground, forms, facts, queue.numbers())?;
+    let flags = flags_of(alloc, earlier, ground, from, facts, queue.numbers())?;
     let again = indexed(alloc, ground, facts, queue.numbers(), &flags)?;
     match begun_again(alloc, ground, facts, queue, &flags) {
         Ok(()) => {

@@ -1,7 +1,6 @@
 //! What facts are drawn from.
 ghost use Rattle.inference.specs.PropertyClosures.{IsClosureOf};
-ghost use Rattle.saturate.specs.Growth.{with_more};
-ghost use Rattle.std.specs.Prelude.{◌≡◌, [], IfOk};
+ghost use Rattle.std.specs.Prelude.{◌≡◌, ◌++◌, [], IfOk};
 
 use crate::counts::counted;
 use axioms::Memory;
@@ -49,14 +48,15 @@ impl Ground {
         Ok(Ground { problem, closure })
     }
 
-    /// The same forms and contexts, and then those that are added.
+    /// These forms, and the same contexts with those that are added.
     pub(crate) fn grown(
         &self,
         alloc: Global,
         forms: &FormList,
         roots: &[Context],
     ) -> Result<Ground, Memory>
-        ensures { IfOk result (λ g. g ≡ with_more self.now forms.now roots.now) }
+        ensures forms { IfOk result (λ g. g.forms ≡ forms.now) }
+        ensures roots { IfOk result (λ g. g.roots ≡ self.now.roots ++ roots.now) }
     {
         let problem = self.problem.grown(forms, roots)?;
         match closed(alloc, problem.forms()) {

@@ -8,6 +8,7 @@ mod ground;
 mod kept;
 mod laws;
 mod listed_facts;
+mod new_forms;
 mod progress;
 mod queue;
 mod state;

@@ -1,15 +1,18 @@
 //! A saturation under way, or ended.
-ghost use Rattle.std.specs.Prelude.{◌≡◌, ◌≤◌, IfNone, IfSome, Some, length, slice_get};
+ghost use Rattle.std.specs.Prelude.{◌≡◌, ◌≤◌, IfNone, IfSome, OnErr, OnOk, Some, drop, false, length, slice_get, take, true};
 ghost use Rattle.facts.specs.Births.{reason};
 ghost use Rattle.inference.specs.PropertyClosures.{IsClosureOf};
+ghost use Rattle.saturate.specs.Growth.{HasGrown, KeepsServed};
 ghost use Rattle.saturate.specs.Run.{HasRun, IsState};
 ghost use Rattle.saturate.specs.State.{GaveFact};
 ghost use Rattle.inference.specs.Completeness.{IsClosure};
 
 use crate::kept::Kept;
 use crate::state::State;
-use facts::{Birth, FactId, StoredFact};
+use axioms::Memory;
+use facts::{Birth, Context, FactId, StoredFact};
 use inference::Stop;
+use normal_forms::FormList;
 use property_closure::PropertyClosure;
 use std::marker::Model;
 use work_list::WorkList;
@@ -34,18 +37,18 @@ impl<W: WorkList + Drop> Drop for Progress<W> {
 }
 
 impl<W: WorkList> Model for Progress<W> {
-    ghost use Rattle.saturate.specs.State.{Seen};
-    ghost use Rattle.saturate.specs.Progress.{seen_of};
+    ghost use Rattle.saturate.specs.Progress.{Progressed, may_grow, seen_of};
 
-    ghost Value = { Seen };
+    ghost Value = { Progressed };
 
-    ghost view = { λ p. seen_of p.stage };
+    ghost view = { λ p. record { seen = seen_of p.stage; can_grow = may_grow p.stage } };
 }
 
 impl<W: WorkList> Progress<W> {
-    /// The state.
+    /// The state. It may grow.
     pub fn new(state: State<W>) -> Progress<W>
-        ensures { result ≡ state }
+        ensures seen { result.seen ≡ state }
+        ensures can_grow { result.can_grow ≡ true }
     {
         Progress {
             stage: Stage::Growing(state),
@@ -54,7 +57,7 @@ impl<W: WorkList> Progress<W> {
 
     /// The closure of the properties.
     pub fn closure(&self) -> &PropertyClosure
-        ensures { IsClosureOf self.now.problem.forms result.now }
+        ensures { IsClosureOf self.now.seen.problem.forms result.now }
     {
         match &self.stage {
             Stage::Growing(state) => state.closure(),
@@ -64,7 +67,7 @@ impl<W: WorkList> Progress<W> {
 
     /// The facts, in order of birth.
     pub fn facts(&self) -> &[StoredFact]
-        ensures { result.now ≡ self.now.facts }
+        ensures { result.now ≡ self.now.seen.facts }
     {
         match &self.stage {
             Stage::Growing(state) => state.facts(),
@@ -74,9 +77,9 @@ impl<W: WorkList> Progress<W> {
 
     /// What gave the fact of that number, if there is one: a condition, older facts and a form.
     pub fn born(&self, fact: FactId) -> Option<&Birth>
-        ensures reason { IfSome result (λ b. slice_get self.now.births fact.0 ≡ Some (reason b.now)) }
-        ensures gives { IfSome result (λ b. GaveFact self.now fact.0 (reason b.now)) }
-        ensures none { IfNone result (length self.now.facts ≤ fact.0) }
+        ensures reason { IfSome result (λ b. slice_get self.now.seen.births fact.0 ≡ Some (reason b.now)) }
+        ensures gives { IfSome result (λ b. GaveFact self.now.seen fact.0 (reason b.now)) }
+        ensures none { IfNone result (length self.now.seen.facts ≤ fact.0) }
     {
         match &self.stage {
             Stage::Growing(state) => state.born(fact),
@@ -86,7 +89,7 @@ impl<W: WorkList> Progress<W> {
 
     /// How many facts are served.
     pub fn served(&self) -> usize
-        ensures { result ≡ length self.now.served }
+        ensures { result ≡ length self.now.seen.served }
     {
         match &self.stage {
             Stage::Growing(state) => state.served(),
@@ -96,12 +99,32 @@ impl<W: WorkList> Progress<W> {
 
     /// At any time it is a state; and where all facts are served, they are the closure.
     pub fn well_formed(&self)
-        ensures state { IsState self.now }
-        ensures closure { length self.now.served ≡ length self.now.facts → IsClosure self.now.problem self.now.facts }
+        ensures state { IsState self.now.seen }
+        ensures closure { length self.now.seen.served ≡ length self.now.seen.facts → IsClosure self.now.seen.problem self.now.seen.facts }
     {
         match &self.stage {
             Stage::Growing(state) => state.well_formed(),
             Stage::Kept(kept) => kept.well_formed(),
+        }
+    }
+
+    /// Adds forms and contexts that are there from the start, as `State::extend` does. It may grow.
+    ///
+    /// # Errors
+    ///
+    /// As for `State::extend`; then nothing changes.
+    pub fn extend(&mut self, all: &FormList, from: usize, roots: &[Context]) -> Result<(), Memory>
+        requires can_grow { self.old.can_grow ≡ true }
+        requires forms { take from all.now ≡ self.old.seen.problem.forms }
+        ensures grown { OnOk result (HasGrown (drop from all.now) roots.now self.old.seen self.new.seen) }
+        ensures served { OnOk result (KeepsServed self.old.seen.problem.forms self.new.seen.problem.forms self.old.seen.facts self.old.seen.served self.new.seen.served) }
+        ensures state { IsState self.new.seen }
+        ensures can_grow { self.new.can_grow ≡ true }
+        ensures err { OnErr result (self.new ≡ self.old) }
+    {
+        match &mut self.stage {
+            Stage::Growing(state) => state.extend(all, from, roots),
+            Stage::Kept(_) => unreachable!(),
         }
     }
 
@@ -111,7 +134,8 @@ impl<W: WorkList> Progress<W> {
     ///
     /// As for `State::run`; it may be called again.
     pub fn run(&mut self, max_facts: u32) -> Result<(), Stop>
-        ensures { HasRun max_facts self.old self.new result }
+        ensures run { HasRun max_facts self.old.seen self.new.seen result }
+        ensures can_grow { self.new.can_grow ≡ self.old.can_grow }
     {
         match &mut self.stage {
             Stage::Growing(state) => state.run(max_facts),
@@ -119,15 +143,16 @@ impl<W: WorkList> Progress<W> {
         }
     }
 
-    /// Lets go what only a run needs. All facts are served.
+    /// Lets go what only a run needs; then it may not grow. All facts are served.
     pub fn release(self) -> Progress<W>
     where
         W: Drop,
-        requires { length self.served ≡ length self.facts }
-        ensures problem { result.problem ≡ self.problem }
-        ensures facts { result.facts ≡ self.facts }
-        ensures births { result.births ≡ self.births }
-        ensures served { length result.served ≡ length result.facts }
+        requires { length self.seen.served ≡ length self.seen.facts }
+        ensures problem { result.seen.problem ≡ self.seen.problem }
+        ensures facts { result.seen.facts ≡ self.seen.facts }
+        ensures births { result.seen.births ≡ self.seen.births }
+        ensures served { length result.seen.served ≡ length result.seen.facts }
+        ensures can_grow { result.can_grow ≡ false }
     {
         let Progress { stage } = self;
         let kept = match stage {

@@ -1,5 +1,5 @@
 //! The state of a saturation.
-ghost use Rattle.std.specs.Prelude.{OnErr, ◌≡◌, ◌↔◌, ◌<◌, ◌≤◌, ◌+◌, Ok, Err, Some, true, false, [], length, slice_get, IfOk, OnOk, IfSome, IfNone};
+ghost use Rattle.std.specs.Prelude.{OnErr, ◌≡◌, ◌↔◌, ◌<◌, ◌≤◌, ◌+◌, Ok, Err, Some, true, false, [], drop, length, slice_get, take, IfOk, OnOk, IfSome, IfNone};
 ghost use Rattle.facts.specs.Births.{reason};
 ghost use Rattle.inference.specs.Derivations.{HasMoreFactsThan};
 ghost use Rattle.saturate.specs.State.{Extends, GaveFact, nothing_seen};
@@ -80,24 +80,27 @@ impl<W: WorkList> State<W> {
         })
     }
 
-    /// Adds forms and contexts that are there from the start. Facts that are served stay so, but for those that an added form
-    /// asks for: these are pending again.
+    /// Adds forms and contexts that are there from the start: `all` has the forms so far and then, from number `from` on, those that
+    /// are added. Where the list is shared, so is its memory. Facts that are served stay so, but for those that an added form asks
+    /// for to which no earlier form is equal: these are pending again.
     ///
     /// # Errors
     ///
-    /// `Memory` where memory was refused, or there would be 2^32 forms or facts; then nothing changes.
-    pub fn extend(&mut self, forms: &FormList, roots: &[Context]) -> Result<(), Memory>
-        ensures grown { OnOk result (HasGrown forms.now roots.now self.old self.new) }
-        ensures served { OnOk result (KeepsServed self.new.problem.forms forms.now self.old.facts self.old.served self.new.served) }
+    /// `Memory` where memory was refused, or there are 2^32 forms, or there would be as many facts; then nothing changes.
+    pub fn extend(&mut self, all: &FormList, from: usize, roots: &[Context]) -> Result<(), Memory>
+        requires { take from all.now ≡ self.old.problem.forms }
+        ensures grown { OnOk result (HasGrown (drop from all.now) roots.now self.old self.new) }
+        ensures served { OnOk result (KeepsServed self.old.problem.forms self.new.problem.forms self.old.facts self.old.served self.new.served) }
         ensures state { IsState self.new }
         ensures err { OnErr result (self.new ≡ self.old) }
     {
         self.well_formed();
-        let ground = self.ground.grown(self.alloc, forms, roots)?;
+        let ground = self.ground.grown(self.alloc, all, roots)?;
         match restart(
             self.alloc,
+            self.ground.problem(),
             &ground,
-            forms,
+            from,
             &mut self.facts,
             &mut self.queue,
             &mut self.index,

@@ -11,4 +11,4 @@ pub returns-in-Ok-clause-forms : goal.returns-in-Ok-clause-forms
 returns-in-Ok-clause-forms c = grown_forms c.in_ok-begun.begun c.extend.new.self c.forms.result.now c.deref.result.now c.in_ok-begun.ensures.nothing c.in-Ok.ensures.grown ∙ c.forms.ensures
 
 pub returns-in-Ok-clause-served : goal.returns-in-Ok-clause-served
-returns-in-Ok-clause-served c = nothing_served c.in_ok-begun.begun c.extend.new.self _ c.forms.result.now c.in_ok-begun.ensures.nothing c.in-Ok.ensures.served
+returns-in-Ok-clause-served c = nothing_served c.in_ok-begun.begun c.extend.new.self c.in_ok-begun.ensures.nothing c.in-Ok.ensures.served

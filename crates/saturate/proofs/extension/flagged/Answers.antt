@@ -1,5 +1,6 @@
 use Rattle.std.proofs.Common.{ap, ◌∷◌, [], length, length-append, arith}
 use Rattle.inference.proofs.Edges.{has_property}
+use Rattle.saturate.specs.Requests.{IsAsked}
 use Rattle.saturate.proofs.Flagging.{flag_more, read}
 use Rattle.saturate.proofs.extension.flagged.Goals as goal
 
@@ -13,7 +14,7 @@ loop-fact-preserved c =
     let flag = c.asks_for.result in
     record {
       many = omega (arith, ap length c.in_ok-push.ensures.items, length-append flags (flag ∷ []), c.loop-fact.invariant.many);
-      each = λ n low. rw c.in_ok-push.ensures.items (flag_more all c.args.added.now.forms c.args.facts.now.facts flags flag c.loop-fact.fact-index _ c.loop-fact.invariant.many
+      each = λ n low. rw c.in_ok-push.ensures.items (flag_more (IsAsked all c.args.added.now.forms) c.args.facts.now.facts flags flag c.loop-fact.fact-index _ c.loop-fact.invariant.many
           (read c.args.facts.now.facts c.as_slice-fact-items.result.now c.loop-fact.fact-index _ c.as_slice-fact-items.ensures.value c.loop-fact-test.true)
           c.loop-fact.invariant.each (λ e. rw (c.get.ensures, c.fact-item.is) at c.asks_for.ensures.yes e all c.closure-closure.ensures) (λ e. rw (c.get.ensures, c.fact-item.is) at c.asks_for.ensures.no e all c.closure-closure.ensures) n low);
     }

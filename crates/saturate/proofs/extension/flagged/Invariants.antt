@@ -1,9 +1,10 @@
 use Rattle.std.proofs.Common.{◌≡◌, ℕ, ◌<◌, length}
 use Rattle.saturate.specs.Flags.{IsFlagged}
+use Rattle.saturate.specs.Requests.{IsAsked}
 use Rattle.saturate.proofs.extension.flagged.Given as goal
 
 abbrev pub invariant-loop-fact : goal.invariant-loop-fact
 invariant-loop-fact l = record {
   many : length l.flags.items ≡ l.fact-index;
-  each : (n : ℕ) → n < l.fact-index → IsFlagged l.ground.forms l.added.forms l.facts.facts l.flags.items n;
+  each : (n : ℕ) → n < l.fact-index → IsFlagged (IsAsked l.ground.forms l.added.forms) l.facts.facts l.flags.items n;
 }

@@ -1,26 +1,36 @@
-use Rattle.saturate.proofs.Extending.{derived_then, extended, listed_again}
+use Rattle.std.proofs.Common.{◌≡◌, drop}
+use Rattle.saturate.specs.Growth.{with_more}
+use Rattle.saturate.proofs.Extending.{derived_then, extended, listed_again, parted}
 use Rattle.saturate.proofs.Turns.{named_still}
 use Rattle.saturate.proofs.state.State.extend.Goals as goal
+use Rattle.saturate.proofs.state.State.extend.Goals.{After-problem}
+
+-- the forms and contexts are those that were there, and those that are added
+grown : (g : _) (c : After-problem g) → c.in_ok-ground.ground ≡ with_more c.self.inside.ground (drop c.args.from c.args.all.now) c.args.roots.now
+grown g c = parted c.self.inside.ground c.in_ok-ground.ground c.args.all.now c.args.roots.now c.args.from (rw (← c.self.view_is) at c.requires) c.in_ok-ground.ensures.forms c.in_ok-ground.ensures.roots
+
+pub restart-requires-clause-earlier : goal.restart-requires-clause-earlier
+restart-requires-clause-earlier g c = rw (c.problem.ensures, c.in_ok-ground.ensures.forms) (rw (← c.self.view_is) at c.requires)
 
 pub restart-requires-clause-derived : goal.restart-requires-clause-derived
-restart-requires-clause-derived g c = derived_then c.self.inside.ground c.args.forms.now c.args.roots.now c.in_ok-ground.ensures c.self.invariant.0.derived
+restart-requires-clause-derived g c = derived_then c.self.inside.ground (drop c.args.from c.args.all.now) c.args.roots.now (grown g (goal.at.restart-requires-clause-derived g c).After-problem) c.self.invariant.0.derived
 
 pub invariant_of-self : goal.invariant_of-self
 invariant_of-self g c = (
-  extended c.self.inside.ground c.args.forms.now c.args.roots.now c.in_ok-ground.ensures c.self.invariant.0 c.in-Ok.ensures.begun c.restart.ensures.queued c.in-Ok.ensures.served,
+  extended c.self.inside.ground (drop c.args.from c.args.all.now) c.args.roots.now (grown g (goal.at.invariant_of-self g c).After-problem) c.self.invariant.0 c.in-Ok.ensures.begun c.restart.ensures.queued (rw c.problem.ensures at c.in-Ok.ensures.served),
   listed_again c.restart.new.queue c.in-Ok.ensures.index,
   rw c.restart.ensures.waiting (named_still c.self.inside.facts.facts c.restart.new.facts.facts c.self.inside.queue.waiting c.in-Ok.ensures.begun.grows.facts c.self.invariant.2),
 )
 
 pub returns-in-Ok-clause-grown : goal.returns-in-Ok-clause-grown
 returns-in-Ok-clause-grown g c = rw (← c.self.view_is) (record {
-  problem = c.in_ok-ground.ensures;
+  problem = grown g (goal.at.returns-in-Ok-clause-grown g c).After-problem;
   facts = c.in-Ok.ensures.begun.grows.facts;
   births = c.in-Ok.ensures.begun.grows.births;
 })
 
 pub returns-in-Ok-clause-served : goal.returns-in-Ok-clause-served
-returns-in-Ok-clause-served g c = rw (← c.self.view_is) c.in-Ok.ensures.served
+returns-in-Ok-clause-served g c = rw (← c.self.view_is) (rw c.problem.ensures at c.in-Ok.ensures.served)
 
 -- a growth that was refused changes nothing
 pub invariant_of-self-in-Err : goal.invariant_of-self-in-Err

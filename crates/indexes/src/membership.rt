@@ -1,0 +1,63 @@
+//! Whether a problem has a form.
+ghost use Rattle.std.specs.Prelude.{◌≡◌, ◌↔◌, ◌⊎◌, ℕ, Contains, IsTrue, Some, slice_get};
+
+use crate::indexed_problem::IndexedProblem;
+use normal_forms::{Form, PropId2};
+
+/// The shorter of two lists.
+fn shorter<'a>(first: &'a [u32], second: &'a [u32]) -> &'a [u32]
+    ensures { (result.now ≡ first.now) ⊎ (result.now ≡ second.now) }
+{
+    if second.len() < first.len() {
+        second
+    } else {
+        first
+    }
+}
+
+/// Whether the two are one.
+fn is_same(first: Form, second: Form) -> bool
+    ensures { IsTrue result ↔ (first ≡ second) }
+{
+    first == second
+}
+
+/// Whether the form of that number is this one.
+fn is_at(problem: &IndexedProblem, number: u32, form: Form) -> bool
+    ensures { IsTrue result ↔ (slice_get problem.now.forms number ≡ Some form) }
+{
+    match problem.form(number) {
+        Some(other) => is_same(other, form),
+        None => false,
+    }
+}
+
+/// Forms among which each is that is equal to this one: those with a class or a property in the same role.
+fn like(problem: &IndexedProblem, form: Form) -> &[u32]
+    ensures { (n : ℕ) → slice_get problem.now.forms n ≡ Some form → Contains result.now n }
+{
+    match form {
+        Form::N1(a, _) | Form::N3(a, _, _) => problem.alone(a),
+        Form::N2(a, b, _) => shorter(problem.first(a), problem.second(b)),
+        Form::N4(_, a, _) => problem.with_filler(a),
+        Form::N5(r, _) => problem.plain_from(PropId2::Property(r)),
+        Form::N6(r, s, _) => shorter(problem.chains_from(r), problem.chains_to(s)),
+        Form::N7(_) => problem.reflexive(),
+        Form::N8(..) | Form::N9(..) => problem.given(),
+    }
+}
+
+impl IndexedProblem {
+    /// Whether one of the forms is equal to this one. It looks at those with a class or a property in the same role, and for an
+    /// assertion at all assertions.
+    pub fn has(&self, form: Form) -> bool
+        ensures { IsTrue result ↔ Contains self.now.forms form }
+    {
+        for number in like(self, form) {
+            if is_at(self, *number, form) {
+                return true;
+            }
+        }
+        false
+    }
+}
