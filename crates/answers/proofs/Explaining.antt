@@ -1,12 +1,13 @@
 -- What a derivation that was found, and one that was not, say of what is asked.
 use Rattle.std.proofs.Common.{◌≡◌, ℕ, ◌<◌, Option, Some, None, MatchOption, List, [], ◌∷◌, ◌++◌, length, sym, subst}
 use Rattle.std.proofs.lemmas.List.{length-map}
+use Rattle.std.specs.Global.{Vec}
 use Rattle.answers.proofs.Following.{contradictory}
 use Rattle.axioms.specs.Expression.{Iri}
 use Rattle.axioms.specs.Ontology.{Ontology, nothing}
 use Rattle.axioms.specs.WellFormedness.{IsOntology}
-use Rattle.cert_check.specs.Derivation.{HasLine}
-use Rattle.certificate.specs.Certificate.{Line, Subject, Sub}
+use Rattle.cert_check.specs.Derivation.{HasLine, IsDerivation}
+use Rattle.certificate.specs.Certificate.{Conclusion, Line, Subject, Sub}
 use Rattle.certificate.specs.Writability.{IsSubjectOf}
 use Rattle.certificate.specs.View.{line_of, lines_of}
 use Rattle.certificate.specs.declared.line.Line as code_line
@@ -14,7 +15,6 @@ use Rattle.closure.specs.Closure.{Context, Expression, IsContextBy, IsRoot, AreF
 use Rattle.exactness.specs.ListedInterpretation.{IsConsistent, IsSatisfiable}
 use Rattle.exactness.specs.Derivability.{subject_of}
 use Rattle.engine.specs.Saturations.{Saturated, IsSaturated}
-use Rattle.exactness.specs.Theorems.{HaveFacts}
 use Rattle.answers.specs.Explanations.{IsAbout, IsClassNamed, Derives, ShowsThatItFollows}
 use Rattle.answers.specs.Findings.{IsRefutable, line_from_nothing}
 use Rattle.answers.specs.declared.asked.Asked.{Asked}
@@ -44,11 +44,11 @@ derives_with o w x class items more y same root class_root d is =
     subst (λ (n : ℕ). Derives o (Sub y class) (lines_of items ++ line_from_nothing y class n ∷ [])) counted derived in
     subst (λ (z : Subject). Derives o (Sub z class) more) same (subst (λ (ls : List Line). Derives o (Sub y class) ls) (sym is) by_length)
 
--- where no line says it, and no line puts the subject in owl:Nothing
-pub refutable : (o : Ontology) → IsOntology o → (x : Context) (class : ℕ) (lines : List Line) → HaveFacts o [] lines → IsRoot o [] x → IsRoot o [] (Expression class)
-    → (HasLine lines (Sub (subject_of x) class) → ⊥) → (HasLine lines (Sub (subject_of x) nothing) → ⊥) → IsRefutable o x class
-refutable o w x class lines have root class_root without empty =
-    (λ f. empty (have x nothing root (IsRoot.named _ nothing w.nothing_node) f), λ f. without (have x class root class_root f))
+-- what is left of lines of which one says it
+pub left_derives : (o : Ontology) (c : Conclusion) (lines : List Line) (P : Type 0) (left : Option (Vec code_line.Line)) → IsDerivation o lines → HasLine lines c
+    → MatchOption left (HasLine lines c → ⊥) (λ v. (o : Ontology) → IsDerivation o lines → Derives o c (lines_of v.items)) → MatchOption left P (λ v. Derives o c (lines_of v.items))
+left_derives o c lines P None derivation has never = absurd (never has)
+left_derives o c lines P (Some v) derivation has derives = derives o derivation
 
 -- ---- explanations
 

@@ -1,7 +1,7 @@
 //! Explanations.
 ghost use Rattle.closure.specs.Closure.{Expression, IsRoot};
 ghost use Rattle.exactness.specs.ListedInterpretation.{IsConsistent};
-ghost use Rattle.countermodel.specs.Elements.{context_of};
+ghost use Rattle.closure.specs.Denotations.{context_of};
 ghost use Rattle.engine.specs.Saturations.{IsSaturated};
 ghost use Rattle.answers.specs.Explanations.{Explains, IsKnown};
 ghost use Rattle.answers.specs.Findings.{ExplainsOf};

@@ -4,12 +4,13 @@ ghost use Rattle.cert_check.specs.Acceptance.{IsTop};
 ghost use Rattle.cert_check.specs.Derivation.{HasLine, IsDerivation};
 ghost use Rattle.certificate.specs.Certificate.{Sub};
 ghost use Rattle.certificate.specs.View.{conclusion_of, lines_of, subject_of as subject_in};
-ghost use Rattle.closure.specs.Closure.{Expression, IsRoot};
+ghost use Rattle.closure.specs.Closure.{Expression, In, IsFact, IsRoot};
 ghost use Rattle.exactness.specs.ListedInterpretation.{IsConsistent};
 ghost use Rattle.exactness.specs.Derivability.{subject_of as subject_by};
-ghost use Rattle.countermodel.specs.Elements.{context_of};
+ghost use Rattle.closure.specs.Denotations.{context_of};
 ghost use Rattle.engine.specs.Saturations.{IsSaturated};
 ghost use Rattle.explain.specs.Needs.{ShowsContradiction as SaysContradiction};
+ghost use Rattle.normal_forms.specs.Forms.{Whole};
 ghost use Rattle.answers.specs.Explanations.{Derives, ShowsContradiction};
 ghost use Rattle.answers.specs.Findings.{IsContradiction, IsLineWith, IsRefutable, line_from_nothing};
 ghost use Rattle.std.specs.Prelude.{◌≡◌, ◌++◌, ◌∷◌, ◌↔◌, [], IfOk, IsTrue, MatchOption, length};
@@ -17,7 +18,7 @@ ghost use Rattle.std.specs.Prelude.{◌≡◌, ◌++◌, ◌∷◌, ◌↔◌, [
 use axioms::{ExprId, Memory, Ontology};
 use certificate::{Conclusion, Line, Rule, Subject};
 use engine::Saturation;
-use explain::{contradiction, lines, trimmed};
+use explain::{contradiction, lines_of, trimmed};
 use facts::Context;
 use std::alloc::Global;
 
@@ -120,6 +121,26 @@ fn with_class(
     Ok(lines)
 }
 
+/// A derivation that ends in that the subject lies in the class, where that is a fact.
+fn derivation_by_fact(
+    alloc: Global,
+    ontology: &Ontology,
+    saturation: &Saturation,
+    subject: Context,
+    class: ExprId,
+) -> Result<Option<Vec<Line>>, Memory>
+    requires saturated { IsSaturated ontology.now saturation.now }
+    requires subject { IsRoot ontology.now [] (context_of subject) }
+    requires class { IsRoot ontology.now [] (Expression class.0) }
+    ensures { IfOk result (λ found. MatchOption found (IsFact ontology.now [] (In (Whole class.0) (context_of subject)) → ⊥)
+        (λ v. Derives ontology.now (Sub (subject_by (context_of subject)) class.0) (lines_of v.items))) }
+{
+    match lines_of(alloc, ontology, saturation, subject, class)? {
+        Some(lines) => left_for(alloc, &lines, Conclusion::Sub(subject_of(subject), class)),
+        None => Ok(None),
+    }
+}
+
 /// A derivation that ends in that the subject lies in the class, where that or that it lies in `owl:Nothing` is a fact.
 ///
 /// # Errors
@@ -139,13 +160,11 @@ pub(crate) fn derivation_of(
         (λ v. Derives ontology.now (Sub (subject_by (context_of subject)) class.0) (lines_of v.items))) }
 {
     ontology.well_formed();
-    let all = lines(alloc, ontology, saturation)?;
-    let subject = subject_of(subject);
-    if let Some(left) = left_for(alloc, &all, Conclusion::Sub(subject, class))? {
-        return Ok(Some(left));
+    if let Some(lines) = derivation_by_fact(alloc, ontology, saturation, subject, class)? {
+        return Ok(Some(lines));
     }
-    match left_for(alloc, &all, Conclusion::Sub(subject, ExprId::NOTHING))? {
-        Some(left) => Ok(Some(with_class(alloc, left, subject, class)?)),
+    match derivation_by_fact(alloc, ontology, saturation, subject, ExprId::NOTHING)? {
+        Some(lines) => Ok(Some(with_class(alloc, lines, subject_of(subject), class)?)),
         None => Ok(None),
     }
 }

@@ -1,5 +1,5 @@
 //! Names and what they name.
-ghost use Rattle.countermodel.specs.Elements.{context_of};
+ghost use Rattle.closure.specs.Denotations.{context_of};
 ghost use Rattle.answers.specs.Explanations.{IsAbout, IsClassNamed, IsKnown};
 ghost use Rattle.std.specs.Prelude.{◌≡◌, Contains, MatchOption, Some, slice_get};
 

@@ -1,6 +1,6 @@
 //! Interpretations that refute what is asked.
 ghost use Rattle.exactness.specs.ListedInterpretation.{IsConsistent, IsSatisfiable};
-ghost use Rattle.countermodel.specs.Elements.{context_of};
+ghost use Rattle.closure.specs.Denotations.{context_of};
 ghost use Rattle.engine.specs.Saturations.{IsSaturated};
 ghost use Rattle.answers.specs.Findings.{IsPartFor};
 ghost use Rattle.std.specs.Prelude.{[], IfOk};

@@ -1,6 +1,7 @@
 -- Marks on what the lines of marked facts rest on.
 use Rattle.std.proofs.Common.{◌≡◌, ℕ, zero, suc, ◌+◌, ◌<◌, ◌≤◌, ◌⊎◌, ◌↔◌, inl, inr, List, [], ◌∷◌, length, map, take, slice_get, Some, Bool, true, false, if◌then◌else◌, ◌||◌, ◌&&◌, ◌==◌, refl, sym, ap, ◌∙◌, subst, arith}
 use Rattle.std.proofs.lemmas.Bool.{false≢true}
+use Rattle.std.proofs.lemmas.Option.{slice_get_within}
 use Rattle.std.specs.List.{Contains}
 use Rattle.engine.specs.Saturations.{Saturated}
 use Rattle.explain.specs.Marks.{IsMarked, ServesLater}
@@ -103,19 +104,19 @@ from_next zero (suc n) l = inl (omega arith)
 from_next (suc k) zero l = absurd (omega arith)
 from_next (suc k) (suc n) l = elim (from_next k n (omega arith)) [ inl h ↦ inl (omega arith) | inr e ↦ inr (ap suc e) ]
 
--- marks are handed on from the k-th fact to the last
+-- marks are handed on from the k-th fact to the last that has one
 pub record AreHandedOn (s : Saturated) (first marks : List Bool) (k : ℕ) : Type 0 where
-  pub long : length marks ≡ length s.state.facts
+  pub long : length marks ≡ length first
   pub kept : (n : ℕ) → IsMarked first n → IsMarked marks n
   pub closed : (n m : ℕ) → k ≤ n → IsMarked marks n → RestsOn s n m → IsMarked marks m
   pub only : (n : ℕ) → IsMarked marks n → IsMarked first n ⊎ ServesLater s marks n
 
--- marks are handed on from the end of the facts, where all stand before it
-pub handed_on_none : (s : Saturated) (marks : List Bool) (k : ℕ) → length marks ≡ length s.state.facts → k ≡ length s.state.facts → ((n : ℕ) → IsMarked marks n → n < length marks) → AreHandedOn s marks marks k
-handed_on_none s marks k long all within = record {
-  long = long;
+-- marks are handed on from their end, where all stand before it
+pub handed_on_none : (s : Saturated) (marks : List Bool) (k : ℕ) → k ≡ length marks → AreHandedOn s marks marks k
+handed_on_none s marks k all = record {
+  long = refl;
   kept = λ n h. h;
-  closed = λ n m l h r. absurd (omega (arith, within n h));
+  closed = λ n m l h r. absurd (omega (arith, slice_get_within marks n true h));
   only = λ n h. inl h;
 }
 

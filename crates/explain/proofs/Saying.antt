@@ -1,8 +1,7 @@
 -- What the lines of a wanted fact say.
-use Rattle.std.proofs.Common.{◌≡◌, ℕ, zero, suc, ◌<◌, ◌⊎◌, inl, inr, List, [], ◌∷◌, length, slice_get, Some, Bool, true, false, refl, sym, ap, ap₂, ◌∙◌, subst, arith}
-use Rattle.std.proofs.lemmas.Bool.{false≢true}
-use Rattle.std.proofs.lemmas.Option.{none-some, same_Some, slice_get_within}
-use Rattle.std.specs.Prelude.{Result, Ok, Err, IfOk}
+use Rattle.std.proofs.Common.{◌≡◌, ℕ, zero, suc, ◌<◌, List, [], ◌∷◌, length, slice_get, Some, All, Contains, refl, sym, ap, ap₂, ◌∙◌, subst}
+use Rattle.std.proofs.lemmas.List.Elements.{All-contains}
+use Rattle.std.proofs.lemmas.Option.{none-some}
 use Rattle.axioms.specs.Ontology.{Ontology, IsClassAt, thing, nothing}
 use Rattle.axioms.specs.View.{at_number}
 use Rattle.axioms.specs.WellFormedness.{IsOntology}
@@ -12,13 +11,14 @@ use Rattle.cert_check.specs.Derivation.{at_numbers, HasLine}
 use Rattle.certificate.specs.Certificate as subjects
 use Rattle.certificate.specs.Certificate.{Sub, Line}
 use Rattle.closure.specs.Closure.{Context, Expression, Individual, Fact, In, IsRoot, IsFact}
-use Rattle.closure.specs.Denotations.{Prefixes, whole, SaysContext, expression, individual, SaysFact, in_context}
+use Rattle.closure.specs.Denotations.{Prefixes, whole, SaysContext, expression, individual, context_of, SaysFact, in_context}
+use Rattle.closure.proofs.Names.{fact_same}
 use Rattle.exactness.specs.ListedInterpretation.{IsConsistent}
 use Rattle.exactness.proofs.Derivable.{conclusions, at_conclusion, prepended_list_parts}
 use Rattle.exactness.specs.Derivability.{subject_of}
 use Rattle.engine.specs.Saturations.{Saturated, IsSaturated}
 use Rattle.exactness.specs.Theorems.{HaveFacts}
-use Rattle.explain.specs.Marks.{IsClass, IsNamed, IsWantedFact, IsTopContext, IsContradictoryFact, IsMarked, IsShown}
+use Rattle.explain.specs.Marks.{IsClass, IsNamed, IsWantedFact, IsTopContext, IsContradictoryFact, IsShown}
 use Rattle.explain.specs.Needs.{IsWanted, ShowsContradiction}
 use Rattle.explain.specs.LinesOfFacts.{AreShowing, IsShownBy}
 use Rattle.facts.specs.declared.contexts.Context as code_context
@@ -26,25 +26,19 @@ use Rattle.facts.specs.declared.contexts.Context.TheVariants as contexts
 use Rattle.facts.specs.declared.contexts.Fact as code
 use Rattle.facts.specs.declared.contexts.Fact.TheVariants as facts
 use Rattle.lemmas.proofs.Members.{slice_get-from_Contains, Contains-none}
-use Rattle.lemmas.proofs.Places.{slice_get_there}
 use Rattle.normal_forms.specs.Forms.{Whole}
 use Rattle.normal_forms.specs.declared.forms.Class2.TheVariants as classes
 use Rattle.normalise.specs.Problem.{prefixes_of}
 
--- what follows from what is said of the value of a call that is handed on
-pub if_ok_then : {X E : Type 0} (r : Result X E) {P Q : X → Type 0} → IfOk r P → ((x : X) → P x → Q x) → IfOk r Q
-if_ok_then (Ok x) h f = f x h
-if_ok_then (Err e) h f = tt
-
 -- ---- what facts say
-
-abbrev pub context_of : code_context.Context → Context
-context_of (contexts.Expr e) = Expression e.0
-context_of (contexts.Individual a) = Individual a.0
 
 context_said : {x : code_context.Context} {y : Context} → SaysContext x y → context_of x ≡ y
 context_said (expression h) = ap Expression h
 context_said (individual h) = ap Individual h
+
+says_context : (x : code_context.Context) → SaysContext x (context_of x)
+says_context (contexts.Expr e) = expression refl
+says_context (contexts.Individual a) = individual refl
 
 whole_said : {b : Prefixes} {e : ExprId} {x : code_context.Context} {g : Fact} → SaysFact b (facts.In (classes.Expr e) x) g → g ≡ In (Whole e.0) (context_of x)
 whole_said (in_context (whole h) says) = ap₂ (λ c y. In (Whole c) y) (sym h) (sym (context_said says))
@@ -134,6 +128,16 @@ wanted_line o b lines numbers (facts.In (classes.Expr e) x) w s =
 wanted_line o b lines numbers (facts.In (classes.Partial n) x) w s = absurd w
 wanted_line o b lines numbers (facts.Edge x r y) w s = absurd w
 
+-- that a class lies in a context is wanted of those that are asked about
+pub root_wanted : (o : Ontology) (x : code_context.Context) (e : ExprId) → IsRoot o [] (context_of x) → IsRoot o [] (Expression e.0) → IsWantedFact o (facts.In (classes.Expr e) x)
+root_wanted o x e root class = (is_class class, is_named o x root)
+
+-- none of the facts says so, and so it is no fact of the closure
+pub no_fact : (o : Ontology) (s : Saturated) (x : code_context.Context) (e : ExprId) → IsSaturated o s → All (λ f. f ≡ facts.In (classes.Expr e) x → ⊥) s.state.facts → IsFact o [] (In (Whole e.0) (context_of x)) → ⊥
+no_fact o s x e saturated never fact =
+    let f = saturated.facts.all (In (Whole e.0) (context_of x)) fact in
+    All-contains (λ g. g ≡ facts.In (classes.Expr e) x → ⊥) s.state.facts f.0 never f.1 (fact_same saturated.problem f.2 (in_context (whole refl) (says_context x)))
+
 -- ---- what all lines say
 
 -- lines that show each wanted fact have the facts of the closure
@@ -159,31 +163,21 @@ top_of : (o : Ontology) (x : code_context.Context) → IsTopContext o x → IsTo
 top_of o (contexts.Expr e) h = subst (λ d. IsTop (subjects.Expression d)) (sym h) IsTop.of_thing
 top_of o (contexts.Individual a) h = IsTop.of_individual
 
-shows_contradiction : (o : Ontology) (b : Prefixes) (lines : List Line) (f : code.Fact) → IsContradictoryFact o f → IsShown b lines f → ShowsContradiction lines
+pub shows_contradiction : (o : Ontology) (b : Prefixes) (lines : List Line) (f : code.Fact) → IsContradictoryFact o f → IsShown b lines f → ShowsContradiction lines
 shows_contradiction o b lines (facts.In (classes.Expr e) x) h s =
     (subject_of (context_of x), top_of o x h.1, subst (λ c. HasLine lines (Sub (subject_of (context_of x)) c)) h.0 (has_line b lines e x s))
 shows_contradiction o b lines (facts.In (classes.Partial n) x) h s = absurd h
 shows_contradiction o b lines (facts.Edge x r y) h s = absurd h
 
-is_marked : (marks : List Bool) → ((n : ℕ) × IsMarked marks n) ⊎ ((n : ℕ) → IsMarked marks n → ⊥)
-is_marked [] = inr (λ n h. none-some true h)
-is_marked (true ∷ marks) = inl (zero, refl)
-is_marked (false ∷ marks) = elim (is_marked marks) [ inl h ↦ inl (suc h.0, h.1) | inr h ↦ inr (none_of h) ]
-  where
-    none_of : ((n : ℕ) → IsMarked marks n → ⊥) → (n : ℕ) → IsMarked (false ∷ marks) n → ⊥
-    none_of h zero g = false≢true (same_Some false true g)
-    none_of h (suc n) g = h n g
-
 -- where no fact is a contradiction, there is none
-no_contradiction : (o : Ontology) (s : Saturated) → IsSaturated o s → ((n : ℕ) (f : code.Fact) → slice_get s.state.facts n ≡ Some f → IsContradictoryFact o f → ⊥) → IsConsistent o []
+pub no_contradiction : (o : Ontology) (s : Saturated) → IsSaturated o s → All (λ f. IsContradictoryFact o f → ⊥) s.state.facts → IsConsistent o []
 no_contradiction o s saturated never = record { things = things; individuals = individuals }
   where
     said : (x : Context) → IsFact o [] (In (Whole nothing) x) → ((y : code_context.Context) → context_of y ≡ x → IsTopContext o y) → ⊥
     said x fact top =
         let f = saturated.facts.all (In (Whole nothing) x) fact in
         let g = whole_saying f.2 in
-        let at = slice_get-from_Contains s.state.facts f.0 f.1 in
-        never at.0 (facts.In (classes.Expr g.0) g.1) (at.1 ∙ ap Some g.2) (g.3, top g.1 g.4)
+        All-contains (λ h. IsContradictoryFact o h → ⊥) s.state.facts f.0 never f.1 (subst (IsContradictoryFact o) (sym g.2) (g.3, top g.1 g.4))
 
     thing_top : (y : code_context.Context) → context_of y ≡ Expression thing → IsTopContext o y
     thing_top (contexts.Expr e) h = cc
@@ -198,18 +192,3 @@ no_contradiction o s saturated never = record { things = things; individuals = i
 
     individuals : (a : ℕ) → a < length o.names.individuals → IsFact o [] (In (Whole nothing) (Individual a)) → ⊥
     individuals a l fact = said (Individual a) fact (individual_top a l)
-
-pub contradiction_shown : (o : Ontology) (s : Saturated) (marks : List Bool) (lines : List Line) → IsSaturated o s → (IsConsistent o [] → ⊥) → length marks ≡ length s.state.facts
-    → ((n : ℕ) (f : code.Fact) → slice_get s.state.facts n ≡ Some f → IsMarked marks n → IsContradictoryFact o f)
-    → ((n : ℕ) (f : code.Fact) → slice_get s.state.facts n ≡ Some f → IsContradictoryFact o f → (m : ℕ) × IsMarked marks m)
-    → ((n : ℕ) (f : code.Fact) → IsMarked marks n → slice_get s.state.facts n ≡ Some f → IsShown (prefixes_of s.normal) lines f)
-    → ShowsContradiction lines
-contradiction_shown o s marks lines saturated contradictory long each found shown = elim (is_marked marks) [
-  | inl m ↦ shown_at m.0 m.1
-  | inr never ↦ absurd (contradictory (no_contradiction o s saturated (λ n f at h. let m = found n f at h in never m.0 m.1)))
-]
-  where
-    shown_at : (n : ℕ) → IsMarked marks n → ShowsContradiction lines
-    shown_at n marked =
-        let f = slice_get_there s.state.facts n (omega (arith, long, slice_get_within marks n true marked)) in
-        shows_contradiction o (prefixes_of s.normal) lines f.0 (each n f.0 f.1 marked) (shown n f.0 marked f.1)

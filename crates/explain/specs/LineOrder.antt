@@ -14,11 +14,11 @@ use Rattle.normal_forms.specs.declared.forms.Form.{Form}
 use Rattle.number_sets.specs.Pieces.{list_at}
 use Rattle.normalise.specs.Problem.{prefixes_of}
 
--- the facts, the paths by their forms, and marks that are handed on
+-- the facts, the paths by their forms, and marks that are handed on, which may end before the facts
 pub record AreReady (o : Ontology) (s : Saturated) (forms : List Form) (marks : List Bool) : Type 0 where
   pub saturated : IsSaturated o s
   pub paths : forms ≡ s.state.problem.forms
-  pub long : length marks ≡ length s.state.facts
+  pub within : length marks ≤ length s.state.facts
   pub closed : AreClosed s marks
   pub called_for : EachIsCalledFor o s marks
 

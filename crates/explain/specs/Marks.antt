@@ -1,6 +1,7 @@
 -- Which facts are to have lines.
-use Rattle.std.specs.Prelude.{◌≡◌, ℕ, ◌<◌, ◌⊎◌, List, Bool, true, length, slice_get, Some}
+use Rattle.std.specs.Prelude.{◌≡◌, ℕ, ◌<◌, ◌⊎◌, List, All, Bool, true, length, slice_get, Option, Some, MatchOption}
 use Rattle.axioms.specs.Ontology.{Ontology, IsClassAt, thing, nothing}
+use Rattle.axioms.specs.View.{at_number}
 use Rattle.certificate.specs.Certificate.{Line}
 use Rattle.closure.specs.Denotations.{Prefixes}
 use Rattle.engine.specs.Saturations.{Saturated}
@@ -40,14 +41,20 @@ IsContradictoryFact o (facts.In (classes.Expr e) x) = (e.0 ≡ nothing) × IsTop
 IsContradictoryFact o (facts.In (classes.Partial n) x) = ⊥
 IsContradictoryFact o (facts.Edge x r y) = ⊥
 
+-- ---- a fact that is a goal
+
+-- the fact of that number, counted from 1, is so
+abbrev pub IsGoal : (Fact → Type 0) → List Fact → ℕ → Type 0
+IsGoal P facts number = (f : Fact) × (at_number facts number ≡ Some f) × P f
+
+-- the number of a fact that is so, where there is one
+abbrev pub FindsGoal : (Fact → Type 0) → List Fact → Option ℕ → Type 0
+FindsGoal P facts found = MatchOption found (All (λ f. P f → ⊥) facts) (IsGoal P facts)
+
 -- ---- facts that are marked, by their numbers
 
 abbrev pub IsMarked : List Bool → ℕ → Type 0
 IsMarked marks n = slice_get marks n ≡ Some true
-
--- some fact is marked, where one is a contradiction
-abbrev pub MarksContradiction : Ontology → List Fact → List Bool → Type 0
-MarksContradiction o facts marks = (n : ℕ) (f : Fact) → slice_get facts n ≡ Some f → IsContradictoryFact o f → (m : ℕ) × IsMarked marks m
 
 -- what the line of a marked fact rests on is marked
 abbrev pub AreClosed : Saturated → List Bool → Type 0

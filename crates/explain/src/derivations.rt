@@ -1,19 +1,26 @@
 //! The lines of a saturation.
-ghost use Rattle.cert_check.specs.Derivation.{IsDerivation};
+ghost use Rattle.cert_check.specs.Derivation.{HasLine, IsDerivation};
+ghost use Rattle.certificate.specs.Certificate.{Sub};
 ghost use Rattle.certificate.specs.View.{lines_of};
+ghost use Rattle.closure.specs.Closure.{Expression, In, IsFact, IsRoot};
+ghost use Rattle.closure.specs.Denotations.{context_of};
+ghost use Rattle.exactness.specs.Derivability.{subject_of};
 ghost use Rattle.exactness.specs.ListedInterpretation.{IsConsistent};
 ghost use Rattle.engine.specs.Saturations.{IsSaturated};
 ghost use Rattle.exactness.specs.Theorems.{HaveFacts};
 ghost use Rattle.explain.specs.Needs.{EachIsNeeded, ShowsContradiction};
-ghost use Rattle.std.specs.Prelude.{◌≡◌, [], IfOk, OnOk};
+ghost use Rattle.normal_forms.specs.Forms.{Whole};
+ghost use Rattle.std.specs.Prelude.{◌≡◌, [], IfOk, IfSome, MatchOption, OnOk};
 
 use crate::derivation::Derivation;
-use crate::shown::add_lines;
+use crate::shown::{add_goal, add_lines};
 use crate::sink::{LineList, LineSink};
-use crate::wanted::{first_contradiction, wanted};
-use axioms::{Memory, Ontology};
+use crate::wanted::{first_contradiction, number_of, wanted};
+use axioms::{ExprId, Memory, Ontology};
 use certificate::{Line, LineText};
 use engine::Saturation;
+use facts::{Context, Fact};
+use normal_forms::Class2;
 use std::alloc::Global;
 
 /// Adds a derivation with a line for each named class that is a fact of a named class or of an individual.
@@ -56,8 +63,11 @@ fn add_contradiction<L: LineSink>(
     ensures needed { OnOk result (EachIsNeeded ontology.now derivation.new) }
 {
     ontology.well_formed();
-    let marks = first_contradiction(alloc, ontology, saturation.facts())?;
-    add_lines(alloc, ontology, saturation, marks, derivation)
+    let Some(goal) = first_contradiction(ontology, saturation.facts()) else {
+        // With no such fact there is no contradiction.
+        unreachable!()
+    };
+    add_goal(alloc, ontology, saturation, goal, derivation)
 }
 
 /// A derivation with a line for each named class that is a fact of a named class or of an individual.
@@ -99,6 +109,35 @@ pub fn contradiction(
     let mut derivation = Derivation::new(LineList::new(alloc));
     add_contradiction(alloc, ontology, saturation, &mut derivation)?;
     Ok(derivation.into_sink().into_lines())
+}
+
+/// A derivation with a line that puts the context into the class, where that is a fact, and of what that line rests on.
+///
+/// # Errors
+///
+/// `Memory` where memory was refused, or 32 bits do not count the facts.
+pub fn lines_of(
+    alloc: Global,
+    ontology: &Ontology,
+    saturation: &Saturation,
+    subject: Context,
+    class: ExprId,
+) -> Result<Option<Vec<Line>>, Memory>
+    requires saturated { IsSaturated ontology.now saturation.now }
+    requires subject { IsRoot ontology.now [] (context_of subject) }
+    requires class { IsRoot ontology.now [] (Expression class.0) }
+    ensures derivation { IfOk result (λ found. IfSome found (λ v. IsDerivation ontology.now (lines_of v.items))) }
+    ensures shown { IfOk result (λ found. MatchOption found (IsFact ontology.now [] (In (Whole class.0) (context_of subject)) → ⊥)
+        (λ v. HasLine (lines_of v.items) (Sub (subject_of (context_of subject)) class.0))) }
+    ensures needed { IfOk result (λ found. IfSome found (λ v. EachIsNeeded ontology.now (lines_of v.items))) }
+{
+    let wanted = Fact::In(Class2::Expr(class), subject);
+    let Some(goal) = number_of(saturation.facts(), wanted) else {
+        return Ok(None);
+    };
+    let mut derivation = Derivation::new(LineList::new(alloc));
+    add_goal(alloc, ontology, saturation, goal, &mut derivation)?;
+    Ok(Some(derivation.into_sink().into_lines()))
 }
 
 /// The lines that `lines` gives, as text: no line is held in memory.

@@ -1,7 +1,7 @@
 //! Marks on the facts that the lines of marked facts rest on.
 ghost use Rattle.explain.specs.Marks.{AreClosed, IsMarked, ServesLater};
 ghost use Rattle.explain.specs.Uses.{RestsOn};
-ghost use Rattle.std.specs.Prelude.{◌↔◌, ◌<◌, ◌≡◌, ◌⊎◌, length, ℕ};
+ghost use Rattle.std.specs.Prelude.{◌↔◌, ◌<◌, ◌≤◌, ◌≡◌, ◌⊎◌, length, ℕ};
 
 use crate::older::rests_on;
 use engine::Saturation;
@@ -18,8 +18,8 @@ fn mark(marks: &mut [bool], fact: FactId)
 
 // Marks what the line of the fact rests on.
 fn mark_below(saturation: &Saturation, fact: FactId, marks: &mut [bool])
-    requires long { length marks.old ≡ length saturation.now.state.facts }
     requires there { fact.0 < length saturation.now.state.facts }
+    requires marked { fact.0 < length marks.old }
     ensures long { length marks.new ≡ length marks.old }
     ensures exact { (n : ℕ) → IsMarked marks.new n ↔ (IsMarked marks.old n ⊎ RestsOn saturation.now fact.0 n) }
     ensures older { (n : ℕ) → RestsOn saturation.now fact.0 n → n < fact.0 }
@@ -37,10 +37,10 @@ fn mark_below(saturation: &Saturation, fact: FactId, marks: &mut [bool])
     }
 }
 
-/// Marks what the lines of marked facts rest on, and what the lines of those do.
+/// Marks what the lines of marked facts rest on, and what the lines of those do. Of the last facts there may be no marks.
 pub(crate) fn mark_older(saturation: &Saturation, count: u32, marks: &mut [bool])
-    requires long { length marks.old ≡ length saturation.now.state.facts }
-    requires count { count ≡ length saturation.now.state.facts }
+    requires within { length marks.old ≤ length saturation.now.state.facts }
+    requires count { count ≡ length marks.old }
     ensures long { length marks.new ≡ length marks.old }
     ensures kept { (n : ℕ) → IsMarked marks.old n → IsMarked marks.new n }
     ensures closed { AreClosed saturation.now marks.new }

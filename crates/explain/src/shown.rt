@@ -1,16 +1,19 @@
 //! The lines of marked facts.
+ghost use Rattle.axioms.specs.View.{at_number};
 ghost use Rattle.cert_check.specs.Derivation.{IsDerivation};
 ghost use Rattle.engine.specs.Saturations.{IsSaturated};
-ghost use Rattle.explain.specs.Marks.{IsMarked, IsWantedFact, ShowsMarked};
+ghost use Rattle.explain.specs.Marks.{IsMarked, IsGoal, IsShown, IsWantedFact, ShowsMarked};
 ghost use Rattle.explain.specs.Needs.{EachIsNeeded};
 ghost use Rattle.explain.specs.LineOrder.{AreReady, IsShowing};
 ghost use Rattle.facts.specs.declared.contexts.Fact.{Fact as Fact2};
-ghost use Rattle.std.specs.Prelude.{◌+◌, ◌<◌, ◌≡◌, [], IfOk, OnOk, Some, length, slice_get, ℕ};
+ghost use Rattle.normalise.specs.Problem.{prefixes_of};
+ghost use Rattle.std.specs.Prelude.{◌+◌, ◌<◌, ◌≤◌, ◌≡◌, [], IfOk, OnOk, Some, length, slice_get, ℕ};
 
 use crate::basis::Basis;
 use crate::derivation::Derivation;
 use crate::marking::mark_older;
 use crate::paths::PropertyPaths;
+use crate::resting::on_goal;
 use crate::showing::show;
 use crate::sink::LineSink;
 use axioms::{Memory, Ontology};
@@ -20,11 +23,11 @@ use normalise::property_forms_are_named;
 use number_sets::PackedLists;
 use std::alloc::Global;
 
-// How many facts there are. It is `Memory` where 32 bits do not count them.
-fn fact_count(saturation: &Saturation) -> Result<u32, Memory>
-    ensures { IfOk result (λ n. n ≡ length saturation.now.state.facts) }
+// How many marks there are. It is `Memory` where 32 bits do not count them.
+fn mark_count(marks: &[bool]) -> Result<u32, Memory>
+    ensures { IfOk result (λ n. n ≡ length marks.now) }
 {
-    match u32::try_from(saturation.facts().len()) {
+    match u32::try_from(marks.len()) {
         Ok(count) => Ok(count),
         Err(_) => Err(Memory),
     }
@@ -72,7 +75,7 @@ fn show_next<L: LineSink>(
     Ok(())
 }
 
-// Adds lines that show each marked fact, of that many facts, to no lines.
+// Adds lines that show each marked fact to no lines. There are that many marks.
 fn show_each<L: LineSink>(
     basis: &Basis<'_>,
     marks: &[bool],
@@ -93,7 +96,8 @@ fn show_each<L: LineSink>(
     Ok(())
 }
 
-/// Adds lines that show each marked fact, which is wanted, with those of the facts that they rest on, to no lines.
+/// Adds lines that show each marked fact, which is wanted, with those of the facts that they rest on, to no lines. Of the last
+/// facts there may be no marks.
 ///
 /// # Errors
 ///
@@ -106,14 +110,14 @@ pub(crate) fn add_lines<L: LineSink>(
     derivation: &mut Derivation<L>,
 ) -> Result<(), Memory>
     requires saturated { IsSaturated ontology.now saturation.now }
-    requires long { length marks.items ≡ length saturation.now.state.facts }
+    requires within { length marks.items ≤ length saturation.now.state.facts }
     requires wanted { (n : ℕ) (f : Fact2) → slice_get saturation.now.state.facts n ≡ Some f → IsMarked marks.items n → IsWantedFact ontology.now f }
     requires none { derivation.old ≡ [] }
     ensures derivation { OnOk result (IsDerivation ontology.now derivation.new) }
     ensures shown { OnOk result (ShowsMarked saturation.now marks.items derivation.new) }
     ensures needed { OnOk result (EachIsNeeded ontology.now derivation.new) }
 {
-    let count = fact_count(saturation)?;
+    let count = mark_count(&marks)?;
     mark_older(saturation, count, &mut marks);
     let paths = paths_of(alloc, ontology, saturation)?;
     let basis = Basis {
@@ -123,4 +127,28 @@ pub(crate) fn add_lines<L: LineSink>(
         paths: &paths,
     };
     show_each(&basis, &marks, count, derivation)
+}
+
+/// Adds lines that show the fact of that number, counted from 1, which is wanted, with those of the facts that it rests on, to no
+/// lines.
+///
+/// # Errors
+///
+/// `Memory` where memory was refused, or 32 bits do not count the facts.
+pub(crate) fn add_goal<L: LineSink>(
+    alloc: Global,
+    ontology: &Ontology,
+    saturation: &Saturation,
+    goal: usize,
+    derivation: &mut Derivation<L>,
+) -> Result<(), Memory>
+    requires saturated { IsSaturated ontology.now saturation.now }
+    requires wanted { IsGoal (IsWantedFact ontology.now) saturation.now.state.facts goal }
+    requires none { derivation.old ≡ [] }
+    ensures derivation { OnOk result (IsDerivation ontology.now derivation.new) }
+    ensures shown { OnOk result ((f : Fact2) → at_number saturation.now.state.facts goal ≡ Some f → IsShown (prefixes_of saturation.now.normal) derivation.new f) }
+    ensures needed { OnOk result (EachIsNeeded ontology.now derivation.new) }
+{
+    let marks = on_goal(alloc, goal)?;
+    add_lines(alloc, ontology, saturation, marks, derivation)
 }

@@ -1,5 +1,5 @@
 //! The facts that are wanted.
-ghost use Rattle.explain.specs.Marks.{IsClass, IsContradictoryFact, IsMarked, IsNamed, IsTopContext, IsWantedFact, MarksContradiction};
+ghost use Rattle.explain.specs.Marks.{FindsGoal, IsClass, IsContradictoryFact, IsMarked, IsNamed, IsTopContext, IsWantedFact};
 ghost use Rattle.facts.specs.declared.contexts.Fact.{Fact as Fact2};
 ghost use Rattle.std.specs.Prelude.{◌↔◌, ◌≡◌, IfOk, IsTrue, Some, length, slice_get, ℕ};
 
@@ -79,26 +79,33 @@ pub(crate) fn wanted(
     Ok(marks)
 }
 
-/// Marks the first fact that is a contradiction, if there is one.
-///
-/// # Errors
-///
-/// `Memory` where memory was refused.
-pub(crate) fn first_contradiction(
-    alloc: Global,
-    ontology: &Ontology,
-    facts: &[StoredFact],
-) -> Result<Vec<bool>, Memory>
-    ensures long { IfOk result (λ v. length v.items ≡ length facts.now) }
-    ensures each { IfOk result (λ v. (n : ℕ) (f : Fact2) → slice_get facts.now n ≡ Some f → IsMarked v.items n → IsContradictoryFact ontology.now f) }
-    ensures found { IfOk result (λ v. MarksContradiction ontology.now facts.now v.items) }
+/// The number of the first fact that is a contradiction, counted from 1, if there is one.
+pub(crate) fn first_contradiction(ontology: &Ontology, facts: &[StoredFact]) -> Option<usize>
+    ensures { FindsGoal (IsContradictoryFact ontology.now) facts.now result }
 {
-    let mut marks = Vec::new(alloc);
-    let mut found = false;
-    for fact in facts {
-        let first = !found && is_contradictory(ontology, fact.get());
-        marks.push(first)?;
-        found = found || first;
+    for place in 0..facts.len() {
+        if is_contradictory(ontology, facts[place].get()) {
+            return Some(place + 1);
+        }
     }
-    Ok(marks)
+    None
+}
+
+// Whether the two are one.
+fn is_same(fact: Fact, wanted: Fact) -> bool
+    ensures { IsTrue result ↔ (fact ≡ wanted) }
+{
+    fact == wanted
+}
+
+/// The number of the fact, counted from 1, if it is there.
+pub(crate) fn number_of(facts: &[StoredFact], wanted: Fact) -> Option<usize>
+    ensures { FindsGoal (λ f. f ≡ wanted) facts.now result }
+{
+    for place in 0..facts.len() {
+        if is_same(facts[place].get(), wanted) {
+            return Some(place + 1);
+        }
+    }
+    None
 }

@@ -1,5 +1,5 @@
 use Rattle.std.proofs.Common.{refl}
-use Rattle.countermodel.specs.Elements.{context_of}
+use Rattle.closure.specs.Denotations.{context_of}
 use Rattle.answers.proofs.Deriving.{subject_root, class_root}
 use Rattle.answers.proofs.Knowing.{class_known, known_by}
 use Rattle.answers.proofs.answering.explained.Goals as goal

@@ -1,5 +1,5 @@
 use Rattle.certificate.specs.View.{lines_of}
-use Rattle.countermodel.specs.Elements.{context_of}
+use Rattle.closure.specs.Denotations.{context_of}
 use Rattle.answers.proofs.Explaining.{at_some, at_none, is_satisfiable, yes_explains}
 use Rattle.answers.proofs.Refuting.{refutes}
 use Rattle.answers.proofs.answering.explanation_where_consistent.Goals as goal

@@ -1,5 +1,5 @@
 use Rattle.certificate.specs.View.{listed_of}
-use Rattle.countermodel.specs.Elements.{context_of}
+use Rattle.closure.specs.Denotations.{context_of}
 use Rattle.answers.proofs.Placed.{placed_within, part_made}
 use Rattle.answers.proofs.refuted.part_for.Goals as goal
 

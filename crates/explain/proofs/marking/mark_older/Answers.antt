@@ -7,11 +7,11 @@ pub loop-number-preserved-then-marks-number : goal.loop-number-preserved-then-ma
 loop-number-preserved-then-marks-number c =
     handed_on_more c.args.saturation.now c.args.marks.now c.loop-number.marks c.mark_below.new.marks c.loop-number.number (c.loop-number.number - 1)
     (omega arith) c.loop-number.invariant
-    (slice_get-get_or c.loop-number.marks (c.loop-number.number - 1) false (omega (arith, c.requires.long, c.requires.count, c.loop-number.auto.marks, c.loop-number.auto.number)) ∙ ap Some c.if-marks-number.true)
+    (slice_get-get_or c.loop-number.marks (c.loop-number.number - 1) false (omega (arith, c.requires.count, c.loop-number.auto.marks, c.loop-number.auto.number)) ∙ ap Some c.if-marks-number.true)
     c.mark_below.ensures.long c.mark_below.ensures.exact c.mark_below.ensures.older
 
 pub loop-number-preserved : goal.loop-number-preserved
 loop-number-preserved c =
     handed_on_not c.args.saturation.now c.args.marks.now c.loop-number.marks c.loop-number.number (c.loop-number.number - 1)
     (omega arith) c.loop-number.invariant
-    (slice_get-get_or c.loop-number.marks (c.loop-number.number - 1) false (omega (arith, c.requires.long, c.requires.count, c.loop-number.auto.marks, c.loop-number.auto.number)) ∙ ap Some c.if-marks-number.false)
+    (slice_get-get_or c.loop-number.marks (c.loop-number.number - 1) false (omega (arith, c.requires.count, c.loop-number.auto.marks, c.loop-number.auto.number)) ∙ ap Some c.if-marks-number.false)

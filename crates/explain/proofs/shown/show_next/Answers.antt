@@ -17,7 +17,7 @@ pub show-requires-clause-older : goal.show-requires-clause-older
 show-requires-clause-older g c =
     let marked : IsMarked c.args.marks.now c.args.fact.0 = slice_get-get_or c.args.marks.now c.args.fact.0 false c.requires.there ∙ ap Some c.if-not-marks-number.false in
     older_shown c.args.basis.now.ontology.now c.args.basis.now.saturation.now c.args.marks.now c.args.derivation.now c.args.shown.now c.args.fact.0
-    c.requires.ready.saturated c.requires.ready.closed marked c.requires.next (omega (arith, c.requires.there, c.requires.ready.long)) c.requires.showing
+    c.requires.ready.saturated c.requires.ready.closed marked c.requires.next (omega (arith, c.requires.there, c.requires.ready.within)) c.requires.showing
 
 pub returns-clause-showing : goal.returns-clause-showing
 returns-clause-showing g c =
@@ -27,7 +27,7 @@ returns-clause-showing g c =
     let shown = c.args.shown.now in
     let next = c.requires.next in
     let marked : IsMarked marks c.args.fact.0 = slice_get-get_or marks c.args.fact.0 false c.requires.there ∙ ap Some c.if-not-marks-number.false in
-    let fact = slice_get_there s.state.facts c.args.fact.0 (omega (arith, c.requires.there, c.requires.ready.long)) in
+    let fact = slice_get_there s.state.facts c.args.fact.0 (omega (arith, c.requires.there, c.requires.ready.within)) in
     let numbers = c.in_ok-numbers.numbers.items in
     let more = showing_more o s marks c.args.derivation.now c.show.new.derivation shown numbers fact.0
     (subst (λ k. slice_get s.state.facts k ≡ Some fact.0) next fact.1) (subst (IsMarked marks) next marked) c.requires.ready.called_for
