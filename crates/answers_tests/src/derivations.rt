@@ -1,13 +1,16 @@
 //! The lines of worked closures, as values and as text.
+ghost use Rattle.closure.specs.Closure.{Expression, IsRoot};
 ghost use Rattle.engine.specs.Saturations.{IsSaturated};
+ghost use Rattle.std.specs.Prelude.{[], IfSome};
 
 use crate::asked;
-use axioms::{ExprId, IndId, Ontology};
+use axioms::{ClassId, ExprId, IndId, Kind, Ontology};
 use cert_check::{Conclusion, Line, Rule, Subject, read_certificate};
 use certificate::LineText;
 use classification::is_consistent;
 use engine::Saturation;
-use explain::{contradiction, contradiction_text, line_text, lines};
+use explain::{contradiction, contradiction_text, line_text, lines, lines_of};
+use facts::Context;
 use std::alloc::Global;
 use std::test::Fail;
 
@@ -78,20 +81,48 @@ fn has_text(alloc: Global, ontology: &Ontology, saturation: &Saturation) -> bool
     }
 }
 
-/// Whether it is the line that puts the individual into the class by the rule, from the axiom and the premises.
-fn is_step(line: &Line, class: u32, rule: Rule, axiom: usize, premises: &[u64]) -> bool {
-    line.conclusion == Conclusion::Sub(Subject::Individual(IndId(0)), ExprId(class))
-        && line.rule == rule
-        && line.axiom == Some(axiom)
-        && line.premises.as_slice() == premises
+/// A line that puts a subject into a class.
+#[derive(Clone, Copy)]
+struct Step {
+    class: u32,
+    rule: Rule,
+    axiom: Option<usize>,
+    premises: &'static [u64],
 }
 
-/// Whether a is in A by its assertion, and so in `owl:Nothing` by the other axiom.
-fn are_two_steps(lines: &[Line]) -> bool {
-    lines.len() == 2
-        && is_step(&lines[0], 2, Rule::K15, 2, &[])
-        && is_step(&lines[1], 1, Rule::K4, 1, &[1])
+/// Whether the line is the step of the subject.
+fn is_step(line: &Line, subject: Subject, step: &Step) -> bool {
+    line.conclusion == Conclusion::Sub(subject, ExprId(step.class))
+        && line.rule == step.rule
+        && line.axiom == step.axiom
+        && line.premises.as_slice() == step.premises
 }
+
+/// Whether the lines are these steps of the subject, in this order.
+fn are_steps(lines: &[Line], subject: Subject, steps: &[Step]) -> bool {
+    for (line, step) in lines.iter().zip(steps) {
+        if !is_step(line, subject, step) {
+            return false;
+        }
+    }
+    lines.len() == steps.len()
+}
+
+/// a is in A by its assertion, and so in `owl:Nothing` by the other axiom.
+const TO_NOTHING: &[Step] = &[
+    Step {
+        class: 2,
+        rule: Rule::K15,
+        axiom: Some(2),
+        premises: &[],
+    },
+    Step {
+        class: 1,
+        rule: Rule::K4,
+        axiom: Some(1),
+        premises: &[1],
+    },
+];
 
 /// Whether these lines are the contradiction.
 fn has_contradiction(alloc: Global, ontology: &Ontology, saturation: &Saturation) -> bool
@@ -101,7 +132,7 @@ fn has_contradiction(alloc: Global, ontology: &Ontology, saturation: &Saturation
         return false;
     }
     match contradiction(alloc, ontology, saturation) {
-        Ok(lines) => are_two_steps(&lines),
+        Ok(lines) => are_steps(&lines, Subject::Individual(IndId(0)), TO_NOTHING),
         Err(_) => false,
     }
 }
@@ -130,6 +161,68 @@ fn has_contradiction_text(alloc: Global, ontology: &Ontology, saturation: &Satur
     }
 }
 
+/// A lies below D, and below C by way of B. These are the expressions 2, 3, 5 and 4.
+const BRANCHES: &str =
+    "Prefix(:=<x:>) Ontology(SubClassOf(:A :D) SubClassOf(:A :B) SubClassOf(:B :C))";
+
+/// Why A lies below C: each class lies below itself, and the second axiom and the third lead from A to C.
+const A_BELOW_C: &[Step] = &[
+    Step {
+        class: 2,
+        rule: Rule::K1,
+        axiom: None,
+        premises: &[],
+    },
+    Step {
+        class: 4,
+        rule: Rule::K4,
+        axiom: Some(2),
+        premises: &[1],
+    },
+    Step {
+        class: 5,
+        rule: Rule::K4,
+        axiom: Some(3),
+        premises: &[2],
+    },
+];
+
+/// The class of that name, as an expression.
+fn class_named(ontology: &Ontology, name: &str) -> Option<ExprId>
+    ensures { IfSome result (λ e. IsRoot ontology.now [] (Expression e.0)) }
+{
+    let number = ontology.number_of(Kind::Class, name)?;
+    ontology.class_expr(ClassId(number))
+}
+
+/// Whether A lies below C by these lines and no others.
+fn has_lines_of(alloc: Global, ontology: &Ontology, saturation: &Saturation) -> bool
+    requires { IsSaturated ontology.now saturation.now }
+{
+    let (Some(below), Some(above)) = (class_named(ontology, "x:A"), class_named(ontology, "x:C"))
+    else {
+        return false;
+    };
+    match lines_of(alloc, ontology, saturation, Context::Expr(below), above) {
+        Ok(Some(lines)) => are_steps(&lines, Subject::Expr(ExprId(2)), A_BELOW_C),
+        _ => false,
+    }
+}
+
+/// Whether that C lies below A is found to be no fact.
+fn has_no_lines(alloc: Global, ontology: &Ontology, saturation: &Saturation) -> bool
+    requires { IsSaturated ontology.now saturation.now }
+{
+    let (Some(below), Some(above)) = (class_named(ontology, "x:C"), class_named(ontology, "x:A"))
+    else {
+        return false;
+    };
+    matches!(
+        lines_of(alloc, ontology, saturation, Context::Expr(below), above),
+        Ok(None)
+    )
+}
+
 /// What is asked of a saturation: whether it is what was worked out for its document.
 #[derive(Clone, Copy)]
 pub(crate) enum Asked {
@@ -137,6 +230,8 @@ pub(crate) enum Asked {
     Text,
     Contradiction,
     ContradictionText,
+    LinesOfFact,
+    LinesOfNoFact,
 }
 
 /// The answer.
@@ -153,6 +248,8 @@ pub(crate) fn answer(
         Asked::Text => has_text(alloc, ontology, saturation),
         Asked::Contradiction => has_contradiction(alloc, ontology, saturation),
         Asked::ContradictionText => has_contradiction_text(alloc, ontology, saturation),
+        Asked::LinesOfFact => has_lines_of(alloc, ontology, saturation),
+        Asked::LinesOfNoFact => has_no_lines(alloc, ontology, saturation),
     }
 }
 
@@ -168,6 +265,8 @@ const ROWS: &[(&str, asked::Asked)] = &[
         INDIVIDUAL_OF_NOTHING,
         asked::Asked::Derivation(Asked::ContradictionText),
     ),
+    (BRANCHES, asked::Asked::Derivation(Asked::LinesOfFact)),
+    (BRANCHES, asked::Asked::Derivation(Asked::LinesOfNoFact)),
 ];
 
 #[test]

@@ -163,14 +163,14 @@ fn what_follows(rt: HostRuntime) -> Result<(), Fail> {
 
 /// What the sinks took of the texts of a session, and what it said.
 #[derive(Drop)]
-struct Taken {
-    taxonomy: Vec<u8>,
-    instances: Vec<u8>,
+pub(crate) struct Taken {
+    pub(crate) taxonomy: Vec<u8>,
+    pub(crate) instances: Vec<u8>,
     certificate: Vec<u8>,
-    summary: Result<Summary, TextFault>,
+    pub(crate) summary: Result<Summary, TextFault>,
 }
 
-fn written(alloc: Global, session: &Session) -> Taken {
+pub(crate) fn written(alloc: Global, session: &Session) -> Taken {
     let mut taxonomy = BufferSink::new(alloc);
     let mut instances = BufferSink::new(alloc);
     let mut certificate = BufferSink::new(alloc);

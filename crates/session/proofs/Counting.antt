@@ -1,21 +1,10 @@
--- What a session that has run to its end shows of the closure.
+-- What a run to the end shows of the closure.
 use Rattle.std.proofs.Common.{◌≤◌, ℕ, length}
 use Rattle.axioms.specs.Ontology.{Ontology}
 use Rattle.classification.proofs.Counting.{has_facts}
-use Rattle.engine.specs.Saturations.{Saturated, IsSaturated, IsSound}
+use Rattle.engine.specs.Saturations.{Saturated, IsSaturated}
 use Rattle.session.specs.FactCounts.{HasNoMoreFactsThan}
 
 -- all facts of the closure are at most n, so it has at most n
 pub no_more : (o : Ontology) (s : Saturated) (n : ℕ) → IsSaturated o s → length s.state.facts ≤ n → HasNoMoreFactsThan o n
 no_more o s n saturated within = record { count = length s.state.facts; facts = has_facts o s saturated; within = within }
-
--- all facts of the closure are facts of the closure
-pub sound : (o : Ontology) (s : Saturated) → IsSaturated o s → IsSound o s
-sound o s saturated = record {
-  normal = saturated.normal;
-  asked = saturated.asked;
-  forms = saturated.forms;
-  problem = saturated.problem;
-  facts = saturated.facts.each;
-  born = saturated.born;
-}

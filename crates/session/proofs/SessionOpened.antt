@@ -1,16 +1,16 @@
 -- What is said of a session that was opened.
 use Rattle.std.proofs.Common.{◌≡◌, ℕ, List, Option, Some, None, Result, Ok, Err, IfOk, IfErr, OnOk, sym, subst}
 use Rattle.std.specs.Prelude.{IsErrOf}
-use Rattle.axioms.specs.Ontology.{Ontology}
 use Rattle.profile.specs.Faults.{RefusesKnown}
 use Rattle.profile.specs.declared.fault.DocumentFault.{DocumentFault}
 use Rattle.profile.specs.declared.fault.DocumentFault.TheVariants.{Io, Memory, TooLarge}
-use Rattle.session.specs.Sessions.{Opened}
+use Rattle.profile.specs.declared.opened.Opened as reading
+use Rattle.session.specs.Sessions.{Opened, as_read}
 
--- what holds of the ontology holds of that of its session
-pub of_ontology : {E : Type 0} (P : Ontology → Type 0) (o : Ontology) (r : Result Opened E) → P o → IfOk r (λ s. s.ontology ≡ o) → IfOk r (λ s. P s.ontology)
-of_ontology P o (Ok s) holds same = subst P (sym same) holds
-of_ontology P o (Err e) holds same = tt
+-- what holds of all that was read holds of its session
+pub of_read : {E : Type 0} (P : reading.Opened → Type 0) (d : reading.Opened) (r : Result Opened E) → P d → IfOk r (λ s. as_read s ≡ d) → IfOk r (λ s. P (as_read s))
+of_read P d (Ok s) holds same = subst P (sym same) holds
+of_read P d (Err e) holds same = tt
 
 -- a session that is not made for want of memory refuses nothing of the document
 pub for_memory : (left : Option (List ℕ)) (most : ℕ) (r : Result Opened DocumentFault) → IfErr r (λ e. e ≡ Memory) → IfErr r (RefusesKnown left most)

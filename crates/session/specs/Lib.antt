@@ -1,9 +1,11 @@
 pub mod Devices
 pub mod WrittenTexts
 pub mod Sessions
+pub mod Additions
 pub mod Answers
 pub mod FactCounts
 pub mod Texts
 pub mod TextAnswers
 pub mod Run
 pub mod Classifications
+pub mod Edits

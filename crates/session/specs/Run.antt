@@ -7,17 +7,17 @@ use Rattle.program.specs.declared.limits.Limits.{Limits}
 use Rattle.session.specs.TextAnswers.{IsBeyondLimit, IsReadAs}
 use Rattle.session.specs.Devices.{IsReadUntil}
 use Rattle.source_lines.specs.Sources.{SourceState, IsReadToItsEnd}
-use Rattle.session.specs.Sessions.{Opened}
+use Rattle.session.specs.declared.opening.Finished.{Finished}
 use Rattle.session.specs.declared.question_fault.QuestionFault.{QuestionFault}
 use Rattle.session.specs.declared.question_fault.QuestionFault.TheVariants as asking
 use Rattle.session.specs.declared.run_fault.RunFault.{RunFault}
 use Rattle.session.specs.declared.run_fault.RunFault.TheVariants.{Document, Limit, Memory}
 
 -- the document reads as the ontology, within the limit of bytes; the facts are those of its closure, within that of facts
-pub record IsRun (limits : Limits) (document : Option (List ℕ)) (s : Opened) : Type 0 where
-  pub read : IsReadAs limits.max_bytes document s.ontology
-  pub saturated : IsSaturated s.ontology s.saturation
-  pub within : length s.saturation.state.facts ≤ limits.max_facts
+pub record IsRun (limits : Limits) (document : Option (List ℕ)) (run : Finished) : Type 0 where
+  pub read : IsReadAs limits.max_bytes document run.ontology
+  pub saturated : IsSaturated run.ontology run.saturation
+  pub within : length run.saturation.state.facts ≤ limits.max_facts
 
 -- what a fault says of the document: it is refused, or it is read and this came behind that
 abbrev pub IsRunFault : Limits → (document : Option (List ℕ)) → RunFault → Type 0

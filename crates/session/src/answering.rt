@@ -11,10 +11,9 @@ ghost use Rattle.std.specs.Prelude.{[], ◌∷◌, ◌+◌, ◌<◌, IfErr, IfOk
 use crate::explaining::first_unknown;
 use crate::form::Form;
 use crate::listed::lines_of_names;
-use crate::opening::run_document;
+use crate::opening::{Finished, run_document};
 use crate::question_fault::QuestionFault;
 use crate::run_fault::question_fault;
-use crate::session::Session;
 use crate::shown::shown;
 use answers::{Asked, explained, instances};
 use device::Source;
@@ -22,41 +21,46 @@ use program::Limits;
 use std::alloc::Global;
 use std::hash::RandomState;
 
-/// The individuals of the class, a line each, of a session that is run to its end.
-fn members<'n>(session: &Session, class: &'n str) -> Result<Vec<u8>, QuestionFault<'n>>
-    requires { IsSaturated session.now.ontology session.now.saturation }
-    ensures answered { IfOk result (λ v. ListsInstances session.now.ontology class.now v.items) }
-    ensures fault { IfErr result (IsUnanswered session.now.ontology (class_name class.now ∷ [])) }
+/// The individuals of the class, a line each.
+fn members<'n>(
+    alloc: Global,
+    finished: &Finished,
+    class: &'n str,
+) -> Result<Vec<u8>, QuestionFault<'n>>
+    requires { IsSaturated finished.now.ontology finished.now.saturation }
+    ensures answered { IfOk result (λ v. ListsInstances finished.now.ontology class.now v.items) }
+    ensures fault { IfErr result (IsUnanswered finished.now.ontology (class_name class.now ∷ [])) }
 {
-    let names = match instances(session.alloc, &session.ontology, &session.saturation, class) {
+    let names = match instances(alloc, &finished.ontology, &finished.saturation, class) {
         Ok(Some(names)) => names,
         Ok(None) => return Err(QuestionFault::UnknownName(class)),
         Err(_) => return Err(QuestionFault::Memory),
     };
-    match lines_of_names(session.alloc, &names) {
+    match lines_of_names(alloc, &names) {
         Ok(text) => Ok(text),
         Err(_) => Err(QuestionFault::Memory),
     }
 }
 
-/// Why the subject is in the class, or why not, of a session that is run to its end.
+/// Why the subject is in the class, or why not.
 fn why<'n>(
-    session: &Session,
+    alloc: Global,
+    finished: &Finished,
     asked: Asked<'n>,
     class: &'n str,
     form: Form,
 ) -> Result<Vec<u8>, QuestionFault<'n>>
-    requires { IsSaturated session.now.ontology session.now.saturation }
-    ensures answered { IfOk result (λ v. ShowsExplanation session.now.ontology asked.entry class.now form v.items) }
-    ensures fault { IfErr result (IsUnanswered session.now.ontology (subject_name asked.entry ∷ class_name class.now ∷ [])) }
+    requires { IsSaturated finished.now.ontology finished.now.saturation }
+    ensures answered { IfOk result (λ v. ShowsExplanation finished.now.ontology asked.entry class.now form v.items) }
+    ensures fault { IfErr result (IsUnanswered finished.now.ontology (subject_name asked.entry ∷ class_name class.now ∷ [])) }
 {
-    let ontology = &session.ontology;
-    let explanation = match explained(session.alloc, ontology, &session.saturation, asked, class) {
+    let ontology = &finished.ontology;
+    let explanation = match explained(alloc, ontology, &finished.saturation, asked, class) {
         Ok(Some(explanation)) => explanation,
         Ok(None) => return Err(QuestionFault::UnknownName(first_unknown(ontology, asked, class))),
         Err(_) => return Err(QuestionFault::Memory),
     };
-    match shown(session.alloc, ontology, &explanation, form) {
+    match shown(alloc, ontology, &explanation, form) {
         Ok(text) => Ok(text),
         Err(_) => Err(QuestionFault::Memory),
     }
@@ -84,9 +88,9 @@ pub fn instances_text<'n, S: Source>(
     ensures read { IsRead result (source_state S.Source source.old) (source_state S.Source source.new) }
 {
     match run_document(alloc, source, limits, state) {
-        Ok(session) => {
-            let answered = members(&session, class);
-            drop(session);
+        Ok(finished) => {
+            let answered = members(alloc, &finished, class);
+            drop(finished);
             answered
         }
         Err(fault) => Err(question_fault(fault)),
@@ -119,9 +123,9 @@ pub fn explanation_text<'n, S: Source>(
     ensures read { IsRead result (source_state S.Source source.old) (source_state S.Source source.new) }
 {
     match run_document(alloc, source, limits, state) {
-        Ok(session) => {
-            let answered = why(&session, asked, class, form);
-            drop(session);
+        Ok(finished) => {
+            let answered = why(alloc, &finished, asked, class, form);
+            drop(finished);
             answered
         }
         Err(fault) => Err(question_fault(fault)),

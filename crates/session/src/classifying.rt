@@ -35,12 +35,12 @@ pub fn classification_of<S: Source>(
     ensures beyond { IsErrOf result (run_faults.Document reading.TooLarge) → S.most source.new + limits.now.max_bytes < S.most source.old }
     ensures read { IsRunRead result (source_state S.Source source.old) (source_state S.Source source.new) }
 {
-    let session = match run_document(alloc, source, limits, state) {
-        Ok(session) => session,
+    let finished = match run_document(alloc, source, limits, state) {
+        Ok(finished) => finished,
         Err(fault) => return Err(fault),
     };
-    let made = classified(alloc, session.ontology(), &session.saturation);
-    drop(session);
+    let made = classified(alloc, &finished.ontology, &finished.saturation);
+    drop(finished);
     match made {
         Ok(made) => Ok(made),
         Err(_) => Err(RunFault::Memory),

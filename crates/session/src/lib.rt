@@ -2,9 +2,11 @@
 //! answered by a text in memory.
 #![tactic(auto)]
 
+mod adding;
 mod answering;
 mod classes;
 mod classifying;
+mod edits;
 mod explaining;
 mod fault;
 mod form;
@@ -23,6 +25,7 @@ pub use answers::{Asked, Explanation};
 pub use certificate::Line;
 pub use classification::Summary;
 pub use classifying::classification_of;
+pub use edits::any_edits;
 pub use engine::Stop;
 pub use fault::{AskFault, TextFault};
 pub use form::Form;

@@ -8,30 +8,34 @@ ghost use Rattle.session.specs.declared.run_fault.RunFault.TheVariants as run_fa
 ghost use Rattle.std.specs.Prelude.{◌≡◌, ◌+◌, ◌<◌, ◌≤◌, Err, IfErr, IfOk, IsErrOf, length};
 
 use crate::run_fault::RunFault;
-use crate::session::Session;
 use axioms::Ontology;
 use device::Source;
-use engine::{Stop, saturated};
+use engine::{Saturation, Stop, saturated};
 use profile::{Limits, read_document};
 use std::alloc::Global;
 use std::hash::RandomState;
 
-/// A session over the ontology that is run to its end, without what only the run needed.
-#[tactic(auto, using(crate::proofs::Counting::sound))]
+/// A document that was read and run to its end, without what only the run needed.
+#[derive(Drop)]
+pub(crate) struct Finished {
+    pub(crate) ontology: Ontology,
+    pub(crate) saturation: Saturation,
+}
+
+/// What follows from the ontology, run to its end.
 fn run_to_end(
     alloc: Global,
     ontology: Ontology,
     max_facts: u32,
     state: RandomState,
-) -> Result<Session, Stop>
-    ensures ontology { IfOk result (λ s. s.ontology ≡ ontology) }
-    ensures saturated { IfOk result (λ s. IsSaturated s.ontology s.saturation) }
-    ensures within { IfOk result (λ s. length s.saturation.state.facts ≤ max_facts) }
+) -> Result<Finished, Stop>
+    ensures ontology { IfOk result (λ f. f.ontology ≡ ontology) }
+    ensures saturated { IfOk result (λ f. IsSaturated f.ontology f.saturation) }
+    ensures within { IfOk result (λ f. length f.saturation.state.facts ≤ max_facts) }
     ensures limit { result ≡ Err stops.Limit → HasMoreFactsThan ontology max_facts }
 {
     match saturated(alloc, state, &ontology, max_facts) {
-        Ok(saturation) => Ok(Session {
-            alloc,
+        Ok(saturation) => Ok(Finished {
             ontology,
             saturation,
         }),
@@ -42,13 +46,13 @@ fn run_to_end(
     }
 }
 
-/// A session over the document that the source gives, run to its end within the limits, without what only the run needed.
+/// The document that the source gives, run to its end within the limits.
 pub(crate) fn run_document<S: Source>(
     alloc: Global,
     source: &mut S,
     limits: &Limits,
     state: RandomState,
-) -> Result<Session, RunFault>
+) -> Result<Finished, RunFault>
     ensures run { IfOk result (IsRun limits.now (S.left source.old)) }
     ensures fault { IfErr result (IsRunFault limits.now (S.left source.old)) }
     // Of a source that does not tell its bytes, too: it gave more than the limit.
@@ -60,7 +64,7 @@ pub(crate) fn run_document<S: Source>(
         Err(fault) => return Err(RunFault::Document(fault)),
     };
     match run_to_end(alloc, ontology, limits.max_facts, state) {
-        Ok(session) => Ok(session),
+        Ok(finished) => Ok(finished),
         Err(Stop::Limit) => Err(RunFault::Limit),
         Err(Stop::Memory) => Err(RunFault::Memory),
     }

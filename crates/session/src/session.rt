@@ -1,59 +1,85 @@
 //! A document that is opened, and run as far as is wanted.
 ghost use Rattle.device.specs.Device.{HasFailed, LosesFront};
 ghost use Rattle.profile.specs.Documents.{IsTaken};
-ghost use Rattle.profile.specs.Faults.{ReadsKnown, RefusesKnown};
+ghost use Rattle.profile.specs.Faults.{OpensKnown, ReadsKnown, RefusesKnown};
 ghost use Rattle.engine.specs.Saturations.{HasResumed, IsFinished, IsSaturated, IsSound, Saturates};
+ghost use Rattle.session.specs.Sessions.{IsSession, KeepsText, as_read};
 ghost use Rattle.std.specs.Io.KnownBytes.{IsAtEnd};
 ghost use Rattle.std.specs.Prelude.{◌≡◌, ◌+◌, ◌<◌, ◌≤◌, [], IfErr, IfOk, IsErrOf, OnOk, length};
 
 use axioms::Ontology;
 use device::Source;
 use engine::{Saturation, Stop};
-use profile::{DocumentFault, Limits, read_document};
+use fs_parser::Prefixes;
+use profile::{DocumentFault, Limits, Opened, read_opened};
 use std::alloc::Global;
 use std::hash::RandomState;
 use std::marker::Model;
 
-/// A document that was read, and what is known so far of what follows from it.
+/// A document that was read, what was added to it, and what is known so far of what follows.
 #[derive(Drop)]
 pub struct Session {
     pub(crate) alloc: Global,
+    pub(crate) state: RandomState,
     pub(crate) ontology: Ontology,
+    pub(crate) prefixes: Prefixes,
     pub(crate) saturation: Saturation,
+    // Of the document and of all that was added.
+    pub(crate) bytes: usize,
+    pub(crate) most_bytes: u64,
 }
 
 impl Model for Session {
-    ghost use Rattle.engine.specs.Saturations.{IsSound};
-    ghost use Rattle.session.specs.Sessions.{Opened};
+    ghost use Rattle.session.specs.Sessions as model;
+    ghost use Rattle.session.specs.Sessions.{IsOpen};
 
-    ghost Value = { Opened };
+    ghost Value = { model.Opened };
 
-    ghost view = { λ s. record { ontology = s.ontology; saturation = s.saturation } };
+    ghost view = { λ s. record { ontology = s.ontology; prefixes = s.prefixes; saturation = s.saturation; bytes = s.bytes; most_bytes = s.most_bytes } };
 
-    ghost invariant = { λ s. IsSound s.ontology s.saturation };
+    ghost invariant = { λ s. IsOpen (record { ontology = s.ontology; prefixes = s.prefixes; saturation = s.saturation; bytes = s.bytes; most_bytes = s.most_bytes }) };
 }
 
-/// A session over the ontology, with nothing run.
-fn begun(alloc: Global, ontology: Ontology, state: RandomState) -> Result<Session, DocumentFault>
-    ensures ontology { IfOk result (λ s. s.ontology ≡ ontology) }
+/// A session over what was read, with nothing run.
+fn begun(
+    alloc: Global,
+    opened: Opened,
+    most_bytes: u64,
+    state: RandomState,
+) -> Result<Session, DocumentFault>
+    requires taken { IsTaken opened.ontology }
+    requires within { opened.bytes ≤ most_bytes }
+    ensures read { IfOk result (λ s. as_read s ≡ opened) }
+    ensures limit { IfOk result (λ s. s.most_bytes ≡ most_bytes) }
     ensures unserved { IfOk result (λ s. s.saturation.state.served ≡ []) }
     ensures memory { IfErr result (λ e. e ≡ DocumentFault.Memory) }
 {
+    let Opened {
+        ontology,
+        prefixes,
+        bytes,
+    } = opened;
     match Saturation::start(alloc, state, &ontology) {
         Ok(saturation) => Ok(Session {
             alloc,
+            state,
             ontology,
+            prefixes,
             saturation,
+            bytes,
+            most_bytes,
         }),
         Err(_) => {
             drop(ontology);
+            drop(prefixes);
             Err(DocumentFault::Memory)
         }
     }
 }
 
 impl Session {
-    /// A session over the document that the source gives, within the limit of bytes. Nothing is run.
+    /// A session over the document that the source gives, within the limit of bytes, which is one for all that is added, too. Nothing
+    /// is run.
     ///
     /// What was read of the source by then is lost where the answer is a fault.
     ///
@@ -71,6 +97,10 @@ impl Session {
         ensures taken { IfOk result (λ s. IsTaken s.ontology) }
         ensures axioms { IfOk result (λ s. length s.ontology.axioms ≤ limits.now.max_bytes) }
         ensures unserved { IfOk result (λ s. s.saturation.state.served ≡ []) }
+        // So it has the prefixes of the document, and as many bytes; and the limit is that of the call.
+        ensures opened { IfOk result (λ s. OpensKnown (S.left source.old) limits.now.max_bytes (as_read s)) }
+        ensures bytes { IfOk result (λ s. S.most source.new + s.bytes ≡ S.most source.old) }
+        ensures limit { IfOk result (λ s. s.most_bytes ≡ limits.now.max_bytes) }
         ensures refused { IfErr result (RefusesKnown (S.left source.old) limits.now.max_bytes) }
         // Of a source that does not tell its bytes, too: it gave more than the limit.
         ensures beyond { IsErrOf result DocumentFault.TooLarge → S.most source.new + limits.now.max_bytes < S.most source.old }
@@ -80,8 +110,8 @@ impl Session {
         ensures unfailed { ¬ IsErrOf result DocumentFault.Io → S.failures source.new ≡ S.failures source.old }
         ensures failed { IsErrOf result DocumentFault.Io → HasFailed (S.failures source.old) (S.failures source.new) }
     {
-        match read_document(alloc, source, limits, state) {
-            Ok(ontology) => begun(alloc, ontology, state),
+        match read_opened(alloc, source, limits, state) {
+            Ok(opened) => begun(alloc, opened, limits.max_bytes, state),
             Err(fault) => Err(fault),
         }
     }
@@ -94,14 +124,18 @@ impl Session {
     /// is as far as it came, and it may be called again.
     pub fn resume(&mut self, max_facts: u32) -> Result<(), Stop>
         ensures ontology { self.new.ontology ≡ self.old.ontology }
+        ensures others { KeepsText self.old self.new }
+        // Served facts stay served, after a fault too.
         ensures resumed { HasResumed max_facts self.old.saturation self.new.saturation result }
         ensures saturates { Saturates self.new.ontology max_facts self.new.saturation result }
     {
         self.saturation.resume(max_facts)
     }
 
-    /// Its facts are facts of the closure of its ontology, each once; and where nothing is pending, they are the closure.
+    /// Its facts are facts of the closure of its ontology, each once; and where nothing is pending, they are the closure. It may be
+    /// added to, and it has no more bytes than the limit.
     pub fn well_formed(&self)
+        ensures session { IsSession self.now }
         ensures sound { IsSound self.now.ontology self.now.saturation }
         ensures saturated { IsFinished self.now.saturation → IsSaturated self.now.ontology self.now.saturation }
     {
@@ -122,10 +156,17 @@ impl Session {
         self.saturation.served()
     }
 
-    /// The ontology of the document.
+    /// The ontology of the document and of what was added.
     pub fn ontology(&self) -> &Ontology
         ensures { result.now ≡ self.now.ontology }
     {
         &self.ontology
+    }
+
+    /// How many bytes the document and what was added have.
+    pub fn bytes(&self) -> usize
+        ensures { result ≡ self.now.bytes }
+    {
+        self.bytes
     }
 }

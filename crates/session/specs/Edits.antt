@@ -1,0 +1,134 @@
+-- Calls of a session one after the other, with their answers, and what is then there: what one document states.
+use Rattle.std.specs.Prelude.{◌≡◌, ◌+◌, ℕ, List, [], ◌∷◌, ◌++◌, Result, Ok, Err, Some, length}
+use Rattle.axioms.specs.Expression.{Iri}
+use Rattle.axioms.specs.Numbering.{Statement, IsOntologyOf}
+use Rattle.axioms.specs.WellFormedness.{IsOntology}
+use Rattle.answers.specs.Explanations.{Explains}
+use Rattle.answers.specs.declared.asked.Asked.{Asked}
+use Rattle.answers.specs.declared.explanation.Explanation.{Explanation}
+use Rattle.classification.specs.declared.classification.Summary.{Summary}
+use Rattle.engine.specs.Saturations.{HasResumed, IsFinished, IsSaturated, Saturates}
+use Rattle.fs_parser.specs.Document.{Document, prefixes_of}
+use Rattle.fs_parser.specs.Name.{Prefixes}
+use Rattle.fs_parser.specs.Tree.{Trees}
+use Rattle.inference.specs.declared.known_facts.Stop.{Stop}
+use Rattle.profile.specs.AddedTexts.{AreStatementsOf}
+use Rattle.profile.specs.Documents.{AreTextOf, OpensAs, ReadsAs}
+use Rattle.profile.specs.Statements.{statements}
+use Rattle.profile.specs.declared.fault.DocumentFault.{DocumentFault}
+use Rattle.shapes.specs.declared.version.Version.TheVariants.{One}
+use Rattle.session.specs.Additions.{IsAddition, IsRefusedAddition}
+use Rattle.session.specs.Answers.{AreInstances, AreSubclasses, AreSuperclasses, HasClass, HasNames, IsClassRefusal, IsExplainRefusal, IsMade, IsWritten}
+use Rattle.session.specs.Classifications.{IsClassified}
+use Rattle.session.specs.Sessions.{IsOpen, IsSession, KeepsText, Opened, as_read}
+use Rattle.session.specs.WrittenTexts.{Sinks, Texts}
+use Rattle.session.specs.declared.fault.AskFault.{AskFault}
+use Rattle.session.specs.declared.fault.TextFault.{TextFault}
+
+-- ---- calls
+
+-- what is asked of a session: to add, to run on, to answer, or to write to sinks that have taken so much
+pub data Call : Type 0 where
+  Add : (text : List ℕ) → Call
+  Resume : (max_facts : ℕ) → Call
+  Superclasses : (class : Iri) → Call
+  Subclasses : (class : Iri) → Call
+  Instances : (class : Iri) → Call
+  Explain : (asked : Asked) (class : Iri) → Call
+  Write : (before : Sinks) → Call
+
+-- what is answered: of writing also what the sinks have taken then
+pub data Reply : Type 0 where
+  Added : Result (Unit {0}) DocumentFault → Reply
+  Resumed : Result (Unit {0}) Stop → Reply
+  Named : Result (List Iri) AskFault → Reply
+  Explained : Result Explanation AskFault → Reply
+  Written : (after : Sinks) → Result Summary TextFault → Reply
+
+-- what the contract of the call says of the session before and after it, and of the answer; others are not given
+abbrev pub IsCall : (old : Opened) → Call → Reply → (new : Opened) → Type 0
+IsCall old (Add text) (Added (Ok _)) new = IsAddition old text new
+IsCall old (Add text) (Added (Err fault)) new = IsRefusedAddition old text fault × (new ≡ old)
+IsCall old (Resume most) (Resumed answer) new =
+    (new.ontology ≡ old.ontology) × KeepsText old new × HasResumed most old.saturation new.saturation answer × Saturates new.ontology most new.saturation answer
+IsCall old (Superclasses class) (Named (Ok names)) new = HasClass old class × AreSuperclasses old.ontology class names × (new ≡ old)
+IsCall old (Superclasses class) (Named (Err fault)) new = IsClassRefusal old class fault × (new ≡ old)
+IsCall old (Subclasses class) (Named (Ok names)) new = HasClass old class × AreSubclasses old.ontology class names × (new ≡ old)
+IsCall old (Subclasses class) (Named (Err fault)) new = IsClassRefusal old class fault × (new ≡ old)
+IsCall old (Instances class) (Named (Ok names)) new = HasClass old class × AreInstances old.ontology class names × (new ≡ old)
+IsCall old (Instances class) (Named (Err fault)) new = IsClassRefusal old class fault × (new ≡ old)
+IsCall old (Explain asked class) (Explained (Ok explanation)) new = HasNames old asked class × Explains old.ontology asked class explanation × (new ≡ old)
+IsCall old (Explain asked class) (Explained (Err fault)) new = IsExplainRefusal old asked class fault × (new ≡ old)
+IsCall old (Write before) (Written after answer) new = IsWritten old before after answer × (new ≡ old)
+IsCall old call reply new = ⊥
+
+-- a session over the document of these bytes
+pub record IsSessionOver (bytes : List ℕ) (s : Opened) : Type 0 where
+  pub read : OpensAs bytes (as_read s)
+  pub session : IsSession s
+
+-- calls one after the other, with their answers
+abbrev pub AreCalls : (old : Opened) → List Call → List Reply → (new : Opened) → Type 0
+AreCalls old [] [] new = new ≡ old
+AreCalls old (call ∷ calls) (reply ∷ replies) new = (mid : Opened) × IsCall old call reply mid × IsSession mid × AreCalls mid calls replies new
+AreCalls old calls replies new = ⊥
+
+-- ---- what was accepted
+
+-- the text that the call has added, if it has added one
+abbrev pub added : Call → Reply → List (List ℕ)
+added (Add text) (Added (Ok _)) = text ∷ []
+added call reply = []
+
+-- those of all calls, in their order
+abbrev pub accepted : List Call → List Reply → List (List ℕ)
+accepted (call ∷ calls) (reply ∷ replies) = added call reply ++ accepted calls replies
+accepted calls replies = []
+
+-- the texts state these, one behind the other, with the prefixes
+abbrev pub AreStatedBy : Prefixes → List (List ℕ) → List Statement → Type 0
+AreStatedBy prefixes [] stated = stated ≡ []
+AreStatedBy prefixes (text ∷ texts) stated =
+    (trees : Trees) × (later : List Statement) × AreStatementsOf prefixes text trees × AreStatedBy prefixes texts later × (stated ≡ statements One trees ++ later)
+
+abbrev pub bytes_of : List (List ℕ) → ℕ
+bytes_of [] = 0
+bytes_of (text ∷ texts) = length text + bytes_of texts
+
+-- the session's ontology is that of the statements of the document and of these texts, with the prefixes of the document; and it has
+-- as many bytes as these
+pub record IsOneDocument (bytes : List ℕ) (texts : List (List ℕ)) (s : Opened) : Type 0 where
+  pub document : Document
+  pub text : AreTextOf bytes document
+  pub prefixes : s.prefixes ≡ prefixes_of document
+  pub stated : List Statement
+  pub are : AreStatedBy s.prefixes texts stated
+  pub ontology : IsOntologyOf (statements One document.trees ++ stated) s.ontology
+  pub well_formed : IsOntology s.ontology
+  pub number : s.bytes ≡ length bytes + bytes_of texts
+
+-- ---- laws
+
+-- whatever calls come, and whichever are refused: what is there is what the document and the accepted texts state
+abbrev pub EditsAreOneDocument : Type 0
+EditsAreOneDocument =
+    (bytes : List ℕ) (old new : Opened) (calls : List Call) (replies : List Reply) → IsSessionOver bytes old → AreCalls old calls replies new →
+    IsOneDocument bytes (accepted calls replies) new
+
+-- so sessions over the same document that accepted the same texts, whatever else was called, have the same ontology, prefixes and bytes
+abbrev pub AcceptedAlikeEndAlike : Type 0
+AcceptedAlikeEndAlike =
+    (bytes : List ℕ) (texts : List (List ℕ)) (s t : Opened) → IsOneDocument bytes texts s → IsOneDocument bytes texts t → as_read s ≡ as_read t
+
+-- where then nothing is pending, the facts are the closure of that ontology
+abbrev pub FinishedIsClosureOfAccepted : Type 0
+FinishedIsClosureOfAccepted =
+    (bytes : List ℕ) (old new : Opened) (calls : List Call) (replies : List Reply) → IsSessionOver bytes old → AreCalls old calls replies new →
+    IsFinished new.saturation → IsSaturated new.ontology new.saturation
+
+-- and the texts are those of a classification of any document that reads as that ontology
+abbrev pub TextsAreThoseOfOneDocument : Type 0
+TextsAreThoseOfOneDocument =
+    (s : Opened) (summary : Summary) (texts : Texts) (document : List ℕ) (most_bytes most_facts : ℕ) (other : Summary) (others : Texts) →
+    IsOpen s → IsMade s summary texts → ReadsAs document s.ontology → IsClassified most_bytes most_facts (Some document) other others →
+    (others.taxonomy ≡ texts.taxonomy) × (others.instances ≡ texts.instances)
