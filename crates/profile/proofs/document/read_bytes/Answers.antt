@@ -1,5 +1,0 @@
-use Rattle.profile.proofs.Readings.{axioms_fit}
-use Rattle.profile.proofs.document.read_bytes.Goals as goal
-
-pub returns-in-Ok-clause-axioms : goal.returns-in-Ok-clause-axioms
-returns-in-Ok-clause-axioms c = axioms_fit c.read_text.result c.in-Ok.text.now c.args.bytes.now c.in-Ok.ensures.cases.0 c.read_text.ensures.read
