@@ -245,7 +245,10 @@ fn grows_at_once(session: &mut Session, row: &Row) -> bool {
 
 /// Whether the addition leads to the same where the run before it was stopped by its limit.
 fn grows_when_stopped(session: &mut Session, row: &Row) -> bool {
-    session.resume(row.facts as u32 - 1) == Err(Stop::Limit)
+    let Ok(too_few) = u32::try_from(row.facts.saturating_sub(1)) else {
+        return false;
+    };
+    session.resume(too_few) == Err(Stop::Limit)
         && session.add(row.addition).is_ok()
         && !answers(session)
         && session.resume(MANY) == Ok(())
