@@ -1,6 +1,6 @@
 -- The facts that the normal forms lead to.
 use Rattle.std.specs.Prelude.{ℕ, ◌<◌, List, [], ◌∷◌, length}
-use Rattle.std.specs.List.{Contains}
+use Rattle.std.specs.List.{All, Contains}
 use Rattle.axioms.specs.Ontology.{Ontology, IsClassAt, thing, nothing}
 use Rattle.normal_forms.specs.Forms.{Class2, Whole, Property2, Property, N1, N2, N3, N4, N5, N6, N7, N8, N9, IsForm}
 
@@ -18,6 +18,10 @@ pub data Fact : Type 0 where
 pub data IsAtOrBelow (o : Ontology) (asked : List ℕ) : Property2 → Property2 → Type 0 where
   same : {r : Property2} → IsAtOrBelow o asked r r
   step : {r : Property2} (s t : ℕ) → IsAtOrBelow o asked r (Property s) → IsForm o asked (N5 s t) → IsAtOrBelow o asked r (Property t)
+
+-- the expressions that are asked about are there
+abbrev pub AreAsked : Ontology → List ℕ → Type 0
+AreAsked o asked = All (λ e. e < length o.nodes) asked
 
 -- a named class, an individual or an expression that is asked about
 pub data IsRoot (o : Ontology) (asked : List ℕ) : Context → Type 0 where

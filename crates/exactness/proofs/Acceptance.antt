@@ -13,10 +13,9 @@ use Rattle.certificate.specs.Writability.{IsTextOf, IsListedOf}
 use Rattle.cert_check.specs.Derivation.{IsDerivation, HasLine}
 use Rattle.cert_check.specs.Acceptance.{Agrees, ClaimHolds, LiesBelow, Belongs, IsConsistentShown, IsContradictionShown, IsAcceptable}
 use Rattle.normal_forms.specs.Forms.{Whole}
-use Rattle.closure.specs.Closure.{Context, Expression, Individual, In, IsRoot, IsFact}
+use Rattle.closure.specs.Closure.{AreAsked, Context, Expression, Individual, In, IsRoot, IsFact}
 use Rattle.closure.proofs.Facts as fact
 use Rattle.exactness.specs.ListedInterpretation.{IsSatisfiable}
-use Rattle.exactness.specs.ListedTheorems.{AreAsked}
 use Rattle.exactness.proofs.Complete.{listed_is_model, answered, individual_at}
 use Rattle.exactness.specs.Acceptance.{AreRelations, AreTextsOfClosure, IsListedFor, ShowsClosure}
 use Rattle.exactness.specs.Theorems.{HaveFacts}

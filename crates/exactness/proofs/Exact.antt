@@ -12,10 +12,9 @@ use Rattle.cert_check.specs.Derivation.{IsDerivation}
 use Rattle.cert_check.specs.Acceptance.{Agrees, ClaimHolds}
 use Rattle.cert_check.proofs.Derivations.{line_true}
 use Rattle.normal_forms.specs.Forms.{Whole}
-use Rattle.closure.specs.Closure.{Context, Expression, Individual, In, IsRoot, IsFact}
+use Rattle.closure.specs.Closure.{AreAsked, Context, Expression, Individual, In, IsRoot, IsFact}
 use Rattle.closure.proofs.Facts as fact
 use Rattle.exactness.specs.ListedInterpretation.{IsListedInterpretation, IsConsistent}
-use Rattle.exactness.specs.ListedTheorems.{AreAsked}
 use Rattle.exactness.proofs.Complete.{listed_is_model, complete_below, complete_types, complete_contradictory, within, answered, individual_at}
 use Rattle.exactness.specs.Derivability.{IsDerivable, subject_of}
 use Rattle.exactness.proofs.Derivable.{HasLine-from_derivable}

@@ -1,17 +1,12 @@
 -- What is proved of the interpretation that the closure lists.
 use Rattle.std.specs.Prelude.{◌≡◌, ℕ, ◌<◌, ◌↔◌, Bool, List, length, true}
-use Rattle.std.specs.List.{All}
 use Rattle.axioms.specs.Ontology.{Ontology, nothing, expression, individual_name, axiom_trees}
 use Rattle.axioms.specs.WellFormedness.{IsOntology}
 use Rattle.interpretation_spec.specs.Interpretation.{IsBelow, Interpretation, IsModel, IsMember}
 use Rattle.interpretation_spec.specs.Agreement.{AgreeOn}
 use Rattle.normal_forms.specs.Forms.{Whole, Property}
-use Rattle.closure.specs.Closure.{Context, Expression, Individual, In, IsRoot, IsFact}
+use Rattle.closure.specs.Closure.{AreAsked, Context, Expression, Individual, In, IsRoot, IsFact}
 use Rattle.exactness.specs.ListedInterpretation.{HasEdge, AreSatisfiableContexts, IsListedInterpretation, IsConsistent, AgreesWithClosure}
-
--- the expressions that are asked about are there
-abbrev pub AreAsked : Ontology → List ℕ → Type 0
-AreAsked o asked = All (λ e. e < length o.nodes) asked
 
 -- where the closure is without contradiction, the listed interpretation satisfies each axiom as it was written
 abbrev pub ListedIsModel : Type 0

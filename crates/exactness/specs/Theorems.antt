@@ -9,9 +9,8 @@ use Rattle.certificate.specs.Certificate.{Line}
 use Rattle.cert_check.specs.Derivation.{IsDerivation, HasLine}
 use Rattle.cert_check.specs.Acceptance.{Agrees, ClaimHolds}
 use Rattle.normal_forms.specs.Forms.{Whole}
-use Rattle.closure.specs.Closure.{Context, Expression, Individual, In, IsRoot, IsFact}
+use Rattle.closure.specs.Closure.{AreAsked, Context, Expression, Individual, In, IsRoot, IsFact}
 use Rattle.exactness.specs.ListedInterpretation.{IsListedInterpretation, IsConsistent}
-use Rattle.exactness.specs.ListedTheorems.{AreAsked}
 use Rattle.exactness.specs.Derivability.{subject_of}
 
 -- a fact says what holds in every finite interpretation of the axioms

@@ -1,13 +1,13 @@
 -- The contexts that are there from the start.
 use Rattle.std.specs.Prelude.{◌≡◌, ◌↔◌, ◌⊎◌, ◌<◌, ◌≤◌, ◌++◌, ℕ, List, length}
-use Rattle.std.specs.List.{All, Contains}
+use Rattle.std.specs.List.{Contains}
 use Rattle.axioms.specs.Ontology.{Ontology, IsClassAt}
 use Rattle.axioms.specs.WellFormedness.{IsOntology}
 use Rattle.axioms.specs.declared.ids.ExprId.{ExprId}
 use Rattle.axioms.specs.declared.ids.IndId.{IndId}
 use Rattle.facts.specs.declared.contexts.Context as code
 use Rattle.facts.specs.declared.contexts.Context.TheVariants as contexts
-use Rattle.closure.specs.Closure.{Context, IsRoot}
+use Rattle.closure.specs.Closure.{AreAsked, Context, IsRoot}
 use Rattle.closure.specs.Denotations.{SaysContext}
 use Rattle.normalise.specs.View.{Keeps}
 
@@ -52,5 +52,5 @@ pub record HasMoreNames (o p : Ontology) (classes individuals : ℕ) : Type 0 wh
 
 -- behind the roots of an ontology, which has become p with more names from these numbers on, they are those of p
 abbrev pub AreRootsAgain : Ontology → ℕ → ℕ → List code.Context → Type 0
-AreRootsAgain p classes individuals more = (o : Ontology) (asked : List ℕ) (roots : List code.Context) → IsOntology o → All (λ e. e < length o.nodes) asked →
+AreRootsAgain p classes individuals more = (o : Ontology) (asked : List ℕ) (roots : List code.Context) → IsOntology o → AreAsked o asked →
     HasMoreNames o p classes individuals → AreRoots o asked roots → AreRoots p asked (roots ++ more)
