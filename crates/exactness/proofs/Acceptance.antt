@@ -32,7 +32,7 @@ decided false = inr refl
 none_asked : (o : Ontology) → AreAsked o []
 none_asked o = All-nil (λ e. e < length o.nodes)
 
-module _ (o : Ontology) (w : IsOntology o) (lines : List Line) (derivation : IsDerivation o lines) (facts : HaveFacts o [] lines) (listed : Listed) (shown : IsListedFor o listed) where
+module _ (o : Ontology) (w : IsOntology o) (lines : List Line) (derivation : IsDerivation o lines) (facts : HaveFacts o [] lines) (listed : Listed) (shown : IsListedFor o [] listed) where
   abbrev Has : Context → ℕ → Type 0
   Has x f = IsFact o [] (In (Whole f) x)
 

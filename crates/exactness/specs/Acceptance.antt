@@ -34,18 +34,18 @@ pub record AreTextsOfClosure (o : Ontology) (taxonomy instances : List ℕ) : Ty
   pub instances_is : instances ≡ instances_text o.names.classes o.names.individuals lies_below belongs
 
 -- the members are those of the interpretation that the closure lists, with a claim for each satisfiable class
-pub record IsListedFor (o : Ontology) (listed : Listed) : Type 0 where
-  pub consistent : IsConsistent o []
+pub record IsListedFor (o : Ontology) (asked : List ℕ) (listed : Listed) : Type 0 where
+  pub consistent : IsConsistent o asked
   pub elements : List Context
   pub i : Interpretation
-  pub interpretation : IsListedInterpretation o [] elements i
+  pub interpretation : IsListedInterpretation o asked elements i
   pub listing : IsListing o listed i
   pub claims : AreClaims o elements listed.claims
 
 -- of a consistent closure: lines with its facts, its listed interpretation, and the texts of its relations
 pub record ShowsClosure (o : Ontology) (taxonomy instances : List ℕ) (lines : List Line) (listed : Listed) : Type 0 where
   pub facts : HaveFacts o [] lines
-  pub interpretation : IsListedFor o listed
+  pub interpretation : IsListedFor o [] listed
   pub texts : AreTextsOfClosure o taxonomy instances
 
 -- a derivation that shows so much, or a contradiction, makes the texts acceptable, whatever found it
