@@ -3,3 +3,4 @@ pub mod Premises
 pub mod Facts
 pub mod Filling
 pub mod Placing
+pub mod Copies

@@ -44,6 +44,10 @@ buckets_of (Few numbers) = 1
 buckets_of (Several numbers) = 1
 buckets_of (Many size used numbers) = count_of size
 
+-- the slots hold the same numbers, in as many buckets
+abbrev pub AreSame : Slots → Slots → Type 0
+AreSame t u = (numbers_of u ≡ numbers_of t) × (buckets_of u ≡ buckets_of t)
+
 -- the number is in a slot from the bucket on, and none before it is free
 pub record Stands (slots : List ℕ) (bucket number : ℕ) : Type 0 where
   pub slot : ℕ

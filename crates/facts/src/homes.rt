@@ -33,6 +33,17 @@ pub(crate) fn home_of(fact: Fact) -> usize
     }
 }
 
+/// The same slots, with room for as many more. Fails where memory is refused.
+pub(crate) fn copy(alloc: Global, homes: &Vec<Slots>) -> Result<Vec<Slots>, Memory>
+    requires { HaveSlots homes.now.items }
+    ensures slots { IfOk result (λ copy. HaveSlots copy.items) }
+    ensures found { IfOk result (λ copy. StillFound homes.now.items copy.items) }
+{
+    let mut copy = Vec::with_capacity(alloc, homes.capacity())?;
+    copy.extend_with_clones(homes)?;
+    Ok(copy)
+}
+
 /// Makes slots for the home. Fails where memory is refused; each fact is found as before.
 pub(crate) fn extend(homes: &mut Vec<Slots>, home: usize) -> Result<(), Memory>
     requires { HaveSlots homes.old.items }

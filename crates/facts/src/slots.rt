@@ -12,7 +12,7 @@ use crate::contexts::Fact;
 use crate::seeds::{Seeds, hash};
 use crate::stored::StoredFact;
 use axioms::Memory;
-use std::alloc::Global;
+use std::alloc::{AllocError, Global};
 
 /// How many facts are few.
 const FEW: usize = 3;
@@ -234,6 +234,38 @@ fn many(
         used,
         numbers,
     })
+}
+
+/// The same numbers, with room for as many more.
+fn copied(numbers: &Vec<u32>) -> Result<Box<Vec<u32>>, AllocError>
+    ensures { IfOk result (λ copy. copy.value.items ≡ numbers.now.items) }
+{
+    let alloc = *numbers.allocator();
+    let mut copy = Vec::with_capacity(alloc, numbers.capacity())?;
+    copy.extend_from_slice(numbers)?;
+    Ok(Box::new(alloc, copy)?)
+}
+
+impl Clone for Slots {
+    ghost use Rattle.facts.specs.Slots.{AreSame};
+
+    ghost is_clone = { AreSame };
+
+    fn clone(&self) -> Result<Slots, AllocError> {
+        match self {
+            Slots::Few(numbers) => Ok(Slots::Few(*numbers)),
+            Slots::Several(numbers) => Ok(Slots::Several(numbers.clone()?)),
+            Slots::Many {
+                size,
+                used,
+                numbers,
+            } => Ok(Slots::Many {
+                size: *size,
+                used: *used,
+                numbers: copied(numbers)?,
+            }),
+        }
+    }
 }
 
 impl Slots {

@@ -5,6 +5,7 @@ ghost use Rattle.std.specs.Prelude.{◌≡◌};
 use crate::contexts::{Context, Fact};
 use axioms::{ExprId, IndId};
 use normal_forms::{Class2, PropId2};
+use std::alloc::AllocError;
 use std::marker::Model;
 
 /// A fact in 16 bytes: three numbers, and which of two kinds each is of. It is seen as the fact.
@@ -32,6 +33,26 @@ impl Model for StoredFact {
     ghost Value = { Fact };
 
     ghost view = { fact_of };
+}
+
+// Not `Copy`: a fact that is seen does not tell what stands in place of the target of a class.
+impl Clone for StoredFact {
+    ghost use Rattle.std.specs.Prelude.{◌≡◌};
+
+    ghost is_clone = { λ fact copy. copy ≡ fact };
+
+    #[inline(always)]
+    fn clone(&self) -> Result<StoredFact, AllocError> {
+        Ok(StoredFact {
+            is_edge: self.is_edge,
+            is_partial: self.is_partial,
+            is_individual: self.is_individual,
+            leads_to_individual: self.leads_to_individual,
+            number: self.number,
+            context: self.context,
+            target: self.target,
+        })
+    }
 }
 
 /// Whether the context is an individual, and its number.

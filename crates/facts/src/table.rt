@@ -1,6 +1,6 @@
 //! Facts in order, each once, found by their hashes.
 ghost use Rattle.axioms.specs.WellFormedness.{AreDistinct};
-ghost use Rattle.std.specs.Prelude.{◌≡◌, ◌↔◌, ◌<◌, ◌^◌, ◌++◌, ◌∷◌, [], true, false, length, take, Contains, Ok, IfSome, IsNone, OnErr, Some, slice_get};
+ghost use Rattle.std.specs.Prelude.{◌≡◌, ◌↔◌, ◌<◌, ◌^◌, ◌++◌, ◌∷◌, [], true, false, length, take, Contains, Ok, IfOk, IfSome, IsNone, OnErr, Some, slice_get};
 
 use crate::contexts::Fact;
 use crate::homes;
@@ -36,6 +36,15 @@ impl Model for FactTable {
     ghost invariant = { λ t. IsTable t.seeds t.facts.items t.homes.items };
 }
 
+/// The same facts, with room for as many more.
+fn copied(alloc: Global, facts: &Vec<StoredFact>) -> Result<Vec<StoredFact>, Memory>
+    ensures { IfOk result (λ copy. copy.items ≡ facts.now.items) }
+{
+    let mut copy = Vec::with_capacity(alloc, facts.capacity())?;
+    copy.extend_with_clones(facts)?;
+    Ok(copy)
+}
+
 impl FactTable {
     /// No facts.
     pub fn new(alloc: Global, state: RandomState) -> FactTable
@@ -47,6 +56,24 @@ impl FactTable {
             facts: Vec::new(alloc),
             homes: Vec::new(alloc),
         }
+    }
+
+    /// The same facts, in the same order.
+    ///
+    /// # Errors
+    ///
+    /// `Memory` where memory was refused.
+    pub fn copy(&self) -> Result<FactTable, Memory>
+        ensures { IfOk result (λ t. t ≡ self.now) }
+    {
+        let facts = copied(self.alloc, &self.facts)?;
+        let homes = homes::copy(self.alloc, &self.homes)?;
+        Ok(FactTable {
+            alloc: self.alloc,
+            seeds: self.seeds,
+            facts,
+            homes,
+        })
     }
 
     /// The facts, in order.
