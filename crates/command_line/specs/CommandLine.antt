@@ -1,5 +1,5 @@
 -- The program's command line, as clap reads it.
-use Rattle.std.specs.Prelude.{◌≡◌, ◌≤◌, ◌<◌, ◌^◌, ℕ, Bool, false, List, [], ◌∷◌, Option, Some, None, codes, if◌then◌else◌, true, ⊤}
+use Rattle.std.specs.Prelude.{◌≡◌, ◌≤◌, ◌<◌, ◌^◌, ℕ, Bool, List, [], ◌∷◌, Option, Some, None, codes, if◌then◌else◌, true, ⊤}
 use Rattle.std.specs.Fmt.{decimal}
 use Rattle.std.specs.Str.Parse.{IsNumeral, digits_value, without_leading_plus}
 use Rattle.clap.specs.Words.{App, Row, Rule, Text, new_app, new_rule, with_rule, with_subcommand, first_of, one_of, subcommand_of, takes}
@@ -11,7 +11,7 @@ use Rattle.command_line.specs.declared.tasks.Question.{Question}
 use Rattle.command_line.specs.declared.tasks.LineFault.{LineFault}
 use Rattle.command_line.specs.declared.tasks.LineFault.TheVariants.{Line, Memory}
 use Rattle.command_line.specs.declared.tasks.Command.{Command}
-use Rattle.command_line.specs.declared.tasks.Command.TheVariants.{Check, Classify, Explain, Instances}
+use Rattle.command_line.specs.declared.tasks.Command.TheVariants.{Check, Classify, Explain, Instances, Query}
 use Rattle.command_line.specs.declared.tasks.Task.{Task}
 use Rattle.program.specs.declared.limits.Limits.{Limits}
 use Rattle.program.specs.declared.limits.TheConstants.{MOST_BYTES, MOST_FACTS}
@@ -79,9 +79,13 @@ with_flags app = with_rule (with_rule app (flag (codes "individual"))) (flag (co
 abbrev pub explain_app : App
 explain_app = with_limits (with_flags (with_names (new_app (codes "explain"))))
 
+-- `query DOC EXPRESSION [--max-facts N] [--max-bytes N]`
+abbrev pub query_app : App
+query_app = with_limits (with_rule (with_rule (new_app (codes "query")) (path (codes "DOC"))) (path (codes "EXPRESSION")))
+
 -- the commands that ask about a document
 abbrev pub with_questions : App → App
-with_questions app = with_subcommand (with_subcommand app instances_app.top) explain_app.top
+with_questions app = with_subcommand (with_subcommand (with_subcommand app instances_app.top) explain_app.top) query_app.top
 
 -- the program, whose first word after its name is one of the commands
 abbrev pub elc_app : App
@@ -128,6 +132,7 @@ IsCommand name rows (Classify paths) = (name ≡ codes "classify") × ArePaths r
 IsCommand name rows (Check paths) = (name ≡ codes "check") × ArePaths rows paths
 IsCommand name rows (Instances document class) = (name ≡ codes "instances") × (first_of (codes "DOC") rows ≡ Some document.now) × (first_of (codes "CLASS") rows ≡ Some class.now)
 IsCommand name rows (Explain question) = (name ≡ codes "explain") × IsQuestion rows question
+IsCommand name rows (Query document expression) = (name ≡ codes "query") × (first_of (codes "DOC") rows ≡ Some document.now) × (first_of (codes "EXPRESSION") rows ≡ Some expression.now)
 
 -- how many facts the command may draw: what its option says. A check draws none and has no such option: its limit is the greatest
 abbrev pub IsLimitOfFacts : Command → List Row → ℕ → Type 0

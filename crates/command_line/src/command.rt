@@ -2,7 +2,7 @@
 ghost use Rattle.std.specs.Prelude.{◌≡◌, IfOk, false};
 ghost use Rattle.clap.specs.Words.{app_of, rule_of, with_rule};
 ghost use Rattle.clap.specs.declared.builder.command.Command.TheViews.{out-Command as fields_of};
-ghost use Rattle.command_line.specs.CommandLine.{path, flag, max_facts, max_bytes, with_paths as app_with_paths, with_names as app_with_names, with_flags as app_with_flags, with_limits as app_with_limits, with_questions as app_with_questions, check_app, classify_app, instances_app, explain_app, elc_app};
+ghost use Rattle.command_line.specs.CommandLine.{path, flag, max_facts, max_bytes, with_paths as app_with_paths, with_names as app_with_names, with_flags as app_with_flags, with_limits as app_with_limits, with_questions as app_with_questions, check_app, classify_app, instances_app, explain_app, query_app, elc_app};
 
 use clap::{Arg, ArgAction, Command, value_parser};
 use program::{MOST_BYTES, MOST_BYTES_TEXT, MOST_FACTS, MOST_FACTS_TEXT};
@@ -16,7 +16,8 @@ const EXAMPLES: &str = "Examples:
   elc instances food.ofn http://example.org/Pizza
   elc explain food.ofn http://example.org/Pizza http://example.org/Food
   elc explain food.ofn http://example.org/margherita http://example.org/Pizza --individual
-Names are written in full, without < and >.";
+  elc query food.ofn 'ObjectSomeValuesFrom(:contains :Nut)'
+Names are written in full, without < and >; in an expression as in the document.";
 
 const CLASSIFY_ABOUT: &str = "Writes the taxonomy, the instances and a certificate of both";
 
@@ -27,6 +28,9 @@ const INSTANCES_ABOUT: &str = "Prints the individuals that belong to a class";
 const EXPLAIN_ABOUT: &str =
     "Prints whether a class is below another, or an individual is in it, with the proof or a counterexample";
 
+const QUERY_ABOUT: &str =
+    "Prints the classes above and below a class expression, and its individuals";
+
 const DOCUMENT_HELP: &str = "The file of the ontology, in functional-style syntax";
 
 const TAXONOMY_HELP: &str = "The file of the taxonomy";
@@ -36,6 +40,9 @@ const INSTANCES_HELP: &str = "The file of the instances";
 const CERTIFICATE_HELP: &str = "The file of the certificate";
 
 const CLASS_HELP: &str = "The class, by its name in full, as http://example.org/Pizza";
+
+const EXPRESSION_HELP: &str =
+    "The class expression, in functional-style syntax, with the prefixes of the document, as 'ObjectSomeValuesFrom(:contains :Nut)'";
 
 const SUBJECT_HELP: &str = "The class below, or the individual, by its name in full";
 
@@ -178,13 +185,24 @@ fn explain_command<'a>(alloc: Global) -> Result<Command<'a>, AllocError>
     with_limits(alloc, command)
 }
 
+fn query_command<'a>(alloc: Global) -> Result<Command<'a>, AllocError>
+    ensures app { IfOk result (λ c. app_of c ≡ query_app) }
+    ensures local { IfOk result (λ c. (fields_of c).has_globals ≡ false) }
+{
+    let command = Command::new(alloc, "query").about(QUERY_ABOUT);
+    let command = with_path(alloc, command, "DOC", DOCUMENT_HELP)?;
+    let command = with_path(alloc, command, "EXPRESSION", EXPRESSION_HELP)?;
+    with_limits(alloc, command)
+}
+
 /// The command with those that ask about a document.
 fn with_questions<'a>(alloc: Global, command: Command<'a>) -> Result<Command<'a>, AllocError>
     ensures app { IfOk result (λ c. app_of c ≡ app_with_questions (app_of command.entry)) }
     ensures local { (fields_of command.entry).has_globals ≡ false → IfOk result (λ c. (fields_of c).has_globals ≡ false) }
 {
     let command = command.subcommand(instances_command(alloc)?)?;
-    command.subcommand(explain_command(alloc)?)
+    let command = command.subcommand(explain_command(alloc)?)?;
+    command.subcommand(query_command(alloc)?)
 }
 
 /// The program's command line.

@@ -33,9 +33,17 @@ pub enum Command<'a> {
     /// Check the other three files against the document.
     Check(Paths<'a>),
     /// Print the individuals that belong to the class.
-    Instances { document: &'a str, class: &'a str },
+    Instances {
+        document: &'a str,
+        class: &'a str,
+    },
     /// Answer the question, with the reason.
     Explain(Question<'a>),
+    /// Answer a query of a class expression.
+    Query {
+        document: &'a str,
+        expression: &'a str,
+    },
 }
 
 /// What the program is asked to do, and within which limits.

@@ -84,6 +84,10 @@ fn named<'a>(name: &str, inner: &ArgMatches<'a>) -> Option<Command<'a>>
             class: word(inner, "CLASS")?,
         }),
         "explain" => Some(Command::Explain(question(inner)?)),
+        "query" => Some(Command::Query {
+            document: word(inner, "DOC")?,
+            expression: word(inner, "EXPRESSION")?,
+        }),
         _ => None,
     }
 }
