@@ -44,6 +44,15 @@ impl Model for KnownFacts {
     ghost view = { λ s. record { facts = s.facts; births = map reason s.births.items } };
 }
 
+/// The same births, with room for as many more.
+fn copied(births: &Vec<Birth>) -> Result<Vec<Birth>, Memory>
+    ensures { IfOk result (λ copy. copy.items ≡ births.now.items) }
+{
+    let mut copy = Vec::with_capacity(*births.allocator(), births.capacity())?;
+    copy.extend_from_slice(births)?;
+    Ok(copy)
+}
+
 impl KnownFacts {
     /// No facts.
     pub fn new(alloc: Global, state: RandomState) -> Self
@@ -54,6 +63,19 @@ impl KnownFacts {
             facts: FactTable::new(alloc, state),
             births: Vec::new(alloc),
         }
+    }
+
+    /// The same facts, each with what gave it.
+    ///
+    /// # Errors
+    ///
+    /// `Memory` where memory was refused.
+    pub fn copy(&self) -> Result<KnownFacts, Memory>
+        ensures { IfOk result (λ f. f ≡ self.now) }
+    {
+        let births = copied(&self.births)?;
+        let facts = self.facts.copy()?;
+        Ok(KnownFacts { facts, births })
     }
 
     /// The facts, in order of birth.
