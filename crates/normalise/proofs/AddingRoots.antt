@@ -5,6 +5,7 @@ use Rattle.std.proofs.lemmas.List.Elements.{All-contains, Contains-push, Contain
 use Rattle.std.specs.List.{All}
 use Rattle.lemmas.proofs.Mapped.{Contains-map, slice_get_map_from}
 use Rattle.lemmas.proofs.Members.{Contains-from_slice_get, slice_get-from_Contains}
+use Rattle.axioms.specs.Growth.{Numbers}
 use Rattle.axioms.specs.Ontology.{Ontology, Class, IsClassAt}
 use Rattle.axioms.specs.WellFormedness.{IsOntology}
 use Rattle.axioms.specs.declared.ids.ExprId.{ExprId}
@@ -14,7 +15,8 @@ use Rattle.facts.specs.declared.contexts.Context.TheVariants as contexts
 use Rattle.closure.specs.Closure.{Context, Expression, Individual, IsRoot}
 use Rattle.closure.specs.Denotations.{SaysContext, expression, individual}
 use Rattle.normalise.specs.Roots.{AddsThose, AreRoots, AreRootsFrom, HasMoreNames, IsIndividualFrom, IsIndividualWithin, IsNamedFrom, IsNamedWithin}
-use Rattle.normalise.proofs.Adding.{keeps_long}
+use Rattle.normalise.proofs.Adding.{keeps_long, numbered_there}
+use Rattle.normalise.proofs.Asking.{asked_more, asked_only}
 
 -- nothing is added
 pub adds_none : (P : code.Context → Type 0) (old : List code.Context) → ((x : code.Context) → P x → ⊥) → AddsThose P old old
@@ -199,3 +201,35 @@ module _ (p : Ontology) (wp : IsOntology p) (classes individuals : ℕ) (more : 
 
   pub roots_again : AreRoots p asked (roots ++ more)
   roots_again = record { each = old_or_new; all = each_there }
+
+-- behind the roots of an ontology the context of one more expression makes them those with this asked about too
+module _ (p : Ontology) (asked later : List ℕ) (roots : List code.Context) (e : ExprId) (n : ℕ)
+    (are : AreRoots p asked roots) (numbers : Numbers asked e.0 later n) (low : e.0 < length p.nodes) where
+  abbrev with_it : List code.Context
+  with_it = roots ++ contexts.Expr e ∷ []
+
+  still_root : (y : Context) → IsRoot p asked y → IsRoot p later y
+  still_root y (IsRoot.named c d at) = IsRoot.named c d at
+  still_root y (IsRoot.individual a l) = IsRoot.individual a l
+  still_root y (IsRoot.question d l there) = IsRoot.question d l (asked_more asked later e.0 n numbers d there)
+
+  each_with_it : (x : code.Context) → Contains with_it x → IsOneOf p later x
+  each_with_it x there =
+      elim (Contains-push_cases roots (contexts.Expr e) x there) [
+        | inl c ↦ (let (y, says, root) = are.each x c in (y, says, still_root y root))
+        | inr is ↦ (Expression e.0, subst (λ z. SaysContext z (Expression e.0)) is (expression refl), IsRoot.question e.0 low (Contains-from_slice_get later n e.0 (numbered_there asked e.0 later n numbers)))
+      ]
+
+  root_before : (y : Context) → IsRoot p asked y → (x : code.Context) × Contains with_it x × SaysContext x y
+  root_before y root = let (x, there, says) = are.all y root in (x, Contains-append_left roots (contexts.Expr e ∷ []) x there, says)
+
+  all_with_it : (y : Context) → IsRoot p later y → (x : code.Context) × Contains with_it x × SaysContext x y
+  all_with_it y (IsRoot.named c d at) = root_before y (IsRoot.named c d at)
+  all_with_it y (IsRoot.individual a l) = root_before y (IsRoot.individual a l)
+  all_with_it y (IsRoot.question d l there) = elim (asked_only asked later e.0 n numbers d there) [
+    | inl was ↦ root_before y (IsRoot.question d l was)
+    | inr is ↦ (contexts.Expr e, Contains-push roots (contexts.Expr e), expression is)
+  ]
+
+  pub roots_with_it : AreRoots p later (roots ++ contexts.Expr e ∷ [])
+  roots_with_it = record { each = each_with_it; all = all_with_it }

@@ -1,7 +1,8 @@
 -- Expressions that are asked about, and an ontology of nothing.
-use Rattle.std.proofs.Common.{◌≡◌, ℕ, zero, suc, ◌+◌, ◌<◌, inl, inr, List, [], ◌∷◌, ◌++◌, length, slice_get, Some, Contains, refl, sym, ◌∙◌, subst, arith}
+use Rattle.std.proofs.Common.{◌≡◌, ℕ, zero, suc, ◌+◌, ◌<◌, ◌⊎◌, inl, inr, List, [], ◌∷◌, ◌++◌, length, slice_get, Some, Contains, refl, sym, ◌∙◌, subst, arith}
 use Rattle.std.proofs.lemmas.Option.{none-some, slice_get_within}
 use Rattle.std.proofs.lemmas.Bool.{cases_eq}
+use Rattle.std.proofs.lemmas.List.Elements.{Contains-push_cases}
 use Rattle.lemmas.proofs.Mapped.{slice_get_map}
 use Rattle.lemmas.proofs.Members.{slice_get-from_Contains, Contains-from_slice_get}
 use Rattle.lemmas.proofs.Places.{keeps_push}
@@ -29,6 +30,10 @@ not_among xs x none c = let p = slice_get-from_Contains xs x c in none p.0 (slic
 pub asked_more : (xs ys : List ℕ) (x n : ℕ) → Numbers xs x ys n → (e : ℕ) → Contains xs e → Contains ys e
 asked_more xs ys x n (inl h) e c = subst (λ zs. Contains zs e) (sym h.1) c
 asked_more xs ys x n (inr h) e c = let p = slice_get-from_Contains xs e c in subst (λ zs. Contains zs e) (sym h.2) (Contains-from_slice_get (xs ++ x ∷ []) p.0 e (keeps_push xs x p.0 e p.1))
+
+pub asked_only : (xs ys : List ℕ) (x n : ℕ) → Numbers xs x ys n → (e : ℕ) → Contains ys e → Contains xs e ⊎ (x ≡ e)
+asked_only xs ys x n (inl h) e c = inl (subst (λ zs. Contains zs e) h.1 c)
+asked_only xs ys x n (inr h) e c = Contains-push_cases xs x e (subst (λ zs. Contains zs e) h.2 c)
 
 pub no_ontology : Ontology
 no_ontology = record { names = record { classes = []; properties = []; individuals = [] }; nodes = []; axioms = [] }

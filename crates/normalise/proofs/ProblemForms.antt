@@ -10,14 +10,13 @@ use Rattle.normal_forms.specs.declared.forms.PropId2 as code_property
 use Rattle.normal_forms.specs.declared.forms.PropId2.TheVariants as properties
 use Rattle.normal_forms.specs.declared.forms.Form as code_form
 use Rattle.normal_forms.specs.declared.forms.Form.TheVariants as forms
-use Rattle.normal_forms.specs.declared.forms.Origin.{Origin}
 use Rattle.normal_forms.specs.Forms.{Class2, Property2, Form, IsForm}
 use Rattle.facts.specs.declared.contexts.Context.{Context}
 use Rattle.closure.specs.Denotations as closure
 use Rattle.closure.specs.Denotations.{Prefixes, whole, prefix, property, steps, n1, n2, n3, n4, n5, n6, n7, n8, n9, SaysForm, IsProblemOf}
 use Rattle.normalise.specs.declared.entries.Entry.{Entry}
 use Rattle.normalise.specs.Entries.{form_in}
-use Rattle.normalise.specs.Growth.{Has, IsNormalFor}
+use Rattle.normalise.specs.Growth.{IsNormalFor}
 use Rattle.normalise.specs.Listing.{Listing}
 use Rattle.normalise.specs.View.{SaysClass, SaysProperty, Says}
 use Rattle.normalise.proofs.Grown.{listed_forms}

@@ -1,5 +1,5 @@
 -- What normal forms and roots make.
-use Rattle.std.specs.Prelude.{ℕ, List, map}
+use Rattle.std.specs.Prelude.{List, map}
 use Rattle.axioms.specs.Ontology.{Ontology}
 use Rattle.facts.specs.declared.contexts.Context.{Context}
 use Rattle.facts.specs.Closure.{Problem}

@@ -119,6 +119,29 @@ impl Normal {
         self.joined(more)
     }
 
+    /// These forms, those of the axioms after `from` and of what occurs in them and did not before, and those of an expression that is
+    /// asked about, as one that occurs right and left, as a new value. The ontology is that of these forms, grown at the end after axiom
+    /// `from`. Forms and fresh names keep their numbers.
+    ///
+    /// # Errors
+    ///
+    /// `Memory` where memory was refused, or there are 2^32 - 1 fresh names of a kind.
+    pub fn grown_with(
+        &self,
+        ontology: &Ontology,
+        from: usize,
+        expr: ExprId,
+    ) -> Result<Normal, Memory>
+        requires { from ≤ length ontology.now.axioms }
+        ensures forms { IfOk result (AreNormalAgain ontology.now from self.now) }
+        ensures asked { IfOk result (λ n. (m : ℕ) × Numbers self.now.asked expr.0 n.asked m) }
+        ensures kept { IfOk result (Grown self.now) }
+    {
+        let asked = with_asked(self.alloc, &self.asked, expr)?;
+        let more = self.more(ontology, from, asked)?;
+        self.joined(more)
+    }
+
     /// Adds the forms of the axioms after `from`, and of what occurs in them and did not before. The ontology is that of these forms,
     /// grown at the end after axiom `from`. Forms and fresh names keep their numbers.
     ///
@@ -148,9 +171,7 @@ impl Normal {
         ensures kept { Grown self.old self.new }
         ensures err { OnErr result (self.new ≡ self.old) }
     {
-        let asked = with_asked(self.alloc, &self.asked, expr)?;
-        let more = self.more(ontology, ontology.axioms().len(), asked)?;
-        *self = self.joined(more)?;
+        *self = self.grown_with(ontology, ontology.axioms().len(), expr)?;
         Ok(())
     }
 }
