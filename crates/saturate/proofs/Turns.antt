@@ -6,7 +6,7 @@ use Rattle.std.proofs.lemmas.Option.{slice_get_within, slice_get-get_or, get_or_
 use Rattle.std.proofs.lemmas.Map.Keys.{IsDistinct-IsPermutation, IsDistinct-from_apart, apart_from_distinct}
 use Rattle.std.specs.List.{IsDistinct, range_with_len}
 use Rattle.std.proofs.lemmas.List.FromFn.{length-range_with_len}
-use Rattle.std.proofs.lemmas.List.{take-append-le, take-append-drop, take_all, length-take}
+use Rattle.std.proofs.lemmas.List.{nil_from_length, take-append-le, take-append-drop, take_all, length-take}
 use Rattle.std.proofs.lemmas.List.Sorted.{Contains-permutation, IsPermutation-append_left, IsPermutation-filter_both, IsPermutation-sym, length_permutation}
 use Rattle.std.specs.List.Sorted.{IsPermutation}
 use Rattle.std.proofs.lemmas.List.Elements.{Contains-append_left, Contains-push, Contains-push_cases}
@@ -249,6 +249,12 @@ all_served {waiting = waiting} {queued = queued} {served = served} {taken = take
     let whole : take served taken ≡ taken = take_all served taken long in
     let none : length waiting ≡ 0 = omega (arith, q.tally, q.low, few) in
     rw whole (all_taken q none (omega (arith, q.tally, q.low, few)) n low)
+
+-- so the list of work is empty
+pub none_waits : {waiting : List Item} {start end queued served : ℕ} {taken : List ℕ} → IsQueue waiting start end queued taken served → queued ≤ length (take served taken) → waiting ≡ []
+none_waits {waiting = waiting} {served = served} {taken = taken} q most =
+    let few : length (take served taken) ≤ served = simp length-take (omega arith) in
+    nil_from_length waiting (omega (arith, most, q.tally, q.low, few))
 
 -- ---- no number was taken twice
 

@@ -1,5 +1,5 @@
 //! A saturation under way, or ended.
-ghost use Rattle.std.specs.Prelude.{◌≡◌, ◌≤◌, IfNone, IfSome, OnErr, OnOk, Some, drop, false, length, slice_get, take, true};
+ghost use Rattle.std.specs.Prelude.{◌≡◌, ◌≤◌, [], IfNone, IfOk, IfSome, OnErr, OnOk, Some, drop, false, length, slice_get, take, true};
 ghost use Rattle.facts.specs.Births.{reason};
 ghost use Rattle.inference.specs.PropertyClosures.{IsClosureOf};
 ghost use Rattle.saturate.specs.Growth.{HasGrown, KeepsServed};
@@ -124,6 +124,35 @@ impl<W: WorkList> Progress<W> {
     {
         match &mut self.stage {
             Stage::Growing(state) => state.extend(all, from, roots),
+            Stage::Kept(_) => unreachable!(),
+        }
+    }
+
+    /// What has grown as by `State::grown`. It may grow, and so may this one, which stays as it is.
+    ///
+    /// # Errors
+    ///
+    /// As for `State::grown`.
+    pub fn grown(
+        &self,
+        list: W,
+        all: &FormList,
+        from: usize,
+        roots: &[Context],
+    ) -> Result<Progress<W>, Memory>
+    where
+        W: Drop,
+        requires can_grow { self.now.can_grow ≡ true }
+        requires list { W.pending list ≡ [] }
+        requires forms { take from all.now ≡ self.now.seen.problem.forms }
+        requires finished { length self.now.seen.served ≡ length self.now.seen.facts }
+        ensures grown { IfOk result (λ p. HasGrown (drop from all.now) roots.now self.now.seen p.seen) }
+        ensures served { IfOk result (λ p. KeepsServed self.now.seen.problem.forms p.seen.problem.forms self.now.seen.facts self.now.seen.served p.seen.served) }
+        ensures state { IfOk result (λ p. IsState p.seen) }
+        ensures can_grow { IfOk result (λ p. p.can_grow ≡ true) }
+    {
+        match &self.stage {
+            Stage::Growing(state) => Ok(Progress::new(state.grown(list, all, from, roots)?)),
             Stage::Kept(_) => unreachable!(),
         }
     }

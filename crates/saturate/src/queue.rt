@@ -113,6 +113,15 @@ fn without_last(list: &[u32], number: u32) -> &[u32]
     list.strip_suffix(&[number]).unwrap_or(list)
 }
 
+/// The same numbers, with room for as many more.
+fn copied(numbers: &Vec<u32>) -> Result<Vec<u32>, Memory>
+    ensures { IfOk result (λ copy. copy.items ≡ numbers.now.items) }
+{
+    let mut copy = Vec::with_capacity(*numbers.allocator(), numbers.capacity())?;
+    copy.extend_from_slice(numbers)?;
+    Ok(copy)
+}
+
 impl<W: WorkList> Queue<W> {
     /// Nothing has had its turn.
     pub(crate) fn new(alloc: Global, list: W) -> Self
@@ -129,6 +138,30 @@ impl<W: WorkList> Queue<W> {
             end: 0,
             taken: Vec::new(alloc),
             served: 0,
+        }
+    }
+
+    /// The same turns, over a list of work that is empty, as this one's is: as many numbers were served as were queued.
+    pub(crate) fn copy(&self, list: W) -> Result<Queue<W>, Memory>
+    where
+        W: Drop,
+        requires list { W.pending list ≡ [] }
+        requires finished { self.now.queued ≤ length self.now.served }
+        ensures { IfOk result (λ q. q ≡ self.now) }
+    {
+        match copied(&self.taken) {
+            Ok(taken) => Ok(Queue {
+                list,
+                queued: self.queued,
+                start: self.start,
+                end: self.end,
+                taken,
+                served: self.served,
+            }),
+            Err(error) => {
+                drop(list);
+                Err(error)
+            }
         }
     }
 

@@ -81,8 +81,8 @@ impl<W: WorkList> State<W> {
     }
 
     /// Adds forms and contexts that are there from the start: `all` has the forms so far and then, from number `from` on, those that
-    /// are added. Where the list is shared, so is its memory. Facts that are served stay so, but for those that an added form asks
-    /// for to which no earlier form is equal: these are pending again.
+    /// are added. Where `all` is a list that is shared, it is not copied. Facts that are served stay so, but for those that an added form
+    /// asks for to which no earlier form is equal: these are pending again.
     ///
     /// # Errors
     ///
@@ -115,6 +115,53 @@ impl<W: WorkList> State<W> {
                 Err(error)
             }
         }
+    }
+
+    /// A state with copies of these facts that has grown as by `extend`: `all` has the forms so far and then, from number `from` on,
+    /// those that are added. This one, all of whose facts are served, stays as it is. The list of work is empty.
+    ///
+    /// # Errors
+    ///
+    /// `Memory` where memory was refused, or there are 2^32 forms, or there would be as many facts.
+    pub fn grown(
+        &self,
+        list: W,
+        all: &FormList,
+        from: usize,
+        roots: &[Context],
+    ) -> Result<State<W>, Memory>
+    where
+        W: Drop,
+        requires list { W.pending list ≡ [] }
+        requires forms { take from all.now ≡ self.now.problem.forms }
+        requires finished { length self.now.served ≡ length self.now.facts }
+        ensures grown { IfOk result (HasGrown (drop from all.now) roots.now self.now) }
+        ensures served { IfOk result (λ s. KeepsServed self.now.problem.forms s.problem.forms self.now.facts self.now.served s.served) }
+        ensures state { IfOk result IsState }
+    {
+        self.well_formed();
+        let mut queue = self.queue.copy(list)?;
+        let mut facts = self.facts.copy()?;
+        let mut index = Index::new(self.alloc);
+        let ground = self.ground.grown(self.alloc, all, roots)?;
+        restart(
+            self.alloc,
+            self.ground.problem(),
+            &ground,
+            from,
+            &mut facts,
+            &mut queue,
+            &mut index,
+        )?;
+        let state = State {
+            alloc: self.alloc,
+            ground,
+            facts,
+            queue,
+            index,
+        };
+        state.well_formed();
+        Ok(state)
     }
 
     /// The normal forms, in the order in which they were added.
