@@ -1,5 +1,6 @@
 -- What the forms of an ontology lead to is its closure.
-use Rattle.std.proofs.Common.{◌≡◌, ℕ, Bool, List, [], ◌∷◌, map, Result, Ok, Err, Contains, refl, arith, ap, ◌∙◌, sym, subst}
+use Rattle.std.proofs.Common.{◌≡◌, ℕ, ◌<◌, Bool, List, [], ◌∷◌, length, map, Result, Ok, Err, Contains, refl, arith, ap, ◌∙◌, sym, subst}
+use Rattle.std.proofs.lemmas.List.Elements.{All-nil}
 use Rattle.lemmas.proofs.Members.{slice_get-from_Contains}
 use Rattle.axioms.specs.Ontology.{Ontology}
 use Rattle.normal_forms.specs.declared.forms.Form.{Form}
@@ -7,12 +8,13 @@ use Rattle.facts.specs.Births.{Reason}
 use Rattle.facts.specs.declared.contexts.Context.{Context}
 use Rattle.facts.specs.declared.contexts.Fact.{Fact}
 use Rattle.facts.specs.Closure.{Problem}
+use Rattle.closure.specs.Closure.{AreAsked}
 use Rattle.closure.specs.Denotations.{IsProblemOf}
 use Rattle.closure.proofs.Said.{said, sayer}
 use Rattle.normalise.specs.Entries.{form_in}
 use Rattle.normalise.specs.Growth.{IsNormalFor}
 use Rattle.normalise.specs.Listing.{Listing}
-use Rattle.normalise.specs.Problem.{prefixes_of, problem_of}
+use Rattle.normalise.specs.Problem.{prefixes_of}
 use Rattle.normalise.specs.Roots.{AreRoots}
 use Rattle.normalise.proofs.ProblemForms.{makes_the_problem}
 use Rattle.saturate.specs.Growth.{HasGrown, KeepsServed, with_more}
@@ -23,30 +25,28 @@ use Rattle.inference.proofs.Growth.{sound}
 use Rattle.engine.specs.Saturations.{HasMoreFactsThan, IsSaturated, IsSound, SayFactsOfTheClosure, SayTheClosure}
 use Rattle.engine.proofs.Saying.{more_facts}
 
--- the forms and roots that are there make the problem of the ontology
-pub is_problem : (o : Ontology) (v : Listing) (roots : List Context) (k : Problem) → IsNormalFor o v → v.asked ≡ [] → AreRoots o [] roots
-    → k.forms ≡ map form_in v.entries → k.roots ≡ roots → IsProblemOf o [] (prefixes_of v) k
-is_problem o v roots k normal asked are forms_are roots_are =
-    let made : IsProblemOf o v.asked (prefixes_of v) (problem_of v roots) = makes_the_problem o v normal roots (subst (λ a. AreRoots o a roots) (sym asked) are) in
-    let unasked : IsProblemOf o [] (prefixes_of v) (problem_of v roots) = subst (λ a. IsProblemOf o a (prefixes_of v) (problem_of v roots)) asked made in
-    let formed : IsProblemOf o [] (prefixes_of v) (record { forms = k.forms; roots = roots }) = subst (λ (fs : List Form). IsProblemOf o [] (prefixes_of v) (record { forms = fs; roots = roots })) (sym forms_are) unasked in
-    subst (λ (xs : List Context). IsProblemOf o [] (prefixes_of v) (record { forms = k.forms; roots = xs })) (sym roots_are) formed
+-- the forms and roots that are there make the problem of the ontology and of what is asked about
+pub is_problem : (o : Ontology) (v : Listing) (roots : List Context) (k : Problem) → IsNormalFor o v → AreRoots o v.asked roots → k.forms ≡ map form_in v.entries → k.roots ≡ roots → IsProblemOf o v.asked (prefixes_of v) k
+is_problem o v roots k normal are forms_are roots_are =
+    let formed : IsProblemOf o v.asked (prefixes_of v) (record { forms = k.forms; roots = roots }) =
+    subst (λ (fs : List Form). IsProblemOf o v.asked (prefixes_of v) (record { forms = fs; roots = roots })) (sym forms_are) (makes_the_problem o v normal roots are) in
+    subst (λ (xs : List Context). IsProblemOf o v.asked (prefixes_of v) (record { forms = k.forms; roots = xs })) (sym roots_are) formed
 
-says_the_closure : (o : Ontology) (v : Listing) (s : Seen) → IsProblemOf o [] (prefixes_of v) s.problem → IsClosure s.problem s.facts → SayTheClosure o (prefixes_of v) s.facts
+says_the_closure : (o : Ontology) (v : Listing) (s : Seen) → IsProblemOf o v.asked (prefixes_of v) s.problem → IsClosure s.problem s.facts → SayTheClosure o v.asked (prefixes_of v) s.facts
 says_the_closure o v s problem closure = record {
-  each = λ f there. said o [] (prefixes_of v) s.problem problem f ((closure f).0 there);
+  each = λ f there. said o v.asked (prefixes_of v) s.problem problem f ((closure f).0 there);
   all = λ g fact.
-      let (f, is, says) = sayer o [] (prefixes_of v) s.problem problem g fact in
+      let (f, is, says) = sayer o v.asked (prefixes_of v) s.problem problem g fact in
       (f, (closure f).1 is, says);
 }
 
-says_facts : (o : Ontology) (v : Listing) (s : Seen) → IsProblemOf o [] (prefixes_of v) s.problem → AreBorn s → SayFactsOfTheClosure o (prefixes_of v) s.facts
+says_facts : (o : Ontology) (v : Listing) (s : Seen) → IsProblemOf o v.asked (prefixes_of v) s.problem → AreBorn s → SayFactsOfTheClosure o v.asked (prefixes_of v) s.facts
 says_facts o v s problem born f there =
     let (n, at) = slice_get-from_Contains s.facts f there in
-    said o [] (prefixes_of v) s.problem problem f (sound born n f at)
+    said o v.asked (prefixes_of v) s.problem problem f (sound born n f at)
 
--- facts that are born of the forms of the ontology are of its closure
-pub is_sound : (o : Ontology) (v : Listing) (s : Seen) (b : Bool) → IsNormalFor o v → v.asked ≡ [] → s.problem.forms ≡ map form_in v.entries → IsProblemOf o [] (prefixes_of v) s.problem → AreBorn s
+-- facts that are born of the forms of the ontology and of what is asked about are of their closure
+pub is_sound : (o : Ontology) (v : Listing) (s : Seen) (b : Bool) → IsNormalFor o v → AreAsked o v.asked → s.problem.forms ≡ map form_in v.entries → IsProblemOf o v.asked (prefixes_of v) s.problem → AreBorn s
     → IsSound o (record { normal = v; state = s; can_grow = b })
 is_sound o v s b normal asked forms problem born = record { normal = normal; asked = asked; forms = forms; problem = problem; facts = says_facts o v s problem born; born = born }
 
@@ -54,7 +54,7 @@ is_sound o v s b normal asked forms problem born = record { normal = normal; ask
 pub still_sound : (o : Ontology) (v : Listing) (s t : Seen) (b b' : Bool) → IsSound o (record { normal = v; state = s; can_grow = b }) → t.problem ≡ s.problem → AreBorn t → IsSound o (record { normal = v; state = t; can_grow = b' })
 still_sound o v s t b b' h same born = is_sound o v t b' h.normal h.asked
     (ap (λ (k : Problem). k.forms) same ∙ h.forms)
-    (subst (IsProblemOf o [] (prefixes_of v)) (sym same) h.problem)
+    (subst (IsProblemOf o v.asked (prefixes_of v)) (sym same) h.problem)
     born
 
 -- where they are all that the forms lead to, they are the closure
@@ -67,15 +67,15 @@ saturated_still o v s t b b' problem facts births h = record {
   normal = h.normal;
   asked = h.asked;
   forms = ap (λ (k : Problem). k.forms) problem ∙ h.forms;
-  problem = subst (IsProblemOf o [] (prefixes_of v)) (sym problem) h.problem;
-  facts = subst (SayTheClosure o (prefixes_of v)) (sym facts) h.facts;
+  problem = subst (IsProblemOf o v.asked (prefixes_of v)) (sym problem) h.problem;
+  facts = subst (SayTheClosure o v.asked (prefixes_of v)) (sym facts) h.facts;
   born = subst (λ (k : Problem). derived.IsDerived k (record { facts = t.facts; births = t.births })) (sym problem)
       (subst (λ (fs : List Fact). derived.IsDerived s.problem (record { facts = fs; births = t.births })) (sym facts)
       (subst (λ (rs : List Reason). derived.IsDerived s.problem (record { facts = s.facts; births = rs })) (sym births) h.born));
 }
 
-pub has_more : (o : Ontology) (v : Listing) (s : Seen) (b : Bool) (most : ℕ) → IsSound o (record { normal = v; state = s; can_grow = b }) → derived.HasMoreFactsThan s.problem most → HasMoreFactsThan o most
-has_more o v s b most h more = more_facts o (prefixes_of v) s.problem h.problem most more
+pub has_more : (o : Ontology) (v : Listing) (s : Seen) (b : Bool) (most : ℕ) → IsSound o (record { normal = v; state = s; can_grow = b }) → derived.HasMoreFactsThan s.problem most → HasMoreFactsThan o v.asked most
+has_more o v s b most h more = more_facts o v.asked (prefixes_of v) s.problem h.problem most more
 
 abbrev err_or : {T E : Type 0} → E → Result T E → E
 err_or d (Ok x) = d
@@ -91,10 +91,15 @@ grown_problem old new forms roots empty grown = grown.problem ∙ ap (λ (s : Se
 pub grown_forms : (old new : Seen) (forms : List Form) (roots : List Context) → old ≡ nothing_seen → HasGrown forms roots old new → new.problem.forms ≡ forms
 grown_forms old new forms roots empty grown = ap (λ (k : Problem). k.forms) (grown_problem old new forms roots empty grown)
 
+-- so it is the problem of the ontology, where nothing is asked about
 pub grown_into : (o : Ontology) (v : Listing) (old new : Seen) (forms : List Form) (roots : List Context) → IsNormalFor o v → v.asked ≡ [] → AreRoots o [] roots → old ≡ nothing_seen → forms ≡ map form_in v.entries → HasGrown forms roots old new
-    → IsProblemOf o [] (prefixes_of v) new.problem
-grown_into o v old new forms roots normal asked are empty same grown =
-    is_problem o v roots new.problem normal asked are (grown_forms old new forms roots empty grown ∙ same) (ap (λ (k : Problem). k.roots) (grown_problem old new forms roots empty grown))
+    → IsProblemOf o v.asked (prefixes_of v) new.problem
+grown_into o v old new forms roots normal unasked are empty same grown =
+    is_problem o v roots new.problem normal (subst (λ a. AreRoots o a roots) (sym unasked) are) (grown_forms old new forms roots empty grown ∙ same) (ap (λ (k : Problem). k.roots) (grown_problem old new forms roots empty grown))
+
+-- what is asked about is there, where nothing is
+pub none_asked : (o : Ontology) (asked : List ℕ) → asked ≡ [] → AreAsked o asked
+none_asked o asked none = subst (AreAsked o) (sym none) (All-nil (λ e. e < length o.nodes))
 
 -- a list without members is empty: so nothing is served of a state that was empty and has grown
 no_members : (ns : List ℕ) → ((n : ℕ) → Contains ns n → ⊥) → ns ≡ []

@@ -4,7 +4,7 @@ use Rattle.std.specs.List.{All, Contains}
 use Rattle.axioms.specs.Ontology.{Ontology}
 use Rattle.axioms.specs.WellFormedness.{AreDistinct}
 use Rattle.facts.specs.declared.contexts.Fact as code
-use Rattle.closure.specs.Closure.{Fact, IsFact}
+use Rattle.closure.specs.Closure.{AreAsked, Fact, IsFact}
 use Rattle.closure.specs.Denotations.{Prefixes, SaysFact, IsProblemOf}
 use Rattle.normalise.specs.Entries.{form_in}
 use Rattle.normalise.specs.Growth.{Grown, IsNormalFor}
@@ -23,44 +23,52 @@ pub record Saturated : Type 0 where
   pub state : Seen
   pub can_grow : Bool
 
--- the facts over numbers say facts of the closure, where nothing is asked about
-abbrev pub SayFactsOfTheClosure : Ontology → Prefixes → List code.Fact → Type 0
-SayFactsOfTheClosure o b facts = (f : code.Fact) → Contains facts f → (g : Fact) × SaysFact b f g × IsFact o [] g
+-- nothing is asked about
+abbrev pub IsUnasked : Saturated → Type 0
+IsUnasked s = s.normal.asked ≡ []
 
--- the normal forms are those of the ontology, and the facts are of its closure, each once and with what gave it: there may be more
+-- the facts over numbers say facts of the closure of the ontology and of what is asked about
+abbrev pub SayFactsOfTheClosure : Ontology → List ℕ → Prefixes → List code.Fact → Type 0
+SayFactsOfTheClosure o asked b facts = (f : code.Fact) → Contains facts f → (g : Fact) × SaysFact b f g × IsFact o asked g
+
+-- the normal forms are those of the ontology and of what is asked about, and the facts are of their closure, each once and with what
+-- gave it: there may be more
 pub record IsSound (o : Ontology) (s : Saturated) : Type 0 where
   pub normal : IsNormalFor o s.normal
-  pub asked : s.normal.asked ≡ []
+  -- what is asked about is there
+  pub asked : AreAsked o s.normal.asked
   -- the forms of the state are those of the entries, in the same order
   pub forms : s.state.problem.forms ≡ map form_in s.normal.entries
-  pub problem : IsProblemOf o [] (prefixes_of s.normal) s.state.problem
-  pub facts : SayFactsOfTheClosure o (prefixes_of s.normal) s.state.facts
+  pub problem : IsProblemOf o s.normal.asked (prefixes_of s.normal) s.state.problem
+  pub facts : SayFactsOfTheClosure o s.normal.asked (prefixes_of s.normal) s.state.facts
   pub born : AreBorn s.state
 
 -- all facts are served
 abbrev pub IsFinished : Saturated → Type 0
 IsFinished s = length s.state.served ≡ length s.state.facts
 
--- the facts over numbers say exactly the facts of the closure, where nothing is asked about
-pub record SayTheClosure (o : Ontology) (b : Prefixes) (facts : List code.Fact) : Type 0 where
-  pub each : (f : code.Fact) → Contains facts f → (g : Fact) × SaysFact b f g × IsFact o [] g
-  pub all : (g : Fact) → IsFact o [] g → (f : code.Fact) × Contains facts f × SaysFact b f g
+-- the facts over numbers say exactly the facts of the closure of the ontology and of what is asked about
+pub record SayTheClosure (o : Ontology) (asked : List ℕ) (b : Prefixes) (facts : List code.Fact) : Type 0 where
+  pub each : (f : code.Fact) → Contains facts f → (g : Fact) × SaysFact b f g × IsFact o asked g
+  pub all : (g : Fact) → IsFact o asked g → (f : code.Fact) × Contains facts f × SaysFact b f g
 
--- the normal forms are those of the ontology, and the facts all that they lead to, each once and with what gave it
+-- the normal forms are those of the ontology and of what is asked about, and the facts all that they lead to, each once and with what
+-- gave it
 pub record IsSaturated (o : Ontology) (s : Saturated) : Type 0 where
   pub normal : IsNormalFor o s.normal
-  pub asked : s.normal.asked ≡ []
+  -- what is asked about is there
+  pub asked : AreAsked o s.normal.asked
   -- the forms of the state are those of the entries, in the same order
   pub forms : s.state.problem.forms ≡ map form_in s.normal.entries
-  pub problem : IsProblemOf o [] (prefixes_of s.normal) s.state.problem
-  pub facts : SayTheClosure o (prefixes_of s.normal) s.state.facts
+  pub problem : IsProblemOf o s.normal.asked (prefixes_of s.normal) s.state.problem
+  pub facts : SayTheClosure o s.normal.asked (prefixes_of s.normal) s.state.facts
   pub born : AreBorn s.state
 
--- the closure has more than n facts: a list has so many that differ
-pub record HasMoreFactsThan (o : Ontology) (n : ℕ) : Type 0 where
+-- the closure of the ontology and of what is asked about has more than n facts: a list has so many that differ
+pub record HasMoreFactsThan (o : Ontology) (asked : List ℕ) (n : ℕ) : Type 0 where
   pub facts : List Fact
   pub distinct : AreDistinct facts
-  pub each : All (IsFact o []) facts
+  pub each : All (IsFact o asked) facts
   pub many : n < length facts
 
 -- what a run leads to that may have so many facts, and how it ends
@@ -78,11 +86,11 @@ pub record HasResumed (max_facts : ℕ) (old new : Saturated) (result : Result U
   -- with nothing pending nothing changes, and memory is not refused
   pub idle : IsFinished old → (new ≡ old) × ¬ (result ≡ Err Memory)
 
--- what such a run of the ontology's saturation says of its closure
+-- what such a run of the saturation of the ontology, and of what is asked about, says of their closure
 pub record Saturates (o : Ontology) (max_facts : ℕ) (new : Saturated) (result : Result Unit Stop) : Type 0 where
   pub sound : IsSound o new
   pub saturated : OnOk result (IsSaturated o new)
-  pub limit : result ≡ Err Limit → HasMoreFactsThan o max_facts
+  pub limit : result ≡ Err Limit → HasMoreFactsThan o new.normal.asked max_facts
 
 -- forms, and what fresh names stand for, keep their numbers; facts stay at their places, with what gave them; and exactly the served
 -- facts that a form asks for to which none was equal before are pending again

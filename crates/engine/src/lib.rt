@@ -1,6 +1,7 @@
 //! From an ontology to the facts of its closure.
 #![tactic(auto)]
 
+mod asking;
 mod extending;
 mod saturation;
 

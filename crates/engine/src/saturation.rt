@@ -1,7 +1,7 @@
 //! All facts that an ontology leads to.
 ghost use Rattle.closure.specs.Denotations.{IsProblemOf};
 ghost use Rattle.axioms.specs.Ontology.{Ontology as Ontology2};
-ghost use Rattle.engine.specs.Saturations.{HasMoreFactsThan, HasResumed, IsFinished, IsSaturated, IsSound, Saturates};
+ghost use Rattle.engine.specs.Saturations.{HasMoreFactsThan, HasResumed, IsFinished, IsSaturated, IsSound, IsUnasked, Saturates};
 ghost use Rattle.facts.specs.Births.{reason};
 ghost use Rattle.normalise.specs.Entries.{form_in};
 ghost use Rattle.normalise.specs.Growth.{IsNormalFor};
@@ -38,7 +38,7 @@ impl Model for Saturation {
 }
 
 impl Saturation {
-    /// The start of a saturation of the ontology, with nothing run.
+    /// The start of a saturation of the ontology, with nothing run and nothing asked about.
     ///
     /// # Errors
     ///
@@ -49,6 +49,7 @@ impl Saturation {
         ontology: &Ontology,
     ) -> Result<Saturation, Memory>
         ensures sound { IfOk result (IsSound ontology.now) }
+        ensures unasked { IfOk result IsUnasked }
         ensures unserved { IfOk result (λ s. s.state.served ≡ []) }
         ensures can_grow { IfOk result (λ s. s.can_grow ≡ true) }
     {
@@ -156,7 +157,7 @@ fn begun(
 ) -> Result<State<ByContext>, Memory>
     requires normal { IsNormalFor ontology.now normal.now }
     requires asked { normal.now.asked ≡ [] }
-    ensures problem { IfOk result (λ s. IsProblemOf ontology.now [] (prefixes_of normal.now) s.problem) }
+    ensures problem { IfOk result (λ s. IsProblemOf ontology.now normal.now.asked (prefixes_of normal.now) s.problem) }
     ensures forms { IfOk result (λ s. s.problem.forms ≡ map form_in normal.now.entries) }
     ensures served { IfOk result (λ s. s.served ≡ []) }
 {
@@ -184,8 +185,9 @@ pub fn saturated(
     max_facts: u32,
 ) -> Result<Saturation, Stop>
     ensures saturated { IfOk result (λ s. IsSaturated ontology.now s) }
+    ensures unasked { IfOk result IsUnasked }
     ensures within { IfOk result (λ s. length s.state.facts ≤ max_facts) }
-    ensures limit { result ≡ Err stops.Limit → HasMoreFactsThan ontology.now max_facts }
+    ensures limit { result ≡ Err stops.Limit → HasMoreFactsThan ontology.now [] max_facts }
 {
     let mut saturation = Saturation::start(alloc, state, ontology)?;
     match saturation.resume(max_facts) {

@@ -1,14 +1,15 @@
-use Rattle.std.proofs.Common.{◌≡◌, ℕ, length, map, drop, ap, ◌∙◌, sym, subst, arith}
+use Rattle.std.proofs.Common.{◌≡◌, length, map, drop, ap, ◌∙◌, sym, subst, arith}
 use Rattle.std.proofs.lemmas.List.{length-map}
 use Rattle.axioms.specs.Ontology.{Ontology}
 use Rattle.axioms.specs.View.{axiom_of}
 use Rattle.normalise.specs.Entries.{form_in}
 use Rattle.normalise.specs.Growth.{Grown, Grows, IsNormalFor}
 use Rattle.normalise.specs.Listing.{Listing}
+use Rattle.normalise.specs.Roots.{HasMoreNames}
 use Rattle.normalise.proofs.Adding.{keeps_long}
 use Rattle.saturate.specs.Growth.{HasGrown}
 use Rattle.engine.specs.Saturations.{IsSound, Saturated}
-use Rattle.engine.proofs.GrownSaturations.{grown_sound, old_first}
+use Rattle.engine.proofs.GrownSaturations.{extended_sound, old_first}
 use Rattle.engine.proofs.saturation.Saturation.extend.Goals as goal
 
 pub grown-requires : goal.grown-requires
@@ -33,10 +34,10 @@ returns-clause-sound c =
     let count : c.len.result ≡ length (map form_in c.self.inside.normal.entries) = c.len.ensures ∙ ap length c.forms-2.ensures in
     let has : HasGrown (drop (length (map form_in c.self.inside.normal.entries)) (map form_in v.entries)) c.in_ok-roots.roots.items c.self.inside.state.seen c.extend.new.self.seen =
     rw (← count) (rw (← c.forms.ensures) (rw (← c.deref.ensures.value) c.in_ok-extend.ensures.grown)) in
-    grown_sound o p c.well_formed-2.ensures old v c.extend.new.self.seen c.extend.new.self.can_grow (length c.classes.result.now) (length c.individuals.result.now) c.in_ok-roots.roots.items
-    sound normal asked kept
-    (record { nodes = c.requires.grows.nodes; names = c.requires.names; new_classes = c.classes.ensures.count; new_individuals = c.individuals.ensures.count })
-    c.in_ok-roots.ensures.again has c.in_ok-extend.ensures.state.born
+    let classes = length c.classes.result.now in let individuals = length c.individuals.result.now in let roots = c.in_ok-roots.roots.items in
+    let names : HasMoreNames o p classes individuals = record { nodes = c.requires.grows.nodes; names = c.requires.names; new_classes = c.classes.ensures.count; new_individuals = c.individuals.ensures.count } in
+    extended_sound o p c.well_formed-2.ensures old v c.extend.new.self.seen c.extend.new.self.can_grow classes individuals roots sound normal kept names c.in_ok-roots.ensures.again c.in_ok-extend.ensures.state.born
+    asked has
 
 pub returns-clause-kept : goal.returns-clause-kept
 returns-clause-kept c = rw (← c.self.view_is) (record {
