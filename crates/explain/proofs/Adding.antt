@@ -7,6 +7,7 @@ use Rattle.std.specs.List.{Contains}
 use Rattle.axioms.specs.Ontology.{Ontology}
 use Rattle.cert_check.specs.Derivation.{IsDerivation}
 use Rattle.certificate.specs.Certificate.{Line}
+use Rattle.closure.specs.Closure.{AreAsked}
 use Rattle.engine.specs.Saturations.{Saturated, IsSaturated}
 use Rattle.explain.proofs.Below.{from_next, rests_below}
 use Rattle.explain.proofs.Saying.{wanted_line}
@@ -109,7 +110,7 @@ showing_not o s marks lines shown unmarked h = record { derivation = h.derivatio
       | inr e ↦ absurd (other a.later a.marked e)
     ]
 
-    needed : (n : ℕ) (line : Line) → slice_get lines n ≡ Some line → IsWanted o line.conclusion ⊎ (IsPremise lines n ⊎ IsAwaited s marks (shown ++ [] ∷ []) n)
+    needed : (n : ℕ) (line : Line) → slice_get lines n ≡ Some line → IsWanted o s.normal.asked line.conclusion ⊎ (IsPremise lines n ⊎ IsAwaited s marks (shown ++ [] ∷ []) n)
     needed n line at = elim (h.needed n line at) [
       | inl w ↦ inl w
       | inr r ↦ elim r [ inl p ↦ inr (inl p) | inr a ↦ inr (inr (awaited n a)) ]
@@ -117,11 +118,11 @@ showing_not o s marks lines shown unmarked h = record { derivation = h.derivatio
 
 -- the next fact is marked, and lines that show it were added
 module _ (o : Ontology) (s : Saturated) (marks : List Bool) (old new : List Line) (shown : List (List ℕ)) (numbers : List ℕ) (f : Fact)
-    (at_f : slice_get s.state.facts (length shown) ≡ Some f) (marked : IsMarked marks (length shown)) (called_for : EachIsCalledFor o s marks)
+    (at_f : slice_get s.state.facts (length shown) ≡ Some f) (marked : IsMarked marks (length shown)) (among : AreAsked o s.normal.asked) (called_for : EachIsCalledFor o s marks)
     (h : IsShowing o s marks old shown) (derivation : IsDerivation o new) (g : Lengthens old new)
     (shows : AreShowing (prefixes_of s.normal) new numbers f) (used : EachIsUsed s shown (length shown) old new numbers) where
   abbrev Goal : ℕ → Line → Type 0
-  Goal n line = IsWanted o line.conclusion ⊎ (IsPremise new n ⊎ IsAwaited s marks (shown ++ numbers ∷ []) n)
+  Goal n line = IsWanted o s.normal.asked line.conclusion ⊎ (IsPremise new n ⊎ IsAwaited s marks (shown ++ numbers ∷ []) n)
 
   each_shown : (n : ℕ) (e : Fact) → n < length (shown ++ numbers ∷ []) → IsMarked marks n → slice_get s.state.facts n ≡ Some e → AreShowing (prefixes_of s.normal) new (list_at (shown ++ numbers ∷ []) n) e
   each_shown n e l m at = elim (before_or_last shown numbers n l) [
@@ -138,12 +139,12 @@ module _ (o : Ontology) (s : Saturated) (marks : List Bool) (old new : List Line
   of_number : (n : ℕ) (line : Line) → slice_get new n ≡ Some line → Contains numbers (suc n) → Goal n line
   of_number n line at c = elim (called_for (length shown) f at_f marked) [ inl w ↦ inl (wanted w) | inr later ↦ inr (inr (awaited later)) ]
     where
-      wanted : IsWantedFact o f → IsWanted o line.conclusion
+      wanted : IsWantedFact o s.normal.asked f → IsWanted o s.normal.asked line.conclusion
       wanted w =
-          let l = wanted_line o (prefixes_of s.normal) new numbers f w shows in
+          let l = wanted_line o s.normal.asked (prefixes_of s.normal) new numbers f among w shows in
           let number : suc l.place ≡ suc n = Contains-one (suc l.place) (suc n) (subst (λ ns. Contains ns (suc n)) l.number_is c) in
           let same : l.line ≡ line = one_value (slice_get new n) l.line line (subst (λ k. slice_get new k ≡ Some l.line) (omega (arith, number)) l.there) at in
-          subst (λ (x : Line). IsWanted o x.conclusion) same l.wanted
+          subst (λ (x : Line). IsWanted o s.normal.asked x.conclusion) same l.wanted
 
       awaited : ServesLater s marks (length shown) → IsAwaited s marks (shown ++ numbers ∷ []) n
       awaited later = record {
@@ -184,7 +185,7 @@ module _ (o : Ontology) (s : Saturated) (marks : List Bool) (old new : List Line
 
 -- ---- all facts
 
-pub all_needed : (o : Ontology) (s : Saturated) (marks : List Bool) (lines : List Line) (shown : List (List ℕ)) → length marks ≡ length shown → IsShowing o s marks lines shown → EachIsNeeded o lines
+pub all_needed : (o : Ontology) (s : Saturated) (marks : List Bool) (lines : List Line) (shown : List (List ℕ)) → length marks ≡ length shown → IsShowing o s marks lines shown → EachIsNeeded o s.normal.asked lines
 all_needed o s marks lines shown long h n line at = elim (h.needed n line at) [
   | inl w ↦ inl w
   | inr r ↦ elim r [ inl p ↦ inr p | inr a ↦ absurd (over a) ]

@@ -21,7 +21,6 @@ use Rattle.facts.specs.declared.contexts.Fact.TheVariants.{In, Edge}
 use Rattle.normal_forms.specs.declared.forms.Form.{Form}
 use Rattle.normal_forms.specs.declared.forms.Form.TheVariants.{N1, N2, N3, N4, N5, N6, N7, N8, N9}
 use Rattle.normal_forms.specs.declared.forms.Origin.TheVariants as origins
-use Rattle.normal_forms.specs.Origins.{GivenBy}
 use Rattle.normalise.specs.Entries.{form_in, origin_in}
 use Rattle.normalise.specs.declared.entries.Entry.{Entry}
 use Rattle.normalise.specs.Problem.{prefixes_of}
@@ -108,8 +107,7 @@ module _ (o : Ontology) (s : Saturated) (w : IsOntology o) (saturated : IsSatura
       let b = prefixes_of s.normal in
       let at = subst (λ (fs : List Form). slice_get fs m ≡ Some form) (sym saturated.forms) at_entries in
       let (g, says, given) = form_said o s.normal m form (origins.Expr e) saturated.normal at_entries origin in
-      let gives = subst (λ (asked : List ℕ). GivenBy o asked (origins.Expr e) g) saturated.asked given in
-      let kind = expression_kind o b e form g says gives in
+      let kind = expression_kind o s.normal.asked b e form g says given in
       let (older, at_older, from) = born_by o s n r f saturated born there in
       let is = given_by s.state.problem s.normal.entries m (is_by_expression e (slice_get s.normal.entries m) origin) r.older form from place at kind in
       record {
@@ -117,5 +115,5 @@ module _ (o : Ontology) (s : Saturated) (w : IsOntology o) (saturated : IsSatura
         there = λ p member. each_there s.state.facts r.older older p at_older member;
         lift = λ fs at_fs. subst (LiftTo s.state.problem.forms form) (same_each older fs (sym at_older ∙ at_fs)) (lifts s.state.problem form older f kind is.concludes);
         lead_to = λ lines numbers shown. leads_to o b s.state.problem lines numbers (expression_rule form) f (λ c e. fact_within o s n f c w saturated there e)
-            (expression_leads o b s.state.problem lines numbers e form g says gives older f is.concludes (shown older at_older));
+            (expression_leads o b s.state.problem lines numbers s.normal.asked e form g says given older f is.concludes (shown older at_older));
       }

@@ -156,8 +156,8 @@ module _ (o : Ontology) (b : Prefixes) (k : Problem) (lines : List Line) (number
   left_leads e (And ds) form g node says (n, (d, low, at_n, is)) older f given = left_and_leads e n d ds form node low at_n (subst (SaysForm b form) is says) older f given
   left_leads e (Exists r c) form g node says is older f given = left_some_leads e r c form node (subst (SaysForm b form) is says) older f given
 
-  pub expression_leads : (e : ExprId) (form : code_form.Form) (g : Form) → SaysForm b form g → GivenBy o [] (origins.Expr e) g → (older : List Fact) (f : Fact) → Concludes k form older f → AreShowingEach b lines numbers (taken form older) → Lead (expression_rule form) (said_by f) f
-  expression_leads e form g says (node, at, gives) older f con shown = elim gives [
+  pub expression_leads : (asked : List ℕ) (e : ExprId) (form : code_form.Form) (g : Form) → SaysForm b form g → GivenBy o asked (origins.Expr e) g → (older : List Fact) (f : Fact) → Concludes k form older f → AreShowingEach b lines numbers (taken form older) → Lead (expression_rule form) (said_by f) f
+  expression_leads asked e form g says (node, at, gives) older f con shown = elim gives [
     | inl right ↦ right_leads e.0 node form g at says right.1 older f (con, shown)
     | inr left ↦ left_leads e.0 node form g at says left.1 older f (con, shown)
   ]
@@ -204,8 +204,8 @@ left_kind b e (Exists r c) form g says is = go (subst (SaysForm b form) is says)
     go : {form : code_form.Form} → SaysForm b form (N4 r (Whole c) (Whole e)) → IsOfExpression form
     go (n4 says_r says_a says_c) = tt
 
-pub expression_kind : (o : Ontology) (b : Prefixes) (e : ExprId) (form : code_form.Form) (g : Form) → SaysForm b form g → GivenBy o [] (origins.Expr e) g → IsOfExpression form
-expression_kind o b e form g says (node, at, gives) = elim gives [
+pub expression_kind : (o : Ontology) (asked : List ℕ) (b : Prefixes) (e : ExprId) (form : code_form.Form) (g : Form) → SaysForm b form g → GivenBy o asked (origins.Expr e) g → IsOfExpression form
+expression_kind o asked b e form g says (node, at, gives) = elim gives [
   | inl right ↦ right_kind b e.0 node form g says right.1
   | inr left ↦ left_kind b e.0 node form g says left.1
 ]

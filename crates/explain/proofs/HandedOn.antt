@@ -10,7 +10,8 @@ use Rattle.lemmas.proofs.Choices.{one_value}
 use Rattle.lemmas.proofs.Members.{Contains-from_slice_get}
 use Rattle.lemmas.proofs.Places.{take_push}
 use Rattle.std.proofs.lemmas.List.Elements.{Contains-append_left, Contains-push, Contains-push_cases}
-use Rattle.explain.specs.LineMarks.{IsMarked, ArePremisesBefore, ArePremisesMarked, MarksRests}
+use Rattle.explain.specs.LineMarks.{ArePremisesBefore, ArePremisesMarked, MarksRests}
+use Rattle.explain.specs.Marks.{IsMarked}
 
 -- what marked lines from the k-th on have as premises is marked, and the goal rests on whatever is marked
 pub record AreHandedOn (lines : List Line) (first marks : List Bool) (k : ℕ) : Type 0 where

@@ -16,7 +16,8 @@ use Rattle.exactness.specs.Trimming.{RestsOn, itself, premise, place, renumbered
 use Rattle.lemmas.proofs.Members.{Contains-from_slice_get, Contains-none, Contains-first, Contains-later, Contains-cons_cases}
 use Rattle.lemmas.proofs.Places.{slice_get_push, keeps_push, take_push}
 use Rattle.lemmas.proofs.Choices.{one_value}
-use Rattle.explain.specs.LineMarks.{IsMarked, ArePremisesBefore, ArePremisesMarked, MarksRests, marked_numbers, AreKept}
+use Rattle.explain.specs.LineMarks.{ArePremisesBefore, ArePremisesMarked, MarksRests, marked_numbers, AreKept}
+use Rattle.explain.specs.Marks.{IsMarked}
 
 -- ---- places among numbers
 

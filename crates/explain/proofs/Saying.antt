@@ -1,5 +1,5 @@
 -- What the lines of a wanted fact say.
-use Rattle.std.proofs.Common.{◌≡◌, ℕ, zero, suc, ◌<◌, List, [], ◌∷◌, length, slice_get, Some, All, Contains, refl, sym, ap, ap₂, ◌∙◌, subst}
+use Rattle.std.proofs.Common.{◌≡◌, ℕ, zero, suc, ◌<◌, inl, inr, List, [], ◌∷◌, length, slice_get, Some, All, Contains, refl, sym, ap, ap₂, ◌∙◌, subst}
 use Rattle.std.proofs.lemmas.List.Elements.{All-contains}
 use Rattle.std.proofs.lemmas.Option.{none-some}
 use Rattle.axioms.specs.Ontology.{Ontology, IsClassAt, thing, nothing}
@@ -10,7 +10,7 @@ use Rattle.cert_check.specs.Acceptance.{IsTop}
 use Rattle.cert_check.specs.Derivation.{at_numbers, HasLine}
 use Rattle.certificate.specs.Certificate as subjects
 use Rattle.certificate.specs.Certificate.{Sub, Line}
-use Rattle.closure.specs.Closure.{Context, Expression, Individual, Fact, In, IsRoot, IsFact}
+use Rattle.closure.specs.Closure.{AreAsked, Context, Expression, Individual, Fact, In, IsRoot, IsFact}
 use Rattle.closure.specs.Denotations.{Prefixes, whole, SaysContext, expression, individual, context_of, SaysFact, in_context}
 use Rattle.closure.proofs.Names.{fact_same}
 use Rattle.exactness.specs.ListedInterpretation.{IsConsistent}
@@ -18,14 +18,14 @@ use Rattle.exactness.proofs.Derivable.{conclusions, at_conclusion, prepended_lis
 use Rattle.exactness.specs.Derivability.{subject_of}
 use Rattle.engine.specs.Saturations.{Saturated, IsSaturated}
 use Rattle.exactness.specs.Theorems.{HaveFacts}
-use Rattle.explain.specs.Marks.{IsClass, IsNamed, IsWantedFact, IsTopContext, IsContradictoryFact, IsShown}
+use Rattle.explain.specs.Marks.{IsClassOrAsked, IsNamedOrAsked, IsWantedFact, IsTopContext, IsContradictoryFact, IsShown}
 use Rattle.explain.specs.Needs.{IsWanted, ShowsContradiction}
 use Rattle.explain.specs.LinesOfFacts.{AreShowing, IsShownBy}
 use Rattle.facts.specs.declared.contexts.Context as code_context
 use Rattle.facts.specs.declared.contexts.Context.TheVariants as contexts
 use Rattle.facts.specs.declared.contexts.Fact as code
 use Rattle.facts.specs.declared.contexts.Fact.TheVariants as facts
-use Rattle.lemmas.proofs.Members.{slice_get-from_Contains, Contains-none}
+use Rattle.lemmas.proofs.Members.{slice_get-from_Contains}
 use Rattle.normal_forms.specs.Forms.{Whole}
 use Rattle.normal_forms.specs.declared.forms.Class2.TheVariants as classes
 use Rattle.normalise.specs.Problem.{prefixes_of}
@@ -92,48 +92,54 @@ has_line b lines e x s =
 
 -- ---- wanted facts
 
-root_of : (o : Ontology) (x : code_context.Context) → IsNamed o x → IsRoot o [] (context_of x)
-root_of o (contexts.Expr e) h = IsRoot.named h.0 e.0 h.1
-root_of o (contexts.Individual a) h = IsRoot.individual a.0 h
+class_root : (o : Ontology) (asked : List ℕ) (e : ℕ) → AreAsked o asked → IsClassOrAsked o asked e → IsRoot o asked (Expression e)
+class_root o asked e there h = elim h [
+  | inl class ↦ IsRoot.named class.0 e class.1
+  | inr among ↦ IsRoot.question e (All-contains (λ d. d < length o.nodes) asked e there among) among
+]
 
-is_class : {o : Ontology} {e : ℕ} → IsRoot o [] (Expression e) → IsClass o e
-is_class (IsRoot.named c _ h) = (c, h)
-is_class (IsRoot.question e _ h) = absurd (Contains-none e h)
+root_of : (o : Ontology) (asked : List ℕ) (x : code_context.Context) → AreAsked o asked → IsNamedOrAsked o asked x → IsRoot o asked (context_of x)
+root_of o asked (contexts.Expr e) there h = class_root o asked e.0 there h
+root_of o asked (contexts.Individual a) there h = IsRoot.individual a.0 h
 
-is_individual : {o : Ontology} {a : ℕ} → IsRoot o [] (Individual a) → a < length o.names.individuals
+is_class_or_asked : {o : Ontology} {asked : List ℕ} {e : ℕ} → IsRoot o asked (Expression e) → IsClassOrAsked o asked e
+is_class_or_asked (IsRoot.named c _ h) = inl (c, h)
+is_class_or_asked (IsRoot.question _ _ h) = inr h
+
+is_individual : {o : Ontology} {asked : List ℕ} {a : ℕ} → IsRoot o asked (Individual a) → a < length o.names.individuals
 is_individual (IsRoot.individual _ h) = h
 
-is_named : (o : Ontology) (x : code_context.Context) → IsRoot o [] (context_of x) → IsNamed o x
-is_named o (contexts.Expr e) h = is_class h
-is_named o (contexts.Individual a) h = is_individual h
+is_named_or_asked : (o : Ontology) (asked : List ℕ) (x : code_context.Context) → IsRoot o asked (context_of x) → IsNamedOrAsked o asked x
+is_named_or_asked o asked (contexts.Expr e) h = is_class_or_asked h
+is_named_or_asked o asked (contexts.Individual a) h = is_individual h
 
 -- the line of a wanted fact says what is wanted
-pub record IsWantedLine (o : Ontology) (lines : List Line) (numbers : List ℕ) : Type 0 where
+pub record IsWantedLine (o : Ontology) (asked : List ℕ) (lines : List Line) (numbers : List ℕ) : Type 0 where
   pub place : ℕ
   pub number_is : numbers ≡ suc place ∷ []
   pub line : Line
   pub there : slice_get lines place ≡ Some line
-  pub wanted : IsWanted o line.conclusion
+  pub wanted : IsWanted o asked line.conclusion
 
-pub wanted_line : (o : Ontology) (b : Prefixes) (lines : List Line) (numbers : List ℕ) (f : code.Fact) → IsWantedFact o f → AreShowing b lines numbers f → IsWantedLine o lines numbers
-wanted_line o b lines numbers (facts.In (classes.Expr e) x) w s =
+pub wanted_line : (o : Ontology) (asked : List ℕ) (b : Prefixes) (lines : List Line) (numbers : List ℕ) (f : code.Fact) → AreAsked o asked → IsWantedFact o asked f → AreShowing b lines numbers f → IsWantedLine o asked lines numbers
+wanted_line o asked b lines numbers (facts.In (classes.Expr e) x) among w s =
     let l = line_of_fact b lines numbers e x s in
     record {
       place = l.place;
       number_is = l.number_is;
       line = l.line;
       there = l.there;
-      wanted = record { context = context_of x; root = root_of o x w.1; class = e.0; named = IsRoot.named w.0.0 e.0 w.0.1; says = l.says };
+      wanted = record { context = context_of x; root = root_of o asked x among w.1; class = e.0; class_root = class_root o asked e.0 among w.0; says = l.says };
     }
-wanted_line o b lines numbers (facts.In (classes.Partial n) x) w s = absurd w
-wanted_line o b lines numbers (facts.Edge x r y) w s = absurd w
+wanted_line o asked b lines numbers (facts.In (classes.Partial n) x) among w s = absurd w
+wanted_line o asked b lines numbers (facts.Edge x r y) among w s = absurd w
 
--- that a class lies in a context is wanted of those that are asked about
-pub root_wanted : (o : Ontology) (x : code_context.Context) (e : ExprId) → IsRoot o [] (context_of x) → IsRoot o [] (Expression e.0) → IsWantedFact o (facts.In (classes.Expr e) x)
-root_wanted o x e root class = (is_class class, is_named o x root)
+-- that a root is in a class is wanted, where the class is a root as well
+pub root_wanted : (o : Ontology) (asked : List ℕ) (x : code_context.Context) (e : ExprId) → IsRoot o asked (context_of x) → IsRoot o asked (Expression e.0) → IsWantedFact o asked (facts.In (classes.Expr e) x)
+root_wanted o asked x e root class = (is_class_or_asked class, is_named_or_asked o asked x root)
 
 -- none of the facts says so, and so it is no fact of the closure
-pub no_fact : (o : Ontology) (s : Saturated) (x : code_context.Context) (e : ExprId) → IsSaturated o s → All (λ f. f ≡ facts.In (classes.Expr e) x → ⊥) s.state.facts → IsFact o [] (In (Whole e.0) (context_of x)) → ⊥
+pub no_fact : (o : Ontology) (s : Saturated) (x : code_context.Context) (e : ExprId) → IsSaturated o s → All (λ f. f ≡ facts.In (classes.Expr e) x → ⊥) s.state.facts → IsFact o s.normal.asked (In (Whole e.0) (context_of x)) → ⊥
 no_fact o s x e saturated never fact =
     let f = saturated.facts.all (In (Whole e.0) (context_of x)) fact in
     All-contains (λ g. g ≡ facts.In (classes.Expr e) x → ⊥) s.state.facts f.0 never f.1 (fact_same saturated.problem f.2 (in_context (whole refl) (says_context x)))
@@ -141,23 +147,23 @@ no_fact o s x e saturated never fact =
 -- ---- what all lines say
 
 -- lines that show each wanted fact have the facts of the closure
-pub have_facts : (o : Ontology) (s : Saturated) (lines : List Line) → IsSaturated o s → ((n : ℕ) (f : code.Fact) → IsWantedFact o f → slice_get s.state.facts n ≡ Some f → IsShown (prefixes_of s.normal) lines f) → HaveFacts o [] lines
+pub have_facts : (o : Ontology) (s : Saturated) (lines : List Line) → IsSaturated o s → ((n : ℕ) (f : code.Fact) → IsWantedFact o s.normal.asked f → slice_get s.state.facts n ≡ Some f → IsShown (prefixes_of s.normal) lines f) → HaveFacts o s.normal.asked lines
 have_facts o s lines saturated shown x e root class fact =
     let f = saturated.facts.all (In (Whole e) x) fact in
     let g = whole_saying f.2 in
     let at = slice_get-from_Contains s.state.facts f.0 f.1 in
-    let wanted : IsWantedFact o (facts.In (classes.Expr g.0) g.1) = (is_class (subst (λ c. IsRoot o [] (Expression c)) (sym g.3) class), is_named o g.1 (subst (IsRoot o []) (sym g.4) root)) in
+    let wanted = root_wanted o s.normal.asked g.1 g.0 (subst (IsRoot o s.normal.asked) (sym g.4) root) (subst (λ c. IsRoot o s.normal.asked (Expression c)) (sym g.3) class) in
     let line = has_line (prefixes_of s.normal) lines g.0 g.1 (shown at.0 (facts.In (classes.Expr g.0) g.1) wanted (at.1 ∙ ap Some g.2)) in
     subst (λ y. HasLine lines (Sub (subject_of y) e)) g.4 (subst (λ c. HasLine lines (Sub (subject_of (context_of g.1)) c)) g.3 line)
 
 -- ---- contradictions
 
 -- owl:Thing and owl:Nothing are named classes
-pub contradictory_wanted : (o : Ontology) (f : code.Fact) → IsOntology o → IsContradictoryFact o f → IsWantedFact o f
-contradictory_wanted o (facts.In (classes.Expr e) (contexts.Expr d)) kept h = ((1, subst (IsClassAt o 1) (sym h.0) kept.nothing_node), (0, subst (IsClassAt o 0) (sym h.1) kept.thing_node))
-contradictory_wanted o (facts.In (classes.Expr e) (contexts.Individual a)) kept h = ((1, subst (IsClassAt o 1) (sym h.0) kept.nothing_node), h.1)
-contradictory_wanted o (facts.In (classes.Partial n) x) kept h = absurd h
-contradictory_wanted o (facts.Edge x r y) kept h = absurd h
+pub contradictory_wanted : (o : Ontology) (asked : List ℕ) (f : code.Fact) → IsOntology o → IsContradictoryFact o f → IsWantedFact o asked f
+contradictory_wanted o asked (facts.In (classes.Expr e) (contexts.Expr d)) kept h = (inl (1, subst (IsClassAt o 1) (sym h.0) kept.nothing_node), inl (0, subst (IsClassAt o 0) (sym h.1) kept.thing_node))
+contradictory_wanted o asked (facts.In (classes.Expr e) (contexts.Individual a)) kept h = (inl (1, subst (IsClassAt o 1) (sym h.0) kept.nothing_node), h.1)
+contradictory_wanted o asked (facts.In (classes.Partial n) x) kept h = absurd h
+contradictory_wanted o asked (facts.Edge x r y) kept h = absurd h
 
 top_of : (o : Ontology) (x : code_context.Context) → IsTopContext o x → IsTop (subject_of (context_of x))
 top_of o (contexts.Expr e) h = subst (λ d. IsTop (subjects.Expression d)) (sym h) IsTop.of_thing
@@ -170,10 +176,10 @@ shows_contradiction o b lines (facts.In (classes.Partial n) x) h s = absurd h
 shows_contradiction o b lines (facts.Edge x r y) h s = absurd h
 
 -- where no fact is a contradiction, there is none
-pub no_contradiction : (o : Ontology) (s : Saturated) → IsSaturated o s → All (λ f. IsContradictoryFact o f → ⊥) s.state.facts → IsConsistent o []
+pub no_contradiction : (o : Ontology) (s : Saturated) → IsSaturated o s → All (λ f. IsContradictoryFact o f → ⊥) s.state.facts → IsConsistent o s.normal.asked
 no_contradiction o s saturated never = record { things = things; individuals = individuals }
   where
-    said : (x : Context) → IsFact o [] (In (Whole nothing) x) → ((y : code_context.Context) → context_of y ≡ x → IsTopContext o y) → ⊥
+    said : (x : Context) → IsFact o s.normal.asked (In (Whole nothing) x) → ((y : code_context.Context) → context_of y ≡ x → IsTopContext o y) → ⊥
     said x fact top =
         let f = saturated.facts.all (In (Whole nothing) x) fact in
         let g = whole_saying f.2 in
@@ -183,12 +189,12 @@ no_contradiction o s saturated never = record { things = things; individuals = i
     thing_top (contexts.Expr e) h = cc
     thing_top (contexts.Individual a) h = absurd cc
 
-    things : IsFact o [] (In (Whole nothing) (Expression thing)) → ⊥
+    things : IsFact o s.normal.asked (In (Whole nothing) (Expression thing)) → ⊥
     things fact = said (Expression thing) fact thing_top
 
     individual_top : (a : ℕ) → a < length o.names.individuals → (y : code_context.Context) → context_of y ≡ Individual a → IsTopContext o y
     individual_top a l (contexts.Expr e) h = absurd cc
     individual_top a l (contexts.Individual i) h = let same : i.0 ≡ a = cc in subst (λ b. b < length o.names.individuals) (sym same) l
 
-    individuals : (a : ℕ) → a < length o.names.individuals → IsFact o [] (In (Whole nothing) (Individual a)) → ⊥
+    individuals : (a : ℕ) → a < length o.names.individuals → IsFact o s.normal.asked (In (Whole nothing) (Individual a)) → ⊥
     individuals a l fact = said (Individual a) fact (individual_top a l)

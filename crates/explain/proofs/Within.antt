@@ -43,7 +43,7 @@ said_within o b f g c (edge says_x (steps at) says_y) derivable said = absurd (n
 pub fact_within : (o : Ontology) (s : Saturated) (n : ℕ) (f : code.Fact) (c : Conclusion) → IsOntology o → IsSaturated o s → slice_get s.state.facts n ≡ Some f → said_by f ≡ Some c → IsConclusionOf o c
 fact_within o s n f c w saturated there said =
     let (g, says, fact) = saturated.facts.each f (Contains-from_slice_get s.state.facts n f there) in
-    said_within o (prefixes_of s.normal) f g c says (fact_derivable o [] w fact) said
+    said_within o (prefixes_of s.normal) f g c says (fact_derivable o s.normal.asked w fact) said
 
 pub axiom_number_within : (o : Ontology) (n : ℕ) (a : Axiom) → at_number o.axioms n ≡ Some a → IsAxiomNumberOf o (Some n)
 axiom_number_within o zero a at = absurd (none-some a at)

@@ -1,12 +1,10 @@
 -- Marks on lines. The n-th line, from 0, has the number n + 1.
-use Rattle.std.specs.Prelude.{◌≡◌, ◌↔◌, ℕ, zero, suc, ◌<◌, ◌≤◌, List, [], ◌∷◌, ◌++◌, Bool, true, false, length, map, slice_get, slice_index_or, Some, if◌then◌else◌}
+use Rattle.std.specs.Prelude.{◌≡◌, ◌↔◌, ℕ, zero, suc, ◌<◌, ◌≤◌, List, [], ◌∷◌, ◌++◌, Bool, false, length, map, slice_get, slice_index_or, Some, if◌then◌else◌}
 use Rattle.std.specs.List.{Contains}
 use Rattle.certificate.specs.Certificate.{Line}
 use Rattle.cert_check.specs.Derivation.{at_numbers}
 use Rattle.exactness.specs.Trimming.{RestsOn, renumbered_line}
-
-abbrev pub IsMarked : List Bool → ℕ → Type 0
-IsMarked marks n = slice_get marks n ≡ Some true
+use Rattle.explain.specs.Marks.{IsMarked}
 
 -- each premise is a line before
 abbrev pub ArePremisesBefore : List Line → Type 0

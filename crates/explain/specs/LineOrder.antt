@@ -35,4 +35,4 @@ pub record IsAwaited (s : Saturated) (marks : List Bool) (shown : List (List ℕ
 pub record IsShowing (o : Ontology) (s : Saturated) (marks : List Bool) (lines : List Line) (shown : List (List ℕ)) : Type 0 where
   pub derivation : IsDerivation o lines
   pub each : (n : ℕ) (f : Fact) → n < length shown → IsMarked marks n → slice_get s.state.facts n ≡ Some f → AreShowing (prefixes_of s.normal) lines (list_at shown n) f
-  pub needed : (n : ℕ) (line : Line) → slice_get lines n ≡ Some line → IsWanted o line.conclusion ⊎ (IsPremise lines n ⊎ IsAwaited s marks shown n)
+  pub needed : (n : ℕ) (line : Line) → slice_get lines n ≡ Some line → IsWanted o s.normal.asked line.conclusion ⊎ (IsPremise lines n ⊎ IsAwaited s marks shown n)

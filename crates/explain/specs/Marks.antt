@@ -1,5 +1,6 @@
 -- Which facts are to have lines.
 use Rattle.std.specs.Prelude.{◌≡◌, ℕ, ◌<◌, ◌⊎◌, List, All, Bool, true, length, slice_get, Option, Some, MatchOption}
+use Rattle.std.specs.List.{Contains}
 use Rattle.axioms.specs.Ontology.{Ontology, IsClassAt, thing, nothing}
 use Rattle.axioms.specs.View.{at_number}
 use Rattle.certificate.specs.Certificate.{Line}
@@ -19,16 +20,20 @@ use Rattle.normalise.specs.Problem.{prefixes_of}
 abbrev pub IsClass : Ontology → ℕ → Type 0
 IsClass o e = (c : ℕ) × IsClassAt o c e
 
--- a named class or an individual
-abbrev pub IsNamed : Ontology → Context → Type 0
-IsNamed o (contexts.Expr e) = IsClass o e.0
-IsNamed o (contexts.Individual a) = a.0 < length o.names.individuals
+-- a named class or an expression that is asked about
+abbrev pub IsClassOrAsked : Ontology → List ℕ → ℕ → Type 0
+IsClassOrAsked o asked e = IsClass o e ⊎ Contains asked e
 
--- the fact puts a named class or an individual in a named class
-abbrev pub IsWantedFact : Ontology → Fact → Type 0
-IsWantedFact o (facts.In (classes.Expr e) x) = IsClass o e.0 × IsNamed o x
-IsWantedFact o (facts.In (classes.Partial n) x) = ⊥
-IsWantedFact o (facts.Edge x r y) = ⊥
+-- a named class, an individual or an expression that is asked about
+abbrev pub IsNamedOrAsked : Ontology → List ℕ → Context → Type 0
+IsNamedOrAsked o asked (contexts.Expr e) = IsClassOrAsked o asked e.0
+IsNamedOrAsked o asked (contexts.Individual a) = a.0 < length o.names.individuals
+
+-- the fact puts a named class, an individual or an expression that is asked about in a named class or in such an expression
+abbrev pub IsWantedFact : Ontology → List ℕ → Fact → Type 0
+IsWantedFact o asked (facts.In (classes.Expr e) x) = IsClassOrAsked o asked e.0 × IsNamedOrAsked o asked x
+IsWantedFact o asked (facts.In (classes.Partial n) x) = ⊥
+IsWantedFact o asked (facts.Edge x r y) = ⊥
 
 -- owl:Thing or an individual
 abbrev pub IsTopContext : Ontology → Context → Type 0
@@ -66,7 +71,7 @@ ServesLater s marks n = (m : ℕ) × (n < m) × IsMarked marks m × RestsOn s m 
 
 -- each marked fact is wanted or serves a later one
 abbrev pub EachIsCalledFor : Ontology → Saturated → List Bool → Type 0
-EachIsCalledFor o s marks = (n : ℕ) (f : Fact) → slice_get s.state.facts n ≡ Some f → IsMarked marks n → IsWantedFact o f ⊎ ServesLater s marks n
+EachIsCalledFor o s marks = (n : ℕ) (f : Fact) → slice_get s.state.facts n ≡ Some f → IsMarked marks n → IsWantedFact o s.normal.asked f ⊎ ServesLater s marks n
 
 -- some of the lines show the fact
 abbrev pub IsShown : Prefixes → List Line → Fact → Type 0

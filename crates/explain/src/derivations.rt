@@ -23,7 +23,8 @@ use facts::{Context, Fact};
 use normal_forms::Class2;
 use std::alloc::Global;
 
-/// Adds a derivation with a line for each named class that is a fact of a named class or of an individual.
+/// Adds a derivation with a line for each named class or expression that is asked about that is a fact of a named class, of an
+/// individual or of an expression that is asked about.
 ///
 /// # Errors
 ///
@@ -37,10 +38,15 @@ fn add_facts<L: LineSink>(
     requires saturated { IsSaturated ontology.now saturation.now }
     requires none { derivation.old ≡ [] }
     ensures derivation { OnOk result (IsDerivation ontology.now derivation.new) }
-    ensures facts { OnOk result (HaveFacts ontology.now [] derivation.new) }
-    ensures needed { OnOk result (EachIsNeeded ontology.now derivation.new) }
+    ensures facts { OnOk result (HaveFacts ontology.now saturation.now.normal.asked derivation.new) }
+    ensures needed { OnOk result (EachIsNeeded ontology.now saturation.now.normal.asked derivation.new) }
 {
-    let marks = wanted(alloc, ontology, saturation.facts())?;
+    let marks = wanted(
+        alloc,
+        ontology,
+        saturation.normal().asked(),
+        saturation.facts(),
+    )?;
     add_lines(alloc, ontology, saturation, marks, derivation)
 }
 
@@ -56,11 +62,11 @@ fn add_contradiction<L: LineSink>(
     derivation: &mut Derivation<L>,
 ) -> Result<(), Memory>
     requires saturated { IsSaturated ontology.now saturation.now }
-    requires contradictory { IsConsistent ontology.now [] → ⊥ }
+    requires contradictory { IsConsistent ontology.now saturation.now.normal.asked → ⊥ }
     requires none { derivation.old ≡ [] }
     ensures derivation { OnOk result (IsDerivation ontology.now derivation.new) }
     ensures shown { OnOk result (ShowsContradiction derivation.new) }
-    ensures needed { OnOk result (EachIsNeeded ontology.now derivation.new) }
+    ensures needed { OnOk result (EachIsNeeded ontology.now saturation.now.normal.asked derivation.new) }
 {
     ontology.well_formed();
     let Some(goal) = first_contradiction(ontology, saturation.facts()) else {
@@ -70,7 +76,8 @@ fn add_contradiction<L: LineSink>(
     add_goal(alloc, ontology, saturation, goal, derivation)
 }
 
-/// A derivation with a line for each named class that is a fact of a named class or of an individual.
+/// A derivation with a line for each named class or expression that is asked about that is a fact of a named class, of an individual
+/// or of an expression that is asked about.
 ///
 /// # Errors
 ///
@@ -82,8 +89,8 @@ pub fn lines(
 ) -> Result<Vec<Line>, Memory>
     requires { IsSaturated ontology.now saturation.now }
     ensures derivation { IfOk result (λ v. IsDerivation ontology.now (lines_of v.items)) }
-    ensures facts { IfOk result (λ v. HaveFacts ontology.now [] (lines_of v.items)) }
-    ensures needed { IfOk result (λ v. EachIsNeeded ontology.now (lines_of v.items)) }
+    ensures facts { IfOk result (λ v. HaveFacts ontology.now saturation.now.normal.asked (lines_of v.items)) }
+    ensures needed { IfOk result (λ v. EachIsNeeded ontology.now saturation.now.normal.asked (lines_of v.items)) }
 {
     let mut derivation = Derivation::new(LineList::new(alloc));
     add_facts(alloc, ontology, saturation, &mut derivation)?;
@@ -101,10 +108,10 @@ pub fn contradiction(
     saturation: &Saturation,
 ) -> Result<Vec<Line>, Memory>
     requires saturated { IsSaturated ontology.now saturation.now }
-    requires contradictory { IsConsistent ontology.now [] → ⊥ }
+    requires contradictory { IsConsistent ontology.now saturation.now.normal.asked → ⊥ }
     ensures derivation { IfOk result (λ v. IsDerivation ontology.now (lines_of v.items)) }
     ensures shown { IfOk result (λ v. ShowsContradiction (lines_of v.items)) }
-    ensures needed { IfOk result (λ v. EachIsNeeded ontology.now (lines_of v.items)) }
+    ensures needed { IfOk result (λ v. EachIsNeeded ontology.now saturation.now.normal.asked (lines_of v.items)) }
 {
     let mut derivation = Derivation::new(LineList::new(alloc));
     add_contradiction(alloc, ontology, saturation, &mut derivation)?;
@@ -124,12 +131,12 @@ pub fn lines_of(
     class: ExprId,
 ) -> Result<Option<Vec<Line>>, Memory>
     requires saturated { IsSaturated ontology.now saturation.now }
-    requires subject { IsRoot ontology.now [] (context_of subject) }
-    requires class { IsRoot ontology.now [] (Expression class.0) }
+    requires subject { IsRoot ontology.now saturation.now.normal.asked (context_of subject) }
+    requires class { IsRoot ontology.now saturation.now.normal.asked (Expression class.0) }
     ensures derivation { IfOk result (λ found. IfSome found (λ v. IsDerivation ontology.now (lines_of v.items))) }
-    ensures shown { IfOk result (λ found. MatchOption found (IsFact ontology.now [] (In (Whole class.0) (context_of subject)) → ⊥)
+    ensures shown { IfOk result (λ found. MatchOption found (IsFact ontology.now saturation.now.normal.asked (In (Whole class.0) (context_of subject)) → ⊥)
         (λ v. HasLine (lines_of v.items) (Sub (subject_of (context_of subject)) class.0))) }
-    ensures needed { IfOk result (λ found. IfSome found (λ v. EachIsNeeded ontology.now (lines_of v.items))) }
+    ensures needed { IfOk result (λ found. IfSome found (λ v. EachIsNeeded ontology.now saturation.now.normal.asked (lines_of v.items))) }
 {
     let wanted = Fact::In(Class2::Expr(class), subject);
     let Some(goal) = number_of(saturation.facts(), wanted) else {
@@ -152,8 +159,8 @@ pub fn line_text(
 ) -> Result<LineText, Memory>
     requires { IsSaturated ontology.now saturation.now }
     ensures derivation { IfOk result (λ t. IsDerivation ontology.now t) }
-    ensures facts { IfOk result (λ t. HaveFacts ontology.now [] t) }
-    ensures needed { IfOk result (λ t. EachIsNeeded ontology.now t) }
+    ensures facts { IfOk result (λ t. HaveFacts ontology.now saturation.now.normal.asked t) }
+    ensures needed { IfOk result (λ t. EachIsNeeded ontology.now saturation.now.normal.asked t) }
 {
     let mut facts = Derivation::new(LineText::new(alloc)?);
     add_facts(alloc, ontology, saturation, &mut facts)?;
@@ -171,10 +178,10 @@ pub fn contradiction_text(
     saturation: &Saturation,
 ) -> Result<LineText, Memory>
     requires saturated { IsSaturated ontology.now saturation.now }
-    requires contradictory { IsConsistent ontology.now [] → ⊥ }
+    requires contradictory { IsConsistent ontology.now saturation.now.normal.asked → ⊥ }
     ensures derivation { IfOk result (λ t. IsDerivation ontology.now t) }
     ensures shown { IfOk result (λ t. ShowsContradiction t) }
-    ensures needed { IfOk result (λ t. EachIsNeeded ontology.now t) }
+    ensures needed { IfOk result (λ t. EachIsNeeded ontology.now saturation.now.normal.asked t) }
 {
     let mut derivation = Derivation::new(LineText::new(alloc)?);
     add_contradiction(alloc, ontology, saturation, &mut derivation)?;

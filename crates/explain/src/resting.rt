@@ -1,7 +1,8 @@
 //! Marks on the lines that a line rests on.
 ghost use Rattle.certificate.specs.View.{lines_of};
 ghost use Rattle.std.specs.Prelude.{◌↔◌, ◌<◌, ◌≤◌, ◌≡◌, ◌⊎◌, All, Contains, IfOk, length, suc, ℕ};
-ghost use Rattle.explain.specs.LineMarks.{ArePremisesBefore, IsMarked, MarksRests};
+ghost use Rattle.explain.specs.LineMarks.{ArePremisesBefore, MarksRests};
+ghost use Rattle.explain.specs.Marks.{IsMarked};
 
 use axioms::Memory;
 use certificate::Line;

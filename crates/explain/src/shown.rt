@@ -87,7 +87,7 @@ fn show_each<L: LineSink>(
     requires none { derivation.old ≡ [] }
     ensures derivation { OnOk result (IsDerivation basis.now.ontology.now derivation.new) }
     ensures shown { OnOk result (ShowsMarked basis.now.saturation.now marks.now derivation.new) }
-    ensures needed { OnOk result (EachIsNeeded basis.now.ontology.now derivation.new) }
+    ensures needed { OnOk result (EachIsNeeded basis.now.ontology.now basis.now.saturation.now.normal.asked derivation.new) }
 {
     let mut shown = PackedLists::new(basis.alloc);
     for number in 0..count {
@@ -111,11 +111,11 @@ pub(crate) fn add_lines<L: LineSink>(
 ) -> Result<(), Memory>
     requires saturated { IsSaturated ontology.now saturation.now }
     requires within { length marks.items ≤ length saturation.now.state.facts }
-    requires wanted { (n : ℕ) (f : Fact2) → slice_get saturation.now.state.facts n ≡ Some f → IsMarked marks.items n → IsWantedFact ontology.now f }
+    requires wanted { (n : ℕ) (f : Fact2) → slice_get saturation.now.state.facts n ≡ Some f → IsMarked marks.items n → IsWantedFact ontology.now saturation.now.normal.asked f }
     requires none { derivation.old ≡ [] }
     ensures derivation { OnOk result (IsDerivation ontology.now derivation.new) }
     ensures shown { OnOk result (ShowsMarked saturation.now marks.items derivation.new) }
-    ensures needed { OnOk result (EachIsNeeded ontology.now derivation.new) }
+    ensures needed { OnOk result (EachIsNeeded ontology.now saturation.now.normal.asked derivation.new) }
 {
     let count = mark_count(&marks)?;
     mark_older(saturation, count, &mut marks);
@@ -143,11 +143,11 @@ pub(crate) fn add_goal<L: LineSink>(
     derivation: &mut Derivation<L>,
 ) -> Result<(), Memory>
     requires saturated { IsSaturated ontology.now saturation.now }
-    requires wanted { IsGoal (IsWantedFact ontology.now) saturation.now.state.facts goal }
+    requires wanted { IsGoal (IsWantedFact ontology.now saturation.now.normal.asked) saturation.now.state.facts goal }
     requires none { derivation.old ≡ [] }
     ensures derivation { OnOk result (IsDerivation ontology.now derivation.new) }
     ensures shown { OnOk result ((f : Fact2) → at_number saturation.now.state.facts goal ≡ Some f → IsShown (prefixes_of saturation.now.normal) derivation.new f) }
-    ensures needed { OnOk result (EachIsNeeded ontology.now derivation.new) }
+    ensures needed { OnOk result (EachIsNeeded ontology.now saturation.now.normal.asked derivation.new) }
 {
     let marks = on_goal(alloc, goal)?;
     add_lines(alloc, ontology, saturation, marks, derivation)

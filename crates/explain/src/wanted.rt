@@ -1,7 +1,8 @@
 //! The facts that are wanted.
-ghost use Rattle.explain.specs.Marks.{FindsGoal, IsClass, IsContradictoryFact, IsMarked, IsNamed, IsTopContext, IsWantedFact};
+ghost use Rattle.axioms.specs.View.{expr_numbers};
+ghost use Rattle.explain.specs.Marks.{FindsGoal, IsClass, IsClassOrAsked, IsContradictoryFact, IsMarked, IsNamedOrAsked, IsTopContext, IsWantedFact};
 ghost use Rattle.facts.specs.declared.contexts.Fact.{Fact as Fact2};
-ghost use Rattle.std.specs.Prelude.{◌↔◌, ◌≡◌, IfOk, IsTrue, Some, length, slice_get, ℕ};
+ghost use Rattle.std.specs.Prelude.{◌↔◌, ◌≡◌, Contains, IfOk, IsTrue, Some, length, slice_get, ℕ};
 
 use axioms::{ExprId, Memory, Ontology};
 use facts::{Context, Fact, StoredFact};
@@ -15,23 +16,38 @@ fn is_class(ontology: &Ontology, expression: ExprId) -> bool
     ontology.class_of(expression).is_some()
 }
 
-// Whether the context is a named class or an individual.
-fn is_named(ontology: &Ontology, context: Context) -> bool
-    ensures { IsTrue result ↔ IsNamed ontology.now context }
+// Whether the expression is asked about.
+fn is_asked(asked: &[ExprId], expression: ExprId) -> bool
+    ensures { IsTrue result ↔ Contains (expr_numbers asked.now) expression.0 }
+{
+    asked.contains(&expression)
+}
+
+// Whether the expression is a named class or asked about.
+fn is_class_or_asked(ontology: &Ontology, asked: &[ExprId], expression: ExprId) -> bool
+    ensures { IsTrue result ↔ IsClassOrAsked ontology.now (expr_numbers asked.now) expression.0 }
+{
+    is_class(ontology, expression) || is_asked(asked, expression)
+}
+
+// Whether the context is a named class, an individual or an expression that is asked about.
+fn is_named_or_asked(ontology: &Ontology, asked: &[ExprId], context: Context) -> bool
+    ensures { IsTrue result ↔ IsNamedOrAsked ontology.now (expr_numbers asked.now) context }
 {
     match context {
-        Context::Expr(expression) => is_class(ontology, expression),
+        Context::Expr(expression) => is_class_or_asked(ontology, asked, expression),
         Context::Individual(individual) => individual.index() < ontology.individuals().len(),
     }
 }
 
-// Whether the fact puts a named class or an individual into a named class.
-fn is_wanted(ontology: &Ontology, fact: Fact) -> bool
-    ensures { IsTrue result ↔ IsWantedFact ontology.now fact }
+// Whether the fact puts a named class, an individual or an expression that is asked about into a named class or into such an
+// expression.
+fn is_wanted(ontology: &Ontology, asked: &[ExprId], fact: Fact) -> bool
+    ensures { IsTrue result ↔ IsWantedFact ontology.now (expr_numbers asked.now) fact }
 {
     match fact {
         Fact::In(Class2::Expr(class), context) => {
-            is_class(ontology, class) && is_named(ontology, context)
+            is_class_or_asked(ontology, asked, class) && is_named_or_asked(ontology, asked, context)
         }
         _ => false,
     }
@@ -59,7 +75,7 @@ fn is_contradictory(ontology: &Ontology, fact: Fact) -> bool
     }
 }
 
-/// Of each fact whether it is wanted.
+/// Of each fact whether it is wanted, where these expressions are asked about.
 ///
 /// # Errors
 ///
@@ -67,14 +83,15 @@ fn is_contradictory(ontology: &Ontology, fact: Fact) -> bool
 pub(crate) fn wanted(
     alloc: Global,
     ontology: &Ontology,
+    asked: &[ExprId],
     facts: &[StoredFact],
 ) -> Result<Vec<bool>, Memory>
     ensures long { IfOk result (λ v. length v.items ≡ length facts.now) }
-    ensures exact { IfOk result (λ v. (n : ℕ) (f : Fact2) → slice_get facts.now n ≡ Some f → IsMarked v.items n ↔ IsWantedFact ontology.now f) }
+    ensures exact { IfOk result (λ v. (n : ℕ) (f : Fact2) → slice_get facts.now n ≡ Some f → IsMarked v.items n ↔ IsWantedFact ontology.now (expr_numbers asked.now) f) }
 {
     let mut marks = Vec::new(alloc);
     for fact in facts {
-        marks.push(is_wanted(ontology, fact.get()))?;
+        marks.push(is_wanted(ontology, asked, fact.get()))?;
     }
     Ok(marks)
 }

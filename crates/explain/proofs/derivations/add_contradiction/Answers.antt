@@ -14,7 +14,7 @@ unreachable-requires g c =
 pub add_goal-requires-clause-wanted : goal.add_goal-requires-clause-wanted
 add_goal-requires-clause-wanted g c =
     let (f, at, is) = c.in-Some.ensures in
-    (f, subst (λ fs. at_number fs c.in-Some.goal ≡ Some f) c.facts.ensures at, contradictory_wanted c.args.ontology.now f c.well_formed-2.ensures is)
+    (f, subst (λ fs. at_number fs c.in-Some.goal ≡ Some f) c.facts.ensures at, contradictory_wanted c.args.ontology.now c.args.saturation.now.normal.asked f c.well_formed-2.ensures is)
 
 pub returns-clause-shown : goal.returns-clause-shown
 returns-clause-shown g c =

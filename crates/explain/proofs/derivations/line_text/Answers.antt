@@ -7,4 +7,4 @@ pub returns-clause-derivation : goal.returns-clause-derivation
 returns-clause-derivation c = subst (IsDerivation c.args.ontology.now) (sym c.into_sink.ensures) c.in_ok-add_facts.ensures.derivation
 
 pub returns-clause-needed : goal.returns-clause-needed
-returns-clause-needed c = subst (EachIsNeeded c.args.ontology.now) (sym c.into_sink.ensures) c.in_ok-add_facts.ensures.needed
+returns-clause-needed c = subst (EachIsNeeded c.args.ontology.now c.args.saturation.now.normal.asked) (sym c.into_sink.ensures) c.in_ok-add_facts.ensures.needed

@@ -20,8 +20,8 @@ returns-in_default-clause-shown c =
 pub add_goal-requires-clause-wanted : goal.add_goal-requires-clause-wanted
 add_goal-requires-clause-wanted c =
     let (f, at, is) = c.in-Some.ensures in
-    let wanted = root_wanted c.args.ontology.now c.args.subject c.args.class c.requires.subject c.requires.class in
-    (f, subst (λ fs. at_number fs c.in-Some.goal ≡ Some f) c.facts.ensures at, subst (IsWantedFact c.args.ontology.now) (sym is) wanted)
+    let wanted = root_wanted c.args.ontology.now c.args.saturation.now.normal.asked c.args.subject c.args.class c.requires.subject c.requires.class in
+    (f, subst (λ fs. at_number fs c.in-Some.goal ≡ Some f) c.facts.ensures at, subst (IsWantedFact c.args.ontology.now c.args.saturation.now.normal.asked) (sym is) wanted)
 
 pub returns-clause-derivation : goal.returns-clause-derivation
 returns-clause-derivation c = subst (IsDerivation c.args.ontology.now) (sym (c.into_lines.ensures ∙ c.into_sink.ensures)) c.in_ok-add_goal.ensures.derivation

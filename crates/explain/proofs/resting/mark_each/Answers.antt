@@ -2,7 +2,7 @@ use Rattle.std.proofs.Common.{◌-◌, ℕ, suc, ◌↔◌, ◌⊎◌, List, Con
 use Rattle.std.proofs.lemmas.List.{take_all}
 use Rattle.std.proofs.lemmas.Option.{slice_get-get_or}
 use Rattle.std.specs.Prelude.{slice_index_or}
-use Rattle.explain.specs.LineMarks.{IsMarked}
+use Rattle.explain.specs.Marks.{IsMarked}
 use Rattle.explain.proofs.HandedOn.{next_marked}
 use Rattle.explain.proofs.resting.mark_each.Goals as goal
 

@@ -1,5 +1,5 @@
 use Rattle.std.proofs.Common.{◌↔◌, ◌≡◌, ◌⊎◌, Contains, length, suc, take, ℕ}
-use Rattle.explain.specs.LineMarks.{IsMarked}
+use Rattle.explain.specs.Marks.{IsMarked}
 use Rattle.explain.proofs.resting.mark_each.Given as goal
 
 abbrev pub invariant-loop-number : goal.invariant-loop-number

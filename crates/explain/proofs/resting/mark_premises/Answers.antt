@@ -3,7 +3,7 @@ use Rattle.std.proofs.lemmas.Option.{slice_get-get_or}
 use Rattle.std.specs.Prelude.{slice_index_or}
 use Rattle.certificate.specs.View.{line_of, lines_of}
 use Rattle.lemmas.proofs.Mapped.{slice_get_map}
-use Rattle.explain.specs.LineMarks.{IsMarked}
+use Rattle.explain.specs.Marks.{IsMarked}
 use Rattle.explain.proofs.HandedOn.{handed_on_start, handed_on_more, handed_on_not, AreHandedOn, handed_on_all, premises_within}
 use Rattle.explain.proofs.resting.mark_premises.Goals as goal
 
