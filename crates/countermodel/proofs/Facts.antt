@@ -1,5 +1,5 @@
 -- What facts over numbers say of contexts.
-use Rattle.std.proofs.Common.{◌≡◌, ◌↔◌, ℕ, Bool, true, false, not, ◌&&◌, List, [], Contains, refl, ap, ap₂, sym, subst}
+use Rattle.std.proofs.Common.{◌≡◌, ◌↔◌, ℕ, Bool, true, false, not, ◌&&◌, List, Contains, refl, ap, ap₂, sym, subst}
 use Rattle.axioms.specs.Ontology.{Ontology, thing}
 use Rattle.axioms.specs.WellFormedness.{IsOntology}
 use Rattle.axioms.specs.declared.ids.ExprId.{ExprId}
@@ -55,20 +55,20 @@ fact_of_whole (in_context (whole h) s) = ap₂ (λ c y. In (Whole c) y) (sym h) 
 whole_of_fact : {b : Prefixes} {f : code_fact.Fact} {e : ℕ} {y : Context} → SaysFact b f (In (Whole e) y) → f ≡ facts.In (classes.Expr (record { 0 = e })) (code_of y)
 whole_of_fact (in_context (whole h) s) = ap₂ (λ n z. facts.In (classes.Expr (record { 0 = n })) z) h (said_context s)
 
-module _ (o : Ontology) (b : Prefixes) (list : List code_fact.Fact) (says : SayTheClosure o b list) where
+module _ (o : Ontology) (asked : List ℕ) (b : Prefixes) (list : List code_fact.Fact) (says : SayTheClosure o asked b list) where
   -- whole classes in contexts are said as they are
-  pub whole_said : (class : ExprId) (x : Context) → Contains list (facts.In (classes.Expr class) (code_of x)) ↔ IsFact o [] (In (Whole class.0) x)
+  pub whole_said : (class : ExprId) (x : Context) → Contains list (facts.In (classes.Expr class) (code_of x)) ↔ IsFact o asked (In (Whole class.0) x)
   whole_said class x = (
     λ there.
         let (g, s, f) = says.each (facts.In (classes.Expr class) (code_of x)) there in
-        subst (λ y. IsFact o [] (In (Whole class.0) y)) (code_of-is x) (subst (IsFact o []) (fact_of_whole s) f),
+        subst (λ y. IsFact o asked (In (Whole class.0) y)) (code_of-is x) (subst (IsFact o asked) (fact_of_whole s) f),
     λ f.
         let (g, there, s) = says.all (In (Whole class.0) x) f in
         subst (Contains list) (whole_of_fact s) there,
   )
 
   -- a set that is marked by the facts of the class holds the contexts with it
-  marks : (s : ContextSet) (class : ExprId) → ((x : code.Context) → (holds s (context_of x) ≡ true) ↔ Contains list (facts.In (classes.Expr class) x)) → (x : Context) → (holds s x ≡ true) ↔ IsFact o [] (In (Whole class.0) x)
+  marks : (s : ContextSet) (class : ExprId) → ((x : code.Context) → (holds s (context_of x) ≡ true) ↔ Contains list (facts.In (classes.Expr class) x)) → (x : Context) → (holds s x ≡ true) ↔ IsFact o asked (In (Whole class.0) x)
   marks s class m x =
       let k : (holds s x ≡ true) ↔ Contains list (facts.In (classes.Expr class) (code_of x)) = subst (λ y. (holds s y ≡ true) ↔ Contains list (facts.In (classes.Expr class) (code_of x))) (code_of-is x) (m (code_of x)) in
       let w = whole_said class x in
@@ -77,20 +77,20 @@ module _ (o : Ontology) (b : Prefixes) (list : List code_fact.Fact) (says : SayT
   pub said_within : IsOntology o → (class : ExprId) (x : code.Context) → Contains list (facts.In (classes.Expr class) x) → IsWithin o (context_of x)
   said_within h class x there =
       let (g, s, f) = says.each (facts.In (classes.Expr class) x) there in
-      class_within o h (Whole class.0) (context_of x) (subst (IsFact o []) (fact_of_whole s) f)
+      class_within o asked h (Whole class.0) (context_of x) (subst (IsFact o asked) (fact_of_whole s) f)
 
   pub satisfiable_are : IsOntology o → (s : Satisfiable)
       → ((x : code.Context) → (holds s.things (context_of x) ≡ true) ↔ Contains list (facts.In (classes.Expr (record { 0 = 0 })) x))
       → ((x : code.Context) → (holds s.nothings (context_of x) ≡ true) ↔ Contains list (facts.In (classes.Expr (record { 0 = 1 })) x))
-      → (x : Context) → (admits s x ≡ true) ↔ IsSatisfiable o [] x
+      → (x : Context) → (admits s x ≡ true) ↔ IsSatisfiable o asked x
   satisfiable_are h s t n x =
       let things = marks s.things (record { 0 = 0 }) t x in
       let nothings = marks s.nothings (record { 0 = 1 }) n x in
-      let contexts = context_has_thing o h x in (
+      let contexts = context_has_thing o asked h x in (
         λ e. (let (a, b) = and_not (holds s.things x) (holds s.nothings x) e in record { context = contexts.1 (things.0 a); without_nothing = λ f. b (nothings.1 f) }),
         λ is. and_not_true (holds s.things x) (holds s.nothings x) (things.1 (contexts.0 is.context)) (λ e. is.without_nothing (nothings.0 e)),
       )
 
 -- a satisfiable context is there
-pub satisfiable_within : (o : Ontology) → IsOntology o → (x : Context) → IsSatisfiable o [] x → IsWithin o x
-satisfiable_within o h x is = class_within o h (Whole thing) x ((context_has_thing o h x).0 is.context)
+pub satisfiable_within : (o : Ontology) (asked : List ℕ) → IsOntology o → (x : Context) → IsSatisfiable o asked x → IsWithin o x
+satisfiable_within o asked h x is = class_within o asked h (Whole thing) x ((context_has_thing o asked h x).0 is.context)

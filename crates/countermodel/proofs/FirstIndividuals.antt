@@ -26,5 +26,5 @@ one_first elements count m numbers are at = record {
 }
 
 -- in a consistent closure each individual has an element
-pub individual_there : (o : Ontology) (elements : List Context) → AreSatisfiableContexts o [] elements → IsConsistent o [] → (a : ℕ) → a < length o.names.individuals → (m : ℕ) × (slice_get elements m ≡ Some (Individual a))
-individual_there o elements are consistent a l = are.listed (Individual a) (record { context = fact.root (IsRoot.individual a l); without_nothing = consistent.individuals a l })
+pub individual_there : (o : Ontology) (asked : List ℕ) (elements : List Context) → AreSatisfiableContexts o asked elements → IsConsistent o asked → (a : ℕ) → a < length o.names.individuals → (m : ℕ) × (slice_get elements m ≡ Some (Individual a))
+individual_there o asked elements are consistent a l = are.listed (Individual a) (record { context = fact.root (IsRoot.individual a l); without_nothing = consistent.individuals a l })

@@ -74,8 +74,8 @@ member_listed rows zero m l = absurd (omega arith)
 member_listed rows (suc zero) m l = absurd (omega arith)
 member_listed rows (suc (suc e)) m l = (from_test (elements_of rows (suc (suc e))) m, to_test (elements_of rows (suc (suc e))) m)
 
-module _ (o : Ontology) (w : IsOntology o) (consistent : IsConsistent o []) (elements : List Context) (are : AreSatisfiableContexts o [] elements)
-    (rows : List (ℕ × List ℕ)) (class_rows : AreClassRows o elements rows) (pairs : List (ℕ × ℕ × List ℕ)) (pair_rows : ArePairRows o elements pairs)
+module _ (o : Ontology) (asked : List ℕ) (w : IsOntology o) (consistent : IsConsistent o asked) (elements : List Context) (are : AreSatisfiableContexts o asked elements)
+    (rows : List (ℕ × List ℕ)) (class_rows : AreClassRows o asked elements rows) (pairs : List (ℕ × ℕ × List ℕ)) (pair_rows : ArePairRows o asked elements pairs)
     (numbers : List ℕ) (individuals : AreIndividualElements o elements numbers) (claims : List (ℕ × ℕ)) (own : AreOwnClaims o elements claims) where
   class_test : (c : ℕ) → (c < length o.names.classes) ⊎ (length o.names.classes ≤ c) → ℕ → Bool
   class_test c (inl l) m = is_member rows (w.class_nodes c l).0 m
@@ -103,7 +103,7 @@ module _ (o : Ontology) (w : IsOntology o) (consistent : IsConsistent o []) (ele
       let name = name_at o.names.classes c in
       class_is c e m node (number_of o.names.classes name) (cases_lt (number_of o.names.classes name) (length o.names.classes)) (number_is o.names.classes w.distinct_classes c (w.nodes e (Class c) node))
 
-  member_is : (c e m : ℕ) (x : Context) → IsClassAt o c e → slice_get elements m ≡ Some x → (is_member rows e m ≡ true) ↔ IsFact o [] (In (Whole e) x)
+  member_is : (c e m : ℕ) (x : Context) → IsClassAt o c e → slice_get elements m ≡ Some x → (is_member rows e m ≡ true) ↔ IsFact o asked (In (Whole e) x)
   unfolding is_member
   member_is c zero m x node at = (λ h. fact.in_thing (are.satisfiable m x at).context, λ f. refl)
   member_is c (suc zero) m x node at = (λ h. absurd (false≢true h), λ f. absurd ((are.satisfiable m x at).without_nothing f))
@@ -142,7 +142,7 @@ module _ (o : Ontology) (w : IsOntology o) (consistent : IsConsistent o []) (ele
   unfolding i
   individual_within name = within (number_of o.names.individuals name)
 
-  interpretation : IsListedInterpretation o [] elements i
+  interpretation : IsListedInterpretation o asked elements i
   interpretation = record {
     size = size_is;
     contexts = are;
@@ -170,7 +170,7 @@ module _ (o : Ontology) (w : IsOntology o) (consistent : IsConsistent o []) (ele
         individual_of a l ∙ get_or_from_slice_get numbers a x 0 g;
   }
 
-  pub listed_for : IsListedFor o listed
+  pub listed_for : IsListedFor o asked listed
   listed_for = record {
     consistent = consistent;
     elements = elements;

@@ -184,8 +184,8 @@ module _ (test : Context → Bool) (n : ℕ) (xs : List Context) where
       earlier (Expression e) t l = within e t
       earlier (Individual a) t l = absurd (omega arith)
 
-  pub contexts_done : (o : Ontology) → AreBefore test (Individual n) xs → ((x : Context) → (test x ≡ true) ↔ IsSatisfiable o [] x) → ((a : ℕ) → test (Individual a) ≡ true → a < n) → AreSatisfiableContexts o [] xs
-  contexts_done o are is within = record {
+  pub contexts_done : (o : Ontology) (asked : List ℕ) → AreBefore test (Individual n) xs → ((x : Context) → (test x ≡ true) ↔ IsSatisfiable o asked x) → ((a : ℕ) → test (Individual a) ≡ true → a < n) → AreSatisfiableContexts o asked xs
+  contexts_done o asked are is within = record {
     ascend = are.ascend;
     satisfiable = λ m x h. (is x).0 (are.pass m x h);
     listed = λ x s. (let t = (is x).1 s in are.all x t (earlier x t));

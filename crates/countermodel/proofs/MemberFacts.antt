@@ -1,5 +1,5 @@
 -- What rows say of facts.
-use Rattle.std.proofs.Common.{◌≡◌, ◌↔◌, ℕ, ◌<◌, ◌≤◌, List, [], length, get_or, slice_get, Some, All, Contains, refl, sym, ap, ◌∙◌, subst}
+use Rattle.std.proofs.Common.{◌≡◌, ◌↔◌, ℕ, ◌<◌, ◌≤◌, List, length, get_or, slice_get, Some, All, Contains, refl, sym, ap, ◌∙◌, subst}
 use Rattle.std.proofs.lemmas.List.Elements.{Contains-get_or}
 use Rattle.std.proofs.lemmas.Option.{same_Some, slice_get-get_or, slice_get_within}
 use Rattle.axioms.specs.Ontology.{Ontology}
@@ -18,17 +18,17 @@ use Rattle.countermodel.proofs.Listing.{same_code}
 use Rattle.countermodel.specs.Members.{IsOwnClass, AreMembers, AreRowsOf, expr_id}
 use Rattle.countermodel.specs.MemberRows.{AreClassRows}
 
-module _ (o : Ontology) (b : Prefixes) (elements : List Context) (list : List code_fact.Fact) (says : SayTheClosure o b list) (lists : List (List ℕ)) (members : AreMembers o elements list lists) where
+module _ (o : Ontology) (asked : List ℕ) (b : Prefixes) (elements : List Context) (list : List code_fact.Fact) (says : SayTheClosure o asked b list) (lists : List (List ℕ)) (members : AreMembers o elements list lists) where
   -- a list has the elements whose contexts have the class
-  listed_fact : (e m : ℕ) (x : Context) → IsOwnClass o e → slice_get elements m ≡ Some x → Contains (list_at lists e) m ↔ IsFact o [] (In (Whole e) x)
+  listed_fact : (e m : ℕ) (x : Context) → IsOwnClass o e → slice_get elements m ≡ Some x → Contains (list_at lists e) m ↔ IsFact o asked (In (Whole e) x)
   listed_fact e m x own at = (
     λ c.
         let (fact, there, (_, (y, is, at_y))) = (members e m).0 c in
         let same : y ≡ code_of x = same_code y (code_of x) (same_Some (context_of y) x (sym at_y ∙ at) ∙ sym (code_of-is x)) in
         let said : fact ≡ facts.In (classes.Expr (expr_id e)) (code_of x) = is ∙ ap (facts.In (classes.Expr (expr_id e))) same in
-        (whole_said o b list says (expr_id e) x).0 (subst (Contains list) said there),
+        (whole_said o asked b list says (expr_id e) x).0 (subst (Contains list) said there),
     λ f.
-        let there = (whole_said o b list says (expr_id e) x).1 f in
+        let there = (whole_said o asked b list says (expr_id e) x).1 f in
         (members e m).1 (facts.In (classes.Expr (expr_id e)) (code_of x), there, (own, (code_of x, refl, at ∙ ap Some (sym (code_of-is x))))),
   )
 
@@ -37,7 +37,7 @@ module _ (o : Ontology) (b : Prefixes) (elements : List Context) (list : List co
       let (fact, there, (own, (y, is, at))) = (members e m).0 c in
       (own, slice_get_within elements m (context_of y) at)
 
-  pub rows_are : (rows : List (ℕ × List ℕ)) → AreRowsOf lists rows → AreClassRows o elements rows
+  pub rows_are : (rows : List (ℕ × List ℕ)) → AreRowsOf lists rows → AreClassRows o asked elements rows
   rows_are rows are = record {
     within = λ k d l. row_within (get_or rows k d) (are.each k (get_or rows k d) (slice_get-get_or rows k d l));
     ascend = are.ascend;

@@ -1,5 +1,5 @@
 -- What facts and forms over numbers say of contexts and properties.
-use Rattle.std.proofs.Common.{◌≡◌, ℕ, List, [], refl, ap}
+use Rattle.std.proofs.Common.{◌≡◌, ℕ, List, refl, ap}
 use Rattle.axioms.specs.Ontology.{Ontology}
 use Rattle.axioms.specs.declared.ids.PropId.{PropId}
 use Rattle.normal_forms.specs.declared.forms.PropId2 as code_property
@@ -26,7 +26,7 @@ IsPlain (Property r) = Unit {0}
 IsPlain (Steps rs) = ⊥
 
 -- what is above a prefix of a chain is no property
-pub plain_below : {o : Ontology} {p q : Property2} → IsAtOrBelow o [] p q → IsPlain q → IsPlain p
+pub plain_below : {o : Ontology} {asked : List ℕ} {p q : Property2} → IsAtOrBelow o asked p q → IsPlain q → IsPlain p
 plain_below IsAtOrBelow.same h = h
 plain_below (IsAtOrBelow.step s t below form) h = plain_below below tt
 
@@ -41,8 +41,8 @@ module _ (o : Ontology) (s : Saturated) (saturated : IsSaturated o s) where
   said_property id (property h) = ap Property h
 
   -- a property is at or below another for the ontology where it is so by the forms of the saturation, and the other way
-  pub below_said : (a b : PropId) → code_below.IsAtOrBelow all_forms (properties.Property a) (properties.Property b) → IsAtOrBelow o [] (Property a.0) (Property b.0)
-  below_said a b below = below_as o [] begun s.state.problem saturated.problem below (property refl) (property refl)
+  pub below_said : (a b : PropId) → code_below.IsAtOrBelow all_forms (properties.Property a) (properties.Property b) → IsAtOrBelow o s.normal.asked (Property a.0) (Property b.0)
+  below_said a b below = below_as o s.normal.asked begun s.state.problem saturated.problem below (property refl) (property refl)
 
-  pub below_sayer : (a : PropId) (r : ℕ) → IsAtOrBelow o [] (Property a.0) (Property r) → code_below.IsAtOrBelow all_forms (properties.Property a) (properties.Property (prop_id r))
-  below_sayer a r below = below_by o [] begun s.state.problem saturated.problem below (property refl) (property refl)
+  pub below_sayer : (a : PropId) (r : ℕ) → IsAtOrBelow o s.normal.asked (Property a.0) (Property r) → code_below.IsAtOrBelow all_forms (properties.Property a) (properties.Property (prop_id r))
+  below_sayer a r below = below_by o s.normal.asked begun s.state.problem saturated.problem below (property refl) (property refl)

@@ -1,7 +1,7 @@
 -- Whatever the members of the listed interpretation stand for is the listed interpretation.
-use Rattle.std.proofs.Common.{◌≡◌, ℕ, zero, suc, ◌<◌, ◌↔◌, List, [], length, slice_get, Some, true, false, sym, subst, ◌∙◌, arith}
+use Rattle.std.proofs.Common.{◌≡◌, ℕ, zero, suc, ◌<◌, ◌↔◌, List, length, slice_get, Some, true, sym, subst, ◌∙◌, arith}
 use Rattle.std.proofs.lemmas.Option.{slice_get-get_or, slice_get_within}
-use Rattle.axioms.specs.Ontology.{Ontology, IsClassAt, name_at, property_name, individual_name, nothing, thing, expression}
+use Rattle.axioms.specs.Ontology.{Ontology, IsClassAt, name_at, property_name, individual_name, expression}
 use Rattle.axioms.specs.WellFormedness.{IsOntology}
 use Rattle.axioms.proofs.Trees.{class_tree}
 use Rattle.listed_model.specs.Listing.{IsListing}
@@ -14,8 +14,8 @@ use Rattle.interpretation_spec.specs.Interpretation.{Interpretation, IsInterpret
 use Rattle.interpretation_spec.proofs.Extensions.{in_thing, not_in_nothing}
 use Rattle.normal_forms.specs.Forms.{Whole, Property}
 
-module _ (o : Ontology) (w : IsOntology o) (l : Listed) (of : IsListedOf o l) (elements : List Context) (i j : Interpretation)
-    (is : IsListedInterpretation o [] elements i) (lists : IsListing o l i) (lists' : IsListing o l j) (v : IsInterpretation j) where
+module _ (o : Ontology) (asked : List ℕ) (w : IsOntology o) (l : Listed) (of : IsListedOf o l) (elements : List Context) (i j : Interpretation)
+    (is : IsListedInterpretation o asked elements i) (lists : IsListing o l i) (lists' : IsListing o l j) (v : IsInterpretation j) where
   size_is : j.size ≡ length elements
   size_is = lists'.size ∙ (sym lists.size ∙ is.size)
 
@@ -31,7 +31,7 @@ module _ (o : Ontology) (w : IsOntology o) (l : Listed) (of : IsListedOf o l) (e
   to_tree : (c e m : ℕ) → IsClassAt o c e → j.class (name_at o.names.classes c) m ≡ true → IsIn j (expression o e) m
   to_tree c e m at h = subst (λ t. IsIn j t m) (sym (class_tree o c e at)) h
 
-  classes : (c e m : ℕ) (x : Context) → IsClassAt o c e → slice_get elements m ≡ Some x → (j.class (name_at o.names.classes c) m ≡ true) ↔ IsFact o [] (In (Whole e) x)
+  classes : (c e m : ℕ) (x : Context) → IsClassAt o c e → slice_get elements m ≡ Some x → (j.class (name_at o.names.classes c) m ≡ true) ↔ IsFact o asked (In (Whole e) x)
   classes c zero m x at h = (λ t. fact.in_thing ((is.contexts.satisfiable m x h).context), λ f. by_name c zero m at (in_thing o w j v m (within m x h)))
   classes c (suc zero) m x at h =
       (λ t. absurd (not_in_nothing o w j v m (within m x h) (to_tree c (suc zero) m at t)), λ f. absurd ((is.contexts.satisfiable m x h).without_nothing f))
@@ -41,7 +41,7 @@ module _ (o : Ontology) (w : IsOntology o) (l : Listed) (of : IsListedOf o l) (e
       let says = is.classes c (suc (suc e)) m x at h in
       (λ t. says.0 (there.1 (here.0 t)), λ f. here.1 (there.0 (says.1 f)))
 
-  pairs : (r m n : ℕ) (x y : Context) → r < length o.names.properties → slice_get elements m ≡ Some x → slice_get elements n ≡ Some y → (j.property (property_name o r) m n ≡ true) ↔ HasEdge o [] x (Property r) y
+  pairs : (r m n : ℕ) (x y : Context) → r < length o.names.properties → slice_get elements m ≡ Some x → slice_get elements n ≡ Some y → (j.property (property_name o r) m n ≡ true) ↔ HasEdge o asked x (Property r) y
   pairs r m n x y b h k =
       let here = lists'.pairs r m n b (within m x h) (within n y k) in
       let there = lists.pairs r m n b (within' m x h) (within' n y k) in
@@ -53,7 +53,7 @@ module _ (o : Ontology) (w : IsOntology o) (l : Listed) (of : IsListedOf o l) (e
       let at = slice_get-get_or l.individuals a 0 (subst (λ n. a < n) (sym of.individuals_each) b) in
       lists'.individuals a _ at ∙ (sym (lists.individuals a _ at) ∙ is.individuals a m b h)
 
-  pub same_members : IsListedInterpretation o [] elements j
+  pub same_members : IsListedInterpretation o asked elements j
   same_members = record {
     size = size_is;
     contexts = is.contexts;

@@ -1,5 +1,5 @@
 -- The text of what is listed, part by part.
-use Rattle.std.proofs.Common.{◌≡◌, ℕ, ◌<◌, ◌++◌, ◌^◌, List, [], length, map, sym, ap, ◌∙◌}
+use Rattle.std.proofs.Common.{◌≡◌, ℕ, ◌<◌, ◌++◌, ◌^◌, List, length, map, sym, ap, ◌∙◌}
 use Rattle.std.specs.Prelude.{codes}
 use Rattle.std.specs.List.{flat_map, enumerate_from}
 use Rattle.axioms.specs.Growth.{IsBounded}
@@ -20,21 +20,21 @@ use Rattle.countermodel.specs.WholeText.{IsTextWithListed}
 use Rattle.countermodel.proofs.Interpreted.{listed_for, listed_of, numbers_small}
 
 -- a text of its parts, one behind the other
-pub record HasParts (o : Ontology) (elements : List Context) (lines : List Line) (text : List ℕ) : Type 0 where
+pub record HasParts (o : Ontology) (asked : List ℕ) (elements : List Context) (lines : List Line) (text : List ℕ) : Type 0 where
   pub begun : List ℕ
   pub prefix : begun ≡ text_to_domain lines (length elements)
   pub with_classes : List ℕ
-  pub classes : Adds {R = ClassRow} (λ rs. AreClassRows o elements (map class_row_of rs)) (λ rs. with_classes ≡ begun ++ flat_map class_text (map class_row_of rs))
+  pub classes : Adds {R = ClassRow} (λ rs. AreClassRows o asked elements (map class_row_of rs)) (λ rs. with_classes ≡ begun ++ flat_map class_text (map class_row_of rs))
   pub with_pairs : List ℕ
-  pub pairs : Adds {R = PairRow} (λ rs. ArePairRows o elements (map pair_row_of rs)) (λ rs. with_pairs ≡ with_classes ++ flat_map pairs_text (map pair_row_of rs))
+  pub pairs : Adds {R = PairRow} (λ rs. ArePairRows o asked elements (map pair_row_of rs)) (λ rs. with_pairs ≡ with_classes ++ flat_map pairs_text (map pair_row_of rs))
   pub numbers : List ℕ
   pub individuals : AreIndividualElements o elements numbers
   pub claims : List (ℕ × ℕ)
   pub own : AreOwnClaims o elements claims
   pub spelled : text ≡ with_pairs ++ flat_map individual_text (enumerate_from 0 numbers) ++ flat_map claim_text claims ++ codes "end\n"
 
-module _ (o : Ontology) (w : IsOntology o) (bounded : IsBounded o) (consistent : IsConsistent o []) (elements : List Context) (are : AreSatisfiableContexts o [] elements) (few : length elements < 2 ^ 32) where
-  pub whole_text : (lines : List Line) (text : List ℕ) → HasParts o elements lines text → IsTextWithListed o lines text
+module _ (o : Ontology) (asked : List ℕ) (w : IsOntology o) (bounded : IsBounded o) (consistent : IsConsistent o asked) (elements : List Context) (are : AreSatisfiableContexts o asked elements) (few : length elements < 2 ^ 32) where
+  pub whole_text : (lines : List Line) (text : List ℕ) → HasParts o asked elements lines text → IsTextWithListed o asked lines text
   whole_text lines text h =
       let rows = map class_row_of h.classes.rows in
       let pairs = map pair_row_of h.pairs.rows in
@@ -44,7 +44,7 @@ module _ (o : Ontology) (w : IsOntology o) (bounded : IsBounded o) (consistent :
       record {
         listed = listed;
         spelled = h.spelled ∙ ap rest (h.pairs.added ∙ ap (λ (s : List ℕ). s ++ flat_map pairs_text pairs) classes) ∙ sym (in_parts lines listed);
-        is_listed = listed_for o w consistent elements are rows h.classes.are pairs h.pairs.are h.numbers h.individuals h.claims h.own;
-        within = listed_of o w consistent elements are rows h.classes.are pairs h.pairs.are h.numbers h.individuals h.claims h.own;
-        numbers = numbers_small o w consistent elements are rows h.classes.are pairs h.pairs.are h.numbers h.individuals h.claims h.own bounded few;
+        is_listed = listed_for o asked w consistent elements are rows h.classes.are pairs h.pairs.are h.numbers h.individuals h.claims h.own;
+        within = listed_of o asked w consistent elements are rows h.classes.are pairs h.pairs.are h.numbers h.individuals h.claims h.own;
+        numbers = numbers_small o asked w consistent elements are rows h.classes.are pairs h.pairs.are h.numbers h.individuals h.claims h.own bounded few;
       }

@@ -1,5 +1,5 @@
 -- The members of classes in the interpretation that a closure lists, its individuals and its claims.
-use Rattle.std.specs.Prelude.{◌≡◌, ◌↔◌, ◌≤◌, ℕ, List, [], length, map, slice_get, Some}
+use Rattle.std.specs.Prelude.{◌≡◌, ◌↔◌, ◌≤◌, ℕ, List, length, map, slice_get, Some}
 use Rattle.std.specs.List.{All, Contains}
 use Rattle.axioms.specs.Ontology.{Ontology, IsClassAt}
 use Rattle.listed_model.specs.Listing.{elements_of}
@@ -8,10 +8,10 @@ use Rattle.closure.specs.Closure.{Context, Expression, Individual, In, IsFact}
 use Rattle.normal_forms.specs.Forms.{Whole}
 
 -- a row for each class but owl:Thing and owl:Nothing that has elements, in order: exactly the contexts that have it
-pub record AreClassRows (o : Ontology) (elements : List Context) (rows : List (ℕ × List ℕ)) : Type 0 where
+pub record AreClassRows (o : Ontology) (asked : List ℕ) (elements : List Context) (rows : List (ℕ × List ℕ)) : Type 0 where
   pub within : All (λ c. IsNamedClass o c.0 × (2 ≤ c.0) × AreElements (length elements) c.1) rows
   pub ascend : Ascends (map (λ c. c.0) rows)
-  pub exact : (c e m : ℕ) (x : Context) → IsClassAt o c e → 2 ≤ e → slice_get elements m ≡ Some x → Contains (elements_of rows e) m ↔ IsFact o [] (In (Whole e) x)
+  pub exact : (c e m : ℕ) (x : Context) → IsClassAt o c e → 2 ≤ e → slice_get elements m ≡ Some x → Contains (elements_of rows e) m ↔ IsFact o asked (In (Whole e) x)
 
 -- the element of each individual
 pub record AreIndividualElements (o : Ontology) (elements : List Context) (numbers : List ℕ) : Type 0 where

@@ -1,5 +1,5 @@
 -- The interpretation that a closure lists, as the one that a value stands for.
-use Rattle.std.specs.Prelude.{List, []}
+use Rattle.std.specs.Prelude.{ℕ, List}
 use Rattle.axioms.specs.Ontology.{Ontology, axiom_trees}
 use Rattle.closure.specs.Closure.{Context}
 use Rattle.exactness.specs.ListedInterpretation.{IsListedInterpretation, AgreesWithClosure}
@@ -7,10 +7,10 @@ use Rattle.interpretation_spec.specs.NamedInterpretation.{interpretation_of}
 use Rattle.interpretation_spec.specs.Interpretation.{IsModel}
 use Rattle.interpretation_spec.specs.NumberedInterpretation.{NumberedInterpretation}
 
--- its elements are the contexts without owl:Nothing, each in exactly the named classes that are facts of it; and it satisfies each
--- axiom as it was written
-pub record IsBuilt (o : Ontology) (i : NumberedInterpretation) : Type 0 where
+-- its elements are the contexts without owl:Nothing, each in exactly the named classes and asked expressions that are facts of it; and it
+-- satisfies each axiom as it was written
+pub record IsBuilt (o : Ontology) (asked : List ℕ) (i : NumberedInterpretation) : Type 0 where
   pub elements : List Context
-  pub listed : IsListedInterpretation o [] elements (interpretation_of o.names i)
-  pub agrees : AgreesWithClosure o [] elements (interpretation_of o.names i)
+  pub listed : IsListedInterpretation o asked elements (interpretation_of o.names i)
+  pub agrees : AgreesWithClosure o asked elements (interpretation_of o.names i)
   pub model : IsModel (interpretation_of o.names i) (axiom_trees o)

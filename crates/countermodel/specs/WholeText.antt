@@ -8,9 +8,9 @@ use Rattle.certificate.specs.Text.{certificate_text}
 use Rattle.exactness.specs.Acceptance.{IsListedFor}
 
 -- the text is that of the lines and of the interpretation that the closure lists, of which a certificate can be written
-pub record IsTextWithListed (o : Ontology) (lines : List Line) (text : List ℕ) : Type 0 where
+pub record IsTextWithListed (o : Ontology) (asked : List ℕ) (lines : List Line) (text : List ℕ) : Type 0 where
   pub listed : Listed
   pub spelled : text ≡ certificate_text (record { lines = lines; listed = Some listed })
-  pub is_listed : IsListedFor o listed
+  pub is_listed : IsListedFor o asked listed
   pub within : IsListedOf o listed
   pub numbers : All (λ n. n < 2 ^ 32) (listed_numbers (Some listed))

@@ -3,7 +3,7 @@ ghost use Rattle.exactness.specs.ListedInterpretation.{IsConsistent};
 ghost use Rattle.countermodel.specs.Values.{IsBuilt};
 ghost use Rattle.engine.specs.Saturations.{IsSaturated};
 ghost use Rattle.interpretation_spec.specs.NumberedInterpretation.{IsMadeFor};
-ghost use Rattle.std.specs.Prelude.{[], IfOk};
+ghost use Rattle.std.specs.Prelude.{IfOk};
 
 use crate::interpretation::listed;
 use axioms::{Memory, Ontology};
@@ -13,7 +13,8 @@ use interpretation_spec::Interpretation;
 use std::alloc::Global;
 
 /// The interpretation that the closure of a consistent ontology lists: an element for each context without `owl:Nothing`, in
-/// exactly the named classes that are facts of it. It satisfies every axiom as it was written.
+/// exactly the named classes that are facts of it, and in an expression that is asked about exactly where that is in its context. It
+/// satisfies every axiom as it was written.
 ///
 /// # Errors
 ///
@@ -24,9 +25,9 @@ pub fn build(
     saturation: &Saturation,
 ) -> Result<Interpretation, Memory>
     requires saturated { IsSaturated ontology.now saturation.now }
-    requires consistent { IsConsistent ontology.now [] }
+    requires consistent { IsConsistent ontology.now saturation.now.normal.asked }
     ensures made { IfOk result (IsMadeFor ontology.now.names) }
-    ensures built { IfOk result (IsBuilt ontology.now) }
+    ensures built { IfOk result (IsBuilt ontology.now saturation.now.normal.asked) }
 {
     ontology.well_formed();
     let members = listed(alloc, ontology, saturation)?;

@@ -1,9 +1,9 @@
 //! Claims.
 ghost use Rattle.certificate.specs.View.{claim_of};
-ghost use Rattle.exactness.specs.ListedInterpretation.{AreSatisfiableContexts};
+ghost use Rattle.exactness.specs.ListedInterpretation.{IsBefore};
 ghost use Rattle.countermodel.specs.Members.{IsOwnElement};
 ghost use Rattle.countermodel.specs.MemberRows.{AreOwnClaims};
-ghost use Rattle.std.specs.Prelude.{[], IfOk, MatchOption, map, ℕ};
+ghost use Rattle.std.specs.Prelude.{AllPairs, IfOk, MatchOption, map, ℕ};
 
 use crate::elements::Elements;
 use axioms::{ExprId, Memory, Ontology};
@@ -28,7 +28,7 @@ pub(crate) fn own_claims(
     ontology: &Ontology,
     elements: &Elements,
 ) -> Result<Vec<Claim>, Memory>
-    requires { AreSatisfiableContexts ontology.now [] elements.now }
+    requires { AllPairs IsBefore elements.now }
     ensures { IfOk result (λ v. AreOwnClaims ontology.now elements.now (map claim_of v.items)) }
 {
     ontology.bounded();

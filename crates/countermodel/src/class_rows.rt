@@ -1,11 +1,11 @@
 //! Rows of classes.
 ghost use Rattle.certificate.specs.View.{class_row_of};
-ghost use Rattle.exactness.specs.ListedInterpretation.{AreSatisfiableContexts};
+ghost use Rattle.exactness.specs.ListedInterpretation.{AreSatisfiableContexts, IsBefore};
 ghost use Rattle.engine.specs.Saturations.{IsSaturated};
 ghost use Rattle.countermodel.specs.Sinks.{Adds};
 ghost use Rattle.countermodel.specs.Members.{AreMembers, AreRowsOf, HasNoMember, IsMember, IsOwnClass};
 ghost use Rattle.countermodel.specs.MemberRows.{AreClassRows};
-ghost use Rattle.std.specs.Prelude.{◌↔◌, ◌≡◌, ◌≤◌, ◌^◌, [], IfOk, IsTrue, MatchOption, OnOk, length, map};
+ghost use Rattle.std.specs.Prelude.{◌↔◌, ◌≡◌, ◌≤◌, ◌^◌, AllPairs, IfOk, IsTrue, MatchOption, OnOk, length, map};
 
 use crate::ascending::ascending;
 use crate::elements::Elements;
@@ -47,7 +47,7 @@ fn members(
     elements: &Elements,
     facts: &[StoredFact],
 ) -> Result<OpenLists, Memory>
-    requires { AreSatisfiableContexts ontology.now [] elements.now }
+    requires { AllPairs IsBefore elements.now }
     ensures members { IfOk result (λ lists. AreMembers ontology.now elements.now facts.now lists) }
     ensures length { IfOk result (λ lists. length lists ≡ length ontology.now.nodes) }
 {
@@ -93,8 +93,8 @@ pub(crate) fn add_class_rows<S: RowSink<ClassRow>>(
     rows: &mut S,
 ) -> Result<(), Memory>
     requires saturated { IsSaturated ontology.now saturation.now }
-    requires elements { AreSatisfiableContexts ontology.now [] elements.now }
-    ensures { OnOk result (Adds (λ rs. AreClassRows ontology.now elements.now (map class_row_of rs)) (S.adds rows.old rows.new)) }
+    requires elements { AreSatisfiableContexts ontology.now saturation.now.normal.asked elements.now }
+    ensures { OnOk result (Adds (λ rs. AreClassRows ontology.now saturation.now.normal.asked elements.now (map class_row_of rs)) (S.adds rows.old rows.new)) }
 {
     ontology.bounded();
     let lists = members(alloc, ontology, elements, saturation.facts())?;

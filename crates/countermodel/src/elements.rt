@@ -129,7 +129,7 @@ impl Elements {
         saturation: &Saturation,
     ) -> Result<Elements, Memory>
         requires { IsSaturated ontology.now saturation.now }
-        ensures { IfOk result (λ e. AreSatisfiableContexts ontology.now [] e) }
+        ensures { IfOk result (λ e. AreSatisfiableContexts ontology.now saturation.now.normal.asked e) }
     {
         ontology.well_formed();
         ontology.bounded();

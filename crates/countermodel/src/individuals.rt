@@ -1,7 +1,7 @@
 //! The elements of individuals.
 ghost use Rattle.exactness.specs.ListedInterpretation.{AreSatisfiableContexts, IsConsistent};
 ghost use Rattle.countermodel.specs.MemberRows.{AreIndividualElements};
-ghost use Rattle.std.specs.Prelude.{[], IfOk};
+ghost use Rattle.std.specs.Prelude.{IfOk, List, ℕ};
 
 use crate::elements::Elements;
 use axioms::{IndId, Memory, Ontology};
@@ -14,8 +14,7 @@ pub(crate) fn individual_elements(
     ontology: &Ontology,
     elements: &Elements,
 ) -> Result<Vec<u32>, Memory>
-    requires elements { AreSatisfiableContexts ontology.now [] elements.now }
-    requires consistent { IsConsistent ontology.now [] }
+    requires { (asked : List ℕ) × AreSatisfiableContexts ontology.now asked elements.now × IsConsistent ontology.now asked }
     ensures { IfOk result (λ v. AreIndividualElements ontology.now elements.now v.items) }
 {
     ontology.bounded();

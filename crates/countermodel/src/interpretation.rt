@@ -4,7 +4,7 @@ ghost use Rattle.certificate.specs.View.{listed_of};
 ghost use Rattle.exactness.specs.ListedInterpretation.{IsConsistent};
 ghost use Rattle.engine.specs.Saturations.{IsSaturated};
 ghost use Rattle.exactness.specs.Acceptance.{IsListedFor};
-ghost use Rattle.std.specs.Prelude.{◌<◌, ◌^◌, [], All, IfOk, Some};
+ghost use Rattle.std.specs.Prelude.{◌<◌, ◌^◌, All, IfOk, Some};
 
 use crate::claims::own_claims;
 use crate::class_rows::add_class_rows;
@@ -23,8 +23,8 @@ use std::alloc::Global;
 /// `Memory` where memory was refused.
 pub fn listed(alloc: Global, ontology: &Ontology, saturation: &Saturation) -> Result<Listed, Memory>
     requires saturated { IsSaturated ontology.now saturation.now }
-    requires consistent { IsConsistent ontology.now [] }
-    ensures listed { IfOk result (λ l. IsListedFor ontology.now (listed_of l)) }
+    requires consistent { IsConsistent ontology.now saturation.now.normal.asked }
+    ensures listed { IfOk result (λ l. IsListedFor ontology.now saturation.now.normal.asked (listed_of l)) }
     // A certificate of it can be written.
     ensures text { IfOk result (λ l. IsListedOf ontology.now (listed_of l)) }
     ensures numbers { IfOk result (λ l. All (λ n. n < 2 ^ 32) (listed_numbers (Some (listed_of l)))) }

@@ -4,7 +4,7 @@ ghost use Rattle.exactness.specs.ListedInterpretation.{AreSatisfiableContexts};
 ghost use Rattle.engine.specs.Saturations.{IsSaturated};
 ghost use Rattle.countermodel.specs.PairRows.{ArePairRows};
 ghost use Rattle.countermodel.specs.Sinks.{Adds};
-ghost use Rattle.std.specs.Prelude.{IfOk, OnOk, [], map};
+ghost use Rattle.std.specs.Prelude.{IfOk, OnOk, map};
 
 use crate::edges::pairs_of;
 use crate::elements::Elements;
@@ -29,8 +29,8 @@ pub(crate) fn add_pair_rows<S: RowSink<PairRow>>(
     rows: &mut S,
 ) -> Result<(), Memory>
     requires saturated { IsSaturated ontology.now saturation.now }
-    requires elements { AreSatisfiableContexts ontology.now [] elements.now }
-    ensures { OnOk result (Adds (λ rs. ArePairRows ontology.now elements.now (map pair_row_of rs)) (S.adds rows.old rows.new)) }
+    requires elements { AreSatisfiableContexts ontology.now saturation.now.normal.asked elements.now }
+    ensures { OnOk result (Adds (λ rs. ArePairRows ontology.now saturation.now.normal.asked elements.now (map pair_row_of rs)) (S.adds rows.old rows.new)) }
 {
     ontology.well_formed();
     let mut pairs = pairs_of(alloc, saturation.closure(), elements, saturation.facts())?;
@@ -50,8 +50,8 @@ pub fn pair_rows(
     elements: &Elements,
 ) -> Result<Vec<PairRow>, Memory>
     requires saturated { IsSaturated ontology.now saturation.now }
-    requires elements { AreSatisfiableContexts ontology.now [] elements.now }
-    ensures { IfOk result (λ v. ArePairRows ontology.now elements.now (map pair_row_of v.items)) }
+    requires elements { AreSatisfiableContexts ontology.now saturation.now.normal.asked elements.now }
+    ensures { IfOk result (λ v. ArePairRows ontology.now saturation.now.normal.asked elements.now (map pair_row_of v.items)) }
 {
     let mut rows = Vec::new(alloc);
     add_pair_rows(alloc, ontology, saturation, elements, &mut rows)?;

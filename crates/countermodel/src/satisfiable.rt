@@ -7,7 +7,7 @@ ghost use Rattle.engine.specs.Saturations.{IsSaturated};
 ghost use Rattle.facts.specs.declared.contexts.Context.{Context as Context3};
 ghost use Rattle.facts.specs.declared.contexts.Fact.TheVariants as said;
 ghost use Rattle.normal_forms.specs.declared.forms.Class2.TheVariants as classes;
-ghost use Rattle.std.specs.Prelude.{◌↔◌, ◌≡◌, [], Contains, IfOk, Some, true};
+ghost use Rattle.std.specs.Prelude.{◌↔◌, ◌≡◌, Contains, IfOk, Some, true};
 
 use crate::context_set::ContextSet;
 use axioms::{ExprId, Memory, Ontology};
@@ -60,7 +60,7 @@ impl Satisfiable {
         saturation: &Saturation,
     ) -> Result<Satisfiable, Memory>
         requires { IsSaturated ontology.now saturation.now }
-        ensures { IfOk result (λ s. (x : Context2) → (admits s x ≡ true) ↔ IsSatisfiable ontology.now [] x) }
+        ensures { IfOk result (λ s. (x : Context2) → (admits s x ≡ true) ↔ IsSatisfiable ontology.now saturation.now.normal.asked x) }
     {
         ontology.well_formed();
         let facts = saturation.facts();

@@ -2,7 +2,7 @@
 ghost use Rattle.exactness.specs.ListedInterpretation.{IsConsistent};
 ghost use Rattle.engine.specs.Saturations.{IsSaturated};
 ghost use Rattle.countermodel.specs.WholeText.{IsTextWithListed};
-ghost use Rattle.std.specs.Prelude.{[], IfOk};
+ghost use Rattle.std.specs.Prelude.{IfOk};
 
 use crate::claims::own_claims;
 use crate::class_rows::add_class_rows;
@@ -27,8 +27,8 @@ pub fn text_with_listed(
     lines: LineText,
 ) -> Result<Vec<u8>, Memory>
     requires saturated { IsSaturated ontology.now saturation.now }
-    requires consistent { IsConsistent ontology.now [] }
-    ensures { IfOk result (λ v. IsTextWithListed ontology.now lines v.items) }
+    requires consistent { IsConsistent ontology.now saturation.now.normal.asked }
+    ensures { IfOk result (λ v. IsTextWithListed ontology.now saturation.now.normal.asked lines v.items) }
 {
     ontology.well_formed();
     ontology.bounded();

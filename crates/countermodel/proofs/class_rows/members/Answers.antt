@@ -20,7 +20,7 @@ loop-fact-preserved c =
     elim c.match-member.branch [
       | in-Some+in_ok-push w ↦
           subst (HasPut o elements facts (k + 1)) (sym (w.lists-is ∙ (w.in_ok-push.ensures.ok ∙ ap (λ e. slice_set lists e (list_at lists e ++ w.in-Some.element ∷ [])) w.index.ensures)))
-          (one_put o elements facts k _ lists c.loop-fact-test.true c.loop-fact.invariant c.requires.ascend _ w.in-Some.element (rw c.fact-item.is at w.in-Some.ensures))
+          (one_put o elements facts k _ lists c.loop-fact-test.true c.loop-fact.invariant c.requires _ w.in-Some.element (rw c.fact-item.is at w.in-Some.ensures))
       | in_default w ↦
           subst (HasPut o elements facts (k + 1)) (sym w.lists-is)
           (nothing_put o elements facts k _ lists c.loop-fact-test.true c.loop-fact.invariant (rw c.fact-item.is at w.in_default.ensures))

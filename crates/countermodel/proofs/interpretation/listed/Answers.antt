@@ -9,24 +9,28 @@ use Rattle.countermodel.proofs.Interpreted.{listed_for, listed_of, numbers_small
 use Rattle.countermodel.proofs.Taken.{all_taken}
 use Rattle.countermodel.proofs.interpretation.listed.Goals as goal
 
+pub individual_elements-requires : goal.individual_elements-requires
+individual_elements-requires c = (c.args.saturation.now.normal.asked, c.in_ok-elements.ensures, c.requires.consistent)
+
 pub returns : goal.returns
 returns c =
     let o = c.args.ontology.now in
+    let asked = c.args.saturation.now.normal.asked in
     let w = c.well_formed-2.ensures in
     let elements = c.in_ok-elements.elements in
     let are = c.in_ok-elements.ensures in
     let classes = map class_row_of c.add_class_rows.new.rows.items in
-    let class_rows : AreClassRows o elements classes =
-    all_taken (λ (rows : List ClassRow). AreClassRows o elements (map class_row_of rows)) c.new-classes.result.items c.add_class_rows.new.rows.items c.new-classes.ensures.items c.in_ok-add_class_rows.ensures in
+    let class_rows : AreClassRows o asked elements classes =
+    all_taken (λ (rows : List ClassRow). AreClassRows o asked elements (map class_row_of rows)) c.new-classes.result.items c.add_class_rows.new.rows.items c.new-classes.ensures.items c.in_ok-add_class_rows.ensures in
     let pairs = map pair_row_of c.in_ok-pairs.pairs.items in
     let numbers = c.in_ok-individuals.individuals.items in
     let claims = map claim_of c.in_ok-claims.claims.items in
     let with_domain : ℕ → Listed = λ n. record { domain = n; classes = classes; pairs = pairs; individuals = numbers; claims = claims } in
     record {
-      listed = subst (λ n. IsListedFor o (with_domain n)) (sym c.len.ensures)
-          (listed_for o w c.requires.consistent elements are classes class_rows pairs c.in_ok-pairs.ensures numbers c.in_ok-individuals.ensures claims c.in_ok-claims.ensures);
+      listed = subst (λ n. IsListedFor o asked (with_domain n)) (sym c.len.ensures)
+          (listed_for o asked w c.requires.consistent elements are classes class_rows pairs c.in_ok-pairs.ensures numbers c.in_ok-individuals.ensures claims c.in_ok-claims.ensures);
       text = subst (λ n. IsListedOf o (with_domain n)) (sym c.len.ensures)
-          (listed_of o w c.requires.consistent elements are classes class_rows pairs c.in_ok-pairs.ensures numbers c.in_ok-individuals.ensures claims c.in_ok-claims.ensures);
+          (listed_of o asked w c.requires.consistent elements are classes class_rows pairs c.in_ok-pairs.ensures numbers c.in_ok-individuals.ensures claims c.in_ok-claims.ensures);
       numbers = subst (λ n. All (λ k. k < 2 ^ 32) (listed_numbers (Some (with_domain n)))) (sym c.len.ensures)
-          (numbers_small o w c.requires.consistent elements are classes class_rows pairs c.in_ok-pairs.ensures numbers c.in_ok-individuals.ensures claims c.in_ok-claims.ensures c.bounded.ensures (subst (λ n. n < 2 ^ 32) c.len.ensures c.len.type_inv));
+          (numbers_small o asked w c.requires.consistent elements are classes class_rows pairs c.in_ok-pairs.ensures numbers c.in_ok-individuals.ensures claims c.in_ok-claims.ensures c.bounded.ensures (subst (λ n. n < 2 ^ 32) c.len.ensures c.len.type_inv));
     }

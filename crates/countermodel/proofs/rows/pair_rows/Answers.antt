@@ -6,4 +6,4 @@ use Rattle.countermodel.proofs.Taken.{all_taken}
 use Rattle.countermodel.proofs.rows.pair_rows.Goals as goal
 
 pub returns : goal.returns
-returns c = all_taken (λ (rows : List PairRow). ArePairRows c.args.ontology.now c.args.elements.now (map pair_row_of rows)) c.new-rows.result.items c.add_pair_rows.new.rows.items c.new-rows.ensures.items c.in_ok-add_pair_rows.ensures
+returns c = all_taken (λ (rows : List PairRow). ArePairRows c.args.ontology.now c.args.saturation.now.normal.asked c.args.elements.now (map pair_row_of rows)) c.new-rows.result.items c.add_pair_rows.new.rows.items c.new-rows.ensures.items c.in_ok-add_pair_rows.ensures
