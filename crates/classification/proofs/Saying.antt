@@ -17,7 +17,8 @@ use Rattle.closure.specs.Denotations.{Prefixes, whole, expression, individual, S
 use Rattle.exactness.specs.ListedInterpretation.{IsConsistent}
 use Rattle.exactness.specs.Derivability.{FactIsDerivable}
 use Rattle.exactness.proofs.Facts.{fact_derivable}
-use Rattle.engine.specs.Saturations.{SayTheClosure}
+use Rattle.engine.specs.Saturations.{IsSaturated, IsUnasked, Saturated, SayTheClosure}
+use Rattle.normalise.specs.Problem.{prefixes_of}
 use Rattle.classification.specs.Contradiction.{IsContradiction}
 use Rattle.classification.specs.Lists.{PutsBelow, PutsInto, IsAboutIndividualOf, SomeFact}
 
@@ -46,29 +47,33 @@ individual_there o (in_context s (individual k)) d = subst (λ n. n < length o.n
 
 -- ---- all facts
 
-module _ (o : Ontology) (w : IsOntology o) (b : Prefixes) (fs : List code_fact.Fact) (h : SayTheClosure o b fs) where
-  class_is_fact : (f e : ExprId) → Contains fs (class_fact f e) → IsFact o [] (In (Whole f.0) (Expression e.0))
+-- where nothing is asked about, they say the closure of the ontology alone
+pub say_alone : (o : Ontology) (s : Saturated) → IsSaturated o s → IsUnasked s → SayTheClosure o [] (prefixes_of s.normal) s.state.facts
+say_alone o s h unasked = subst (λ asked. SayTheClosure o asked (prefixes_of s.normal) s.state.facts) unasked h.facts
+
+module _ (o : Ontology) (asked : List ℕ) (w : IsOntology o) (b : Prefixes) (fs : List code_fact.Fact) (h : SayTheClosure o asked b fs) where
+  class_is_fact : (f e : ExprId) → Contains fs (class_fact f e) → IsFact o asked (In (Whole f.0) (Expression e.0))
   class_is_fact f e there =
       let (g, says, fact) = h.each (class_fact f e) there in
-      subst (IsFact o []) (says_class says) fact
+      subst (IsFact o asked) (says_class says) fact
 
-  type_is_fact : (f : ExprId) (i : IndId) → Contains fs (type_fact f i) → IsFact o [] (In (Whole f.0) (Individual i.0))
+  type_is_fact : (f : ExprId) (i : IndId) → Contains fs (type_fact f i) → IsFact o asked (In (Whole f.0) (Individual i.0))
   type_is_fact f i there =
       let (g, says, fact) = h.each (type_fact f i) there in
-      subst (IsFact o []) (says_type says) fact
+      subst (IsFact o asked) (says_type says) fact
 
   pub about_individual : (fact : code_fact.Fact) → Contains fs fact → IsAboutIndividualOf o fact
   about_individual (facts.In a (contexts.Individual i)) there =
       let (g, says, fact) = h.each (facts.In a (contexts.Individual i)) there in
-      individual_there o says (fact_derivable o [] w fact)
+      individual_there o says (fact_derivable o asked w fact)
   about_individual (facts.In a (contexts.Expr e)) there = tt
   about_individual (facts.Edge x r y) there = tt
 
   -- a fact puts a class below another where that is a fact of the closure
-  pub below_by_fact : (c d e f : ℕ) → IsClassAt o c e → IsClassAt o d f → SomeFact fs (λ fact. PutsBelow o fact c d) ↔ IsFact o [] (In (Whole f) (Expression e))
+  pub below_by_fact : (c d e f : ℕ) → IsClassAt o c e → IsClassAt o d f → SomeFact fs (λ fact. PutsBelow o fact c d) ↔ IsFact o asked (In (Whole f) (Expression e))
   below_by_fact c d e f class above = (
     λ (n, fact, at, (e', f', is, class', above')).
-        subst₂ (λ x y. IsFact o [] (In (Whole x) (Expression y))) (w.distinct_nodes f'.0 f (Class d) above' above) (w.distinct_nodes e'.0 e (Class c) class' class)
+        subst₂ (λ x y. IsFact o asked (In (Whole x) (Expression y))) (w.distinct_nodes f'.0 f (Class d) above' above) (w.distinct_nodes e'.0 e (Class c) class' class)
         (class_is_fact f' e' (subst (Contains fs) is (Contains-from_slice_get fs n fact at))),
     λ is_fact.
         let (fact, there, says) = h.all (In (Whole f) (Expression e)) is_fact in
@@ -78,10 +83,10 @@ module _ (o : Ontology) (w : IsOntology o) (b : Prefixes) (fs : List code_fact.F
   )
 
   -- a fact puts an individual into a class where that is a fact of the closure
-  pub type_by_fact : (a d f : ℕ) → IsClassAt o d f → SomeFact fs (λ fact. PutsInto o fact a d) ↔ IsFact o [] (In (Whole f) (Individual a))
+  pub type_by_fact : (a d f : ℕ) → IsClassAt o d f → SomeFact fs (λ fact. PutsInto o fact a d) ↔ IsFact o asked (In (Whole f) (Individual a))
   type_by_fact a d f above = (
     λ (n, fact, at, (i, f', is, same, above')).
-        subst₂ (λ x y. IsFact o [] (In (Whole x) (Individual y))) (w.distinct_nodes f'.0 f (Class d) above' above) same
+        subst₂ (λ x y. IsFact o asked (In (Whole x) (Individual y))) (w.distinct_nodes f'.0 f (Class d) above' above) same
         (type_is_fact f' i (subst (Contains fs) is (Contains-from_slice_get fs n fact at))),
     λ is_fact.
         let (fact, there, says) = h.all (In (Whole f) (Individual a)) is_fact in
@@ -90,16 +95,16 @@ module _ (o : Ontology) (w : IsOntology o) (b : Prefixes) (fs : List code_fact.F
         (n, fact, at, (i, f', is, same_i, subst (IsClassAt o d) (sym same_f) above)),
   )
 
-  no_contradiction : IsConsistent o [] → (fact : code_fact.Fact) → Contains fs fact → IsContradiction fact → ⊥
+  no_contradiction : IsConsistent o asked → (fact : code_fact.Fact) → Contains fs fact → IsContradiction fact → ⊥
   no_contradiction consistent (facts.In (classes.Expr c) (contexts.Expr e)) there bad =
-      consistent.things (subst₂ (λ x y. IsFact o [] (In (Whole x) (Expression y))) bad.0 bad.1 (class_is_fact c e there))
+      consistent.things (subst₂ (λ x y. IsFact o asked (In (Whole x) (Expression y))) bad.0 bad.1 (class_is_fact c e there))
   no_contradiction consistent (facts.In (classes.Expr c) (contexts.Individual i)) there bad =
-      consistent.individuals i.0 (about_individual (type_fact c i) there) (subst (λ x. IsFact o [] (In (Whole x) (Individual i.0))) bad (type_is_fact c i there))
+      consistent.individuals i.0 (about_individual (type_fact c i) there) (subst (λ x. IsFact o asked (In (Whole x) (Individual i.0))) bad (type_is_fact c i there))
   no_contradiction consistent (facts.In (classes.Partial n) x) there bad = bad
   no_contradiction consistent (facts.Edge x r y) there bad = bad
 
   -- the closure is consistent where no fact says otherwise
-  pub consistent_by_facts : All (λ fact. IsContradiction fact → ⊥) fs ↔ IsConsistent o []
+  pub consistent_by_facts : All (λ fact. IsContradiction fact → ⊥) fs ↔ IsConsistent o asked
   consistent_by_facts = (
     λ all. record {
       things = λ is_fact.

@@ -15,11 +15,11 @@ use Rattle.classification.specs.Lists.{AreClassLists, AreTypeLists, IsTaxonomyOf
 use Rattle.classification.proofs.Above.{facts_of_facts}
 use Rattle.classification.proofs.Saying.{below_by_fact, type_by_fact}
 
-module _ (o : Ontology) (w : IsOntology o) (b : Prefixes) (facts : List code_fact.Fact) (h : SayTheClosure o b facts) where
+module _ (o : Ontology) (w : IsOntology o) (b : Prefixes) (facts : List code_fact.Fact) (h : SayTheClosure o [] b facts) where
   module _ (lists : List (List ℕ)) (are : AreClassLists o facts lists) where
     list_says : (c d e f : ℕ) → IsClassAt o c e → IsClassAt o d f → (is_listed lists c d ≡ true) ↔ IsFact o [] (In (Whole f) (Expression e))
     list_says c d e f class above =
-        let by = below_by_fact o w b facts h c d e f class above in
+        let by = below_by_fact o [] w b facts h c d e f class above in
         (λ t. by.0 ((are.each c d).0 t), λ k. (are.each c d).1 (by.1 k))
 
     below : (rows : List (List Bool)) → length rows ≡ length lists → ((c d : ℕ) → c < length rows → d < length rows → lies_below rows c d ≡ is_below lists c d)
@@ -45,7 +45,7 @@ module _ (o : Ontology) (w : IsOntology o) (b : Prefixes) (facts : List code_fac
     long = are.long;
     over = λ a d t. let (n, fact, at, (i, f, is, same, above)) = (are.each a d).0 t in w.nodes f.0 (Class d) above;
     types = λ a d f l above.
-        let by = type_by_fact o w b facts h a d f above in
+        let by = type_by_fact o [] w b facts h a d f above in
         (λ t. by.0 ((are.each a d).0 t), λ k. (are.each a d).1 (by.1 k));
   }
 

@@ -9,11 +9,11 @@ use Rattle.closure.specs.Closure.{Fact, IsFact}
 use Rattle.exactness.specs.Acceptance.{AreTextsOfClosure}
 use Rattle.classification.specs.declared.classification.Summary.{Summary}
 
--- the closure has n facts: a list has exactly them, each once
-pub record HasFacts (o : Ontology) (n : ℕ) : Type 0 where
+-- the closure of the ontology and of what is asked about has n facts: a list has exactly them, each once
+pub record HasFacts (o : Ontology) (asked : List ℕ) (n : ℕ) : Type 0 where
   pub facts : List Fact
   pub distinct : AreDistinct facts
-  pub exact : (fact : Fact) → Contains facts fact ↔ IsFact o [] fact
+  pub exact : (fact : Fact) → Contains facts fact ↔ IsFact o asked fact
   pub many : length facts ≡ n
 
 -- what there is of each kind, and whether there is a finite interpretation of the axioms
@@ -21,7 +21,7 @@ pub record AreCountsOf (o : Ontology) (s : Summary) : Type 0 where
   pub consistent : (s.consistent ≡ true) ↔ (IsContradictory (axiom_trees o) → ⊥)
   pub classes : s.classes ≡ length o.names.classes
   pub individuals : s.individuals ≡ length o.names.individuals
-  pub facts : HasFacts o s.facts
+  pub facts : HasFacts o [] s.facts
 
 -- the texts of the relations of the closure, or those of a contradiction
 abbrev pub AreTextsOf : Ontology → Bool → (taxonomy instances : List ℕ) → Type 0

@@ -20,7 +20,7 @@ IsOutcomeOf o _ _ = ⊥
 
 -- the lines have the closure's facts, and its interpretation is listed; or the lines have the contradiction
 abbrev pub AreShown : Ontology → Bool → List Line → Option Listed → Type 0
-AreShown o true lines (Some listed) = HaveFacts o [] lines × IsListedFor o listed
+AreShown o true lines (Some listed) = HaveFacts o [] lines × IsListedFor o [] listed
 AreShown o false lines None = ShowsContradiction lines
 AreShown o _ lines _ = ⊥
 

@@ -3,7 +3,7 @@ ghost use Rattle.cert_check.specs.Acceptance.{AreRight, IsAcceptable};
 ghost use Rattle.classification.specs.Classifications.{AreCountsOf, AreTextsOf};
 ghost use Rattle.classification.specs.Findings.{IsCertificateOf, IsOutcomeOf};
 ghost use Rattle.exactness.specs.ListedInterpretation.{IsConsistent};
-ghost use Rattle.engine.specs.Saturations.{HasMoreFactsThan, IsSaturated};
+ghost use Rattle.engine.specs.Saturations.{HasMoreFactsThan, IsSaturated, IsUnasked};
 ghost use Rattle.inference.specs.declared.known_facts.Stop.TheVariants as stops;
 ghost use Rattle.std.specs.Prelude.{◌↔◌, ◌≡◌, ◌≤◌, [], Err, IfOk, IsTrue, false, length, true};
 
@@ -41,7 +41,8 @@ pub struct Classification {
 
 /// The relations of classes and of individuals by the closure.
 fn relations(alloc: Global, ontology: &Ontology, saturation: &Saturation) -> Result<Outcome, Memory>
-    requires { IsSaturated ontology.now saturation.now }
+    requires saturated { IsSaturated ontology.now saturation.now }
+    requires unasked { IsUnasked saturation.now }
     ensures { IfOk result (IsOutcomeOf ontology.now true) }
 {
     let taxonomy = taxonomy_of(alloc, ontology, saturation)?;
@@ -56,7 +57,8 @@ fn outcome(
     saturation: &Saturation,
     consistent: bool,
 ) -> Result<Outcome, Memory>
-    requires { IsSaturated ontology.now saturation.now }
+    requires saturated { IsSaturated ontology.now saturation.now }
+    requires unasked { IsUnasked saturation.now }
     ensures { IfOk result (IsOutcomeOf ontology.now consistent) }
 {
     if consistent {
@@ -73,7 +75,8 @@ fn certificate_of_closure(
     saturation: &Saturation,
 ) -> Result<Vec<u8>, Memory>
     requires saturated { IsSaturated ontology.now saturation.now }
-    requires consistent { IsConsistent ontology.now [] }
+    requires unasked { IsUnasked saturation.now }
+    requires consistent { IsConsistent ontology.now saturation.now.normal.asked }
     ensures { IfOk result (λ v. IsCertificateOf ontology.now true v.items) }
 {
     ontology.bounded();
@@ -90,7 +93,7 @@ fn certificate_of_contradiction(
     saturation: &Saturation,
 ) -> Result<Vec<u8>, Memory>
     requires saturated { IsSaturated ontology.now saturation.now }
-    requires contradictory { IsConsistent ontology.now [] → ⊥ }
+    requires contradictory { IsConsistent ontology.now saturation.now.normal.asked → ⊥ }
     ensures { IfOk result (λ v. IsCertificateOf ontology.now false v.items) }
 {
     ontology.bounded();
@@ -108,7 +111,8 @@ fn certificate_of(
     consistent: bool,
 ) -> Result<Vec<u8>, Memory>
     requires saturated { IsSaturated ontology.now saturation.now }
-    requires consistent { IsTrue consistent ↔ IsConsistent ontology.now [] }
+    requires unasked { IsUnasked saturation.now }
+    requires consistent { IsTrue consistent ↔ IsConsistent ontology.now saturation.now.normal.asked }
     ensures { IfOk result (λ v. IsCertificateOf ontology.now consistent v.items) }
 {
     if consistent {
@@ -140,7 +144,8 @@ fn relation_texts(
     saturation: &Saturation,
     consistent: bool,
 ) -> Result<(Vec<u8>, Vec<u8>), Memory>
-    requires { IsSaturated ontology.now saturation.now }
+    requires saturated { IsSaturated ontology.now saturation.now }
+    requires unasked { IsUnasked saturation.now }
     ensures { IfOk result (λ texts. AreTextsOf ontology.now consistent texts.0.items texts.1.items) }
 {
     let outcome = outcome(alloc, ontology, saturation, consistent)?;
@@ -149,8 +154,8 @@ fn relation_texts(
     Ok((taxonomy, instances))
 }
 
-/// The classification of a saturated ontology. The relations are made and told before there is a line of the certificate, whose text
-/// is the largest of all.
+/// The classification of a saturated ontology, where nothing is asked about. The relations are made and told before there is a line
+/// of the certificate, whose text is the largest of all.
 ///
 /// # Errors
 ///
@@ -160,7 +165,8 @@ pub fn classified(
     ontology: &Ontology,
     saturation: &Saturation,
 ) -> Result<Classification, Memory>
-    requires { IsSaturated ontology.now saturation.now }
+    requires saturated { IsSaturated ontology.now saturation.now }
+    requires unasked { IsUnasked saturation.now }
     ensures counts { IfOk result (λ c. AreCountsOf ontology.now c.summary) }
     ensures facts { IfOk result (λ c. c.summary.facts ≡ length saturation.now.state.facts) }
     ensures texts { IfOk result (λ c. AreTextsOf ontology.now c.summary.consistent c.taxonomy.items c.instances.items) }
@@ -187,7 +193,8 @@ fn classification_of(
     ontology: &Ontology,
     saturation: Saturation,
 ) -> Result<Classification, Memory>
-    requires { IsSaturated ontology.now saturation }
+    requires saturated { IsSaturated ontology.now saturation }
+    requires unasked { IsUnasked saturation }
     ensures counts { IfOk result (λ c. AreCountsOf ontology.now c.summary) }
     ensures facts { IfOk result (λ c. c.summary.facts ≡ length saturation.state.facts) }
     ensures texts { IfOk result (λ c. AreTextsOf ontology.now c.summary.consistent c.taxonomy.items c.instances.items) }
@@ -219,7 +226,7 @@ pub fn classify(
     ensures acceptable { IfOk result
         (λ c. IsAcceptable ontology.now c.taxonomy.items c.instances.items c.certificate.items) }
     ensures right { IfOk result (λ c. AreRight ontology.now c.taxonomy.items c.instances.items c.certificate.items) }
-    ensures limit { result ≡ Err stops.Limit → HasMoreFactsThan ontology.now max_facts }
+    ensures limit { result ≡ Err stops.Limit → HasMoreFactsThan ontology.now [] max_facts }
 {
     let saturation = match saturated(alloc, state, ontology, max_facts) {
         Ok(saturation) => saturation,

@@ -2,7 +2,7 @@
 ghost use Rattle.classification.specs.Contradiction.{IsContradiction};
 ghost use Rattle.exactness.specs.ListedInterpretation.{IsConsistent};
 ghost use Rattle.engine.specs.Saturations.{IsSaturated};
-ghost use Rattle.std.specs.Prelude.{◌↔◌, [], All, IsTrue};
+ghost use Rattle.std.specs.Prelude.{◌↔◌, All, IsTrue};
 
 use axioms::{ExprId, Ontology};
 use engine::Saturation;
@@ -37,7 +37,7 @@ fn has_no_contradiction(facts: &[StoredFact]) -> bool
 /// Whether the closure puts neither all things nor an individual in `owl:Nothing`.
 pub fn is_consistent(ontology: &Ontology, saturation: &Saturation) -> bool
     requires { IsSaturated ontology.now saturation.now }
-    ensures { IsTrue result ↔ IsConsistent ontology.now [] }
+    ensures { IsTrue result ↔ IsConsistent ontology.now saturation.now.normal.asked }
 {
     ontology.well_formed();
     has_no_contradiction(saturation.facts())

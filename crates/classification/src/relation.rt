@@ -1,6 +1,6 @@
 //! Which named classes lie below which.
 ghost use Rattle.classification.specs.Lists.{Adds, AreClassLists, IsTaxonomyOf, PutsBelow};
-ghost use Rattle.engine.specs.Saturations.{IsSaturated};
+ghost use Rattle.engine.specs.Saturations.{IsSaturated, IsUnasked};
 ghost use Rattle.std.specs.Prelude.{◌≡◌, IfOk, OnOk, length};
 
 use crate::pairs::class_pair;
@@ -44,7 +44,8 @@ fn relation_of(
     ontology: &Ontology,
     saturation: &Saturation,
 ) -> Result<Relation, Memory>
-    requires { IsSaturated ontology.now saturation.now }
+    requires saturated { IsSaturated ontology.now saturation.now }
+    requires unasked { IsUnasked saturation.now }
     ensures { IfOk result (IsTaxonomyOf ontology.now) }
 {
     ontology.well_formed();
@@ -59,7 +60,8 @@ pub(crate) fn taxonomy_of(
     ontology: &Ontology,
     saturation: &Saturation,
 ) -> Result<Taxonomy, Memory>
-    requires { IsSaturated ontology.now saturation.now }
+    requires saturated { IsSaturated ontology.now saturation.now }
+    requires unasked { IsUnasked saturation.now }
     ensures { IfOk result (IsTaxonomyOf ontology.now) }
 {
     ontology.well_formed();

@@ -1,6 +1,6 @@
 //! Which individuals belong to which named classes.
 ghost use Rattle.classification.specs.Lists.{Adds, AreTypeLists, AreTypesOf, IsAboutIndividualOf, PutsInto};
-ghost use Rattle.engine.specs.Saturations.{IsSaturated};
+ghost use Rattle.engine.specs.Saturations.{IsSaturated, IsUnasked};
 ghost use Rattle.std.specs.Prelude.{◌≡◌, All, IfOk, OnOk, length};
 
 use crate::pairs::type_pair;
@@ -45,7 +45,8 @@ pub(crate) fn types_of(
     ontology: &Ontology,
     saturation: &Saturation,
 ) -> Result<PackedLists, Memory>
-    requires { IsSaturated ontology.now saturation.now }
+    requires saturated { IsSaturated ontology.now saturation.now }
+    requires unasked { IsUnasked saturation.now }
     ensures { IfOk result (λ lists. AreTypesOf ontology.now lists) }
 {
     ontology.well_formed();

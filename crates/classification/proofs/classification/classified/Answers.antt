@@ -2,6 +2,8 @@ use Rattle.axioms.specs.Ontology.{Ontology}
 use Rattle.axioms.specs.WellFormedness.{IsOntology}
 use Rattle.cert_check.proofs.Headline.{acceptable_says}
 use Rattle.cert_check.specs.Acceptance.{AreRight, IsAcceptable}
+use Rattle.exactness.specs.ListedInterpretation.{IsConsistent}
+use Rattle.std.proofs.Common.{◌↔◌, IsTrue, subst}
 use Rattle.std.specs.Prelude.{ℕ, List}
 use Rattle.classification.proofs.Counting.{counts_of}
 use Rattle.classification.proofs.Shown.{consistent_where, acceptable}
@@ -13,8 +15,8 @@ returns-clause-counts c =
     let made = c.in_ok-certificate.ensures in
     let consistent = c.is_consistent-consistent in
     let counted = c.counted.ensures in
-    counts_of o c.args.saturation.now c.counted.result consistent.result c.requires counted.consistent counted.classes counted.individuals counted.facts
-    (consistent_where o c.well_formed-2.ensures consistent.result consistent.ensures made.certificate.lines made.certificate.listed made.shown)
+    counts_of o c.args.saturation.now c.counted.result consistent.result c.requires.saturated c.requires.unasked counted.consistent counted.classes counted.individuals counted.facts
+    (consistent_where o c.well_formed-2.ensures consistent.result (subst (λ asked. IsTrue consistent.result ↔ IsConsistent o asked) c.requires.unasked consistent.ensures) made.certificate.lines made.certificate.listed made.shown)
 
 pub returns-clause-facts : goal.returns-clause-facts
 returns-clause-facts c = c.counted.ensures.facts

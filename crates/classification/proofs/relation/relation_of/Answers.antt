@@ -1,6 +1,7 @@
 use Rattle.std.proofs.Common.{subst}
 use Rattle.normalise.specs.Problem.{prefixes_of}
 use Rattle.classification.specs.Lists.{AreClassLists}
+use Rattle.classification.proofs.Saying.{say_alone}
 use Rattle.classification.proofs.Taxonomy.{is_taxonomy}
 use Rattle.classification.proofs.relation.relation_of.Goals as goal
 
@@ -10,5 +11,5 @@ returns c =
     let s = c.args.saturation.now in
     let lists = c.in_ok-lists.lists in
     let relation = c.in_ok-relation in
-    is_taxonomy o c.well_formed-2.ensures (prefixes_of s.normal) s.state.facts c.requires.facts lists
+    is_taxonomy o c.well_formed-2.ensures (prefixes_of s.normal) s.state.facts (say_alone o s c.requires.saturated c.requires.unasked) lists
     (subst (λ fs. AreClassLists o fs lists) c.facts.ensures c.in_ok-lists.ensures) relation.relation relation.ensures.size relation.ensures.each
