@@ -1,111 +1,159 @@
 -- What the facts of a saturation answer is what follows.
-use Rattle.std.proofs.Common.{◌≡◌, ◌↔◌, ℕ, ◌<◌, ◌⊎◌, inl, inr, ⊎_elim, Bool, List, [], length, slice_get, Some, sym, ap, ◌∙◌, subst}
-use Rattle.std.specs.Option.{unwrap_or}
-use Rattle.axioms.specs.Expression.{Iri}
-use Rattle.axioms.specs.Ontology.{Ontology, IsClassAt, nothing, name_at, individual_name}
-use Rattle.axioms.specs.WellFormedness.{IsOntology}
-use Rattle.closure.specs.Closure.{Expression, In, IsFact}
+use Rattle.std.proofs.Common.{◌≡◌, ◌↔◌, ℕ, ◌<◌, ◌⊎◌, inl, inr, ⊎_elim, Bool, List, length, slice_get, Some, refl, sym, ap, ◌∙◌, subst}
+use Rattle.lemmas.proofs.Members.{Contains-from_slice_get, slice_get-from_Contains}
+use Rattle.axioms.specs.Expression.{ClassExpression, Iri, Named}
+use Rattle.axioms.specs.Ontology.{Ontology, IsClassAt, nothing, name_at, individual_name, expression, axiom_trees}
+use Rattle.axioms.specs.WellFormedness.{AreDistinct, IsOntology}
+use Rattle.axioms.specs.declared.ids.ExprId.{ExprId}
+use Rattle.axioms.proofs.Trees.{class_tree}
+use Rattle.facts.specs.declared.contexts.Fact.{Fact}
+use Rattle.facts.specs.declared.contexts.Fact.TheVariants.{In}
+use Rattle.normal_forms.specs.declared.forms.Class2.TheVariants.{Expr}
 use Rattle.normal_forms.specs.Forms.{Whole}
+use Rattle.closure.specs.Closure.{Context, Expression, Individual, IsFact, IsRoot}
+use Rattle.closure.specs.Closure as closure
+use Rattle.closure.proofs.Names.{expr_id}
+use Rattle.interpretation_spec.specs.Interpretation.{IsBelow, IsMember}
 use Rattle.normalise.specs.Problem.{prefixes_of}
 use Rattle.engine.specs.Saturations.{Saturated, IsSaturated}
-use Rattle.classification.specs.Lists.{PutsBelow, SomeFact}
-use Rattle.classification.proofs.Saying.{below_by_fact, type_by_fact}
-use Rattle.answers.specs.Questions.{Answers, AreAnswers, FollowsFor, IsEvery, class_asked, names_asked, nothing_class}
+use Rattle.countermodel.proofs.Facts.{code_of, whole_said}
+use Rattle.classification.specs.Lists.{SomeFact}
+use Rattle.answers.specs.Questions.{Answers, AreAnswers, FollowsFor, IsEvery, PutsExpression, PutsIndividual, expression_asked, names_asked}
 use Rattle.answers.specs.Entailment.{LiesBelow, BelongsTo}
+use Rattle.answers.specs.Explanations.{IsClassNamed}
 use Rattle.answers.specs.Names.{AreThose, HasMark, IsMarked}
 use Rattle.answers.specs.declared.question.Question.{Question}
 use Rattle.answers.specs.declared.question.Question.TheVariants.{Above, Below, Members}
-use Rattle.answers.proofs.Following.{below_by_facts, types_by_facts}
+use Rattle.answers.proofs.Deriving.{named_tree}
+use Rattle.answers.proofs.Following.{below_by_facts, members_by_facts}
 use Rattle.answers.proofs.Naming.{mark_tells, those_same}
 
 module _ (o : Ontology) (w : IsOntology o) (s : Saturated) (h : IsSaturated o s) where
-  fact_below : (c d e f : ℕ) → IsClassAt o c e → IsClassAt o d f → SomeFact s.state.facts (λ fact. PutsBelow o fact c d) ↔ IsFact o [] (In (Whole f) (Expression e))
-  fact_below = below_by_fact o w (prefixes_of s.normal) s.state.facts h.facts
+  abbrev asked : List ℕ
+  asked = s.normal.asked
 
-  either : (c d : ℕ) → SomeFact s.state.facts (λ fact. PutsBelow o fact c d ⊎ PutsBelow o fact c nothing_class) ↔ (SomeFact s.state.facts (λ fact. PutsBelow o fact c d) ⊎ SomeFact s.state.facts (λ fact. PutsBelow o fact c nothing_class))
-  either c d = (
-    λ v. ⊎_elim (λ p. inl (v.0, v.1, v.2, p)) (λ p. inr (v.0, v.1, v.2, p)) v.3,
-    λ v. ⊎_elim (λ p. (p.0, p.1, p.2, inl p.3)) (λ p. (p.0, p.1, p.2, inr p.3)) v,
-  )
-
-  above_answers : (c d : ℕ) → c < length o.names.classes → d < length o.names.classes
-      → (IsEvery o (Above c) s.state.facts ⊎ SomeFact s.state.facts (λ fact. Answers o (Above c) fact d)) ↔ LiesBelow o (name_at o.names.classes c) (name_at o.names.classes d)
-  above_answers c d low below =
-      let (e, class) = w.class_nodes c low in
-      let (f, other) = w.class_nodes d below in
-      let by = below_by_facts o w s h c d e f class other in
-      let here = fact_below c d e f class other in
-      let empty = fact_below c nothing_class e nothing class w.nothing_node in (
-        λ v. by.1 (⊎_elim (λ every. ⊎_elim (λ none. inl none) (λ n. inr (inl (empty.0 n))) every) (λ p. inr (inr (here.0 p))) v),
-        λ follows. ⊎_elim (λ none. inl (inl none)) (λ fact. ⊎_elim (λ n. inl (inr (empty.1 n))) (λ p. inr (here.1 p)) fact) (by.0 follows),
+  -- a fact puts a context in an expression where that is a fact of the closure
+  fact_in : (x : Context) (f : ℕ) → SomeFact s.state.facts (λ fact. fact ≡ In (Expr (expr_id f)) (code_of x)) ↔ IsFact o asked (closure.In (Whole f) x)
+  fact_in x f =
+      let said = whole_said o asked (prefixes_of s.normal) s.state.facts h.facts (expr_id f) x in
+      let wanted : Fact = In (Expr (expr_id f)) (code_of x) in (
+        λ v. said.0 (Contains-from_slice_get s.state.facts v.0 wanted (subst (λ fact. slice_get s.state.facts v.0 ≡ Some fact) v.3 v.2)),
+        λ is. (let (n, at) = slice_get-from_Contains s.state.facts wanted (said.1 is) in (n, wanted, at, refl)),
       )
 
-  below_answers : (d c : ℕ) → d < length o.names.classes → c < length o.names.classes
-      → (IsEvery o (Below d) s.state.facts ⊎ SomeFact s.state.facts (λ fact. Answers o (Below d) fact c)) ↔ LiesBelow o (name_at o.names.classes c) (name_at o.names.classes d)
-  below_answers d c low below =
-      let (e, class) = w.class_nodes c below in
-      let (f, other) = w.class_nodes d low in
-      let by = below_by_facts o w s h c d e f class other in
-      let here = fact_below c d e f class other in
-      let empty = fact_below c nothing_class e nothing class w.nothing_node in
-      let both = either c d in (
-        λ v. by.1 (⊎_elim (λ none. inl none) (λ p. inr (⊎_elim (λ q. inr (here.0 q)) (λ q. inl (empty.0 q)) (both.0 p))) v),
-        λ follows. ⊎_elim (λ none. inl none) (λ fact. inr (both.1 (⊎_elim (λ n. inr (empty.1 n)) (λ p. inl (here.1 p)) fact))) (by.0 follows),
+  expression_in : (e f : ℕ) → SomeFact s.state.facts (λ fact. PutsExpression fact e f) ↔ IsFact o asked (closure.In (Whole f) (Expression e))
+  expression_in e f = fact_in (Expression e) f
+
+  individual_in : (a f : ℕ) → SomeFact s.state.facts (λ fact. PutsIndividual fact a f) ↔ IsFact o asked (closure.In (Whole f) (Individual a))
+  individual_in a f = fact_in (Individual a) f
+
+  -- the class of number n is one expression
+  one_expression : (n e f : ℕ) → IsClassAt o n e → IsClassAt o n f → e ≡ f
+  one_expression n e f class other = w.distinct_nodes e f _ class other
+
+  above_by_fact : (e : ExprId) (n f : ℕ) → IsClassAt o n f → SomeFact s.state.facts (λ fact. Answers o (Above e) fact n) ↔ IsFact o asked (closure.In (Whole f) (Expression e.0))
+  above_by_fact e n f class =
+      let here = expression_in e.0 f in (
+        λ v. here.0 (v.0, v.1, v.2, subst (λ m. PutsExpression v.1 e.0 m) (one_expression n v.3.0 f v.3.1 class) v.3.2),
+        λ is. (let v = here.1 is in (v.0, v.1, v.2, (f, class, v.3))),
       )
 
-  member_answers : (d a : ℕ) → d < length o.names.classes → a < length o.names.individuals
-      → (IsEvery o (Members d) s.state.facts ⊎ SomeFact s.state.facts (λ fact. Answers o (Members d) fact a)) ↔ BelongsTo o (individual_name o a) (name_at o.names.classes d)
-  member_answers d a low below =
-      let (f, class) = w.class_nodes d low in
-      let by = types_by_facts o w s h a d f below class in
-      let here = type_by_fact o w (prefixes_of s.normal) s.state.facts h.facts a d f class in (
-        λ v. by.1 (⊎_elim (λ none. inl none) (λ p. inr (here.0 p)) v),
-        λ follows. ⊎_elim (λ none. inl none) (λ p. inr (here.1 p)) (by.0 follows),
+  below_by_fact : (e : ExprId) (n f : ℕ) → IsClassAt o n f → SomeFact s.state.facts (λ fact. Answers o (Below e) fact n)
+      ↔ (IsFact o asked (closure.In (Whole nothing) (Expression f)) ⊎ IsFact o asked (closure.In (Whole e.0) (Expression f)))
+  below_by_fact e n f class =
+      let here = expression_in f e.0 in
+      let empty = expression_in f nothing in (
+        λ v.
+            let puts = subst (λ m. PutsExpression v.1 m e.0 ⊎ PutsExpression v.1 m nothing) (one_expression n v.3.0 f v.3.1 class) v.3.2 in
+            ⊎_elim (λ p. inr (here.0 (v.0, v.1, v.2, p))) (λ p. inl (empty.0 (v.0, v.1, v.2, p))) puts,
+        λ is. ⊎_elim
+            (λ none. (let v = empty.1 none in (v.0, v.1, v.2, (f, class, inr v.3))))
+            (λ fact. (let v = here.1 fact in (v.0, v.1, v.2, (f, class, inl v.3)))) is,
       )
 
-  answer_follows : (q : Question) → class_asked q < length o.names.classes → (n : ℕ) → n < length (names_asked o q)
-      → (IsEvery o q s.state.facts ⊎ SomeFact s.state.facts (λ fact. Answers o q fact n)) ↔ FollowsFor o q (name_at (names_asked o q) n)
-  answer_follows (Above c) low n below = above_answers c n low below
-  answer_follows (Below d) low n below = below_answers d n low below
-  answer_follows (Members d) low n below = member_answers d n low below
+  module _ (e : ExprId) (root : IsRoot o asked (Expression e.0)) where
+    above_answers : (n : ℕ) → n < length o.names.classes
+        → (IsEvery o s (Above e) ⊎ SomeFact s.state.facts (λ fact. Answers o (Above e) fact n)) ↔ FollowsFor o (Above e) (name_at o.names.classes n)
+    above_answers n low =
+        let (f, class) = w.class_nodes n low in
+        let by = below_by_facts o w s h e.0 f root (IsRoot.named n f class) in
+        let here = above_by_fact e n f class in
+        let empty = expression_in e.0 nothing in
+        let named = class_tree o n f class in (
+          λ v. subst (IsBelow (axiom_trees o) (expression o e.0)) named
+              (by.1 (⊎_elim (λ every. ⊎_elim (λ none. inl none) (λ p. inr (inl (empty.0 p))) every) (λ p. inr (inr (here.0 p))) v)),
+          λ follows. ⊎_elim
+              (λ none. inl (inl none))
+              (λ fact. ⊎_elim (λ is. inl (inr (empty.1 is))) (λ is. inr (here.1 is)) fact)
+              (by.0 (subst (IsBelow (axiom_trees o) (expression o e.0)) (sym named) follows)),
+        )
+
+    below_answers : (n : ℕ) → n < length o.names.classes
+        → (IsEvery o s (Below e) ⊎ SomeFact s.state.facts (λ fact. Answers o (Below e) fact n)) ↔ FollowsFor o (Below e) (name_at o.names.classes n)
+    below_answers n low =
+        let (f, class) = w.class_nodes n low in
+        let by = below_by_facts o w s h f e.0 (IsRoot.named n f class) root in
+        let here = below_by_fact e n f class in
+        let named = class_tree o n f class in (
+          λ v. subst (λ (t : ClassExpression). IsBelow (axiom_trees o) t (expression o e.0)) named (by.1 (⊎_elim (λ none. inl none) (λ p. inr (here.0 p)) v)),
+          λ follows. ⊎_elim (λ none. inl none) (λ fact. inr (here.1 fact)) (by.0 (subst (λ (t : ClassExpression). IsBelow (axiom_trees o) t (expression o e.0)) (sym named) follows)),
+        )
+
+    member_answers : (a : ℕ) → a < length o.names.individuals
+        → (IsEvery o s (Members e) ⊎ SomeFact s.state.facts (λ fact. Answers o (Members e) fact a)) ↔ FollowsFor o (Members e) (individual_name o a)
+    member_answers a low =
+        let by = members_by_facts o w s h a e.0 low root in
+        let here = individual_in a e.0 in (
+          λ v. by.1 (⊎_elim (λ none. inl none) (λ p. inr (here.0 p)) v),
+          λ follows. ⊎_elim (λ none. inl none) (λ p. inr (here.1 p)) (by.0 follows),
+        )
+
+  answer_follows : (q : Question) → IsRoot o asked (Expression (expression_asked q)) → (n : ℕ) → n < length (names_asked o q)
+      → (IsEvery o s q ⊎ SomeFact s.state.facts (λ fact. Answers o q fact n)) ↔ FollowsFor o q (name_at (names_asked o q) n)
+  answer_follows (Above e) root n low = above_answers e root n low
+  answer_follows (Below e) root n low = below_answers e root n low
+  answer_follows (Members e) root n low = member_answers e root n low
 
   -- the names that are marked are those that follow
-  pub those_follow : (q : Question) → class_asked q < length o.names.classes → (marks : List Bool) (answer : List Iri)
-      → AreAnswers o q s.state.facts (length (names_asked o q)) marks → AreThose (names_asked o q) (HasMark (names_asked o q) marks) answer → AreThose (names_asked o q) (FollowsFor o q) answer
-  those_follow q low marks answer are those =
+  those_follow : (q : Question) → IsRoot o asked (Expression (expression_asked q)) → (marks : List Bool) (answer : List Iri)
+      → AreAnswers o s q (length (names_asked o q)) marks → AreThose (names_asked o q) (HasMark (names_asked o q) marks) answer → AreThose (names_asked o q) (FollowsFor o q) answer
+  those_follow q root marks answer are those =
       those_same (names_asked o q) answer (HasMark (names_asked o q) marks) (FollowsFor o q) (mark_tells (names_asked o q) marks (FollowsFor o q) tells) those
     where
       tells : (n : ℕ) → n < length (names_asked o q) → IsMarked marks n ↔ FollowsFor o q (name_at (names_asked o q) n)
-      tells n below =
-          let mark = are.exact n below in
-          let follows = answer_follows q low n below in
+      tells n low =
+          let mark = are.exact n low in
+          let follows = answer_follows q root n low in
           (λ m. follows.0 (mark.0 m), λ f. mark.1 (follows.1 f))
 
   -- the names that are marked are those that follow, by another list of names, marks and number, which are the same
-  pub those_named : (q : Question) → class_asked q < length o.names.classes → (names : List Iri) → names ≡ names_asked o q → (size : ℕ) → size ≡ length names → (marks shown : List Bool) → shown ≡ marks
-      → AreAnswers o q s.state.facts size marks → (answer : List Iri) → AreThose names (HasMark names shown) answer → AreThose (names_asked o q) (FollowsFor o q) answer
-  those_named q low names is size long marks shown same are answer those =
-      let here = subst (λ (n : ℕ). AreAnswers o q s.state.facts n marks) (long ∙ ap length is) are in
+  pub those_named : (q : Question) → IsRoot o asked (Expression (expression_asked q)) → (names : List Iri) → names ≡ names_asked o q → (size : ℕ) → size ≡ length names → (marks shown : List Bool) → shown ≡ marks
+      → AreAnswers o s q size marks → (answer : List Iri) → AreThose names (HasMark names shown) answer → AreThose (names_asked o q) (FollowsFor o q) answer
+  those_named q root names is size long marks shown same are answer those =
+      let here = subst (λ (n : ℕ). AreAnswers o s q n marks) (long ∙ ap length is) are in
       let marked = subst (λ (xs : List Iri). AreThose xs (HasMark xs shown) answer) is those in
-      those_follow q low marks answer here (subst (λ (ms : List Bool). AreThose (names_asked o q) (HasMark (names_asked o q) ms) answer) same marked)
+      those_follow q root marks answer here (subst (λ (ms : List Bool). AreThose (names_asked o q) (HasMark (names_asked o q) ms) answer) same marked)
 
--- ---- a name by its number
+-- the names among which the answers are differ
+pub asked_apart : (o : Ontology) → IsOntology o → (q : Question) → AreDistinct (names_asked o q)
+asked_apart o w (Above e) = w.distinct_classes
+asked_apart o w (Below e) = w.distinct_classes
+asked_apart o w (Members e) = w.distinct_individuals
 
-name_by : (names : List Iri) (n : ℕ) (name : Iri) → slice_get names n ≡ Some name → name_at names n ≡ name
-name_by names n name at = ap (λ x. unwrap_or x []) at
+-- ---- a class by its name
 
-module _ (o : Ontology) (n : ℕ) (class : Iri) (at : slice_get o.names.classes n ≡ Some class) (answer : List Iri) where
-  here : name_at o.names.classes n ≡ class
-  here = name_by o.names.classes n class at
+module _ (o : Ontology) (class : Iri) (e : ExprId) (named : IsClassNamed o class e.0) (answer : List Iri) where
+  here : expression o e.0 ≡ Named class
+  here = named_tree o class e.0 named
 
-  pub above_named : AreThose (names_asked o (Above n)) (FollowsFor o (Above n)) answer → AreThose o.names.classes (LiesBelow o class) answer
-  above_named are = those_same o.names.classes answer (FollowsFor o (Above n)) (LiesBelow o class)
-      (λ name there. (λ p. subst (λ (c : Iri). LiesBelow o c name) here p, λ p. subst (λ (c : Iri). LiesBelow o c name) (sym here) p)) are
+  pub above_named : AreThose (names_asked o (Above e)) (FollowsFor o (Above e)) answer → AreThose o.names.classes (LiesBelow o class) answer
+  above_named are = those_same o.names.classes answer (FollowsFor o (Above e)) (LiesBelow o class)
+      (λ name there. (λ p. subst (λ (t : ClassExpression). IsBelow (axiom_trees o) t (Named name)) here p, λ p. subst (λ (t : ClassExpression). IsBelow (axiom_trees o) t (Named name)) (sym here) p)) are
 
-  pub below_named : AreThose (names_asked o (Below n)) (FollowsFor o (Below n)) answer → AreThose o.names.classes (λ name. LiesBelow o name class) answer
-  below_named are = those_same o.names.classes answer (FollowsFor o (Below n)) (λ name. LiesBelow o name class)
-      (λ name there. (λ p. subst (λ (c : Iri). LiesBelow o name c) here p, λ p. subst (λ (c : Iri). LiesBelow o name c) (sym here) p)) are
+  pub below_named : AreThose (names_asked o (Below e)) (FollowsFor o (Below e)) answer → AreThose o.names.classes (λ name. LiesBelow o name class) answer
+  below_named are = those_same o.names.classes answer (FollowsFor o (Below e)) (λ name. LiesBelow o name class)
+      (λ name there. (λ p. subst (λ (t : ClassExpression). IsBelow (axiom_trees o) (Named name) t) here p, λ p. subst (λ (t : ClassExpression). IsBelow (axiom_trees o) (Named name) t) (sym here) p)) are
 
-  pub members_named : AreThose (names_asked o (Members n)) (FollowsFor o (Members n)) answer → AreThose o.names.individuals (λ name. BelongsTo o name class) answer
-  members_named are = those_same o.names.individuals answer (FollowsFor o (Members n)) (λ name. BelongsTo o name class)
-      (λ name there. (λ p. subst (λ (c : Iri). BelongsTo o name c) here p, λ p. subst (λ (c : Iri). BelongsTo o name c) (sym here) p)) are
+  pub members_named : AreThose (names_asked o (Members e)) (FollowsFor o (Members e)) answer → AreThose o.names.individuals (λ name. BelongsTo o name class) answer
+  members_named are = those_same o.names.individuals answer (FollowsFor o (Members e)) (λ name. BelongsTo o name class)
+      (λ name there. (λ p. subst (λ (t : ClassExpression). IsMember (axiom_trees o) name t) here p, λ p. subst (λ (t : ClassExpression). IsMember (axiom_trees o) name t) (sym here) p)) are

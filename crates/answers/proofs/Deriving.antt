@@ -111,16 +111,18 @@ derived_follows o w (asked.Individual a) (closure.Individual n) about name e nam
 
 -- ---- roots
 
-pub subject_root : (o : Ontology) (a : Asked) (x : Context) → IsAbout o a x → IsRoot o [] x
-subject_root o (asked.Class c) (Expression s) about = IsRoot.named about.0 s about.1
-subject_root o (asked.Class c) (closure.Individual n) about = absurd about
-subject_root o (asked.Individual a) (Expression s) about = absurd about
-subject_root o (asked.Individual a) (closure.Individual n) about = IsRoot.individual n (slice_get_within o.names.individuals n a.now about)
+-- whatever is asked about in the saturation
+module _ (o : Ontology) (questions : List ℕ) where
+  pub subject_root : (a : Asked) (x : Context) → IsAbout o a x → IsRoot o questions x
+  subject_root (asked.Class c) (Expression s) about = IsRoot.named about.0 s about.1
+  subject_root (asked.Class c) (closure.Individual n) about = absurd about
+  subject_root (asked.Individual a) (Expression s) about = absurd about
+  subject_root (asked.Individual a) (closure.Individual n) about = IsRoot.individual n (slice_get_within o.names.individuals n a.now about)
 
-pub class_root : (o : Ontology) (name : Iri) (e : ℕ) → IsClassNamed o name e → IsRoot o [] (Expression e)
-class_root o name e (c, at, g) = IsRoot.named c e at
+  pub class_root : (name : Iri) (e : ℕ) → IsClassNamed o name e → IsRoot o questions (Expression e)
+  class_root name e (c, at, g) = IsRoot.named c e at
 
-pub root_subject : (o : Ontology) (x : Context) → IsRoot o [] x → IsSubjectOf o (subject_of x)
-root_subject o _ (IsRoot.named c e at) = slice_get_within o.nodes e _ at
-root_subject o _ (IsRoot.individual a l) = l
-root_subject o _ (IsRoot.question e l h) = l
+  pub root_subject : (x : Context) → IsRoot o questions x → IsSubjectOf o (subject_of x)
+  root_subject _ (IsRoot.named c e at) = slice_get_within o.nodes e _ at
+  root_subject _ (IsRoot.individual a l) = l
+  root_subject _ (IsRoot.question e l h) = l

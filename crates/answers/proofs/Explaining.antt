@@ -30,16 +30,16 @@ at_none {A} P Q m is h = subst (λ (k : Option A). MatchOption k P Q) is h
 
 -- ---- derivations
 
-class_within : (o : Ontology) (e : ℕ) → IsRoot o [] (Expression e) → e < length o.nodes
-class_within o e root = root_subject o (Expression e) root
+class_within : (o : Ontology) (asked : List ℕ) (e : ℕ) → IsRoot o asked (Expression e) → e < length o.nodes
+class_within o asked e root = root_subject o asked (Expression e) root
 
-pub derives_with : (o : Ontology) → IsOntology o → (x : Context) (class : ℕ) (items : List code_line.Line) (more : List Line) (y : Subject)
-    → y ≡ subject_of x → IsRoot o [] x → IsRoot o [] (Expression class) → Derives o (Sub y nothing) (lines_of items)
+pub derives_with : (o : Ontology) (asked : List ℕ) → IsOntology o → (x : Context) (class : ℕ) (items : List code_line.Line) (more : List Line) (y : Subject)
+    → y ≡ subject_of x → IsRoot o asked x → IsRoot o asked (Expression class) → Derives o (Sub y nothing) (lines_of items)
     → more ≡ lines_of items ++ line_from_nothing y class (length items) ∷ [] → Derives o (Sub (subject_of x) class) more
-derives_with o w x class items more y same root class_root d is =
+derives_with o asked w x class items more y same root class_root d is =
     let counted : length (lines_of items) ≡ length items = length-map items line_of in
     let derived : Derives o (Sub y class) (lines_of items ++ line_from_nothing y class (length (lines_of items)) ∷ []) =
-    derives_class o w y class (lines_of items) (subst (IsSubjectOf o) (sym same) (root_subject o x root)) (class_within o class class_root) d in
+    derives_class o w y class (lines_of items) (subst (IsSubjectOf o) (sym same) (root_subject o asked x root)) (class_within o asked class class_root) d in
     let by_length : Derives o (Sub y class) (lines_of items ++ line_from_nothing y class (length items) ∷ []) =
     subst (λ (n : ℕ). Derives o (Sub y class) (lines_of items ++ line_from_nothing y class n ∷ [])) counted derived in
     subst (λ (z : Subject). Derives o (Sub z class) more) same (subst (λ (ls : List Line). Derives o (Sub y class) ls) (sym is) by_length)
@@ -52,7 +52,7 @@ left_derives o c lines P (Some v) derivation has derives = derives o derivation
 
 -- ---- explanations
 
-pub yes_explains : (o : Ontology) → IsOntology o → (s : Saturated) → IsSaturated o s → IsConsistent o [] → (x : Context) (class : ℕ) (lines : List Line) → Derives o (Sub (subject_of x) class) lines
+pub yes_explains : (o : Ontology) → IsOntology o → (s : Saturated) → IsSaturated o s → IsConsistent o s.normal.asked → (x : Context) (class : ℕ) (lines : List Line) → Derives o (Sub (subject_of x) class) lines
     → (a : Asked) (name : Iri) → IsAbout o a x → IsClassNamed o name class → ShowsThatItFollows o a name lines
 yes_explains o w s h consistent x class lines d a name about named = record {
   consistent = λ none. (contradictory o w s h).0 none consistent;
@@ -64,5 +64,5 @@ yes_explains o w s h consistent x class lines d a name about named = record {
   derives = d;
 }
 
-pub is_satisfiable : (o : Ontology) (x : Context) (class : ℕ) → IsRoot o [] x → IsRefutable o x class → IsSatisfiable o [] x
-is_satisfiable o x class root refutable = record { context = ([], IsContextBy.root root, AreFacts.none); without_nothing = refutable.0 }
+pub is_satisfiable : (o : Ontology) (asked : List ℕ) (x : Context) (class : ℕ) → IsRoot o asked x → IsRefutable o asked x class → IsSatisfiable o asked x
+is_satisfiable o asked x class root refutable = record { context = ([], IsContextBy.root root, AreFacts.none); without_nothing = refutable.0 }

@@ -10,6 +10,7 @@ use Rattle.axioms.specs.WellFormedness.{IsOntology}
 use Rattle.axioms.proofs.Trees.{class_tree}
 use Rattle.closure.specs.Closure.{Context, Expression, IsRoot}
 use Rattle.closure.specs.Closure as closure
+use Rattle.exactness.specs.ListedInterpretation.{IsListedInterpretation}
 use Rattle.generated_part.specs.GeneratedPart.{IsGenerated}
 use Rattle.generated_part.proofs.Keeping.{same, model_kept}
 use Rattle.interpretation_spec.specs.NamedInterpretation.{interpretation_of}
@@ -35,7 +36,7 @@ one_place xs up m n x g h = elim (cases_order m n) [
         let low : get_or xs m 0 < get_or xs n 0 = AllPairs-from_increasing xs up m n 0 l (slice_get_within xs n x h) in
         omega (arith, low, get_or_from_slice_get xs m x 0 g, get_or_from_slice_get xs n x 0 h)
 
-module _ (o : Ontology) (w : IsOntology o) (x : Context) (p : NumberedInterpretation) (new : ℕ) (valid : IsNumberedInterpretation p) (part : IsPartFor o x p new) where
+module _ (o : Ontology) (questions : List ℕ) (w : IsOntology o) (x : Context) (p : NumberedInterpretation) (new : ℕ) (valid : IsNumberedInterpretation p) (part : IsPartFor o questions x p new) where
   i : Interpretation
   i = interpretation_of o.names p
 
@@ -71,16 +72,16 @@ module _ (o : Ontology) (w : IsOntology o) (x : Context) (p : NumberedInterpreta
       let name : individual_name o n ≡ a.now = ap (λ (k : Option Iri). unwrap_or k []) about in
       ap i.individual (sym name) ∙ one_place g.elements g.ascend (i.individual (individual_name o n)) new part.from there g.from_at
 
-  outside : (name : Iri) (f : ℕ) → IsClassNamed o name f → IsRefutable o x f → IsIn i (Named name) new → ⊥
+  outside : (name : Iri) (f : ℕ) → IsClassNamed o name f → IsRefutable o questions x f → IsIn i (Named name) new → ⊥
   outside name f (c, at, named) refutable h =
       let low = slice_get_within o.nodes f (Class c) at in
       let tree = named_tree o name f (c, at, named) in
       let whole = (holds f low).0 (subst (λ (t : ClassExpression). IsIn i t new) (sym tree) h) in
       refutable.1 ((part.agrees.named c f part.from x at part.own).0 (subst (λ (t : ClassExpression). IsIn part.whole t part.from) (class_tree o c f at) whole))
 
-  pub refutes : (a : Asked) → IsAbout o a x → (name : Iri) (f : ℕ) → IsClassNamed o name f → IsRefutable o x f → Refutes o a name p new
+  pub refutes : questions ≡ [] → (a : Asked) → IsAbout o a x → (name : Iri) (f : ℕ) → IsClassNamed o name f → IsRefutable o questions x f → Refutes o a name p new
   unfolding i
-  refutes a about name f named refutable = record {
+  refutes unasked a about name f named refutable = record {
     made = part.made;
     model = model;
     within = subst (λ (n : ℕ). new < n) size_same within;
@@ -88,7 +89,7 @@ module _ (o : Ontology) (w : IsOntology o) (x : Context) (p : NumberedInterpreta
     outside = outside name f named refutable;
     elements = part.elements;
     whole = part.whole;
-    listed = part.listed;
+    listed = subst (λ (es : List ℕ). IsListedInterpretation o es part.elements part.whole) unasked part.listed;
     subject = x;
     about = about;
     from = part.from;

@@ -1,10 +1,10 @@
 -- What follows from the axioms of an ontology, by names: what holds in every finite interpretation in which they hold
 -- (OWL 2 Direct Semantics, section 2.5).
-use Rattle.std.specs.Prelude.{ℕ, ◌<◌, ◌↔◌, ◌⊎◌, [], length}
+use Rattle.std.specs.Prelude.{ℕ, ◌<◌, ◌↔◌, ◌⊎◌, length}
 use Rattle.axioms.specs.Expression.{Iri, Named}
-use Rattle.axioms.specs.Ontology.{Ontology, IsClassAt, nothing, name_at, individual_name, axiom_trees}
+use Rattle.axioms.specs.Ontology.{Ontology, nothing, expression, individual_name, axiom_trees}
 use Rattle.axioms.specs.WellFormedness.{IsOntology}
-use Rattle.closure.specs.Closure.{Expression, Individual, In, IsFact}
+use Rattle.closure.specs.Closure.{Expression, Individual, In, IsRoot, IsFact}
 use Rattle.exactness.specs.ListedInterpretation.{IsConsistent}
 use Rattle.engine.specs.Saturations.{Saturated, IsSaturated}
 use Rattle.interpretation_spec.specs.Interpretation.{IsBelow, IsMember, IsContradictory}
@@ -20,20 +20,25 @@ BelongsTo o a d = IsMember (axiom_trees o) a (Named d)
 
 -- ---- what a saturation has is what follows
 
--- the closure is contradictory, the class is without elements, or the other class is a fact of it
+-- of named classes and expressions that are asked about, one lies below another where the closure is contradictory, the one is without
+-- elements, or the other is a fact of it
 abbrev pub ClassesFollow : Type 0
 ClassesFollow =
-    (o : Ontology) (s : Saturated) → IsOntology o → IsSaturated o s → (c d e f : ℕ) → IsClassAt o c e → IsClassAt o d f →
-    LiesBelow o (name_at o.names.classes c) (name_at o.names.classes d)
-    ↔ ((IsConsistent o [] → ⊥) ⊎ (IsFact o [] (In (Whole nothing) (Expression e)) ⊎ IsFact o [] (In (Whole f) (Expression e))))
+    (o : Ontology) (s : Saturated) → IsOntology o → IsSaturated o s →
+    (e f : ℕ) → IsRoot o s.normal.asked (Expression e) → IsRoot o s.normal.asked (Expression f) →
+    IsBelow (axiom_trees o) (expression o e) (expression o f)
+    ↔ ((IsConsistent o s.normal.asked → ⊥) ⊎ (IsFact o s.normal.asked (In (Whole nothing) (Expression e)) ⊎ IsFact o s.normal.asked (In (Whole f) (Expression e))))
 
--- the closure is contradictory, or the class is a fact of the individual
+-- an individual is a member of a named class or an expression that is asked about where the closure is contradictory, or that is a fact
+-- of the individual
 abbrev pub TypesFollow : Type 0
 TypesFollow =
-    (o : Ontology) (s : Saturated) → IsOntology o → IsSaturated o s → (a d f : ℕ) → a < length o.names.individuals → IsClassAt o d f →
-    BelongsTo o (individual_name o a) (name_at o.names.classes d) ↔ ((IsConsistent o [] → ⊥) ⊎ IsFact o [] (In (Whole f) (Individual a)))
+    (o : Ontology) (s : Saturated) → IsOntology o → IsSaturated o s →
+    (a f : ℕ) → a < length o.names.individuals → IsRoot o s.normal.asked (Expression f) →
+    IsMember (axiom_trees o) (individual_name o a) (expression o f)
+    ↔ ((IsConsistent o s.normal.asked → ⊥) ⊎ IsFact o s.normal.asked (In (Whole f) (Individual a)))
 
 -- there is no finite interpretation of the axioms exactly where the closure is contradictory
 abbrev pub ContradictionIsExact : Type 0
 ContradictionIsExact =
-    (o : Ontology) (s : Saturated) → IsOntology o → IsSaturated o s → IsContradictory (axiom_trees o) ↔ (IsConsistent o [] → ⊥)
+    (o : Ontology) (s : Saturated) → IsOntology o → IsSaturated o s → IsContradictory (axiom_trees o) ↔ (IsConsistent o s.normal.asked → ⊥)

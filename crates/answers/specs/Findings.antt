@@ -26,20 +26,20 @@ abbrev pub IsContradiction : Conclusion → Type 0
 IsContradiction conclusion = (subject : Subject) × IsTop subject × (conclusion ≡ Sub subject nothing)
 
 -- neither the class nor owl:Nothing is a fact of the context
-abbrev pub IsRefutable : Ontology → Context → ℕ → Type 0
-IsRefutable o x class = (IsFact o [] (In (Whole nothing) x) → ⊥) × (IsFact o [] (In (Whole class) x) → ⊥)
+abbrev pub IsRefutable : Ontology → List ℕ → Context → ℕ → Type 0
+IsRefutable o asked x class = (IsFact o asked (In (Whole nothing) x) → ⊥) × (IsFact o asked (In (Whole class) x) → ⊥)
 
 -- what lies in owl:Nothing lies in the class, by the line of that number
 abbrev pub line_from_nothing : Subject → ℕ → ℕ → Line
 line_from_nothing subject class number = record { conclusion = Sub subject class; rule = K3; axiom' = None; premises = number ∷ [] }
 
 -- the part of the interpretation that the closure lists that is reached from the context's own element, which has that number in it
-pub record IsPartFor (o : Ontology) (x : Context) (part : NumberedInterpretation) (new : ℕ) : Type 0 where
+pub record IsPartFor (o : Ontology) (asked : List ℕ) (x : Context) (part : NumberedInterpretation) (new : ℕ) : Type 0 where
   pub made : IsMadeFor o.names part
   pub elements : List Context
   pub whole : Interpretation
-  pub listed : IsListedInterpretation o [] elements whole
-  pub agrees : AgreesWithClosure o [] elements whole
+  pub listed : IsListedInterpretation o asked elements whole
+  pub agrees : AgreesWithClosure o asked elements whole
   pub model : IsModel whole (axiom_trees o)
   pub from : ℕ
   pub own : slice_get elements from ≡ Some x

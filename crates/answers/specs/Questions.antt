@@ -1,54 +1,63 @@
--- What facts answer about a class, and what follows about it.
-use Rattle.std.specs.Prelude.{◌≡◌, ◌↔◌, ◌⊎◌, ◌<◌, ℕ, List, [], Bool, true, length, Option, Some}
-use Rattle.axioms.specs.Expression.{Iri}
-use Rattle.axioms.specs.Ontology.{Ontology, name_at}
-use Rattle.classification.specs.Lists.{PutsBelow, PutsInto, SomeFact}
+-- What facts answer about a class expression, and what follows about it.
+use Rattle.std.specs.Prelude.{◌≡◌, ◌↔◌, ◌⊎◌, ◌<◌, ℕ, List, Bool, true, length, Option, Some}
+use Rattle.axioms.specs.Expression.{Iri, Named}
+use Rattle.axioms.specs.Ontology.{Ontology, IsClassAt, nothing, expression, axiom_trees}
+use Rattle.classification.specs.Lists.{SomeFact}
+use Rattle.engine.specs.Saturations.{Saturated}
 use Rattle.exactness.specs.ListedInterpretation.{IsConsistent}
+use Rattle.facts.specs.declared.contexts.Context.TheVariants as contexts
 use Rattle.facts.specs.declared.contexts.Fact.{Fact}
-use Rattle.answers.specs.Entailment.{LiesBelow, BelongsTo}
+use Rattle.facts.specs.declared.contexts.Fact.TheVariants.{In}
+use Rattle.interpretation_spec.specs.Interpretation.{IsBelow, IsMember}
+use Rattle.normal_forms.specs.declared.forms.Class2.TheVariants.{Expr}
 use Rattle.answers.specs.Names.{IsMarked}
 use Rattle.answers.specs.declared.question.Question.{Question}
 use Rattle.answers.specs.declared.question.Question.TheVariants.{Above, Below, Members}
 
--- the number of the class that is asked about
-abbrev pub class_asked : Question → ℕ
-class_asked (Above c) = c
-class_asked (Below d) = d
-class_asked (Members d) = d
+-- the number of the expression that is asked about
+abbrev pub expression_asked : Question → ℕ
+expression_asked (Above e) = e.0
+expression_asked (Below e) = e.0
+expression_asked (Members e) = e.0
 
 -- the names among which the answers are
 abbrev pub names_asked : Ontology → Question → List Iri
-names_asked o (Above c) = o.names.classes
-names_asked o (Below d) = o.names.classes
-names_asked o (Members d) = o.names.individuals
+names_asked o (Above e) = o.names.classes
+names_asked o (Below e) = o.names.classes
+names_asked o (Members e) = o.names.individuals
 
 -- the name is an answer in every finite interpretation of the axioms
 abbrev pub FollowsFor : Ontology → Question → Iri → Type 0
-FollowsFor o (Above c) name = LiesBelow o (name_at o.names.classes c) name
-FollowsFor o (Below d) name = LiesBelow o name (name_at o.names.classes d)
-FollowsFor o (Members d) name = BelongsTo o name (name_at o.names.classes d)
+FollowsFor o (Above e) name = IsBelow (axiom_trees o) (expression o e.0) (Named name)
+FollowsFor o (Below e) name = IsBelow (axiom_trees o) (Named name) (expression o e.0)
+FollowsFor o (Members e) name = IsMember (axiom_trees o) name (expression o e.0)
 
 -- ---- by facts
 
--- the number of owl:Nothing among the classes
-abbrev pub nothing_class : ℕ
-nothing_class = 1
+-- the fact puts the expression of number e in that of number f
+abbrev pub PutsExpression : Fact → ℕ → ℕ → Type 0
+PutsExpression fact e f = fact ≡ In (Expr (record { 0 = f })) (contexts.Expr (record { 0 = e }))
 
--- the fact answers the question with this number: of a class above it, or below it or owl:Nothing, or of an individual
+-- the fact puts the individual of number a in the expression of number f
+abbrev pub PutsIndividual : Fact → ℕ → ℕ → Type 0
+PutsIndividual fact a f = fact ≡ In (Expr (record { 0 = f })) (contexts.Individual (record { 0 = a }))
+
+-- the fact answers the question with this number: of a class that the expression is put in, or that is put in the expression or in
+-- owl:Nothing, or of an individual that is put in the expression
 abbrev pub Answers : Ontology → Question → Fact → ℕ → Type 0
-Answers o (Above c) fact n = PutsBelow o fact c n
-Answers o (Below d) fact n = PutsBelow o fact n d ⊎ PutsBelow o fact n nothing_class
-Answers o (Members d) fact n = PutsInto o fact n d
+Answers o (Above e) fact n = (f : ℕ) × IsClassAt o n f × PutsExpression fact e.0 f
+Answers o (Below e) fact n = (f : ℕ) × IsClassAt o n f × (PutsExpression fact f e.0 ⊎ PutsExpression fact f nothing)
+Answers o (Members e) fact n = PutsIndividual fact n e.0
 
 -- the number is the one that the fact answers with, or it answers with none
 abbrev pub IsAnswer : Ontology → Question → Fact → Option ℕ → Type 0
 IsAnswer o question fact answer = (n : ℕ) → Answers o question fact n ↔ (answer ≡ Some n)
 
--- every name is an answer: there is no finite interpretation of the axioms, or the class has no element in any
-abbrev pub IsEvery : Ontology → Question → List Fact → Type 0
-IsEvery o (Above c) facts = (IsConsistent o [] → ⊥) ⊎ SomeFact facts (λ fact. PutsBelow o fact c nothing_class)
-IsEvery o (Below d) facts = IsConsistent o [] → ⊥
-IsEvery o (Members d) facts = IsConsistent o [] → ⊥
+-- every name is an answer: there is no finite interpretation of the axioms, or the expression has no element in any
+abbrev pub IsEvery : Ontology → Saturated → Question → Type 0
+IsEvery o s (Above e) = (IsConsistent o s.normal.asked → ⊥) ⊎ SomeFact s.state.facts (λ fact. PutsExpression fact e.0 nothing)
+IsEvery o s (Below e) = IsConsistent o s.normal.asked → ⊥
+IsEvery o s (Members e) = IsConsistent o s.normal.asked → ⊥
 
 -- so many marks: on all numbers, or on those that some fact answers with
 pub record AreMarks (o : Ontology) (question : Question) (facts : List Fact) (every : Bool) (size : ℕ) (marks : List Bool) : Type 0 where
@@ -56,6 +65,6 @@ pub record AreMarks (o : Ontology) (question : Question) (facts : List Fact) (ev
   pub exact : (n : ℕ) → n < size → IsMarked marks n ↔ ((every ≡ true) ⊎ SomeFact facts (λ fact. Answers o question fact n))
 
 -- so many marks, on the numbers that answer the question
-pub record AreAnswers (o : Ontology) (question : Question) (facts : List Fact) (size : ℕ) (marks : List Bool) : Type 0 where
+pub record AreAnswers (o : Ontology) (s : Saturated) (question : Question) (size : ℕ) (marks : List Bool) : Type 0 where
   pub long : length marks ≡ size
-  pub exact : (n : ℕ) → n < size → IsMarked marks n ↔ (IsEvery o question facts ⊎ SomeFact facts (λ fact. Answers o question fact n))
+  pub exact : (n : ℕ) → n < size → IsMarked marks n ↔ (IsEvery o s question ⊎ SomeFact s.state.facts (λ fact. Answers o question fact n))

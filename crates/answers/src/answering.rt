@@ -2,10 +2,10 @@
 ghost use Rattle.closure.specs.Closure.{Expression, IsRoot};
 ghost use Rattle.exactness.specs.ListedInterpretation.{IsConsistent};
 ghost use Rattle.closure.specs.Denotations.{context_of};
-ghost use Rattle.engine.specs.Saturations.{IsSaturated};
+ghost use Rattle.engine.specs.Saturations.{IsSaturated, IsUnasked};
 ghost use Rattle.answers.specs.Explanations.{Explains, IsKnown};
 ghost use Rattle.answers.specs.Findings.{ExplainsOf};
-ghost use Rattle.std.specs.Prelude.{◌↔◌, [], Contains, IfOk, IfSome, IsSome};
+ghost use Rattle.std.specs.Prelude.{◌↔◌, Contains, IfOk, IfSome, IsSome};
 
 use crate::asked::Asked;
 use crate::derived::{derivation_of, derived_contradiction};
@@ -31,9 +31,10 @@ fn explanation_where_consistent(
     class: ExprId,
 ) -> Result<Explanation, Memory>
     requires saturated { IsSaturated ontology.now saturation.now }
-    requires consistent { IsConsistent ontology.now [] }
-    requires subject { IsRoot ontology.now [] (context_of subject) }
-    requires class { IsRoot ontology.now [] (Expression class.0) }
+    requires unasked { IsUnasked saturation.now }
+    requires consistent { IsConsistent ontology.now saturation.now.normal.asked }
+    requires subject { IsRoot ontology.now saturation.now.normal.asked (context_of subject) }
+    requires class { IsRoot ontology.now saturation.now.normal.asked (Expression class.0) }
     ensures { IfOk result (ExplainsOf ontology.now (context_of subject) class.0) }
 {
     ontology.well_formed();
@@ -60,8 +61,9 @@ fn explanation_of(
     class: ExprId,
 ) -> Result<Explanation, Memory>
     requires saturated { IsSaturated ontology.now saturation.now }
-    requires subject { IsRoot ontology.now [] (context_of subject) }
-    requires class { IsRoot ontology.now [] (Expression class.0) }
+    requires unasked { IsUnasked saturation.now }
+    requires subject { IsRoot ontology.now saturation.now.normal.asked (context_of subject) }
+    requires class { IsRoot ontology.now saturation.now.normal.asked (Expression class.0) }
     ensures { IfOk result (ExplainsOf ontology.now (context_of subject) class.0) }
 {
     if is_consistent(ontology, saturation) {
@@ -72,8 +74,8 @@ fn explanation_of(
     }
 }
 
-/// Whether, and why, the subject is in the class of that name in every finite interpretation in which the axioms hold. `None`
-/// where the ontology has no class or individual of one of the names.
+/// Whether, and why, the subject is in the class of that name in every finite interpretation in which the axioms hold, by a saturation
+/// in which nothing is asked about. `None` where the ontology has no class or individual of one of the names.
 ///
 /// # Errors
 ///
@@ -85,7 +87,8 @@ pub fn explained(
     asked: Asked<'_>,
     class: &str,
 ) -> Result<Option<Explanation>, Memory>
-    requires { IsSaturated ontology.now saturation.now }
+    requires saturated { IsSaturated ontology.now saturation.now }
+    requires unasked { IsUnasked saturation.now }
     ensures known { IfOk result (λ answer. IsSome answer ↔ (IsKnown ontology.now asked.entry × Contains ontology.now.names.classes class.now)) }
     ensures explains { IfOk result (λ answer. IfSome answer (Explains ontology.now asked.entry class.now)) }
 {

@@ -1,50 +1,40 @@
-//! The classes above and below a class, and its individuals.
-ghost use Rattle.answers.specs.Questions.{FollowsFor, class_asked, names_asked};
+//! The named classes above and below a class or an expression, and its individuals.
+ghost use Rattle.answers.specs.Questions.{FollowsFor, expression_asked, names_asked};
 ghost use Rattle.answers.specs.Entailment.{BelongsTo, LiesBelow};
 ghost use Rattle.answers.specs.Names.{AreThose};
+ghost use Rattle.closure.specs.Closure.{Expression, IsRoot};
 ghost use Rattle.engine.specs.Saturations.{IsSaturated};
-ghost use Rattle.std.specs.Prelude.{◌<◌, ◌↔◌, ◌≡◌, Contains, IfOk, IfSome, IsSome, MatchOption, Some, length, map, slice_get, string_bytes};
+ghost use Rattle.std.specs.Prelude.{◌↔◌, ◌≡◌, Contains, IfOk, IfSome, IsSome, map, string_bytes};
 
 use crate::marks::marks_of;
+use crate::named::class_named;
 use crate::names::names_in_order;
 use crate::question::Question;
-use axioms::{Kind, Memory, Ontology};
+use axioms::{Memory, Ontology};
 use engine::Saturation;
 use std::alloc::Global;
 
-/// The number of the class of that name.
-fn class_number(ontology: &Ontology, class: &str) -> Option<usize>
-    ensures { MatchOption result (Contains ontology.now.names.classes class.now → ⊥)
-        (λ n. slice_get ontology.now.names.classes n ≡ Some class.now) }
-{
-    let number = ontology.number_of(Kind::Class, class)?;
-    Some(number as usize)
-}
-
-/// The names among which the answers are.
-fn names_of(ontology: &Ontology, question: Question) -> &[String]
-    ensures { map string_bytes result.now ≡ names_asked ontology.now question }
-{
-    match question {
-        Question::Above(_) | Question::Below(_) => ontology.classes(),
-        Question::Members(_) => ontology.individuals(),
-    }
-}
-
-/// The names that answer the question, in byte order.
-fn answers<'a>(
+/// The names that answer a question about an expression that is a named class or is asked about in the saturation, in byte order. In
+/// an ontology that no finite interpretation has, these are all names. The names are those of the ontology's classes, or of its
+/// individuals.
+///
+/// # Errors
+///
+/// `Memory` where memory was refused.
+pub fn answers<'a>(
     alloc: Global,
-    ontology: &'a Ontology,
+    names: &'a [String],
+    ontology: &Ontology,
     saturation: &Saturation,
     question: Question,
 ) -> Result<Vec<&'a str>, Memory>
     requires saturated { IsSaturated ontology.now saturation.now }
-    requires class { class_asked question < length ontology.now.names.classes }
+    requires root { IsRoot ontology.now saturation.now.normal.asked (Expression (expression_asked question)) }
+    requires names { map string_bytes names.now ≡ names_asked ontology.now question }
     ensures { IfOk result
         (λ v. AreThose (names_asked ontology.now question) (FollowsFor ontology.now question) (map (λ s. s.now) v.items)) }
 {
     ontology.well_formed();
-    let names = names_of(ontology, question);
     let marks = marks_of(alloc, ontology, saturation, question, names.len())?;
     names_in_order(alloc, names, &marks)
 }
@@ -67,10 +57,12 @@ pub fn superclasses<'a>(
     ensures exact { IfOk result (λ answer. IfSome answer
         (λ v. AreThose ontology.now.names.classes (LiesBelow ontology.now class.now) (map (λ s. s.now) v.items))) }
 {
-    match class_number(ontology, class) {
-        Some(number) => Ok(Some(answers(alloc, ontology, saturation, Question::Above(number))?)),
-        None => Ok(None),
-    }
+    let Some(class) = class_named(ontology, class) else {
+        return Ok(None);
+    };
+    let question = Question::Above(class);
+    let names = answers(alloc, ontology.classes(), ontology, saturation, question)?;
+    Ok(Some(names))
 }
 
 /// The IRIs of the named classes that lie below the class in every finite interpretation in which the axioms hold, in byte
@@ -91,10 +83,12 @@ pub fn subclasses<'a>(
     ensures exact { IfOk result (λ answer. IfSome answer
         (λ v. AreThose ontology.now.names.classes (λ name. LiesBelow ontology.now name class.now) (map (λ s. s.now) v.items))) }
 {
-    match class_number(ontology, class) {
-        Some(number) => Ok(Some(answers(alloc, ontology, saturation, Question::Below(number))?)),
-        None => Ok(None),
-    }
+    let Some(class) = class_named(ontology, class) else {
+        return Ok(None);
+    };
+    let question = Question::Below(class);
+    let names = answers(alloc, ontology.classes(), ontology, saturation, question)?;
+    Ok(Some(names))
 }
 
 /// The IRIs of the individuals that belong to the class in every finite interpretation in which the axioms hold, in byte
@@ -115,8 +109,11 @@ pub fn instances<'a>(
     ensures exact { IfOk result (λ answer. IfSome answer
         (λ v. AreThose ontology.now.names.individuals (λ name. BelongsTo ontology.now name class.now) (map (λ s. s.now) v.items))) }
 {
-    match class_number(ontology, class) {
-        Some(number) => Ok(Some(answers(alloc, ontology, saturation, Question::Members(number))?)),
-        None => Ok(None),
-    }
+    let Some(class) = class_named(ontology, class) else {
+        return Ok(None);
+    };
+    let question = Question::Members(class);
+    let individuals = ontology.individuals();
+    let names = answers(alloc, individuals, ontology, saturation, question)?;
+    Ok(Some(names))
 }

@@ -130,9 +130,9 @@ fn derivation_by_fact(
     class: ExprId,
 ) -> Result<Option<Vec<Line>>, Memory>
     requires saturated { IsSaturated ontology.now saturation.now }
-    requires subject { IsRoot ontology.now [] (context_of subject) }
-    requires class { IsRoot ontology.now [] (Expression class.0) }
-    ensures { IfOk result (λ found. MatchOption found (IsFact ontology.now [] (In (Whole class.0) (context_of subject)) → ⊥)
+    requires subject { IsRoot ontology.now saturation.now.normal.asked (context_of subject) }
+    requires class { IsRoot ontology.now saturation.now.normal.asked (Expression class.0) }
+    ensures { IfOk result (λ found. MatchOption found (IsFact ontology.now saturation.now.normal.asked (In (Whole class.0) (context_of subject)) → ⊥)
         (λ v. Derives ontology.now (Sub (subject_by (context_of subject)) class.0) (lines_of v.items))) }
 {
     match lines_of(alloc, ontology, saturation, subject, class)? {
@@ -154,9 +154,9 @@ pub(crate) fn derivation_of(
     class: ExprId,
 ) -> Result<Option<Vec<Line>>, Memory>
     requires saturated { IsSaturated ontology.now saturation.now }
-    requires subject { IsRoot ontology.now [] (context_of subject) }
-    requires class { IsRoot ontology.now [] (Expression class.0) }
-    ensures { IfOk result (λ found. MatchOption found (IsRefutable ontology.now (context_of subject) class.0)
+    requires subject { IsRoot ontology.now saturation.now.normal.asked (context_of subject) }
+    requires class { IsRoot ontology.now saturation.now.normal.asked (Expression class.0) }
+    ensures { IfOk result (λ found. MatchOption found (IsRefutable ontology.now saturation.now.normal.asked (context_of subject) class.0)
         (λ v. Derives ontology.now (Sub (subject_by (context_of subject)) class.0) (lines_of v.items))) }
 {
     ontology.well_formed();
@@ -180,7 +180,7 @@ pub(crate) fn derived_contradiction(
     saturation: &Saturation,
 ) -> Result<Vec<Line>, Memory>
     requires saturated { IsSaturated ontology.now saturation.now }
-    requires contradictory { IsConsistent ontology.now [] → ⊥ }
+    requires contradictory { IsConsistent ontology.now saturation.now.normal.asked → ⊥ }
     ensures { IfOk result (λ v. ShowsContradiction ontology.now (lines_of v.items)) }
 {
     ontology.well_formed();

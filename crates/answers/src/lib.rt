@@ -1,5 +1,5 @@
-//! What follows from the axioms of an ontology about its named classes and its individuals, by all facts of its closure; and
-//! why something follows, or why it does not.
+//! What follows from the axioms of an ontology about its named classes, its individuals and the class expressions that are asked about,
+//! by all facts of its closure; and why something follows, or why it does not.
 #![tactic(auto)]
 
 mod answering;
@@ -16,7 +16,8 @@ mod theory;
 
 pub use answering::explained;
 pub use asked::Asked;
-pub use asking::{instances, subclasses, superclasses};
+pub use asking::{answers, instances, subclasses, superclasses};
 pub use explanation::Explanation;
 pub use names::names_in_order;
+pub use question::Question;
 pub use theory::what_follows;

@@ -1,48 +1,74 @@
 //! Marks on the numbers that facts answer with.
-ghost use Rattle.answers.specs.Questions.{AreAnswers, AreMarks, IsAnswer, IsEvery, nothing_class};
+ghost use Rattle.answers.specs.Questions.{AreAnswers, AreMarks, IsAnswer, IsEvery, PutsExpression, PutsIndividual};
 ghost use Rattle.answers.specs.Names.{IsMarked};
 ghost use Rattle.answers.specs.declared.question.Question.TheVariants as asked;
-ghost use Rattle.classification.specs.Lists.{PutsBelow, SomeFact};
+ghost use Rattle.axioms.specs.Ontology.{nothing};
+ghost use Rattle.classification.specs.Lists.{SomeFact};
 ghost use Rattle.engine.specs.Saturations.{IsSaturated};
-ghost use Rattle.std.specs.Prelude.{◌<◌, ◌↔◌, ◌≡◌, ◌⊎◌, IfOk, IsTrue, Some, length, ℕ};
+ghost use Rattle.std.specs.Prelude.{◌<◌, ◌↔◌, ◌≡◌, ◌⊎◌, IfOk, IsTrue, MatchOption, Some, length, ℕ};
 
 use crate::question::Question;
-use axioms::{ClassId, Memory, Ontology};
-use classification::{class_pair, is_consistent, type_pair};
+use axioms::{ExprId, IndId, Memory, Ontology};
+use classification::is_consistent;
 use engine::Saturation;
-use facts::StoredFact;
+use facts::{Context, Fact, StoredFact};
+use normal_forms::Class2;
 use std::alloc::Global;
 
-/// The class above this one by the fact.
-fn above(ontology: &Ontology, class: usize, fact: &StoredFact) -> Option<usize>
-    ensures { IsAnswer ontology.now (asked.Above class) fact.now result }
+/// The expression that the fact puts in another one, and that one; `None` where it puts none.
+fn expression_pair(fact: &StoredFact) -> Option<(ExprId, ExprId)>
+    ensures { MatchOption result ((e f : ℕ) → PutsExpression fact.now e f → ⊥) (λ p. PutsExpression fact.now p.0.0 p.1.0) }
 {
-    let (below, above) = class_pair(ontology, fact)?;
-    if below.index() == class {
-        Some(above.index())
+    match fact.get() {
+        Fact::In(Class2::Expr(above), Context::Expr(expression)) => Some((expression, above)),
+        _ => None,
+    }
+}
+
+/// The individual that the fact puts in an expression, and that expression; `None` where it puts none.
+fn individual_pair(fact: &StoredFact) -> Option<(IndId, ExprId)>
+    ensures { MatchOption result ((a f : ℕ) → PutsIndividual fact.now a f → ⊥) (λ p. PutsIndividual fact.now p.0.0 p.1.0) }
+{
+    match fact.get() {
+        Fact::In(Class2::Expr(above), Context::Individual(individual)) => {
+            Some((individual, above))
+        }
+        _ => None,
+    }
+}
+
+/// The class above the expression by the fact.
+fn above(ontology: &Ontology, expression: ExprId, fact: &StoredFact) -> Option<usize>
+    ensures { IsAnswer ontology.now (asked.Above expression) fact.now result }
+{
+    let (below, above) = expression_pair(fact)?;
+    if below == expression {
+        let class = ontology.class_of(above)?;
+        Some(class.index())
     } else {
         None
     }
 }
 
-/// The class below this one or below `owl:Nothing` by the fact.
-fn below(ontology: &Ontology, class: usize, fact: &StoredFact) -> Option<usize>
-    ensures { IsAnswer ontology.now (asked.Below class) fact.now result }
+/// The class below the expression or below `owl:Nothing` by the fact.
+fn below(ontology: &Ontology, expression: ExprId, fact: &StoredFact) -> Option<usize>
+    ensures { IsAnswer ontology.now (asked.Below expression) fact.now result }
 {
-    let (below, above) = class_pair(ontology, fact)?;
-    if above.index() == class || above.index() == ClassId::NOTHING.index() {
-        Some(below.index())
+    let (below, above) = expression_pair(fact)?;
+    if above == expression || above == ExprId::NOTHING {
+        let class = ontology.class_of(below)?;
+        Some(class.index())
     } else {
         None
     }
 }
 
-/// The individual in this class by the fact.
-fn member(ontology: &Ontology, class: usize, fact: &StoredFact) -> Option<usize>
-    ensures { IsAnswer ontology.now (asked.Members class) fact.now result }
+/// The individual in the expression by the fact.
+fn member(ontology: &Ontology, expression: ExprId, fact: &StoredFact) -> Option<usize>
+    ensures { IsAnswer ontology.now (asked.Members expression) fact.now result }
 {
-    let (individual, above) = type_pair(ontology, fact)?;
-    if above.index() == class {
+    let (individual, above) = individual_pair(fact)?;
+    if above == expression {
         Some(individual.index())
     } else {
         None
@@ -54,9 +80,9 @@ fn answer(ontology: &Ontology, question: Question, fact: &StoredFact) -> Option<
     ensures { IsAnswer ontology.now question fact.now result }
 {
     match question {
-        Question::Above(class) => above(ontology, class, fact),
-        Question::Below(class) => below(ontology, class, fact),
-        Question::Members(class) => member(ontology, class, fact),
+        Question::Above(expression) => above(ontology, expression, fact),
+        Question::Below(expression) => below(ontology, expression, fact),
+        Question::Members(expression) => member(ontology, expression, fact),
     }
 }
 
@@ -90,38 +116,38 @@ fn marked_by(
     Ok(marks)
 }
 
-/// Whether the fact puts the class below `owl:Nothing`.
-fn is_below_nothing(ontology: &Ontology, class: usize, fact: &StoredFact) -> bool
-    ensures { IsTrue result ↔ PutsBelow ontology.now fact.now class nothing_class }
+/// Whether the fact puts the expression in `owl:Nothing`.
+fn is_below_nothing(expression: ExprId, fact: &StoredFact) -> bool
+    ensures { IsTrue result ↔ PutsExpression fact.now expression.0 nothing }
 {
-    match above(ontology, class, fact) {
-        Some(above) => above == ClassId::NOTHING.index(),
+    match expression_pair(fact) {
+        Some((below, above)) => below == expression && above == ExprId::NOTHING,
         None => false,
     }
 }
 
-/// Whether a fact puts the class below `owl:Nothing`.
-fn is_empty(ontology: &Ontology, facts: &[StoredFact], class: usize) -> bool
-    ensures { IsTrue result ↔ SomeFact facts.now (λ fact. PutsBelow ontology.now fact class nothing_class) }
+/// Whether the expression has no element in any interpretation: a fact puts it in `owl:Nothing`.
+fn is_empty(facts: &[StoredFact], expression: ExprId) -> bool
+    ensures { IsTrue result ↔ SomeFact facts.now (λ fact. PutsExpression fact expression.0 nothing) }
 {
     for fact in facts {
-        if is_below_nothing(ontology, class, fact) {
+        if is_below_nothing(expression, fact) {
             return true;
         }
     }
     false
 }
 
-/// Whether every name is an answer, since there is no interpretation or the class has no element in any.
+/// Whether every name is an answer, since there is no interpretation or the expression has no element in any.
 fn is_every(ontology: &Ontology, saturation: &Saturation, question: Question) -> bool
     requires { IsSaturated ontology.now saturation.now }
-    ensures { IsTrue result ↔ IsEvery ontology.now question saturation.now.state.facts }
+    ensures { IsTrue result ↔ IsEvery ontology.now saturation.now question }
 {
     if !is_consistent(ontology, saturation) {
         return true;
     }
     match question {
-        Question::Above(class) => is_empty(ontology, saturation.facts(), class),
+        Question::Above(expression) => is_empty(saturation.facts(), expression),
         Question::Below(_) | Question::Members(_) => false,
     }
 }
@@ -139,7 +165,7 @@ pub(crate) fn marks_of(
     size: usize,
 ) -> Result<Vec<bool>, Memory>
     requires { IsSaturated ontology.now saturation.now }
-    ensures { IfOk result (λ v. AreAnswers ontology.now question saturation.now.state.facts size v.items) }
+    ensures { IfOk result (λ v. AreAnswers ontology.now saturation.now question size v.items) }
 {
     let every = is_every(ontology, saturation, question);
     marked_by(alloc, ontology, saturation.facts(), question, every, size)

@@ -1,12 +1,14 @@
-//! What can be asked about a class.
+//! What can be asked about a class expression.
 
-/// What is asked about the class of that number.
-#[derive(Clone, Copy)]
-pub(crate) enum Question {
-    /// Which classes lie above it.
-    Above(usize),
-    /// Which classes lie below it.
-    Below(usize),
+use axioms::ExprId;
+
+/// What is asked about a class expression, by its number in an ontology.
+#[derive(Clone, Copy, Debug, PartialEq, Eq)]
+pub enum Question {
+    /// Which named classes lie above it.
+    Above(ExprId),
+    /// Which named classes lie below it.
+    Below(ExprId),
     /// Which individuals are members of it.
-    Members(usize),
+    Members(ExprId),
 }

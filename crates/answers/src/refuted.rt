@@ -3,7 +3,7 @@ ghost use Rattle.exactness.specs.ListedInterpretation.{IsConsistent, IsSatisfiab
 ghost use Rattle.closure.specs.Denotations.{context_of};
 ghost use Rattle.engine.specs.Saturations.{IsSaturated};
 ghost use Rattle.answers.specs.Findings.{IsPartFor};
-ghost use Rattle.std.specs.Prelude.{[], IfOk};
+ghost use Rattle.std.specs.Prelude.{IfOk};
 
 use axioms::{Memory, Ontology};
 use countermodel::{Elements, listed};
@@ -26,9 +26,9 @@ pub(crate) fn part_for(
     context: Context,
 ) -> Result<(Interpretation, usize), Memory>
     requires saturated { IsSaturated ontology.now saturation.now }
-    requires consistent { IsConsistent ontology.now [] }
-    requires satisfiable { IsSatisfiable ontology.now [] (context_of context) }
-    ensures { IfOk result (λ part. IsPartFor ontology.now (context_of context) part.0 part.1) }
+    requires consistent { IsConsistent ontology.now saturation.now.normal.asked }
+    requires satisfiable { IsSatisfiable ontology.now saturation.now.normal.asked (context_of context) }
+    ensures { IfOk result (λ part. IsPartFor ontology.now saturation.now.normal.asked (context_of context) part.0 part.1) }
 {
     ontology.well_formed();
     let elements = Elements::of(alloc, ontology, saturation)?;

@@ -1,14 +1,19 @@
-use Rattle.std.proofs.Common.{length, map, sym}
+use Rattle.std.proofs.Common.{List, length, map, sym, subst}
 use Rattle.std.proofs.lemmas.List.{length-map}
 use Rattle.std.proofs.lemmas.Result.{IfOk-weaker}
 use Rattle.std.specs.String.{string_bytes}
-use Rattle.answers.proofs.AnsweredByFacts.{those_named}
+use Rattle.axioms.specs.Expression.{Iri}
+use Rattle.axioms.specs.WellFormedness.{AreDistinct}
+use Rattle.answers.proofs.AnsweredByFacts.{asked_apart, those_named}
 use Rattle.answers.proofs.asking.answers.Goals as goal
+
+pub names_in_order-requires-clause-distinct : goal.names_in_order-requires-clause-distinct
+names_in_order-requires-clause-distinct c =
+    subst (λ (names : List Iri). AreDistinct names) (sym c.requires.names) (asked_apart c.args.ontology.now c.well_formed-2.ensures c.args.question)
 
 pub returns : goal.returns
 returns c =
-    let texts = c.names_of-names.result.now in
-    let long = sym (length-map texts string_bytes) in
+    let names = c.args.names.now in
     IfOk-weaker c.names_in_order.result _ _
-    (λ v those. those_named c.args.ontology.now c.well_formed-2.ensures c.args.saturation.now c.requires.saturated c.args.question c.requires.class (map string_bytes texts) c.names_of-names.ensures (length texts) long c.in_ok-marks.marks.items c.deref.result.now c.deref.ensures.value c.in_ok-marks.ensures _ those)
+    (λ v those. those_named c.args.ontology.now c.well_formed-2.ensures c.args.saturation.now c.requires.saturated c.args.question c.requires.root (map string_bytes names) c.requires.names (length names) (sym (length-map names string_bytes)) c.in_ok-marks.marks.items c.deref.result.now c.deref.ensures.value c.in_ok-marks.ensures _ those)
     c.names_in_order.ensures

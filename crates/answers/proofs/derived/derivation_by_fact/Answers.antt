@@ -1,4 +1,4 @@
-use Rattle.std.proofs.Common.{List, [], MatchOption, Option, IfOk, sym, subst}
+use Rattle.std.proofs.Common.{List, MatchOption, Option, IfOk, sym, subst}
 use Rattle.std.proofs.lemmas.Result.{IfOk-weaker}
 use Rattle.std.specs.Global.{Vec}
 use Rattle.std.specs.Prelude.{IfSome}
@@ -23,13 +23,14 @@ left_for-requires c =
 pub returns-in-Some : goal.returns-in-Some
 returns-in-Some c =
     let o = c.args.ontology.now in
+    let asked = c.args.saturation.now.normal.asked in
     let e = c.args.class.0 in
     let derivation = subst (λ (m : Option (Vec code_line.Line)). IfSome m (λ v. IsDerivation o (lines_of v.items))) c.in-Some.is c.in_ok-lines.ensures.derivation in
     let has = at_some _ _ c.in_ok-lines.field-0 c.in-Some.lines c.in-Some.is c.in_ok-lines.ensures.shown in
     let said = subst (λ (z : Subject). HasLine (lines_of c.in-Some.lines.items) (Sub z e)) (sym c.subject_of.ensures) has in
     let derived = subst (λ (ls : List code_line.Line). IsDerivation o (lines_of ls)) (sym c.deref.ensures.value) derivation in
     let there = subst (λ (ls : List code_line.Line). HasLine (lines_of ls) (Sub (subject_in c.subject_of.result) e)) (sym c.deref.ensures.value) said in
-    subst (λ (z : Subject). IfOk c.left_for.result (λ found. MatchOption found (IsFact o [] (In (Whole e) (context_of c.args.subject)) → ⊥) (λ v. Derives o (Sub z e) (lines_of v.items)))) c.subject_of.ensures
+    subst (λ (z : Subject). IfOk c.left_for.result (λ found. MatchOption found (IsFact o asked (In (Whole e) (context_of c.args.subject)) → ⊥) (λ v. Derives o (Sub z e) (lines_of v.items)))) c.subject_of.ensures
     (IfOk-weaker c.left_for.result _ _
-    (λ left h. left_derives o (Sub (subject_in c.subject_of.result) e) (lines_of c.deref.result.now) (IsFact o [] (In (Whole e) (context_of c.args.subject)) → ⊥) left derived there h)
+    (λ left h. left_derives o (Sub (subject_in c.subject_of.result) e) (lines_of c.deref.result.now) (IsFact o asked (In (Whole e) (context_of c.args.subject)) → ⊥) left derived there h)
     c.left_for.ensures)

@@ -16,7 +16,7 @@ pub returns-in_ok-with_class-in-Some-2 : goal.returns-in_ok-with_class-in-Some-2
 returns-in_ok-with_class-in-Some-2 c =
     let o = c.args.ontology.now in
     let empty = at_some _ _ c.in_ok-lines-2.field-0 c.in-Some-2.lines c.in-Some-2.is c.in_ok-lines-2.ensures in
-    derives_with o c.well_formed-2.ensures (context_of c.args.subject) c.args.class.0 c.in-Some-2.lines.items (lines_of c.in_ok-with_class-in-Some-2.field-0.items)
+    derives_with o c.args.saturation.now.normal.asked c.well_formed-2.ensures (context_of c.args.subject) c.args.class.0 c.in-Some-2.lines.items (lines_of c.in_ok-with_class-in-Some-2.field-0.items)
     (subject_in c.subject_of.result) c.subject_of.ensures c.requires.subject c.requires.class
     (subst (λ (z : Subject). Derives o (Sub z nothing) (lines_of c.in-Some-2.lines.items)) (sym c.subject_of.ensures) empty)
     c.in_ok-with_class-in-Some-2.ensures

@@ -8,4 +8,4 @@ pub returns-in_err-below : goal.returns-in_err-below
 returns-in_err-below c =
     let o = c.args.ontology.now in
     let fact = c.args.fact.now in
-    subst (λ (answer : Option ℕ). IsAnswer o (Below c.args.class) fact answer) (sym c.from_residual.ensures) (no_below o fact c.args.class c.in_err-below.ensures.pair)
+    subst (λ (answer : Option ℕ). IsAnswer o (Below c.args.expression) fact answer) (sym c.from_residual.ensures) (no_below o fact c.args.expression c.in_err-below.ensures)

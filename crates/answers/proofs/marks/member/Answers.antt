@@ -8,4 +8,4 @@ pub returns-in_err-individual : goal.returns-in_err-individual
 returns-in_err-individual c =
     let o = c.args.ontology.now in
     let fact = c.args.fact.now in
-    subst (λ (answer : Option ℕ). IsAnswer o (Members c.args.class) fact answer) (sym c.from_residual.ensures) (no_member o fact c.args.class c.in_err-individual.ensures)
+    subst (λ (answer : Option ℕ). IsAnswer o (Members c.args.expression) fact answer) (sym c.from_residual.ensures) (no_member o fact c.args.expression c.in_err-individual.ensures)
