@@ -11,9 +11,11 @@ use Rattle.command_line.specs.declared.tasks.Task.{Task}
 use Rattle.command_line.specs.CommandLine.{AreLimits, IsCommand, IsLimit, IsLimitOfFacts, IsTask, IsTaskOf, NamesTask, Refuses, most_facts}
 use Rattle.program.specs.declared.limits.Limits.{Limits}
 
--- a check is no query: the names begin with different letters
-apart : (name : Text) → name ≡ codes "check" → name ≡ codes "query" → ⊥
-apart name check query = let first : 99 ≡ 113 = ap (λ (word : Text). get_or word 0 0) (sym check ∙ query) in absurd (omega (arith, first))
+-- a word that begins with a c is not `query`
+pub not_query : (word other : Text) → get_or other 0 0 ≡ 99 → word ≡ other → word ≡ codes "query" → ⊥
+not_query word other begins is query =
+    let first : 99 ≡ 113 = sym begins ∙ ap (λ (w : Text). get_or w 0 0) (sym is ∙ query) in
+    absurd (omega (arith, first))
 
 -- commands of one name have one limit of facts
 pub one_limit : (name : Text) (rows : List Row) (c d : Command) (limit : ℕ) → IsCommand name rows c → IsCommand name rows d → IsLimitOfFacts c rows limit → IsLimitOfFacts d rows limit
@@ -21,11 +23,11 @@ one_limit name rows (Check p) (Check q) limit h k is = is
 one_limit name rows (Check p) (Classify q) limit h k is = let a : name ≡ codes "check" = h.0 in let b : name ≡ codes "classify" = k.0 in absurd (cc)
 one_limit name rows (Check p) (Instances document class) limit h k is = let a : name ≡ codes "check" = h.0 in let b : name ≡ codes "instances" = k.0 in absurd (cc)
 one_limit name rows (Check p) (Explain question) limit h k is = let a : name ≡ codes "check" = h.0 in let b : name ≡ codes "explain" = k.0 in absurd (cc)
-one_limit name rows (Check p) (Query document expression) limit h k is = absurd (apart name h.0 k.0)
+one_limit name rows (Check p) (Query document expression) limit h k is = absurd (not_query name (codes "check") refl h.0 k.0)
 one_limit name rows (Classify p) (Check q) limit h k is = let a : name ≡ codes "classify" = h.0 in let b : name ≡ codes "check" = k.0 in absurd (cc)
 one_limit name rows (Instances document class) (Check q) limit h k is = let a : name ≡ codes "instances" = h.0 in let b : name ≡ codes "check" = k.0 in absurd (cc)
 one_limit name rows (Explain question) (Check q) limit h k is = let a : name ≡ codes "explain" = h.0 in let b : name ≡ codes "check" = k.0 in absurd (cc)
-one_limit name rows (Query document expression) (Check q) limit h k is = absurd (apart name k.0 h.0)
+one_limit name rows (Query document expression) (Check q) limit h k is = absurd (not_query name (codes "check") refl k.0 h.0)
 one_limit name rows (Classify p) (Classify q) limit h k is = is
 one_limit name rows (Classify p) (Instances document class) limit h k is = is
 one_limit name rows (Classify p) (Explain question) limit h k is = is
