@@ -1,5 +1,5 @@
 -- What is answered of a document that was run to its end.
-use Rattle.std.proofs.Common.{ℕ, List, Option, Result, Ok, Err, IfOk, IfErr}
+use Rattle.std.proofs.Common.{ℕ, List, [], Option, Result, Ok, Err, IfOk, IfErr}
 use Rattle.std.specs.Global.{Vec}
 use Rattle.answers.specs.declared.asked.Asked.{Asked}
 use Rattle.axioms.specs.Expression.{Iri}
@@ -15,8 +15,8 @@ use Rattle.session.specs.declared.opening.Finished.{Finished}
 use Rattle.session.specs.declared.question_fault.QuestionFault.{QuestionFault}
 use Rattle.session.specs.declared.question_fault.QuestionFault.TheVariants as asking
 
-few : (limits : Limits) (document : Option (List ℕ)) (s : Finished) → IsRun limits document s → HasNoMoreFactsThan s.ontology limits.max_facts
-few limits document s run = no_more s.ontology s.saturation limits.max_facts run.saturated run.within
+few : (limits : Limits) (document : Option (List ℕ)) (s : Finished) → IsRun limits document s → HasNoMoreFactsThan s.ontology [] limits.max_facts
+few limits document s run = no_more s.ontology s.saturation [] limits.max_facts run.unasked run.saturated run.within
 
 -- ---- answers
 
@@ -35,6 +35,7 @@ unanswered limits document s names (asking.UnknownName name) run is = (s.ontolog
 unanswered limits document s names asking.Memory run is = (s.ontology, run.read)
 unanswered limits document s names (asking.Document fault) run is = absurd is
 unanswered limits document s names asking.Limit run is = absurd is
+unanswered limits document s names (asking.Expression fault) run is = absurd is
 
 pub faults : (r : Result (Vec ℕ) QuestionFault) (limits : Limits) (document : Option (List ℕ)) (s : Finished) (names : List (Kind × Iri)) → IsRun limits document s → IfErr r (IsUnanswered s.ontology names) → IfErr r (IsFaultOf limits document names)
 faults (Ok v) limits document s names run is = tt

@@ -1,9 +1,8 @@
 -- What calls leave: what one document states.
-use Rattle.std.proofs.Common.{◌≡◌, ◌+◌, ℕ, List, [], ◌∷◌, ◌++◌, Result, Ok, Err, length, refl, sym, ap, ap₂, ◌∙◌, subst, arith, append_assoc}
+use Rattle.std.proofs.Common.{◌≡◌, ◌+◌, ℕ, List, [], ◌∷◌, ◌++◌, Ok, Err, length, refl, sym, ap, ap₂, ◌∙◌, subst, arith, append_assoc}
 use Rattle.std.proofs.lemmas.List.{append-nil}
 use Rattle.axioms.proofs.Unique.{statements_determine}
 use Rattle.axioms.specs.Numbering.{Statement, IsOntologyOf}
-use Rattle.axioms.specs.Ontology.{Ontology}
 use Rattle.axioms.specs.WellFormedness.{IsOntology}
 use Rattle.fs_lexer.proofs.Whole.{one_spelling}
 use Rattle.fs_lexer.specs.Spelling.{Token}
@@ -17,8 +16,8 @@ use Rattle.profile.specs.AddedTexts.{AreStatementsOf}
 use Rattle.profile.specs.Statements.{statements}
 use Rattle.shapes.specs.declared.version.Version.TheVariants.{One}
 use Rattle.session.specs.Additions.{IsAddition}
-use Rattle.session.specs.Edits.{Call, Add, Resume, Superclasses, Subclasses, Instances, Explain, Write, Reply, Added, Resumed, Named, Explained, Written, IsCall, AreCalls, IsSessionOver, IsOneDocument, AreStatedBy, accepted, added, bytes_of, EditsAreOneDocument, AcceptedAlikeEndAlike, FinishedIsClosureOfAccepted}
-use Rattle.session.specs.Sessions.{IsSession, KeepsText, Opened, as_read}
+use Rattle.session.specs.Edits.{Call, Add, Resume, Superclasses, Subclasses, Instances, Explain, Query, Write, Reply, Added, Resumed, Named, Explained, Found, Written, IsCall, AreCalls, IsSessionOver, IsOneDocument, AreStatedBy, accepted, added, bytes_of, EditsAreOneDocument, AcceptedAlikeEndAlike, FinishedIsClosureOfAccepted}
+use Rattle.session.specs.Sessions.{IsSession, KeepsText, Opened}
 
 -- ---- texts one behind the other
 
@@ -101,6 +100,8 @@ one_call bytes texts old (Instances class) (Named (Ok names)) new h is session =
 one_call bytes texts old (Instances class) (Named (Err fault)) new h is session = stays bytes texts old new h is.1
 one_call bytes texts old (Explain asked class) (Explained (Ok explanation)) new h is session = stays bytes texts old new h is.2
 one_call bytes texts old (Explain asked class) (Explained (Err fault)) new h is session = stays bytes texts old new h is.1
+one_call bytes texts old (Query text most) (Found (Ok found)) new h is session = stays bytes texts old new h is.1
+one_call bytes texts old (Query text most) (Found (Err fault)) new h is session = stays bytes texts old new h is.1
 one_call bytes texts old (Write before) (Written after answer) new h is session = stays bytes texts old new h is.1
 one_call bytes texts old call reply new h is session = absurd is
 

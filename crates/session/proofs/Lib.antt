@@ -4,5 +4,6 @@ pub mod Finding
 pub mod Counting
 pub mod AtEnd
 pub mod Growing
+pub mod Asking
 pub mod Calls
 pub mod SameTexts

@@ -1,11 +1,15 @@
--- What is said of a session that was opened.
-use Rattle.std.proofs.Common.{◌≡◌, ℕ, List, Option, Some, None, Result, Ok, Err, IfOk, IfErr, OnOk, sym, subst}
+-- What is said of a session that was opened, and of one that was run.
+use Rattle.std.proofs.Common.{◌≡◌, ℕ, List, [], Option, Some, None, Result, Ok, Err, IfOk, IfErr, OnOk, sym, subst}
 use Rattle.std.specs.Prelude.{IsErrOf}
-use Rattle.profile.specs.Faults.{RefusesKnown}
+use Rattle.profile.specs.Documents.{IsTaken}
+use Rattle.profile.specs.Faults.{OpensKnown, RefusesKnown}
 use Rattle.profile.specs.declared.fault.DocumentFault.{DocumentFault}
 use Rattle.profile.specs.declared.fault.DocumentFault.TheVariants.{Io, Memory, TooLarge}
 use Rattle.profile.specs.declared.opened.Opened as reading
-use Rattle.session.specs.Sessions.{Opened, as_read}
+use Rattle.program.specs.declared.limits.Limits.{Limits}
+use Rattle.session.specs.FactCounts.{HasNoMoreFactsThan}
+use Rattle.session.specs.Sessions.{KeepsText, Opened, as_read}
+use Rattle.session.specs.TextAnswers.{IsRunAs}
 
 -- what holds of all that was read holds of its session
 pub of_read : {E : Type 0} (P : reading.Opened → Type 0) (d : reading.Opened) (r : Result Opened E) → P d → IfOk r (λ s. as_read s ≡ d) → IfOk r (λ s. P (as_read s))
@@ -31,3 +35,12 @@ not_io (Err e) is told = let same : e ≡ Memory = is in cc
 pub not_too_large : (r : Result Opened DocumentFault) → IfErr r (λ e. e ≡ Memory) → IsErrOf r TooLarge → ⊥
 not_too_large (Ok s) is told = cc
 not_too_large (Err e) is told = let same : e ≡ Memory = is in cc
+
+-- what was read stays what it is while the session is run
+pub runs_as : (limits : Limits) (document : Option (List ℕ)) (old new : Opened) → OpensKnown document limits.max_bytes (as_read old) → IsTaken old.ontology
+    → new.ontology ≡ old.ontology → KeepsText old new → HasNoMoreFactsThan new.ontology [] limits.max_facts → IsRunAs limits document (as_read new)
+runs_as limits document old new opens taken ontology kept few =
+    let prefixes = kept.prefixes in
+    let bytes = kept.bytes in
+    let same : as_read old ≡ as_read new = cc in
+    record { opens = subst (OpensKnown document limits.max_bytes) same opens; taken = subst IsTaken (sym ontology) taken; few = few }

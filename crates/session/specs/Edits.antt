@@ -20,10 +20,12 @@ use Rattle.shapes.specs.declared.version.Version.TheVariants.{One}
 use Rattle.session.specs.Additions.{IsAddition, IsRefusedAddition}
 use Rattle.session.specs.Answers.{AreInstances, AreSubclasses, AreSuperclasses, HasClass, HasNames, IsClassRefusal, IsExplainRefusal, IsMade, IsWritten}
 use Rattle.session.specs.Classifications.{IsClassified}
+use Rattle.session.specs.Queries.{IsQueryAnswer, IsQueryRefusal, NamesFound}
 use Rattle.session.specs.Sessions.{IsOpen, IsSession, KeepsText, Opened, as_read}
 use Rattle.session.specs.WrittenTexts.{Sinks, Texts}
 use Rattle.session.specs.declared.fault.AskFault.{AskFault}
 use Rattle.session.specs.declared.fault.TextFault.{TextFault}
+use Rattle.session.specs.declared.query_fault.QueryFault.{QueryFault}
 
 -- ---- calls
 
@@ -35,6 +37,7 @@ pub data Call : Type 0 where
   Subclasses : (class : Iri) → Call
   Instances : (class : Iri) → Call
   Explain : (asked : Asked) (class : Iri) → Call
+  Query : (text : List ℕ) (max_facts : ℕ) → Call
   Write : (before : Sinks) → Call
 
 -- what is answered: of writing also what the sinks have taken then
@@ -43,6 +46,7 @@ pub data Reply : Type 0 where
   Resumed : Result (Unit {0}) Stop → Reply
   Named : Result (List Iri) AskFault → Reply
   Explained : Result Explanation AskFault → Reply
+  Found : Result NamesFound QueryFault → Reply
   Written : (after : Sinks) → Result Summary TextFault → Reply
 
 -- what the contract of the call says of the session before and after it, and of the answer; others are not given
@@ -59,6 +63,8 @@ IsCall old (Instances class) (Named (Ok names)) new = HasClass old class × AreI
 IsCall old (Instances class) (Named (Err fault)) new = IsClassRefusal old class fault × (new ≡ old)
 IsCall old (Explain asked class) (Explained (Ok explanation)) new = HasNames old asked class × Explains old.ontology asked class explanation × (new ≡ old)
 IsCall old (Explain asked class) (Explained (Err fault)) new = IsExplainRefusal old asked class fault × (new ≡ old)
+IsCall old (Query text most) (Found (Ok found)) new = IsQueryAnswer old text most found × (new ≡ old)
+IsCall old (Query text most) (Found (Err fault)) new = IsQueryRefusal old text most fault × (new ≡ old)
 IsCall old (Write before) (Written after answer) new = IsWritten old before after answer × (new ≡ old)
 IsCall old call reply new = ⊥
 

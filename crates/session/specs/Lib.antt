@@ -4,6 +4,7 @@ pub mod Sessions
 pub mod Additions
 pub mod Answers
 pub mod FactCounts
+pub mod Queries
 pub mod Texts
 pub mod TextAnswers
 pub mod Run

@@ -1,7 +1,7 @@
 -- What a session has.
 use Rattle.std.specs.Prelude.{◌≡◌, ◌≤◌, ℕ, true}
 use Rattle.axioms.specs.Ontology.{Ontology}
-use Rattle.engine.specs.Saturations.{Saturated, IsFinished, IsSaturated, IsSound}
+use Rattle.engine.specs.Saturations.{Saturated, IsFinished, IsSaturated, IsSound, IsUnasked}
 use Rattle.fs_parser.specs.Name.{Prefixes}
 use Rattle.profile.specs.Documents.{IsTaken}
 use Rattle.profile.specs.declared.opened.Opened as reading
@@ -15,10 +15,11 @@ pub record Opened : Type 0 where
   pub bytes : ℕ
   pub most_bytes : ℕ
 
--- what holds at any time: the facts are facts of the ontology's closure, each once, and more may be added; the ontology is well formed
--- and that of some statements; and there are no more bytes than there may be
+-- what holds at any time: the facts are facts of the ontology's closure, each once, with nothing asked about, and more may be added; the
+-- ontology is well formed and that of some statements; and there are no more bytes than there may be
 pub record IsOpen (s : Opened) : Type 0 where
   pub sound : IsSound s.ontology s.saturation
+  pub unasked : IsUnasked s.saturation
   pub can_grow : s.saturation.can_grow ≡ true
   pub taken : IsTaken s.ontology
   pub within : s.bytes ≤ s.most_bytes

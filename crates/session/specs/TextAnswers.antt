@@ -1,5 +1,5 @@
 -- What a text answers about a document, and what a fault says where there is none.
-use Rattle.std.specs.Prelude.{◌≡◌, ◌++◌, ℕ, List, Option, Result, Ok, Err, codes}
+use Rattle.std.specs.Prelude.{◌≡◌, ◌⊎◌, ◌++◌, ℕ, List, [], Option, Result, Ok, Err, codes}
 use Rattle.std.specs.List.{Contains, flat_map}
 use Rattle.answer_texts.specs.Graphs.{proof_graph, refutation_graph}
 use Rattle.answer_texts.specs.Names.{line_feed, name_text}
@@ -10,11 +10,12 @@ use Rattle.axioms.specs.Ontology.{Ontology}
 use Rattle.axioms.specs.declared.terms.Kind.{Kind}
 use Rattle.certificate.specs.View.{lines_of}
 use Rattle.profile.specs.Documents.{IsTaken}
-use Rattle.profile.specs.Faults.{ReadsKnown, RefusesKnown}
+use Rattle.profile.specs.Faults.{OpensKnown, ReadsKnown, RefusesKnown}
+use Rattle.profile.specs.declared.opened.Opened as reading
 use Rattle.engine.specs.Saturations.{HasMoreFactsThan}
 use Rattle.program.specs.declared.limits.Limits.{Limits}
 use Rattle.session.specs.declared.question_fault.QuestionFault.{QuestionFault}
-use Rattle.session.specs.declared.question_fault.QuestionFault.TheVariants.{Document, Limit, UnknownName, Memory}
+use Rattle.session.specs.declared.question_fault.QuestionFault.TheVariants.{Document, Limit, UnknownName, Expression, Memory}
 use Rattle.session.specs.declared.form.Form.{Form}
 use Rattle.session.specs.declared.form.Form.TheVariants.{Lines, Graph}
 use Rattle.answers.specs.Explanations.{Explains, IsKnown}
@@ -24,6 +25,9 @@ use Rattle.answers.specs.declared.explanation.Explanation.TheVariants.{Yes, No, 
 use Rattle.session.specs.Answers.{AreInstances, IsFirstUnknown}
 use Rattle.session.specs.FactCounts.{HasNoMoreFactsThan}
 use Rattle.session.specs.Devices.{IsReadUntil}
+use Rattle.session.specs.Queries.{IsAnswer, IsUnanswerable, NamesFound}
+use Rattle.session.specs.declared.query_fault.QueryFault.{QueryFault}
+use Rattle.session.specs.declared.query_fault.QueryFault.TheVariants as querying
 use Rattle.source_lines.specs.Sources.{SourceState, IsReadToItsEnd}
 
 -- the document, of at most so many bytes, reads as the ontology
@@ -48,7 +52,7 @@ pub record ListsInstances (o : Ontology) (class : Iri) (text : List ℕ) : Type 
 -- the document reads as an ontology whose closure has at most so many facts and which has the class, and the lines of the text are of
 -- exactly the individuals that belong to it in every finite interpretation of the axioms, each once and in byte order
 abbrev pub AnswersInstances : Limits → (document : Option (List ℕ)) → (class : Iri) → (text : List ℕ) → Type 0
-AnswersInstances limits document class text = (o : Ontology) × IsReadAs limits.max_bytes document o × HasNoMoreFactsThan o limits.max_facts × ListsInstances o class text
+AnswersInstances limits document class text = (o : Ontology) × IsReadAs limits.max_bytes document o × HasNoMoreFactsThan o [] limits.max_facts × ListsInstances o class text
 
 -- ---- why something follows, or why not
 
@@ -81,18 +85,54 @@ pub record ShowsExplanation (o : Ontology) (asked : Asked) (class : Iri) (form :
 -- explanation that shows whether the subject is in the class
 abbrev pub AnswersExplanation : Limits → (document : Option (List ℕ)) → Asked → (class : Iri) → Form → (text : List ℕ) → Type 0
 AnswersExplanation limits document asked class form text =
-    (o : Ontology) × IsReadAs limits.max_bytes document o × HasNoMoreFactsThan o limits.max_facts × ShowsExplanation o asked class form text
+    (o : Ontology) × IsReadAs limits.max_bytes document o × HasNoMoreFactsThan o [] limits.max_facts × ShowsExplanation o asked class form text
+
+-- ---- the names of a class expression
+
+-- the document, of at most so many bytes, reads as the ontology, with these prefixes and so many bytes, and its closure has at most so
+-- many facts
+pub record IsRunAs (limits : Limits) (document : Option (List ℕ)) (d : reading.Opened) : Type 0 where
+  pub opens : OpensKnown document limits.max_bytes d
+  pub taken : IsTaken d.ontology
+  pub few : HasNoMoreFactsThan d.ontology [] limits.max_facts
+
+-- a line for each name, behind the word
+abbrev pub lines_with : (word : List ℕ) → List Iri → List ℕ
+lines_with word names = flat_map (λ name. word ++ name_text name ++ line_feed) names
+
+-- the lines of the classes above, of those below, and of the individuals
+abbrev pub query_lines : NamesFound → List ℕ
+query_lines found =
+    lines_with (codes "super ") found.superclasses ++ lines_with (codes "sub ") found.subclasses ++ lines_with (codes "instance ") found.instances
+
+-- document and text have together at most so many bytes; the text is a class expression over names of the document, with which the closure
+-- has at most so many facts; and the lines are of exactly the names that the expression has in every finite interpretation of the axioms,
+-- each once and in byte order
+pub record ListsAnswers (d : reading.Opened) (most_bytes max_facts : ℕ) (text out : List ℕ) : Type 0 where
+  pub found : NamesFound
+  pub answer : IsAnswer d most_bytes max_facts text found
+  pub lines : out ≡ query_lines found
+
+-- the document reads as an ontology whose closure has at most so many facts, and the lines answer what the text asks
+abbrev pub AnswersQuery : Limits → (document : Option (List ℕ)) → (text out : List ℕ) → Type 0
+AnswersQuery limits document text out =
+    (d : reading.Opened) × IsRunAs limits document d × ListsAnswers d limits.max_bytes limits.max_facts text out
+
+-- the document reads as an ontology whose closure has at most so many facts, and what the fault says of the text
+abbrev pub LeavesUnanswered : Limits → (document : Option (List ℕ)) → (text : List ℕ) → QueryFault → Type 0
+LeavesUnanswered limits document text fault =
+    (d : reading.Opened) × IsRunAs limits document d × IsUnanswerable d limits.max_bytes limits.max_facts text fault
 
 -- ---- faults
 
 -- the document reads as an ontology whose closure has at most so many facts, and the name is the first of these, each of its kind,
 -- that the ontology lacks
 abbrev pub LacksName : Limits → (document : Option (List ℕ)) → (names : List (Kind × Iri)) → Iri → Type 0
-LacksName limits document names name = (o : Ontology) × IsReadAs limits.max_bytes document o × HasNoMoreFactsThan o limits.max_facts × IsFirstUnknown o names name
+LacksName limits document names name = (o : Ontology) × IsReadAs limits.max_bytes document o × HasNoMoreFactsThan o [] limits.max_facts × IsFirstUnknown o names name
 
 -- the document reads as an ontology whose closure has more facts
 abbrev pub IsBeyondLimit : Limits → (document : Option (List ℕ)) → Type 0
-IsBeyondLimit limits document = (o : Ontology) × IsReadAs limits.max_bytes document o × HasMoreFactsThan o limits.max_facts
+IsBeyondLimit limits document = (o : Ontology) × IsReadAs limits.max_bytes document o × HasMoreFactsThan o [] limits.max_facts
 
 -- what a fault says of the document and of the names in the question: it is refused, or it is read and this came behind that
 abbrev pub IsFaultOf : Limits → (document : Option (List ℕ)) → (names : List (Kind × Iri)) → QuestionFault → Type 0
@@ -100,6 +140,15 @@ IsFaultOf limits document names (Document fault) = RefusesKnown document limits.
 IsFaultOf limits document names Limit = IsBeyondLimit limits document
 IsFaultOf limits document names (UnknownName name) = LacksName limits document names name.now
 IsFaultOf limits document names Memory = (o : Ontology) × IsReadAs limits.max_bytes document o
+IsFaultOf limits document names (Expression fault) = ⊥
+
+-- what a fault says of the document and of the text that asks: the document is refused, or it is read and this came behind that
+abbrev pub IsQueryFaultOf : Limits → (document : Option (List ℕ)) → (text : List ℕ) → QuestionFault → Type 0
+IsQueryFaultOf limits document text (Document fault) = RefusesKnown document limits.max_bytes fault
+IsQueryFaultOf limits document text Limit = IsBeyondLimit limits document ⊎ LeavesUnanswered limits document text querying.Limit
+IsQueryFaultOf limits document text (Expression fault) = LeavesUnanswered limits document text (querying.Expression fault)
+IsQueryFaultOf limits document text Memory = (o : Ontology) × IsReadAs limits.max_bytes document o
+IsQueryFaultOf limits document text (UnknownName name) = ⊥
 
 -- what was read of the document: all of it, where it was read as an ontology; otherwise some of it; and the fault of a source
 -- is told only where it failed
@@ -108,4 +157,5 @@ IsRead (Ok x) old new = IsReadToItsEnd old new
 IsRead (Err (Document fault)) old new = IsReadUntil fault old new
 IsRead (Err Limit) old new = IsReadToItsEnd old new
 IsRead (Err (UnknownName name)) old new = IsReadToItsEnd old new
+IsRead (Err (Expression fault)) old new = IsReadToItsEnd old new
 IsRead (Err Memory) old new = IsReadToItsEnd old new

@@ -1,5 +1,5 @@
 -- What explanations can be written, and what a session does not answer.
-use Rattle.std.specs.Prelude.{List}
+use Rattle.std.specs.Prelude.{ℕ, List}
 use Rattle.std.specs.List.{All}
 use Rattle.axioms.specs.Expression.{Iri}
 use Rattle.axioms.specs.Ontology.{Ontology}
@@ -8,10 +8,13 @@ use Rattle.certificate.specs.Writability.{IsLineOf}
 use Rattle.certificate.specs.View.{lines_of}
 use Rattle.interpretation_spec.specs.NumberedInterpretation.{IsMadeFor}
 use Rattle.session.specs.declared.question_fault.QuestionFault.{QuestionFault}
-use Rattle.session.specs.declared.question_fault.QuestionFault.TheVariants.{Document, Limit, UnknownName, Memory}
+use Rattle.session.specs.declared.question_fault.QuestionFault.TheVariants.{Document, Limit, UnknownName, Expression, Memory}
 use Rattle.answers.specs.declared.explanation.Explanation.{Explanation}
 use Rattle.answers.specs.declared.explanation.Explanation.TheVariants.{Yes, No, Contradictory}
 use Rattle.session.specs.Answers.{IsFirstUnknown}
+use Rattle.session.specs.Queries.{IsUnanswerable}
+use Rattle.session.specs.Sessions.{Opened, as_read}
+use Rattle.session.specs.declared.query_fault.QueryFault.TheVariants as querying
 
 -- its lines speak of what the ontology has, or its interpretation was made for the names of the ontology
 abbrev pub HasText : Ontology → Explanation → Type 0
@@ -25,3 +28,12 @@ IsUnanswered o names (UnknownName name) = IsFirstUnknown o names name.now
 IsUnanswered o names Memory = Unit {0}
 IsUnanswered o names (Document fault) = ⊥
 IsUnanswered o names Limit = ⊥
+IsUnanswered o names (Expression fault) = ⊥
+
+-- what a fault says of a session where nothing is pending, and of a text that asks: it is not answered, or memory was refused
+abbrev pub IsUnansweredQuery : Opened → (text : List ℕ) → (max_facts : ℕ) → QuestionFault → Type 0
+IsUnansweredQuery s text max_facts (Expression fault) = IsUnanswerable (as_read s) s.most_bytes max_facts text (querying.Expression fault)
+IsUnansweredQuery s text max_facts Limit = IsUnanswerable (as_read s) s.most_bytes max_facts text querying.Limit
+IsUnansweredQuery s text max_facts Memory = Unit {0}
+IsUnansweredQuery s text max_facts (Document fault) = ⊥
+IsUnansweredQuery s text max_facts (UnknownName name) = ⊥

@@ -7,7 +7,7 @@ use profile::{DocumentFault, read_addition};
 
 impl Session {
     /// How many bytes there are with the text, where there may be so many.
-    fn bytes_with(&self, text: &str) -> Option<usize>
+    pub(crate) fn bytes_with(&self, text: &str) -> Option<usize>
         ensures counted { IfSome result (λ n. n ≡ self.now.bytes + length text.now) }
         ensures within { IfSome result (λ n. n ≤ self.now.most_bytes) }
         ensures beyond { IfNone result (self.now.most_bytes < self.now.bytes + length text.now) }

@@ -1,5 +1,5 @@
 //! The answers to questions about a document.
-ghost use Rattle.engine.specs.Saturations.{IsSaturated};
+ghost use Rattle.engine.specs.Saturations.{IsSaturated, IsUnasked};
 ghost use Rattle.session.specs.TextAnswers.{AnswersInstances, AnswersExplanation, IsFaultOf, IsRead, ListsInstances, ShowsExplanation};
 ghost use Rattle.session.specs.Texts.{IsUnanswered};
 ghost use Rattle.session.specs.Answers.{class_name, subject_name};
@@ -50,7 +50,8 @@ fn why<'n>(
     class: &'n str,
     form: Form,
 ) -> Result<Vec<u8>, QuestionFault<'n>>
-    requires { IsSaturated finished.now.ontology finished.now.saturation }
+    requires saturated { IsSaturated finished.now.ontology finished.now.saturation }
+    requires unasked { IsUnasked finished.now.saturation }
     ensures answered { IfOk result (λ v. ShowsExplanation finished.now.ontology asked.entry class.now form v.items) }
     ensures fault { IfErr result (IsUnanswered finished.now.ontology (subject_name asked.entry ∷ class_name class.now ∷ [])) }
 {

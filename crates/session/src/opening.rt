@@ -1,11 +1,11 @@
 //! Documents that are read and run to their end.
-ghost use Rattle.engine.specs.Saturations.{HasMoreFactsThan, IsSaturated};
+ghost use Rattle.engine.specs.Saturations.{HasMoreFactsThan, IsSaturated, IsUnasked};
 ghost use Rattle.inference.specs.declared.known_facts.Stop.TheVariants as stops;
 ghost use Rattle.profile.specs.declared.fault.DocumentFault.TheVariants as reading;
 ghost use Rattle.source_lines.specs.Sources.{source_state};
 ghost use Rattle.session.specs.Run.{IsRun, IsRunFault, IsRunRead};
 ghost use Rattle.session.specs.declared.run_fault.RunFault.TheVariants as run_faults;
-ghost use Rattle.std.specs.Prelude.{◌≡◌, ◌+◌, ◌<◌, ◌≤◌, Err, IfErr, IfOk, IsErrOf, length};
+ghost use Rattle.std.specs.Prelude.{◌≡◌, ◌+◌, ◌<◌, ◌≤◌, [], Err, IfErr, IfOk, IsErrOf, length};
 
 use crate::run_fault::RunFault;
 use axioms::Ontology;
@@ -31,8 +31,9 @@ fn run_to_end(
 ) -> Result<Finished, Stop>
     ensures ontology { IfOk result (λ f. f.ontology ≡ ontology) }
     ensures saturated { IfOk result (λ f. IsSaturated f.ontology f.saturation) }
+    ensures unasked { IfOk result (λ f. IsUnasked f.saturation) }
     ensures within { IfOk result (λ f. length f.saturation.state.facts ≤ max_facts) }
-    ensures limit { result ≡ Err stops.Limit → HasMoreFactsThan ontology max_facts }
+    ensures limit { result ≡ Err stops.Limit → HasMoreFactsThan ontology [] max_facts }
 {
     match saturated(alloc, state, &ontology, max_facts) {
         Ok(saturation) => Ok(Finished {

@@ -11,6 +11,8 @@ pub enum QuestionFault<'n> {
     Limit,
     /// The ontology has no such name, which is the first such from the left in the question.
     UnknownName(&'n str),
+    /// The expression was not read: places count its bytes.
+    Expression(DocumentFault),
     /// Memory was refused once the document was read.
     Memory,
 }

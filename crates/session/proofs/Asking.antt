@@ -1,0 +1,96 @@
+-- What is said of an expression that was read, and of the ontology that has grown by it.
+use Rattle.std.proofs.Common.{◌≡◌, ◌<◌, ℕ, List, [], ◌∷◌, Option, length, refl, sym, ap, subst, arith}
+use Rattle.std.specs.Option.{unwrap_or}
+use Rattle.std.proofs.lemmas.Option.{slice_get_within}
+use Rattle.answers.specs.Names.{AreThose}
+use Rattle.axioms.proofs.Trees.{length_trees}
+use Rattle.axioms.specs.Axiom.{Axiom}
+use Rattle.axioms.specs.Expression.{ClassExpression, Named}
+use Rattle.axioms.specs.Ontology.{Names, Ontology, axiom_trees, expression, trees}
+use Rattle.closure.specs.Closure.{Expression, IsRoot, question}
+use Rattle.engine.specs.Saturations.{IsFinished}
+use Rattle.fs_parser.specs.Name.{Prefixes}
+use Rattle.interpretation_spec.specs.Interpretation.{IsBelow, IsMember}
+use Rattle.normalise.specs.Growth.{Grows}
+use Rattle.normalise.specs.Roots.{KeepsNames}
+use Rattle.normalise.specs.View.{Keeps}
+use Rattle.profile.proofs.Trees.{keeps_append}
+use Rattle.profile.specs.AddedTexts.{IsReadExpression}
+use Rattle.profile.specs.Statements.{class_of}
+use Rattle.session.specs.Additions.{IsWithin}
+use Rattle.session.specs.FactCounts.{HasNoMoreFactsThan}
+use Rattle.session.specs.Queries.{AreAnswersFor, IsQueryAnswer, IsQueryRefusal, NamesFound, SpellsExpression}
+use Rattle.session.specs.Sessions.{Opened}
+use Rattle.session.specs.declared.query_fault.QueryFault.TheVariants.{Memory}
+
+-- ---- the same names, in an ontology of the same names and axioms
+
+module _ (o p : Ontology) (c d : ClassExpression) (found : NamesFound) (names : p.names ≡ o.names) (axioms : axiom_trees p ≡ axiom_trees o) (same : d ≡ c) where
+  moved : (P : Names → List Axiom → ClassExpression → Type 0) → P p.names (axiom_trees p) d → P o.names (axiom_trees o) c
+  moved P holds =
+      subst (λ (e : ClassExpression). P o.names (axiom_trees o) e) same
+      (subst (λ (axs : List Axiom). P o.names axs d) axioms (subst (λ (ns : Names). P ns (axiom_trees p) d) names holds))
+
+  same_answers : AreAnswersFor p d found → AreAnswersFor o c found
+  same_answers h = record {
+    superclasses = moved (λ ns axs e. AreThose ns.classes (λ name. IsBelow axs e (Named name)) found.superclasses) h.superclasses;
+    subclasses = moved (λ ns axs e. AreThose ns.classes (λ name. IsBelow axs (Named name) e) found.subclasses) h.subclasses;
+    instances = moved (λ ns axs e. AreThose ns.individuals (λ name. IsMember axs name e) found.instances) h.instances;
+  }
+
+-- ---- an expression that was read
+
+module _ (prefixes : Prefixes) (text : List ℕ) (old new : Ontology) (e : ℕ) (is : IsReadExpression prefixes text old new e) where
+  -- expressions and axioms keep their numbers
+  pub grows : Grows old new (length old.axioms)
+  grows =
+      let kept = is.added.adds.kept in record {
+        nodes = keeps_append old.nodes new.nodes kept.nodes.0 kept.nodes.1;
+        axioms = keeps_append old.axioms new.axioms kept.axioms.0 kept.axioms.1;
+        new_from = refl;
+      }
+
+  -- names are the same
+  pub keeps_names : KeepsNames old new
+  keeps_names =
+      let P : Names → Type 0 = λ names. Keeps old.names.classes names.classes × Keeps old.names.individuals names.individuals in
+      let kept : P new.names = subst P (sym is.added.names) (λ n x at. at, λ n x at. at) in
+      record { classes = kept.0; individuals = kept.1 }
+
+  -- the expression is there
+  pub is_there : e < length new.nodes
+  is_there = omega (arith, length_trees new, slice_get_within (trees new) e (class_of is.tree) is.added.at)
+
+  -- it is what the text is
+  pub spelled : SpellsExpression prefixes text old (class_of is.tree)
+  spelled = record { tree = is.tree; text_is = is.text_is; faultless = is.added.faultless; means = refl }
+
+  -- and the names that it has are those of what the text is
+  pub are_answers : (found : NamesFound) → AreAnswersFor new (expression new e) found → AreAnswersFor old (class_of is.tree) found
+  are_answers found =
+      let same : expression new e ≡ class_of is.tree = ap (λ (there : Option ClassExpression). unwrap_or there (Named [])) is.added.at in
+      same_answers old new (class_of is.tree) (expression new e) found is.added.names is.added.axioms same
+
+-- what is asked about alone, and is there, is a root
+pub is_root : (o : Ontology) (e : ℕ) (asked : List ℕ) → e < length o.nodes → asked ≡ e ∷ [] → IsRoot o asked (Expression e)
+is_root o e asked there same = subst (λ (es : List ℕ). IsRoot o es (Expression e)) (sym same) (question e there (0, omega arith, refl))
+
+-- ---- what a session says
+
+module _ (s : Opened) (text : List ℕ) (p : Ontology) (e : ℕ) (is : IsReadExpression s.prefixes text s.ontology p e) where
+  -- the names of the expression answer what the text asks
+  pub answered : (max_facts : ℕ) (found : NamesFound) → IsFinished s.saturation → IsWithin s text → HasNoMoreFactsThan p (e ∷ []) max_facts → AreAnswersFor p (expression p e) found → IsQueryAnswer s text max_facts found
+  answered max_facts found finished within few h = record {
+    finished = finished;
+    answer = record {
+      within = within;
+      expression = class_of is.tree;
+      spelled = spelled s.prefixes text s.ontology p e is;
+      few = (p, e, is, few);
+      names = are_answers s.prefixes text s.ontology p e is found h;
+    };
+  }
+
+  -- where memory is refused, the text is an expression
+  pub unanswered : (max_facts : ℕ) → IsFinished s.saturation → IsWithin s text → IsQueryRefusal s text max_facts Memory
+  unanswered max_facts finished within = (finished, (within, (class_of is.tree, spelled s.prefixes text s.ontology p e is)))

@@ -1,0 +1,138 @@
+//! The answer to a query of a document.
+ghost use Rattle.engine.specs.Saturations.{IsFinished};
+ghost use Rattle.profile.specs.declared.fault.DocumentFault.TheVariants as reading;
+ghost use Rattle.session.specs.Queries.{names_in};
+ghost use Rattle.session.specs.Run.{IsRunFault, IsRunRead};
+ghost use Rattle.session.specs.Sessions.{as_read};
+ghost use Rattle.session.specs.TextAnswers.{AnswersQuery, IsQueryFaultOf, IsRead, IsRunAs, ListsAnswers, lines_with, query_lines};
+ghost use Rattle.session.specs.Texts.{IsUnansweredQuery};
+ghost use Rattle.session.specs.declared.question_fault.QuestionFault.TheVariants as asking;
+ghost use Rattle.session.specs.declared.run_fault.RunFault.TheVariants as run_faults;
+ghost use Rattle.source_lines.specs.Sources.{source_state};
+ghost use Rattle.std.specs.Prelude.{◌≡◌, ◌+◌, ◌++◌, ◌<◌, IfErr, IfOk, IsErrOf, OnOk, map};
+
+use crate::query_fault::QueryFault;
+use crate::querying::Answers;
+use crate::question_fault::QuestionFault;
+use crate::run_fault::{RunFault, question_fault};
+use crate::session::Session;
+use axioms::Memory;
+use device::Source;
+use engine::Stop;
+use profile::Limits;
+use std::alloc::Global;
+use std::hash::RandomState;
+
+/// A line for each name, behind the word, with the name in angle brackets.
+fn push_lines(out: &mut Vec<u8>, word: &[u8], names: &[&str]) -> Result<(), Memory>
+    ensures { OnOk result (out.new.items ≡ out.old.items ++ lines_with word.now (map (λ s. s.now) names.now)) }
+{
+    for name in names {
+        out.extend_from_slice(word)?;
+        out.extend_from_slice(b"<")?;
+        out.extend_from_slice(name.as_bytes())?;
+        out.extend_from_slice(b">\n")?;
+    }
+    Ok(())
+}
+
+/// The lines of the classes above, of those below, and of the individuals.
+fn lines_of_answers(alloc: Global, answers: &Answers<'_>) -> Result<Vec<u8>, Memory>
+    ensures { IfOk result (λ v. v.items ≡ query_lines (names_in answers.now)) }
+{
+    let mut out = Vec::new(alloc);
+    push_lines(&mut out, b"super ", &answers.superclasses)?;
+    push_lines(&mut out, b"sub ", &answers.subclasses)?;
+    push_lines(&mut out, b"instance ", &answers.instances)?;
+    Ok(out)
+}
+
+/// The lines of what the session answers, which is run to its end.
+fn answered(
+    alloc: Global,
+    session: &Session,
+    text: &str,
+    max_facts: u32,
+) -> Result<Vec<u8>, QuestionFault<'static>>
+    requires { IsFinished session.now.saturation }
+    ensures answered { IfOk result (λ v. ListsAnswers (as_read session.now) session.now.most_bytes max_facts text.now v.items) }
+    ensures fault { IfErr result (IsUnansweredQuery session.now text.now max_facts) }
+{
+    let answers = match session.query(text, max_facts) {
+        Ok(answers) => answers,
+        Err(QueryFault::Unfinished) => unreachable!(),
+        Err(QueryFault::Expression(fault)) => return Err(QuestionFault::Expression(fault)),
+        Err(QueryFault::Limit) => return Err(QuestionFault::Limit),
+        Err(QueryFault::Memory) => return Err(QuestionFault::Memory),
+    };
+    match lines_of_answers(alloc, &answers) {
+        Ok(lines) => Ok(lines),
+        Err(_) => Err(QuestionFault::Memory),
+    }
+}
+
+/// A session over the document that the source gives, run to its end within the limits.
+fn run_session<S: Source>(
+    alloc: Global,
+    source: &mut S,
+    limits: &Limits,
+    state: RandomState,
+) -> Result<Session, RunFault>
+    ensures run { IfOk result (λ s. IsRunAs limits.now (S.left source.old) (as_read s)) }
+    ensures finished { IfOk result (λ s. IsFinished s.saturation) }
+    ensures limit { IfOk result (λ s. s.most_bytes ≡ limits.now.max_bytes) }
+    ensures fault { IfErr result (IsRunFault limits.now (S.left source.old)) }
+    // Of a source that does not tell its bytes, too: it gave more than the limit.
+    ensures beyond { IsErrOf result (run_faults.Document reading.TooLarge) → S.most source.new + limits.now.max_bytes < S.most source.old }
+    ensures read { IsRunRead result (source_state S.Source source.old) (source_state S.Source source.new) }
+{
+    let mut session = match Session::open(alloc, source, limits, state) {
+        Ok(session) => session,
+        Err(fault) => return Err(RunFault::Document(fault)),
+    };
+    let resumed = session.resume(limits.max_facts);
+    session.well_formed();
+    match resumed {
+        Ok(()) => Ok(session),
+        Err(Stop::Limit) => {
+            drop(session);
+            Err(RunFault::Limit)
+        }
+        Err(Stop::Memory) => {
+            drop(session);
+            Err(RunFault::Memory)
+        }
+    }
+}
+
+/// The answers to a query of the document, whose text is a class expression: a line `super <..>` for each named class above the
+/// expression, a line `sub <..>` for each below it, and a line `instance <..>` for each individual, each part in byte order.
+///
+/// # Errors
+///
+/// `Document` where the document is not read as an ontology; `Limit` where its closure has more facts than the limit; else
+/// `Expression` where document and text have more bytes than the limit, or the text is no class expression over names of the
+/// ontology; `Limit` where the closure with the expression has more facts than the limit; `Memory` where memory was refused.
+pub fn query_text<S: Source>(
+    alloc: Global,
+    source: &mut S,
+    text: &str,
+    limits: &Limits,
+    state: RandomState,
+) -> Result<Vec<u8>, QuestionFault<'static>>
+    // The lines answer the query, or the fault says why there are none; and what was read of the document.
+    ensures answered { IfOk result (λ v. AnswersQuery limits.now (S.left source.old) text.now v.items) }
+    ensures fault { IfErr result (IsQueryFaultOf limits.now (S.left source.old) text.now) }
+    // Of a source that does not tell its bytes, too: it gave more than the limit.
+    ensures beyond { IsErrOf result (asking.Document reading.TooLarge) → S.most source.new + limits.now.max_bytes < S.most source.old }
+    ensures read { IsRead result (source_state S.Source source.old) (source_state S.Source source.new) }
+{
+    match run_session(alloc, source, limits, state) {
+        Ok(session) => {
+            let lines = answered(alloc, &session, text, limits.max_facts);
+            drop(session);
+            lines
+        }
+        Err(fault) => Err(question_fault(fault)),
+    }
+}
