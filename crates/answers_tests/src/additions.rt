@@ -8,7 +8,7 @@ use std::hash::RandomState;
 use std::test::Fail;
 
 /// More facts than any of these sessions has.
-const MANY: u32 = 1000;
+pub(crate) const MANY: u32 = 1000;
 
 /// The document of these axioms.
 fn document_of(alloc: Global, axioms: &str) -> Result<String, AllocError> {
@@ -16,7 +16,7 @@ fn document_of(alloc: Global, axioms: &str) -> Result<String, AllocError> {
 }
 
 /// A session over the document of these axioms, where so many bytes are allowed.
-fn opened(
+pub(crate) fn opened(
     alloc: Global,
     state: RandomState,
     max_bytes: u64,
@@ -30,7 +30,7 @@ fn opened(
 }
 
 /// Whether there are so many facts, all of them served.
-fn is_ended(session: &Session, facts: usize) -> bool {
+pub(crate) fn is_ended(session: &Session, facts: usize) -> bool {
     session.facts() == facts && session.served() == facts
 }
 
@@ -65,14 +65,14 @@ struct Row {
     consistent: bool,
 }
 
-const A_BELOW_B: &str = "SubClassOf(:A :B)";
+pub(crate) const A_BELOW_B: &str = "SubClassOf(:A :B)";
 
 const A_BELOW_SOME_B: &str = "SubClassOf(:A ObjectSomeValuesFrom(:r :B))";
 
-const INDIVIDUALS_AND_DOMAIN: &str =
+pub(crate) const INDIVIDUALS_AND_DOMAIN: &str =
     "SubClassOf(:A :B) ClassAssertion(:A :a) ObjectPropertyAssertion(:r :a :b) ObjectPropertyDomain(:r :C) Declaration(NamedIndividual(:c))";
 
-const CHAIN_INTO_A_DEFINITION: &str =
+pub(crate) const CHAIN_INTO_A_DEFINITION: &str =
     "SubClassOf(:E ObjectSomeValuesFrom(:loc :W)) SubClassOf(:W ObjectSomeValuesFrom(:part :H)) SubObjectPropertyOf(ObjectPropertyChain(:loc :part) :loc) EquivalentClasses(:D ObjectSomeValuesFrom(:loc :H))";
 
 const ROWS: &[Row] = &[
@@ -434,7 +434,7 @@ fn axioms_in_each_order(rt: HostRuntime) -> Result<(), Fail> {
 // ---- what is refused
 
 /// What is seen of a session: facts, those that are served, bytes, classes and axioms.
-fn seen(session: &Session) -> [usize; 5] {
+pub(crate) fn seen(session: &Session) -> [usize; 5] {
     let ontology = session.ontology();
     [
         session.facts(),

@@ -18,6 +18,8 @@ mod listings;
 #[cfg(test)]
 mod names;
 #[cfg(test)]
+mod queries;
+#[cfg(test)]
 mod questions_asked;
 #[cfg(test)]
 mod session_explanations;

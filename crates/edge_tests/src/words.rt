@@ -126,6 +126,48 @@ fn instances_with_and_without_options(rt: HostRuntime) -> Result<(), Fail> {
     Ok(())
 }
 
+/// An expression, which is one word.
+const EXPRESSION: &str = "ObjectSomeValuesFrom(:r :A)";
+
+/// Words of `query`, and the limits that they give.
+const QUERY: &[(&[&str], u64, u64)] = &[
+    (
+        &["elc", "query", "a.ofn", EXPRESSION],
+        100_000_000,
+        268_435_456,
+    ),
+    (
+        &[
+            "elc",
+            "query",
+            "--max-bytes",
+            "1000",
+            "a.ofn",
+            "--max-facts=9",
+            EXPRESSION,
+        ],
+        9,
+        1000,
+    ),
+];
+
+#[test]
+fn query_with_and_without_options(rt: HostRuntime) -> Result<(), Fail> {
+    for row in QUERY {
+        let (words, max_facts, max_bytes) = *row;
+        let limits = Limits::new(max_bytes, max_facts).ok_or("limits")?;
+        let wanted = Task {
+            command: Command::Query {
+                document: "a.ofn",
+                expression: EXPRESSION,
+            },
+            limits,
+        };
+        assert!(rt; task(rt.alloc(), words)? == wanted);
+    }
+    Ok(())
+}
+
 /// The task of a question about two names of a document, within the limits.
 fn asked(individual: bool, dot: bool, limits: Limits) -> Task<'static> {
     Task {
@@ -243,6 +285,14 @@ const REFUSED: &[&str] = &[
     "elc explain a b c --max-facts 100000001",
     "elc explain a b c --max-bytes 0",
     "elc explain --help",
+    "elc query a",
+    "elc query a b c",
+    "elc query a b --dot",
+    "elc query a b --individual",
+    "elc query a b --max-facts 0",
+    "elc query a b --max-facts 9 --max-facts 9",
+    "elc query a b --max-bytes 268435457",
+    "elc query --help",
 ];
 
 #[test]
@@ -259,6 +309,8 @@ const TAKEN: &[&str] = &[
     "elc check a b c d --max-bytes 1",
     "elc instances a b --max-facts 100000000 --max-bytes 1",
     "elc explain a b c --max-facts 1 --max-bytes 268435456",
+    "elc query a b --max-facts 1 --max-bytes 268435456",
+    "elc query a b --max-facts 100000000 --max-bytes 1",
 ];
 
 #[test]
@@ -278,6 +330,16 @@ const EXAMPLES: &[&str] = &[
     "elc explain food.ofn http://example.org/margherita http://example.org/Pizza --individual",
 ];
 
+/// The example of a query, whose expression is one word without the quotation marks.
+const QUERY_EXAMPLE: &str = "elc query food.ofn 'ObjectSomeValuesFrom(:contains :Nut)'";
+
+const QUERY_EXAMPLE_WORDS: &[&str] = &[
+    "elc",
+    "query",
+    "food.ofn",
+    "ObjectSomeValuesFrom(:contains :Nut)",
+];
+
 const HELP: &[&str] = &["elc", "--help"];
 
 #[test]
@@ -290,6 +352,8 @@ fn help_has_examples_that_are_taken(rt: HostRuntime) -> Result<(), Fail> {
         assert!(rt; text.as_str().contains(line), "{line}");
         assert!(rt; !is_refused(rt.alloc(), line)?, "{line}");
     }
+    assert!(rt; text.as_str().contains(QUERY_EXAMPLE));
+    assert!(rt; task(rt.alloc(), QUERY_EXAMPLE_WORDS).is_ok());
     Ok(())
 }
 
@@ -308,6 +372,7 @@ const TOLD: &[(&str, &str)] = &[
     ("elc", "Usage: elc <COMMAND>"),
     ("elc clasify a b c d", "unrecognized subcommand 'clasify'"),
     ("elc check a b c", "<CERT>"),
+    ("elc query a", "<EXPRESSION>"),
     ("elc classify a b c d e", "unexpected argument 'e'"),
     ("elc classify a b c d --max-facts 0", "'0' for '--max-facts"),
 ];

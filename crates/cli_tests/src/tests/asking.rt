@@ -13,6 +13,9 @@ const REFLEXIVE: &str =
 const CONTRADICTION: &str =
     "Prefix(:=<x:>) Ontology(Declaration(Class(:A)) SubClassOf(owl:Thing owl:Nothing))";
 
+const CHAIN: &str =
+    "Prefix(:=<x:>) Ontology(SubClassOf(:E ObjectSomeValuesFrom(:loc :W)) SubClassOf(:W ObjectSomeValuesFrom(:part :H)) SubObjectPropertyOf(ObjectPropertyChain(:loc :part) :loc) EquivalentClasses(:D ObjectSomeValuesFrom(:loc :H)))";
+
 /// A run on a document: its words behind the name of the program, its status, and what it prints, or tells where it fails.
 struct Row {
     case: &'static str,
@@ -187,6 +190,136 @@ const REASONS: &[Row] = &[
     },
 ];
 
+const QUERIES: &[Row] = &[
+    Row {
+        case: "classes above and below",
+        document: CHAIN,
+        words: &["elc", "query", "doc", "ObjectSomeValuesFrom(:loc :H)"],
+        status: 0,
+        text: "super <http://www.w3.org/2002/07/owl#Thing>\nsuper <x:D>\nsub <http://www.w3.org/2002/07/owl#Nothing>\nsub <x:D>\nsub <x:E>\n",
+    },
+    Row {
+        case: "an individual",
+        document: INDIVIDUALS,
+        words: &["elc", "query", "doc", "ObjectSomeValuesFrom(:r owl:Thing)"],
+        status: 0,
+        text: "super <http://www.w3.org/2002/07/owl#Thing>\nsuper <x:C>\nsub <http://www.w3.org/2002/07/owl#Nothing>\ninstance <x:a>\n",
+    },
+    Row {
+        case: "all names where the axioms contradict each other",
+        document: CONTRADICTION,
+        words: &["elc", "query", "doc", ":A"],
+        status: 0,
+        text: "super <http://www.w3.org/2002/07/owl#Nothing>\nsuper <http://www.w3.org/2002/07/owl#Thing>\nsuper <x:A>\nsub <http://www.w3.org/2002/07/owl#Nothing>\nsub <http://www.w3.org/2002/07/owl#Thing>\nsub <x:A>\n",
+    },
+    Row {
+        case: "as many facts and bytes as the limits",
+        document: CHAIN,
+        words: &[
+            "elc",
+            "query",
+            "--max-bytes=254",
+            "doc",
+            "ObjectSomeValuesFrom(:loc :H)",
+            "--max-facts",
+            "24",
+        ],
+        status: 0,
+        text: "super <http://www.w3.org/2002/07/owl#Thing>\nsuper <x:D>\nsub <http://www.w3.org/2002/07/owl#Nothing>\nsub <x:D>\nsub <x:E>\n",
+    },
+    Row {
+        case: "more facts with the expression than the limit",
+        document: CHAIN,
+        words: &[
+            "elc",
+            "query",
+            "doc",
+            "ObjectSomeValuesFrom(:loc :H)",
+            "--max-facts",
+            "23",
+        ],
+        status: 5,
+        text: "limit: more than 23 facts\n",
+    },
+    Row {
+        case: "more facts of the document than the limit, which is told before an unknown name",
+        document: CHAIN,
+        words: &["elc", "query", "doc", ":Q", "--max-facts", "19"],
+        status: 5,
+        text: "limit: more than 19 facts\n",
+    },
+    Row {
+        case: "an unknown name, where the limit is not passed",
+        document: CHAIN,
+        words: &["elc", "query", "doc", ":Q", "--max-facts", "20"],
+        status: 3,
+        text: "F8 at byte 0\n",
+    },
+    Row {
+        case: "more bytes with the expression than the limit",
+        document: CHAIN,
+        words: &[
+            "elc",
+            "query",
+            "doc",
+            "ObjectSomeValuesFrom(:loc :H)",
+            "--max-bytes",
+            "253",
+        ],
+        status: 5,
+        text: "limit: more than 253 bytes\n",
+    },
+    Row {
+        case: "more bytes of the document than the limit",
+        document: CHAIN,
+        words: &["elc", "query", "doc", "", "--max-bytes", "224"],
+        status: 5,
+        text: "limit: more than 224 bytes\n",
+    },
+    Row {
+        case: "an unknown class",
+        document: CHAIN,
+        words: &["elc", "query", "doc", "ObjectSomeValuesFrom(:loc :Q)"],
+        status: 3,
+        text: "F8 at byte 26\n",
+    },
+    Row {
+        case: "every unknown name",
+        document: SUBCLASS,
+        words: &["elc", "query", "doc", "ObjectSomeValuesFrom(:loc :Q)"],
+        status: 3,
+        text: "F8 at byte 21\nF8 at byte 26\n",
+    },
+    Row {
+        case: "a refused expression",
+        document: SUBCLASS,
+        words: &["elc", "query", "doc", "ObjectUnionOf(:A :B)"],
+        status: 3,
+        text: "F1 at byte 0: ObjectUnionOf\n",
+    },
+    Row {
+        case: "no expression",
+        document: SUBCLASS,
+        words: &["elc", "query", "doc", ""],
+        status: 3,
+        text: "P2 at byte 0\n",
+    },
+    Row {
+        case: "no document",
+        document: SUBCLASS,
+        words: &["elc", "query", "other", "^"],
+        status: 6,
+        text: "cannot read other\n",
+    },
+    Row {
+        case: "a refused document, whose fault is told before those of the expression",
+        document: "Ontology(",
+        words: &["elc", "query", "doc", "^"],
+        status: 3,
+        text: "P2 at byte 9\n",
+    },
+];
+
 /// Whether the run ends so.
 fn is_so<R: AllocGlobal + RandomSource>(rt: &R, row: &Row) -> Result<bool, Fail> {
     let run = alone(rt, row.words, row.document.as_bytes())?;
@@ -214,6 +347,16 @@ fn reasons(rt: HostRuntime) -> Result<(), Fail> {
     Ok(())
 }
 
+#[test]
+fn queries(rt: HostRuntime) -> Result<(), Fail> {
+    for row in QUERIES {
+        assert!(rt; is_so(&rt, row)?, "{}", row.case);
+    }
+    Ok(())
+}
+
+const WITHOUT_EXPRESSION: &[&str] = &["elc", "query", "doc"];
+
 const WITHOUT_CLASS: &[&str] = &["elc", "explain", "doc", "x:A"];
 
 const UNKNOWN_FLAG: &[&str] = &["elc", "instances", "doc", "x:A", "--individual"];
@@ -221,6 +364,7 @@ const UNKNOWN_FLAG: &[&str] = &["elc", "instances", "doc", "x:A", "--individual"
 #[test]
 fn words_without_a_question(rt: HostRuntime) -> Result<(), Fail> {
     assert!(rt; status(&rt, WITHOUT_CLASS, SUBCLASS.as_bytes())? == 2);
+    assert!(rt; status(&rt, WITHOUT_EXPRESSION, SUBCLASS.as_bytes())? == 2);
     assert!(rt; status(&rt, UNKNOWN_FLAG, SUBCLASS.as_bytes())? == 2);
     Ok(())
 }
