@@ -2,7 +2,7 @@
 use Rattle.std.proofs.Common.{◌≡◌, ◌∙◌, ℕ, List, refl, sym, subst}
 use Rattle.axioms.specs.Ontology.{Ontology}
 use Rattle.cert_check.proofs.Determined.{accepted_once}
-use Rattle.cert_check.specs.Acceptance.{AreRight, IsAcceptable}
+use Rattle.cert_check.specs.Acceptance.{AreRight}
 use Rattle.cli.specs.Theorems.{AcceptedTextsAreRight}
 use Rattle.profile.proofs.OneReading.{one_reading}
 

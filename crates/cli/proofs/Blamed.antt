@@ -1,8 +1,8 @@
 -- Which files the answers of calls blame.
-use Rattle.std.proofs.Common.{◌≡◌, ◌∙◌, ◌<◌, ◌≤◌, ◌-◌, ◌^◌, ℕ, zero, suc, List, Bool, false, Option, Some, None, Result, Ok, Err, refl, sym, ap, subst, inl, inr, arith}
-use Rattle.session.specs.Devices.{Device, FailsIn, IsReadUntil, Takes}
+use Rattle.std.proofs.Common.{◌≡◌, ◌∙◌, ◌<◌, ◌-◌, ◌^◌, ℕ, zero, suc, List, Bool, false, Option, Some, None, Result, Ok, Err, refl, sym, ap, subst, inl, inr, arith}
+use Rattle.session.specs.Devices.{Device, FailsIn, IsReadUntil}
 use Rattle.source_lines.specs.Sources.{SourceState}
-use Rattle.cli.specs.Files.{AsksFile, BlamesFile, ClassifiesFile, IsUnopened, IsUnreadable, NoWriteFails, SomeWriteFails, Store}
+use Rattle.cli.specs.Files.{AsksFile, BlamesFile, ClassifiesFile, IsUnopened, IsUnreadable, Store}
 use Rattle.cli.specs.Classifications.{IsClassification, IsDocumentRead}
 use Rattle.session.specs.WrittenTexts.{AreWritten, AreWrittenUntil, Sinks, Texts}
 use Rattle.cli.specs.declared.fault.ClassifyFault.{ClassifyFault}
@@ -15,7 +15,7 @@ use Rattle.profile.specs.declared.fault.DocumentFault.TheVariants as reading
 use Rattle.session.specs.TextAnswers.{IsRead}
 use Rattle.session.specs.declared.question_fault.QuestionFault.{QuestionFault}
 use Rattle.session.specs.declared.question_fault.QuestionFault.TheVariants as asking
-use Rattle.system_files.specs.Contents.{IsMissing, IsThere}
+use Rattle.system_files.specs.Contents.{IsThere}
 
 -- ---- reading
 
@@ -69,6 +69,7 @@ asks_file fails known held (Ok x) old new there none none' is = there
 asks_file fails known held (Err (asking.Document fault)) old new there none none' is = read_blamed fails known held fault old new there none none' is
 asks_file fails known held (Err asking.Limit) old new there none none' is = there
 asks_file fails known held (Err (asking.UnknownName name)) old new there none none' is = there
+asks_file fails known held (Err (asking.Expression fault)) old new there none none' is = there
 asks_file fails known held (Err asking.Memory) old new there none none' is = there
 
 -- ---- writes that failed

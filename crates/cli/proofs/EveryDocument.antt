@@ -1,5 +1,5 @@
 -- Every document of the profile is classified.
-use Rattle.std.proofs.Common.{◌<◌, ◌≤◌, ℕ, List, length, Some, Ok, Err, subst, arith}
+use Rattle.std.proofs.Common.{◌<◌, ◌≤◌, ℕ, List, [], length, Some, Ok, Err, subst, arith}
 use Rattle.axioms.specs.Ontology.{Ontology}
 use Rattle.cert_check.specs.Acceptance.{IsAcceptable}
 use Rattle.classification.specs.Classifications.{AreCountsOf}
@@ -34,6 +34,6 @@ every_document most facts bytes o old new (Ok summary) reads within is =
 every_document most facts bytes o old new (Err (Document fault)) reads within is = unrefused most facts bytes o fault reads within is.0
 every_document most facts bytes o old new (Err Memory) reads within is = tt
 every_document most facts bytes o old new (Err Limit) reads within is =
-    let P : Ontology → Type 0 = λ p. HasMoreFactsThan p facts in
+    let P : Ontology → Type 0 = λ p. HasMoreFactsThan p [] facts in
     subst P (one_reading bytes is.0.0 o is.0.1.0 reads) is.0.2
 every_document most facts bytes o old new (Err (Io n)) reads within is = tt

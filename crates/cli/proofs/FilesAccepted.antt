@@ -1,14 +1,15 @@
 -- What a run of `classify` leaves in files is accepted by a run of `check`.
-use Rattle.std.proofs.Common.{◌≡◌, ◌∙◌, ℕ, List, Bool, Option, Result, Ok, Err, Some, true, sym, ap, subst, inl, inr}
+use Rattle.std.proofs.Common.{◌≡◌, ◌∙◌, ℕ, List, Bool, Option, Result, Ok, Err, Some, true, refl, sym, ap, subst, inl, inr}
 use Rattle.lemmas.proofs.Choices.{one_value}
 use Rattle.cert_check.specs.declared.verdict.Verdict.{Verdict}
 use Rattle.cert_check.specs.declared.verdict.Verdict.TheVariants.{Accepted}
 use Rattle.axioms.specs.Ontology.{Ontology}
 use Rattle.clap.specs.Words.{Row, Text, takes}
+use Rattle.command_line.proofs.NoTask.{not_query}
 use Rattle.command_line.proofs.Numbers.{one_number}
 use Rattle.command_line.specs.CommandLine.{AreLimits, ArePaths, IsCommand, IsTaskOf, Refuses, elc_app}
 use Rattle.command_line.specs.declared.tasks.Command.{Command}
-use Rattle.command_line.specs.declared.tasks.Command.TheVariants.{Check, Classify, Explain, Instances}
+use Rattle.command_line.specs.declared.tasks.Command.TheVariants.{Check, Classify, Explain, Instances, Query}
 use Rattle.command_line.specs.declared.tasks.LineFault.{LineFault}
 use Rattle.command_line.specs.declared.tasks.LineFault.TheVariants as line
 use Rattle.command_line.specs.declared.tasks.Paths.{Paths}
@@ -122,6 +123,7 @@ classify_run name rows paths (Classify paths') limits s content content' old new
 classify_run name rows paths (Check paths') limits s content content' old new status is is' run = let bad : codes "classify" ≡ codes "check" = sym is.0 ∙ is'.0 in absurd (cc)
 classify_run name rows paths (Instances document class) limits s content content' old new status is is' run = let bad : codes "classify" ≡ codes "instances" = sym is.0 ∙ is'.0 in absurd (cc)
 classify_run name rows paths (Explain question) limits s content content' old new status is is' run = let bad : codes "classify" ≡ codes "explain" = sym is.0 ∙ is'.0 in absurd (cc)
+classify_run name rows paths (Query document expression) limits s content content' old new status is is' run = absurd (not_query name (codes "classify") refl is.0 is'.0)
 
 -- what a run of a command says that the words of `check` ask for
 check_run : (name : Text) (rows : List Row) (paths : Paths) (command : Command) (limits : Limits) (s : Store) (content content' : Content) (old new : Output) (status : ℕ) → IsCommand name rows (Check paths) → IsCommand name rows command → IsCommandRun command limits s content content' old new status → (paths' : Paths) × AreSamePaths paths paths' × IsCheckRun paths' limits.max_bytes s content old new status
@@ -129,6 +131,7 @@ check_run name rows paths (Check paths') limits s content content' old new statu
 check_run name rows paths (Classify paths') limits s content content' old new status is is' run = let bad : codes "check" ≡ codes "classify" = sym is.0 ∙ is'.0 in absurd (cc)
 check_run name rows paths (Instances document class) limits s content content' old new status is is' run = let bad : codes "check" ≡ codes "instances" = sym is.0 ∙ is'.0 in absurd (cc)
 check_run name rows paths (Explain question) limits s content content' old new status is is' run = let bad : codes "check" ≡ codes "explain" = sym is.0 ∙ is'.0 in absurd (cc)
+check_run name rows paths (Query document expression) limits s content content' old new status is is' run = absurd (not_query name (codes "check") refl is.0 is'.0)
 
 -- the words name one command and its matches, of whatever task is asked about them
 record IsNamed (name : Text) (rows : List Row) (command : Command) (task : Task) : Type 0 where

@@ -13,10 +13,11 @@ use Rattle.cli.specs.declared.fault.CheckFault.{CheckFault}
 use Rattle.cli.specs.declared.fault.CheckFault.TheVariants as checking
 use Rattle.cli.specs.declared.fault.ClassifyFault.{ClassifyFault}
 use Rattle.cli.specs.declared.fault.ClassifyFault.TheVariants as classifying
-use Rattle.profile.specs.Documents.{ReadsAs}
-use Rattle.profile.specs.Faults.{ReadsKnown, RefusesKnown}
+use Rattle.profile.specs.Documents.{OpensAs, ReadsAs}
+use Rattle.profile.specs.Faults.{OpensKnown, ReadsKnown, RefusesKnown}
 use Rattle.profile.specs.declared.fault.DocumentFault.{DocumentFault}
 use Rattle.profile.specs.declared.fault.DocumentFault.TheVariants as reading
+use Rattle.profile.specs.declared.opened.Opened.{Opened}
 
 pub all_known : (left rest : Option (List ℕ)) (bytes : List ℕ) → Consumes left rest bytes → IsAtEnd rest → AreKnown left bytes
 all_known None rest bytes all end = tt
@@ -31,6 +32,13 @@ reads_file (Some xs) None most o kept reads = absurd kept
 reads_file (Some xs) (Some ys) most o kept reads =
     let P : List ℕ → Type 0 = λ bytes. ReadsAs bytes o × (length bytes ≤ most) in
     subst P kept reads
+
+pub opens_file : (file left : Option (List ℕ)) (most : ℕ) (d : Opened) → Keeps file left → OpensKnown left most d → OpensKnown file most d
+opens_file None left most d kept opens = tt
+opens_file (Some xs) None most d kept opens = absurd kept
+opens_file (Some xs) (Some ys) most d kept opens =
+    let P : List ℕ → Type 0 = λ bytes. OpensAs bytes d × (length bytes ≤ most) in
+    subst P kept opens
 
 pub refuses_file : (file left : Option (List ℕ)) (most : ℕ) (fault : DocumentFault) → Keeps file left → RefusesKnown left most fault → RefusesKnown file most fault
 refuses_file None left most fault kept refuses = tt

@@ -1,15 +1,18 @@
 -- What is answered of a source's bytes is answered of those of its file.
-use Rattle.std.proofs.Common.{ℕ, List, Option, Result, Ok, Err, IfOk, IfErr}
+use Rattle.std.proofs.Common.{ℕ, List, Option, Result, Ok, Err, IfOk, IfErr, inl, inr}
 use Rattle.std.specs.Global.{Vec}
 use Rattle.std.specs.Io.KnownBytes.{Keeps}
 use Rattle.axioms.specs.Expression.{Iri}
 use Rattle.axioms.specs.Ontology.{Ontology}
 use Rattle.axioms.specs.declared.terms.Kind.{Kind}
-use Rattle.cli.proofs.Kept.{reads_file, refuses_file}
+use Rattle.cli.proofs.Kept.{opens_file, reads_file, refuses_file}
+use Rattle.profile.specs.declared.opened.Opened.{Opened}
 use Rattle.program.specs.declared.limits.Limits.{Limits}
-use Rattle.session.specs.TextAnswers.{AnswersInstances, AnswersExplanation, IsFaultOf, IsReadAs}
+use Rattle.session.specs.TextAnswers.{AnswersInstances, AnswersExplanation, AnswersQuery, IsFaultOf, IsQueryFaultOf, IsReadAs, IsRunAs, LeavesUnanswered}
 use Rattle.session.specs.declared.question_fault.QuestionFault.{QuestionFault}
-use Rattle.session.specs.declared.question_fault.QuestionFault.TheVariants.{Document, Limit, UnknownName, Memory}
+use Rattle.session.specs.declared.question_fault.QuestionFault.TheVariants.{Document, Limit, UnknownName, Expression, Memory}
+use Rattle.session.specs.declared.query_fault.QueryFault.{QueryFault}
+use Rattle.session.specs.declared.query_fault.QueryFault.TheVariants as querying
 use Rattle.session.specs.declared.form.Form.{Form}
 use Rattle.answers.specs.declared.asked.Asked.{Asked}
 
@@ -26,7 +29,27 @@ pub question_fault_of_file : (file left : Option (List ℕ)) (limits : Limits) (
 question_fault_of_file file left limits names (Document fault) kept is = refuses_file file left limits.max_bytes fault kept is
 question_fault_of_file file left limits names Limit kept is = (is.0, read_as_file file left limits.max_bytes is.0 kept is.1, is.2)
 question_fault_of_file file left limits names (UnknownName name) kept is = (is.0, read_as_file file left limits.max_bytes is.0 kept is.1, is.2, is.3)
+question_fault_of_file file left limits names (Expression fault) kept is = absurd is
 question_fault_of_file file left limits names Memory kept is = (is.0, read_as_file file left limits.max_bytes is.0 kept is.1)
+
+-- ---- queries
+
+run_as_file : (file left : Option (List ℕ)) (limits : Limits) (d : Opened) → Keeps file left → IsRunAs limits left d → IsRunAs limits file d
+run_as_file file left limits d kept is = record { opens = opens_file file left limits.max_bytes d kept is.opens; taken = is.taken; few = is.few }
+
+query_of_file : (file left : Option (List ℕ)) (limits : Limits) (text out : List ℕ) → Keeps file left → AnswersQuery limits left text out → AnswersQuery limits file text out
+query_of_file file left limits text out kept is = (is.0, run_as_file file left limits is.0 kept is.1, is.2)
+
+unanswered_of_file : (file left : Option (List ℕ)) (limits : Limits) (text : List ℕ) (fault : QueryFault) → Keeps file left → LeavesUnanswered limits left text fault → LeavesUnanswered limits file text fault
+unanswered_of_file file left limits text fault kept is = (is.0, run_as_file file left limits is.0 kept is.1, is.2)
+
+query_fault_of_file : (file left : Option (List ℕ)) (limits : Limits) (text : List ℕ) (fault : QuestionFault) → Keeps file left → IsQueryFaultOf limits left text fault → IsQueryFaultOf limits file text fault
+query_fault_of_file file left limits text (Document fault) kept is = refuses_file file left limits.max_bytes fault kept is
+query_fault_of_file file left limits text Limit kept (inl is) = inl (is.0, read_as_file file left limits.max_bytes is.0 kept is.1, is.2)
+query_fault_of_file file left limits text Limit kept (inr is) = inr (unanswered_of_file file left limits text querying.Limit kept is)
+query_fault_of_file file left limits text (UnknownName name) kept is = absurd is
+query_fault_of_file file left limits text (Expression fault) kept is = unanswered_of_file file left limits text (querying.Expression fault) kept is
+query_fault_of_file file left limits text Memory kept is = (is.0, read_as_file file left limits.max_bytes is.0 kept is.1)
 
 -- ---- whole answers about a source's bytes are about those of its file
 
@@ -41,3 +64,11 @@ why_in_file (Err fault) file left limits asked class form kept is = tt
 pub fault_in_file : (answer : Result (Vec ℕ) QuestionFault) (file left : Option (List ℕ)) (limits : Limits) (names : List (Kind × Iri)) → Keeps file left → IfErr answer (IsFaultOf limits left names) → IfErr answer (IsFaultOf limits file names)
 fault_in_file (Ok v) file left limits names kept is = tt
 fault_in_file (Err fault) file left limits names kept is = question_fault_of_file file left limits names fault kept is
+
+pub query_in_file : (answer : Result (Vec ℕ) QuestionFault) (file left : Option (List ℕ)) (limits : Limits) (text : List ℕ) → Keeps file left → IfOk answer (λ v. AnswersQuery limits left text v.items) → IfOk answer (λ v. AnswersQuery limits file text v.items)
+query_in_file (Ok v) file left limits text kept is = query_of_file file left limits text v.items kept is
+query_in_file (Err fault) file left limits text kept is = tt
+
+pub query_fault_in_file : (answer : Result (Vec ℕ) QuestionFault) (file left : Option (List ℕ)) (limits : Limits) (text : List ℕ) → Keeps file left → IfErr answer (IsQueryFaultOf limits left text) → IfErr answer (IsQueryFaultOf limits file text)
+query_fault_in_file (Ok v) file left limits text kept is = tt
+query_fault_in_file (Err fault) file left limits text kept is = query_fault_of_file file left limits text fault kept is

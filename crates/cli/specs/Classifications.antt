@@ -1,5 +1,5 @@
 -- What a classification of a document writes.
-use Rattle.std.specs.Prelude.{◌≡◌, ◌≤◌, ℕ, List, Option, Result, Ok, Err}
+use Rattle.std.specs.Prelude.{◌≡◌, ◌≤◌, ℕ, List, [], Option, Result, Ok, Err}
 use Rattle.axioms.specs.Ontology.{Ontology}
 use Rattle.classification.specs.declared.classification.Summary.{Summary}
 use Rattle.session.specs.Classifications.{IsClassified}
@@ -19,7 +19,7 @@ IsRead bytes document = (o : Ontology) × ReadsKnown document bytes o
 
 -- the document reads as some ontology whose closure has more facts
 abbrev pub IsBeyondLimit : (most_bytes most_facts : ℕ) → (document : Option (List ℕ)) → Type 0
-IsBeyondLimit bytes facts document = (o : Ontology) × ReadsKnown document bytes o × HasMoreFactsThan o facts
+IsBeyondLimit bytes facts document = (o : Ontology) × ReadsKnown document bytes o × HasMoreFactsThan o [] facts
 
 -- what a fault says of the document: it is refused, or it is read and this came behind that. The sinks are numbered from 1
 abbrev pub IsFaultOf : (most_bytes most_facts : ℕ) → (document : Option (List ℕ)) → ClassifyFault → Type 0

@@ -156,13 +156,16 @@ abbrev pub question_status : QuestionFault → Status
 question_status (asking.Document fault) = status_of fault
 question_status asking.Limit = statuses.Limit
 question_status (asking.UnknownName name) = statuses.Usage
+question_status (asking.Expression fault) = status_of fault
 question_status asking.Memory = statuses.Memory
 
--- the text is told of a question about the document at the path that is not answered
+-- the text is told of a question about the document at the path that is not answered; faults of an expression are told as those of a
+-- document
 abbrev pub IsQuestionText : (path : List ℕ) → (max_bytes max_facts : ℕ) → QuestionFault → List ℕ → Type 0
 IsQuestionText path bytes facts (asking.Document fault) text = IsDocumentText path bytes fault text
 IsQuestionText path bytes facts asking.Limit text = text ≡ codes "limit: more than " ++ (decimal facts ++ codes " facts\n")
 IsQuestionText path bytes facts (asking.UnknownName name) text = text ≡ codes "unknown name <" ++ (name.now ++ codes ">\n")
+IsQuestionText path bytes facts (asking.Expression fault) text = IsDocumentText path bytes fault text
 IsQuestionText path bytes facts asking.Memory text = text ≡ out_of_memory
 
 -- the message tells of the fault of a question about the document at the path, with its status

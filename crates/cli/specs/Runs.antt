@@ -6,7 +6,7 @@ use Rattle.classification.specs.declared.classification.Summary.{Summary}
 use Rattle.clap.specs.Words.{Text}
 use Rattle.command_line.specs.CommandLine.{IsTaskOf, Refuses}
 use Rattle.command_line.specs.declared.tasks.Command.{Command}
-use Rattle.command_line.specs.declared.tasks.Command.TheVariants.{Check, Classify, Explain, Instances}
+use Rattle.command_line.specs.declared.tasks.Command.TheVariants.{Check, Classify, Explain, Instances, Query}
 use Rattle.command_line.specs.declared.tasks.LineFault.{LineFault}
 use Rattle.command_line.specs.declared.tasks.Paths.{Paths}
 use Rattle.command_line.specs.declared.tasks.Question.{Question}
@@ -25,7 +25,7 @@ use Rattle.device.specs.declared.device.Sink as sinks
 use Rattle.program.specs.declared.limits.Limits.{Limits}
 use Rattle.program.specs.declared.status.Status.TheVariants as statuses
 use Rattle.session.specs.TextAnswers as asking
-use Rattle.session.specs.TextAnswers.{AnswersInstances, AnswersExplanation}
+use Rattle.session.specs.TextAnswers.{AnswersInstances, AnswersExplanation, AnswersQuery}
 use Rattle.session.specs.declared.question_fault.QuestionFault.{QuestionFault}
 use Rattle.session.specs.declared.form.Form.{Form}
 use Rattle.session.specs.declared.form.Form.TheVariants.{Graph, Lines}
@@ -176,12 +176,20 @@ pub record IsExplainRun (q : Question) (limits : Limits) (s : Store) (content : 
   pub blames : AsksFile s.reads_fail s.is_known (content q.document.now) answer
   pub told : IsQuestionTold q.document.now limits answer old new status
 
+-- a run of `query`: the classes above and below the expression that the text is, and its individuals, are printed; or a fault is told
+pub record IsQueryRun (path text : List ℕ) (limits : Limits) (s : Store) (content : Content) (old new : Output) (status : ℕ) : Type 0 where
+  pub answer : Result (Vec ℕ) QuestionFault
+  pub answered : IsQuestionAnswer (AnswersQuery limits (content path) text) (asking.IsQueryFaultOf limits (content path) text) answer
+  pub blames : AsksFile s.reads_fail s.is_known (content path) answer
+  pub told : IsQuestionTold path limits answer old new status
+
 -- a run of a command within the limits
 abbrev pub IsCommandRun : Command → Limits → Store → (content content' : Content) → (old new : Output) → (status : ℕ) → Type 0
 IsCommandRun (Classify paths) limits s content content' old new status = IsClassifyRun paths limits s content content' old new status
 IsCommandRun (Check paths) limits s content content' old new status = IsCheckRun paths limits.max_bytes s content old new status
 IsCommandRun (Instances document class) limits s content content' old new status = IsInstancesRun document.now class.now limits s content old new status
 IsCommandRun (Explain question) limits s content content' old new status = IsExplainRun question limits s content old new status
+IsCommandRun (Query document expression) limits s content content' old new status = IsQueryRun document.now expression.now limits s content old new status
 
 -- a run of the program: of the task that the words ask for; or the words are no task, which is told
 abbrev pub IsPerformed : List Text → Store → (content content' : Content) → (old new : Output) → (status : ℕ) → Type 0

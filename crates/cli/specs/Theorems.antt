@@ -1,5 +1,5 @@
 -- What is proved of classifications and checks together.
-use Rattle.std.specs.Prelude.{◌≡◌, ◌<◌, ◌≤◌, ℕ, ◌⊎◌, List, Result, Ok, Err, Some, true, codes, length}
+use Rattle.std.specs.Prelude.{◌≡◌, ◌<◌, ◌≤◌, ℕ, ◌⊎◌, List, [], Result, Ok, Err, Some, true, codes, length}
 use Rattle.axioms.specs.Ontology.{Ontology}
 use Rattle.cert_check.specs.Acceptance.{AreRight, IsAcceptable}
 use Rattle.cert_check.specs.declared.verdict.Verdict.{Verdict}
@@ -36,7 +36,7 @@ StopsClassification o facts (classifying.Document reading.Io) = Unit {0}
 StopsClassification o facts (classifying.Document reading.Memory) = Unit {0}
 StopsClassification o facts (classifying.Document fault) = ⊥
 StopsClassification o facts classifying.Memory = Unit {0}
-StopsClassification o facts classifying.Limit = HasMoreFactsThan o facts
+StopsClassification o facts classifying.Limit = HasMoreFactsThan o [] facts
 StopsClassification o facts (classifying.Io n) = Unit {0}
 
 -- the answer is the counts of the ontology, and acceptable texts of it are written, unless the classification is stopped

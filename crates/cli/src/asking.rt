@@ -2,7 +2,7 @@
 ghost use Rattle.cli.specs.Files.{AsksFile};
 ghost use Rattle.cli.specs.Runs.{ExplainsFor, IsFaultFor, IsQuestionTold, Runs, asked_by, form_of as form_in};
 ghost use Rattle.cli.specs.Messages.{outputs};
-ghost use Rattle.session.specs.TextAnswers.{AnswersInstances, IsFaultOf};
+ghost use Rattle.session.specs.TextAnswers.{AnswersInstances, AnswersQuery, IsFaultOf, IsQueryFaultOf};
 ghost use Rattle.session.specs.Answers.{class_name};
 ghost use Rattle.std.specs.Prelude.{◌≡◌, [], ◌∷◌, IfErr, IfOk};
 
@@ -13,7 +13,7 @@ use command_line::{Command, Question};
 use device::Sink;
 use profile::Limits;
 use program::Status;
-use session::{Form, QuestionFault, explanation_text, instances_text};
+use session::{Form, QuestionFault, explanation_text, instances_text, query_text};
 use std::alloc::Global;
 use std::hash::RandomState;
 use system_files::Files;
@@ -135,4 +135,41 @@ pub(crate) fn perform_explain<F: Files, O: Sink, E: Sink>(
 {
     let answer = explanation_in(alloc, question, limits, files, state);
     tell_answer(alloc, answer, question.document, limits, out, err)
+}
+
+/// The lines that answer a query of the class expression, by the document at the path.
+fn query_in<F: Files>(
+    alloc: Global,
+    path: &str,
+    expression: &str,
+    limits: &Limits,
+    files: &F,
+    state: RandomState,
+) -> Result<Vec<u8>, QuestionFault<'static>>
+    ensures answered { IfOk result (λ v. AnswersQuery limits.now (F.content files.now path.now) expression.now v.items) }
+    ensures fault { IfErr result (IsQueryFaultOf limits.now (F.content files.now path.now) expression.now) }
+    ensures blames { AsksFile F.reads_fail (F.is_known files.now) (F.content files.now path.now) result }
+{
+    match document_of(files, path) {
+        Ok(mut document) => query_text(alloc, &mut document, expression, limits, state),
+        Err(fault) => Err(QuestionFault::Document(fault)),
+    }
+}
+
+/// Prints the classes above and below the class expression, and its individuals.
+pub(crate) fn perform_query<F: Files, O: Sink, E: Sink>(
+    alloc: Global,
+    path: &str,
+    expression: &str,
+    limits: &Limits,
+    files: &F,
+    out: &mut O,
+    err: &mut E,
+    state: RandomState,
+) -> u8
+    ensures { Runs F.Files O.Sink E.Sink (Command.Query path.entry expression.entry) limits.now
+        (files.now, out.old, err.old) (files.now, out.new, err.new) result }
+{
+    let answer = query_in(alloc, path, expression, limits, files, state);
+    tell_answer(alloc, answer, path, limits, out, err)
 }

@@ -22,8 +22,8 @@ pub use fault::{CheckFault, ClassifyFault};
 pub use profile::{DocumentFault, Limits, read_document};
 pub use run::perform;
 pub use session::{
-    AskFault, Asked, Explanation, Form, Interpretation, Line, QuestionFault, Session, Stop,
-    TextFault, explanation_text, instances_text,
+    Answers, AskFault, Asked, Explanation, Form, Interpretation, Line, QueryFault, QuestionFault,
+    Session, Stop, TextFault, explanation_text, instances_text, query_text,
 };
 pub use starting::start;
 pub use system_files::Files;

@@ -194,7 +194,8 @@ pub(crate) fn check_message(
     }
 }
 
-/// What to tell where a question about the document at the path is not answered.
+/// What to tell where a question about the document at the path is not answered. Faults of an expression are told as those of
+/// a document.
 pub(crate) fn question_message(
     alloc: Global,
     fault: &QuestionFault<'_>,
@@ -204,7 +205,9 @@ pub(crate) fn question_message(
     ensures { IfOk result (IsQuestionMessage path.now limits.now fault.now) }
 {
     match fault {
-        QuestionFault::Document(fault) => document_message(alloc, fault, path, limits),
+        QuestionFault::Document(fault) | QuestionFault::Expression(fault) => {
+            document_message(alloc, fault, path, limits)
+        }
         QuestionFault::Limit => {
             let most = limits.max_facts;
             message_of(

@@ -6,7 +6,7 @@ ghost use Rattle.cli.specs.Messages.{IsLineTold, outputs};
 ghost use Rattle.cli.specs.FileSinks.{HasFresh, HaveNotFailed};
 ghost use Rattle.std.specs.Prelude.{◌≡◌, ℕ, List, IfOk, map};
 
-use crate::asking::{perform_explain, perform_instances};
+use crate::asking::{perform_explain, perform_instances, perform_query};
 use crate::checking::checked_files;
 use crate::classifying::classify_document;
 use crate::fault::{CheckFault, ClassifyFault};
@@ -193,5 +193,9 @@ pub fn perform<F: Files, O: Sink, E: Sink>(
         Command::Explain(question) => {
             perform_explain(alloc, &question, &limits, files, out, err, state)
         }
+        Command::Query {
+            document,
+            expression,
+        } => perform_query(alloc, document, expression, &limits, files, out, err, state),
     }
 }

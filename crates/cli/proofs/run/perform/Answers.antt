@@ -33,3 +33,10 @@ returns-in-Explain-clause-performed g c =
     let call = c.perform_explain in
     let P : Command → Type 0 = λ command. Runs g.F.Files g.O.Sink g.E.Sink command task.limits (c.args.files.now, c.args.out.now, c.args.err.now) (c.args.files.now, call.new.out, call.new.err) call.result in
     inl (task, c.in-Ok.ensures.asked, subst P (sym c.in-Explain.is) call.ensures)
+
+pub returns-in-Query-clause-performed : goal.returns-in-Query-clause-performed
+returns-in-Query-clause-performed g c =
+    let task = c.in-Ok.task in
+    let call = c.perform_query in
+    let P : Command → Type 0 = λ command. Runs g.F.Files g.O.Sink g.E.Sink command task.limits (c.args.files.now, c.args.out.now, c.args.err.now) (c.args.files.now, call.new.out, call.new.err) call.result in
+    inl (task, c.in-Ok.ensures.asked, subst P (sym c.in-Query.is) call.ensures)
