@@ -1,7 +1,7 @@
 //! The lines of worked closures, as values and as text.
 ghost use Rattle.closure.specs.Closure.{Expression, IsRoot};
 ghost use Rattle.engine.specs.Saturations.{IsSaturated};
-ghost use Rattle.std.specs.Prelude.{[], IfSome};
+ghost use Rattle.std.specs.Prelude.{IfSome, List, ℕ};
 
 use crate::asked;
 use axioms::{ClassId, ExprId, IndId, Kind, Ontology};
@@ -187,9 +187,9 @@ const A_BELOW_C: &[Step] = &[
     },
 ];
 
-/// The class of that name, as an expression.
+/// The class of that name, as an expression, which is a context whatever is asked about.
 fn class_named(ontology: &Ontology, name: &str) -> Option<ExprId>
-    ensures { IfSome result (λ e. IsRoot ontology.now [] (Expression e.0)) }
+    ensures { (asked : List ℕ) → IfSome result (λ e. IsRoot ontology.now asked (Expression e.0)) }
 {
     let number = ontology.number_of(Kind::Class, name)?;
     ontology.class_expr(ClassId(number))

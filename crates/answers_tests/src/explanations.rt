@@ -2,7 +2,7 @@
 
 mod judged;
 
-ghost use Rattle.engine.specs.Saturations.{IsSaturated};
+ghost use Rattle.engine.specs.Saturations.{IsSaturated, IsUnasked};
 ghost use Rattle.answers.specs.Explanations.{Explains};
 ghost use Rattle.answers.specs.declared.asked.Asked.{Asked as Asked2};
 ghost use Rattle.certificate.specs.Writability.{IsLineOf};
@@ -253,7 +253,8 @@ fn is_explained(
     saturation: &Saturation,
     question: &Question,
 ) -> bool
-    requires { IsSaturated ontology.now saturation.now }
+    requires saturated { IsSaturated ontology.now saturation.now }
+    requires unasked { IsUnasked saturation.now }
 {
     match explained(alloc, ontology, saturation, question.asked, question.class) {
         Ok(Some(found)) => is_wanted(alloc, ontology, &found, question.wanted),
@@ -269,7 +270,8 @@ fn is_found_right(
     saturation: &Saturation,
     question: &Question,
 ) -> bool
-    requires { IsSaturated ontology.now saturation.now }
+    requires saturated { IsSaturated ontology.now saturation.now }
+    requires unasked { IsUnasked saturation.now }
 {
     match explained(alloc, ontology, saturation, question.asked, question.class) {
         Ok(Some(found)) => is_right_of(alloc, ontology, found, question.asked, question.class),

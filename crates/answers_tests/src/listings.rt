@@ -2,7 +2,6 @@
 ghost use Rattle.exactness.specs.ListedInterpretation.{AreSatisfiableContexts};
 ghost use Rattle.engine.specs.Saturations.{IsSaturated};
 ghost use Rattle.interpretation_spec.specs.NumberedInterpretation.{IsMadeFor};
-ghost use Rattle.std.specs.Prelude.{[]};
 
 use crate::asked;
 use axioms::{ClassId, ExprId, Ontology, PropId};
@@ -74,7 +73,7 @@ fn has_pairs(
     elements: &Elements,
 ) -> bool
     requires saturated { IsSaturated ontology.now saturation.now }
-    requires elements { AreSatisfiableContexts ontology.now [] elements.now }
+    requires elements { AreSatisfiableContexts ontology.now saturation.now.normal.asked elements.now }
 {
     match pair_rows(alloc, ontology, saturation, elements) {
         Ok(rows) => are_three_rows(&rows),

@@ -4,6 +4,8 @@
 #[cfg(test)]
 mod adding;
 #[cfg(test)]
+mod asked;
+#[cfg(test)]
 mod classifications;
 #[cfg(test)]
 mod extended;
