@@ -2,16 +2,21 @@
 use Rattle.std.specs.Prelude.{◌≡◌, ◌+◌, ℕ, List, [], ◌∷◌, ◌++◌, Result, Ok, Err, Some, length}
 use Rattle.axioms.specs.Expression.{Iri}
 use Rattle.axioms.specs.Numbering.{Statement, IsOntologyOf}
+use Rattle.axioms.specs.Ontology.{Ontology}
 use Rattle.axioms.specs.WellFormedness.{IsOntology}
 use Rattle.answers.specs.Explanations.{Explains}
 use Rattle.answers.specs.declared.asked.Asked.{Asked}
 use Rattle.answers.specs.declared.explanation.Explanation.{Explanation}
 use Rattle.classification.specs.declared.classification.Summary.{Summary}
+use Rattle.closure.specs.Closure.{Context}
 use Rattle.engine.specs.Saturations.{HasResumed, IsFinished, IsSaturated, Saturates}
+use Rattle.exactness.specs.ListedInterpretation.{IsConsistent, IsListedInterpretation}
 use Rattle.fs_parser.specs.Document.{Document, prefixes_of}
 use Rattle.fs_parser.specs.Name.{Prefixes}
 use Rattle.fs_parser.specs.Tree.{Trees}
 use Rattle.inference.specs.declared.known_facts.Stop.{Stop}
+use Rattle.interpretation_spec.specs.Agreement.{AgreeOn}
+use Rattle.interpretation_spec.specs.Interpretation.{Interpretation}
 use Rattle.profile.specs.AddedTexts.{AreStatementsOf}
 use Rattle.profile.specs.Documents.{AreTextOf, OpensAs, ReadsAs}
 use Rattle.profile.specs.Statements.{statements}
@@ -138,3 +143,11 @@ TextsAreThoseOfOneDocument =
     (s : Opened) (summary : Summary) (texts : Texts) (document : List ℕ) (most_bytes most_facts : ℕ) (other : Summary) (others : Texts) →
     IsOpen s → IsMade s summary texts → ReadsAs document s.ontology → IsClassified most_bytes most_facts (Some document) other others →
     (others.taxonomy ≡ texts.taxonomy) × (others.instances ≡ texts.instances)
+
+-- and the interpretation that the closure lists is that of any document that reads as that ontology: it has the same elements, and says
+-- the same of each name
+abbrev pub ListedIsThatOfOneDocument : Type 0
+ListedIsThatOfOneDocument =
+    (s : Opened) (document : List ℕ) (o : Ontology) (xs ys : List Context) (i j : Interpretation) →
+    IsOpen s → ReadsAs document s.ontology → ReadsAs document o → IsConsistent s.ontology [] →
+    IsListedInterpretation s.ontology [] xs i → IsListedInterpretation o [] ys j → (xs ≡ ys) × AgreeOn s.ontology i j
