@@ -5,115 +5,20 @@ use device::{
     BufferSink, Failed, ReadFault, ReaderSource, Sink, SliceSource, Source, WriterSink, read_all,
     write_all,
 };
+use failing_devices::{FailingSink, FailingSource};
 use std::alloc::Global;
 use std::io;
 use std::io::{ErrorKind, Read, Write};
 use std::test::Fail;
 
-/// A source that gives at most one byte a read.
-#[derive(Drop)]
-struct SlowSource<'a> {
-    inner: SliceSource<'a>,
+/// A source of the text that gives at most one byte a read, and fails behind so many reads.
+fn slow(text: &[u8], reads: usize) -> FailingSource<SliceSource<'_>> {
+    FailingSource::new(SliceSource::new(text), reads, 1)
 }
 
-impl<'a> Source for SlowSource<'a> {
-    ghost use Rattle.std.specs.Prelude.{Some, length};
-
-    ghost left = { λ s. Some s.inner };
-
-    ghost failures = { λ _. 0 };
-
-    ghost most = { λ s. length s.inner };
-
-    fn read(&mut self, buffer: &mut [u8]) -> Result<usize, Failed> {
-        let n = buffer.len().min(1);
-        self.inner.read(&mut buffer[..n])
-    }
-}
-
-/// A sink that takes at most one byte a write.
-#[derive(Drop)]
-struct SlowSink {
-    inner: BufferSink,
-}
-
-impl Sink for SlowSink {
-    ghost use Rattle.std.specs.Prelude.{Some, []};
-
-    ghost taken = { λ s. Some s.inner.bytes };
-
-    ghost failures = { λ s. s.inner.failures };
-
-    ghost path = { λ _. [] };
-
-    fn write(&mut self, piece: &[u8]) -> Result<usize, Failed> {
-        let n = piece.len().min(1);
-        self.inner.write(&piece[..n])
-    }
-}
-
-/// A source that fails after some reads.
-#[derive(Drop)]
-struct FailingSource<'a> {
-    inner: SlowSource<'a>,
-    calls: usize,
-    failures: u64,
-}
-
-impl<'a> Source for FailingSource<'a> {
-    ghost use Rattle.std.specs.Prelude.{Some, length};
-
-    ghost left = { λ s. Some s.inner.inner };
-
-    ghost failures = { λ s. s.failures };
-
-    ghost most = { λ s. length s.inner.inner };
-
-    fn read(&mut self, buffer: &mut [u8]) -> Result<usize, Failed> {
-        if self.calls > 0 {
-            if let Ok(n) = self.inner.read(buffer) {
-                self.calls -= 1;
-                return Ok(n);
-            }
-        }
-        self.failures = self.failures.saturating_add(1);
-        Err(Failed)
-    }
-}
-
-/// A sink that fails after some writes.
-#[derive(Drop)]
-struct FailingSink {
-    inner: SlowSink,
-    calls: usize,
-    failures: u64,
-}
-
-impl Sink for FailingSink {
-    ghost use Rattle.std.specs.Prelude.{Some, []};
-
-    ghost taken = { λ s. Some s.inner.inner.bytes };
-
-    ghost failures = { λ s. s.failures };
-
-    ghost path = { λ _. [] };
-
-    fn write(&mut self, piece: &[u8]) -> Result<usize, Failed> {
-        if self.calls > 0 {
-            if let Ok(n) = self.inner.write(piece) {
-                self.calls -= 1;
-                return Ok(n);
-            }
-        }
-        self.failures = self.failures.saturating_add(1);
-        Err(Failed)
-    }
-}
-
-fn slow(text: &[u8]) -> SlowSource<'_> {
-    SlowSource {
-        inner: SliceSource::new(text),
-    }
+/// A sink that takes at most one byte a write, and fails behind so many writes.
+fn slow_sink(alloc: Global, writes: usize) -> FailingSink<BufferSink> {
+    FailingSink::new(BufferSink::new(alloc), writes, 1)
 }
 
 const TEXT: &[u8] = b"SubClassOf";
@@ -134,7 +39,8 @@ fn reads_up_to_the_limit(rt: HostRuntime) {
     for row in LIMITS {
         let (limit, fits) = *row;
         let whole = reads(rt.alloc(), &mut SliceSource::new(TEXT), limit, fits);
-        let slowly = reads(rt.alloc(), &mut slow(TEXT), limit, fits);
+        let mut slow = slow(TEXT, usize::MAX);
+        let slowly = reads(rt.alloc(), &mut slow, limit, fits);
         assert!(rt; whole, "at {limit}");
         assert!(rt; slowly, "slowly at {limit}");
     }
@@ -150,11 +56,7 @@ fn reads_more_than_one_buffer(rt: HostRuntime) -> Result<(), Fail> {
 
 /// What reading `abc` gives where the source fails after so many reads, and how often it has failed.
 fn read_after(alloc: Global, calls: usize) -> (Result<Vec<u8>, ReadFault>, u64) {
-    let mut source = FailingSource {
-        inner: slow(b"abc"),
-        calls,
-        failures: 0,
-    };
+    let mut source = slow(b"abc", calls);
     let read = read_all(alloc, &mut source, 3);
     (read, source.failures)
 }
@@ -184,9 +86,7 @@ fn write_parts<S: Sink>(sink: &mut S) -> Result<(), Failed> {
 
 #[test]
 fn each_byte_is_written_once(rt: HostRuntime) {
-    let mut sink = SlowSink {
-        inner: BufferSink::new(rt.alloc()),
-    };
+    let mut sink = slow_sink(rt.alloc(), usize::MAX);
     let written = write_parts(&mut sink);
     let right = written.is_ok() && sink.inner.bytes() == b"consistent classes".as_slice();
     drop(sink);
@@ -195,16 +95,8 @@ fn each_byte_is_written_once(rt: HostRuntime) {
 
 /// Whether a sink that fails after so many writes has taken that, and failed once.
 fn leaves(alloc: Global, calls: usize, taken: &[u8]) -> bool {
-    let mut sink = FailingSink {
-        inner: SlowSink {
-            inner: BufferSink::new(alloc),
-        },
-        calls,
-        failures: 0,
-    };
-    write_all(&mut sink, b"abc") == Err(Failed)
-        && sink.inner.inner.bytes() == taken
-        && sink.failures == 1
+    let mut sink = slow_sink(alloc, calls);
+    write_all(&mut sink, b"abc") == Err(Failed) && sink.inner.bytes() == taken && sink.failures == 1
 }
 
 /// After how many writes a sink fails, and what it has taken then.

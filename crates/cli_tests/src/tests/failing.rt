@@ -9,7 +9,8 @@ use cli::{
     classify_document,
 };
 use device::SliceSource;
-use devices::{FailingFiles, FailingSink, FailingSource};
+use devices::FailingFiles;
+use failing_devices::{FailingSink, FailingSource};
 use std::process::Abort;
 
 /// How many calls the device at a place answers, where that at another fails after so many.
@@ -18,11 +19,8 @@ fn calls_at(place: usize, failing: usize, calls: usize) -> usize {
 }
 
 fn sink_at(alloc: Global, place: usize, failing: usize, writes: usize) -> FailingSink<BufferSink> {
-    FailingSink {
-        inner: BufferSink::new(alloc),
-        writes: calls_at(place, failing, writes),
-        failures: 0,
-    }
+    let writes = calls_at(place, failing, writes);
+    FailingSink::new(BufferSink::new(alloc), writes, 1)
 }
 
 fn source_at<'a>(
@@ -31,11 +29,8 @@ fn source_at<'a>(
     failing: usize,
     reads: usize,
 ) -> FailingSource<SliceSource<'a>> {
-    FailingSource {
-        inner: SliceSource::new(bytes),
-        reads: calls_at(place, failing, reads),
-        failures: 0,
-    }
+    let reads = calls_at(place, failing, reads);
+    FailingSource::new(SliceSource::new(bytes), reads, 7)
 }
 
 const LIMITS: Limits = Limits {

@@ -1,64 +1,8 @@
-//! Devices and files that answer some calls, little at a time, and then fail.
+//! Files in memory that answer some calls, little at a time, and then fail.
 
 use axioms::Memory;
 use device::{Failed, Sink, Source};
 use system_files::{Files, MemoryFiles, MemorySink, MemorySource, OpenFault};
-
-/// A source that gives at most seven bytes a read, and fails after some reads.
-#[derive(Drop)]
-pub(super) struct FailingSource<S: Source + Drop> {
-    pub(super) inner: S,
-    pub(super) reads: usize,
-    pub(super) failures: u64,
-}
-
-impl<S: Source + Drop> Source for FailingSource<S> {
-    ghost left = { λ s. S.left s.inner };
-
-    ghost failures = { λ s. s.failures };
-
-    ghost most = { λ s. S.most s.inner };
-
-    fn read(&mut self, buffer: &mut [u8]) -> Result<usize, Failed> {
-        let n = buffer.len().min(7);
-        if self.reads > 0 {
-            if let Ok(n) = self.inner.read(&mut buffer[..n]) {
-                self.reads -= 1;
-                return Ok(n);
-            }
-        }
-        self.failures = self.failures.saturating_add(1);
-        Err(Failed)
-    }
-}
-
-/// A sink that takes one byte a write, and fails after some writes.
-#[derive(Drop)]
-pub(super) struct FailingSink<S: Sink + Drop> {
-    pub(super) inner: S,
-    pub(super) writes: usize,
-    pub(super) failures: u64,
-}
-
-impl<S: Sink + Drop> Sink for FailingSink<S> {
-    ghost taken = { λ s. S.taken s.inner };
-
-    ghost failures = { λ s. s.failures };
-
-    ghost path = { λ s. S.path s.inner };
-
-    fn write(&mut self, piece: &[u8]) -> Result<usize, Failed> {
-        let n = piece.len().min(1);
-        if self.writes > 0 {
-            if let Ok(n) = self.inner.write(&piece[..n]) {
-                self.writes -= 1;
-                return Ok(n);
-            }
-        }
-        self.failures = self.failures.saturating_add(1);
-        Err(Failed)
-    }
-}
 
 /// A sink of a file in memory that takes one byte a write, and fails after some writes.
 #[derive(Drop)]
