@@ -36,6 +36,8 @@ mod problems;
 #[cfg(test)]
 mod properties;
 #[cfg(test)]
+mod refused_pushes;
+#[cfg(test)]
 mod second_premises;
 #[cfg(test)]
 mod sets;

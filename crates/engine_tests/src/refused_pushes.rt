@@ -1,0 +1,176 @@
+//! Documents whose facts a list of work leads to that hands one item back: they are those of one run.
+ghost use Rattle.std.specs.Prelude.{◌≡◌, []};
+
+use crate::adding::add;
+use crate::lists::Refusing;
+use axioms::Ontology;
+use facts::{Context, StoredFact};
+use normal_forms::{Form, FormList};
+use normalise::{normalise, roots};
+use profile::read_bytes;
+use saturate::{State, Stop};
+use std::alloc::Global;
+use std::hash::RandomState;
+use std::test::Fail;
+use work_list::{Fifo, WorkList};
+
+/// A document, and how many facts it leads to.
+const ROWS: &[(&str, &str, u32)] = &[
+    (
+        "contradiction_by_individual",
+        "Prefix(:=<x:>) Ontology(DisjointClasses(:A :B) ClassAssertion(:A :a) ClassAssertion(:B :a))",
+        11,
+    ),
+    (
+        "chain_into_a_definition",
+        "Prefix(:=<x:>) Ontology(SubClassOf(:E ObjectSomeValuesFrom(:loc :W)) SubClassOf(:W ObjectSomeValuesFrom(:part :H)) SubObjectPropertyOf(ObjectPropertyChain(:loc :part) :loc) EquivalentClasses(:D ObjectSomeValuesFrom(:loc :H)))",
+        20,
+    ),
+    (
+        "individuals_and_domain",
+        "Prefix(:=<x:>) Ontology(SubClassOf(:A :B) ClassAssertion(:A :a) ObjectPropertyAssertion(:r :a :b) ObjectPropertyDomain(:r :C) Declaration(NamedIndividual(:c)))",
+        17,
+    ),
+];
+
+/// Adds all, once more where it was refused, and says how often it was.
+fn added<W: WorkList>(state: &mut State<W>, forms: &FormList, contexts: &[Context]) -> Option<u32> {
+    if add(state, forms, contexts).is_ok() {
+        return Some(0);
+    }
+    add(state, forms, contexts).is_ok().then_some(1)
+}
+
+/// Runs to the end, once more where that was refused, and says how often it was.
+fn ran<W: WorkList>(state: &mut State<W>, facts: u32) -> Option<u32> {
+    match state.run(facts) {
+        Ok(()) => Some(0),
+        Err(Stop::Limit) => None,
+        Err(Stop::Memory) => (state.run(facts) == Ok(())).then_some(1),
+    }
+}
+
+/// Whether each of the facts is among the others.
+fn are_among(facts: &[StoredFact], others: &[StoredFact]) -> bool {
+    for fact in facts {
+        if !others.iter().any(|other| other.get() == fact.get()) {
+            return false;
+        }
+    }
+    true
+}
+
+/// Whether the state has these facts and no others, all of them served.
+fn has_ended<W: WorkList>(state: &State<W>, facts: &[StoredFact]) -> bool {
+    state.facts().len() == facts.len()
+        && state.served() == facts.len()
+        && are_among(state.facts(), facts)
+        && are_among(facts, state.facts())
+}
+
+/// How many calls were refused, where the list leads to these facts.
+fn ends<W: WorkList + Drop>(
+    alloc: Global,
+    seed: RandomState,
+    forms: &FormList,
+    contexts: &[Context],
+    facts: &[StoredFact],
+    list: W,
+) -> Option<u32>
+    requires { W.pending list ≡ [] }
+{
+    let most = u32::try_from(facts.len()).ok()?;
+    let Ok(mut state) = State::new(alloc, seed, list) else {
+        return None;
+    };
+    let adding = added(&mut state, forms, contexts);
+    let running = ran(&mut state, most);
+    let right = has_ended(&state, facts);
+    drop(state);
+    match (adding, running) {
+        (Some(adding), Some(running)) if right => Some(adding.saturating_add(running)),
+        _ => None,
+    }
+}
+
+/// How many facts may be there from the start, and wait beside the list of work: two for each context, one more for each reflexive
+/// property, and one for each assertion.
+fn most_at_start(forms: &FormList, contexts: usize) -> usize {
+    let mut most = contexts.saturating_mul(2);
+    for number in 0..forms.len() {
+        most = most.saturating_add(match forms.get(number) {
+            Some(Form::N7(_)) => contexts,
+            Some(Form::N8(..) | Form::N9(..)) => 1,
+            _ => 0,
+        });
+    }
+    most
+}
+
+/// Whether these facts are led to whichever one push hands its item back: for each push until none does, of which there are at least
+/// as many as facts that are not there from the start.
+fn with_each_push_refused(
+    alloc: Global,
+    seed: RandomState,
+    forms: &FormList,
+    contexts: &[Context],
+    facts: &[StoredFact],
+) -> bool {
+    let drawn = facts
+        .len()
+        .saturating_sub(most_at_start(forms, contexts.len()));
+    for push in 1..200 {
+        let list = Refusing::new(alloc, push);
+        match ends(alloc, seed, forms, contexts, facts, list) {
+            Some(1) => {}
+            Some(0) => return push > 1 && push as usize > drawn,
+            _ => return false,
+        }
+    }
+    false
+}
+
+/// Whether so many facts are led to by one run, and the same whichever push is refused.
+fn leads_to(
+    alloc: Global,
+    seed: RandomState,
+    forms: &FormList,
+    contexts: &[Context],
+    facts: u32,
+) -> bool {
+    let Ok(mut whole) = State::new(alloc, seed, Fifo::new(alloc)) else {
+        return false;
+    };
+    let right = add(&mut whole, forms, contexts) == Ok(())
+        && whole.run(facts) == Ok(())
+        && whole.facts().len() == facts as usize
+        && with_each_push_refused(alloc, seed, forms, contexts, whole.facts());
+    drop(whole);
+    right
+}
+
+/// Whether the ontology leads to so many facts, whichever push is refused.
+fn fits(alloc: Global, seed: RandomState, ontology: &Ontology, facts: u32) -> bool {
+    let Ok(normal) = normalise(alloc, seed, ontology) else {
+        return false;
+    };
+    let Ok(contexts) = roots(alloc, ontology, &[]) else {
+        return false;
+    };
+    let right = leads_to(alloc, seed, normal.forms(), &contexts, facts);
+    drop(normal);
+    right
+}
+
+#[test]
+fn each_document_with_each_push_refused(rt: HostRuntime) -> Result<(), Fail> {
+    let seed = RandomState::new(&rt)?;
+    for row in ROWS {
+        let (case, document, facts) = *row;
+        let ontology = read_bytes(rt.alloc(), document.as_bytes(), seed)?;
+        let right = fits(rt.alloc(), seed, &ontology, facts);
+        drop(ontology);
+        assert!(rt; right, "{case}");
+    }
+    Ok(())
+}
