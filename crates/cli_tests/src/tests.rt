@@ -6,6 +6,7 @@ mod failing;
 mod forged;
 mod hierarchies;
 mod refusals;
+mod refused;
 mod starting;
 mod worked;
 

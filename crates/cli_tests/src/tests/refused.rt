@@ -62,6 +62,7 @@ const LIMITS: Limits = Limits {
 };
 
 /// Room for each of the three texts, which takes no memory that could be refused. What no text took is 0.
+#[derive(Drop)]
 struct Room {
     taxonomy: [u8; 1024],
     instances: [u8; 1024],
