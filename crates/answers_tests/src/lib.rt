@@ -22,6 +22,10 @@ mod queries;
 #[cfg(test)]
 mod questions_asked;
 #[cfg(test)]
+mod refusals;
+#[cfg(test)]
+mod refused_memory;
+#[cfg(test)]
 mod session_explanations;
 #[cfg(test)]
 mod sessions;
