@@ -69,7 +69,7 @@ struct Room {
     certificate: [u8; 4096],
 }
 
-fn room() -> Room {
+fn empty_room() -> Room {
     Room {
         taxonomy: [0; 1024],
         instances: [0; 1024],
@@ -133,8 +133,8 @@ fn writes(alloc: Global, state: RandomState, row: &Row, room: &mut Room) -> Opti
 /// Whether of two runs over the document the one writes its texts and the other, too, or nothing: and where both write, they write one
 /// certificate.
 fn is_right(alloc: Global, state: RandomState, row: &Row) -> bool {
-    let mut first = room();
-    let mut second = room();
+    let mut first = empty_room();
+    let mut second = empty_room();
     match (
         writes(alloc, state, row, &mut first),
         writes(alloc, state, row, &mut second),
