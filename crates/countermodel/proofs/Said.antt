@@ -2,7 +2,6 @@
 use Rattle.std.proofs.Common.{◌≡◌, ℕ, List, refl, ap}
 use Rattle.axioms.specs.Ontology.{Ontology}
 use Rattle.axioms.specs.declared.ids.PropId.{PropId}
-use Rattle.normal_forms.specs.declared.forms.PropId2 as code_property
 use Rattle.normal_forms.specs.declared.forms.PropId2.TheVariants as properties
 use Rattle.normal_forms.specs.declared.forms.Form as code_form
 use Rattle.normal_forms.specs.Forms.{Property2, Property, Steps}

@@ -2,11 +2,10 @@
 use Rattle.std.proofs.Common.{◌≡◌, ◌↔◌, ℕ, zero, suc, ◌+◌, ◌<◌, ◌≤◌, List, Bool, length, slice_get, Some, refl, sym, subst, arith}
 use Rattle.std.proofs.lemmas.Option.{none-some, slice_get_within}
 use Rattle.lemmas.proofs.Choices.{one_value}
-use Rattle.axioms.specs.Ontology.{Ontology}
 use Rattle.axioms.specs.View.{at_number}
 use Rattle.certificate.specs.Certificate.{Line}
 use Rattle.engine.specs.Saturations.{Saturated}
-use Rattle.explain.specs.Marks.{IsGoal, IsMarked, IsShown, IsWantedFact, ShowsMarked}
+use Rattle.explain.specs.Marks.{IsGoal, IsMarked, IsShown, ShowsMarked}
 use Rattle.facts.specs.declared.contexts.Fact.{Fact}
 use Rattle.normalise.specs.Problem.{prefixes_of}
 

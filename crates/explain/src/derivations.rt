@@ -41,12 +41,8 @@ fn add_facts<L: LineSink>(
     ensures facts { OnOk result (HaveFacts ontology.now saturation.now.normal.asked derivation.new) }
     ensures needed { OnOk result (EachIsNeeded ontology.now saturation.now.normal.asked derivation.new) }
 {
-    let marks = wanted(
-        alloc,
-        ontology,
-        saturation.normal().asked(),
-        saturation.facts(),
-    )?;
+    let normal = saturation.normal();
+    let marks = wanted(alloc, ontology, normal.asked(), saturation.facts())?;
     add_lines(alloc, ontology, saturation, marks, derivation)
 }
 

@@ -1,4 +1,4 @@
-use Rattle.std.proofs.Common.{◌≡◌, Some, sym, subst, All}
+use Rattle.std.proofs.Common.{◌≡◌, Some, subst, All}
 use Rattle.std.proofs.lemmas.Result.{on_ok_weaker}
 use Rattle.axioms.specs.View.{at_number}
 use Rattle.explain.specs.Marks.{IsContradictoryFact}

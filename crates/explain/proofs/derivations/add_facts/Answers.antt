@@ -6,7 +6,7 @@ use Rattle.explain.proofs.derivations.add_facts.Goals as goal
 
 pub add_lines-requires-clause-wanted : goal.add_lines-requires-clause-wanted
 add_lines-requires-clause-wanted g c = λ n f at marked.
-    subst (λ asked. IsWantedFact c.args.ontology.now asked f) (c.asked.ensures ∙ ap (λ v. v.asked) c.normal.ensures)
+    subst (λ asked. IsWantedFact c.args.ontology.now asked f) (c.asked.ensures ∙ ap (λ v. v.asked) c.normal-normal.ensures)
     ((c.in_ok-marks.ensures.exact n f (rw (c.facts.ensures) at)).0 marked)
 
 pub returns-clause-facts : goal.returns-clause-facts
@@ -15,5 +15,5 @@ returns-clause-facts g c =
     (λ shown. have_facts c.args.ontology.now c.args.saturation.now c.add_lines.new.derivation c.requires.saturated
     (λ n f wanted at. shown n f
     ((c.in_ok-marks.ensures.exact n f (rw (c.facts.ensures) at)).1
-    (subst (λ asked. IsWantedFact c.args.ontology.now asked f) (sym (c.asked.ensures ∙ ap (λ v. v.asked) c.normal.ensures)) wanted)) at))
+    (subst (λ asked. IsWantedFact c.args.ontology.now asked f) (sym (c.asked.ensures ∙ ap (λ v. v.asked) c.normal-normal.ensures)) wanted)) at))
     c.add_lines.ensures.shown

@@ -1,4 +1,4 @@
-use Rattle.std.proofs.Common.{◌∙◌, arith}
+use Rattle.std.proofs.Common.{arith}
 use Rattle.std.proofs.lemmas.Result.{on_ok_weaker}
 use Rattle.explain.specs.Marks.{IsWantedFact}
 use Rattle.explain.proofs.Aiming.{goal_shown, goal_wanted, goal_within}
