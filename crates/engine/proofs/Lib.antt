@@ -1,3 +1,4 @@
 pub mod Saying
 pub mod Saturating
 pub mod GrownSaturations
+pub mod NothingNew

@@ -3,7 +3,10 @@ use Rattle.std.specs.Prelude.{◌≡◌, ℕ, ◌<◌, ◌≤◌, Bool, List, []
 use Rattle.std.specs.List.{All, Contains}
 use Rattle.axioms.specs.Ontology.{Ontology}
 use Rattle.axioms.specs.WellFormedness.{AreDistinct}
+use Rattle.normal_forms.specs.declared.forms.Form.{Form}
+use Rattle.facts.specs.declared.contexts.Context.{Context}
 use Rattle.facts.specs.declared.contexts.Fact as code
+use Rattle.facts.specs.Closure.{Problem}
 use Rattle.closure.specs.Closure.{AreAsked, Fact, IsFact}
 use Rattle.closure.specs.Denotations.{Prefixes, SaysFact, IsProblemOf}
 use Rattle.normalise.specs.Entries.{form_in}
@@ -92,6 +95,11 @@ pub record Saturates (o : Ontology) (max_facts : ℕ) (new : Saturated) (result 
   pub saturated : OnOk result (IsSaturated o new)
   pub limit : result ≡ Err Limit → HasMoreFactsThan o new.normal.asked max_facts
 
+-- each form is equal to one that was there, and each context that is there from the start was
+pub record BringsNothing (old new : Problem) : Type 0 where
+  pub forms : (form : Form) → Contains new.forms form → Contains old.forms form
+  pub roots : (x : Context) → Contains new.roots x → Contains old.roots x
+
 -- forms, and what fresh names stand for, keep their numbers; facts stay at their places, with what gave them; and exactly the served
 -- facts that a form asks for to which none was equal before are pending again
 pub record KeepsFacts (old new : Saturated) : Type 0 where
@@ -99,3 +107,5 @@ pub record KeepsFacts (old new : Saturated) : Type 0 where
   pub facts : Keeps old.state.facts new.state.facts
   pub births : Keeps old.state.births new.state.births
   pub served : KeepsServed old.state.problem.forms new.state.problem.forms old.state.facts old.state.served new.state.served
+  -- where nothing is new, all facts are served if they were
+  pub idle : BringsNothing old.state.problem new.state.problem → IsFinished old → IsFinished new

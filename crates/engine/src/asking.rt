@@ -32,6 +32,7 @@ impl Saturation {
         ensures can_grow { IfOk result (λ s. s.can_grow ≡ true) }
     {
         old.well_formed();
+        self.state.well_formed();
         let normal = self
             .normal
             .grown_with(new, old.axioms().len(), expr)?

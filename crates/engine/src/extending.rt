@@ -11,7 +11,7 @@ use normalise::roots_from;
 impl Saturation {
     /// Adds what the ontology has more than the old one, whose saturation it is: the forms of its new axioms and of what occurs in them
     /// and did not before, and its new classes and individuals as contexts. Nothing is run. Each fact stays at its place, and those that
-    /// a new form asks for are pending again.
+    /// a new form asks for are pending again; where no form and no context is new, all facts are served if they were.
     ///
     /// # Errors
     ///
@@ -28,6 +28,7 @@ impl Saturation {
         ensures err { OnErr result (self.new ≡ self.old) }
     {
         old.well_formed();
+        self.state.well_formed();
         let normal = self.normal.grown(new, old.axioms().len())?.share();
         let (classes, individuals) = (old.classes().len(), old.individuals().len());
         let roots = roots_from(self.alloc, new, classes, individuals)?;

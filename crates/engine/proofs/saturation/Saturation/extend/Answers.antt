@@ -9,6 +9,7 @@ use Rattle.normalise.specs.Roots.{HasMoreNames}
 use Rattle.normalise.proofs.Adding.{keeps_long}
 use Rattle.saturate.specs.Growth.{HasGrown}
 use Rattle.engine.specs.Saturations.{IsSound, Saturated}
+use Rattle.engine.proofs.NothingNew.{still_finished}
 use Rattle.engine.proofs.GrownSaturations.{extended_sound, old_first}
 use Rattle.engine.proofs.saturation.Saturation.extend.Goals as goal
 
@@ -45,4 +46,5 @@ returns-clause-kept c = rw (← c.self.view_is) (record {
   facts = c.in_ok-extend.ensures.grown.facts;
   births = c.in_ok-extend.ensures.grown.births;
   served = c.in_ok-extend.ensures.served;
+  idle = λ nothing all. still_finished c.self.inside.state.seen c.extend.new.self.seen nothing c.well_formed-3.ensures.state c.in_ok-extend.ensures.state all c.in_ok-extend.ensures.served;
 })

@@ -1,0 +1,137 @@
+-- What brings nothing new leaves nothing pending that was not.
+use Rattle.std.proofs.Common.{◌≡◌, ℕ, ◌<◌, ◌≤◌, ⊎_elim, List, [], ◌∷◌, length, get_or, slice_get, Option, Some, Contains, All, eqb, ap, ◌∙◌, arith}
+use Rattle.std.specs.List.{IsDistinct}
+use Rattle.std.specs.Cmp.{IsEquivalence}
+use Rattle.std.proofs.lemmas.Bool.{cases_lt, eqb-true, ne_eqb}
+use Rattle.std.proofs.lemmas.Bool.Decides.{Decides-eqb, nat_tests}
+use Rattle.std.proofs.lemmas.Map.Keys.{IsDistinct-from_apart}
+use Rattle.std.proofs.lemmas.Map.Made.{is_member-Decides, length-le_from_is_member}
+use Rattle.std.proofs.lemmas.Map.Steps.{length-le_from_distinct_below}
+use Rattle.std.proofs.lemmas.Map.Views.{Contains-from_any}
+use Rattle.std.proofs.lemmas.Option.{slice_get-get_or}
+use Rattle.axioms.specs.WellFormedness.{AreDistinct}
+use Rattle.lemmas.proofs.Members.{Contains-from_slice_get, slice_get-from_Contains}
+use Rattle.normal_forms.specs.declared.forms.Form.{Form}
+use Rattle.normal_forms.specs.declared.forms.Form.TheVariants.{N1, N2, N3, N4, N5, N6, N7, N8, N9}
+use Rattle.normal_forms.specs.declared.forms.PropId2.{PropId2}
+use Rattle.normal_forms.specs.declared.forms.PropId2.TheVariants.{Property}
+use Rattle.normal_forms.specs.Properties.{IsAtOrBelow, same, step}
+use Rattle.facts.specs.declared.contexts.Context.{Context}
+use Rattle.facts.specs.declared.contexts.Fact.{Fact}
+use Rattle.facts.specs.declared.contexts.Fact.TheVariants.{In, Edge}
+use Rattle.facts.specs.Closure.{Problem, IsContextBy, FromTwo, Concludes, Gives, IsFact, in_thing, in_itself, by_form, unsatisfiable, loop}
+use Rattle.facts.proofs.Least.{closed, least}
+use Rattle.inference.proofs.Growth.{sound}
+use Rattle.saturate.specs.Growth.{KeepsServed}
+use Rattle.saturate.specs.Run.{IsState, IsFinished}
+use Rattle.saturate.specs.State.{Seen}
+use Rattle.saturate.proofs.Counting.{not_more}
+use Rattle.saturate.proofs.Runs.{finished_is_closure}
+use Rattle.engine.specs.Saturations.{BringsNothing}
+
+-- ---- what the new forms and contexts give
+
+module _ (old new : Problem) (nothing : BringsNothing old new) where
+  was_below : (p q : PropId2) → IsAtOrBelow new.forms p q → IsAtOrBelow old.forms p q
+  was_below p _ same = same
+  was_below p _ (step s t low there) = step s t (was_below p (Property s) low) (nothing.forms (N5 s t) there)
+
+  two_before : (form : Form) (g h f : Fact) → FromTwo new form g h f → FromTwo old form g h f
+  two_before (N2 a b c) (In d x) (In e y) f w = w
+  two_before (N2 a b c) (In d x) (Edge _ _ _) f w = absurd w
+  two_before (N2 a b c) (Edge _ _ _) h f w = absurd w
+  two_before (N4 r a b) (Edge x q y) (In c z) f w = (was_below q (Property r) w.0, w.1, w.2, w.3)
+  two_before (N4 r a b) (Edge x q y) (Edge _ _ _) f w = absurd w
+  two_before (N4 r a b) (In _ _) h f w = absurd w
+  two_before (N6 r s t) (Edge x p y) (Edge z q v) f w = (was_below p r w.0, was_below q s w.1, w.2, w.3)
+  two_before (N6 r s t) (Edge x p y) (In _ _) f w = absurd w
+  two_before (N6 r s t) (In _ _) h f w = absurd w
+  two_before (N1 _ _) g h f w = absurd w
+  two_before (N3 _ _ _) g h f w = absurd w
+  two_before (N5 _ _) g h f w = absurd w
+  two_before (N7 _) g h f w = absurd w
+  two_before (N8 _ _) g h f w = absurd w
+  two_before (N9 _ _ _) g h f w = absurd w
+
+  concluded_before : (form : Form) (older : List Fact) (f : Fact) → Concludes new form older f → Concludes old form older f
+  concluded_before form [] f w = w
+  concluded_before form (g ∷ []) f w = w
+  concluded_before form (g ∷ h ∷ []) f w = two_before form g h f w
+  concluded_before form (g ∷ h ∷ i ∷ more) f w = absurd w
+
+  was_context : (older : List Fact) (x : Context) → IsContextBy new older x → IsContextBy old older x
+  was_context [] x c = nothing.roots x c
+  was_context (g ∷ []) x c = c
+  was_context (g ∷ h ∷ more) x c = absurd c
+
+  -- a form that is there stood at some place before
+  was_at : (n : ℕ) (form : Form) → slice_get new.forms n ≡ Some form → (m : ℕ) × (slice_get old.forms m ≡ Some form)
+  was_at n form at = slice_get-from_Contains old.forms form (nothing.forms form (Contains-from_slice_get new.forms n form at))
+
+  -- what facts of the old closure give by the new forms and contexts is of the old closure
+  given_before : (condition : ℕ) (form : Option ℕ) (older : List Fact) (f : Fact) → Gives new condition form older f → All (IsFact old) older → IsFact old f
+  given_before _ _ older _ (in_thing {x = x} c) all = closed old _ _ older _ (in_thing (was_context older x c)) all
+  given_before _ _ older _ (in_itself {e = e} c) all = closed old _ _ older _ (in_itself (was_context older _ c)) all
+  given_before _ _ older f (by_form n form at w) all =
+      let before = was_at n form at in
+      closed old _ _ older f (by_form before.0 form before.1 (concluded_before form older f w)) all
+  given_before _ _ older f (unsatisfiable b) all = closed old _ _ older f (unsatisfiable b) all
+  given_before _ _ older f (loop x n form at l c) all =
+      let before = was_at n form at in
+      closed old _ _ older f (loop x before.0 form before.1 l (was_context older x c)) all
+
+  was_fact : (f : Fact) → IsFact new f → IsFact old f
+  was_fact f is = least new (IsFact old) given_before f is
+
+-- ---- how many numbers there are
+
+one_equality : IsEquivalence eqb
+one_equality = record {
+  refl = λ x. grind (arith, nat_tests);
+  symm = λ x y. grind (arith, nat_tests);
+  congr = λ x y z e. grind (arith, nat_tests);
+}
+
+-- a test finds no number twice
+apart_by_test : (xs : List ℕ) → AreDistinct xs → IsDistinct eqb xs
+apart_by_test xs apart = IsDistinct-from_apart eqb xs (λ i j d low within. ne_eqb (get_or xs i d) (get_or xs j d) (λ e. absurd (different i j d low within e)))
+  where
+    different : (i j d : ℕ) → i < j → j < length xs → get_or xs i d ≡ get_or xs j d → ⊥
+    different i j d low within e =
+        let one : i ≡ j = apart i j (get_or xs j d) (slice_get-get_or xs i d (omega (arith, low, within)) ∙ ap Some e) (slice_get-get_or xs j d within) in
+        absurd (omega (arith, one, low))
+
+-- different numbers of a list are at most as many as it has
+at_most_as_many : (xs ys : List ℕ) → AreDistinct xs → ((n : ℕ) → Contains xs n → Contains ys n) → length xs ≤ length ys
+at_most_as_many xs ys apart each =
+    length-le_from_is_member one_equality xs ys (apart_by_test xs apart)
+    (λ n there. (is_member-Decides Decides-eqb ys n).1 (each n ((is_member-Decides Decides-eqb xs n).0 there)))
+
+-- and at most as many as are below a bound
+at_most_below : (xs : List ℕ) (bound : ℕ) → AreDistinct xs → ((n : ℕ) → Contains xs n → n < bound) → length xs ≤ bound
+at_most_below xs bound apart each = length-le_from_distinct_below xs bound (apart_by_test xs apart) (λ n there. each n (Contains-from_any eqb-true n xs there))
+
+-- ---- a state with nothing new
+
+module _ (old new : Seen) (nothing : BringsNothing old.problem new.problem) (before : IsState old) (now : IsState new) (all : IsFinished old) where
+  -- each fact is of the old closure, which the old facts are: there are no more
+  no_more_facts : length new.facts ≤ length old.facts
+  no_more_facts = ⊎_elim
+      (λ more. absurd (not_more old.problem old.facts (length old.facts) (finished_is_closure old before all) (omega arith) (record {
+        facts = new.facts;
+        distinct = now.born.distinct;
+        each = λ m f at. was_fact old.problem new.problem nothing f (sound now.born m f at);
+        many = more;
+      })))
+      (λ few. few)
+      (cases_lt (length old.facts) (length new.facts))
+
+  -- no form is new, so each fact that was served is served
+  served_still : KeepsServed old.problem.forms new.problem.forms old.facts old.served new.served → (n : ℕ) → Contains old.served n → Contains new.served n
+  served_still keeps n there = (keeps n).1 (there, λ asked. asked.2.1.1 (nothing.forms asked.2.0 asked.2.1.0))
+
+  pub still_finished : KeepsServed old.problem.forms new.problem.forms old.facts old.served new.served → IsFinished new
+  still_finished keeps =
+      let many : length old.served ≤ length new.served = at_most_as_many old.served new.served before.once (served_still keeps) in
+      let few : length new.served ≤ length new.facts = at_most_below new.served (length new.facts) now.once now.within in
+      omega (arith, no_more_facts, all, many, few)
