@@ -1,7 +1,8 @@
 //! The document of one subclass axiom, and documents that are refused.
 
 use axioms::{Axiom, ExprId, OWL_NOTHING, OWL_THING, Ontology};
-use device::{Failed, SliceSource, Source};
+use device::SliceSource;
+use failing_devices::FailingSource;
 use profile::{
     DocumentFault, Limits, MOST_BYTES, MOST_FACTS, axioms_take_bytes, one_ontology_is_read,
     read_bytes, read_document, refused_bytes_read_as_none,
@@ -52,36 +53,6 @@ fn is_refused<R: AllocGlobal + RandomSource>(
     }
 }
 
-/// A source that gives at most seven bytes a read, and fails after some reads.
-#[derive(Drop)]
-struct FailingSource<'a> {
-    inner: SliceSource<'a>,
-    reads: usize,
-    failures: u64,
-}
-
-impl<'a> Source for FailingSource<'a> {
-    ghost use Rattle.std.specs.Prelude.{Some, length};
-
-    ghost left = { λ s. Some s.inner };
-
-    ghost failures = { λ s. s.failures };
-
-    ghost most = { λ s. length s.inner };
-
-    fn read(&mut self, buffer: &mut [u8]) -> Result<usize, Failed> {
-        let n = buffer.len().min(7);
-        if self.reads > 0 {
-            if let Ok(n) = self.inner.read(&mut buffer[..n]) {
-                self.reads -= 1;
-                return Ok(n);
-            }
-        }
-        self.failures = self.failures.saturating_add(1);
-        Err(Failed)
-    }
-}
-
 #[test]
 fn one_subclass(rt: HostRuntime) -> Result<(), Fail> {
     let ontology = read_bytes(rt.alloc(), ONE_SUBCLASS, RandomState::new(&rt)?)?;
@@ -117,11 +88,7 @@ fn refused_documents(rt: HostRuntime) -> Result<(), Fail> {
 fn a_read_that_fails_is_told(rt: HostRuntime) -> Result<(), Fail> {
     let limits = Limits::new(33, 1).ok_or("limits")?;
     for reads in 0..7 {
-        let mut source = FailingSource {
-            inner: SliceSource::new(ONE_SUBCLASS),
-            reads,
-            failures: 0,
-        };
+        let mut source = FailingSource::new(SliceSource::new(ONE_SUBCLASS), reads, 7);
         let read = read_document(rt.alloc(), &mut source, &limits, RandomState::new(&rt)?);
         let failed = matches!(&read, Err(DocumentFault::Io));
         assert!(rt;
