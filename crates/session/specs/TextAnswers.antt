@@ -37,9 +37,9 @@ pub record IsReadAs (most_bytes : ℕ) (document : Option (List ℕ)) (o : Ontol
 
 -- ---- the individuals of a class
 
--- a line for each name
-abbrev pub name_lines : List Iri → List ℕ
-name_lines names = flat_map (λ name. name_text name ++ line_feed) names
+-- a line for each name, behind the word
+abbrev pub name_lines : (word : List ℕ) → List Iri → List ℕ
+name_lines word names = flat_map (λ name. word ++ name_text name ++ line_feed) names
 
 -- the ontology has the class, and the lines are of exactly the individuals that belong to it in every finite interpretation of the
 -- axioms, each once and in byte order
@@ -47,7 +47,7 @@ pub record ListsInstances (o : Ontology) (class : Iri) (text : List ℕ) : Type 
   pub known : Contains o.names.classes class
   pub names : List Iri
   pub those : AreInstances o class names
-  pub lines : text ≡ name_lines names
+  pub lines : text ≡ name_lines [] names
 
 -- the document reads as an ontology whose closure has at most so many facts and which has the class, and the lines of the text are of
 -- exactly the individuals that belong to it in every finite interpretation of the axioms, each once and in byte order
@@ -96,14 +96,10 @@ pub record IsRunAs (limits : Limits) (document : Option (List ℕ)) (d : reading
   pub taken : IsTaken d.ontology
   pub few : HasNoMoreFactsThan d.ontology [] limits.max_facts
 
--- a line for each name, behind the word
-abbrev pub lines_with : (word : List ℕ) → List Iri → List ℕ
-lines_with word names = flat_map (λ name. word ++ name_text name ++ line_feed) names
-
 -- the lines of the classes above, of those below, and of the individuals
 abbrev pub query_lines : NamesFound → List ℕ
 query_lines found =
-    lines_with (codes "super ") found.superclasses ++ lines_with (codes "sub ") found.subclasses ++ lines_with (codes "instance ") found.instances
+    name_lines (codes "super ") found.superclasses ++ name_lines (codes "sub ") found.subclasses ++ name_lines (codes "instance ") found.instances
 
 -- document and text have together at most so many bytes; the text is a class expression over names of the document, with which the closure
 -- has at most so many facts; and the lines are of exactly the names that the expression has in every finite interpretation of the axioms,

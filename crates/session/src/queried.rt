@@ -4,13 +4,14 @@ ghost use Rattle.profile.specs.declared.fault.DocumentFault.TheVariants as readi
 ghost use Rattle.session.specs.Queries.{names_in};
 ghost use Rattle.session.specs.Run.{IsRunFault, IsRunRead};
 ghost use Rattle.session.specs.Sessions.{as_read};
-ghost use Rattle.session.specs.TextAnswers.{AnswersQuery, IsQueryFaultOf, IsRead, IsRunAs, ListsAnswers, lines_with, query_lines};
+ghost use Rattle.session.specs.TextAnswers.{AnswersQuery, IsQueryFaultOf, IsRead, IsRunAs, ListsAnswers, query_lines};
 ghost use Rattle.session.specs.Texts.{IsUnansweredQuery};
 ghost use Rattle.session.specs.declared.question_fault.QuestionFault.TheVariants as asking;
 ghost use Rattle.session.specs.declared.run_fault.RunFault.TheVariants as run_faults;
 ghost use Rattle.source_lines.specs.Sources.{source_state};
-ghost use Rattle.std.specs.Prelude.{◌≡◌, ◌+◌, ◌++◌, ◌<◌, IfErr, IfOk, IsErrOf, OnOk, map};
+ghost use Rattle.std.specs.Prelude.{◌≡◌, ◌+◌, ◌<◌, IfErr, IfOk, IsErrOf};
 
+use crate::listed::push_lines;
 use crate::query_fault::QueryFault;
 use crate::querying::Answers;
 use crate::question_fault::QuestionFault;
@@ -22,19 +23,6 @@ use engine::Stop;
 use profile::Limits;
 use std::alloc::Global;
 use std::hash::RandomState;
-
-/// A line for each name, behind the word, with the name in angle brackets.
-fn push_lines(out: &mut Vec<u8>, word: &[u8], names: &[&str]) -> Result<(), Memory>
-    ensures { OnOk result (out.new.items ≡ out.old.items ++ lines_with word.now (map (λ s. s.now) names.now)) }
-{
-    for name in names {
-        out.extend_from_slice(word)?;
-        out.extend_from_slice(b"<")?;
-        out.extend_from_slice(name.as_bytes())?;
-        out.extend_from_slice(b">\n")?;
-    }
-    Ok(())
-}
 
 /// The lines of the classes above, of those below, and of the individuals.
 fn lines_of_answers(alloc: Global, answers: &Answers<'_>) -> Result<Vec<u8>, Memory>
