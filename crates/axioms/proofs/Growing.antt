@@ -7,7 +7,7 @@ use Rattle.lemmas.proofs.Members.{Contains-from_slice_get, slice_get-from_Contai
 use Rattle.lemmas.proofs.Places.{slice_get_push, slice_get_push_cases, Keeps, keeps_push}
 use Rattle.axioms.specs.Expression.{Iri, owl_thing, owl_nothing}
 use Rattle.axioms.specs.Growth.{Numbers, with_axiom, with_class}
-use Rattle.axioms.specs.Ontology.{Ontology, Axiom, Node, Class, And, Exists, IsClassAt, SubClass, EquivalentClasses, DisjointClasses, SubProperty, EquivalentProperties, Domain, Transitive, Reflexive, ClassAssertion, PropertyAssertion}
+use Rattle.axioms.specs.Ontology.{Ontology, Axiom, Node, Class, And, Exists, IsClassAt, SubClass, EquivalentClasses, DisjointClasses, SubProperty, EquivalentProperties, Domain, Transitive, Reflexive, ClassAssertion, PropertyAssertion, SameIndividuals, DifferentIndividuals, NegativePropertyAssertion}
 use Rattle.axioms.specs.WellFormedness.{AreDistinct, AreOperands, IsNodeOf, IsAxiomOf, IsOntology}
 
 pub AreDistinct-push : {X : Type 0} (xs : List X) (x : X) → AreDistinct xs → (Contains xs x → ⊥) → AreDistinct (xs ++ x ∷ [])
@@ -52,6 +52,9 @@ IsAxiomOf-more o p more (Transitive r) h = omega (arith, more.properties)
 IsAxiomOf-more o p more (Reflexive r) h = omega (arith, more.properties)
 IsAxiomOf-more o p more (ClassAssertion c a) h = (omega (arith, more.nodes, h.0), omega (arith, more.individuals, h.1))
 IsAxiomOf-more o p more (PropertyAssertion r a b) h = (omega (arith, more.properties, h.0), omega (arith, more.individuals, h.1), omega (arith, more.individuals, h.2))
+IsAxiomOf-more o p more (SameIndividuals xs) h = absurd h
+IsAxiomOf-more o p more (DifferentIndividuals xs) h = absurd h
+IsAxiomOf-more o p more (NegativePropertyAssertion r a b) h = absurd h
 
 module _ (o : Ontology) (whole : IsOntology o) where
   -- a property that is not there

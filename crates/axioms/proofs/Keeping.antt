@@ -2,7 +2,6 @@
 use Rattle.std.proofs.Common.{◌≡◌, ℕ, ◌+◌, ◌^◌, ◌<◌, ◌≤◌, zero, suc, inl, inr, ◌++◌, ◌∷◌, [], List, length, map, slice_get, Some, Contains, string_bytes, refl, sym, ap, ◌∙◌, subst, arith}
 use Rattle.std.proofs.lemmas.List.{length-map, length_push}
 use Rattle.std.proofs.lemmas.Option.{none-some, same_Some, slice_get_within}
-use Rattle.lemmas.proofs.Members.{Contains-from_slice_get}
 use Rattle.lemmas.proofs.Places.{slice_get_push, slice_get_push_cases, keeps_push}
 use Rattle.axioms.specs.Expression.{owl_thing, owl_nothing}
 use Rattle.axioms.specs.Growth.{DeclaresClass, IsBounded, Numbers, empty_ontology, most_names, with_axiom, with_class}

@@ -7,7 +7,7 @@ use Rattle.std.proofs.lemmas.List.{length-map}
 use Rattle.std.proofs.lemmas.List.Elements.{All-head, All-tail, All-weaker}
 use Rattle.lemmas.proofs.Places.{slice_get_there}
 use Rattle.axioms.specs.Expression.{Iri, ClassExpression, Operands, Named, Intersection, SomeValues, operand_list}
-use Rattle.axioms.specs.Ontology.{Ontology, Names, Axiom, Node, Class, And, Exists, SubClass, EquivalentClasses, DisjointClasses, SubProperty, EquivalentProperties, Domain, Transitive, Reflexive, ClassAssertion, PropertyAssertion, name_at, tree_at, tree_of, trees, intersection, operands_of, expression, property_name, individual_name, axiom_tree, axiom_trees}
+use Rattle.axioms.specs.Ontology.{Ontology, Names, Axiom, Node, Class, And, Exists, SubClass, EquivalentClasses, DisjointClasses, SubProperty, EquivalentProperties, Domain, Transitive, Reflexive, ClassAssertion, PropertyAssertion, SameIndividuals, DifferentIndividuals, NegativePropertyAssertion, name_at, tree_at, tree_of, trees, intersection, operands_of, expression, property_name, individual_name, axiom_tree, axiom_trees}
 use Rattle.axioms.specs.Numbering.{class_name}
 use Rattle.axioms.specs.Theorems.{StatementsDetermineOntology}
 use Rattle.axioms.specs.WellFormedness.{AreDistinct, IsNodeOf, IsAxiomOf, IsOntology}
@@ -177,6 +177,9 @@ module _ (o : Ontology) (whole : IsOntology o) where
       let k : individual_name o a ≡ individual_name o c = cc in
       let l : individual_name o b ≡ individual_name o d = cc in
       ap₂ (λ q x. PropertyAssertion q x b) (property' r s f.0 g.0 h) (individual' a c f.1 g.1 k) ∙ ap (λ x. PropertyAssertion s c x) (individual' b d f.2 g.2 l)
+  same_axiom (SameIndividuals xs) b f g e = absurd f
+  same_axiom (DifferentIndividuals xs) b f g e = absurd f
+  same_axiom (NegativePropertyAssertion r a b) c f g e = absurd f
   same_axiom _ _ f g e = cc
 
   same_axioms : (as' bs : List Axiom) → All (IsAxiomOf o) as' → All (IsAxiomOf o) bs → map (axiom_tree o) as' ≡ map (axiom_tree o) bs → as' ≡ bs

@@ -3,6 +3,7 @@ use Rattle.std.specs.Prelude.{ℕ, zero, suc, List, map, slice_get, None}
 use Rattle.std.specs.declared.option.Option.{Option}
 use Rattle.axioms.specs.declared.ids.ExprId.{ExprId}
 use Rattle.axioms.specs.declared.ids.PropId.{PropId}
+use Rattle.axioms.specs.declared.ids.IndId.{IndId}
 use Rattle.axioms.specs.declared.terms.Expr as code_expr
 use Rattle.axioms.specs.declared.terms.Expr.TheVariants as exprs
 use Rattle.axioms.specs.declared.terms.Axiom as code_axiom
@@ -14,6 +15,9 @@ expr_numbers = map (λ (e : ExprId). e.0)
 
 abbrev pub prop_numbers : List PropId → List ℕ
 prop_numbers = map (λ (p : PropId). p.0)
+
+abbrev pub ind_numbers : List IndId → List ℕ
+ind_numbers = map (λ (a : IndId). a.0)
 
 -- one level of an expression
 abbrev pub node_of : code_expr.Expr → numbered.Node
@@ -33,6 +37,9 @@ axiom_of (axioms.Transitive r) = numbered.Transitive r.0
 axiom_of (axioms.Reflexive r) = numbered.Reflexive r.0
 axiom_of (axioms.ClassAssertion c a) = numbered.ClassAssertion c.0 a.0
 axiom_of (axioms.PropertyAssertion r a b) = numbered.PropertyAssertion r.0 a.0 b.0
+axiom_of (axioms.SameIndividuals xs) = numbered.SameIndividuals (ind_numbers xs.items)
+axiom_of (axioms.DifferentIndividuals xs) = numbered.DifferentIndividuals (ind_numbers xs.items)
+axiom_of (axioms.NegativePropertyAssertion r a b) = numbered.NegativePropertyAssertion r.0 a.0 b.0
 
 -- what has that number, counted from 1
 abbrev pub at_number : {A : Type 0} → List A → ℕ → Option A

@@ -2,7 +2,7 @@
 use Rattle.std.specs.Prelude.{◌≡◌, ℕ, ◌<◌, ◌≤◌, List, length, slice_get, Some}
 use Rattle.std.specs.List.{All}
 use Rattle.axioms.specs.Expression.{owl_thing, owl_nothing}
-use Rattle.axioms.specs.Ontology.{Ontology, Axiom, Node, Class, And, Exists, IsClassAt, thing, nothing, SubClass, EquivalentClasses, DisjointClasses, SubProperty, EquivalentProperties, Domain, Transitive, Reflexive, ClassAssertion, PropertyAssertion}
+use Rattle.axioms.specs.Ontology.{Ontology, Axiom, Node, Class, And, Exists, IsClassAt, thing, nothing, SubClass, EquivalentClasses, DisjointClasses, SubProperty, EquivalentProperties, Domain, Transitive, Reflexive, ClassAssertion, PropertyAssertion, SameIndividuals, DifferentIndividuals, NegativePropertyAssertion}
 
 -- no two places have the same
 abbrev pub AreDistinct : {A : Type 0} → List A → Type 0
@@ -32,6 +32,10 @@ IsAxiomOf o (Transitive r) = r < length o.names.properties
 IsAxiomOf o (Reflexive r) = r < length o.names.properties
 IsAxiomOf o (ClassAssertion c a) = (c < length o.nodes) × (a < length o.names.individuals)
 IsAxiomOf o (PropertyAssertion r a b) = (r < length o.names.properties) × (a < length o.names.individuals) × (b < length o.names.individuals)
+-- no ontology has one of these yet
+IsAxiomOf o (SameIndividuals xs) = ⊥
+IsAxiomOf o (DifferentIndividuals xs) = ⊥
+IsAxiomOf o (NegativePropertyAssertion r a b) = ⊥
 
 pub record IsOntology (o : Ontology) : Type 0 where
   -- owl:Thing and owl:Nothing come first, as classes and as expressions

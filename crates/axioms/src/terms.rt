@@ -43,6 +43,12 @@ pub enum Axiom {
     Reflexive(PropId),
     ClassAssertion(ExprId, IndId),
     PropertyAssertion(PropId, IndId, IndId),
+    /// Two or more individuals that are one.
+    SameIndividuals(Vec<IndId>),
+    /// Two or more individuals of which no two are one.
+    DifferentIndividuals(Vec<IndId>),
+    /// The first individual does not have the second by the property.
+    NegativePropertyAssertion(PropId, IndId, IndId),
 }
 
 impl Clone for Axiom {
@@ -68,6 +74,15 @@ impl Clone for Axiom {
             }
             Axiom::PropertyAssertion(property, source, target) => {
                 Ok(Axiom::PropertyAssertion(*property, *source, *target))
+            }
+            Axiom::SameIndividuals(individuals) => {
+                Ok(Axiom::SameIndividuals(individuals.clone()?))
+            }
+            Axiom::DifferentIndividuals(individuals) => {
+                Ok(Axiom::DifferentIndividuals(individuals.clone()?))
+            }
+            Axiom::NegativePropertyAssertion(property, source, target) => {
+                Ok(Axiom::NegativePropertyAssertion(*property, *source, *target))
             }
         }
     }

@@ -8,7 +8,7 @@ use Rattle.axioms.specs.declared.ids.ClassId.{ClassId}
 use Rattle.axioms.specs.declared.ids.IndId.{IndId}
 use Rattle.interpretation_spec.specs.NamedInterpretation.{IsFirstUnsatisfied}
 use Rattle.interpretation_spec.specs.Interpretation.{Interpretation, IsInterpretation, IsModel}
-use Rattle.certificate.specs.Certificate.{Expression, Individual, Conclusion, Sub, Edge, Line, Listed, Certificate}
+use Rattle.certificate.specs.Certificate.{Expression, Individual, Conclusion, Sub, Edge, Same, Line, Listed, Certificate}
 use Rattle.certificate.specs.Writability.{IsTextOf, IsListedOf}
 use Rattle.certificate.specs.Prefixes.{IsNoText}
 use Rattle.taxonomy.specs.Texts.{taxonomy_text, instances_text, inconsistent_taxonomy_text, inconsistent_instances_text}
@@ -29,6 +29,7 @@ abbrev pub IsContradiction : Conclusion → Type 0
 IsContradiction (Sub (Expression e) d) = (e ≡ thing) × (d ≡ nothing)
 IsContradiction (Sub (Individual a) d) = d ≡ nothing
 IsContradiction (Edge x r y) = ⊥
+IsContradiction (Same a b) = ⊥
 
 -- some line says so
 abbrev pub HasContradiction : List Line → Type 0

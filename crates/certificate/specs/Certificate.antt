@@ -1,20 +1,22 @@
--- Certificates: derivation lines, each by one of the sixteen rules of format 1, and the interpretation that one of a consistent
+-- Certificates: derivation lines, each by one of the twenty rules of format 1, and the interpretation that one of a consistent
 -- ontology lists.
 -- Expressions, properties, individuals, axioms and elements stand as their numbers.
 use Rattle.std.specs.Prelude.{ℕ, List}
 use Rattle.std.specs.declared.option.Option.{Option}
 pub use Rattle.certificate.specs.declared.line.Rule.{Rule}
-pub use Rattle.certificate.specs.declared.line.Rule.TheVariants.{K1, K2, K3, K4, K5, K6, K7, K8, K9, K10, K11, K12, K13, K14, K15, K16}
+pub use Rattle.certificate.specs.declared.line.Rule.TheVariants.{K1, K2, K3, K4, K5, K6, K7, K8, K9, K10, K11, K12, K13, K14, K15, K16, K17, K18, K19, K20}
 
 -- an expression or an individual
 pub data Subject : Type 0 where
   Expression : (expression : ℕ) → Subject
   Individual : (individual : ℕ) → Subject
 
--- the subject lies in the class; or each element of the source has a pair of the property into the target
+-- the subject lies in the class; or each element of the source has a pair of the property into the target; or the two individuals have
+-- one element
 pub data Conclusion : Type 0 where
   Sub : (subject : Subject) (class : ℕ) → Conclusion
   Edge : (source : Subject) (property : ℕ) (target : Subject) → Conclusion
+  Same : (first second : ℕ) → Conclusion
 
 -- a conclusion by a rule, from an axiom or none and from earlier lines, counted from 1
 pub record Line : Type 0 where

@@ -1,6 +1,6 @@
 -- Reading derivation lines. Whether a line's numbers are those of an ontology is asked of the line, not of the text.
 use Rattle.std.specs.Prelude.{ℕ, zero, suc, List, [], ◌∷◌, Option, Some, None, codes, slice_get}
-use Rattle.certificate.specs.Certificate.{Subject, Expression, Individual, Conclusion, Sub, Edge, Rule, K1, K2, K3, K4, K5, K6, K7, K8, K9, K10, K11, K12, K13, K14, K15, K16, Line}
+use Rattle.certificate.specs.Certificate.{Subject, Expression, Individual, Conclusion, Sub, Edge, Same, Rule, K1, K2, K3, K4, K5, K6, K7, K8, K9, K10, K11, K12, K13, K14, K15, K16, K17, K18, K19, K20, Line}
 use Rattle.certificate.specs.Text.{line_feed}
 use Rattle.certificate.specs.Tests.{is_small}
 use Rattle.certificate.specs.Reading.{Reader, ◌>>=◌, behind, both, such, made, by_word, ended, many, number_at}
@@ -16,10 +16,12 @@ unfoldable pub conclusion_at : Reader Conclusion
 conclusion_at =
     by_word (codes "sub ")
     (made (λ p. Sub p.0 p.1) (both subject_at (behind (codes " e") small_at)))
-    (made (λ p. Edge p.0 p.1.0 p.1.1) (behind (codes "edge ") (both subject_at (both (behind (codes " p") small_at) (behind (codes " ") subject_at)))))
+    (by_word (codes "same i")
+     (made (λ p. Same p.0 p.1) (both small_at (behind (codes " i") small_at)))
+     (made (λ p. Edge p.0 p.1.0 p.1.1) (behind (codes "edge ") (both subject_at (both (behind (codes " p") small_at) (behind (codes " ") subject_at))))))
 
 abbrev pub all_rules : List Rule
-all_rules = K1 ∷ K2 ∷ K3 ∷ K4 ∷ K5 ∷ K6 ∷ K7 ∷ K8 ∷ K9 ∷ K10 ∷ K11 ∷ K12 ∷ K13 ∷ K14 ∷ K15 ∷ K16 ∷ []
+all_rules = K1 ∷ K2 ∷ K3 ∷ K4 ∷ K5 ∷ K6 ∷ K7 ∷ K8 ∷ K9 ∷ K10 ∷ K11 ∷ K12 ∷ K13 ∷ K14 ∷ K15 ∷ K16 ∷ K17 ∷ K18 ∷ K19 ∷ K20 ∷ []
 
 -- the rule of that number
 unfoldable pub numbered_rule : ℕ → Option Rule

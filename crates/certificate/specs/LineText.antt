@@ -1,7 +1,7 @@
 -- The text of the lines of a derivation as it grows, behind the first line of a consistent certificate.
 use Rattle.std.specs.Prelude.{◌≡◌, ℕ, ◌++◌, List, length, map, drop, Option, Some, None, Bool, true, ◌&&◌, codes}
 use Rattle.std.specs.List.{list_all, flat_map}
-use Rattle.certificate.specs.Certificate.{Subject, Expression, Individual, Conclusion, Sub, Edge, Line}
+use Rattle.certificate.specs.Certificate.{Subject, Expression, Individual, Conclusion, Sub, Edge, Same, Line}
 use Rattle.certificate.specs.Tests.{is_small, is_premise}
 use Rattle.certificate.specs.LineReading.{line_at}
 use Rattle.certificate.specs.Reading.{many_from}
@@ -16,10 +16,11 @@ first_line = codes "elcert 1 consistent\n"
 unfoldable pub lines_in : List ℕ → List Line
 lines_in text = (many_from (λ last. line_at) None (length (drop 20 text)) (drop 20 text)).0
 
--- what a line speaks of: the subject, or the start of an edge
+-- what a line speaks of: the subject, the start of an edge, or the first of two that are one
 abbrev pub source_of : Conclusion → Subject
 source_of (Sub x c) = x
 source_of (Edge x r y) = x
+source_of (Same a b) = Individual a
 
 -- ---- numbers that are read again: of 32 bits, and premises from 1
 
@@ -30,6 +31,7 @@ is_small_subject (Individual a) = is_small a
 abbrev pub is_small_conclusion : Conclusion → Bool
 is_small_conclusion (Sub x c) = is_small_subject x && is_small c
 is_small_conclusion (Edge x r y) = is_small_subject x && (is_small r && is_small_subject y)
+is_small_conclusion (Same a b) = is_small a && is_small b
 
 abbrev pub is_small_axiom : Option ℕ → Bool
 is_small_axiom None = true

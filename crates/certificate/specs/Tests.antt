@@ -2,7 +2,7 @@
 use Rattle.std.specs.Prelude.{ℕ, ◌^◌, List, [], ◌∷◌, length, Option, Some, None, Bool, true, false, ◌&&◌, ◌||◌, nat_lt, nat_le, ◌==◌, option_map, slice_get}
 use Rattle.std.specs.List.{list_all}
 use Rattle.axioms.specs.Ontology.{Ontology, Node, Class, And, Exists}
-use Rattle.certificate.specs.Certificate.{Subject, Expression, Individual, Conclusion, Sub, Edge, Line, Listed, Certificate}
+use Rattle.certificate.specs.Certificate.{Subject, Expression, Individual, Conclusion, Sub, Edge, Same, Line, Listed, Certificate}
 
 -- the number has 32 bits
 abbrev pub is_small : ℕ → Bool
@@ -18,6 +18,7 @@ fits_property o r = nat_lt r (length o.names.properties) && is_small r
 abbrev pub fits_conclusion : Ontology → Conclusion → Bool
 fits_conclusion o (Sub x c) = fits_subject o x && fits_subject o (Expression c)
 fits_conclusion o (Edge x r y) = fits_subject o x && fits_property o r && fits_subject o y
+fits_conclusion o (Same a b) = fits_subject o (Individual a) && fits_subject o (Individual b)
 
 abbrev pub fits_axiom : Ontology → Option ℕ → Bool
 fits_axiom o None = true

@@ -3,7 +3,7 @@ use Rattle.std.specs.Prelude.{ℕ, List, [], ◌∷◌, ◌++◌, Some, None, co
 use Rattle.std.specs.declared.option.Option.{Option}
 use Rattle.std.specs.List.{flat_map, enumerate_from}
 use Rattle.std.specs.Fmt.{decimal}
-use Rattle.certificate.specs.Certificate.{Subject, Expression, Individual, Conclusion, Sub, Edge, Rule, K1, K2, K3, K4, K5, K6, K7, K8, K9, K10, K11, K12, K13, K14, K15, K16, Line, Listed, Certificate}
+use Rattle.certificate.specs.Certificate.{Subject, Expression, Individual, Conclusion, Sub, Edge, Same, Rule, K1, K2, K3, K4, K5, K6, K7, K8, K9, K10, K11, K12, K13, K14, K15, K16, K17, K18, K19, K20, Line, Listed, Certificate}
 
 -- the end of a line
 abbrev pub line_feed : List ℕ
@@ -26,6 +26,10 @@ rule_number K13 = 13
 rule_number K14 = 14
 rule_number K15 = 15
 rule_number K16 = 16
+rule_number K17 = 17
+rule_number K18 = 18
+rule_number K19 = 19
+rule_number K20 = 20
 
 -- a letter and a number, as e2
 abbrev pub lettered_number : List ℕ → ℕ → List ℕ
@@ -40,10 +44,11 @@ abbrev pub subject_text : Subject → List ℕ
 subject_text (Expression e) = lettered_number (codes "e") e
 subject_text (Individual a) = lettered_number (codes "i") a
 
--- as sub e2 e3 or edge e2 p0 e3
+-- as sub e2 e3, edge e2 p0 e3 or same i0 i1
 abbrev pub conclusion_text : Conclusion → List ℕ
 conclusion_text (Sub x c) = codes "sub " ++ subject_text x ++ lettered_number (codes " e") c
 conclusion_text (Edge x r y) = codes "edge " ++ subject_text x ++ lettered_number (codes " p") r ++ codes " " ++ subject_text y
+conclusion_text (Same a b) = lettered_number (codes "same i") a ++ lettered_number (codes " i") b
 
 abbrev pub axiom_text : Option ℕ → List ℕ
 axiom_text None = []

@@ -5,7 +5,7 @@ use Rattle.certificate.specs.Certificate as certificate
 use Rattle.certificate.specs.declared.line.Subject.{Subject}
 use Rattle.certificate.specs.declared.line.Subject.TheVariants.{Expr, Individual}
 use Rattle.certificate.specs.declared.line.Conclusion.{Conclusion}
-use Rattle.certificate.specs.declared.line.Conclusion.TheVariants.{Sub, Edge}
+use Rattle.certificate.specs.declared.line.Conclusion.TheVariants.{Sub, Edge, Same}
 use Rattle.certificate.specs.declared.line.Line.{Line}
 use Rattle.certificate.specs.declared.listed.ClassRow.{ClassRow}
 use Rattle.certificate.specs.declared.listed.PairRow.{PairRow}
@@ -19,6 +19,7 @@ subject_of (Individual a) = certificate.Individual a.0
 abbrev pub conclusion_of : Conclusion → certificate.Conclusion
 conclusion_of (Sub x c) = certificate.Sub (subject_of x) c.0
 conclusion_of (Edge x r y) = certificate.Edge (subject_of x) r.0 (subject_of y)
+conclusion_of (Same a b) = certificate.Same a.0 b.0
 
 abbrev pub line_of : Line → certificate.Line
 line_of l = record { conclusion = conclusion_of l.conclusion; rule = l.rule; axiom' = l.axiom; premises = l.premises.items }

@@ -3,7 +3,7 @@ use Rattle.std.specs.Prelude.{◌≡◌, ℕ, ◌<◌, ◌≤◌, ◌^◌, ◌�
 use Rattle.std.specs.declared.option.Option.{Option}
 use Rattle.std.specs.List.{All, AllPairs, flat_map, enumerate_from}
 use Rattle.axioms.specs.Ontology.{Ontology, IsClassAt}
-use Rattle.certificate.specs.Certificate.{Subject, Expression, Individual, Conclusion, Sub, Edge, Line, Listed, Certificate}
+use Rattle.certificate.specs.Certificate.{Subject, Expression, Individual, Conclusion, Sub, Edge, Same, Line, Listed, Certificate}
 use Rattle.certificate.specs.Text.{certificate_text}
 
 -- what a subject names is there
@@ -15,6 +15,7 @@ IsSubjectOf o (Individual a) = a < length o.names.individuals
 abbrev pub IsConclusionOf : Ontology → Conclusion → Type 0
 IsConclusionOf o (Sub x c) = IsSubjectOf o x × (c < length o.nodes)
 IsConclusionOf o (Edge x r y) = IsSubjectOf o x × (r < length o.names.properties) × IsSubjectOf o y
+IsConclusionOf o (Same a b) = (a < length o.names.individuals) × (b < length o.names.individuals)
 
 -- the number is that of an axiom, where there is one
 abbrev pub IsAxiomNumberOf : Ontology → Option ℕ → Type 0
@@ -66,6 +67,7 @@ subject_number (Individual a) = a
 abbrev pub conclusion_numbers : Conclusion → List ℕ
 conclusion_numbers (Sub x c) = subject_number x ∷ c ∷ []
 conclusion_numbers (Edge x r y) = subject_number x ∷ r ∷ subject_number y ∷ []
+conclusion_numbers (Same a b) = a ∷ b ∷ []
 
 abbrev pub axiom_numbers : Option ℕ → List ℕ
 axiom_numbers None = []

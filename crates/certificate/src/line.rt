@@ -21,6 +21,8 @@ pub enum Conclusion {
     Sub(Subject, ExprId),
     /// Each element of the first subject has a successor by the property in the second.
     Edge(Subject, PropId, Subject),
+    /// The two individuals have one element.
+    Same(IndId, IndId),
 }
 
 impl Conclusion {

@@ -1,8 +1,8 @@
 -- The facts that the normal forms lead to.
-use Rattle.std.specs.Prelude.{ℕ, ◌<◌, List, [], ◌∷◌, length}
+use Rattle.std.specs.Prelude.{ℕ, ◌<◌, ◌⊎◌, List, [], ◌∷◌, length}
 use Rattle.std.specs.List.{All, Contains}
 use Rattle.axioms.specs.Ontology.{Ontology, IsClassAt, thing, nothing}
-use Rattle.normal_forms.specs.Forms.{Class2, Whole, Property2, Property, N1, N2, N3, N4, N5, N6, N7, N8, N9, IsForm}
+use Rattle.normal_forms.specs.Forms.{Class2, Whole, Property2, Property, N1, N2, N3, N4, N5, N6, N7, N8, N9, N10, N11, N12, IsForm}
 
 -- what classes are in, and what edges join
 pub data Context : Type 0 where
@@ -19,6 +19,16 @@ pub data IsAtOrBelow (o : Ontology) (asked : List ℕ) : Property2 → Property2
   same : {r : Property2} → IsAtOrBelow o asked r r
   step : {r : Property2} (s t : ℕ) → IsAtOrBelow o asked r (Property s) → IsForm o asked (N5 s t) → IsAtOrBelow o asked r (Property t)
 
+-- the two individuals have one element: forms N10 lead from one to the other, each in either direction
+pub data AreSame (o : Ontology) (asked : List ℕ) : ℕ → ℕ → Type 0 where
+  itself : {a : ℕ} → AreSame o asked a a
+  forth : {a b : ℕ} (c : ℕ) → AreSame o asked a c → IsForm o asked (N10 c b) → AreSame o asked a b
+  back : {a b : ℕ} (c : ℕ) → AreSame o asked a c → IsForm o asked (N10 b c) → AreSame o asked a b
+
+-- one form N10 leads from one to the other, in either direction
+abbrev pub IsLink : Ontology → List ℕ → ℕ → ℕ → Type 0
+IsLink o asked a b = IsForm o asked (N10 a b) ⊎ IsForm o asked (N10 b a)
+
 -- the expressions that are asked about are there
 abbrev pub AreAsked : Ontology → List ℕ → Type 0
 AreAsked o asked = All (λ e. e < length o.nodes) asked
@@ -34,7 +44,7 @@ pub data IsContextBy (o : Ontology) (asked : List ℕ) : List Fact → Context �
   root : {x : Context} → IsRoot o asked x → IsContextBy o asked [] x
   target : {y : Context} (x : Context) (r : Property2) → IsContextBy o asked (Edge x r y ∷ []) y
 
--- the facts, in their order, give the fact by one of the ten conditions
+-- the facts, in their order, give the fact by one of the thirteen conditions
 pub data Gives (o : Ontology) (asked : List ℕ) : List Fact → Fact → Type 0 where
   in_thing : {older : List Fact} {x : Context} → IsContextBy o asked older x → Gives o asked older (In (Whole thing) x)
   in_itself : {older : List Fact} {e : ℕ} → IsContextBy o asked older (Expression e) → Gives o asked older (In (Whole e) (Expression e))
@@ -47,6 +57,11 @@ pub data Gives (o : Ontology) (asked : List ℕ) : List Fact → Fact → Type 0
   unsatisfiable : {x : Context} (r : Property2) (y : Context) → Gives o asked (Edge x r y ∷ In (Whole nothing) y ∷ []) (In (Whole nothing) x)
   chained : {x z : Context} {t : Property2} (r s p q : Property2) (y : Context) → IsForm o asked (N6 r s t) → IsAtOrBelow o asked p r → IsAtOrBelow o asked q s → Gives o asked (Edge x p y ∷ Edge y q z ∷ []) (Edge x t z)
   loop : {older : List Fact} {x : Context} (r : ℕ) → IsForm o asked (N7 r) → IsContextBy o asked older x → Gives o asked older (Edge x (Property r) x)
+  same_class : {b : ℕ} {c : Class2} (a : ℕ) → AreSame o asked a b → Gives o asked (In c (Individual a) ∷ []) (In c (Individual b))
+  same_source : {b : ℕ} {r : Property2} {y : Context} (a : ℕ) → AreSame o asked a b → Gives o asked (Edge (Individual a) r y ∷ []) (Edge (Individual b) r y)
+  same_target : {b : ℕ} {r : Property2} {x : Context} (a : ℕ) → AreSame o asked a b → Gives o asked (Edge x r (Individual a) ∷ []) (Edge x r (Individual b))
+  different : {a : ℕ} (b : ℕ) → IsForm o asked (N11 a b) → AreSame o asked a b → Gives o asked [] (In (Whole nothing) (Individual a))
+  denied : {a : ℕ} (r b : ℕ) (q : Property2) → IsForm o asked (N12 a r b) → IsAtOrBelow o asked q (Property r) → Gives o asked (Edge (Individual a) q (Individual b) ∷ []) (In (Whole nothing) (Individual a))
 
 -- the closure: the facts with a finite derivation tree
 mutual

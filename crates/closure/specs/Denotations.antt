@@ -12,7 +12,7 @@ use Rattle.normal_forms.specs.declared.forms.PropId2 as code_property
 use Rattle.normal_forms.specs.declared.forms.PropId2.TheVariants as properties
 use Rattle.normal_forms.specs.declared.forms.Form as code_form
 use Rattle.normal_forms.specs.declared.forms.Form.TheVariants as forms
-use Rattle.normal_forms.specs.Forms.{Class2, Whole, Prefix, Property2, Property, Steps, Form, N1, N2, N3, N4, N5, N6, N7, N8, N9, IsForm}
+use Rattle.normal_forms.specs.Forms.{Class2, Whole, Prefix, Property2, Property, Steps, Form, N1, N2, N3, N4, N5, N6, N7, N8, N9, N10, N11, N12, IsForm}
 use Rattle.facts.specs.declared.contexts.Context as code_context
 use Rattle.facts.specs.declared.contexts.Context.TheVariants as contexts
 use Rattle.facts.specs.declared.contexts.Fact as code_fact
@@ -58,6 +58,9 @@ pub data SaysForm (b : Prefixes) : code_form.Form → Form → Type 0 where
   n7 : {r : PropId} {r' : ℕ} → r.0 ≡ r' → SaysForm b (forms.N7 r) (N7 r')
   n8 : {i : IndId} {i' : ℕ} {a : code_class.Class2} {a' : Class2} → i.0 ≡ i' → SaysClass b a a' → SaysForm b (forms.N8 i a) (N8 i' a')
   n9 : {i j : IndId} {i' j' : ℕ} {r : PropId} {r' : ℕ} → i.0 ≡ i' → r.0 ≡ r' → j.0 ≡ j' → SaysForm b (forms.N9 i r j) (N9 i' r' j')
+  n10 : {i j : IndId} {i' j' : ℕ} → i.0 ≡ i' → j.0 ≡ j' → SaysForm b (forms.N10 i j) (N10 i' j')
+  n11 : {i j : IndId} {i' j' : ℕ} → i.0 ≡ i' → j.0 ≡ j' → SaysForm b (forms.N11 i j) (N11 i' j')
+  n12 : {i j : IndId} {i' j' : ℕ} {r : PropId} {r' : ℕ} → i.0 ≡ i' → r.0 ≡ r' → j.0 ≡ j' → SaysForm b (forms.N12 i r j) (N12 i' r' j')
 
 -- the forms and roots over numbers are exactly those of the ontology and of what is asked about; no prefix has two numbers
 pub record IsProblemOf (o : Ontology) (asked : List ℕ) (b : Prefixes) (k : Problem) : Type 0 where

@@ -1,12 +1,14 @@
--- The facts that normal forms lead to, by ten conditions.
-use Rattle.std.specs.Prelude.{◌≡◌, ℕ, List, [], ◌∷◌, slice_get, Option, Some, None}
+-- The facts that normal forms lead to, by thirteen conditions.
+use Rattle.std.specs.Prelude.{◌≡◌, ◌⊎◌, ℕ, List, [], ◌∷◌, slice_get, Option, Some, None}
 use Rattle.std.specs.List.{Contains}
 use Rattle.axioms.specs.declared.ids.ExprId.{ExprId}
+use Rattle.axioms.specs.declared.ids.IndId.{IndId}
 use Rattle.normal_forms.specs.declared.forms.Class2.{Class2}
 use Rattle.normal_forms.specs.declared.forms.Class2.TheVariants as class
+use Rattle.normal_forms.specs.declared.forms.PropId2.{PropId2}
 use Rattle.normal_forms.specs.declared.forms.PropId2.TheVariants.{Property}
 use Rattle.normal_forms.specs.declared.forms.Form.{Form}
-use Rattle.normal_forms.specs.declared.forms.Form.TheVariants.{N1, N2, N3, N4, N5, N6, N7, N8, N9}
+use Rattle.normal_forms.specs.declared.forms.Form.TheVariants.{N1, N2, N3, N4, N5, N6, N7, N8, N9, N10, N11, N12}
 use Rattle.normal_forms.specs.Properties.{IsAtOrBelow}
 use Rattle.facts.specs.declared.contexts.Context.{Context}
 use Rattle.facts.specs.declared.contexts.Context.TheVariants.{Expr, Individual}
@@ -42,10 +44,11 @@ FromNone (N9 i r j) f = f ≡ Edge (Individual i) (Property r) (Individual j)
 FromNone _ f = ⊥
 
 -- what a form gives from one fact
-abbrev pub FromOne : Form → Fact → Fact → Type 0
-FromOne (N1 a b) (In c x) f = (c ≡ a) × (f ≡ In b x)
-FromOne (N3 a r b) (In c x) f = (c ≡ a) × (f ≡ Edge x (Property r) (Expr b))
-FromOne _ _ f = ⊥
+abbrev pub FromOne : Problem → Form → Fact → Fact → Type 0
+FromOne k (N1 a b) (In c x) f = (c ≡ a) × (f ≡ In b x)
+FromOne k (N3 a r b) (In c x) f = (c ≡ a) × (f ≡ Edge x (Property r) (Expr b))
+FromOne k (N12 a r b) (Edge x q y) f = (x ≡ Individual a) × (y ≡ Individual b) × IsAtOrBelow k.forms q (Property r) × (f ≡ In nothing x)
+FromOne k _ _ f = ⊥
 
 -- what a form gives from two facts, in their order
 abbrev pub FromTwo : Problem → Form → Fact → Fact → Fact → Type 0
@@ -57,7 +60,7 @@ FromTwo k _ _ _ f = ⊥
 -- what a form gives from these facts, in their order
 abbrev pub Concludes : Problem → Form → List Fact → Fact → Type 0
 Concludes k form [] f = FromNone form f
-Concludes k form (g ∷ []) f = FromOne form g f
+Concludes k form (g ∷ []) f = FromOne k form g f
 Concludes k form (g ∷ h ∷ []) f = FromTwo k form g h f
 Concludes k form (g ∷ h ∷ i ∷ more) f = ⊥
 
@@ -72,6 +75,25 @@ condition (N6 _ _ _) = 9
 condition (N7 _) = 10
 condition (N8 _ _) = 2
 condition (N9 _ _ _) = 3
+condition (N10 _ _) = 11
+condition (N11 _ _) = 12
+condition (N12 _ _ _) = 13
+
+-- the form makes the two one, in either order
+abbrev pub Links : Form → IndId → IndId → Type 0
+Links (N10 a b) i j = ((i ≡ a) × (j ≡ b)) ⊎ ((i ≡ b) × (j ≡ a))
+Links _ i j = ⊥
+
+-- one of the two stands for the other, once
+pub data HandsOn (form : Form) : Fact → Fact → Type 0 where
+  class : {i j : IndId} {c : Class2} → Links form i j → HandsOn form (In c (Individual i)) (In c (Individual j))
+  source : {i j : IndId} {r : PropId2} {y : Context} → Links form i j → HandsOn form (Edge (Individual i) r y) (Edge (Individual j) r y)
+  target : {i j : IndId} {r : PropId2} {x : Context} → Links form i j → HandsOn form (Edge x r (Individual i)) (Edge x r (Individual j))
+
+-- forms lead from one individual to the other, each in either direction, or it is itself
+pub data AreSame (forms : List Form) : IndId → IndId → Type 0 where
+  itself : {i : IndId} → AreSame forms i i
+  step : {i j : IndId} (h : IndId) (form : Form) → AreSame forms i h → Contains forms form → Links form h j → AreSame forms i j
 
 -- owl:Nothing at the target of an edge is carried to its source
 abbrev pub Carries : Fact → Fact → Fact → Type 0
@@ -94,6 +116,8 @@ pub data Gives (k : Problem) : ℕ → Option ℕ → List Fact → Fact → Typ
   by_form : {older : List Fact} {f : Fact} (n : ℕ) (form : Form) → slice_get k.forms n ≡ Some form → Concludes k form older f → Gives k (condition form) (Some n) older f
   unsatisfiable : {older : List Fact} {f : Fact} → CarriesBack older f → Gives k 8 None older f
   loop : {older : List Fact} {f : Fact} (x : Context) (n : ℕ) (form : Form) → slice_get k.forms n ≡ Some form → IsLoop x form f → IsContextBy k older x → Gives k 10 (Some n) older f
+  handed_on : {g f : Fact} (n : ℕ) (form : Form) → slice_get k.forms n ≡ Some form → HandsOn form g f → Gives k 11 (Some n) (g ∷ []) f
+  different : (n : ℕ) (a b : IndId) → slice_get k.forms n ≡ Some (N11 a b) → AreSame k.forms a b → Gives k 12 (Some n) [] (In nothing (Individual a))
 
 -- the closure: the facts with a finite derivation tree
 mutual

@@ -1,7 +1,7 @@
 -- Normal forms: what each axiom gives, over expressions and over prefixes of intersections and chains.
 use Rattle.std.specs.Prelude.{◌≡◌, ℕ, ◌+◌, ◌<◌, ◌⊎◌, List, [], ◌∷◌, length, slice_get, slice_index, Some, take, if◌then◌else◌, ◌==◌}
 use Rattle.std.specs.List.{Contains}
-use Rattle.axioms.specs.Ontology.{Ontology, And, Exists, thing, nothing, SubClass, EquivalentClasses, DisjointClasses, SubProperty, EquivalentProperties, Domain, Transitive, Reflexive, ClassAssertion, PropertyAssertion}
+use Rattle.axioms.specs.Ontology.{Ontology, And, Exists, thing, nothing, SubClass, EquivalentClasses, DisjointClasses, SubProperty, EquivalentProperties, Domain, Transitive, Reflexive, ClassAssertion, PropertyAssertion, SameIndividuals, DifferentIndividuals, NegativePropertyAssertion}
 use Rattle.normal_forms.specs.Occurrences.{OccursRight, OccursLeft}
 
 -- a class of a normal form: an expression, or a prefix of an intersection, of two or more operands
@@ -14,7 +14,8 @@ pub data Property2 : Type 0 where
   Property : (property : ℕ) → Property2
   Steps : (properties : List ℕ) → Property2
 
--- the nine forms: inclusions of classes (N1 to N4), of properties (N5, N6), reflexivity (N7), assertions (N8, N9)
+-- the twelve forms: inclusions of classes (N1 to N4), of properties (N5, N6), reflexivity (N7), assertions (N8, N9), individuals that
+-- are one (N10) and that are two (N11), and pairs that are denied (N12)
 pub data Form : Type 0 where
   N1 : (a b : Class2) → Form
   N2 : (a b c : Class2) → Form
@@ -25,6 +26,9 @@ pub data Form : Type 0 where
   N7 : (r : ℕ) → Form
   N8 : (individual : ℕ) (a : Class2) → Form
   N9 : (source property target : ℕ) → Form
+  N10 : (first second : ℕ) → Form
+  N11 : (first second : ℕ) → Form
+  N12 : (source property target : ℕ) → Form
 
 -- the first n operands of a list: an operand alone, a prefix, or the whole intersection e
 abbrev pub first_of : List ℕ → ℕ → ℕ → Class2
@@ -37,6 +41,10 @@ first_steps rs s n = if n == length rs then s else (if n == 1 then Property (sli
 -- neighbours in a list, and its last with its first
 abbrev pub IsNextInCircle : List ℕ → ℕ → ℕ → Type 0
 IsNextInCircle cs c d = (n : ℕ) × (slice_get cs n ≡ Some c) × ((slice_get cs (n + 1) ≡ Some d) ⊎ ((n + 1 ≡ length cs) × (slice_get cs 0 ≡ Some d)))
+
+-- neighbours in a list
+abbrev pub IsNext : List ℕ → ℕ → ℕ → Type 0
+IsNext xs a b = (n : ℕ) × (slice_get xs n ≡ Some a) × (slice_get xs (n + 1) ≡ Some b)
 
 -- two members of a list, the first at an earlier place
 abbrev pub AtOrderedPlaces : List ℕ → ℕ → ℕ → Type 0
@@ -59,3 +67,6 @@ pub data IsForm (o : Ontology) (asked : List ℕ) : Form → Type 0 where
   reflexive : (r : ℕ) → Contains o.axioms (Reflexive r) → IsForm o asked (N7 r)
   class_assertion : (c a : ℕ) → Contains o.axioms (ClassAssertion c a) → IsForm o asked (N8 a (Whole c))
   property_assertion : (r a b : ℕ) → Contains o.axioms (PropertyAssertion r a b) → IsForm o asked (N9 a r b)
+  same_individuals : (xs : List ℕ) (a b : ℕ) → Contains o.axioms (SameIndividuals xs) → IsNext xs a b → IsForm o asked (N10 a b)
+  different_individuals : (xs : List ℕ) (a b : ℕ) → Contains o.axioms (DifferentIndividuals xs) → AtOrderedPlaces xs a b → IsForm o asked (N11 a b)
+  negative_assertion : (r a b : ℕ) → Contains o.axioms (NegativePropertyAssertion r a b) → IsForm o asked (N12 a r b)

@@ -1,11 +1,11 @@
 -- The forms by what gives them: an axiom, an expression that occurs right, one that occurs left.
 use Rattle.std.specs.Prelude.{◌≡◌, ℕ, ◌+◌, ◌<◌, ◌⊎◌, List, [], ◌∷◌, length, slice_get, Some}
 use Rattle.std.specs.List.{Contains}
-use Rattle.axioms.specs.Ontology.{Ontology, Axiom, Node, Class, And, Exists, thing, nothing, SubClass, EquivalentClasses, DisjointClasses, SubProperty, EquivalentProperties, Domain, Transitive, Reflexive, ClassAssertion, PropertyAssertion}
+use Rattle.axioms.specs.Ontology.{Ontology, Axiom, Node, Class, And, Exists, thing, nothing, SubClass, EquivalentClasses, DisjointClasses, SubProperty, EquivalentProperties, Domain, Transitive, Reflexive, ClassAssertion, PropertyAssertion, SameIndividuals, DifferentIndividuals, NegativePropertyAssertion}
 use Rattle.axioms.specs.View.{at_number}
 use Rattle.normal_forms.specs.declared.forms.Origin.{Origin}
 use Rattle.normal_forms.specs.declared.forms.Origin.TheVariants as origins
-use Rattle.normal_forms.specs.Forms.{Form, Whole, Property, N1, N2, N3, N4, N5, N6, N7, N8, N9, first_of, first_steps}
+use Rattle.normal_forms.specs.Forms.{Form, Whole, Property, N1, N2, N3, N4, N5, N6, N7, N8, N9, N10, N11, N12, first_of, first_steps}
 use Rattle.normal_forms.specs.Occurrences.{Occurs, AtRight, AtLeft}
 
 -- the n-th of a circle and the next, or its last and its first
@@ -19,8 +19,12 @@ abbrev pub disjoint : ℕ → ℕ → Form
 disjoint c d = N2 (Whole c) (Whole d) (Whole nothing)
 
 -- the m-th and the n-th of a list, where that is a later one
-abbrev pub PairGives : List ℕ → ℕ → ℕ → Form → Type 0
-PairGives cs m n g = (c : ℕ) × (d : ℕ) × (m < n) × (slice_get cs m ≡ Some c) × (slice_get cs n ≡ Some d) × (g ≡ disjoint c d)
+abbrev pub PairGives : (ℕ → ℕ → Form) → List ℕ → ℕ → ℕ → Form → Type 0
+PairGives make cs m n g = (c : ℕ) × (d : ℕ) × (m < n) × (slice_get cs m ≡ Some c) × (slice_get cs n ≡ Some d) × (g ≡ make c d)
+
+-- the n-th of a list and the next
+abbrev pub NextGives : (ℕ → ℕ → Form) → List ℕ → ℕ → Form → Type 0
+NextGives make xs n g = (a : ℕ) × (b : ℕ) × (slice_get xs n ≡ Some a) × (slice_get xs (n + 1) ≡ Some b) × (g ≡ make a b)
 
 -- the n-th operand after those before it
 abbrev pub AndGives : List ℕ → ℕ → ℕ → Form → Type 0
@@ -34,7 +38,7 @@ ChainGives rs s n g = (r : ℕ) × (0 < n) × (slice_get rs n ≡ Some r) × (g 
 abbrev pub AxiomGives : Axiom → Form → Type 0
 AxiomGives (SubClass c d) g = g ≡ N1 (Whole c) (Whole d)
 AxiomGives (EquivalentClasses cs) g = (n : ℕ) × CircleGives subsumed cs n g
-AxiomGives (DisjointClasses cs) g = (m : ℕ) × ((n : ℕ) × PairGives cs m n g)
+AxiomGives (DisjointClasses cs) g = (m : ℕ) × ((n : ℕ) × PairGives disjoint cs m n g)
 AxiomGives (SubProperty rs s) g = ((r : ℕ) × (rs ≡ r ∷ []) × (g ≡ N5 r s)) ⊎ ((n : ℕ) × ChainGives rs s n g)
 AxiomGives (EquivalentProperties rs) g = (n : ℕ) × CircleGives N5 rs n g
 AxiomGives (Domain r c) g = g ≡ N4 r (Whole thing) (Whole c)
@@ -42,6 +46,9 @@ AxiomGives (Transitive r) g = g ≡ N6 (Property r) (Property r) (Property r)
 AxiomGives (Reflexive r) g = g ≡ N7 r
 AxiomGives (ClassAssertion c a) g = g ≡ N8 a (Whole c)
 AxiomGives (PropertyAssertion r a b) g = g ≡ N9 a r b
+AxiomGives (SameIndividuals xs) g = (n : ℕ) × NextGives N10 xs n g
+AxiomGives (DifferentIndividuals xs) g = (m : ℕ) × ((n : ℕ) × PairGives N11 xs m n g)
+AxiomGives (NegativePropertyAssertion r a b) g = g ≡ N12 a r b
 
 -- what an expression gives that occurs right
 abbrev pub RightGives : ℕ → Node → Form → Type 0

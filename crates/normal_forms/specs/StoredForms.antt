@@ -30,6 +30,9 @@ form_from kinds.N6 p r q s o t = forms.N6 (property_from p r) (property_from q s
 form_from kinds.N7 _ r _ _ _ _ = forms.N7 (record { 0 = r })
 form_from kinds.N8 _ a q b _ _ = forms.N8 (record { 0 = a }) (class_from q b)
 form_from kinds.N9 _ a _ r _ b = forms.N9 (record { 0 = a }) (record { 0 = r }) (record { 0 = b })
+form_from kinds.N10 _ a _ b _ _ = forms.N10 (record { 0 = a }) (record { 0 = b })
+form_from kinds.N11 _ a _ b _ _ = forms.N11 (record { 0 = a }) (record { 0 = b })
+form_from kinds.N12 _ a _ r _ b = forms.N12 (record { 0 = a }) (record { 0 = r }) (record { 0 = b })
 
 abbrev pub form_of : StoredForm → Form
 form_of s = form_from s.kind s.first_is_partial s.first s.second_is_partial s.second s.third_is_partial s.third

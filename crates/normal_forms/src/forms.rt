@@ -28,7 +28,7 @@ impl PropId2 {
     }
 }
 
-/// The nine normal forms.
+/// The twelve normal forms.
 #[derive(Clone, Copy, Debug, PartialEq, Eq)]
 pub enum Form {
     /// A below B.
@@ -49,6 +49,12 @@ pub enum Form {
     N8(IndId, Class2),
     /// a r b.
     N9(IndId, PropId, IndId),
+    /// a and b are one.
+    N10(IndId, IndId),
+    /// a and b are two.
+    N11(IndId, IndId),
+    /// Not a r b.
+    N12(IndId, PropId, IndId),
 }
 
 impl Form {

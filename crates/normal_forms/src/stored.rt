@@ -5,7 +5,7 @@ ghost use Rattle.std.specs.Prelude.{◌≡◌};
 use crate::forms::{Class2, Form, PropId2};
 use axioms::{ExprId, IndId, PropId};
 
-/// Which of the nine normal forms it is.
+/// Which of the twelve normal forms it is.
 #[derive(Clone, Copy, Debug, PartialEq, Eq)]
 pub(crate) enum Kind {
     N1,
@@ -17,6 +17,9 @@ pub(crate) enum Kind {
     N7,
     N8,
     N9,
+    N10,
+    N11,
+    N12,
 }
 
 /// A normal form in 16 bytes: up to three numbers, in the order in which the form names them, and of each whether it is that of a fresh
@@ -70,6 +73,11 @@ impl StoredForm {
             Form::N9(a, r, b) => {
                 StoredForm::of(Kind::N9, (false, a.0), (false, r.0), (false, b.0))
             }
+            Form::N10(a, b) => StoredForm::of(Kind::N10, (false, a.0), (false, b.0), NONE),
+            Form::N11(a, b) => StoredForm::of(Kind::N11, (false, a.0), (false, b.0), NONE),
+            Form::N12(a, r, b) => {
+                StoredForm::of(Kind::N12, (false, a.0), (false, r.0), (false, b.0))
+            }
         }
     }
 
@@ -95,6 +103,9 @@ impl StoredForm {
             Kind::N7 => Form::N7(PropId(first)),
             Kind::N8 => Form::N8(IndId(first), second_class),
             Kind::N9 => Form::N9(IndId(first), PropId(second), IndId(third)),
+            Kind::N10 => Form::N10(IndId(first), IndId(second)),
+            Kind::N11 => Form::N11(IndId(first), IndId(second)),
+            Kind::N12 => Form::N12(IndId(first), PropId(second), IndId(third)),
         }
     }
 }
