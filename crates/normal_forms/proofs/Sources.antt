@@ -2,7 +2,7 @@
 use Rattle.std.proofs.Common.{◌≡◌, ℕ, zero, suc, inl, inr, List, [], ◌∷◌, slice_get, Some, Contains, refl, sym, subst}
 use Rattle.std.proofs.lemmas.Option.{none-some}
 use Rattle.lemmas.proofs.Members.{Contains-from_slice_get, slice_get-from_Contains}
-use Rattle.axioms.specs.Ontology.{Ontology, Axiom, Node, Class, And, Exists, SubClass, EquivalentClasses, DisjointClasses, SubProperty, EquivalentProperties, Domain, Transitive, Reflexive, ClassAssertion, PropertyAssertion}
+use Rattle.axioms.specs.Ontology.{Ontology, Axiom, Node, Class, And, Exists, SubClass, EquivalentClasses, DisjointClasses, SubProperty, EquivalentProperties, Domain, Transitive, Reflexive, ClassAssertion, PropertyAssertion, SameIndividuals, DifferentIndividuals, NegativePropertyAssertion}
 use Rattle.normal_forms.specs.declared.forms.Origin.{Origin}
 use Rattle.normal_forms.specs.declared.forms.Origin.TheVariants as origins
 use Rattle.normal_forms.specs.Forms as forms
@@ -66,6 +66,9 @@ given o asked _ (forms.IsForm.transitive r k) = by_axiom o asked (Transitive r) 
 given o asked _ (forms.IsForm.reflexive r k) = by_axiom o asked (Reflexive r) _ k refl
 given o asked _ (forms.IsForm.class_assertion c a k) = by_axiom o asked (ClassAssertion c a) _ k refl
 given o asked _ (forms.IsForm.property_assertion r a b k) = by_axiom o asked (PropertyAssertion r a b) _ k refl
+given o asked _ (forms.IsForm.same_individuals xs a b k next) = by_axiom o asked (SameIndividuals xs) _ k (next.0, (a, b, next.1, next.2, refl))
+given o asked _ (forms.IsForm.different_individuals xs a b k two) = by_axiom o asked (DifferentIndividuals xs) _ k (two.0, (two.1, (a, b, two.2, two.3, two.4, refl)))
+given o asked _ (forms.IsForm.negative_assertion r a b k) = by_axiom o asked (NegativePropertyAssertion r a b) _ k refl
 
 of_axiom : (o : Ontology) (asked : List ℕ) (a : Axiom) (g : Form) → Contains o.axioms a → AxiomGives a g → IsForm o asked g
 of_axiom o asked (SubClass c d) g k h = subst (IsForm o asked) (sym h) (forms.IsForm.sub_class c d k)
@@ -79,6 +82,9 @@ of_axiom o asked (Transitive r) g k h = subst (IsForm o asked) (sym h) (forms.Is
 of_axiom o asked (Reflexive r) g k h = subst (IsForm o asked) (sym h) (forms.IsForm.reflexive r k)
 of_axiom o asked (ClassAssertion c a) g k h = subst (IsForm o asked) (sym h) (forms.IsForm.class_assertion c a k)
 of_axiom o asked (PropertyAssertion r a b) g k h = subst (IsForm o asked) (sym h) (forms.IsForm.property_assertion r a b k)
+of_axiom o asked (SameIndividuals xs) g k (n, (a, b, ga, gb, e)) = subst (IsForm o asked) (sym e) (forms.IsForm.same_individuals xs a b k (n, ga, gb))
+of_axiom o asked (DifferentIndividuals xs) g k (m, (n, (a, b, ne, ga, gb, e))) = subst (IsForm o asked) (sym e) (forms.IsForm.different_individuals xs a b k (m, n, ne, ga, gb))
+of_axiom o asked (NegativePropertyAssertion r a b) g k h = subst (IsForm o asked) (sym h) (forms.IsForm.negative_assertion r a b k)
 
 of_right : (o : Ontology) (asked : List ℕ) (e : ℕ) (node : Node) (g : Form) → OccursRight o asked e → slice_get o.nodes e ≡ Some node → RightGives e node g → IsForm o asked g
 of_right o asked e (Class c) g occurs at h = absurd h
