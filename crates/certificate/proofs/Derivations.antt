@@ -4,14 +4,14 @@ use Rattle.std.specs.Prelude.{codes}
 use Rattle.std.specs.Fmt.{decimal}
 use Rattle.std.proofs.lemmas.Bool.{ltb-true, lt-ltb}
 use Rattle.std.proofs.lemmas.Option.{none-some, same_Some}
-use Rattle.certificate.specs.Certificate.{Subject, Expression, Individual, Conclusion, Sub, Edge, Rule, K1, K2, K3, K4, K5, K6, K7, K8, K9, K10, K11, K12, K13, K14, K15, K16, Line}
+use Rattle.certificate.specs.Certificate.{Subject, Expression, Individual, Conclusion, Sub, Edge, Same, Rule, K1, K2, K3, K4, K5, K6, K7, K8, K9, K10, K11, K12, K13, K14, K15, K16, K17, K18, K19, K20, Line}
 use Rattle.certificate.specs.Text.{rule_number, lettered_number, spaced_numbers, subject_text, conclusion_text, axiom_text, line_text, line_feed}
 use Rattle.certificate.specs.Tests.{is_small}
 use Rattle.certificate.specs.Reading.{◌>>=◌, after, behind, both, number_at}
 use Rattle.certificate.specs.LineReading.{small_at, subject_at, conclusion_at, numbered_rule, rule_at, no_axiom_at, axiom_at, premise_at, premises_at, line_from, line_at}
 use Rattle.certificate.proofs.Words.{none_is, after_takes}
 use Rattle.certificate.proofs.Decimals.{IsApart, number_takes, number_again}
-use Rattle.certificate.proofs.Laws.{Reads, Anything, bind_some, restated, behind_reads, both_reads, such_reads, made_reads, ended_reads, by_word_reads}
+use Rattle.certificate.proofs.Laws.{Reads, Anything, bind_some, restated, behind_reads, both_reads, such_reads, made_reads, ended_reads, by_word_else, by_word_reads}
 use Rattle.certificate.proofs.Many.{Chain, ReadsEach, many_reads}
 
 abbrev pub IsNumber : ℕ → Type 0
@@ -53,6 +53,7 @@ subject_reads =
 abbrev pub FitsConclusion : Conclusion → Type 0
 FitsConclusion (Sub x c) = FitsSubject x × IsSmall c
 FitsConclusion (Edge x r y) = FitsSubject x × (IsSmall r × FitsSubject y)
+FitsConclusion (Same a b) = IsSmall a × IsSmall b
 
 abbrev sub_from : Subject × ℕ → Conclusion
 sub_from p = Sub p.0 p.1
@@ -60,19 +61,27 @@ sub_from p = Sub p.0 p.1
 abbrev edge_from : Subject × (ℕ × Subject) → Conclusion
 edge_from p = Edge p.0 p.1.0 p.1.1
 
+abbrev same_from : ℕ × ℕ → Conclusion
+same_from p = Same p.0 p.1
+
 abbrev IsSub : Conclusion → Type 0
 IsSub c = (p : Subject × ℕ) × (sub_from p ≡ c) × (FitsSubject p.0 × IsSmall p.1)
 
 abbrev IsEdge : Conclusion → Type 0
 IsEdge c = (p : Subject × (ℕ × Subject)) × (edge_from p ≡ c) × (FitsSubject p.0 × (IsSmall p.1.0 × FitsSubject p.1.1))
 
-conclusion_valid : (c : Conclusion) → IsSub c ⊎ IsEdge c → FitsConclusion c
-conclusion_valid c (inl h) = subst FitsConclusion h.1 h.2
-conclusion_valid c (inr h) = subst FitsConclusion h.1 h.2
+abbrev IsSame : Conclusion → Type 0
+IsSame c = (p : ℕ × ℕ) × (same_from p ≡ c) × (IsSmall p.0 × IsSmall p.1)
 
-conclusion_from : (c : Conclusion) → FitsConclusion c → IsSub c ⊎ IsEdge c
+conclusion_valid : (c : Conclusion) → IsSub c ⊎ (IsSame c ⊎ IsEdge c) → FitsConclusion c
+conclusion_valid c (inl h) = subst FitsConclusion h.1 h.2
+conclusion_valid c (inr (inl h)) = subst FitsConclusion h.1 h.2
+conclusion_valid c (inr (inr h)) = subst FitsConclusion h.1 h.2
+
+conclusion_from : (c : Conclusion) → FitsConclusion c → IsSub c ⊎ (IsSame c ⊎ IsEdge c)
 conclusion_from (Sub x c) h = inl ((x, c), refl, h)
-conclusion_from (Edge x r y) h = inr ((x, (r, y)), refl, h)
+conclusion_from (Edge x r y) h = inr (inr ((x, (r, y)), refl, h))
+conclusion_from (Same a b) h = inr (inl ((a, b), refl, h))
 
 class_reads : Reads IsApart IsSmall (λ c. codes " e" ++ decimal c) (behind (codes " e") small_at)
 class_reads = behind_reads IsApart IsSmall decimal small_at (codes " e") small_reads
@@ -93,11 +102,23 @@ edge_reads =
     behind_reads IsApart _ _ _ (codes "edge ")
     (both_reads IsApart IsApart FitsSubject _ subject_text _ subject_at _ subject_reads targets (λ p rest v h. refl))
 
+same_reads : Reads IsApart (λ p. IsSmall p.0 × IsSmall p.1) (λ p. decimal p.0 ++ (codes " i" ++ decimal p.1)) (both small_at (behind (codes " i") small_at))
+same_reads =
+    both_reads IsApart IsApart IsSmall IsSmall decimal (λ b. codes " i" ++ decimal b) small_at (behind (codes " i") small_at) small_reads
+    (behind_reads IsApart IsSmall decimal small_at (codes " i") small_reads) (λ b rest v h. refl)
+
+-- a line of two individuals that are one, or of an edge, does not begin as one of a subject in a class
+no_sub : (c : Conclusion) (rest : List ℕ) → IsSame c ⊎ IsEdge c → after (codes "sub ") (conclusion_text c ++ rest) ≡ None
+no_sub c rest (inl h) = subst (λ d. after (codes "sub ") (conclusion_text d ++ rest) ≡ None) h.1 refl
+no_sub c rest (inr h) = subst (λ d. after (codes "sub ") (conclusion_text d ++ rest) ≡ None) h.1 refl
+
 pub conclusion_reads : Reads IsApart FitsConclusion conclusion_text conclusion_at
 unfolding conclusion_at
 conclusion_reads =
+    let others =
+    by_word_reads IsApart _ _ _ _ conclusion_text _ _ (codes "same i") same_from edge_from same_reads edge_reads (λ p. refl) (λ p. simp append_assoc) (λ p rest v h. refl) in
     restated IsApart IsApart _ FitsConclusion conclusion_text conclusion_text conclusion_at
-    (by_word_reads IsApart _ _ _ _ conclusion_text _ _ (codes "sub ") sub_from edge_from sub_reads edge_reads (λ p. refl) (λ p. simp append_assoc) (λ p rest v h. refl))
+    (by_word_else IsApart _ _ _ conclusion_text _ _ (codes "sub ") sub_from sub_reads others (λ p. refl) (λ c rest v h. no_sub c rest v))
     (λ rest h. h) conclusion_valid conclusion_from (λ x. refl)
 
 -- ---- rules
@@ -121,7 +142,11 @@ rule_is (suc (suc (suc (suc (suc (suc (suc (suc (suc (suc (suc (suc (suc zero)))
 rule_is (suc (suc (suc (suc (suc (suc (suc (suc (suc (suc (suc (suc (suc (suc zero)))))))))))))) rule e = ap rule_number (same_Some _ _ e)
 rule_is (suc (suc (suc (suc (suc (suc (suc (suc (suc (suc (suc (suc (suc (suc (suc zero))))))))))))))) rule e = ap rule_number (same_Some _ _ e)
 rule_is (suc (suc (suc (suc (suc (suc (suc (suc (suc (suc (suc (suc (suc (suc (suc (suc zero)))))))))))))))) rule e = ap rule_number (same_Some _ _ e)
-rule_is (suc (suc (suc (suc (suc (suc (suc (suc (suc (suc (suc (suc (suc (suc (suc (suc (suc n))))))))))))))))) rule e = absurd (none-some rule e)
+rule_is (suc (suc (suc (suc (suc (suc (suc (suc (suc (suc (suc (suc (suc (suc (suc (suc (suc zero))))))))))))))))) rule e = ap rule_number (same_Some _ _ e)
+rule_is (suc (suc (suc (suc (suc (suc (suc (suc (suc (suc (suc (suc (suc (suc (suc (suc (suc (suc zero)))))))))))))))))) rule e = ap rule_number (same_Some _ _ e)
+rule_is (suc (suc (suc (suc (suc (suc (suc (suc (suc (suc (suc (suc (suc (suc (suc (suc (suc (suc (suc zero))))))))))))))))))) rule e = ap rule_number (same_Some _ _ e)
+rule_is (suc (suc (suc (suc (suc (suc (suc (suc (suc (suc (suc (suc (suc (suc (suc (suc (suc (suc (suc (suc zero)))))))))))))))))))) rule e = ap rule_number (same_Some _ _ e)
+rule_is (suc (suc (suc (suc (suc (suc (suc (suc (suc (suc (suc (suc (suc (suc (suc (suc (suc (suc (suc (suc (suc n))))))))))))))))))))) rule e = absurd (none-some rule e)
 
 rule_again : (rule : Rule) → numbered_rule (rule_number rule) ≡ Some rule
 unfolding numbered_rule
@@ -141,6 +166,10 @@ rule_again K13 = refl
 rule_again K14 = refl
 rule_again K15 = refl
 rule_again K16 = refl
+rule_again K17 = refl
+rule_again K18 = refl
+rule_again K19 = refl
+rule_again K20 = refl
 
 rule_small : (rule : Rule) → rule_number rule < 2 ^ 64
 rule_small K1 = lit< tt
@@ -159,6 +188,10 @@ rule_small K13 = lit< tt
 rule_small K14 = lit< tt
 rule_small K15 = lit< tt
 rule_small K16 = lit< tt
+rule_small K17 = lit< tt
+rule_small K18 = lit< tt
+rule_small K19 = lit< tt
+rule_small K20 = lit< tt
 
 rule_word_reads : Reads IsApart IsNumber (λ n. codes " K" ++ decimal n) (behind (codes " K") number_at)
 rule_word_reads = behind_reads IsApart IsNumber decimal number_at (codes " K") number_reads

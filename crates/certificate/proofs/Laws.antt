@@ -106,38 +106,40 @@ choice_was : {A : Type 0} (o : Option (List ℕ)) (read : Reader A) (other : Opt
 choice_was None read other y e = inr (refl, e)
 choice_was (Some rest) read other y e = inl (rest, refl, e)
 
-pub by_word_reads : {A L R : Type 0} (F : List ℕ → Type 0) (V : L → Type 0) (W : R → Type 0) (s : L → List ℕ) (u : R → List ℕ) (t : A → List ℕ) (r : Reader L) (q : Reader R) (word : List ℕ) (f : L → A) (g : R → A)
-    → Reads F V s r → Reads F W u q → ((x : L) → word ++ s x ≡ t (f x)) → ((y : R) → u y ≡ t (g y)) → ((y : R) (rest : List ℕ) → W y → F rest → after word (u y ++ rest) ≡ None)
-    → Reads F (λ a. ((x : L) × (f x ≡ a) × V x) ⊎ ((y : R) × (g y ≡ a) × W y)) t (by_word word (made f r) (made g q))
-by_word_reads {A} {L} {R} F V W s u t r q word f g h k left right other = record {
+-- what is made behind the word, and else what another reader reads
+pub by_word_else : {A L : Type 0} (F : List ℕ → Type 0) (V : L → Type 0) (W : A → Type 0) (s : L → List ℕ) (t : A → List ℕ) (r : Reader L) (q : Reader A) (word : List ℕ) (f : L → A)
+    → Reads F V s r → Reads F W t q → ((x : L) → word ++ s x ≡ t (f x)) → ((a : A) (rest : List ℕ) → W a → F rest → after word (t a ++ rest) ≡ None)
+    → Reads F (λ a. ((x : L) × (f x ≡ a) × V x) ⊎ W a) t (by_word word (made f r) q)
+by_word_else {A} {L} F V W s t r q word f h k left other = record {
   takes = λ bytes a rest e.
-      elim (choice_was (after word bytes) (made f r) (made g q bytes) (a, rest) e) [
+      elim (choice_was (after word bytes) (made f r) (q bytes) (a, rest) e) [
         | inl c ↦
             let b = bind_some (r c.0) (λ x. Some (f x.0, x.1)) (a, rest) c.2 in
             let d = h.takes c.0 b.0.0 b.0.1 b.1 in
             let m : A × List ℕ = (f b.0.0, b.0.1) in
             let e' : m ≡ (a, rest) = same_Some _ _ b.2 in
-            subst (λ (m : A × List ℕ). (bytes ≡ t m.0 ++ m.1) × (((x : L) × (f x ≡ m.0) × V x) ⊎ ((y : R) × (g y ≡ m.0) × W y))) e'
+            subst (λ (m : A × List ℕ). (bytes ≡ t m.0 ++ m.1) × (((x : L) × (f x ≡ m.0) × V x) ⊎ W m.0)) e'
             (after_takes word bytes c.0 c.1 ∙ ap (λ (z : List ℕ). word ++ z) d.0 ∙ sym (append_assoc word (s b.0.0) b.0.1) ∙ ap (λ (z : List ℕ). z ++ b.0.1) (left b.0.0), inl (b.0.0, refl, d.1))
-        | inr c ↦
-            let d = (made_reads F W u t q g k (λ y w. right y)).takes bytes a rest c.1 in
-            (d.0, inr d.1)
+        | inr c ↦ (let d = k.takes bytes a rest c.1 in (d.0, inr d.1))
       ];
   again = λ a rest v i.
       elim v [
         | inl x ↦
-            subst (λ b. by_word word (made f r) (made g q) (t b ++ rest) ≡ Some (b, rest)) x.1
-            (ap (λ (z : List ℕ). by_word word (made f r) (made g q) (z ++ rest)) (sym (left x.0))
-            ∙ ap (by_word word (made f r) (made g q)) (append_assoc word (s x.0) rest)
-            ∙ ap (λ o. choice o (made f r) (made g q (word ++ (s x.0 ++ rest)))) (after_again word (s x.0 ++ rest))
+            subst (λ b. by_word word (made f r) q (t b ++ rest) ≡ Some (b, rest)) x.1
+            (ap (λ (z : List ℕ). by_word word (made f r) q (z ++ rest)) (sym (left x.0))
+            ∙ ap (by_word word (made f r) q) (append_assoc word (s x.0) rest)
+            ∙ ap (λ o. choice o (made f r) (q (word ++ (s x.0 ++ rest)))) (after_again word (s x.0 ++ rest))
             ∙ ap (λ o. o >>= λ y. Some (f y.0, y.1)) (h.again x.0 rest x.2 i))
-        | inr y ↦
-            subst (λ b. by_word word (made f r) (made g q) (t b ++ rest) ≡ Some (b, rest)) y.1
-            (ap (λ (z : List ℕ). by_word word (made f r) (made g q) (z ++ rest)) (sym (right y.0))
-            ∙ ap (λ o. choice o (made f r) (made g q (u y.0 ++ rest))) (other y.0 rest y.2 i)
-            ∙ ap (λ o. o >>= λ y. Some (g y.0, y.1)) (k.again y.0 rest y.2 i))
+        | inr w ↦ ap (λ o. choice o (made f r) (q (t a ++ rest))) (other a rest w i) ∙ k.again a rest w i
       ];
 }
+
+pub by_word_reads : {A L R : Type 0} (F : List ℕ → Type 0) (V : L → Type 0) (W : R → Type 0) (s : L → List ℕ) (u : R → List ℕ) (t : A → List ℕ) (r : Reader L) (q : Reader R) (word : List ℕ) (f : L → A) (g : R → A)
+    → Reads F V s r → Reads F W u q → ((x : L) → word ++ s x ≡ t (f x)) → ((y : R) → u y ≡ t (g y)) → ((y : R) (rest : List ℕ) → W y → F rest → after word (u y ++ rest) ≡ None)
+    → Reads F (λ a. ((x : L) × (f x ≡ a) × V x) ⊎ ((y : R) × (g y ≡ a) × W y)) t (by_word word (made f r) (made g q))
+by_word_reads {A} {L} {R} F V W s u t r q word f g h k left right other =
+    by_word_else F V (λ a. (y : R) × (g y ≡ a) × W y) s t r (made g q) word f h (made_reads F W u t q g k (λ y w. right y)) left
+    (λ a rest w i. subst (λ b. after word (t b ++ rest) ≡ None) w.1 (ap (λ (z : List ℕ). after word (z ++ rest)) (sym (right w.0)) ∙ other w.0 rest w.2 i))
 
 -- ---- a reader that depends on the value before it
 

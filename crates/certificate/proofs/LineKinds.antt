@@ -5,7 +5,7 @@ use Rattle.std.proofs.lemmas.Bool.{ltb-true, and_parts}
 use Rattle.std.proofs.lemmas.Option.{none-some, same_Some}
 use Rattle.lemmas.proofs.Choices.{passed}
 use Rattle.axioms.specs.Ontology.{Ontology}
-use Rattle.certificate.specs.Certificate.{Conclusion, Sub, Edge, Line, Listed}
+use Rattle.certificate.specs.Certificate.{Conclusion, Sub, Edge, Same, Line, Listed}
 use Rattle.certificate.specs.Text.{rule_number, lettered_number, spaced_numbers, line_feed, conclusion_text, axiom_text, line_text, class_text, pairs_text, individual_text, claim_text}
 use Rattle.certificate.specs.Tests.{is_small, fits_line, fits_domain, fits_class, fits_pairs, fits_claim, key, pair_key}
 use Rattle.certificate.specs.TextLines.{TextLine, FirstLine, DerivedLine, DomainLine, ClassLine, PairLine, IndividualLine, ClaimLine, LastLine, first_text, text_of, Part, Empty, InLines, InRows, Complete, is_empty, last_of, no_rows, has_individuals, fits_row, with_row, with_line}
@@ -118,13 +118,16 @@ kind_mark (IndividualLine number element) = mark (codes "ind ")
 kind_mark (ClaimLine claim) = mark (codes "claim ")
 kind_mark LastLine = mark (codes "end\n")
 
--- a line of the derivation begins in two ways
+-- a line of the derivation begins in three ways
 abbrev text_mark : List ℕ → ℕ
-text_mark bytes = cond (eqb (mark bytes) (mark (codes "sub "))) (mark (codes "edge ")) (mark bytes)
+text_mark bytes =
+    cond (eqb (mark bytes) (mark (codes "sub "))) (mark (codes "edge "))
+    (cond (eqb (mark bytes) (mark (codes "same i"))) (mark (codes "edge ")) (mark bytes))
 
 derived_mark : (conclusion : Conclusion) (rule axiom' premises end : List ℕ) → text_mark (conclusion_text conclusion ++ rule ++ axiom' ++ premises ++ end) ≡ mark (codes "edge ")
 derived_mark (Sub x c) rule axiom' premises end = refl
 derived_mark (Edge x r y) rule axiom' premises end = refl
+derived_mark (Same a b) rule axiom' premises end = refl
 
 first_mark : (is_consistent : Bool) → text_mark (first_text is_consistent) ≡ mark (codes "elcert")
 first_mark true = refl

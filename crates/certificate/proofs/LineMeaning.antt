@@ -3,7 +3,7 @@ use Rattle.std.proofs.Common.{◌≡◌, ℕ, ◌^◌, ◌<◌, ◌≤◌, true,
 use Rattle.std.specs.List.{AllByRecursion, list_all}
 use Rattle.std.proofs.lemmas.Bool.{ltb-true, lt-ltb, leb-true, le-leb, and_parts, and_from}
 use Rattle.axioms.specs.Ontology.{Ontology}
-use Rattle.certificate.specs.Certificate.{Subject, Expression, Individual, Conclusion, Sub, Edge, Line}
+use Rattle.certificate.specs.Certificate.{Subject, Expression, Individual, Conclusion, Sub, Edge, Same, Line}
 use Rattle.certificate.specs.Writability.{IsSubjectOf, IsConclusionOf, IsAxiomNumberOf, IsLineOf, subject_number, conclusion_numbers, axiom_numbers, line_numbers}
 use Rattle.certificate.specs.Tests.{is_small, fits_subject, fits_property, fits_conclusion, fits_axiom, is_premise, fits_line}
 use Rattle.certificate.proofs.Every.{every_append, every_left, every_right, every_weaker, every_passes, passes_every}
@@ -41,6 +41,11 @@ conclusion_means o (Edge x r y) t =
     let b = below_means r (length o.names.properties) q.1 in
     let c = subject_means o y p.1 in
     ((a.0, b.0, c.0), (a.1, (b.1, (c.1, tt))))
+conclusion_means o (Same a b) t =
+    let p = and_parts (fits_subject o (Individual a)) (fits_subject o (Individual b)) t in
+    let c = subject_means o (Individual a) p.0 in
+    let d = subject_means o (Individual b) p.1 in
+    ((c.0, d.0), (c.1, (d.1, tt)))
 
 conclusion_tests : (o : Ontology) (c : Conclusion) → IsConclusionOf o c → AllSmall (conclusion_numbers c) → FitsConclusion c × (fits_conclusion o c ≡ true)
 conclusion_tests o (Sub x c) h small =
@@ -52,6 +57,10 @@ conclusion_tests o (Edge x r y) h small =
     let b = below_tests r (length o.names.properties) h.1 small.1.0 in
     let c = subject_tests o y h.2 small.1.1.0 in
     ((a.0, (small.1.0, c.0)), and_from (fits_subject o x && fits_property o r) (fits_subject o y) (and_from (fits_subject o x) (fits_property o r) a.1 b) c.1)
+conclusion_tests o (Same a b) h small =
+    let c = subject_tests o (Individual a) h.0 small.0 in
+    let d = subject_tests o (Individual b) h.1 small.1.0 in
+    ((c.0, d.0), and_from (fits_subject o (Individual a)) (fits_subject o (Individual b)) c.1 d.1)
 
 axiom_means : (o : Ontology) (a : Option ℕ) → fits_axiom o a ≡ true → IsAxiomNumberOf o a × AllSmall (axiom_numbers a)
 axiom_means o None t = (tt, tt)

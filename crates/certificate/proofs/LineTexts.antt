@@ -8,7 +8,7 @@ use Rattle.std.proofs.lemmas.Option.{same_Some, slice_get-map}
 use Rattle.std.specs.Option.{option_map}
 use Rattle.lemmas.proofs.Mapped.{slice_get_map}
 use Rattle.axioms.specs.View.{at_number}
-use Rattle.certificate.specs.Certificate.{Subject, Expression, Individual, Conclusion, Sub, Edge, Line}
+use Rattle.certificate.specs.Certificate.{Subject, Expression, Individual, Conclusion, Sub, Edge, Same, Line}
 use Rattle.certificate.specs.Tests.{is_small, is_premise}
 use Rattle.certificate.specs.LineReading.{line_at}
 use Rattle.certificate.specs.LineText.{first_line, lines_in, source_of, is_small_subject, is_small_conclusion, is_small_axiom, fits_types, IsLineText}
@@ -39,6 +39,9 @@ conclusion_fits (Edge x r y) t =
     let p = and_parts (is_small_subject x) (is_small r && is_small_subject y) t in
     let q = and_parts (is_small r) (is_small_subject y) p.1 in
     (subject_fits x p.0, (small_means r q.0, subject_fits y q.1))
+conclusion_fits (Same a b) t =
+    let p = and_parts (is_small a) (is_small b) t in
+    (small_means a p.0, small_means b p.1)
 
 axiom_fits : (a : Option ℕ) → is_small_axiom a ≡ true → FitsAxiom a
 axiom_fits None t = tt
@@ -79,7 +82,7 @@ read_lines = many_reads Anything NoLine (λ (last : Option Line). FitsLine) line
 pub lines_again : (lines : List Line) → list_all fits_types lines ≡ true → lines_in (first_line ++ flat_map line_text lines) ≡ lines
 unfolding lines_in many
 lines_again lines t =
-    let read = read_lines.again lines [] (lines_fit None lines t) (refl, refl) in
+    let read = read_lines.again lines [] (lines_fit None lines t) (refl, refl, refl) in
     ap (λ bytes. (many_from (λ (last : Option Line). line_at) None (length bytes) bytes).0) (sym (append-nil (flat_map line_text lines)))
     ∙ ap (λ (p : List Line × List ℕ). p.0) (same_Some _ _ read)
 

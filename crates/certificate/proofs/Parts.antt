@@ -11,7 +11,7 @@ use Rattle.lemmas.proofs.Choices.{passed}
 use Rattle.lemmas.proofs.Ranges.{enumerate_push}
 use Rattle.axioms.specs.Ontology.{Ontology}
 use Rattle.source_lines.specs.Lines.{IsWholeLine}
-use Rattle.certificate.specs.Certificate.{Subject, Expression, Individual, Conclusion, Sub, Edge, Line, Listed}
+use Rattle.certificate.specs.Certificate.{Subject, Expression, Individual, Conclusion, Sub, Edge, Same, Line, Listed}
 use Rattle.certificate.specs.Text.{line_feed, rule_number, lettered_number, spaced_numbers, subject_text, conclusion_text, axiom_text, line_text, class_text, pairs_text, individual_text, claim_text, listed_text}
 use Rattle.certificate.specs.Tests.{is_small, fits_line, fits_domain, fits_class, fits_pairs, key, pair_key}
 use Rattle.certificate.specs.TextLines.{TextLine, FirstLine, DerivedLine, DomainLine, ClassLine, PairLine, IndividualLine, ClaimLine, LastLine, first_text, text_of, Part, Empty, InLines, InRows, Complete, part_text, is_empty, last_of, no_rows, has_individuals, fits_row, with_row, with_line, with_all, IsPart}
@@ -201,6 +201,8 @@ unended_conclusion (Edge x r y) =
     (unended_append (start ++ property) (codes " ")
     (unended_append start property (unended_append (codes "edge ") (subject_text x) refl (unended_subject x)) (unended_lettered (codes " p") r refl)) refl)
     (unended_subject y)
+unended_conclusion (Same a b) =
+    unended_append (lettered_number (codes "same i") a) (lettered_number (codes " i") b) (unended_lettered (codes "same i") a refl) (unended_lettered (codes " i") b refl)
 
 unended_axiom : (a : Option ℕ) → Unended (axiom_text a)
 unended_axiom None = refl

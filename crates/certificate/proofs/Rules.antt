@@ -13,8 +13,8 @@ from_one (suc n) l =
     ap (slice_get all_rules) here
 
 -- the rule of a number stands at its place
-pub numbered_at : (n : ℕ) (d : Rule) → 1 ≤ n → n ≤ 16 → Some (get_or all_rules (n - 1) d) ≡ numbered_rule n
+pub numbered_at : (n : ℕ) (d : Rule) → 1 ≤ n → n ≤ 20 → Some (get_or all_rules (n - 1) d) ≡ numbered_rule n
 numbered_at n d l h =
     let rule = get_or all_rules (n - 1) d in
-    let low : n - 1 < 16 = omega arith in
+    let low : n - 1 < 20 = omega arith in
     sym (slice_get-get_or all_rules (n - 1) rule low ∙ ap Some (get_or_default all_rules (n - 1) rule d low)) ∙ from_one n l

@@ -30,11 +30,11 @@ IsEnd rest = (others : List ℕ) × (rest ≡ codes "end\n" ++ others)
 -- ---- lines
 
 abbrev pub NoLine : List ℕ → Type 0
-NoLine rest = NoWord (codes "sub ") rest × NoWord (codes "edge ") rest
+NoLine rest = NoWord (codes "sub ") rest × NoWord (codes "same i") rest × NoWord (codes "edge ") rest
 
 no_conclusion : (rest : List ℕ) → NoLine rest → conclusion_at rest ≡ None
 unfolding conclusion_at
-no_conclusion rest h = rw (h.0, h.1) refl
+no_conclusion rest h = rw (h.0, h.1, h.2) refl
 
 pub no_line : (rest : List ℕ) → NoLine rest → line_at rest ≡ None
 unfolding line_at
@@ -160,9 +160,9 @@ certificate_front c = header c.listed ++ flat_map line_text c.lines ++ listed_te
 certificate_reads : (o : Ontology) → Reads Anything (FitsCertificate o) certificate_text (certificate_at o)
 unfolding certificate_at
 certificate_reads o =
-    let consistent = both_reads NoLine IsEnd _ _ _ _ _ _ (lines_reads o) (listed_reads o) (λ l rest v e. (refl, refl)) in
+    let consistent = both_reads NoLine IsEnd _ _ _ _ _ _ (lines_reads o) (listed_reads o) (λ l rest v e. (refl, refl, refl)) in
     let lines : Reads IsEnd (Chain (FitsLineOf o) None) (flat_map line_text) (lines_at o) =
-    restated NoLine IsEnd _ _ (flat_map line_text) _ _ (lines_reads o) (λ rest e. (at_end (codes "sub ") rest (λ others. refl) e, at_end (codes "edge ") rest (λ others. refl) e)) (λ x h. h) (λ x h. h) (λ x. refl) in
+    restated NoLine IsEnd _ _ (flat_map line_text) _ _ (lines_reads o) (λ rest e. (at_end (codes "sub ") rest (λ others. refl) e, at_end (codes "same i") rest (λ others. refl) e, at_end (codes "edge ") rest (λ others. refl) e)) (λ x h. h) (λ x h. h) (λ x. refl) in
     let inconsistent = behind_reads IsEnd _ (flat_map line_text) _ (codes "elcert 1 inconsistent\n") lines in
     let front = by_word_reads IsEnd _ _ _ _ certificate_front _ _ (codes "elcert 1 consistent\n") consistent_from inconsistent_from consistent inconsistent
     (λ p. simp append_assoc) (λ lines. sym (append-nil (codes "elcert 1 inconsistent\n" ++ flat_map line_text lines))) (λ lines rest v e. refl) in

@@ -17,8 +17,8 @@ conclusion_at =
     by_word (codes "sub ")
     (made (λ p. Sub p.0 p.1) (both subject_at (behind (codes " e") small_at)))
     (by_word (codes "same i")
-     (made (λ p. Same p.0 p.1) (both small_at (behind (codes " i") small_at)))
-     (made (λ p. Edge p.0 p.1.0 p.1.1) (behind (codes "edge ") (both subject_at (both (behind (codes " p") small_at) (behind (codes " ") subject_at))))))
+    (made (λ p. Same p.0 p.1) (both small_at (behind (codes " i") small_at)))
+    (made (λ p. Edge p.0 p.1.0 p.1.1) (behind (codes "edge ") (both subject_at (both (behind (codes " p") small_at) (behind (codes " ") subject_at))))))
 
 abbrev pub all_rules : List Rule
 all_rules = K1 ∷ K2 ∷ K3 ∷ K4 ∷ K5 ∷ K6 ∷ K7 ∷ K8 ∷ K9 ∷ K10 ∷ K11 ∷ K12 ∷ K13 ∷ K14 ∷ K15 ∷ K16 ∷ K17 ∷ K18 ∷ K19 ∷ K20 ∷ []

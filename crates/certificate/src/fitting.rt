@@ -30,6 +30,10 @@ pub(crate) fn fits_conclusion(ontology: &Ontology, conclusion: Conclusion) -> bo
                 && property.index() < ontology.properties().len()
                 && fits_subject(ontology, target)
         }
+        Conclusion::Same(first, second) => {
+            fits_subject(ontology, Subject::Individual(first))
+                && fits_subject(ontology, Subject::Individual(second))
+        }
     }
 }
 

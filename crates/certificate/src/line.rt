@@ -26,13 +26,14 @@ pub enum Conclusion {
 }
 
 impl Conclusion {
-    /// What it speaks of: the subject, or the start of an edge.
+    /// What it speaks of: the subject, the start of an edge, or the first of two that are one.
     pub fn source(self) -> Subject
         ensures { subject_of result ≡ source_of (conclusion_of self) }
     {
         match self {
             Conclusion::Sub(subject, _) => subject,
             Conclusion::Edge(source, _, _) => source,
+            Conclusion::Same(first, _) => Subject::Individual(first),
         }
     }
 }
@@ -56,10 +57,14 @@ pub enum Rule {
     K14,
     K15,
     K16,
+    K17,
+    K18,
+    K19,
+    K20,
 }
 
 /// The rules, by their numbers from 1.
-pub(crate) const RULES: [Rule; 16] = [
+pub(crate) const RULES: [Rule; 20] = [
     Rule::K1,
     Rule::K2,
     Rule::K3,
@@ -76,6 +81,10 @@ pub(crate) const RULES: [Rule; 16] = [
     Rule::K14,
     Rule::K15,
     Rule::K16,
+    Rule::K17,
+    Rule::K18,
+    Rule::K19,
+    Rule::K20,
 ];
 
 impl Rule {

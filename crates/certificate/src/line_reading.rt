@@ -29,6 +29,11 @@ pub(crate) fn conclusion_at(bytes: &[u8]) -> Option<(Conclusion, &[u8])>
         let (class, rest) = small_at(after(b" e", rest)?)?;
         return Some((Conclusion::Sub(subject, ExprId(class)), rest));
     }
+    if let Some(rest) = after(b"same i", bytes) {
+        let (first, rest) = small_at(rest)?;
+        let (second, rest) = small_at(after(b" i", rest)?)?;
+        return Some((Conclusion::Same(IndId(first), IndId(second)), rest));
+    }
     let (source, rest) = subject_at(after(b"edge ", bytes)?)?;
     let (property, rest) = small_at(after(b" p", rest)?)?;
     let (target, rest) = subject_at(after(b" ", rest)?)?;
@@ -39,7 +44,7 @@ pub(crate) fn conclusion_at(bytes: &[u8]) -> Option<(Conclusion, &[u8])>
 fn numbered_rule(number: u64) -> Option<Rule>
     ensures { result ≡ numbered_rule number }
 {
-    if number == 0 || number > 16 {
+    if number == 0 || number > 20 {
         return None;
     }
     Some(RULES[(number - 1) as usize])

@@ -16,7 +16,7 @@ use axioms::Memory;
 use std::alloc::Global;
 use std::marker::Model;
 
-/// Lines of a derivation, numbered from 1, as the text of a certificate, of which nothing is kept beside but the subject of each. It
+/// Lines of a derivation, numbered from 1, as the text of a certificate, of which nothing is kept beside but what each speaks of. It
 /// is seen as its lines.
 #[derive(Drop)]
 pub struct LineText {
@@ -59,6 +59,7 @@ fn small_conclusion(conclusion: Conclusion)
             small_subject(source);
             small_subject(target);
         }
+        Conclusion::Same(_, _) => {}
     }
 }
 
@@ -132,7 +133,7 @@ impl LineText {
         Ok(())
     }
 
-    /// What the line of that number speaks of: its subject, or the start of its edge.
+    /// What the line of that number speaks of: its subject, the start of its edge, or the first of two that are one.
     pub fn source(&self, number: u64) -> Option<Subject>
         ensures { option_map subject_of result ≡ option_map source_of (at_number (map (λ l. l.conclusion) self.now) number) }
     {

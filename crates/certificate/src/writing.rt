@@ -51,6 +51,10 @@ fn push_conclusion(out: &mut Vec<u8>, conclusion: Conclusion) -> Result<(), Allo
             out.extend_from_slice(b" ")?;
             push_subject(out, target)
         }
+        Conclusion::Same(first, second) => {
+            push_number(out, b"same i", first.0 as u64)?;
+            push_number(out, b" i", second.0 as u64)
+        }
     }
 }
 
