@@ -1,5 +1,6 @@
 pub mod Least
 pub mod Premises
+pub mod Sameness
 pub mod Facts
 pub mod Filling
 pub mod Placing

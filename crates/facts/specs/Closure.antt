@@ -4,7 +4,7 @@ use Rattle.std.specs.List.{Contains}
 use Rattle.axioms.specs.declared.ids.ExprId.{ExprId}
 use Rattle.axioms.specs.declared.ids.IndId.{IndId}
 use Rattle.normal_forms.specs.declared.forms.Class2.{Class2}
-use Rattle.normal_forms.specs.declared.forms.Class2.TheVariants as class
+use Rattle.normal_forms.specs.declared.forms.Class2.TheVariants as classes
 use Rattle.normal_forms.specs.declared.forms.PropId2.{PropId2}
 use Rattle.normal_forms.specs.declared.forms.PropId2.TheVariants.{Property}
 use Rattle.normal_forms.specs.declared.forms.Form.{Form}
@@ -21,10 +21,10 @@ pub record Problem : Type 0 where
   pub roots : List Context
 
 abbrev pub thing : Class2
-thing = class.Expr (record { 0 = 0 })
+thing = classes.Expr (record { 0 = 0 })
 
 abbrev pub nothing : Class2
-nothing = class.Expr (record { 0 = 1 })
+nothing = classes.Expr (record { 0 = 1 })
 
 -- the edge leads to it
 abbrev pub IsTarget : Fact → Context → Type 0
@@ -112,7 +112,7 @@ IsLoop x _ f = ⊥
 -- the facts, in their order, give the fact by that condition, and by the form at that place where the condition has one
 pub data Gives (k : Problem) : ℕ → Option ℕ → List Fact → Fact → Type 0 where
   in_thing : {older : List Fact} {x : Context} → IsContextBy k older x → Gives k 1 None older (In thing x)
-  in_itself : {older : List Fact} {e : ExprId} → IsContextBy k older (Expr e) → Gives k 1 None older (In (class.Expr e) (Expr e))
+  in_itself : {older : List Fact} {e : ExprId} → IsContextBy k older (Expr e) → Gives k 1 None older (In (classes.Expr e) (Expr e))
   by_form : {older : List Fact} {f : Fact} (n : ℕ) (form : Form) → slice_get k.forms n ≡ Some form → Concludes k form older f → Gives k (condition form) (Some n) older f
   unsatisfiable : {older : List Fact} {f : Fact} → CarriesBack older f → Gives k 8 None older f
   loop : {older : List Fact} {f : Fact} (x : Context) (n : ℕ) (form : Form) → slice_get k.forms n ≡ Some form → IsLoop x form f → IsContextBy k older x → Gives k 10 (Some n) older f

@@ -14,7 +14,7 @@ pub enum Older {
     Two(FactId, FactId),
 }
 
-/// What gave a fact: a condition of the closure, from 1 to 10, older facts, and the place of a form, where the condition
+/// What gave a fact: a condition of the closure, from 1 to 13, older facts, and the place of a form, where the condition
 /// has one. There is one for each fact, so it is kept in 16 bytes.
 #[derive(Clone, Copy, Debug, PartialEq, Eq)]
 pub struct Birth {
