@@ -1,8 +1,8 @@
--- The ten conditions as steps between facts.
+-- The thirteen conditions as steps between facts.
 use Rattle.std.proofs.Common.{ℕ, List, [], ◌∷◌}
 use Rattle.axioms.specs.Ontology.{Ontology, thing, nothing}
-use Rattle.normal_forms.specs.Forms.{Class2, Whole, Property2, Property, N1, N2, N3, N4, N6, N7, N8, N9, IsForm}
-use Rattle.closure.specs.Closure.{Context, Expression, Individual, Fact, In, Edge, IsAtOrBelow, IsRoot, IsContextBy, Gives, IsFact, AreFacts, given, none, more, IsContext}
+use Rattle.normal_forms.specs.Forms.{Class2, Whole, Property2, Property, N1, N2, N3, N4, N6, N7, N8, N9, N11, N12, IsForm}
+use Rattle.closure.specs.Closure.{Context, Expression, Individual, Fact, In, Edge, IsAtOrBelow, AreSame, IsRoot, IsContextBy, Gives, IsFact, AreFacts, given, none, more, IsContext}
 
 one : {o : Ontology} {asked : List ℕ} {f : Fact} → IsFact o asked f → AreFacts o asked (f ∷ [])
 one p = more p none
@@ -49,3 +49,18 @@ chained {x = x} {z = z} r s p q y form first second below below' =
 
 pub loop : {o : Ontology} {asked : List ℕ} {x : Context} (r : ℕ) → IsForm o asked (N7 r) → IsContext o asked x → IsFact o asked (Edge x (Property r) x)
 loop r form c = given c.0 (Gives.loop r form c.1) c.2
+
+pub same_class : {o : Ontology} {asked : List ℕ} {b : ℕ} {c : Class2} (a : ℕ) → AreSame o asked a b → IsFact o asked (In c (Individual a)) → IsFact o asked (In c (Individual b))
+same_class {c = c} a same p = given (In c (Individual a) ∷ []) (Gives.same_class a same) (one p)
+
+pub same_source : {o : Ontology} {asked : List ℕ} {b : ℕ} {r : Property2} {y : Context} (a : ℕ) → AreSame o asked a b → IsFact o asked (Edge (Individual a) r y) → IsFact o asked (Edge (Individual b) r y)
+same_source {r = r} {y = y} a same p = given (Edge (Individual a) r y ∷ []) (Gives.same_source a same) (one p)
+
+pub same_target : {o : Ontology} {asked : List ℕ} {b : ℕ} {r : Property2} {x : Context} (a : ℕ) → AreSame o asked a b → IsFact o asked (Edge x r (Individual a)) → IsFact o asked (Edge x r (Individual b))
+same_target {r = r} {x = x} a same p = given (Edge x r (Individual a) ∷ []) (Gives.same_target a same) (one p)
+
+pub different : {o : Ontology} {asked : List ℕ} {a : ℕ} (b : ℕ) → IsForm o asked (N11 a b) → AreSame o asked a b → IsFact o asked (In (Whole nothing) (Individual a))
+different b form same = given [] (Gives.different b form same) none
+
+pub denied : {o : Ontology} {asked : List ℕ} {a : ℕ} (r b : ℕ) (q : Property2) → IsForm o asked (N12 a r b) → IsFact o asked (Edge (Individual a) q (Individual b)) → IsAtOrBelow o asked q (Property r) → IsFact o asked (In (Whole nothing) (Individual a))
+denied {a = a} r b q form edge below = given (Edge (Individual a) q (Individual b) ∷ []) (Gives.denied r b q form below) (one edge)

@@ -1,30 +1,36 @@
 -- The facts over numbers say exactly the facts of the closure.
-use Rattle.std.proofs.Common.{◌≡◌, ℕ, List, [], ◌∷◌, slice_get, Some, None, Option, Contains, refl, sym, ◌∙◌, subst}
+use Rattle.std.proofs.Common.{◌≡◌, ℕ, inl, inr, List, [], ◌∷◌, slice_get, Some, Option, Contains, refl, sym, ap, ◌∙◌, subst}
 use Rattle.lemmas.proofs.Members.{Contains-from_slice_get, slice_get-from_Contains}
 use Rattle.axioms.specs.Ontology.{Ontology, thing, nothing}
 use Rattle.axioms.specs.declared.ids.ExprId.{ExprId}
 use Rattle.axioms.specs.declared.ids.PropId.{PropId}
+use Rattle.axioms.specs.declared.ids.IndId.{IndId}
 use Rattle.normal_forms.specs.declared.forms.Class2.TheVariants as classes
 use Rattle.normal_forms.specs.declared.forms.PropId2 as code_property
 use Rattle.normal_forms.specs.declared.forms.PropId2.TheVariants as properties
 use Rattle.normal_forms.specs.declared.forms.Form as code_form
 use Rattle.normal_forms.specs.declared.forms.Form.TheVariants as forms
 use Rattle.normal_forms.specs.Properties as code_below
-use Rattle.normal_forms.specs.Forms.{Class2, Whole, Property2, Property, Form, N1, N2, N3, N4, N5, N6, N7, N8, N9, IsForm}
+use Rattle.normal_forms.specs.Forms.{Class2, Whole, Property2, Property, Form, N1, N2, N3, N4, N5, N6, N7, N8, N9, N10, N11, N12, IsForm}
 use Rattle.facts.specs.declared.contexts.Context as code_context
 use Rattle.facts.specs.declared.contexts.Context.TheVariants as contexts
 use Rattle.facts.specs.declared.contexts.Fact as code_fact
 use Rattle.facts.specs.declared.contexts.Fact.TheVariants as facts
-use Rattle.facts.specs.Closure.{Problem, FromNone, FromOne, FromTwo, Concludes, CarriesBack, IsLoop}
+use Rattle.facts.specs.Closure.{Problem, FromNone, FromOne, FromTwo, Concludes, CarriesBack, IsLoop, Links, HandsOn}
 use Rattle.facts.specs.Closure as numbered
-use Rattle.closure.specs.Closure.{Context, Expression, Individual, Fact, In, Edge, IsContextBy, IsAtOrBelow, Gives, IsFact, AreFacts, given, none, more}
-use Rattle.closure.specs.Denotations.{Prefixes, SaysClass, whole, SaysProperty, property, SaysContext, expression, individual, SaysFact, in_context, edge, SaysForm, n1, n2, n3, n4, n5, n6, n7, n8, n9, IsProblemOf}
-use Rattle.closure.proofs.Names.{class_one, property_one, context_one, same_property, context_same, class_same, property_same}
+use Rattle.closure.specs.Closure.{Context, Expression, Individual, Fact, In, Edge, IsContextBy, IsAtOrBelow, AreSame, Gives, IsFact, AreFacts, given, none, more}
+use Rattle.closure.specs.Denotations.{Prefixes, SaysClass, whole, SaysProperty, property, SaysContext, expression, individual, SaysFact, in_context, edge, SaysForm, n1, n2, n3, n4, n5, n6, n7, n8, n9, n10, n11, n12, IsProblemOf}
+use Rattle.facts.proofs.Sameness.{class_handed_on, source_handed_on, target_handed_on}
+use Rattle.closure.proofs.Groups.{and_then}
+use Rattle.closure.proofs.Names.{class_one, property_one, context_one, ind_id, same_property, context_same, class_same, property_same}
 
 -- each of the facts says one, in order
 data SayFacts (b : Prefixes) : List code_fact.Fact → List Fact → Type 0 where
   no_facts : SayFacts b [] []
   one_more : {f : code_fact.Fact} {g : Fact} {fs : List code_fact.Fact} {gs : List Fact} → SaysFact b f g → SayFacts b fs gs → SayFacts b (f ∷ fs) (g ∷ gs)
+
+only : {k : Problem} {f : code_fact.Fact} → numbered.AreFacts k (f ∷ []) → numbered.IsFact k f
+only (numbered.more fact numbered.none) = fact
 
 module _ (o : Ontology) (asked : List ℕ) (b : Prefixes) (k : Problem) (h : IsProblemOf o asked b k) where
   -- the form of that place says a form
@@ -75,6 +81,42 @@ module _ (o : Ontology) (asked : List ℕ) (b : Prefixes) (k : Problem) (h : IsP
       let (q', says_s, below_q) = below_sayer below says_p in
       subst (code_below.IsAtOrBelow k.forms p) (property_same h says_s says_q) below_q
 
+  -- ---- individuals that are one
+
+  -- a form that links two over numbers makes one the two that they are
+  link_said : (i j : IndId) (f : code_form.Form) → Links f i j → (g : Form) → SaysForm b f g → IsForm o asked g → AreSame o asked i.0 j.0
+  link_said i j (forms.N10 a c) (inl (from, to)) g (n10 {i' = a'} {j' = c'} at_a at_c) form =
+      let first : a' ≡ i.0 = sym (ap (λ (x : IndId). x.0) from ∙ at_a) in
+      let second : c' ≡ j.0 = sym (ap (λ (x : IndId). x.0) to ∙ at_c) in
+      AreSame.forth i.0 AreSame.itself (subst (λ n. IsForm o asked (N10 i.0 n)) second (subst (λ n. IsForm o asked (N10 n c')) first form))
+  link_said i j (forms.N10 a c) (inr (from, to)) g (n10 {i' = a'} {j' = c'} at_a at_c) form =
+      let first : a' ≡ j.0 = sym (ap (λ (x : IndId). x.0) to ∙ at_a) in
+      let second : c' ≡ i.0 = sym (ap (λ (x : IndId). x.0) from ∙ at_c) in
+      AreSame.back i.0 AreSame.itself (subst (λ n. IsForm o asked (N10 j.0 n)) second (subst (λ n. IsForm o asked (N10 n c')) first form))
+  link_said i j _ link g says form = absurd link
+
+  pub same_said : {i j : IndId} → numbered.AreSame k.forms i j → AreSame o asked i.0 j.0
+  same_said numbered.itself = AreSame.itself
+  same_said (numbered.step {j = j} m f same there link) =
+      let (g, says, form) = h.each_form f there in
+      and_then (same_said same) (link_said m j f link g says form)
+
+  -- a form that says that two are one links their numbers
+  link_sayer : (a c : ℕ) (f : code_form.Form) → SaysForm b f (N10 a c) → Links f (ind_id a) (ind_id c) × Links f (ind_id c) (ind_id a)
+  link_sayer a c f (n10 at_a at_c) = (inl (ap ind_id (sym at_a), ap ind_id (sym at_c)), inr (ap ind_id (sym at_c), ap ind_id (sym at_a)))
+
+  same_numbers : {a c : ℕ} → AreSame o asked a c → numbered.AreSame k.forms (ind_id a) (ind_id c)
+  same_numbers AreSame.itself = numbered.itself
+  same_numbers (AreSame.forth {b = c} d same form) =
+      let (f, there, says) = h.all_forms (N10 d c) form in
+      numbered.step (ind_id d) f (same_numbers same) there (link_sayer d c f says).0
+  same_numbers (AreSame.back {b = c} d same form) =
+      let (f, there, says) = h.all_forms (N10 c d) form in
+      numbered.step (ind_id d) f (same_numbers same) there (link_sayer c d f says).1
+
+  pub same_sayer : {i j : IndId} → AreSame o asked i.0 j.0 → numbered.AreSame k.forms i j
+  same_sayer same = same_numbers same
+
   -- ---- each fact over numbers says a fact of the closure
 
   Said : code_fact.Fact → List Fact → Type 0
@@ -106,7 +148,7 @@ module _ (o : Ontology) (asked : List ℕ) (b : Prefixes) (k : Problem) (h : IsP
       (new, subst (λ x. SaysFact b x new) (sym is) (edge (individual says_i) (property says_r) (individual says_j)), Gives.asserted_edge form)
   from_none _ f is g says form = absurd is
 
-  from_one : (form : code_form.Form) (first new : code_fact.Fact) → FromOne form first new → (g : Form) → SaysForm b form g → IsForm o asked g → (f : Fact) → SaysFact b first f → Said new (f ∷ [])
+  from_one : (form : code_form.Form) (first new : code_fact.Fact) → FromOne k form first new → (g : Form) → SaysForm b form g → IsForm o asked g → (f : Fact) → SaysFact b first f → Said new (f ∷ [])
   unfolding Said
   from_one (forms.N1 a c) (facts.In d x) new (same, is) g (n1 {a' = a'} {c' = c'} says_a says_c) form f (in_context {a' = d'} {x' = x'} says_d says_x) =
       let equal : a' ≡ d' = class_one {b = b} (subst (λ e. SaysClass b e a') (sym same) says_a) says_d in
@@ -115,6 +157,15 @@ module _ (o : Ontology) (asked : List ℕ) (b : Prefixes) (k : Problem) (h : IsP
       let equal : a' ≡ d' = class_one {b = b} (subst (λ c. SaysClass b c a') (sym same) says_a) says_d in
       let given' : Fact = Edge x' (Property r') (Expression e') in
       (given', subst (λ y. SaysFact b y given') (sym is) (edge says_x (property says_r) (expression says_e)), Gives.successor d' (subst (λ c. IsForm o asked (N3 c r' e')) equal form))
+  from_one (forms.N12 i r j) (facts.Edge x q y) new (at_i, at_j, below, is) g (n12 {i' = i'} {j' = j'} {r' = r'} says_i says_r says_j) form f (edge {x' = x'} {y' = y'} {r' = q'} says_x says_q says_y) =
+      let source_is : x' ≡ Individual i' = context_one says_x (subst (λ z. SaysContext z (Individual i')) (sym at_i) (individual says_i)) in
+      let target_is : y' ≡ Individual j' = context_one says_y (subst (λ z. SaysContext z (Individual j')) (sym at_j) (individual says_j)) in
+      let below' : IsAtOrBelow o asked q' (Property r') = below_as below says_q (property says_r) in (
+        In (Whole nothing) x',
+        subst (λ z. SaysFact b z (In (Whole nothing) x')) (sym is) (in_context (whole refl) says_x),
+        subst (λ z. Gives o asked (Edge z q' y' ∷ []) (In (Whole nothing) z)) (sym source_is)
+            (subst (λ z. Gives o asked (Edge (Individual i') q' z ∷ []) (In (Whole nothing) (Individual i'))) (sym target_is) (Gives.denied r' j' q' form below')),
+      )
   from_one _ _ new is g says form f says_f = absurd is
 
   from_two : (form : code_form.Form) (first second new : code_fact.Fact) → FromTwo k form first second new → (g : Form) → SaysForm b form g → IsForm o asked g → (f l : Fact) → SaysFact b first f → SaysFact b second l → Said new (f ∷ l ∷ [])
@@ -171,6 +222,23 @@ module _ (o : Ontology) (asked : List ℕ) (b : Prefixes) (k : Problem) (h : IsP
       (loop', subst (λ w. SaysFact b w loop') (sym is) (edge says_x (property says_r) says_x), Gives.loop r' form by)
   looped x _ new is y says_x by g says form = absurd is
 
+  handed_said : (form : code_form.Form) (old new : code_fact.Fact) → HandsOn form old new → (g : Form) → SaysForm b form g → IsForm o asked g → (f : Fact) → SaysFact b old f → Said new (f ∷ [])
+  unfolding Said
+  handed_said form _ _ (HandsOn.class {i = i} {j = j} link) g says form' f (in_context {a' = c'} says_c (individual {a = a} at_i)) =
+      let same = link_said i j form link g says form' in
+      (In c' (Individual j.0), in_context says_c (individual refl), Gives.same_class a (subst (λ n. AreSame o asked n j.0) at_i same))
+  handed_said form _ _ (HandsOn.source {i = i} {j = j} link) g says form' f (edge {y' = y'} {r' = r'} (individual {a = a} at_i) says_r says_y) =
+      let same = link_said i j form link g says form' in
+      (Edge (Individual j.0) r' y', edge (individual refl) says_r says_y, Gives.same_source a (subst (λ n. AreSame o asked n j.0) at_i same))
+  handed_said form _ _ (HandsOn.target {i = i} {j = j} link) g says form' f (edge {x' = x'} {r' = r'} says_x says_r (individual {a = a} at_i)) =
+      let same = link_said i j form link g says form' in
+      (Edge x' r' (Individual j.0), edge says_x says_r (individual refl), Gives.same_target a (subst (λ n. AreSame o asked n j.0) at_i same))
+
+  different_said : (i j : IndId) → numbered.AreSame k.forms i j → (g : Form) → SaysForm b (forms.N11 i j) g → IsForm o asked g → Said (facts.In numbered.nothing (contexts.Individual i)) []
+  unfolding Said
+  different_said i j same g (n11 {i' = i'} {j' = j'} at_i at_j) form =
+      (In (Whole nothing) (Individual i'), in_context (whole refl) (individual at_i), Gives.different j' form (subst (λ n. AreSame o asked n j') at_i (subst (λ n. AreSame o asked i.0 n) at_j (same_said same))))
+
   given_said : {condition : ℕ} {place : Option ℕ} {fs : List code_fact.Fact} {gs : List Fact} (f : code_fact.Fact) → numbered.Gives k condition place fs f → SayFacts b fs gs → Said f gs
   unfolding Said SaidContext
   given_said f (numbered.in_thing {x = x} by) says =
@@ -187,6 +255,12 @@ module _ (o : Ontology) (asked : List ℕ) (b : Prefixes) (k : Problem) (h : IsP
       let (g, says_g, found) = said_form n form at in
       let (y, says_x, by') = context_by x by says in
       looped x form f is y says_x by' g says_g found
+  given_said f (numbered.handed_on {g = old} n form at hands) (one_more {g = g} says no_facts) =
+      let (form', says_form, found) = said_form n form at in
+      handed_said form old f hands form' says_form found g says
+  given_said f (numbered.different n i j at same) no_facts =
+      let (g, says_g, found) = said_form n (forms.N11 i j) at in
+      different_said i j same g says_g found
 
   mutual
     unfolding Said
@@ -206,8 +280,13 @@ module _ (o : Ontology) (asked : List ℕ) (b : Prefixes) (k : Problem) (h : IsP
 
   -- ---- each fact of the closure is said by a fact over numbers
 
+  -- a fact that says it is there where these are
   Sayer : List code_fact.Fact → Fact → Type 0
-  Sayer fs g = (f : code_fact.Fact) × (condition : ℕ) × (place : Option ℕ) × numbered.Gives k condition place fs f × SaysFact b f g
+  Sayer fs g = (f : code_fact.Fact) × (numbered.AreFacts k fs → numbered.IsFact k f) × SaysFact b f g
+
+  by_condition : {fs : List code_fact.Fact} {condition : ℕ} {place : Option ℕ} (f : code_fact.Fact) → numbered.Gives k condition place fs f → (g : Fact) → SaysFact b f g → Sayer fs g
+  unfolding Sayer
+  by_condition {fs = fs} {condition = condition} {place = place} f gives g says = (f, numbered.given condition place fs gives, says)
 
   context_from : {fs : List code_fact.Fact} {gs : List Fact} (y : Context) → IsContextBy o asked gs y → SayFacts b fs gs → (x : code_context.Context) × SaysContext x y × numbered.IsContextBy k fs x
   context_from y (IsContextBy.root root) no_facts =
@@ -216,12 +295,10 @@ module _ (o : Ontology) (asked : List ℕ) (b : Prefixes) (k : Problem) (h : IsP
   context_from y (IsContextBy.target x r) (one_more (edge {y = y'} says_x says_r says_y) no_facts) = (y', says_y, refl)
 
   itself_sayer : (fs : List code_fact.Fact) (c : ℕ) (x : code_context.Context) → SaysContext x (Expression c) → numbered.IsContextBy k fs x → Sayer fs (In (Whole c) (Expression c))
-  unfolding Sayer
-  itself_sayer fs c x (expression {e = e} is) by = (facts.In (classes.Expr e) (contexts.Expr e), 1, None, numbered.in_itself by, in_context (whole is) (expression is))
+  itself_sayer fs c x (expression {e = e} is) by = by_condition (facts.In (classes.Expr e) (contexts.Expr e)) (numbered.in_itself by) (In (Whole c) (Expression c)) (in_context (whole is) (expression is))
 
   place_of : (n : ℕ) (form : code_form.Form) → slice_get k.forms n ≡ Some form → (fs : List code_fact.Fact) (f : code_fact.Fact) → Concludes k form fs f → (g : Fact) → SaysFact b f g → Sayer fs g
-  unfolding Sayer
-  place_of n form at fs f is g says = (f, numbered.condition form, Some n, numbered.by_form n form at is, says)
+  place_of n form at fs f is g says = by_condition f (numbered.by_form n form at is) g says
 
   asserted_by : (i : ℕ) (a : Class2) (n : ℕ) (form : code_form.Form) → slice_get k.forms n ≡ Some form → SaysForm b form (N8 i a) → Sayer [] (In a (Individual i))
   asserted_by i a n form at (n8 {i = i'} {a = a'} says_i says_a) = place_of n form at _ (facts.In a' (contexts.Individual i')) refl (In a (Individual i)) (in_context says_a (individual says_i))
@@ -254,20 +331,51 @@ module _ (o : Ontology) (asked : List ℕ) (b : Prefixes) (k : Problem) (h : IsP
       place_of n form at _ (facts.Edge x' t' z') (below_by below_r says_p says_r, below_by below_s says_q says_s, context_same says_y says_w, refl) (Edge x t z) (edge says_x says_t says_z)
 
   carried_by : (r : Property2) (x y : Context) (f l : code_fact.Fact) → SaysFact b f (Edge x r y) → SaysFact b l (In (Whole nothing) y) → Sayer (f ∷ l ∷ []) (In (Whole nothing) x)
-  unfolding Sayer
   carried_by r x y f l (edge {x = x'} says_x says_r says_y) (in_context says_c says_z) =
-      (facts.In numbered.nothing x', 8, None, numbered.unsatisfiable (class_same h says_c (whole refl), context_same says_y says_z, refl), in_context (whole refl) says_x)
+      by_condition (facts.In numbered.nothing x') (numbered.unsatisfiable (class_same h says_c (whole refl), context_same says_y says_z, refl)) (In (Whole nothing) x) (in_context (whole refl) says_x)
 
   looped_by : (fs : List code_fact.Fact) (r : ℕ) (y : Context) (x : code_context.Context) → SaysContext x y → numbered.IsContextBy k fs x → (n : ℕ) (form : code_form.Form) → slice_get k.forms n ≡ Some form → SaysForm b form (N7 r) → Sayer fs (Edge y (Property r) y)
-  unfolding Sayer
   looped_by fs r y x says_x by n form at (n7 {r = r'} says_r) =
-      (facts.Edge x (properties.Property r') x, 10, Some n, numbered.loop x n form at refl by, edge says_x (property says_r) says_x)
+      by_condition (facts.Edge x (properties.Property r') x) (numbered.loop x n form at refl by) (Edge y (Property r) y) (edge says_x (property says_r) says_x)
+
+  same_class_by : (a c : ℕ) (d : Class2) → AreSame o asked a c → (f : code_fact.Fact) → SaysFact b f (In d (Individual a)) → Sayer (f ∷ []) (In d (Individual c))
+  unfolding Sayer
+  same_class_by a c d same f (in_context {a = d'} says_d (individual {i = i} at_i)) = (
+    facts.In d' (contexts.Individual (ind_id c)),
+    λ are. class_handed_on k d' (same_sayer (subst (λ n. AreSame o asked n c) (sym at_i) same)) (only are),
+    in_context says_d (individual refl),
+  )
+
+  same_source_by : (a c : ℕ) (r : Property2) (y : Context) → AreSame o asked a c → (f : code_fact.Fact) → SaysFact b f (Edge (Individual a) r y) → Sayer (f ∷ []) (Edge (Individual c) r y)
+  unfolding Sayer
+  same_source_by a c r y same f (edge {y = y'} {r = r'} (individual {i = i} at_i) says_r says_y) = (
+    facts.Edge (contexts.Individual (ind_id c)) r' y',
+    λ are. source_handed_on k r' y' (same_sayer (subst (λ n. AreSame o asked n c) (sym at_i) same)) (only are),
+    edge (individual refl) says_r says_y,
+  )
+
+  same_target_by : (a c : ℕ) (x : Context) (r : Property2) → AreSame o asked a c → (f : code_fact.Fact) → SaysFact b f (Edge x r (Individual a)) → Sayer (f ∷ []) (Edge x r (Individual c))
+  unfolding Sayer
+  same_target_by a c x r same f (edge {x = x'} {r = r'} says_x says_r (individual {i = i} at_i)) = (
+    facts.Edge x' r' (contexts.Individual (ind_id c)),
+    λ are. target_handed_on k x' r' (same_sayer (subst (λ n. AreSame o asked n c) (sym at_i) same)) (only are),
+    edge says_x says_r (individual refl),
+  )
+
+  different_by : (a c : ℕ) → AreSame o asked a c → (n : ℕ) (form : code_form.Form) → slice_get k.forms n ≡ Some form → SaysForm b form (N11 a c) → Sayer [] (In (Whole nothing) (Individual a))
+  different_by a c same n form at (n11 {i = i} {j = j} at_i at_j) =
+      let same' : numbered.AreSame k.forms i j = same_sayer (subst (λ m. AreSame o asked m j.0) (sym at_i) (subst (λ m. AreSame o asked a m) (sym at_j) same)) in
+      by_condition (facts.In numbered.nothing (contexts.Individual i)) (numbered.different n i j at same') (In (Whole nothing) (Individual a)) (in_context (whole refl) (individual at_i))
+
+  denied_by : (a r c : ℕ) (q : Property2) → IsAtOrBelow o asked q (Property r) → (n : ℕ) (form : code_form.Form) → slice_get k.forms n ≡ Some form → SaysForm b form (N12 a r c)
+      → (f : code_fact.Fact) → SaysFact b f (Edge (Individual a) q (Individual c)) → Sayer (f ∷ []) (In (Whole nothing) (Individual a))
+  denied_by a r c q below n form at (n12 says_a says_r says_c) f (edge {x = x'} says_x says_q says_y) =
+      place_of n form at _ (facts.In numbered.nothing x') (context_same says_x (individual says_a), context_same says_y (individual says_c), below_by below says_q (property says_r), refl) (In (Whole nothing) (Individual a)) (in_context (whole refl) says_x)
 
   given_by : {fs : List code_fact.Fact} {gs : List Fact} (g : Fact) → Gives o asked gs g → SayFacts b fs gs → Sayer fs g
-  unfolding Sayer
   given_by g (Gives.in_thing {x = y} by) says =
       let (x, says_x, by') = context_from y by says in
-      (facts.In numbered.thing x, 1, None, numbered.in_thing by', in_context (whole refl) says_x)
+      by_condition (facts.In numbered.thing x) (numbered.in_thing by') g (in_context (whole refl) says_x)
   given_by g (Gives.in_itself {e = c} by) says =
       let (x, says_x, by') = context_from (Expression c) by says in
       itself_sayer _ c x says_x by'
@@ -297,6 +405,15 @@ module _ (o : Ontology) (asked : List ℕ) (b : Prefixes) (k : Problem) (h : IsP
       let (f, n, at, says_f) = form_at (N7 r) form in
       let (x, says_x, by') = context_from y by says in
       looped_by _ r y x says_x by' n f at says_f
+  given_by g (Gives.same_class {b = c} {c = d} a same) (one_more {f = f} says no_facts) = same_class_by a c d same f says
+  given_by g (Gives.same_source {b = c} {r = r} {y = y} a same) (one_more {f = f} says no_facts) = same_source_by a c r y same f says
+  given_by g (Gives.same_target {b = c} {r = r} {x = x} a same) (one_more {f = f} says no_facts) = same_target_by a c x r same f says
+  given_by g (Gives.different {a = a} c form same) no_facts =
+      let (f, n, at, says_f) = form_at (N11 a c) form in
+      different_by a c same n f at says_f
+  given_by g (Gives.denied {a = a} r c q form below) (one_more {f = e} says_e no_facts) =
+      let (f, n, at, says_f) = form_at (N12 a r c) form in
+      denied_by a r c q below n f at says_f e says_e
 
   mutual
     unfolding Sayer
@@ -304,8 +421,8 @@ module _ (o : Ontology) (asked : List ℕ) (b : Prefixes) (k : Problem) (h : IsP
     pub sayer : (g : Fact) → IsFact o asked g → (f : code_fact.Fact) × numbered.IsFact k f × SaysFact b f g
     sayer g (given older gives are) =
         let (fs, facts', says) = all_sayers older are in
-        let (f, condition, place, gives', says_f) = given_by g gives says in
-        (f, numbered.given condition place fs gives' facts', says_f)
+        let (f, fact', says_f) = given_by g gives says in
+        (f, fact' facts', says_f)
 
     all_sayers : (gs : List Fact) → AreFacts o asked gs → (fs : List code_fact.Fact) × numbered.AreFacts k fs × SayFacts b fs gs
     all_sayers gs none = ([], numbered.none, no_facts)

@@ -1,5 +1,5 @@
 -- What facts over numbers say: the number of a prefix stands for its operands or steps.
-use Rattle.std.specs.Prelude.{◌≡◌, ℕ, List, slice_get, Some}
+use Rattle.std.specs.Prelude.{◌≡◌, ◌↔◌, ℕ, List, slice_get, Some}
 use Rattle.std.specs.List.{Contains}
 use Rattle.axioms.specs.Ontology.{Ontology}
 use Rattle.axioms.specs.WellFormedness.{AreDistinct}
@@ -19,7 +19,7 @@ use Rattle.facts.specs.declared.contexts.Fact as code_fact
 use Rattle.facts.specs.declared.contexts.Fact.TheVariants as facts
 use Rattle.facts.specs.Closure.{Problem}
 use Rattle.facts.specs.Closure as numbered
-use Rattle.closure.specs.Closure.{Context, Expression, Individual, Fact, In, Edge, IsRoot, IsFact}
+use Rattle.closure.specs.Closure.{Context, Expression, Individual, Fact, In, Edge, AreSame, IsRoot, IsFact}
 
 -- what numbers of prefixes stand for: the operands of each prefix of an intersection, the properties of each of a chain
 pub record Prefixes : Type 0 where
@@ -77,3 +77,9 @@ NumbersSayTheClosure =
     (o : Ontology) (asked : List ℕ) (b : Prefixes) (k : Problem) → IsProblemOf o asked b k →
     ((f : code_fact.Fact) → numbered.IsFact k f → (g : Fact) × SaysFact b f g × IsFact o asked g)
     × ((g : Fact) → IsFact o asked g → (f : code_fact.Fact) × numbered.IsFact k f × SaysFact b f g)
+
+-- .. and two individuals are one by the forms over numbers exactly where they are by those of the ontology
+abbrev pub NumbersSayGroups : Type 0
+NumbersSayGroups =
+    (o : Ontology) (asked : List ℕ) (b : Prefixes) (k : Problem) → IsProblemOf o asked b k →
+    (i j : IndId) → numbered.AreSame k.forms i j ↔ AreSame o asked i.0 j.0

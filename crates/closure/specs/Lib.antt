@@ -1,3 +1,4 @@
 pub mod Closure
 pub mod Theorems
 pub mod Denotations
+pub mod Groups
