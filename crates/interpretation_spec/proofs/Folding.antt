@@ -6,11 +6,10 @@ use Rattle.std.proofs.lemmas.List.Elements.{All-head, All-tail, All-nil, All-con
 use Rattle.lemmas.proofs.Pairs.{AllPairs-map, AllPairs-from_map}
 use Rattle.lemmas.proofs.Mapped.{All-from_map}
 use Rattle.lemmas.proofs.Members.{Contains-from_slice_get}
-use Rattle.axioms.specs.Axiom as tree
-use Rattle.axioms.specs.Ontology.{Ontology, Axiom, Node, Class, And, Exists, SubClass, EquivalentClasses, DisjointClasses, SubProperty, EquivalentProperties, Domain, Transitive, Reflexive, ClassAssertion, PropertyAssertion, IsPart, expression, expressions, property_name, individual_name, axiom_tree}
-use Rattle.axioms.specs.WellFormedness.{IsOntology, IsAxiomOf}
+use Rattle.axioms.specs.Ontology.{Ontology, Axiom, Node, Class, And, Exists, SubClass, EquivalentClasses, DisjointClasses, SubProperty, EquivalentProperties, Domain, Transitive, Reflexive, ClassAssertion, PropertyAssertion, SameIndividuals, DifferentIndividuals, NegativePropertyAssertion, IsPart, expression, expressions, property_name, individual_name, axiom_tree}
+use Rattle.axioms.specs.WellFormedness.{IsOntology, IsAxiomOf, AreOperands}
 use Rattle.axioms.proofs.Trees.{class_tree, some_tree, and_tree, by_nodes}
-use Rattle.interpretation_spec.specs.Interpretation.{Interpretation, IsInterpretation, IsIn, HasPair, HasPath, IsWithin, IsSubProperty, IsSame, IsApart, IsSameProperty, Satisfies}
+use Rattle.interpretation_spec.specs.Interpretation.{Interpretation, IsInterpretation, IsIn, HasPair, HasPath, IsWithin, IsSubProperty, IsSame, IsApart, IsSameProperty, IsSameElement, IsOtherElement, Satisfies}
 use Rattle.interpretation_spec.proofs.Extensions.{in_intersection, each_of_intersection}
 use Rattle.axioms.specs.View.{at_number}
 use Rattle.interpretation_spec.specs.NamedInterpretation.{IsFirstUnsatisfied}
@@ -115,6 +114,52 @@ module _ (o : Ontology) (w : IsOntology o) (i j : Interpretation) (f : ℕ → �
   chain_from rs s h ls k x lx y ly p =
       fo.pairs s x y ls lx ly ∙ k (f x) (fo.within x lx) (f y) (fo.within y ly) (path_to rs h x lx y p)
 
+  -- ---- individuals
+
+  -- the pair of two individuals
+  pair_to : IsInterpretation i → (r b c : ℕ) → r < length o.names.properties → b < length o.names.individuals → c < length o.names.individuals
+      → HasPair i (property_name o r) (i.individual (individual_name o b)) (i.individual (individual_name o c)) → HasPair j (property_name o r) (j.individual (individual_name o b)) (j.individual (individual_name o c))
+  pair_to v r b c lr lb lc h =
+      let x = i.individual (individual_name o b) in
+      let y = i.individual (individual_name o c) in
+      let p : HasPair j (property_name o r) (f x) (f y) = sym (fo.pairs r x y lr (v.individuals (individual_name o b)) (v.individuals (individual_name o c))) ∙ h in
+      subst₂ (λ x y. HasPair j (property_name o r) x y) (fo.individuals b lb) (fo.individuals c lc) p
+
+  pair_from : IsInterpretation i → (r b c : ℕ) → r < length o.names.properties → b < length o.names.individuals → c < length o.names.individuals
+      → HasPair j (property_name o r) (j.individual (individual_name o b)) (j.individual (individual_name o c)) → HasPair i (property_name o r) (i.individual (individual_name o b)) (i.individual (individual_name o c))
+  pair_from v r b c lr lb lc h =
+      let x = i.individual (individual_name o b) in
+      let y = i.individual (individual_name o c) in
+      fo.pairs r x y lr (v.individuals (individual_name o b)) (v.individuals (individual_name o c))
+      ∙ subst₂ (λ x y. HasPair j (property_name o r) x y) (sym (fo.individuals b lb)) (sym (fo.individuals c lc)) h
+
+  -- two individuals have one element, or two
+  one_to : (b c : ℕ) → b < length o.names.individuals → c < length o.names.individuals → IsSameElement i (individual_name o b) (individual_name o c) → IsSameElement j (individual_name o b) (individual_name o c)
+  one_to b c lb lc e = sym (fo.individuals b lb) ∙ ap f e ∙ fo.individuals c lc
+
+  one_from : (b c : ℕ) → b < length o.names.individuals → c < length o.names.individuals → IsSameElement j (individual_name o b) (individual_name o c) → IsSameElement i (individual_name o b) (individual_name o c)
+  one_from b c lb lc e = fo.apart b c lb lc (fo.individuals b lb ∙ e ∙ sym (fo.individuals c lc))
+
+  one_element_to : (bs : List ℕ) → AreOperands (length o.names.individuals) bs → AllPairs (IsSameElement i) (map (individual_name o) bs) → AllPairs (IsSameElement j) (map (individual_name o) bs)
+  one_element_to bs n h =
+      AllPairs-map (IsSameElement j) (individual_name o) bs (λ p q b c pq gb gc.
+      one_to b c (at_member bs n.within p b gb) (at_member bs n.within q c gc) (pair_of (IsSameElement i) (individual_name o) bs h p q b c pq gb gc))
+
+  one_element_from : (bs : List ℕ) → AreOperands (length o.names.individuals) bs → AllPairs (IsSameElement j) (map (individual_name o) bs) → AllPairs (IsSameElement i) (map (individual_name o) bs)
+  one_element_from bs n h =
+      AllPairs-map (IsSameElement i) (individual_name o) bs (λ p q b c pq gb gc.
+      one_from b c (at_member bs n.within p b gb) (at_member bs n.within q c gc) (pair_of (IsSameElement j) (individual_name o) bs h p q b c pq gb gc))
+
+  own_elements_to : (bs : List ℕ) → AreOperands (length o.names.individuals) bs → AllPairs (IsOtherElement i) (map (individual_name o) bs) → AllPairs (IsOtherElement j) (map (individual_name o) bs)
+  own_elements_to bs n h =
+      AllPairs-map (IsOtherElement j) (individual_name o) bs (λ p q b c pq gb gc e.
+      pair_of (IsOtherElement i) (individual_name o) bs h p q b c pq gb gc (one_from b c (at_member bs n.within p b gb) (at_member bs n.within q c gc) e))
+
+  own_elements_from : (bs : List ℕ) → AreOperands (length o.names.individuals) bs → AllPairs (IsOtherElement j) (map (individual_name o) bs) → AllPairs (IsOtherElement i) (map (individual_name o) bs)
+  own_elements_from bs n h =
+      AllPairs-map (IsOtherElement i) (individual_name o) bs (λ p q b c pq gb gc e.
+      pair_of (IsOtherElement j) (individual_name o) bs h p q b c pq gb gc (one_to b c (at_member bs n.within p b gb) (at_member bs n.within q c gc) e))
+
   pub axiom_to : IsInterpretation i → (b : Axiom) → IsAxiomOf o b → Satisfies i (axiom_tree o b) → Satisfies j (axiom_tree o b)
   axiom_to v (SubClass c d) (lc, ld) h = within_to c d lc ld h
   axiom_to v (EquivalentClasses cs) n h =
@@ -145,11 +190,12 @@ module _ (o : Ontology) (w : IsOntology o) (i j : Interpretation) (f : ℕ → �
   axiom_to v (Reflexive r) lr h = at_each (λ u. HasPair j (property_name o r) u u) (λ x lx. sym (fo.pairs r x x lr lx lx) ∙ h x lx)
   axiom_to v (ClassAssertion c b) (lc, lb) h =
       subst (λ x. IsIn j (expression o c) x) (fo.individuals b lb) (into c lc (i.individual (individual_name o b)) (v.individuals (individual_name o b)) h)
-  axiom_to v (PropertyAssertion r b c) (lr, lb, lc) h =
-      let x = i.individual (individual_name o b) in
-      let y = i.individual (individual_name o c) in
-      let p : HasPair j (property_name o r) (f x) (f y) = sym (fo.pairs r x y lr (v.individuals (individual_name o b)) (v.individuals (individual_name o c))) ∙ h in
-      subst₂ (λ x y. HasPair j (property_name o r) x y) (fo.individuals b lb) (fo.individuals c lc) p
+  axiom_to v (PropertyAssertion r b c) (lr, lb, lc) h = pair_to v r b c lr lb lc h
+  axiom_to v (SameIndividuals bs) n h = one_element_to bs (absurd n) h
+  axiom_to v (DifferentIndividuals bs) n h = own_elements_to bs (absurd n) h
+  axiom_to v (NegativePropertyAssertion r b c) n h =
+      let of : (r < length o.names.properties) × (b < length o.names.individuals) × (c < length o.names.individuals) = absurd n in
+      λ p. h (pair_from v r b c of.0 of.1 of.2 p)
 
   pub axiom_from : IsInterpretation i → (b : Axiom) → IsAxiomOf o b → Satisfies j (axiom_tree o b) → Satisfies i (axiom_tree o b)
   axiom_from v (SubClass c d) (lc, ld) h = within_from c d lc ld h
@@ -176,11 +222,12 @@ module _ (o : Ontology) (w : IsOntology o) (i j : Interpretation) (f : ℕ → �
   axiom_from v (Reflexive r) lr h = λ x lx. fo.pairs r x x lr lx lx ∙ h (f x) (fo.within x lx)
   axiom_from v (ClassAssertion c b) (lc, lb) h =
       back c lc (i.individual (individual_name o b)) (v.individuals (individual_name o b)) (subst (λ x. IsIn j (expression o c) x) (sym (fo.individuals b lb)) h)
-  axiom_from v (PropertyAssertion r b c) (lr, lb, lc) h =
-      let x = i.individual (individual_name o b) in
-      let y = i.individual (individual_name o c) in
-      fo.pairs r x y lr (v.individuals (individual_name o b)) (v.individuals (individual_name o c))
-      ∙ subst₂ (λ x y. HasPair j (property_name o r) x y) (sym (fo.individuals b lb)) (sym (fo.individuals c lc)) h
+  axiom_from v (PropertyAssertion r b c) (lr, lb, lc) h = pair_from v r b c lr lb lc h
+  axiom_from v (SameIndividuals bs) n h = one_element_from bs (absurd n) h
+  axiom_from v (DifferentIndividuals bs) n h = own_elements_from bs (absurd n) h
+  axiom_from v (NegativePropertyAssertion r b c) n h =
+      let of : (r < length o.names.properties) × (b < length o.names.individuals) × (c < length o.names.individuals) = absurd n in
+      λ p. h (pair_to v r b c of.0 of.1 of.2 p)
 
   pub axiom_stays : IsInterpretation i → (b : Axiom) → IsAxiomOf o b → Satisfies i (axiom_tree o b) ↔ Satisfies j (axiom_tree o b)
   axiom_stays v b g = (axiom_to v b g, axiom_from v b g)

@@ -5,15 +5,15 @@ use Rattle.std.proofs.lemmas.Bool.{eq-eqb, eqb-true, or_cases, or_left, or_right
 use Rattle.std.proofs.lemmas.List.{length-map, get_or-map, get_or_past}
 use Rattle.std.proofs.lemmas.List.Elements.{All-head, All-tail}
 use Rattle.std.proofs.lemmas.List.Kept.{AllPairs-from_increasing}
-use Rattle.std.proofs.lemmas.Option.{get_or_from_slice_get, slice_get_within}
+use Rattle.std.proofs.lemmas.Option.{get_or_from_slice_get}
 use Rattle.std.proofs.lemmas.Simd.{map-map}
-use Rattle.lemmas.proofs.Pairs.{AllPairs-map, AllPairs-from_map, AllPairs-head, AllPairs-tail}
+use Rattle.lemmas.proofs.Pairs.{AllPairs-from_map, AllPairs-head, AllPairs-tail}
 use Rattle.axioms.specs.Axiom as tree
 use Rattle.axioms.specs.Expression.{ClassExpression}
 use Rattle.axioms.specs.Ontology.{Ontology, property_name, individual_name}
 use Rattle.axioms.specs.WellFormedness.{IsOntology}
-use Rattle.interpretation_spec.specs.Interpretation.{Interpretation, IsIn, IsWithin, IsSubProperty, IsSameProperty, HasPath, Satisfies}
-use Rattle.interpretation_spec.specs.NumberedInterpretation.{HaveSameTargets, NumberedInterpretation, IsNumberedInterpretation, targets_of}
+use Rattle.interpretation_spec.specs.Interpretation.{Interpretation, IsIn, IsWithin, IsSubProperty, IsSameProperty, IsSameElement, IsOtherElement, HasPath, Satisfies}
+use Rattle.interpretation_spec.specs.NumberedInterpretation.{HaveOneElement, HaveSameTargets, HaveTwoElements, NumberedInterpretation, IsNumberedInterpretation, targets_of}
 use Rattle.interpretation_spec.specs.NamedInterpretation.{is_target, interpretation_of, IsExtension, HasNumberedPath, IsNumberedSubProperty}
 use Rattle.number_sets.specs.Members.{has}
 use Rattle.interpretation_spec.proofs.Names.{StandsFor, stands}
@@ -55,6 +55,14 @@ pairs_of_places_twice {A} {B} R f g xs d p = subst (λ (ys : List B). AllPairs R
 
 pub places_of_pairs_twice : {A B : Type 0} (R : B → B → Type 0) (f : ℕ → B) (g : A → ℕ) (xs : List A) (d : A) → AllPairs R (map f (map g xs)) → (m k : ℕ) → m < k → k < length xs → R (f (g (get_or xs m d))) (f (g (get_or xs k d)))
 places_of_pairs_twice {A} {B} R f g xs d p = places_of_pairs R (λ (x : A). f (g x)) xs d (subst (λ (ys : List B). AllPairs R ys) (map-map f g xs) p)
+
+-- what is said of each two numbers below a bound, and of what they are mapped to
+pub pairs_said : {B : Type 0} {bound : ℕ} (S : ℕ → ℕ → Type 0) (T : B → B → Type 0) (f : ℕ → B) (xs : List ℕ) → All (λ x. x < bound) xs
+    → ((x y : ℕ) → x < bound → y < bound → S x y ↔ T (f x) (f y)) → AllPairs S xs ↔ AllPairs T (map f xs)
+pairs_said {B} {bound} S T f xs within said = (
+  λ h. pairs_of_places T f xs 0 (λ m k l lk. (said (get_or xs m 0) (get_or xs k 0) (within m 0 (omega arith)) (within k 0 lk)).0 (h m k 0 l lk)),
+  λ h m k d l lk. (said (get_or xs m d) (get_or xs k d) (within m d (omega arith)) (within k d lk)).1 (AllPairs-from_map T f xs h m k d l lk),
+)
 
 -- what is said of the first of a list and one of it, where it is said of each two
 pub first_and : {A : Type 0} (R : A → A → Type 0) → ((x : A) → R x x) → (xs : List A) (first : A) (at : ℕ) (d : A) → slice_get xs 0 ≡ Some first → at < length xs
@@ -162,18 +170,7 @@ module _ (o : Ontology) (w : IsOntology o) (n : NumberedInterpretation) (whole :
 
   pub same_properties_said : (rs : List ℕ) → All (λ r. r < length o.names.properties) rs
       → AllPairs (HaveSameTargets n) rs ↔ AllPairs (IsSameProperty (interpretation_of o.names n)) (map (property_name o) rs)
-  same_properties_said rs hs =
-      let T = HaveSameTargets n in
-      let S = IsSameProperty (interpretation_of o.names n) in (
-        λ h. AllPairs-map S (property_name o) rs (λ a b c d l gc gd.
-            let la = slice_get_within rs a c gc in
-            let lb = slice_get_within rs b d gd in
-            let ec = get_or_from_slice_get rs a c 0 gc in
-            let ed = get_or_from_slice_get rs b d 0 gd in
-            let P : ℕ → Type 0 = λ r. r < length o.names.properties in
-            (same_property_said c d (subst P ec (hs a 0 la)) (subst P ed (hs b 0 lb))).0 (subst₂ T ec ed (h a b 0 l lb))),
-        λ h a b d l lb. (same_property_said (get_or rs a d) (get_or rs b d) (hs a d (omega arith)) (hs b d lb)).1 (AllPairs-from_map S (property_name o) rs h a b d l lb),
-      )
+  same_properties_said rs hs = pairs_said (HaveSameTargets n) (IsSameProperty (interpretation_of o.names n)) (property_name o) rs hs same_property_said
 
   pub domain_said : (r : ℕ) (c : ClassExpression) (row : List Bool) → r < length o.names.properties → IsExtension (interpretation_of o.names n) c row
       → ((x : ℕ) → x < n.size → (y : ℕ) → is_target n r x y ≡ true → has row x ≡ true) ↔ Satisfies (interpretation_of o.names n) (tree.PropertyDomain (property_name o r) c)
@@ -204,6 +201,27 @@ module _ (o : Ontology) (w : IsOntology o) (n : NumberedInterpretation) (whole :
       let i = interpretation_of o.names n in
       let same = ap₂ (i.property (property_name o r)) (named.individuals a la) (named.individuals b lb) ∙ named.properties r (get_or n.individuals a 0) (get_or n.individuals b 0) lr in
       (λ h. same ∙ h, λ h. sym same ∙ h)
+
+  one_element_said : (a b : ℕ) → a < length o.names.individuals → b < length o.names.individuals
+      → HaveOneElement n a b ↔ IsSameElement (interpretation_of o.names n) (individual_name o a) (individual_name o b)
+  one_element_said a b la lb = (
+    λ e. named.individuals a la ∙ e ∙ sym (named.individuals b lb),
+    λ e. sym (named.individuals a la) ∙ e ∙ named.individuals b lb,
+  )
+
+  two_elements_said : (a b : ℕ) → a < length o.names.individuals → b < length o.names.individuals
+      → HaveTwoElements n a b ↔ IsOtherElement (interpretation_of o.names n) (individual_name o a) (individual_name o b)
+  two_elements_said a b la lb =
+      let said = one_element_said a b la lb in
+      (λ h e. h (said.1 e), λ h e. h (said.0 e))
+
+  pub same_individuals_said : (xs : List ℕ) → All (λ a. a < length o.names.individuals) xs
+      → AllPairs (HaveOneElement n) xs ↔ AllPairs (IsSameElement (interpretation_of o.names n)) (map (individual_name o) xs)
+  same_individuals_said xs within = pairs_said (HaveOneElement n) (IsSameElement (interpretation_of o.names n)) (individual_name o) xs within one_element_said
+
+  pub different_individuals_said : (xs : List ℕ) → All (λ a. a < length o.names.individuals) xs
+      → AllPairs (HaveTwoElements n) xs ↔ AllPairs (IsOtherElement (interpretation_of o.names n)) (map (individual_name o) xs)
+  different_individuals_said xs within = pairs_said (HaveTwoElements n) (IsOtherElement (interpretation_of o.names n)) (individual_name o) xs within two_elements_said
 
 -- ---- paths
 

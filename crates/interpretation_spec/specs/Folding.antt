@@ -1,5 +1,5 @@
 -- Interpretations that are folded onto others: elements of which the names of an ontology say the same come to one.
-use Rattle.std.specs.Prelude.{◌≡◌, ℕ, ◌<◌, ◌↔◌, length, IfSome, IsSomeAnd}
+use Rattle.std.specs.Prelude.{◌≡◌, ℕ, ◌<◌, ◌↔◌, length}
 use Rattle.axioms.specs.Ontology.{Ontology, Axiom, name_at, property_name, individual_name, expression, axiom_tree}
 use Rattle.axioms.specs.WellFormedness.{IsOntology, IsAxiomOf}
 use Rattle.interpretation_spec.specs.Interpretation.{Interpretation, IsInterpretation, IsIn, Satisfies}

@@ -23,6 +23,18 @@ targets_of i r x = slice_index_or (slice_index_or i.pairs r []) x []
 abbrev pub HaveSameTargets : NumberedInterpretation → ℕ → ℕ → Type 0
 HaveSameTargets i r s = (x : ℕ) → x < i.size → targets_of i r x ≡ targets_of i s x
 
+-- the element of an individual
+abbrev pub element_of : NumberedInterpretation → ℕ → ℕ
+element_of i a = slice_index_or i.individuals a 0
+
+-- the two individuals have one element
+abbrev pub HaveOneElement : NumberedInterpretation → ℕ → ℕ → Type 0
+HaveOneElement i a b = element_of i a ≡ element_of i b
+
+-- they have two
+abbrev pub HaveTwoElements : NumberedInterpretation → ℕ → ℕ → Type 0
+HaveTwoElements i a b = element_of i a ≡ element_of i b → ⊥
+
 -- ascending numbers below a bound, none twice
 pub record AreElements (size : ℕ) (xs : List ℕ) : Type 0 where
   pub ascending : IsStrictlyIncreasing xs

@@ -1,11 +1,11 @@
 //! Which axioms hold.
-ghost use Rattle.std.specs.Prelude.{◌≡◌, ℕ, ◌<◌, ◌↔◌, IfOk, IsNone, IfSome, IsTrue, length, AllPairs, All, true, slice_index_or};
+ghost use Rattle.std.specs.Prelude.{◌≡◌, ℕ, ◌<◌, ◌↔◌, IfOk, IsNone, IfSome, IsTrue, length, AllPairs, All, true};
 ghost use Rattle.axioms.specs.Ontology.{DisjointClasses, EquivalentClasses, SubClass, axiom_trees};
-ghost use Rattle.axioms.specs.View.{axiom_of, expr_numbers, prop_numbers};
+ghost use Rattle.axioms.specs.View.{axiom_of, expr_numbers, ind_numbers, prop_numbers};
 ghost use Rattle.axioms.specs.WellFormedness.{IsAxiomOf};
 ghost use Rattle.interpretation_spec.specs.NamedInterpretation.{HasNumberedPath, IsFirstUnsatisfied, IsNumberedSubProperty, IsTargetOfSome, SatisfiesNumbered, interpretation_of, is_target};
 ghost use Rattle.interpretation_spec.specs.Interpretation.{IsModel};
-ghost use Rattle.interpretation_spec.specs.NumberedInterpretation.{HaveSameTargets, IsMadeFor, targets_of};
+ghost use Rattle.interpretation_spec.specs.NumberedInterpretation.{HaveOneElement, HaveSameTargets, HaveTwoElements, IsMadeFor, element_of, targets_of};
 ghost use Rattle.number_sets.specs.Members.{has};
 
 use crate::interpretation::Interpretation;
@@ -38,6 +38,7 @@ impl Interpretation {
         ensures { IfOk result (λ holds. IsTrue holds ↔ SatisfiesNumbered ontology.now self.now (axiom_of «axiom».now)) }
     {
         ontology.well_formed();
+        self.well_formed();
         match axiom {
             Axiom::SubClass(sub, sup) => self.is_within(ontology, *sub, *sup),
             Axiom::EquivalentClasses(operands) => self.are_same(ontology, operands),
@@ -52,10 +53,15 @@ impl Interpretation {
             Axiom::Reflexive(property) => Ok(self.is_reflexive(*property)),
             Axiom::ClassAssertion(class, individual) => {
                 let members = self.extension(ontology, *class)?;
-                Ok(members.contains(self.individuals[individual.0 as usize]))
+                Ok(members.contains(self.element_at(*individual)))
             }
             Axiom::PropertyAssertion(property, source, target) => {
                 Ok(self.joins(*property, *source, *target))
+            }
+            Axiom::SameIndividuals(individuals) => Ok(self.have_one_element(individuals)),
+            Axiom::DifferentIndividuals(individuals) => self.have_own_elements(individuals),
+            Axiom::NegativePropertyAssertion(property, source, target) => {
+                Ok(!self.joins(*property, *source, *target))
             }
         }
     }
@@ -116,11 +122,44 @@ impl Interpretation {
         requires property_there { property.0 < length self.now.pairs }
         requires source_there { source.0 < length self.now.individuals }
         requires target_there { target.0 < length self.now.individuals }
-        ensures { result ≡ is_target self.now property.0 (slice_index_or self.now.individuals source.0 0) (slice_index_or self.now.individuals target.0 0) }
+        ensures { result ≡ is_target self.now property.0 (element_of self.now source.0) (element_of self.now target.0) }
     {
-        let target = self.individuals[target.0 as usize];
-        self.targets_at(property, self.individuals[source.0 as usize])
+        let target = self.element_at(target);
+        self.targets_at(property, self.element_at(source))
             .contains(&target)
+    }
+
+    /// Whether the individuals have one element.
+    fn have_one_element(&self, individuals: &[IndId]) -> bool
+        requires { All (λ a. a < length self.now.individuals) (ind_numbers individuals.now) }
+        ensures { IsTrue result ↔ AllPairs (HaveOneElement self.now) (ind_numbers individuals.now) }
+    {
+        let Some(first) = individuals.first() else {
+            return true;
+        };
+        let element = self.element_at(*first);
+        for individual in individuals {
+            if self.element_at(*individual) != element {
+                return false;
+            }
+        }
+        true
+    }
+
+    /// Whether each of the individuals has an element that none of the others has.
+    fn have_own_elements(&self, individuals: &[IndId]) -> Result<bool, Memory>
+        requires { All (λ a. a < length self.now.individuals) (ind_numbers individuals.now) }
+        ensures { IfOk result (λ holds. IsTrue holds ↔ AllPairs (HaveTwoElements self.now) (ind_numbers individuals.now)) }
+    {
+        let mut met = Row::new(self.alloc, self.size())?;
+        for individual in individuals {
+            let element = self.element_at(*individual);
+            if met.contains(element) {
+                return Ok(false);
+            }
+            met.put(element);
+        }
+        Ok(true)
     }
 
     /// Whether the property joins each element to itself.
@@ -224,6 +263,15 @@ impl Interpretation {
             }
         }
         Ok(successors)
+    }
+
+    /// The element of the individual.
+    fn element_at(&self, individual: IndId) -> usize
+        requires { individual.0 < length self.now.individuals }
+        ensures value { result ≡ element_of self.now individual.0 }
+        ensures inside { result < self.now.size }
+    {
+        self.individuals[individual.0 as usize]
     }
 
     /// The elements that the property joins the element to.
