@@ -7,7 +7,7 @@ use Rattle.axioms.proofs.Trees.{length_trees}
 use Rattle.lemmas.proofs.Places.{slice_get_there, Keeps}
 use Rattle.axioms.specs.Axiom as tree
 use Rattle.axioms.specs.Expression.{Iri, ClassExpression, Named, SomeValues}
-use Rattle.axioms.specs.Ontology.{Ontology, Names, Axiom, Node, Class, And, Exists, SubClass, EquivalentClasses, DisjointClasses, SubProperty, EquivalentProperties, Domain, Transitive, Reflexive, ClassAssertion, PropertyAssertion, name_at, tree_at, tree_of, trees_from, trees, expression, expressions, property_name, individual_name, axiom_tree, axiom_trees}
+use Rattle.axioms.specs.Ontology.{Ontology, Names, Axiom, Node, Class, And, Exists, SubClass, EquivalentClasses, DisjointClasses, SubProperty, EquivalentProperties, Domain, Transitive, Reflexive, ClassAssertion, PropertyAssertion, SameIndividuals, DifferentIndividuals, NegativePropertyAssertion, name_at, tree_at, tree_of, trees_from, trees, expression, expressions, property_name, individual_name, axiom_tree, axiom_trees}
 use Rattle.axioms.specs.WellFormedness.{AreDistinct, IsNodeOf, IsAxiomOf, IsOntology}
 use Rattle.axioms.proofs.Unique.{expression_determined}
 
@@ -133,6 +133,9 @@ module _ (o p : Ontology) (whole : IsOntology o) (keeps : KeepsAll o p) where
   axiom_kept (PropertyAssertion r a b) h =
       ap₂ (λ x y. tree.PropertyAssertion x y (individual_name p b)) (property_kept r h.0) (individual_kept a h.1)
       ∙ ap (tree.PropertyAssertion (property_name o r) (individual_name o a)) (individual_kept b h.2)
+  axiom_kept (SameIndividuals xs) h = absurd h
+  axiom_kept (DifferentIndividuals xs) h = absurd h
+  axiom_kept (NegativePropertyAssertion r a b) h = absurd h
 
   axioms_kept_from : (axioms : List Axiom) → All (IsAxiomOf o) axioms → map (axiom_tree p) axioms ≡ map (axiom_tree o) axioms
   axioms_kept_from [] h = refl
