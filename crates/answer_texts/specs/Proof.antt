@@ -4,7 +4,7 @@ use Rattle.std.specs.declared.option.Option.{Option}
 use Rattle.std.specs.List.{flat_map, enumerate_from}
 use Rattle.std.specs.Fmt.{decimal}
 use Rattle.axioms.specs.Ontology.{Ontology, expression, property_name, individual_name}
-use Rattle.certificate.specs.Certificate.{Subject, Expression, Individual, Conclusion, Sub, Edge, Line}
+use Rattle.certificate.specs.Certificate.{Subject, Expression, Individual, Conclusion, Sub, Edge, Same, Line}
 use Rattle.certificate.specs.Text.{rule_number}
 use Rattle.answer_texts.specs.Names.{line_feed, name_text, expression_text}
 
@@ -13,10 +13,11 @@ abbrev pub subject_text : Ontology → Subject → List ℕ
 subject_text o (Expression e) = expression_text (expression o e)
 subject_text o (Individual a) = codes "individual " ++ name_text (individual_name o a)
 
--- as sub <x:A> <x:B> or edge <x:A> <x:r> <x:B>
+-- as sub <x:A> <x:B>, edge <x:A> <x:r> <x:B> or same individual <x:a> individual <x:b>
 abbrev pub conclusion_text : Ontology → Conclusion → List ℕ
 conclusion_text o (Sub x c) = codes "sub " ++ subject_text o x ++ codes " " ++ expression_text (expression o c)
 conclusion_text o (Edge x r y) = codes "edge " ++ subject_text o x ++ codes " " ++ name_text (property_name o r) ++ codes " " ++ subject_text o y
+conclusion_text o (Same a b) = codes "same " ++ subject_text o (Individual a) ++ codes " " ++ subject_text o (Individual b)
 
 -- as axiom 1
 abbrev pub axiom_text : Option ℕ → List ℕ

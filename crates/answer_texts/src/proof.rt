@@ -48,6 +48,12 @@ fn push_conclusion(
             out.extend_from_slice(b" ")?;
             push_subject(out, ontology, target)
         }
+        Conclusion::Same(first, second) => {
+            out.extend_from_slice(b"same ")?;
+            push_subject(out, ontology, Subject::Individual(first))?;
+            out.extend_from_slice(b" ")?;
+            push_subject(out, ontology, Subject::Individual(second))
+        }
     }
 }
 

@@ -3,6 +3,7 @@
 //! Two tests make the ontologies, and functions that borrow them look at all the rest.
 
 mod readers;
+mod same_lines;
 
 ghost use Rattle.certificate.specs.Writability.{HasText};
 
@@ -192,7 +193,8 @@ const CHANGES: &[Change] = &[
     (85, 87, "a2", Some(72)),
     (85, 87, "a0", Some(72)),
     (25, 26, "00", Some(20)),
-    (31, 32, "17", Some(20)),
+    (31, 32, "20", None),
+    (31, 32, "21", Some(20)),
     (28, 29, "4", Some(20)),
     (23, 24, "  ", Some(20)),
     (123, 124, "0", Some(116)),

@@ -96,7 +96,7 @@ const BAD_LINES_AND_BAD_TEXTS: &[Change] = &[
     ),
     (
         "sub e0 e0 K1\nsub e1 e1 K1",
-        "sub e0 e1 K1\nsub e1 e1 K17",
+        "sub e0 e1 K1\nsub e1 e1 K21",
         Some(Reason::BadText { at: 33 }),
     ),
     (
