@@ -8,7 +8,7 @@ use Rattle.lemmas.proofs.Places.{slice_get_there}
 use Rattle.normal_forms.specs.declared.forms.PropId2.{PropId2}
 use Rattle.normal_forms.specs.declared.forms.PropId2.TheVariants.{Property, Partial}
 use Rattle.normal_forms.specs.declared.forms.Form.{Form}
-use Rattle.normal_forms.specs.declared.forms.Form.TheVariants.{N1, N2, N3, N4, N5, N6, N7, N8, N9}
+use Rattle.normal_forms.specs.declared.forms.Form.TheVariants.{N5, N6, N7}
 use Rattle.normal_forms.specs.Properties.{ComesBefore, IsAtOrBelow, IsPropertyOf, IsPropertyFormOf, same, step}
 use Rattle.property_closure.specs.declared.related.Related.{Related}
 use Rattle.property_closure.specs.Relations.{as_id, as_property, Tells, ArePlainWithin, AreReflexiveWithin}
@@ -32,15 +32,10 @@ property_wider n m n' m' (Property p) a b h = omega arith
 property_wider n m n' m' (Partial k) a b h = omega arith
 
 form_wider : (n m n' m' : ℕ) (form : Form) → n ≤ n' → m ≤ m' → IsPropertyFormOf n m form → IsPropertyFormOf n' m' form
-form_wider n m n' m' (N1 x y) a b h = tt
-form_wider n m n' m' (N2 x y z) a b h = tt
-form_wider n m n' m' (N3 x r y) a b h = tt
-form_wider n m n' m' (N4 r x y) a b h = tt
 form_wider n m n' m' (N5 r s) a b h = (omega (arith, h.0), omega (arith, h.1))
 form_wider n m n' m' (N6 r s t) a b h = (property_wider n m n' m' r a b h.0, property_wider n m n' m' s a b h.1, property_wider n m n' m' t a b h.2)
 form_wider n m n' m' (N7 r) a b h = omega arith
-form_wider n m n' m' (N8 i x) a b h = tt
-form_wider n m n' m' (N9 x r y) a b h = tt
+form_wider n m n' m' _ a b h = tt
 
 pub all_wider : (n m n' m' : ℕ) (forms : List Form) → n ≤ n' → m ≤ m' → All (IsPropertyFormOf n m) forms → All (IsPropertyFormOf n' m') forms
 all_wider n m n' m' forms a b all k d l = form_wider n m n' m' (get_or forms k d) a b (all k d l)
