@@ -63,6 +63,32 @@ fn push_property(
     }
 }
 
+/// A form of two individuals.
+fn push_individuals(
+    alloc: Global,
+    text: &mut String,
+    form: &str,
+    first: IndId,
+    second: IndId,
+) -> Result<(), AllocError> {
+    text.push_str(form)?;
+    push_number(alloc, text, "i", first.index())?;
+    push_number(alloc, text, "i", second.index())
+}
+
+/// A form of two individuals and a property between them.
+fn push_pair(
+    alloc: Global,
+    text: &mut String,
+    form: &str,
+    (source, property, target): (IndId, PropId, IndId),
+) -> Result<(), AllocError> {
+    text.push_str(form)?;
+    push_number(alloc, text, "i", source.index())?;
+    push_number(alloc, text, "r", property.index())?;
+    push_number(alloc, text, "i", target.index())
+}
+
 /// The forms N1 to N4.
 fn push_inclusion(
     alloc: Global,
@@ -98,8 +124,8 @@ fn push_inclusion(
     }
 }
 
-/// The forms N5 to N9.
-fn push_other(
+/// The forms N5 to N7.
+fn push_of_properties(
     alloc: Global,
     text: &mut String,
     normal: &Normal,
@@ -121,17 +147,27 @@ fn push_other(
             text.push_str("N7")?;
             push_number(alloc, text, "r", r.index())
         }
+        _ => Ok(()),
+    }
+}
+
+/// The forms N8 to N12.
+fn push_of_individuals(
+    alloc: Global,
+    text: &mut String,
+    normal: &Normal,
+    form: Form,
+) -> Result<(), AllocError> {
+    match form {
         Form::N8(a, class) => {
             text.push_str("N8")?;
             push_number(alloc, text, "i", a.index())?;
             push_class(alloc, text, normal, class)
         }
-        Form::N9(a, r, b) => {
-            text.push_str("N9")?;
-            push_number(alloc, text, "i", a.index())?;
-            push_number(alloc, text, "r", r.index())?;
-            push_number(alloc, text, "i", b.index())
-        }
+        Form::N9(a, r, b) => push_pair(alloc, text, "N9", (a, r, b)),
+        Form::N10(a, b) => push_individuals(alloc, text, "N10", a, b),
+        Form::N11(a, b) => push_individuals(alloc, text, "N11", a, b),
+        Form::N12(a, r, b) => push_pair(alloc, text, "N12", (a, r, b)),
         _ => Ok(()),
     }
 }
@@ -153,7 +189,8 @@ pub(crate) fn push_forms(
     for number in 0..normal.forms().len() {
         let form = normal.forms().at(number);
         push_inclusion(alloc, text, normal, form)?;
-        push_other(alloc, text, normal, form)?;
+        push_of_properties(alloc, text, normal, form)?;
+        push_of_individuals(alloc, text, normal, form)?;
         push_origin(alloc, text, normal.origin(number))?;
         text.push_str("\n")?;
     }

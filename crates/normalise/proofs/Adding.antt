@@ -80,6 +80,9 @@ says_more t t' u u' k l (forms.N6 p q r) g (x, y, z, h, i, j, e) = (x, y, z, say
 says_more t t' u u' k l (forms.N7 r) g h = h
 says_more t t' u u' k l (forms.N8 i a) g (x, h, e) = (x, says_class_more t t' k a x h, e)
 says_more t t' u u' k l (forms.N9 a r b) g h = h
+says_more t t' u u' k l (forms.N10 a b) g h = h
+says_more t t' u u' k l (forms.N11 a b) g h = h
+says_more t t' u u' k l (forms.N12 a r b) g h = h
 
 class_one : (t : Lists) (a : code_class.Class2) (x y : Class2) → SaysClass t a x → SaysClass t a y → x ≡ y
 class_one t (classes.Expr e) x y h i = h ∙ sym i
@@ -102,6 +105,9 @@ says_one t u (forms.N6 p q r) g h (x, y, z, i, j, k, e) (x', y', z', i', j', k',
 says_one t u (forms.N7 r) g h e e' = e ∙ sym e'
 says_one t u (forms.N8 a b) g h (x, i, e) (x', i', e') = e ∙ ap (N8 a.0) (class_one t b x x' i i') ∙ sym e'
 says_one t u (forms.N9 a r b) g h e e' = e ∙ sym e'
+says_one t u (forms.N10 a b) g h e e' = e ∙ sym e'
+says_one t u (forms.N11 a b) g h e e' = e ∙ sym e'
+says_one t u (forms.N12 a r b) g h e e' = e ∙ sym e'
 
 pub at_one : (entries : List Entry) (t u : Lists) (n : ℕ) (o p : Origin) (g h : Form) → IsAt entries t u n o g → IsAt entries t u n p h → (o ≡ p) × (g ≡ h)
 at_one entries t u n o p g h (f, at, says) (f', at', says') =

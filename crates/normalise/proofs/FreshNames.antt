@@ -9,10 +9,10 @@ use Rattle.std.proofs.lemmas.Option.{none-some, same_Some, slice_get_within}
 use Rattle.lemmas.proofs.Members.{Contains-from_slice_get, slice_get-from_Contains, Contains-none, Contains-first, Contains-later, Contains-cons_cases}
 use Rattle.lemmas.proofs.Places.{slice_get_there, slice_get_push, slice_get_push_cases, keeps_push}
 use Rattle.axioms.specs.Growth.{Numbers}
-use Rattle.axioms.specs.Ontology.{Ontology, Axiom, Node, Class, And, Exists, SubClass, EquivalentClasses, DisjointClasses, SubProperty, EquivalentProperties, Domain, Transitive, Reflexive, ClassAssertion, PropertyAssertion, nothing, thing}
+use Rattle.axioms.specs.Ontology.{Ontology, Axiom, Node, Class, And, Exists, SubClass, EquivalentClasses, DisjointClasses, SubProperty, EquivalentProperties, Domain, Transitive, Reflexive, ClassAssertion, PropertyAssertion, SameIndividuals, DifferentIndividuals, NegativePropertyAssertion, nothing, thing}
 use Rattle.normal_forms.specs.declared.forms.Origin.{Origin}
 use Rattle.normal_forms.specs.declared.forms.Origin.TheVariants as origins
-use Rattle.normal_forms.specs.Forms.{Class2, Property2, Form, Whole, Prefix, Property, Steps, N1, N2, N3, N4, N5, N6, N7, N8, N9, first_of, first_steps}
+use Rattle.normal_forms.specs.Forms.{Class2, Property2, Form, Whole, Prefix, Property, Steps, N1, N2, N3, N4, N5, N6, N7, N8, N9, N10, N11, N12, first_of, first_steps}
 use Rattle.normal_forms.specs.Occurrences.{Occurs, AtLeft}
 use Rattle.normal_forms.specs.Origins.{GivenBy, AxiomGives, RightGives, LeftGives}
 use Rattle.normalise.specs.declared.made.Made.{Made}
@@ -147,6 +147,9 @@ gives_no_chain (Transitive r) none p q rs e = let f : N6 p q (Steps rs) ≡ N6 (
 gives_no_chain (Reflexive r) none p q rs e = let f : N6 p q (Steps rs) ≡ N7 r = e in cc
 gives_no_chain (ClassAssertion c a) none p q rs e = let f : N6 p q (Steps rs) ≡ N8 a (Whole c) = e in cc
 gives_no_chain (PropertyAssertion r a b) none p q rs e = let f : N6 p q (Steps rs) ≡ N9 a r b = e in cc
+gives_no_chain (SameIndividuals xs) none p q rs (n, (a, b, _, _, e)) = let f : N6 p q (Steps rs) ≡ N10 a b = e in cc
+gives_no_chain (DifferentIndividuals xs) none p q rs (m, (n, (a, b, _, _, _, e))) = let f : N6 p q (Steps rs) ≡ N11 a b = e in cc
+gives_no_chain (NegativePropertyAssertion r a b) none p q rs e = let f : N6 p q (Steps rs) ≡ N12 a r b = e in cc
 
 no_prefixes : (a : Axiom) → NamesNone a → chain_prefixes a ≡ []
 no_prefixes (SubClass c d) none = refl
@@ -159,6 +162,9 @@ no_prefixes (Transitive r) none = refl
 no_prefixes (Reflexive r) none = refl
 no_prefixes (ClassAssertion c a) none = refl
 no_prefixes (PropertyAssertion r a b) none = refl
+no_prefixes (SameIndividuals xs) none = refl
+no_prefixes (DifferentIndividuals xs) none = refl
+no_prefixes (NegativePropertyAssertion r a b) none = refl
 
 -- an axiom that is no chain names nothing
 pub names_none : (s t : Made) (p : Origin) (a : Axiom) → NamesNone a → Adds s t (From p (AxiomGives a)) → NumbersBehind s.steps (chain_prefixes a) t.steps
@@ -230,6 +236,9 @@ axiom_no_class (Transitive r) a b ds e = let f : N2 a b (Prefix ds) ≡ N6 (Prop
 axiom_no_class (Reflexive r) a b ds e = let f : N2 a b (Prefix ds) ≡ N7 r = e in cc
 axiom_no_class (ClassAssertion c i) a b ds e = let f : N2 a b (Prefix ds) ≡ N8 i (Whole c) = e in cc
 axiom_no_class (PropertyAssertion r i j) a b ds e = let f : N2 a b (Prefix ds) ≡ N9 i r j = e in cc
+axiom_no_class (SameIndividuals xs) a b ds (n, (i, j, _, _, e)) = let f : N2 a b (Prefix ds) ≡ N10 i j = e in cc
+axiom_no_class (DifferentIndividuals xs) a b ds (m, (n, (i, j, _, _, _, e))) = let f : N2 a b (Prefix ds) ≡ N11 i j = e in cc
+axiom_no_class (NegativePropertyAssertion r i j) a b ds e = let f : N2 a b (Prefix ds) ≡ N12 i r j = e in cc
 
 right_no_class : (e : ℕ) (node : Node) (a b : Class2) (ds : List ℕ) → RightGives e node (N2 a b (Prefix ds)) → ⊥
 right_no_class e (Class c) a b ds h = h
@@ -316,6 +325,9 @@ chain_given o asked n (Transitive r) rs at h = absurd (Contains-none rs h)
 chain_given o asked n (Reflexive r) rs at h = absurd (Contains-none rs h)
 chain_given o asked n (ClassAssertion c a) rs at h = absurd (Contains-none rs h)
 chain_given o asked n (PropertyAssertion r a b) rs at h = absurd (Contains-none rs h)
+chain_given o asked n (SameIndividuals xs) rs at h = absurd (Contains-none rs h)
+chain_given o asked n (DifferentIndividuals xs) rs at h = absurd (Contains-none rs h)
+chain_given o asked n (NegativePropertyAssertion r a b) rs at h = absurd (Contains-none rs h)
 
 -- what stands for a prefix of a chain is the last of a form
 pub chains_given : (o : Ontology) (asked : List ℕ) (steps : Lists) → NameChains o.axioms steps → (n : ℕ) (rs : List ℕ) → slice_get steps n ≡ Some rs → HasProperty (GivenBy o asked) rs

@@ -20,8 +20,8 @@ use Rattle.normal_forms.specs.declared.forms.PropId2.TheVariants as properties
 use Rattle.normal_forms.specs.declared.forms.Form.TheVariants as forms
 use Rattle.normal_forms.specs.declared.forms.Origin.{Origin}
 use Rattle.normal_forms.specs.declared.forms.Origin.TheVariants as origins
-use Rattle.normal_forms.specs.Forms.{Class2, Property2, Form, Whole, Prefix, Property, Steps, N1, N2, N3, N4, N5, N6, first_of, first_steps}
-use Rattle.normal_forms.specs.Origins.{AndGives, AxiomGives, ChainGives, CircleGives, LeftGives, PairGives, RightGives, disjoint, subsumed}
+use Rattle.normal_forms.specs.Forms.{Class2, Property2, Form, Whole, Prefix, Property, Steps, N1, N2, N3, N4, N5, N6, N10, N11, first_of, first_steps}
+use Rattle.normal_forms.specs.Origins.{AndGives, AxiomGives, ChainGives, CircleGives, LeftGives, NextGives, PairGives, RightGives, disjoint, subsumed}
 use Rattle.normalise.specs.declared.made.Made.{Made}
 use Rattle.normalise.specs.View.{Lists, SaysClass, SaysProperty, Says, StartsClass, StartsProperty, class_number, property_number, Keeps, HasClass, HasProperty, Adds, IsOne, From}
 use Rattle.normalise.specs.Steps.{BelowOperand, ChainStep, ExpressedAt, MoreOperands, MoreSteps, Names, OperandStep, SideGives, StatedAt, Within}
@@ -47,11 +47,17 @@ circle_adds p make cs many k m c d long gc gd next = from_one p (make c d) (Circ
     only : (g : Form) → CircleGives make cs k g → g ≡ make c d
     only g (x, y, gx, n, e) = e ∙ ap (λ z. make z y) (one_value _ x c gx gc) ∙ ap (make c) (second y n (there next))
 
-pub pair_adds : {s t : Made} (p : Origin) (cs : List ℕ) (m n c d : ℕ) → m < n → slice_get cs m ≡ Some c → slice_get cs n ≡ Some d → Adds s t (IsOne p (disjoint c d)) → Adds s t (From p (PairGives cs m n))
-pair_adds p cs m n c d lt gc gd = from_one p (disjoint c d) (PairGives cs m n) (c, d, lt, gc, gd, refl) only
+pub pair_adds : {s t : Made} (p : Origin) (make : ℕ → ℕ → Form) (cs : List ℕ) (m n c d : ℕ) → m < n → slice_get cs m ≡ Some c → slice_get cs n ≡ Some d → Adds s t (IsOne p (make c d)) → Adds s t (From p (PairGives make cs m n))
+pair_adds p make cs m n c d lt gc gd = from_one p (make c d) (PairGives make cs m n) (c, d, lt, gc, gd, refl) only
   where
-    only : (g : Form) → PairGives cs m n g → g ≡ disjoint c d
-    only g (x, y, lt', gx, gy, e) = e ∙ ap (λ z. disjoint z y) (one_value _ x c gx gc) ∙ ap (disjoint c) (one_value _ y d gy gd)
+    only : (g : Form) → PairGives make cs m n g → g ≡ make c d
+    only g (x, y, lt', gx, gy, e) = e ∙ ap (λ z. make z y) (one_value _ x c gx gc) ∙ ap (make c) (one_value _ y d gy gd)
+
+pub next_adds : {s t : Made} (p : Origin) (make : ℕ → ℕ → Form) (xs : List ℕ) (k a b : ℕ) → slice_get xs k ≡ Some a → slice_get xs (k + 1) ≡ Some b → Adds s t (IsOne p (make a b)) → Adds s t (From p (NextGives make xs k))
+next_adds p make xs k a b ga gb = from_one p (make a b) (NextGives make xs k) (a, b, ga, gb, refl) only
+  where
+    only : (g : Form) → NextGives make xs k g → g ≡ make a b
+    only g (x, y, gx, gy, e) = e ∙ ap (λ z. make z y) (one_value _ x a gx ga) ∙ ap (make a) (one_value _ y b gy gb)
 
 pub operand_adds : {s t : Made} (p : Origin) (ds : List ℕ) (e n d : ℕ) (f : Form) → BelowOperand ds e n f → slice_get ds n ≡ Some d → Adds s t (IsOne p f) → Adds s t (From p (BelowOperand ds e n))
 operand_adds p ds e n d f (y, gy, ey) gd = from_one p f (BelowOperand ds e n) (y, gy, ey) (λ g h. (let same : h.0 ≡ y = one_value _ h.0 y h.1 gy in cc))
@@ -70,11 +76,29 @@ subsumed_first a b c d e = cc
 pub n5_first : (a b c d : ℕ) → N5 a b ≡ N5 c d → a ≡ c
 n5_first a b c d e = cc
 
-pub pair_once : (cs : List ℕ) → AreDistinct cs → (k m n : ℕ) (g : Form) → PairGives cs k m g → PairGives cs k n g → m ≡ n
-pair_once cs one k m n g (c, d, _, _, gd, e) (c', d', _, _, gd', e') = at_one_place cs one m n d d' gd gd' (let f : disjoint c d ≡ disjoint c' d' = sym e ∙ e' in let i : d ≡ d' = cc in i)
+pub next_once : (make : ℕ → ℕ → Form) → ((a b c d : ℕ) → make a b ≡ make c d → a ≡ c) → (xs : List ℕ) → AreDistinct xs → (m n : ℕ) (g : Form) → NextGives make xs m g → NextGives make xs n g → m ≡ n
+next_once make first xs one m n g (a, b, ga, _, e) (a', b', ga', _, e') = at_one_place xs one m n a a' ga ga' (first a b a' b' (sym e ∙ e'))
 
-pub row_once : (cs : List ℕ) → AreDistinct cs → (m n : ℕ) (g : Form) → ((k : ℕ) × PairGives cs m k g) → ((k : ℕ) × PairGives cs n k g) → m ≡ n
-row_once cs one m n g (_, (c, d, _, gc, _, e)) (_, (c', d', _, gc', _, e')) = at_one_place cs one m n c c' gc gc' (let f : disjoint c d ≡ disjoint c' d' = sym e ∙ e' in let i : c ≡ c' = cc in i)
+pub n10_first : (a b c d : ℕ) → N10 a b ≡ N10 c d → a ≡ c
+n10_first a b c d e = cc
+
+pub pair_once : (make : ℕ → ℕ → Form) → ((a b c d : ℕ) → make a b ≡ make c d → b ≡ d) → (cs : List ℕ) → AreDistinct cs → (k m n : ℕ) (g : Form) → PairGives make cs k m g → PairGives make cs k n g → m ≡ n
+pair_once make second cs one k m n g (c, d, _, _, gd, e) (c', d', _, _, gd', e') = at_one_place cs one m n d d' gd gd' (second c d c' d' (sym e ∙ e'))
+
+pub row_once : (make : ℕ → ℕ → Form) → ((a b c d : ℕ) → make a b ≡ make c d → a ≡ c) → (cs : List ℕ) → AreDistinct cs → (m n : ℕ) (g : Form) → ((k : ℕ) × PairGives make cs m k g) → ((k : ℕ) × PairGives make cs n k g) → m ≡ n
+row_once make first cs one m n g (_, (c, d, _, gc, _, e)) (_, (c', d', _, gc', _, e')) = at_one_place cs one m n c c' gc gc' (first c d c' d' (sym e ∙ e'))
+
+pub disjoint_first : (a b c d : ℕ) → disjoint a b ≡ disjoint c d → a ≡ c
+disjoint_first a b c d e = cc
+
+pub disjoint_second : (a b c d : ℕ) → disjoint a b ≡ disjoint c d → b ≡ d
+disjoint_second a b c d e = cc
+
+pub n11_first : (a b c d : ℕ) → N11 a b ≡ N11 c d → a ≡ c
+n11_first a b c d e = cc
+
+pub n11_second : (a b c d : ℕ) → N11 a b ≡ N11 c d → b ≡ d
+n11_second a b c d e = cc
 
 pub operand_once : (ds : List ℕ) (e : ℕ) → AreDistinct ds → (m n : ℕ) (g : Form) → BelowOperand ds e m g → BelowOperand ds e n g → m ≡ n
 operand_once ds e one m n g (d, gd, i) (d', gd', i') = at_one_place ds one m n d d' gd gd' (let f : N1 (Whole e) (Whole d) ≡ N1 (Whole e) (Whole d') = sym i ∙ i' in let j : d ≡ d' = cc in j)

@@ -7,7 +7,7 @@ use Rattle.std.proofs.lemmas.Option.{none-some, slice_get_within, slice_get-get_
 use Rattle.lemmas.proofs.Choices.{one_value}
 use Rattle.lemmas.proofs.Mapped.{slice_get_map_from}
 use Rattle.lemmas.proofs.Members.{Contains-from_slice_get}
-use Rattle.axioms.specs.Ontology.{Ontology, Axiom, Node, Class, And, Exists, SubClass, EquivalentClasses, DisjointClasses, SubProperty, EquivalentProperties, Domain, Transitive, Reflexive, ClassAssertion, PropertyAssertion}
+use Rattle.axioms.specs.Ontology.{Ontology, Axiom, Node, Class, And, Exists, SubClass, EquivalentClasses, DisjointClasses, SubProperty, EquivalentProperties, Domain, Transitive, Reflexive, ClassAssertion, PropertyAssertion, SameIndividuals, DifferentIndividuals, NegativePropertyAssertion}
 use Rattle.axioms.specs.WellFormedness.{IsAxiomOf, IsOntology}
 use Rattle.normal_forms.specs.declared.forms.PropId2 as code_property
 use Rattle.normal_forms.specs.declared.forms.PropId2.TheVariants as properties
@@ -63,6 +63,9 @@ axiom_there o (Transitive r) g ok e = subst (AreThere (length o.names.properties
 axiom_there o (Reflexive r) g ok e = subst (AreThere (length o.names.properties)) (sym e) ok
 axiom_there o (ClassAssertion c a) g ok e = subst (AreThere (length o.names.properties)) (sym e) tt
 axiom_there o (PropertyAssertion r a b) g ok e = subst (AreThere (length o.names.properties)) (sym e) tt
+axiom_there o (SameIndividuals xs) g ok (n, (a, b, ga, gb, e)) = subst (AreThere (length o.names.properties)) (sym e) tt
+axiom_there o (DifferentIndividuals xs) g ok (m, (n, (a, b, lt, ga, gb, e))) = subst (AreThere (length o.names.properties)) (sym e) tt
+axiom_there o (NegativePropertyAssertion r a b) g ok e = subst (AreThere (length o.names.properties)) (sym e) tt
 
 right_there : (many e : ℕ) (node : Node) (g : Form) → RightGives e node g → AreThere many g
 unfolding AreThere
@@ -98,6 +101,9 @@ form_there many t u (forms.N6 p q r) g (x, y, z, h, i, j, e) there =
 form_there many t u (forms.N7 r) g e i = subst (AreThere many) e i
 form_there many t u (forms.N8 a b) g h i = tt
 form_there many t u (forms.N9 a r b) g h i = tt
+form_there many t u (forms.N10 a b) g h i = tt
+form_there many t u (forms.N11 a b) g h i = tt
+form_there many t u (forms.N12 a r b) g h i = tt
 
 pub named : (o : Ontology) → IsOntology o → (v : Listing) → IsNormalFor o v → All (IsPropertyFormOf (length o.names.properties) (length v.steps)) (map form_in v.entries)
 named o ok v n = λ k d l.

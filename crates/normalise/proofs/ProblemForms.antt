@@ -13,7 +13,7 @@ use Rattle.normal_forms.specs.declared.forms.Form.TheVariants as forms
 use Rattle.normal_forms.specs.Forms.{Class2, Property2, Form, IsForm}
 use Rattle.facts.specs.declared.contexts.Context.{Context}
 use Rattle.closure.specs.Denotations as closure
-use Rattle.closure.specs.Denotations.{Prefixes, whole, prefix, property, steps, n1, n2, n3, n4, n5, n6, n7, n8, n9, SaysForm, IsProblemOf}
+use Rattle.closure.specs.Denotations.{Prefixes, whole, prefix, property, steps, n1, n2, n3, n4, n5, n6, n7, n8, n9, n10, n11, n12, SaysForm, IsProblemOf}
 use Rattle.normalise.specs.declared.entries.Entry.{Entry}
 use Rattle.normalise.specs.Entries.{form_in}
 use Rattle.normalise.specs.Growth.{IsNormalFor}
@@ -42,6 +42,9 @@ module _ (b : Prefixes) where
   says_form (forms.N7 r) g is = subst (SaysForm b (forms.N7 r)) (sym is) (n7 refl)
   says_form (forms.N8 i a) g (x, sx, is) = subst (SaysForm b (forms.N8 i a)) (sym is) (n8 refl (says_class a x sx))
   says_form (forms.N9 i r j) g is = subst (SaysForm b (forms.N9 i r j)) (sym is) (n9 refl refl refl)
+  says_form (forms.N10 i j) g is = subst (SaysForm b (forms.N10 i j)) (sym is) (n10 refl refl)
+  says_form (forms.N11 i j) g is = subst (SaysForm b (forms.N11 i j)) (sym is) (n11 refl refl)
+  says_form (forms.N12 i r j) g is = subst (SaysForm b (forms.N12 i r j)) (sym is) (n12 refl refl refl)
 
 module _ (o : Ontology) (v : Listing) (normal : IsNormalFor o v) where
   -- the form of an entry says a form of the definition

@@ -1,6 +1,6 @@
 -- What single steps of the code give.
 use Rattle.std.specs.Prelude.{◌≡◌, ℕ, ◌+◌, ◌<◌, ◌≤◌, ◌⊎◌, Bool, true, List, ◌++◌, length, take, slice_get, Some}
-use Rattle.axioms.specs.Ontology.{Axiom, Node, Class, And, Exists, EquivalentClasses, DisjointClasses, EquivalentProperties}
+use Rattle.axioms.specs.Ontology.{Axiom, Node, Class, And, Exists, EquivalentClasses, DisjointClasses, EquivalentProperties, SameIndividuals, DifferentIndividuals}
 use Rattle.axioms.specs.Growth.{Numbers}
 use Rattle.axioms.specs.WellFormedness.{AreDistinct}
 use Rattle.axioms.specs.declared.ids.ExprId.{ExprId}
@@ -23,6 +23,8 @@ abbrev pub OperandsDiffer : Axiom → Type 0
 OperandsDiffer (EquivalentClasses cs) = AreDistinct cs
 OperandsDiffer (DisjointClasses cs) = AreDistinct cs
 OperandsDiffer (EquivalentProperties rs) = AreDistinct rs
+OperandsDiffer (SameIndividuals xs) = AreDistinct xs
+OperandsDiffer (DifferentIndividuals xs) = AreDistinct xs
 OperandsDiffer _ = Unit {0}
 
 abbrev pub PartsDiffer : Node → Type 0

@@ -9,7 +9,7 @@ use Rattle.normal_forms.specs.declared.forms.PropId2.TheVariants as properties
 use Rattle.normal_forms.specs.declared.forms.Form as code_form
 use Rattle.normal_forms.specs.declared.forms.Form.TheVariants as forms
 use Rattle.normal_forms.specs.declared.forms.Origin.{Origin}
-use Rattle.normal_forms.specs.Forms.{Class2, Property2, Form, Whole, Prefix, Property, Steps, N1, N2, N3, N4, N5, N6, N7, N8, N9}
+use Rattle.normal_forms.specs.Forms.{Class2, Property2, Form, Whole, Prefix, Property, Steps, N1, N2, N3, N4, N5, N6, N7, N8, N9, N10, N11, N12}
 use Rattle.normalise.specs.declared.entries.Entry.{Entry}
 use Rattle.normalise.specs.declared.made.Made.{Made}
 
@@ -36,6 +36,9 @@ Says t u (forms.N6 p q r) g = (x : Property2) × (y : Property2) × (z : Propert
 Says t u (forms.N7 r) g = g ≡ N7 r.0
 Says t u (forms.N8 i a) g = (x : Class2) × SaysClass t a x × (g ≡ N8 i.0 x)
 Says t u (forms.N9 a r b) g = g ≡ N9 a.0 r.0 b.0
+Says t u (forms.N10 a b) g = g ≡ N10 a.0 b.0
+Says t u (forms.N11 a b) g = g ≡ N11 a.0 b.0
+Says t u (forms.N12 a r b) g = g ≡ N12 a.0 r.0 b.0
 
 -- the n-th form is g, of that origin
 abbrev pub IsAt : List Entry → Lists → Lists → ℕ → Origin → Form → Type 0

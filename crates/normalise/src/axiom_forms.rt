@@ -1,18 +1,18 @@
 //! The forms of axioms.
 ghost use Rattle.std.specs.Prelude.{◌≡◌, ℕ, ◌+◌, ◌<◌, ◌≤◌, OnOk, length, map, slice_get, Some};
 ghost use Rattle.axioms.specs.Ontology.{Axiom as Stated, SubProperty};
-ghost use Rattle.axioms.specs.View.{axiom_of, expr_numbers, prop_numbers};
+ghost use Rattle.axioms.specs.View.{axiom_of, expr_numbers, ind_numbers, prop_numbers};
 ghost use Rattle.axioms.specs.WellFormedness.{AreDistinct};
 ghost use Rattle.normal_forms.specs.declared.forms.Origin.TheVariants as origins;
-ghost use Rattle.normal_forms.specs.Forms.{N5};
-ghost use Rattle.normal_forms.specs.Origins.{AxiomGives, ChainGives, CircleGives, PairGives, subsumed};
+ghost use Rattle.normal_forms.specs.Forms.{N5, N10, N11};
+ghost use Rattle.normal_forms.specs.Origins.{AxiomGives, ChainGives, CircleGives, NextGives, PairGives, disjoint, subsumed};
 ghost use Rattle.normalise.specs.FreshNames.{prefixes_of, chain_prefixes};
 ghost use Rattle.normalise.specs.Steps.{NameMoreChains, NumbersBehind, OperandsDiffer, StatedFrom};
 ghost use Rattle.normalise.specs.View.{Adds, From};
 
-use crate::lists::{expr_at, next_in_circle, prop_at};
+use crate::lists::{expr_at, individual_at, next_in_circle, prop_at};
 use crate::made::Made;
-use axioms::{Axiom, ExprId, Memory, PropId};
+use axioms::{Axiom, ExprId, IndId, Memory, PropId};
 use normal_forms::{Class2, Form, Origin, PropId2};
 
 impl Made {
@@ -64,7 +64,7 @@ impl Made {
     fn pair(&mut self, classes: &[ExprId], m: usize, n: usize, origin: Origin) -> Result<(), Memory>
         requires later { m < n }
         requires within { n < length classes.now }
-        ensures { OnOk result (Adds self.old self.new (From origin (PairGives (expr_numbers classes.now) m n))) }
+        ensures { OnOk result (Adds self.old self.new (From origin (PairGives disjoint (expr_numbers classes.now) m n))) }
     {
         let one = Class2::Expr(expr_at(classes, m));
         let other = Class2::Expr(expr_at(classes, n));
@@ -76,7 +76,7 @@ impl Made {
     fn apart(&mut self, classes: &[ExprId], m: usize, origin: Origin) -> Result<(), Memory>
         requires within { m < length classes.now }
         requires distinct { AreDistinct (expr_numbers classes.now) }
-        ensures { OnOk result (Adds self.old self.new (From origin (λ g. (n : ℕ) × PairGives (expr_numbers classes.now) m n g))) }
+        ensures { OnOk result (Adds self.old self.new (From origin (λ g. (n : ℕ) × PairGives disjoint (expr_numbers classes.now) m n g))) }
     {
         for n in m + 1..classes.len() {
             self.pair(classes, m, n, origin)?;
@@ -87,10 +87,78 @@ impl Made {
     // No two of the classes have anything in common.
     fn disjoint(&mut self, classes: &[ExprId], origin: Origin) -> Result<(), Memory>
         requires { AreDistinct (expr_numbers classes.now) }
-        ensures { OnOk result (Adds self.old self.new (From origin (λ g. (m : ℕ) × ((n : ℕ) × PairGives (expr_numbers classes.now) m n g)))) }
+        ensures { OnOk result (Adds self.old self.new (From origin (λ g. (m : ℕ) × ((n : ℕ) × PairGives disjoint (expr_numbers classes.now) m n g)))) }
     {
         for m in 0..classes.len() {
             self.apart(classes, m, origin)?;
+        }
+        Ok(())
+    }
+
+    // The k-th individual of a list and the next are one.
+    fn next_in_list(
+        &mut self,
+        individuals: &[IndId],
+        k: usize,
+        origin: Origin,
+    ) -> Result<(), Memory>
+        requires { k + 1 < length individuals.now }
+        ensures { OnOk result (Adds self.old self.new (From origin (NextGives N10 (ind_numbers individuals.now) k))) }
+    {
+        let this = individual_at(individuals, k);
+        let next = individual_at(individuals, k + 1);
+        self.add(Form::N10(this, next), origin)?;
+        Ok(())
+    }
+
+    // All of the individuals are one: each is one with the next.
+    fn same(&mut self, individuals: &[IndId], origin: Origin) -> Result<(), Memory>
+        requires { AreDistinct (ind_numbers individuals.now) }
+        ensures { OnOk result (Adds self.old self.new (From origin (λ g. (n : ℕ) × NextGives N10 (ind_numbers individuals.now) n g))) }
+    {
+        for k in 0..individuals.len().saturating_sub(1) {
+            self.next_in_list(individuals, k, origin)?;
+        }
+        Ok(())
+    }
+
+    // Two individuals, the second at a later place, are two.
+    fn differ(
+        &mut self,
+        individuals: &[IndId],
+        m: usize,
+        n: usize,
+        origin: Origin,
+    ) -> Result<(), Memory>
+        requires later { m < n }
+        requires within { n < length individuals.now }
+        ensures { OnOk result (Adds self.old self.new (From origin (PairGives N11 (ind_numbers individuals.now) m n))) }
+    {
+        let one = individual_at(individuals, m);
+        let other = individual_at(individuals, n);
+        self.add(Form::N11(one, other), origin)?;
+        Ok(())
+    }
+
+    // The m-th individual and any later one are two.
+    fn differs(&mut self, individuals: &[IndId], m: usize, origin: Origin) -> Result<(), Memory>
+        requires within { m < length individuals.now }
+        requires distinct { AreDistinct (ind_numbers individuals.now) }
+        ensures { OnOk result (Adds self.old self.new (From origin (λ g. (n : ℕ) × PairGives N11 (ind_numbers individuals.now) m n g))) }
+    {
+        for n in m + 1..individuals.len() {
+            self.differ(individuals, m, n, origin)?;
+        }
+        Ok(())
+    }
+
+    // No two of the individuals are one.
+    fn different(&mut self, individuals: &[IndId], origin: Origin) -> Result<(), Memory>
+        requires { AreDistinct (ind_numbers individuals.now) }
+        ensures { OnOk result (Adds self.old self.new (From origin (λ g. (m : ℕ) × ((n : ℕ) × PairGives N11 (ind_numbers individuals.now) m n g)))) }
+    {
+        for m in 0..individuals.len() {
+            self.differs(individuals, m, origin)?;
         }
         Ok(())
     }
@@ -141,6 +209,11 @@ impl Made {
             }
             Axiom::PropertyAssertion(prop, source, target) => {
                 self.add(Form::N9(*source, *prop, *target), origin)?
+            }
+            Axiom::SameIndividuals(individuals) => self.same(individuals, origin)?,
+            Axiom::DifferentIndividuals(individuals) => self.different(individuals, origin)?,
+            Axiom::NegativePropertyAssertion(prop, source, target) => {
+                self.add(Form::N12(*source, *prop, *target), origin)?
             }
         }
         Ok(())

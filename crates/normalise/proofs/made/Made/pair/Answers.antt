@@ -7,4 +7,4 @@ use Rattle.axioms.specs.Ontology.{nothing}
 use Rattle.normalise.proofs.made.Made.pair.Goals as goal
 
 pub returns : goal.returns
-returns c = pair_adds c.args.origin (expr_numbers c.args.classes.now) c.args.m c.args.n c.expr_at.result.0 c.expr_at-2.result.0 c.requires.later c.expr_at.ensures c.expr_at-2.ensures (c.in_ok-add.ensures.forms (disjoint c.expr_at.result.0 c.expr_at-2.result.0) (Whole c.expr_at.result.0, Whole c.expr_at-2.result.0, Whole nothing, refl, refl, refl, refl))
+returns c = pair_adds c.args.origin disjoint (expr_numbers c.args.classes.now) c.args.m c.args.n c.expr_at.result.0 c.expr_at-2.result.0 c.requires.later c.expr_at.ensures c.expr_at-2.ensures (c.in_ok-add.ensures.forms (disjoint c.expr_at.result.0 c.expr_at-2.result.0) (Whole c.expr_at.result.0, Whole c.expr_at-2.result.0, Whole nothing, refl, refl, refl, refl))

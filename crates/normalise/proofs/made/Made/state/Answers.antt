@@ -1,9 +1,9 @@
 use Rattle.std.proofs.Common.{ℕ, refl, sym, subst}
-use Rattle.axioms.specs.View.{axiom_of, expr_numbers, prop_numbers}
+use Rattle.axioms.specs.View.{axiom_of, expr_numbers, ind_numbers, prop_numbers}
 use Rattle.normal_forms.specs.Forms.{N5}
-use Rattle.normal_forms.specs.Origins.{CircleGives, PairGives, subsumed}
+use Rattle.normal_forms.specs.Origins.{CircleGives, NextGives, PairGives, disjoint, subsumed}
 use Rattle.normalise.specs.View.{Adds, From}
-use Rattle.normal_forms.specs.Forms.{Whole, Property, N1, N4, N6, N7, N8, N9}
+use Rattle.normal_forms.specs.Forms.{Whole, Property, N1, N4, N6, N7, N8, N9, N10, N11, N12}
 use Rattle.normal_forms.specs.Origins.{AxiomGives}
 use Rattle.axioms.specs.Ontology.{thing}
 use Rattle.normalise.proofs.FreshNames.{NamesNone, names_none}
@@ -22,7 +22,7 @@ returns-in_ok-circle-in-EquivalentClasses-clause-forms c =
 pub returns-in_ok-disjoint-in-DisjointClasses-clause-forms : goal.returns-in_ok-disjoint-in-DisjointClasses-clause-forms
 returns-in_ok-disjoint-in-DisjointClasses-clause-forms c =
     subst (λ a. Adds c.args.self.now c.disjoint.new.self (From c.args.origin (AxiomGives (axiom_of a)))) (sym c.in-DisjointClasses.is)
-    (subst (λ xs. Adds c.args.self.now c.disjoint.new.self (From c.args.origin (λ g. (m : ℕ) × ((n : ℕ) × PairGives (expr_numbers xs) m n g)))) c.deref-in-DisjointClasses.ensures.value c.in_ok-disjoint-in-DisjointClasses.ensures)
+    (subst (λ xs. Adds c.args.self.now c.disjoint.new.self (From c.args.origin (λ g. (m : ℕ) × ((n : ℕ) × PairGives disjoint (expr_numbers xs) m n g)))) c.deref-in-DisjointClasses.ensures.value c.in_ok-disjoint-in-DisjointClasses.ensures)
 
 pub returns-in_ok-property_circle-in-EquivalentProperties-clause-forms : goal.returns-in_ok-property_circle-in-EquivalentProperties-clause-forms
 returns-in_ok-property_circle-in-EquivalentProperties-clause-forms c =
@@ -54,6 +54,21 @@ returns-in_ok-add-in-PropertyAssertion-clause-forms c =
     subst (λ a. Adds c.args.self.now c.add-in-PropertyAssertion.new.self (From c.args.origin (AxiomGives (axiom_of a)))) (sym c.in-PropertyAssertion.is)
     (c.in_ok-add-in-PropertyAssertion.ensures.forms (N9 c.in-PropertyAssertion.source.0 c.in-PropertyAssertion.prop.0 c.in-PropertyAssertion.target.0) refl)
 
+pub returns-in_ok-same-in-SameIndividuals-clause-forms : goal.returns-in_ok-same-in-SameIndividuals-clause-forms
+returns-in_ok-same-in-SameIndividuals-clause-forms c =
+    subst (λ a. Adds c.args.self.now c.same.new.self (From c.args.origin (AxiomGives (axiom_of a)))) (sym c.in-SameIndividuals.is)
+    (subst (λ xs. Adds c.args.self.now c.same.new.self (From c.args.origin (λ g. (n : ℕ) × NextGives N10 (ind_numbers xs) n g))) c.deref-in-SameIndividuals.ensures.value c.in_ok-same-in-SameIndividuals.ensures)
+
+pub returns-in_ok-different-in-DifferentIndividuals-clause-forms : goal.returns-in_ok-different-in-DifferentIndividuals-clause-forms
+returns-in_ok-different-in-DifferentIndividuals-clause-forms c =
+    subst (λ a. Adds c.args.self.now c.different.new.self (From c.args.origin (AxiomGives (axiom_of a)))) (sym c.in-DifferentIndividuals.is)
+    (subst (λ xs. Adds c.args.self.now c.different.new.self (From c.args.origin (λ g. (m : ℕ) × ((n : ℕ) × PairGives N11 (ind_numbers xs) m n g)))) c.deref-in-DifferentIndividuals.ensures.value c.in_ok-different-in-DifferentIndividuals.ensures)
+
+pub returns-in_ok-add-in-NegativePropertyAssertion-clause-forms : goal.returns-in_ok-add-in-NegativePropertyAssertion-clause-forms
+returns-in_ok-add-in-NegativePropertyAssertion-clause-forms c =
+    subst (λ a. Adds c.args.self.now c.add-in-NegativePropertyAssertion.new.self (From c.args.origin (AxiomGives (axiom_of a)))) (sym c.in-NegativePropertyAssertion.is)
+    (c.in_ok-add-in-NegativePropertyAssertion.ensures.forms (N12 c.in-NegativePropertyAssertion.source.0 c.in-NegativePropertyAssertion.prop.0 c.in-NegativePropertyAssertion.target.0) refl)
+
 pub returns-in_ok-add-in-SubClass-clause-names : goal.returns-in_ok-add-in-SubClass-clause-names
 returns-in_ok-add-in-SubClass-clause-names c = names_none c.args.self.now c.add.new.self c.args.origin (axiom_of c.args.«axiom».now) (subst (λ a. NamesNone (axiom_of a)) (sym c.in-SubClass.is) tt) (returns-in_ok-add-in-SubClass-clause-forms c)
 
@@ -80,3 +95,12 @@ returns-in_ok-add-in-ClassAssertion-clause-names c = names_none c.args.self.now 
 
 pub returns-in_ok-add-in-PropertyAssertion-clause-names : goal.returns-in_ok-add-in-PropertyAssertion-clause-names
 returns-in_ok-add-in-PropertyAssertion-clause-names c = names_none c.args.self.now c.add-in-PropertyAssertion.new.self c.args.origin (axiom_of c.args.«axiom».now) (subst (λ a. NamesNone (axiom_of a)) (sym c.in-PropertyAssertion.is) tt) (returns-in_ok-add-in-PropertyAssertion-clause-forms c)
+
+pub returns-in_ok-same-in-SameIndividuals-clause-names : goal.returns-in_ok-same-in-SameIndividuals-clause-names
+returns-in_ok-same-in-SameIndividuals-clause-names c = names_none c.args.self.now c.same.new.self c.args.origin (axiom_of c.args.«axiom».now) (subst (λ a. NamesNone (axiom_of a)) (sym c.in-SameIndividuals.is) tt) (returns-in_ok-same-in-SameIndividuals-clause-forms c)
+
+pub returns-in_ok-different-in-DifferentIndividuals-clause-names : goal.returns-in_ok-different-in-DifferentIndividuals-clause-names
+returns-in_ok-different-in-DifferentIndividuals-clause-names c = names_none c.args.self.now c.different.new.self c.args.origin (axiom_of c.args.«axiom».now) (subst (λ a. NamesNone (axiom_of a)) (sym c.in-DifferentIndividuals.is) tt) (returns-in_ok-different-in-DifferentIndividuals-clause-forms c)
+
+pub returns-in_ok-add-in-NegativePropertyAssertion-clause-names : goal.returns-in_ok-add-in-NegativePropertyAssertion-clause-names
+returns-in_ok-add-in-NegativePropertyAssertion-clause-names c = names_none c.args.self.now c.add-in-NegativePropertyAssertion.new.self c.args.origin (axiom_of c.args.«axiom».now) (subst (λ a. NamesNone (axiom_of a)) (sym c.in-NegativePropertyAssertion.is) tt) (returns-in_ok-add-in-NegativePropertyAssertion-clause-forms c)
