@@ -13,9 +13,9 @@ use Rattle.axioms.specs.Ontology.{Ontology, expression, expressions, property_na
 use Rattle.axioms.specs.WellFormedness.{IsOntology}
 use Rattle.certificate.specs.Certificate.{Listed}
 use Rattle.certificate.specs.Writability.{IsListedOf}
-use Rattle.interpretation_spec.specs.Interpretation.{IsIn, IsWithin, IsSame, IsApart, HasPath, IsSubProperty, IsSameProperty, Satisfies}
+use Rattle.interpretation_spec.specs.Interpretation.{IsIn, IsWithin, IsSame, IsApart, HasPath, IsSubProperty, IsSameProperty, IsSameElement, IsOtherElement, Satisfies}
 use Rattle.number_sets.specs.Pieces.{list_at}
-use Rattle.listed_model.specs.Listing.{targets_of}
+use Rattle.listed_model.specs.Listing.{HaveOneElement, HaveTwoElements, element_of, targets_of}
 use Rattle.listed_model.specs.Interpretations.{listed_interpretation}
 use Rattle.listed_model.specs.Members.{holds}
 use Rattle.listed_model.specs.Extensions.{IsExtension, AreExtensions}
@@ -179,18 +179,39 @@ module _ (o : Ontology) (w : IsOntology o) (l : Listed) (fits : IsListedOf o l) 
   -- ---- individuals
 
   pub class_assertion_said : (c a : ℕ) (xs : List ℕ) → a < length o.names.individuals → IsExtension o l c xs
-      → (holds xs (get_or l.individuals a 0) ≡ true) ↔ Satisfies (listed_interpretation o l) (tree.ClassAssertion (expression o c) (individual_name o a))
+      → (holds xs (element_of l.individuals a) ≡ true) ↔ Satisfies (listed_interpretation o l) (tree.ClassAssertion (expression o c) (individual_name o a))
   class_assertion_said c a xs la e =
       let i = listed_interpretation o l in
-      let x = get_or l.individuals a 0 in
+      let x = element_of l.individuals a in
       let within : x < l.domain = fits.individuals a 0 (omega (arith, fits.individuals_each)) in (
         λ h. subst (λ (v : ℕ). IsIn i (expression o c) v) (sym (individual_is o w l a la)) ((e.members x).0 h).1,
         λ h. (e.members x).1 (within, subst (λ (v : ℕ). IsIn i (expression o c) v) (individual_is o w l a la) h),
       )
 
   pub property_assertion_said : (r a b : ℕ) → r < length o.names.properties → a < length o.names.individuals → b < length o.names.individuals
-      → (holds (targets_of l.pairs r (get_or l.individuals a 0)) (get_or l.individuals b 0) ≡ true) ↔ Satisfies (listed_interpretation o l) (tree.PropertyAssertion (property_name o r) (individual_name o a) (individual_name o b))
+      → (holds (targets_of l.pairs r (element_of l.individuals a)) (element_of l.individuals b) ≡ true) ↔ Satisfies (listed_interpretation o l) (tree.PropertyAssertion (property_name o r) (individual_name o a) (individual_name o b))
   property_assertion_said r a b lr la lb =
       let i = listed_interpretation o l in
-      let same = ap₂ (i.property (property_name o r)) (individual_is o w l a la) (individual_is o w l b lb) ∙ property_is o w l r (get_or l.individuals a 0) (get_or l.individuals b 0) lr in
+      let same = ap₂ (i.property (property_name o r)) (individual_is o w l a la) (individual_is o w l b lb) ∙ property_is o w l r (element_of l.individuals a) (element_of l.individuals b) lr in
       (λ h. same ∙ h, λ h. sym same ∙ h)
+
+  one_element_said : (a b : ℕ) → a < length o.names.individuals → b < length o.names.individuals
+      → HaveOneElement l.individuals a b ↔ IsSameElement (listed_interpretation o l) (individual_name o a) (individual_name o b)
+  one_element_said a b la lb = (
+    λ e. individual_is o w l a la ∙ e ∙ sym (individual_is o w l b lb),
+    λ e. sym (individual_is o w l a la) ∙ e ∙ individual_is o w l b lb,
+  )
+
+  two_elements_said : (a b : ℕ) → a < length o.names.individuals → b < length o.names.individuals
+      → HaveTwoElements l.individuals a b ↔ IsOtherElement (listed_interpretation o l) (individual_name o a) (individual_name o b)
+  two_elements_said a b la lb =
+      let said = one_element_said a b la lb in
+      (λ h e. h (said.1 e), λ h e. h (said.0 e))
+
+  pub same_individuals_said : (xs : List ℕ) → All (λ a. a < length o.names.individuals) xs
+      → AllPairs (HaveOneElement l.individuals) xs ↔ AllPairs (IsSameElement (listed_interpretation o l)) (map (individual_name o) xs)
+  same_individuals_said xs within = pairs_said (λ a. a < length o.names.individuals) (HaveOneElement l.individuals) (IsSameElement (listed_interpretation o l)) (individual_name o) one_element_said xs within
+
+  pub different_individuals_said : (xs : List ℕ) → All (λ a. a < length o.names.individuals) xs
+      → AllPairs (HaveTwoElements l.individuals) xs ↔ AllPairs (IsOtherElement (listed_interpretation o l)) (map (individual_name o) xs)
+  different_individuals_said xs within = pairs_said (λ a. a < length o.names.individuals) (HaveTwoElements l.individuals) (IsOtherElement (listed_interpretation o l)) (individual_name o) two_elements_said xs within

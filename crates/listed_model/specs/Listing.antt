@@ -1,5 +1,5 @@
 -- Interpretations that a list of members lists.
-use Rattle.std.specs.Prelude.{◌≡◌, ℕ, ◌<◌, ◌↔◌, ◌≤◌, List, [], ◌∷◌, true, length, slice_get, Some, if◌then◌else◌, ◌==◌, ◌&&◌}
+use Rattle.std.specs.Prelude.{◌≡◌, ℕ, ◌<◌, ◌↔◌, ◌≤◌, List, [], ◌∷◌, true, length, slice_get, slice_index_or, Some, if◌then◌else◌, ◌==◌, ◌&&◌}
 use Rattle.std.specs.List.{Contains}
 use Rattle.axioms.specs.Ontology.{Ontology, IsClassAt, name_at, individual_name}
 use Rattle.interpretation_spec.specs.Interpretation.{Interpretation}
@@ -14,6 +14,18 @@ elements_of (c ∷ cs) e = if c.0 == e then c.1 else elements_of cs e
 abbrev pub targets_of : List (ℕ × ℕ × List ℕ) → ℕ → ℕ → List ℕ
 targets_of [] r x = []
 targets_of (p ∷ ps) r x = if (p.0 == r) && (p.1 == x) then p.2 else targets_of ps r x
+
+-- the element that is listed for the individual
+abbrev pub element_of : List ℕ → ℕ → ℕ
+element_of individuals a = slice_index_or individuals a 0
+
+-- the two individuals have one element
+abbrev pub HaveOneElement : List ℕ → ℕ → ℕ → Type 0
+HaveOneElement individuals a b = element_of individuals a ≡ element_of individuals b
+
+-- they have two
+abbrev pub HaveTwoElements : List ℕ → ℕ → ℕ → Type 0
+HaveTwoElements individuals a b = element_of individuals a ≡ element_of individuals b → ⊥
 
 -- what the members say of names: owl:Thing is all, and what is not listed is empty
 pub record IsListing (o : Ontology) (l : Listed) (i : Interpretation) : Type 0 where

@@ -4,6 +4,7 @@
 mod ascending;
 mod class_axioms;
 mod extension;
+mod individual_axioms;
 mod paths;
 mod property_axioms;
 mod restriction;

@@ -8,7 +8,7 @@ ghost use Rattle.interpretation_spec.specs.NamedInterpretation.{IsFirstUnsatisfi
 ghost use Rattle.interpretation_spec.specs.Interpretation.{Interpretation, IsInterpretation, IsModel};
 ghost use Rattle.listed_model.specs.Extensions.{AreExtensions};
 ghost use Rattle.listed_model.specs.Interpretations.{SatisfiesListed, listed_interpretation};
-ghost use Rattle.listed_model.specs.Listing.{IsListing, targets_of};
+ghost use Rattle.listed_model.specs.Listing.{IsListing, element_of, targets_of};
 ghost use Rattle.listed_model.specs.Members.{holds};
 ghost use Rattle.listed_model.specs.Rows.{ArePairRows, HasListedPath};
 ghost use Rattle.listed_model.specs.PropertyTests.{AreShown};
@@ -17,10 +17,11 @@ ghost use Rattle.std.specs.Prelude.{◌≡◌, ◌↔◌, ◌<◌, IfOk, IsNone,
 use crate::ascending::stands_in;
 use crate::class_axioms::{are_apart, are_same, is_within};
 use crate::extension::extensions;
+use crate::individual_axioms::{element_at, have_one_element, have_own_elements};
 use crate::paths::is_chain_within;
 use crate::property_axioms::{are_same_properties, has_sources_in, is_reflexive, leads_to};
 use crate::shown::{Shown, is_closed, lies_within};
-use axioms::{Axiom, Memory, Ontology, PropId};
+use axioms::{Axiom, IndId, Memory, Ontology, PropId};
 use certificate::{Listed, PairRow};
 use number_sets::{EpochSet, PackedLists};
 use std::alloc::Global;
@@ -73,6 +74,18 @@ fn is_sub_property(
     is_chain_within(alloc, rows, &mut room.seen, first, rest, above)
 }
 
+// Whether the property joins the elements of the individuals.
+fn joins(listed: &Listed, property: PropId, source: IndId, target: IndId) -> bool
+    requires rows { ArePairRows listed.now.pairs.items }
+    requires source { source.0 < length listed.now.individuals.items }
+    requires target { target.0 < length listed.now.individuals.items }
+    ensures { result ≡ holds (targets_of (listed_of listed.now).pairs property.0 (element_of listed.now.individuals.items source.0)) (element_of listed.now.individuals.items target.0) }
+{
+    let source = element_at(&listed.individuals, source);
+    let target = element_at(&listed.individuals, target);
+    leads_to(&listed.pairs, property, source, target)
+}
+
 // Whether the axiom holds.
 fn satisfies(
     alloc: Global,
@@ -121,14 +134,22 @@ fn satisfies(
         Axiom::Reflexive(property) => Ok(is_reflexive(&listed.pairs, listed.domain, *property)),
         Axiom::ClassAssertion(class, individual) => Ok(stands_in(
             made.at(class.index()),
-            listed.individuals[individual.index()],
+            element_at(&listed.individuals, *individual),
         )),
-        Axiom::PropertyAssertion(property, source, target) => Ok(leads_to(
-            &listed.pairs,
-            *property,
-            listed.individuals[source.index()],
-            listed.individuals[target.index()],
+        Axiom::PropertyAssertion(property, source, target) => {
+            Ok(joins(listed, *property, *source, *target))
+        }
+        Axiom::SameIndividuals(individuals) => {
+            Ok(have_one_element(&listed.individuals, individuals))
+        }
+        Axiom::DifferentIndividuals(individuals) => Ok(have_own_elements(
+            &listed.individuals,
+            &mut room.seen,
+            individuals,
         )),
+        Axiom::NegativePropertyAssertion(property, source, target) => {
+            Ok(!joins(listed, *property, *source, *target))
+        }
     }
 }
 

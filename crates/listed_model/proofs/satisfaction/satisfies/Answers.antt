@@ -1,22 +1,22 @@
-use Rattle.std.proofs.Common.{◌≡◌, ◌↔◌, ◌<◌, ℕ, List, [], ◌∷◌, map, All, sym, ap, ◌∙◌, subst, refl, length, get_or, true, true≢false, arith, inl, inr}
+use Rattle.std.proofs.Common.{◌≡◌, ◌↔◌, ◌<◌, ℕ, List, [], ◌∷◌, All, sym, ap, ◌∙◌, subst, refl, length, true, true≢false, arith, inl, inr}
 use Rattle.std.specs.List.Sorted.{IsStrictlyIncreasing}
-use Rattle.std.proofs.lemmas.Bool.{cases_lt}
-use Rattle.std.proofs.lemmas.List.{get_or_default, get_or_past}
+use Rattle.std.proofs.lemmas.Bool.{cases_lt, false_from_ne_true, not-true, not_from_false}
+use Rattle.std.proofs.lemmas.List.{get_or_past}
 use Rattle.std.proofs.lemmas.List.Elements.{All-cons, All-nil}
 use Rattle.axioms.specs.Ontology.{Ontology}
-use Rattle.axioms.specs.View.{prop_numbers, expr_numbers}
+use Rattle.axioms.specs.View.{prop_numbers, expr_numbers, ind_numbers}
+use Rattle.axioms.specs.WellFormedness.{AreOperands}
 use Rattle.certificate.specs.Certificate.{Listed}
-use Rattle.certificate.specs.View.{listed_of, pair_row_of}
-use Rattle.certificate.specs.declared.listed.PairRow.{PairRow}
+use Rattle.certificate.specs.View.{listed_of}
 use Rattle.interpretation_spec.proofs.Steps.{said_by}
 use Rattle.number_sets.specs.Pieces.{list_at}
 use Rattle.listed_model.specs.Extensions.{AreExtensions, IsExtension}
-use Rattle.listed_model.specs.Listing.{targets_of}
+use Rattle.listed_model.specs.Listing.{element_of, targets_of}
 use Rattle.listed_model.specs.Members.{holds}
 use Rattle.listed_model.specs.Rows.{ArePairRows, ClosedAt, HasListedPath}
 use Rattle.listed_model.proofs.Extensions.{all_rise}
 use Rattle.listed_model.proofs.Given.{pair_rows_given}
-use Rattle.listed_model.proofs.Said.{within_said, all_same_said, all_apart_said, sub_property_said, same_properties_said, domain_said, reflexive_said, class_assertion_said, property_assertion_said}
+use Rattle.listed_model.proofs.Said.{within_said, all_same_said, all_apart_said, sub_property_said, same_properties_said, domain_said, reflexive_said, class_assertion_said, property_assertion_said, same_individuals_said, different_individuals_said}
 use Rattle.listed_model.proofs.satisfaction.satisfies.Goals as goal
 
 -- members of the lists are elements
@@ -59,9 +59,6 @@ is_reflexive-requires c = subst ArePairRows (sym c.deref-in-Reflexive.ensures.va
 
 pub stands_in-requires : goal.stands_in-requires
 stands_in-requires c = subst IsStrictlyIncreasing (sym c.at-in-ClassAssertion.ensures) (all_rise c.args.ontology.now (listed_of c.args.listed.now) c.args.made.now c.requires.made c.index-in-ClassAssertion.result)
-
-pub leads_to-requires : goal.leads_to-requires
-leads_to-requires c = subst ArePairRows (sym c.deref-in-PropertyAssertion.ensures.value) (pair_rows_given c.args.ontology.now c.args.listed.now c.requires.listed)
 
 pub returns-in-SubClass-clause-satisfied : goal.returns-in-SubClass-clause-satisfied
 returns-in-SubClass-clause-satisfied c =
@@ -152,10 +149,6 @@ returns-in-Reflexive-clause-satisfied c =
     let e = rw c.deref-in-Reflexive.ensures.value at c.is_reflexive.ensures in
     rw c.in-Reflexive.is (λ t. said.0 (e.0 t), λ q. e.1 (said.1 q))
 
--- what a Vec has at a number's place
-element_at : (xs : List ℕ) (i a x : ℕ) → x ≡ get_or xs i x → i ≡ a → a < length xs → x ≡ get_or xs a 0
-element_at xs i a x is e l = is ∙ ap (λ k. get_or xs k x) e ∙ get_or_default xs a x 0 l
-
 pub returns-in-ClassAssertion-clause-satisfied : goal.returns-in-ClassAssertion-clause-satisfied
 returns-in-ClassAssertion-clause-satisfied c =
     let o = c.args.ontology.now in
@@ -170,29 +163,78 @@ returns-in-ClassAssertion-clause-satisfied c =
     let read = c.at-in-ClassAssertion.ensures ∙ ap (list_at made) c.index-in-ClassAssertion.ensures in
     let xs = c.at-in-ClassAssertion.result.now in
     let said = class_assertion_said o c.well_formed-2.ensures l c.requires.listed d a xs second (subst (IsExtension o l d) (sym read) (c.requires.made d (omega arith))) in
-    let within : a < length l.individuals = omega (arith, c.requires.listed.individuals_each) in
-    let x = element_at l.individuals c.index-in-ClassAssertion-2.result a c.index-in-ClassAssertion-3.result.now c.index-in-ClassAssertion-3.ensures c.index-in-ClassAssertion-2.ensures within in
-    let e = c.stands_in.ensures ∙ ap (holds xs) x in
+    let e = c.stands_in.ensures ∙ ap (holds xs) (c.element_at.ensures ∙ ap (λ (ys : List ℕ). element_of ys a) c.deref-in-ClassAssertion.ensures.value) in
     rw c.in-ClassAssertion.is (λ t. said.0 (sym e ∙ t), λ q. e ∙ said.1 q)
+
+pub joins-requires-clause-rows : goal.joins-requires-clause-rows
+joins-requires-clause-rows c = pair_rows_given c.args.ontology.now c.args.listed.now c.requires.listed
 
 pub returns-in-PropertyAssertion-clause-satisfied : goal.returns-in-PropertyAssertion-clause-satisfied
 returns-in-PropertyAssertion-clause-satisfied c =
     let o = c.args.ontology.now in
     let l = listed_of c.args.listed.now in
-    let of = rw c.in-PropertyAssertion.is at c.requires.of in
-    let second = of.1 in
-    let third = of.2 in
-    let r = c.in-PropertyAssertion.property.0 in
-    let a = c.in-PropertyAssertion.source.0 in
-    let b = c.in-PropertyAssertion.target.0 in
-    let said = property_assertion_said o c.well_formed-2.ensures l c.requires.listed r a b of.0 second third in
-    let within_a : a < length l.individuals = omega (arith, c.requires.listed.individuals_each) in
-    let within_b : b < length l.individuals = omega (arith, c.requires.listed.individuals_each) in
-    let x = element_at l.individuals c.index-in-PropertyAssertion.result a c.index-in-PropertyAssertion-2.result.now c.index-in-PropertyAssertion-2.ensures c.index-in-PropertyAssertion.ensures within_a in
-    let y = element_at l.individuals c.index-in-PropertyAssertion-3.result b c.index-in-PropertyAssertion-4.result.now c.index-in-PropertyAssertion-4.ensures c.index-in-PropertyAssertion-3.ensures within_b in
-    let pairs = c.deref-in-PropertyAssertion.ensures.value in
-    let e = c.leads_to.ensures
-    ∙ ap (λ (rows : List PairRow). holds (targets_of (map pair_row_of rows) r c.index-in-PropertyAssertion-2.result.now) c.index-in-PropertyAssertion-4.result.now) pairs
-    ∙ ap (λ v. holds (targets_of l.pairs r v) c.index-in-PropertyAssertion-4.result.now) x
-    ∙ ap (holds (targets_of l.pairs r (get_or l.individuals a 0))) y in
-    rw c.in-PropertyAssertion.is (λ t. said.0 (sym e ∙ t), λ q. e ∙ said.1 q)
+    let p = c.in-PropertyAssertion in
+    let of = rw p.is at c.requires.of in
+    let said = property_assertion_said o c.well_formed-2.ensures l c.requires.listed p.property.0 p.source.0 p.target.0 of.0 of.1 of.2 in
+    let e = c.joins.ensures in
+    rw p.is (λ t. said.0 (sym e ∙ t), λ q. e ∙ said.1 q)
+
+pub have_one_element-requires : goal.have_one_element-requires
+have_one_element-requires c =
+    let xs = ind_numbers c.in-SameIndividuals.individuals.items in
+    let of : AreOperands (length c.args.ontology.now.names.individuals) xs = absurd (rw c.in-SameIndividuals.is at c.requires.of) in
+    rw (c.deref-in-SameIndividuals.ensures.value, c.deref-in-SameIndividuals-2.ensures.value, c.requires.listed.individuals_each) of.within
+
+pub returns-in-SameIndividuals-clause-satisfied : goal.returns-in-SameIndividuals-clause-satisfied
+returns-in-SameIndividuals-clause-satisfied c =
+    let o = c.args.ontology.now in
+    let l = listed_of c.args.listed.now in
+    let xs = ind_numbers c.in-SameIndividuals.individuals.items in
+    let of : AreOperands (length o.names.individuals) xs = absurd (rw c.in-SameIndividuals.is at c.requires.of) in
+    let said = same_individuals_said o c.well_formed-2.ensures l c.requires.listed xs of.within in
+    let e = rw (c.deref-in-SameIndividuals.ensures.value, c.deref-in-SameIndividuals-2.ensures.value) at c.have_one_element.ensures in
+    rw c.in-SameIndividuals.is (λ t. said.0 (e.0 t), λ q. e.1 (said.1 q))
+
+pub have_own_elements-requires-clause-there : goal.have_own_elements-requires-clause-there
+have_own_elements-requires-clause-there c =
+    let xs = ind_numbers c.in-DifferentIndividuals.individuals.items in
+    let of : AreOperands (length c.args.ontology.now.names.individuals) xs = absurd (rw c.in-DifferentIndividuals.is at c.requires.of) in
+    rw (c.deref-in-DifferentIndividuals.ensures.value, c.deref-in-DifferentIndividuals-2.ensures.value, c.requires.listed.individuals_each) of.within
+
+pub have_own_elements-requires-clause-room : goal.have_own_elements-requires-clause-room
+have_own_elements-requires-clause-room c = rw (c.deref-in-DifferentIndividuals.ensures.value, c.requires.room) c.requires.listed.individuals
+
+pub returns-in-DifferentIndividuals-clause-satisfied : goal.returns-in-DifferentIndividuals-clause-satisfied
+returns-in-DifferentIndividuals-clause-satisfied c =
+    let o = c.args.ontology.now in
+    let l = listed_of c.args.listed.now in
+    let xs = ind_numbers c.in-DifferentIndividuals.individuals.items in
+    let of : AreOperands (length o.names.individuals) xs = absurd (rw c.in-DifferentIndividuals.is at c.requires.of) in
+    let said = different_individuals_said o c.well_formed-2.ensures l c.requires.listed xs of.within in
+    let e = rw (c.deref-in-DifferentIndividuals.ensures.value, c.deref-in-DifferentIndividuals-2.ensures.value) at c.have_own_elements.ensures.own in
+    rw c.in-DifferentIndividuals.is (λ t. said.0 (e.0 t), λ q. e.1 (said.1 q))
+
+pub joins-requires-in-NegativePropertyAssertion : goal.joins-requires-in-NegativePropertyAssertion
+joins-requires-in-NegativePropertyAssertion c =
+    let o = c.args.ontology.now in
+    let p = c.in-NegativePropertyAssertion in
+    let of : (p.property.0 < length o.names.properties) × (p.source.0 < length o.names.individuals) × (p.target.0 < length o.names.individuals) = absurd (rw p.is at c.requires.of) in
+    record {
+      rows = pair_rows_given o c.args.listed.now c.requires.listed;
+      source = rw c.requires.listed.individuals_each of.1;
+      target = rw c.requires.listed.individuals_each of.2;
+    }
+
+pub returns-in-NegativePropertyAssertion-clause-satisfied : goal.returns-in-NegativePropertyAssertion-clause-satisfied
+returns-in-NegativePropertyAssertion-clause-satisfied c =
+    let o = c.args.ontology.now in
+    let l = listed_of c.args.listed.now in
+    let p = c.in-NegativePropertyAssertion in
+    let of : (p.property.0 < length o.names.properties) × (p.source.0 < length o.names.individuals) × (p.target.0 < length o.names.individuals) = absurd (rw p.is at c.requires.of) in
+    let said = property_assertion_said o c.well_formed-2.ensures l c.requires.listed p.property.0 p.source.0 p.target.0 of.0 of.1 of.2 in
+    let joined = c.joins-in-NegativePropertyAssertion in
+    let e = joined.ensures in
+    rw p.is (
+      λ t s. true≢false (sym (e ∙ said.1 s) ∙ not-true joined.result t),
+      λ q. not_from_false joined.result (false_from_ne_true joined.result (λ j. q (said.0 (sym e ∙ j)))),
+    )
