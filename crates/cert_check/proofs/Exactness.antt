@@ -8,7 +8,7 @@ use Rattle.axioms.specs.Expression.{owl_nothing}
 use Rattle.axioms.specs.Ontology.{Ontology, Axiom, axiom_tree, axiom_trees, thing, nothing}
 use Rattle.axioms.specs.View.{at_number}
 use Rattle.axioms.specs.WellFormedness.{IsOntology}
-use Rattle.certificate.specs.Certificate.{Subject, Expression, Individual, Conclusion, Sub, Edge, Line, Listed, Certificate}
+use Rattle.certificate.specs.Certificate.{Subject, Expression, Individual, Conclusion, Sub, Edge, Same, Line, Listed, Certificate}
 use Rattle.certificate.specs.Writability.{IsListedOf, IsNamedClass}
 use Rattle.certificate.proofs.Meaning.{same_certificate}
 use Rattle.interpretation_spec.specs.Agreement.{AgreeOn}
@@ -37,6 +37,7 @@ top_of : (lines : List Line) (k : ℕ) (line : Line) → slice_get lines k ≡ S
 top_of lines k line g (Sub (Expression e) d) is (p, q) = (Expression thing, of_thing, (k, line, g, subst (λ f. line.conclusion ≡ Sub (Expression thing) f) q (subst (λ f. line.conclusion ≡ Sub (Expression f) d) p is)))
 top_of lines k line g (Sub (Individual a) d) is q = (Individual a, of_individual, (k, line, g, subst (λ f. line.conclusion ≡ Sub (Individual a) f) q is))
 top_of lines k line g (Edge x r y) is h = absurd h
+top_of lines k line g (Same a b) is h = absurd h
 
 contradicts : (s : Subject) → IsTop s → IsContradiction (Sub s nothing)
 contradicts s of_thing = (refl, refl)

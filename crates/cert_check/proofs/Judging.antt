@@ -1,12 +1,12 @@
 -- From what reading a source answers to the verdict.
-use Rattle.std.proofs.Common.{◌≡◌, ◌++◌, ◌∙◌, ℕ, List, [], Some, None, refl, sym, ap, subst, append-nil, inl, inr, arith}
+use Rattle.std.proofs.Common.{◌≡◌, ◌++◌, ◌∙◌, ℕ, List, Some, None, sym, ap, subst, append-nil, inl, inr}
 use Rattle.std.specs.Io.KnownBytes.{Consumes, IsAtEnd}
 use Rattle.std.specs.declared.option.Option.{Option}
 use Rattle.axioms.specs.Ontology.{Ontology}
 use Rattle.axioms.specs.WellFormedness.{IsOntology}
 use Rattle.source_lines.specs.Sources.{SourceState, IsReadOn}
 use Rattle.certificate.specs.SourceReading.{GivesNoText}
-use Rattle.cert_check.specs.SourceVerdicts.{IsBadText, IsJudgedFrom, IsVerdictWith}
+use Rattle.cert_check.specs.SourceVerdicts.{IsJudgedFrom, IsVerdictWith}
 use Rattle.cert_check.specs.Tests.{IsTestedFrom}
 use Rattle.cert_check.specs.Verdict.{IsVerdict}
 use Rattle.cert_check.specs.declared.derivation.TestedCertificate.{TestedCertificate}

@@ -1,5 +1,5 @@
 -- Lines of which no more premises are kept than one more than a rule can take: what follows is the same, and what is said.
-use Rattle.std.proofs.Common.{◌≡◌, ◌↔◌, ℕ, zero, suc, ◌<◌, ◌≤◌, List, [], ◌∷◌, ◌++◌, length, map, take, slice_get, Some, None, Option, MatchOption, Bool, true, refl, sym, ap, ◌∙◌, subst, arith}
+use Rattle.std.proofs.Common.{◌≡◌, ◌↔◌, ℕ, zero, suc, ◌≤◌, List, [], ◌∷◌, ◌++◌, length, map, take, Some, None, Option, MatchOption, Bool, true, refl, sym, ap, ◌∙◌, subst, arith}
 use Rattle.std.specs.Prelude.{min}
 use Rattle.std.proofs.lemmas.List.{length-take, take_all, map_push}
 use Rattle.std.proofs.lemmas.Option.{none-some, same_Some}
@@ -7,7 +7,7 @@ use Rattle.lemmas.proofs.Mapped.{slice_get_map, slice_get_map_from}
 use Rattle.axioms.specs.Ontology.{Ontology}
 use Rattle.axioms.specs.View.{at_number}
 use Rattle.certificate.specs.Certificate.{Conclusion, Line}
-use Rattle.certificate.specs.SourceReading.{kept_line, premises_kept}
+use Rattle.certificate.specs.SourceReading.{kept_line}
 use Rattle.certificate.specs.Tests.{fits_line}
 use Rattle.certificate.specs.Writability.{IsLineOf}
 use Rattle.certificate.proofs.LineMeaning.{line_means}
@@ -15,7 +15,7 @@ use Rattle.cert_check.specs.Derivation.{IsDerived, IsDerivation, at_numbers, pre
 use Rattle.cert_check.specs.Faults.{IsFirstBadLine}
 use Rattle.cert_check.specs.Lists.{said_by, AreSuperclasses, AreTypes}
 use Rattle.cert_check.specs.Premises.{RulesTakeAtMost}
-use Rattle.cert_check.specs.Tests.{AreTested, AreKept, AreKeptIn}
+use Rattle.cert_check.specs.Tests.{AreKept, AreKeptIn}
 use Rattle.cert_check.specs.declared.derivation.TestedLines.{TestedLines}
 use Rattle.cert_check.specs.Verdict.{AreShown, HasContradiction, IsContradiction}
 use Rattle.cert_check.proofs.Derivations.{axiom_there}

@@ -24,5 +24,6 @@ pub mod SameReasons
 pub mod Exactness
 pub mod OneSubclass
 pub mod Contradiction
+pub mod OneElement
 pub mod Preorders
 pub mod Judging

@@ -1,13 +1,14 @@
 -- Lines of a derivation that a reader gives one after another.
 use Rattle.std.proofs.Common.{◌≡◌, ℕ, ◌+◌, ◌<◌, ◌≤◌, Bool, true, false, List, [], ◌∷◌, ◌++◌, length, Some, None, Option, option_map, refl, sym, ap, ◌∙◌, subst, arith, length-append}
 use Rattle.std.specs.Prelude.{codes}
+use Rattle.std.specs.Fmt.{decimal}
 use Rattle.std.specs.List.{flat_map}
 use Rattle.std.proofs.KnownBytes.{Consumes-nil}
 use Rattle.std.proofs.lemmas.Grind.{flat_map-append}
 use Rattle.std.proofs.lemmas.List.{append-nil}
 use Rattle.axioms.specs.Ontology.{Ontology}
 use Rattle.source_lines.specs.Sources.{SourceState, IsReadOn}
-use Rattle.certificate.specs.Certificate.{Conclusion, Sub, Edge, Line}
+use Rattle.certificate.specs.Certificate.{Conclusion, Sub, Edge, Same, Line}
 use Rattle.certificate.specs.SourceReading.{Reading, HasLines, HasNoLine, IsNext, IsNextLine, IsStopped, StopsNext}
 use Rattle.certificate.specs.Text.{axiom_text, conclusion_text, lettered_number, line_feed, line_text, rule_number, spaced_numbers, subject_text}
 use Rattle.certificate.specs.TextLines.{InLines, first_text, part_text}
@@ -74,6 +75,7 @@ conclusion_some (Edge x r y) =
     longer 4 (codes "edge " ++ subject_text x ++ lettered_number (codes " p") r ++ codes " ") (subject_text y)
     (longer 4 (codes "edge " ++ subject_text x ++ lettered_number (codes " p") r) (codes " ")
     (longer 4 (codes "edge " ++ subject_text x) (lettered_number (codes " p") r) (longer 4 (codes "edge ") (subject_text x) (omega arith))))
+conclusion_some (Same a b) = longer 4 (lettered_number (codes "same i") a) (lettered_number (codes " i") b) (longer 4 (codes "same i") (decimal a) (omega arith))
 
 line_some : (line : Line) → 4 ≤ length (line_text line)
 line_some line =

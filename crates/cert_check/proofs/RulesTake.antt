@@ -1,16 +1,15 @@
 -- No rule takes more premises than two, than an intersection has operands, or than a chain has properties.
-use Rattle.std.proofs.Common.{◌≡◌, ℕ, suc, ◌<◌, ◌≤◌, List, [], ◌∷◌, length, map, get_or, slice_get, refl, Some, None, Option, IfSome, Contains, sym, ap, ◌∙◌, subst, arith}
+use Rattle.std.proofs.Common.{◌≡◌, ℕ, suc, ◌<◌, ◌≤◌, List, [], ◌∷◌, length, map, get_or, slice_get, refl, Some, None, Contains, sym, ap, ◌∙◌, subst, arith}
 use Rattle.std.proofs.lemmas.List.{length-map}
 use Rattle.std.proofs.lemmas.List.Elements.{All-contains}
 use Rattle.std.proofs.lemmas.Option.{slice_get-get_or, slice_get_within}
 use Rattle.lemmas.proofs.Mapped.{slice_get_map_from}
 use Rattle.axioms.specs.View.{axiom_of}
 use Rattle.axioms.specs.declared.terms.Axiom as code
-use Rattle.axioms.specs.Ontology.{Ontology, Axiom, And, SubClass, EquivalentClasses, DisjointClasses, SubProperty, EquivalentProperties, Domain, Transitive, Reflexive, ClassAssertion, PropertyAssertion}
-use Rattle.certificate.specs.Certificate.{Subject, Expression, Individual, Conclusion, Sub, Edge}
-use Rattle.certificate.specs.declared.line.Rule.{Rule}
-use Rattle.certificate.specs.declared.line.Rule.TheVariants.{K1, K2, K3, K4, K5, K6, K7, K8, K9, K10, K11, K12, K13, K14, K15, K16}
-use Rattle.cert_check.specs.Lines.{Follows, IsWalk}
+use Rattle.axioms.specs.Ontology.{Ontology, Axiom, And, SubClass, EquivalentClasses, DisjointClasses, SubProperty, EquivalentProperties, Domain, Transitive, Reflexive, ClassAssertion, PropertyAssertion, SameIndividuals, DifferentIndividuals, NegativePropertyAssertion}
+use Rattle.certificate.specs.Certificate.{Subject, Expression, Conclusion, Sub, Edge, Same}
+use Rattle.certificate.specs.declared.line.Rule.TheVariants.{K1, K2, K3, K4, K5, K6, K7, K8, K9, K10, K11, K12, K13, K14, K15, K16, K17, K18, K19, K20}
+use Rattle.cert_check.specs.Lines.{IsWalk}
 use Rattle.cert_check.specs.Premises.{OperandsAreAtMost, ChainsAreAtMost, RulesTakeAtMost, operand_count, chain_length}
 
 -- a walk has an edge for each property
@@ -56,6 +55,12 @@ module _ (o : Ontology) (operands chains most : ℕ) (intersections : OperandsAr
   rules_take K14 [] (Some (Reflexive r)) (Edge x s y) a f = omega arith
   rules_take K15 [] (Some (ClassAssertion c b)) (Sub x d) a f = omega arith
   rules_take K16 [] (Some (PropertyAssertion r b d)) (Edge x s y) a f = omega arith
+  rules_take K17 [] (Some (SameIndividuals xs)) (Same b d) a f = omega arith
+  rules_take K18 (Same b c ∷ Same d e ∷ []) None (Same x y) a f = two
+  rules_take K19 (Same b e ∷ Sub y c ∷ []) None (Sub x d) a f = two
+  rules_take K19 (Same b e ∷ Edge x r y ∷ []) None (Edge z s w) a f = two
+  rules_take K20 (Same b e ∷ []) (Some (DifferentIndividuals xs)) (Sub x c) a f = omega (arith, two)
+  rules_take K20 (Edge x r y ∷ []) (Some (NegativePropertyAssertion s b d)) (Sub z c) a f = omega (arith, two)
   rules_take _ _ _ _ a f = absurd f
 
 -- the longest chain, found among the code's axioms

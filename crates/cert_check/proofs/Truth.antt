@@ -1,18 +1,18 @@
 -- Every rule keeps truth.
-use Rattle.std.proofs.Common.{◌≡◌, ℕ, ◌<◌, ◌≤◌, List, [], ◌∷◌, map, length, slice_get, Some, None, All, IfSome, Option, Contains, refl, sym, ◌∙◌, subst, arith}
+use Rattle.std.proofs.Common.{◌≡◌, ℕ, ◌<◌, ◌≤◌, List, [], ◌∷◌, map, length, slice_get, Some, None, All, IfSome, Option, Contains, refl, sym, ◌∙◌, subst, arith, inl, inr}
 use Rattle.std.specs.List.{AllByRecursion}
 use Rattle.std.proofs.lemmas.List.{length-map}
 use Rattle.std.proofs.lemmas.List.Elements.{All-cons, All-nil}
 use Rattle.lemmas.proofs.Pairs.{AllPairs-from_map}
-use Rattle.axioms.specs.Ontology.{Ontology, Axiom, And, SubClass, EquivalentClasses, DisjointClasses, SubProperty, EquivalentProperties, Domain, Transitive, Reflexive, ClassAssertion, PropertyAssertion, thing, nothing, expression, expressions, property_name, individual_name, axiom_tree}
+use Rattle.axioms.specs.Ontology.{Ontology, Axiom, And, SubClass, EquivalentClasses, DisjointClasses, SubProperty, EquivalentProperties, Domain, Transitive, Reflexive, ClassAssertion, PropertyAssertion, SameIndividuals, DifferentIndividuals, NegativePropertyAssertion, thing, nothing, expression, expressions, property_name, individual_name, axiom_tree}
 use Rattle.axioms.specs.WellFormedness.{IsOntology}
 use Rattle.axioms.proofs.Trees.{and_tree, some_tree}
-use Rattle.interpretation_spec.specs.Interpretation.{Interpretation, IsInterpretation, IsIn, HasPair, HasPath, IsSame, IsApart, IsSameProperty, Satisfies}
+use Rattle.interpretation_spec.specs.Interpretation.{Interpretation, IsInterpretation, IsIn, HasPair, HasPath, IsSame, IsApart, IsSameProperty, IsSameElement, IsOtherElement, Satisfies}
 use Rattle.interpretation_spec.proofs.Extensions.{in_intersection, each_of_intersection, in_thing, not_in_nothing}
-use Rattle.certificate.specs.Certificate.{Subject, Expression, Individual, Conclusion, Sub, Edge}
+use Rattle.certificate.specs.Certificate.{Subject, Expression, Individual, Conclusion, Sub, Edge, Same}
 use Rattle.certificate.specs.declared.line.Rule.{Rule}
-use Rattle.certificate.specs.declared.line.Rule.TheVariants.{K1, K2, K3, K4, K5, K6, K7, K8, K9, K10, K11, K12, K13, K14, K15, K16}
-use Rattle.cert_check.specs.Lines.{IsOf, IsTrueIn, IsWalk, Follows}
+use Rattle.certificate.specs.declared.line.Rule.TheVariants.{K1, K2, K3, K4, K5, K6, K7, K8, K9, K10, K11, K12, K13, K14, K15, K16, K17, K18, K19, K20}
+use Rattle.cert_check.specs.Lines.{IsOf, IsTrueIn, IsWalk, IsMovedEdge, Follows}
 use Rattle.cert_check.proofs.Places.{mapped_member, at_places, of_elements}
 
 -- the interpretation satisfies the axiom, if there is one
@@ -65,6 +65,30 @@ apart_at : (o : Ontology) (i : Interpretation) (cs : List ℕ) → Satisfies i (
 apart_at o i cs h m n c d apart gc gd =
     at_places (λ a b. IsApart i (expression o a) (expression o b)) (λ a b f y l p q. f y l q p) cs
     (AllPairs-from_map (IsApart i) (expression o) cs h) m n c d apart gc gd
+
+one_element : (o : Ontology) (i : Interpretation) (xs : List ℕ) → Satisfies i (axiom_tree o (SameIndividuals xs)) → (m n a b : ℕ) → (m ≡ n → ⊥) → slice_get xs m ≡ Some a → slice_get xs n ≡ Some b → IsSameElement i (individual_name o a) (individual_name o b)
+one_element o i xs h m n a b apart ga gb =
+    at_places (λ a b. IsSameElement i (individual_name o a) (individual_name o b)) (λ a b e. sym e) xs
+    (AllPairs-from_map (IsSameElement i) (individual_name o) xs h) m n a b apart ga gb
+
+two_elements : (o : Ontology) (i : Interpretation) (xs : List ℕ) → Satisfies i (axiom_tree o (DifferentIndividuals xs)) → (m n a b : ℕ) → (m ≡ n → ⊥) → slice_get xs m ≡ Some a → slice_get xs n ≡ Some b → IsOtherElement i (individual_name o a) (individual_name o b)
+two_elements o i xs h m n a b apart ga gb =
+    at_places (λ a b. IsOtherElement i (individual_name o a) (individual_name o b)) (λ a b f e. f (sym e)) xs
+    (AllPairs-from_map (IsOtherElement i) (individual_name o) xs h) m n a b apart ga gb
+
+-- ---- what holds of an individual holds of one that is one with it
+
+-- where two individuals have one element, the set of one is that of the other
+replaced : (o : Ontology) (i : Interpretation) (a b : ℕ) (x y : Subject) (z : ℕ) → IsTrueIn o i (Same a b) → x ≡ Individual a → y ≡ Individual b → IsOf o i x z → IsOf o i y z
+replaced o i a b x y z h ex ey m = moved o i y (Individual b) z ey (moved o i (Individual a) x z (sym ex) m ∙ h)
+
+moved_edge : (o : Ontology) (i : Interpretation) (a b : ℕ) (x y z w : Subject) (r s : ℕ) → IsMovedEdge a b (Edge x r y) (Edge z s w) → IsTrueIn o i (Same a b) → IsTrueIn o i (Edge x r y) → IsTrueIn o i (Edge z s w)
+moved_edge o i a b x y z w r s (rs, inl (eb, ea, yw)) h k p l m =
+    let (q, j, pair, n) = k p l (replaced o i a b z x p h ea eb m) in
+    (q, j, re_paired o i r s p q rs pair, moved o i w y q (sym yw) n)
+moved_edge o i a b x y z w r s (rs, inr (eb, ea, xz)) h k p l m =
+    let (q, j, pair, n) = k p l (moved o i x z p xz m) in
+    (q, j, re_paired o i r s p q rs pair, replaced o i b a y w q (sym h) eb ea n)
 
 -- ---- the rules
 
@@ -119,4 +143,18 @@ rule_keeps_truth o w i v K16 [] (Some (PropertyAssertion r a b)) (Edge x s y) (x
     let e : z ≡ i.individual (individual_name o a) = moved o i (Individual a) x z (sym xa) m in
     let to = i.individual (individual_name o b) in
     (to, v.individuals (individual_name o b), re_paired o i r s z to rs (subst (λ y. HasPair i (property_name o r) y to) (sym e) ha), moved o i y (Individual b) to yb refl)
+rule_keeps_truth o w i v K17 [] (Some (SameIndividuals xs)) (Same a b) (m, n, apart, ga, gb) ha hp = one_element o i xs ha m n a b apart ga gb
+rule_keeps_truth o w i v K18 (Same a b ∷ Same c d ∷ []) None (Same e f) (bc, ae, df) ha hp =
+    let P : ℕ → ℕ → Type 0 = λ p q. i.individual (individual_name o p) ≡ i.individual (individual_name o q) in
+    subst (P e) df (subst (λ p. P p d) ae (hp.0 ∙ subst (λ p. P p d) (sym bc) hp.1.0))
+rule_keeps_truth o w i v K19 (Same a b ∷ Sub y c ∷ []) None (Sub x d) (eb, ea, cd) ha hp = λ z l m.
+    renamed o i c d z cd (hp.1.0 z l (replaced o i a b x y z hp.0 ea eb m))
+rule_keeps_truth o w i v K19 (Same a b ∷ Edge x r y ∷ []) None (Edge z s u) f ha hp = moved_edge o i a b x y z u r s f hp.0 hp.1.0
+rule_keeps_truth o w i v K20 (Same a b ∷ []) (Some (DifferentIndividuals xs)) (Sub x c) ((m, n, apart, ga, gb), ea, ec) ha hp =
+    absurd (two_elements o i xs ha m n a b apart ga gb hp.0)
+rule_keeps_truth o w i v K20 (Edge x r y ∷ []) (Some (NegativePropertyAssertion s a b)) (Sub z c) (xa, rs, yb, za, ec) ha hp =
+    let from = i.individual (individual_name o a) in
+    let (q, k, pair, n) = hp.0 from (v.individuals (individual_name o a)) (moved o i x (Individual a) from xa refl) in
+    let e : q ≡ i.individual (individual_name o b) = moved o i (Individual b) y q (sym yb) n in
+    absurd (ha (subst (λ y. HasPair i (property_name o s) from y) e (re_paired o i r s from q rs pair)))
 rule_keeps_truth o w i v _ _ _ _ f ha hp = absurd f

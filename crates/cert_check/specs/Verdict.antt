@@ -1,5 +1,5 @@
 -- What the checker's answers mean.
-use Rattle.std.specs.Prelude.{◌≡◌, ◌↔◌, ℕ, ◌<◌, ◌≤◌, List, Bool, IsTrue, MatchOption, length, slice_get, Some, None}
+use Rattle.std.specs.Prelude.{◌≡◌, ◌↔◌, ℕ, ◌<◌, List, Bool, IsTrue, MatchOption, slice_get, Some, None}
 use Rattle.std.specs.declared.option.Option.{Option}
 use Rattle.std.specs.List.{Contains}
 use Rattle.axioms.specs.Ontology.{Ontology, IsClassAt, axiom_trees, thing, nothing}

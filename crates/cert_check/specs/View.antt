@@ -6,7 +6,7 @@ use Rattle.axioms.specs.declared.ids.PropId.{PropId}
 use Rattle.axioms.specs.Ontology as numbered
 use Rattle.certificate.specs.declared.line.Conclusion as code
 use Rattle.certificate.specs.declared.line.Subject as code_subject
-use Rattle.certificate.specs.Certificate.{Subject, Expression, Individual, Conclusion, Sub, Edge}
+use Rattle.certificate.specs.Certificate.{Subject, Expression, Individual, Conclusion, Sub, Edge, Same}
 use Rattle.certificate.specs.declared.line.Rule.{Rule}
 use Rattle.certificate.specs.View.{conclusion_of, subject_of}
 use Rattle.cert_check.specs.declared.short_conclusion.ShortConclusion.{ShortConclusion}
@@ -39,3 +39,4 @@ said_of (short.ExprExpr x r y) = Edge (Expression x.0) r.0 (Expression y.0)
 said_of (short.ExprIndividual x r b) = Edge (Expression x.0) r.0 (Individual b.0)
 said_of (short.IndividualExpr a r y) = Edge (Individual a.0) r.0 (Expression y.0)
 said_of (short.IndividualIndividual a r b) = Edge (Individual a.0) r.0 (Individual b.0)
+said_of (short.Same a b) = Same a.0 b.0

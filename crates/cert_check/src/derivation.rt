@@ -121,6 +121,7 @@ fn is_contradiction(conclusion: Conclusion) -> bool
             && above == ExprId::NOTHING,
         Conclusion::Sub(Subject::Individual(_), above) => above == ExprId::NOTHING,
         Conclusion::Edge(..) => false,
+        Conclusion::Same(..) => false,
     }
 }
 

@@ -1,13 +1,13 @@
 //! Operands of axioms and of intersections, and walks along properties.
 ghost use Rattle.axioms.specs.Ontology.{AtTwoPlaces};
-ghost use Rattle.axioms.specs.View.{expr_numbers, prop_numbers};
+ghost use Rattle.axioms.specs.View.{expr_numbers, ind_numbers, prop_numbers};
 ghost use Rattle.cert_check.specs.Lines.{IsWalk};
 ghost use Rattle.cert_check.specs.View.{IsFirstEdge, IsFirstIn, StandsBeside};
 ghost use Rattle.certificate.specs.Certificate as certificate;
 ghost use Rattle.certificate.specs.View.{conclusion_of, subject_of};
 ghost use Rattle.std.specs.Prelude.{◌↔◌, ◌≡◌, ◌∷◌, [], Contains, IsTrue, MatchOption, map};
 
-use axioms::{ExprId, PropId};
+use axioms::{ExprId, IndId, PropId};
 use certificate::{Conclusion, Subject};
 
 pub(crate) fn has_expression(operands: &[ExprId], expression: ExprId) -> bool
@@ -50,6 +50,30 @@ pub(crate) fn at_two_places(operands: &[ExprId], first: ExprId, second: ExprId) 
 {
     for (i, operand) in operands.iter().enumerate() {
         if *operand == first && stands_beside(operands, i, second) {
+            return true;
+        }
+    }
+    false
+}
+
+// Whether the individual stands at another place.
+fn individual_stands_beside(operands: &[IndId], place: usize, individual: IndId) -> bool
+    ensures { IsTrue result ↔ StandsBeside (ind_numbers operands.now) place individual.0 }
+{
+    for (i, operand) in operands.iter().enumerate() {
+        if i != place && *operand == individual {
+            return true;
+        }
+    }
+    false
+}
+
+/// Whether the two individuals stand at different places.
+pub(crate) fn individuals_at_two_places(operands: &[IndId], first: IndId, second: IndId) -> bool
+    ensures { IsTrue result ↔ AtTwoPlaces (ind_numbers operands.now) first.0 second.0 }
+{
+    for (i, operand) in operands.iter().enumerate() {
+        if *operand == first && individual_stands_beside(operands, i, second) {
             return true;
         }
     }

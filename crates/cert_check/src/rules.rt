@@ -1,14 +1,18 @@
 //! The rules of derivation lines.
 ghost use Rattle.axioms.specs.Ontology as numbered;
 ghost use Rattle.axioms.specs.View.{axiom_of};
+ghost use Rattle.cert_check.specs.Lines.{IsMovedEdge};
 ghost use Rattle.cert_check.specs.View.{FollowsFrom};
 ghost use Rattle.certificate.specs.Certificate as certificate;
 ghost use Rattle.certificate.specs.declared.line.Rule.TheVariants as rules;
 ghost use Rattle.certificate.specs.View.{conclusion_of, subject_of};
 ghost use Rattle.std.specs.Prelude.{◌↔◌, ◌≡◌, IsTrue, List, Some, map, option_map, slice_get, ℕ};
 
-use crate::operands::{are_in_each, at_two_places, has_expression, has_property, is_only, is_walk};
-use axioms::{Axiom, Expr, ExprId, Ontology, PropId};
+use crate::operands::{
+    are_in_each, at_two_places, has_expression, has_property, individuals_at_two_places, is_only,
+    is_walk,
+};
+use axioms::{Axiom, Expr, ExprId, IndId, Ontology};
 use certificate::{Conclusion, Rule, Subject};
 
 /// Whether the conclusion follows by the rule from the premises, in their order, and the stated axiom, if there is one.
@@ -38,6 +42,10 @@ pub(crate) fn follows(
         Rule::K14 => by_k14(ontology, premises, stated, conclusion),
         Rule::K15 => by_k15(ontology, premises, stated, conclusion),
         Rule::K16 => by_k16(ontology, premises, stated, conclusion),
+        Rule::K17 => by_k17(ontology, premises, stated, conclusion),
+        Rule::K18 => by_k18(ontology, premises, stated, conclusion),
+        Rule::K19 => by_k19(ontology, premises, stated, conclusion),
+        Rule::K20 => by_k20(ontology, premises, stated, conclusion),
     }
 }
 
@@ -339,6 +347,106 @@ fn by_k16(
     match (premises, stated, conclusion) {
         ([], Some(Axiom::PropertyAssertion(r, a, b)), Conclusion::Edge(x, s, y)) => {
             x == Subject::Individual(*a) && *r == s && y == Subject::Individual(*b)
+        }
+        _ => false,
+    }
+}
+
+// By an axiom of individuals that are one.
+fn by_k17(
+    ontology: &Ontology,
+    premises: &[Conclusion],
+    stated: Option<&Axiom>,
+    conclusion: Conclusion,
+) -> bool
+    ensures { IsTrue result ↔ FollowsFrom ontology.now rules.K17 premises.now (option_map (λ a. axiom_of a.now) stated.entry) conclusion }
+{
+    match (premises, stated, conclusion) {
+        ([], Some(Axiom::SameIndividuals(operands)), Conclusion::Same(a, b)) => {
+            individuals_at_two_places(operands, a, b)
+        }
+        _ => false,
+    }
+}
+
+// What is one with what is one with a third is one with the third.
+fn by_k18(
+    ontology: &Ontology,
+    premises: &[Conclusion],
+    stated: Option<&Axiom>,
+    conclusion: Conclusion,
+) -> bool
+    ensures { IsTrue result ↔ FollowsFrom ontology.now rules.K18 premises.now (option_map (λ a. axiom_of a.now) stated.entry) conclusion }
+{
+    match (premises, stated, conclusion) {
+        ([Conclusion::Same(a, b), Conclusion::Same(c, d)], None, Conclusion::Same(e, f)) => {
+            b == c && *a == e && *d == f
+        }
+        _ => false,
+    }
+}
+
+// Whether the first is an edge, and the second that edge with the individual in the place of the other, at its source or at its target.
+fn is_moved(individual: IndId, other: IndId, edge: Conclusion, moved: Conclusion) -> bool
+    ensures { IsTrue result ↔ IsMovedEdge individual.0 other.0 (conclusion_of edge) (conclusion_of moved) }
+{
+    let to = Subject::Individual(individual);
+    let from = Subject::Individual(other);
+    match (edge, moved) {
+        (Conclusion::Edge(x, r, y), Conclusion::Edge(z, s, w)) => {
+            r == s && ((x == from && z == to && y == w) || (y == from && w == to && x == z))
+        }
+        _ => false,
+    }
+}
+
+// What holds of an individual holds of one that is one with it: where it lies, what it leads to, and what leads to it.
+fn by_k19(
+    ontology: &Ontology,
+    premises: &[Conclusion],
+    stated: Option<&Axiom>,
+    conclusion: Conclusion,
+) -> bool
+    ensures { IsTrue result ↔ FollowsFrom ontology.now rules.K19 premises.now (option_map (λ a. axiom_of a.now) stated.entry) conclusion }
+{
+    match (premises, stated, conclusion) {
+        ([Conclusion::Same(a, b), Conclusion::Sub(y, c)], None, Conclusion::Sub(x, d)) => {
+            *y == Subject::Individual(*b) && x == Subject::Individual(*a) && *c == d
+        }
+        ([Conclusion::Same(a, b), edge], None, moved) => is_moved(*a, *b, *edge, moved),
+        _ => false,
+    }
+}
+
+// Two individuals that are one and differ lie in owl:Nothing, and so does the source of a pair that is denied.
+fn by_k20(
+    ontology: &Ontology,
+    premises: &[Conclusion],
+    stated: Option<&Axiom>,
+    conclusion: Conclusion,
+) -> bool
+    ensures { IsTrue result ↔ FollowsFrom ontology.now rules.K20 premises.now (option_map (λ a. axiom_of a.now) stated.entry) conclusion }
+{
+    match (premises, stated, conclusion) {
+        (
+            [Conclusion::Same(a, b)],
+            Some(Axiom::DifferentIndividuals(operands)),
+            Conclusion::Sub(x, c),
+        ) => {
+            x == Subject::Individual(*a)
+                && c == ExprId::NOTHING
+                && individuals_at_two_places(operands, *a, *b)
+        }
+        (
+            [Conclusion::Edge(x, r, y)],
+            Some(Axiom::NegativePropertyAssertion(s, a, b)),
+            Conclusion::Sub(z, c),
+        ) => {
+            *x == Subject::Individual(*a)
+                && r == s
+                && *y == Subject::Individual(*b)
+                && z == *x
+                && c == ExprId::NOTHING
         }
         _ => false,
     }

@@ -22,6 +22,8 @@ pub(crate) enum ShortConclusion {
     IndividualExpr(IndId, PropId, ExprId),
     /// An edge between individuals.
     IndividualIndividual(IndId, PropId, IndId),
+    /// Two individuals that are one.
+    Same(IndId, IndId),
 }
 
 impl ShortConclusion {
@@ -44,6 +46,7 @@ impl ShortConclusion {
             Conclusion::Edge(Subject::Individual(a), r, Subject::Individual(b)) => {
                 ShortConclusion::IndividualIndividual(a, r, b)
             }
+            Conclusion::Same(a, b) => ShortConclusion::Same(a, b),
         }
     }
 
@@ -66,6 +69,7 @@ impl ShortConclusion {
             ShortConclusion::IndividualIndividual(a, r, b) => {
                 Conclusion::Edge(Subject::Individual(a), r, Subject::Individual(b))
             }
+            ShortConclusion::Same(a, b) => Conclusion::Same(a, b),
         }
     }
 }

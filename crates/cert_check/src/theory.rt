@@ -1,5 +1,5 @@
 //! What an acceptable certificate means.
-ghost use Rattle.cert_check.specs.Examples.{ContradictionIsAccepted, OneSubclassIsAccepted};
+ghost use Rattle.cert_check.specs.Examples.{ContradictionIsAccepted, DeniedIsAccepted, OneSubclassIsAccepted, SameAndDifferentIsAccepted};
 ghost use Rattle.cert_check.specs.NarrowedListings.{NarrowedAgreesSame, NarrowedClaimsSame, NarrowedReasonsAreSame};
 ghost use Rattle.cert_check.specs.Soundness.{AcceptableSays, LinesAreTrue, ListingsAgree, RulesKeepTruth, TextsAreDetermined};
 
@@ -13,10 +13,13 @@ pub fn soundness()
     ensures listings { ListingsAgree }
 {}
 
-/// Two certificates that are acceptable, so that what is promised of such can be met.
+/// Two certificates that are acceptable, so that what is promised of such can be met, and two by the rules on individuals that are
+/// one, that differ, and on pairs that are denied.
 pub fn worked_certificates()
     ensures one_subclass { OneSubclassIsAccepted }
     ensures contradiction { ContradictionIsAccepted }
+    ensures different { SameAndDifferentIsAccepted }
+    ensures denied { DeniedIsAccepted }
 {}
 
 /// The elements of a narrowed listing agree with the same lines as those that come to them, its claims hold together with the
