@@ -10,7 +10,7 @@ use std::random::RandomSource;
 use std::test::Fail;
 
 // In each table a row is a derivation, its lines apart by `;`. Behind `+` all of it follows, so that only a contradiction is
-// missing, and behind `-` all but its last line.
+// missing, behind `-` all but its last line, and behind `1` not even its first line.
 
 /// Rules on what lies in what, from K1 to K7.
 const RULES_OF_CLASSES: &str = "+ sub e0 e0 K1
@@ -191,10 +191,60 @@ const RULES_OF_INDIVIDUALS: &str = "+ sub i0 e2 K15 a10
 - edge i0 p0 e1 K16 a11
 - edge i0 p0 i1 K16 a11;edge i0 p0 i1 K16 a11 1";
 
+/// Rules on individuals that are one, on such as differ and on pairs that are denied, from K17 to K20. No ontology has an axiom of
+/// one of these kinds, so that nothing follows by these rules, whatever the axiom and the premises.
+const RULES_OF_ONE_ELEMENT: &str = "- same i0 i1 K17
+- same i0 i0 K17
+- same i0 i1 K17 a2
+- same i0 i1 K17 a3
+- same i0 i1 K17 a6
+- same i0 i1 K17 a10
+- same i0 i1 K17 a11
+- sub i0 e2 K15 a10;same i0 i1 K17 a11 1
+- same i0 i1 K18
+- same i0 i1 K18 1 1
+- sub i0 e2 K15 a10;same i0 i0 K18 1 1
+- sub i0 e2 K15 a10;same i0 i1 K18 1 1
+- edge i0 p0 i1 K16 a11;same i0 i1 K18 1 1
+- edge i0 p0 i1 K16 a11;same i0 i1 K18 a11 1 1
+- sub i0 e2 K15 a10;sub i1 e2 K19 1
+- sub i0 e2 K15 a10;sub i0 e2 K19 1 1
+- sub i0 e2 K15 a10;sub i1 e2 K19 1 1
+- sub i0 e2 K15 a10;edge i0 p0 i1 K16 a11;sub i1 e2 K19 2 1
+- sub i0 e2 K15 a10;edge i0 p0 i1 K16 a11;sub i1 e2 K19 1 2
+- edge i0 p0 i1 K16 a11;edge i0 p0 i1 K19 1 1
+- edge i0 p0 i1 K16 a11;edge i1 p0 i1 K19 1 1
+- edge i0 p0 i1 K16 a11;edge i0 p0 i0 K19 1 1
+- sub i0 e1 K20
+- sub i0 e1 K20 a11
+- sub i0 e2 K15 a10;sub i0 e1 K20 a3 1
+- edge i0 p0 i1 K16 a11;sub i0 e1 K20 1
+- edge i0 p0 i1 K16 a11;sub i0 e1 K20 a11 1
+- edge i0 p0 i1 K16 a11;sub i1 e1 K20 a11 1
+- same i0 i0 K1
+- same i0 i0 K2
+- sub e1 e1 K1;same i0 i1 K3 1
+- sub i0 e2 K15 a10;same i0 i1 K4 a1 1
+- same i0 i0 K5
+- same i0 i0 K14 a9
+- same i0 i1 K15 a10
+- same i0 i1 K16 a11
+1 same i0 i1 K17 a11;same i0 i1 K17 a11
+1 same i0 i1 K17 a11;sub i0 e1 K20 a3 1
+1 same i0 i1 K17 a11;same i1 i0 K17 a11;same i0 i0 K18 1 2
+1 same i0 i1 K17 a11;same i1 i1 K17 a11;same i0 i1 K18 2 1
+1 same i1 i0 K17 a11;sub i0 e2 K15 a10;sub i1 e2 K19 1 2
+1 same i1 i0 K17 a11;sub i0 e2 K15 a10;sub i1 e2 K19 2 1
+1 same i1 i0 K17 a11;edge i0 p0 i1 K16 a11;edge i1 p0 i1 K19 1 2
+1 same i1 i0 K17 a11;edge i0 p0 i1 K16 a11;edge i1 p0 i1 K19 2 1";
+
 /// The verdict that the sign of a row asks for.
 fn expected(sign: &str, lines: &str) -> Verdict {
     if sign == "+" {
         return Verdict::Rejected(Reason::NoContradiction);
+    }
+    if sign == "1" {
+        return bad_line(1);
     }
     bad_line(lines.split(';').count())
 }
@@ -242,4 +292,9 @@ fn uses_of_rules_of_edges(rt: HostRuntime) -> Result<(), Fail> {
 #[test]
 fn uses_of_rules_of_individuals(rt: HostRuntime) -> Result<(), Fail> {
     judge(&rt, RULES_OF_INDIVIDUALS)
+}
+
+#[test]
+fn uses_of_rules_of_one_element(rt: HostRuntime) -> Result<(), Fail> {
+    judge(&rt, RULES_OF_ONE_ELEMENT)
 }
