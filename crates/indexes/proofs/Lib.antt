@@ -4,3 +4,5 @@ pub mod Parts
 pub mod Dividing
 pub mod Pairing
 pub mod Listing
+pub mod Paths
+pub mod Grouping

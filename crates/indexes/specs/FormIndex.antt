@@ -6,7 +6,7 @@ use Rattle.indexes.specs.declared.keys.Key.{Key}
 use Rattle.indexes.specs.declared.keys.Key.TheVariants.{Whole, Partial}
 use Rattle.indexes.specs.declared.key_lists.KeyLists.{KeyLists}
 use Rattle.indexes.specs.declared.form_index.FormIndex.{FormIndex}
-use Rattle.indexes.specs.Keys.{by_kind, by_alone, by_first, by_second, by_filler, by_chain, by_end, by_plain}
+use Rattle.indexes.specs.Keys.{by_kind, by_alone, by_first, by_second, by_filler, by_chain, by_end, by_plain, by_linked_first, by_linked_second, by_denied}
 use Rattle.indexes.specs.Lists.{list_at}
 use Rattle.indexes.specs.FormsUnderKeys.{IsUnder}
 
@@ -30,3 +30,6 @@ pub record IsFormIndex (forms : List Form) (index : FormIndex) : Type 0 where
   pub chains : ListsForms by_chain forms index.chains
   pub ends : ListsForms by_end forms index.ends
   pub plain : ListsForms by_plain forms index.plain
+  pub linked_first : ListsForms by_linked_first forms index.linked_first
+  pub linked_second : ListsForms by_linked_second forms index.linked_second
+  pub denied : ListsForms by_denied forms index.denied

@@ -1,11 +1,12 @@
 -- The keys of a form: one for each table.
 use Rattle.std.specs.Prelude.{Option, Some, None}
+use Rattle.axioms.specs.declared.ids.IndId.{IndId}
 use Rattle.normal_forms.specs.declared.forms.Class2.{Class2}
 use Rattle.normal_forms.specs.declared.forms.Class2.TheVariants as class
 use Rattle.normal_forms.specs.declared.forms.PropId2.{PropId2}
 use Rattle.normal_forms.specs.declared.forms.PropId2.TheVariants as property
 use Rattle.normal_forms.specs.declared.forms.Form.{Form}
-use Rattle.normal_forms.specs.declared.forms.Form.TheVariants.{N1, N2, N3, N4, N5, N6, N7, N8, N9}
+use Rattle.normal_forms.specs.declared.forms.Form.TheVariants.{N1, N2, N3, N4, N5, N6, N7, N8, N9, N10, N11, N12}
 use Rattle.indexes.specs.declared.keys.Key.{Key}
 use Rattle.indexes.specs.declared.keys.Key.TheVariants as key
 
@@ -17,11 +18,15 @@ abbrev pub property_key : PropId2 → Key
 property_key (property.Property p) = key.Whole p.0
 property_key (property.Partial n) = key.Partial n
 
--- 0 where the form gives a fact from none, 1 where it makes a property reflexive
+abbrev pub individual_key : IndId → Key
+individual_key a = key.Whole a.0
+
+-- 0 where the form gives a fact from none, 1 where it makes a property reflexive, 2 where it makes two individuals differ
 abbrev pub by_kind : Form → Option Key
 by_kind (N7 _) = Some (key.Whole 1)
 by_kind (N8 _ _) = Some (key.Whole 0)
 by_kind (N9 _ _ _) = Some (key.Whole 0)
+by_kind (N11 _ _) = Some (key.Whole 2)
 by_kind _ = None
 
 -- the class that it needs alone
@@ -59,3 +64,18 @@ by_end _ = None
 abbrev pub by_plain : Form → Option Key
 by_plain (N5 r _) = Some (key.Whole r.0)
 by_plain _ = None
+
+-- the first of the individuals that it makes one
+abbrev pub by_linked_first : Form → Option Key
+by_linked_first (N10 a _) = Some (individual_key a)
+by_linked_first _ = None
+
+-- the second of the individuals that it makes one
+abbrev pub by_linked_second : Form → Option Key
+by_linked_second (N10 _ b) = Some (individual_key b)
+by_linked_second _ = None
+
+-- the source of the pair that it denies
+abbrev pub by_denied : Form → Option Key
+by_denied (N12 a _ _) = Some (individual_key a)
+by_denied _ = None

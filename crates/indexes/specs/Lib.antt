@@ -8,3 +8,5 @@ pub mod FormsUnderKeys
 pub mod Pairs
 pub mod Lists
 pub mod FormIndex
+pub mod Groups
+pub mod Roots

@@ -17,6 +17,9 @@ pub(crate) struct FormIndex {
     pub chains: KeyLists,
     pub ends: KeyLists,
     pub plain: KeyLists,
+    pub linked_first: KeyLists,
+    pub linked_second: KeyLists,
+    pub denied: KeyLists,
 }
 
 // A value is let go by one call, where each way out would else let each field go.
@@ -31,6 +34,9 @@ impl Drop for FormIndex {
             chains: _,
             ends: _,
             plain: _,
+            linked_first: _,
+            linked_second: _,
+            denied: _,
         } = self;
     }
 }
@@ -49,6 +55,9 @@ impl FormIndex {
             chains: KeyLists::new(alloc),
             ends: KeyLists::new(alloc),
             plain: KeyLists::new(alloc),
+            linked_first: KeyLists::new(alloc),
+            linked_second: KeyLists::new(alloc),
+            denied: KeyLists::new(alloc),
         }
     }
 
@@ -66,6 +75,9 @@ impl FormIndex {
             chains: KeyLists::from_forms(alloc, Role::Chain, forms)?,
             ends: KeyLists::from_forms(alloc, Role::End, forms)?,
             plain: KeyLists::from_forms(alloc, Role::Plain, forms)?,
+            linked_first: KeyLists::from_forms(alloc, Role::LinkedFirst, forms)?,
+            linked_second: KeyLists::from_forms(alloc, Role::LinkedSecond, forms)?,
+            denied: KeyLists::from_forms(alloc, Role::Denied, forms)?,
         })
     }
 }

@@ -1,12 +1,14 @@
 //! A problem whose forms are found by key.
-ghost use Rattle.std.specs.Prelude.{◌≡◌, ◌↔◌, ◌++◌, [], ℕ, Contains, IfOk, slice_get};
+ghost use Rattle.std.specs.Prelude.{◌≡◌, ◌↔◌, ◌++◌, [], ℕ, Contains, IfOk, false, slice_get};
+ghost use Rattle.indexes.specs.declared.keys.Key.{Key as Key2};
 ghost use Rattle.indexes.specs.declared.keys.Key.TheVariants as keys;
-ghost use Rattle.indexes.specs.Keys.{class_key, property_key, by_kind, by_alone, by_first, by_second, by_filler, by_chain, by_end, by_plain};
+ghost use Rattle.indexes.specs.Keys.{class_key, property_key, individual_key, by_kind, by_alone, by_first, by_second, by_filler, by_chain, by_end, by_plain, by_linked_first, by_linked_second, by_denied};
 ghost use Rattle.indexes.specs.FormsUnderKeys.{IsUnder};
 
 use crate::form_index::FormIndex;
 use crate::keys::Key;
 use crate::named::{key_of_class, key_of_property};
+use axioms::IndId;
 use facts::Context;
 use normal_forms::{Class2, Form, FormList, PropId2};
 use std::alloc::{AllocError, Global};
@@ -178,5 +180,40 @@ impl IndexedProblem {
         ensures { (n : ℕ) → Contains result.now n ↔ IsUnder by_plain self.now.forms (property_key property) n }
     {
         self.index.plain.of(key_of_property(property))
+    }
+
+    /// Whether some form makes two individuals one. It looks at no form.
+    pub fn has_links(&self) -> bool
+        ensures { result ≡ false → (k : Key2) (n : ℕ) → IsUnder by_linked_first self.now.forms k n → ⊥ }
+    {
+        !self.index.linked_first.is_empty()
+    }
+
+    /// The forms that make that individual, as their first, one with another.
+    pub fn linked_first(&self, individual: IndId) -> &[u32]
+        ensures { (n : ℕ) → Contains result.now n ↔ IsUnder by_linked_first self.now.forms (individual_key individual) n }
+    {
+        self.index.linked_first.of(Key::Whole(individual.0))
+    }
+
+    /// The forms that make that individual, as their second, one with another.
+    pub fn linked_second(&self, individual: IndId) -> &[u32]
+        ensures { (n : ℕ) → Contains result.now n ↔ IsUnder by_linked_second self.now.forms (individual_key individual) n }
+    {
+        self.index.linked_second.of(Key::Whole(individual.0))
+    }
+
+    /// The forms that make two individuals differ.
+    pub fn different(&self) -> &[u32]
+        ensures { (n : ℕ) → Contains result.now n ↔ IsUnder by_kind self.now.forms (keys.Whole 2) n }
+    {
+        self.index.kinds.of(Key::Whole(2))
+    }
+
+    /// The forms that deny a pair whose source is that individual.
+    pub fn denied(&self, individual: IndId) -> &[u32]
+        ensures { (n : ℕ) → Contains result.now n ↔ IsUnder by_denied self.now.forms (individual_key individual) n }
+    {
+        self.index.denied.of(Key::Whole(individual.0))
     }
 }

@@ -1,5 +1,5 @@
-//! What a step of the engine looks up: facts by the contexts that they speak of, and normal forms by the classes and
-//! properties of the facts that they give something with.
+//! What a step of the engine looks up: facts by the contexts that they speak of, normal forms by the classes, properties and
+//! individuals of the facts that they give something with, and which individuals are one.
 #![tactic(auto)]
 
 mod by_context;
@@ -13,9 +13,12 @@ mod lists;
 mod membership;
 mod named;
 mod roles;
+mod roots;
+mod same_individuals;
 mod table;
 
 pub use index::Index;
 pub use indexed_problem::IndexedProblem;
 pub use keys::Key;
+pub use same_individuals::Groups;
 pub use table::Table;

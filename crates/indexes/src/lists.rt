@@ -1,5 +1,5 @@
 //! Lists of numbers by key, all in one piece.
-ghost use Rattle.std.specs.Prelude.{◌≡◌, ◌≤◌, ℕ, [], IfOk, length, map};
+ghost use Rattle.std.specs.Prelude.{◌≡◌, ◌≤◌, ℕ, [], IfOk, length, map, true};
 ghost use Rattle.std.specs.List.Sorted.{IsNonDecreasingBy};
 ghost use Rattle.indexes.specs.Lists.{list_at, AreLists, AreStarts, IsWithin};
 
@@ -63,6 +63,13 @@ impl Lists {
             starts: starts_of(alloc, &pairs)?,
             numbers: numbers_of(alloc, &pairs)?,
         })
+    }
+
+    /// Whether no list has a number.
+    pub(crate) fn is_empty(&self) -> bool
+        ensures { result ≡ true → (key : ℕ) → list_at self.now.starts.items self.now.numbers.items key ≡ [] }
+    {
+        self.numbers.is_empty()
     }
 
     /// The list of the key.

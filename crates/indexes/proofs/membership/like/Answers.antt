@@ -1,5 +1,5 @@
 use Rattle.std.proofs.Common.{ℕ, List, Contains, ⊎_elim, ap, subst, sym}
-use Rattle.indexes.specs.Keys.{by_kind, by_alone, by_first, by_second, by_filler, by_chain, by_end, by_plain}
+use Rattle.indexes.specs.Keys.{by_kind, by_alone, by_first, by_second, by_filler, by_chain, by_end, by_plain, by_linked_first, by_linked_second, by_denied}
 use Rattle.indexes.proofs.membership.like.Goals as goal
 
 pub returns-in-N2 : goal.returns-in-N2
@@ -28,3 +28,15 @@ returns-in-N8 c = λ n at. (c.given.ensures n).1 (c.args.form, at, ⊎_elim (λ 
 
 pub returns-in-N1 : goal.returns-in-N1
 returns-in-N1 c = λ n at. (c.alone.ensures n).1 (c.args.form, at, ⊎_elim (λ is. ap by_alone is.1) (λ is. ap by_alone is.2) c.in-N1.is)
+
+pub returns-in-N10 : goal.returns-in-N10
+returns-in-N10 c = λ n at. ⊎_elim
+    (λ is. subst (λ (list : List ℕ). Contains list n) (sym is) ((c.linked_first.ensures n).1 (c.args.form, at, ap by_linked_first c.in-N10.is)))
+    (λ is. subst (λ (list : List ℕ). Contains list n) (sym is) ((c.linked_second.ensures n).1 (c.args.form, at, ap by_linked_second c.in-N10.is)))
+    c.shorter-in-N10.ensures
+
+pub returns-in-N11 : goal.returns-in-N11
+returns-in-N11 c = λ n at. (c.different.ensures n).1 (c.args.form, at, ap by_kind c.in-N11.is)
+
+pub returns-in-N12 : goal.returns-in-N12
+returns-in-N12 c = λ n at. (c.denied.ensures n).1 (c.args.form, at, ap by_denied c.in-N12.is)
