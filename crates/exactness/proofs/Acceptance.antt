@@ -14,7 +14,9 @@ use Rattle.cert_check.specs.Derivation.{IsDerivation, HasLine}
 use Rattle.cert_check.specs.Acceptance.{Agrees, ClaimHolds, LiesBelow, Belongs, IsConsistentShown, IsContradictionShown, IsAcceptable}
 use Rattle.normal_forms.specs.Forms.{Whole}
 use Rattle.closure.specs.Closure.{AreAsked, Context, Expression, Individual, In, IsRoot, IsFact}
+use Rattle.closure.specs.Groups.{least_same}
 use Rattle.closure.proofs.Facts as fact
+use Rattle.closure.proofs.Groups.{turned, same_as_least}
 use Rattle.exactness.specs.ListedInterpretation.{IsSatisfiable}
 use Rattle.exactness.proofs.Complete.{listed_is_model, answered, individual_at}
 use Rattle.exactness.specs.Acceptance.{AreRelations, AreTextsOfClosure, IsListedFor, ShowsClosure}
@@ -51,7 +53,7 @@ module _ (o : Ontology) (w : IsOntology o) (lines : List Line) (derivation : IsD
   element_of : (c e : ℕ) → IsClassAt o c e → (Has (Expression e) nothing → ⊥) → (m : ℕ) × (slice_get shown.elements m ≡ Some (Expression e))
   element_of c e class without =
       let context : IsSatisfiable o [] (Expression e) = record { context = fact.root (IsRoot.named c e class); without_nothing = without } in
-      shown.interpretation.contexts.listed (Expression e) context
+      shown.interpretation.contexts.listed (Expression e) context tt
 
   -- a line of a satisfiable class is a fact
   line_of_class : (c d e f : ℕ) → IsClassAt o c e → IsClassAt o d f → (Has (Expression e) nothing → ⊥) → HasLine lines (Sub (line.Expression e) f) → Has (Expression e) f
@@ -62,7 +64,8 @@ module _ (o : Ontology) (w : IsOntology o) (lines : List Line) (derivation : IsD
   line_of_individual : (a d f : ℕ) → a < length o.names.individuals → IsClassAt o d f → HasLine lines (Sub (line.Individual a) f) → Has (Individual a) f
   line_of_individual a d f l class h =
       let at = individual_at o [] shown.elements shown.i w (none_asked o) shown.interpretation shown.consistent a l in
-      element_says (shown.i.individual (individual_name o a)) (Individual a) d f class at ((claims.1 a l d f class).1 h)
+      fact.same_class (least_same o a) (turned (same_as_least o [] a))
+      (element_says (shown.i.individual (individual_name o a)) (Individual (least_same o a)) d f class at ((claims.1 a l d f class).1 h))
 
   line_from_fact : (c d e f : ℕ) → IsClassAt o c e → IsClassAt o d f → Has (Expression e) f → HasLine lines (Sub (line.Expression e) f)
   line_from_fact c d e f class above h = facts (Expression e) f (IsRoot.named c e class) (IsRoot.named d f above) h

@@ -6,21 +6,24 @@ use Rattle.std.proofs.lemmas.Bool.{false_from_ne_true}
 use Rattle.std.proofs.lemmas.List.{length-map}
 use Rattle.std.proofs.lemmas.List.Elements.{All-head, All-contains, All-map, Contains-get_or}
 use Rattle.axioms.specs.Expression.{Named, SomeValues, owl_thing, owl_nothing}
-use Rattle.axioms.specs.Ontology.{Ontology, Axiom, Node, Class, And, Exists, SubClass, EquivalentClasses, DisjointClasses, SubProperty, EquivalentProperties, Domain, Transitive, Reflexive, ClassAssertion, PropertyAssertion, IsPart, thing, nothing, name_at, property_name, individual_name, expression, intersection, axiom_tree, axiom_trees}
+use Rattle.axioms.specs.Ontology.{Ontology, Axiom, Node, Class, And, Exists, SubClass, EquivalentClasses, DisjointClasses, SubProperty, EquivalentProperties, Domain, Transitive, Reflexive, ClassAssertion, PropertyAssertion, SameIndividuals, DifferentIndividuals, NegativePropertyAssertion, IsPart, thing, nothing, name_at, property_name, individual_name, expression, intersection, axiom_tree, axiom_trees}
 use Rattle.axioms.specs.WellFormedness.{IsOntology, IsAxiomOf}
 use Rattle.axioms.proofs.Trees.{class_tree, and_tree, some_tree, part_before, by_nodes}
 use Rattle.std.specs.Cmp.{both_ways}
 use Rattle.lemmas.proofs.Mapped.{mapped}
 use Rattle.lemmas.proofs.Members.{Contains-from_slice_get}
 use Rattle.lemmas.proofs.Pairs.{AllPairs-map}
-use Rattle.interpretation_spec.specs.Interpretation.{IsBelow, Interpretation, IsInterpretation, IsModel, IsIn, HasPair, HasPath, Satisfies, IsSame, IsApart, IsSameProperty, IsWithin, IsSubProperty, IsMember, IsContradictory}
+use Rattle.interpretation_spec.specs.Interpretation.{IsBelow, Interpretation, IsInterpretation, IsModel, IsIn, HasPair, HasPath, Satisfies, IsSame, IsApart, IsSameProperty, IsSameElement, IsOtherElement, IsWithin, IsSubProperty, IsMember, IsContradictory}
 use Rattle.interpretation_spec.proofs.Extensions.{in_intersection, each_of_intersection}
 use Rattle.normal_forms.specs.Forms.{Whole, Property2, Property, IsForm, N5, first_of, first_steps}
 use Rattle.normal_forms.specs.Occurrences.{OccursRight, OccursLeft, AtRight, AtLeft}
-use Rattle.closure.specs.Closure.{Context, Expression, Individual, In, Edge, IsAtOrBelow, IsRoot, IsFact}
+use Rattle.closure.specs.Closure.{Context, Expression, Individual, In, Edge, IsAtOrBelow, AreSame, itself, forth, IsRoot, IsFact}
+use Rattle.closure.specs.Groups.{least_same}
 use Rattle.closure.proofs.Facts as fact
+use Rattle.closure.proofs.Groups.{and_then, turned, same_as_least, is_least, same_decided}
 use Rattle.exactness.specs.ListedInterpretation.{IsSatisfiable, HasEdge, IsListedInterpretation, IsConsistent, AgreesWithClosure}
 use Rattle.exactness.proofs.Operands.{around, IsIn-along, first_of-one, first_of-all, first_steps-one, first_steps-all}
+use Rattle.exactness.proofs.Within.{same_within, different_within, denied_within}
 
 module _ (o : Ontology) (asked : List ℕ) (elements : List Context) (i : Interpretation)
     (wf : IsOntology o) (asked_within : All (λ e. e < length o.nodes) asked) (listed : IsListedInterpretation o asked elements i) where
@@ -59,7 +62,7 @@ module _ (o : Ontology) (asked : List ℕ) (elements : List Context) (i : Interp
         context = fact.target x (Property r) edge;
         without_nothing = λ z. (listed.contexts.satisfiable m x at).without_nothing (fact.unsatisfiable (Property r) (Expression c) edge z);
       } in
-      let (n, at_n) = listed.contexts.listed (Expression c) satisfiable in
+      let (n, at_n) = listed.contexts.listed (Expression c) satisfiable tt in
       let pair : HasPair i (property_name o r) m n =
       (listed.pairs r m n x (Expression c) (wf.nodes e (Exists r c) h).0 at at_n).1 (record { property = Property r; edge = edge; below = IsAtOrBelow.same }) in
       IsIn-along i m (expression o e) (SomeValues (property_name o r) (expression o c)) (some_tree o wf e r c h)
@@ -141,8 +144,8 @@ module _ (o : Ontology) (asked : List ℕ) (elements : List Context) (i : Interp
   pair_of : (r m n : ℕ) (x y : Context) → r < length o.names.properties → At m x → At n y → HasEdge o asked x (Property r) y → HasPair i (property_name o r) m n
   pair_of r m n x y l at_m at_n edge = (listed.pairs r m n x y l at_m at_n).1 edge
 
-  itself : (x y : Context) (r : Property2) → IsFact o asked (Edge x r y) → HasEdge o asked x r y
-  itself x y r edge = record { property = r; edge = edge; below = IsAtOrBelow.same }
+  by_itself : (x y : Context) (r : Property2) → IsFact o asked (Edge x r y) → HasEdge o asked x r y
+  by_itself x y r edge = record { property = r; edge = edge; below = IsAtOrBelow.same }
 
   along : (x y : Context) (r s : ℕ) → IsForm o asked (N5 r s) → HasEdge o asked x (Property r) y → HasEdge o asked x (Property s) y
   along x y r s form edge = record { property = edge.property; edge = edge.edge; below = IsAtOrBelow.step r s edge.below form }
@@ -158,7 +161,7 @@ module _ (o : Ontology) (asked : List ℕ) (elements : List Context) (i : Interp
       let at_r : slice_get rs n ≡ Some r = sym (is 0 ∙ ap (slice_get rs) (add-zero n)) in
       let (t, at_t) = element path.0 path.1 in
       let second = edge_of r z path.0 u t (All-contains (λ r. r < length o.names.properties) rs r ok (Contains-from_slice_get rs n r at_r)) at_z at_t path.2 in
-      let next : HasEdge o asked x (first_steps rs (Property s) (n + 1)) t = itself x t (first_steps rs (Property s) (n + 1))
+      let next : HasEdge o asked x (first_steps rs (Property s) (n + 1)) t = by_itself x t (first_steps rs (Property s) (n + 1))
       (fact.chained (first_steps rs (Property s) n) (Property r) edge.property second.property u (IsForm.chain rs s n r c some at_r) edge.edge second.edge edge.below second.below) in
       walk rs s c ok x rest (n + 1) path.0 y t v (omega arith) (omega arith)
       (λ k. is (suc k) ∙ ap (slice_get rs) (let e : n + suc k ≡ n + 1 + k = omega arith in e)) at_t at_y next path.3
@@ -201,11 +204,45 @@ module _ (o : Ontology) (asked : List ℕ) (elements : List Context) (i : Interp
       (edge_of r a b x y (named m r at_r) at_a at_b pair))
 
   module _ (consistent : IsConsistent o asked) where
-    pub individual_at : (a : ℕ) → a < length o.names.individuals → At (i.individual (individual_name o a)) (Individual a)
+    -- an individual has the element of the least of its group
+    pub individual_at : (a : ℕ) → a < length o.names.individuals → At (i.individual (individual_name o a)) (Individual (least_same o a))
     individual_at a l =
-        let (m, at) = listed.contexts.listed (Individual a) (record { context = fact.root (IsRoot.individual a l); without_nothing = consistent.individuals a l }) in
-        let P : ℕ → Type 0 = λ n. At n (Individual a) in
-        subst P (sym (listed.individuals a m l at)) at
+        let b = least_same o a in
+        let low : b ≤ a = is_least o asked a a (turned (same_as_least o asked a)) in
+        let k : b < length o.names.individuals = omega arith in
+        let (m, at) = listed.contexts.listed (Individual b) (record { context = fact.root (IsRoot.individual b k); without_nothing = consistent.individuals b k }) (is_least o asked a) in
+        let P : ℕ → Type 0 = λ n. At n (Individual b) in
+        subst P (sym (listed.individuals a b m l (same_as_least o asked a) at)) at
+
+    from_least : (a : ℕ) → AreSame o asked (least_same o a) a
+    from_least a = turned (same_as_least o asked a)
+
+    -- those of one group have one element, and no others
+    share : (a b : ℕ) → a < length o.names.individuals → b < length o.names.individuals → AreSame o asked a b → i.individual (individual_name o a) ≡ i.individual (individual_name o b)
+    share a b l k p =
+        sym (listed.individuals b (least_same o a) (i.individual (individual_name o a)) k (and_then (turned p) (same_as_least o asked a)) (individual_at a l))
+
+    shared : (a b : ℕ) → a < length o.names.individuals → b < length o.names.individuals → i.individual (individual_name o a) ≡ i.individual (individual_name o b) → AreSame o asked a b
+    shared a b l k e =
+        let same : Individual (least_same o a) ≡ Individual (least_same o b) =
+        same_Some (Individual (least_same o a)) (Individual (least_same o b)) (sym (individual_at a l) ∙ ap (slice_get elements) e ∙ individual_at b k) in
+        let one : least_same o a ≡ least_same o b = cc in
+        (same_decided o asked a b).1 one
+
+    pub groups : (a b : ℕ) → a < length o.names.individuals → b < length o.names.individuals → (i.individual (individual_name o a) ≡ i.individual (individual_name o b)) ↔ AreSame o asked a b
+    groups a b l k = (shared a b l k, share a b l k)
+
+    -- members of one axiom are of one group
+    along_axiom : (xs : List ℕ) → Contains o.axioms (SameIndividuals xs) → (k m a b : ℕ) → slice_get xs m ≡ Some a → slice_get xs (m + k) ≡ Some b → AreSame o asked a b
+    along_axiom xs c zero m a b at_a at_b =
+        let same : a ≡ b = same_Some a b (sym at_a ∙ subst (λ n. slice_get xs n ≡ Some b) (add-zero m) at_b) in
+        subst (λ n. AreSame o asked a n) same itself
+    along_axiom xs c (suc k) m a b at_a at_b =
+        let l : m + k < length xs = omega (arith, slice_get_within xs (m + suc k) b at_b) in
+        let d = slice_index xs (m + k) in
+        let at_d : slice_get xs (m + k) ≡ Some d = slice_get-get_or xs (m + k) 0 l in
+        let e : m + suc k ≡ m + k + 1 = omega arith in
+        forth d (along_axiom xs c k m a d at_a at_d) (IsForm.same_individuals xs d b c (m + k, at_d, subst (λ n. slice_get xs n ≡ Some b) e at_b))
 
     satisfies : (a : Axiom) → Contains o.axioms a → IsAxiomOf o a → Satisfies i (axiom_tree o a)
     satisfies (SubClass c d) k ok = λ m l f.
@@ -240,22 +277,38 @@ module _ (o : Ontology) (asked : List ℕ) (elements : List Context) (i : Interp
         let at_w : At rest.0 y = ap (slice_get elements) rest.3 ∙ at_n in
         let first = edge_of r m path.0 x z ok at at_z path.2 in
         let second = edge_of r path.0 rest.0 z y ok at_z at_w rest.2 in
-        pair_of r m n x y ok at at_n (itself x y (Property r)
+        pair_of r m n x y ok at at_n (by_itself x y (Property r)
         (fact.chained (Property r) (Property r) first.property second.property z (IsForm.transitive r k) first.edge second.edge first.below second.below))
     satisfies (Reflexive r) k ok = λ m l.
         let (x, at) = element m l in
-        pair_of r m m x x ok at at (itself x x (Property r) (fact.loop r (IsForm.reflexive r k) (listed.contexts.satisfiable m x at).context))
+        pair_of r m m x x ok at at (by_itself x x (Property r) (fact.loop r (IsForm.reflexive r k) (listed.contexts.satisfiable m x at).context))
     satisfies (ClassAssertion c a) k ok =
-        right c (i.individual (individual_name o a)) (Individual a) (OccursRight.by_axiom (ClassAssertion c a) k refl) (individual_at a ok.1)
-        (fact.asserted (IsForm.class_assertion c a k))
+        right c (i.individual (individual_name o a)) (Individual (least_same o a)) (OccursRight.by_axiom (ClassAssertion c a) k refl) (individual_at a ok.1)
+        (fact.same_class a (same_as_least o asked a) (fact.asserted (IsForm.class_assertion c a k)))
     satisfies (PropertyAssertion r a b) k ok =
-        pair_of r (i.individual (individual_name o a)) (i.individual (individual_name o b)) (Individual a) (Individual b) ok.0 (individual_at a ok.1) (individual_at b ok.2)
-        (itself (Individual a) (Individual b) (Property r) (fact.asserted_edge (IsForm.property_assertion r a b k)))
+        pair_of r (i.individual (individual_name o a)) (i.individual (individual_name o b)) (Individual (least_same o a)) (Individual (least_same o b)) ok.0 (individual_at a ok.1) (individual_at b ok.2)
+        (by_itself (Individual (least_same o a)) (Individual (least_same o b)) (Property r)
+        (fact.same_target b (same_as_least o asked b) (fact.same_source a (same_as_least o asked a) (fact.asserted_edge (IsForm.property_assertion r a b k)))))
+    satisfies (SameIndividuals xs) k ok =
+        let there = λ (j c : ℕ) (h : slice_get xs j ≡ Some c). All-contains (λ c. c < length o.names.individuals) xs c (same_within o xs ok).within (Contains-from_slice_get xs j c h) in
+        AllPairs-map (IsSameElement i) (individual_name o) xs (λ m n a b l at_a at_b.
+        let e : n ≡ m + (n - m) = omega arith in
+        share a b (there m a at_a) (there n b at_b) (along_axiom xs k (n - m) m a b at_a (subst (λ j. slice_get xs j ≡ Some b) e at_b)))
+    satisfies (DifferentIndividuals xs) k ok =
+        let there = λ (j c : ℕ) (h : slice_get xs j ≡ Some c). All-contains (λ c. c < length o.names.individuals) xs c (different_within o xs ok).within (Contains-from_slice_get xs j c h) in
+        AllPairs-map (IsOtherElement i) (individual_name o) xs (λ m n a b l at_a at_b e.
+        consistent.individuals a (there m a at_a)
+        (fact.different b (IsForm.different_individuals xs a b k (m, n, l, at_a, at_b)) (shared a b (there m a at_a) (there n b at_b) e)))
+    satisfies (NegativePropertyAssertion r a b) k ok = λ pair.
+        let there = denied_within o r a b ok in
+        let edge = edge_of r (i.individual (individual_name o a)) (i.individual (individual_name o b)) (Individual (least_same o a)) (Individual (least_same o b)) there.0 (individual_at a there.1) (individual_at b there.2) pair in
+        consistent.individuals a there.1
+        (fact.denied r b edge.property (IsForm.negative_assertion r a b k) (fact.same_target (least_same o b) (from_least b) (fact.same_source (least_same o a) (from_least a) edge.edge)) edge.below)
 
     interpretation : IsInterpretation i
     interpretation =
         let name_is : (c : ℕ) (name : List ℕ) → slice_get o.names.classes c ≡ Some name → name_at o.names.classes c ≡ name = λ c name h. ap (λ n. unwrap_or n []) h in
-        let all = listed.contexts.listed (Expression thing) (record { context = fact.root (IsRoot.named 0 thing wf.thing_node); without_nothing = consistent.things }) in
+        let all = listed.contexts.listed (Expression thing) (record { context = fact.root (IsRoot.named 0 thing wf.thing_node); without_nothing = consistent.things }) tt in
         record {
           inhabited = let l = within all.0 (Expression thing) all.1 in omega arith;
           individuals = listed.within;
@@ -288,7 +341,7 @@ module _ (o : Ontology) (asked : List ℕ) (elements : List Context) (i : Interp
 
   pub agrees : AgreesWithClosure o asked elements i
   agrees = record {
-    element = λ x h. let (m, at) = listed.contexts.listed x h in (m, within m x at, at);
+    element = λ x h leads. let (m, at) = listed.contexts.listed x h leads in (m, within m x at, at);
     named = λ c e m x h at. listed.classes c e m x h at;
     claimed = λ e m h at. (answered e m (Expression e) h at).1 (fact.in_itself (fact.root h));
     asked_about = λ e m x h at. answered e m x (IsRoot.question e (All-contains (λ d. d < length o.nodes) asked e asked_within h) h) at;
@@ -306,6 +359,13 @@ pub listed_agrees : (o : Ontology) (asked : List ℕ) (elements : List Context) 
     → IsOntology o → All (λ e. e < length o.nodes) asked → IsListedInterpretation o asked elements i → AgreesWithClosure o asked elements i
 listed_agrees o asked elements i wf asked_within listed = agrees o asked elements i wf asked_within listed
 
+-- two individuals have one element in it exactly where they are of one group
+pub groups_are_elements : (o : Ontology) (asked : List ℕ) (elements : List Context) (i : Interpretation)
+    → IsOntology o → All (λ e. e < length o.nodes) asked → IsListedInterpretation o asked elements i → IsConsistent o asked
+    → (a b : ℕ) → a < length o.names.individuals → b < length o.names.individuals
+    → (i.individual (individual_name o a) ≡ i.individual (individual_name o b)) ↔ AreSame o asked a b
+groups_are_elements o asked elements i wf asked_within listed consistent = groups o asked elements i wf asked_within listed consistent
+
 -- so what follows from the axioms is a fact: of a named class or an asked expression whose context is without Nothing
 pub complete_below : (o : Ontology) (asked : List ℕ) (elements : List Context) (i : Interpretation)
     → IsOntology o → All (λ e. e < length o.nodes) asked → IsListedInterpretation o asked elements i → IsConsistent o asked
@@ -313,7 +373,7 @@ pub complete_below : (o : Ontology) (asked : List ℕ) (elements : List Context)
     → IsBelow (axiom_trees o) (expression o e) (expression o f) → IsFact o asked (In (Whole f) (Expression e))
 complete_below o asked elements i wf asked_within listed consistent e f root_e root_f without follows =
     let context = fact.root root_e in
-    let (m, at) = listed.contexts.listed (Expression e) (record { context = context; without_nothing = without }) in
+    let (m, at) = listed.contexts.listed (Expression e) (record { context = context; without_nothing = without }) tt in
     let inside : m < i.size = rw listed.size (slice_get_within elements m (Expression e) at) in
     let is_e = (answered o asked elements i wf asked_within listed e m (Expression e) root_e at).1 (fact.in_itself context) in
     (answered o asked elements i wf asked_within listed f m (Expression e) root_f at).0
@@ -325,9 +385,10 @@ pub complete_types : (o : Ontology) (asked : List ℕ) (elements : List Context)
     → (a f : ℕ) → a < length o.names.individuals → IsRoot o asked (Expression f)
     → IsMember (axiom_trees o) (individual_name o a) (expression o f) → IsFact o asked (In (Whole f) (Individual a))
 complete_types o asked elements i wf asked_within listed consistent a f l root_f follows =
-    (answered o asked elements i wf asked_within listed f (i.individual (individual_name o a)) (Individual a) root_f
+    fact.same_class (least_same o a) (turned (same_as_least o asked a))
+    ((answered o asked elements i wf asked_within listed f (i.individual (individual_name o a)) (Individual (least_same o a)) root_f
     (individual_at o asked elements i wf asked_within listed consistent a l)).0
-    (follows i (listed_is_model o asked elements i wf asked_within listed consistent))
+    (follows i (listed_is_model o asked elements i wf asked_within listed consistent)))
 
 -- an ontology with no model has Nothing in the context of Thing or of an individual
 pub complete_contradictory : (o : Ontology) (asked : List ℕ) (elements : List Context) (i : Interpretation)

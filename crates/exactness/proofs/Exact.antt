@@ -13,7 +13,9 @@ use Rattle.cert_check.specs.Acceptance.{Agrees, ClaimHolds}
 use Rattle.cert_check.proofs.Derivations.{line_true}
 use Rattle.normal_forms.specs.Forms.{Whole}
 use Rattle.closure.specs.Closure.{AreAsked, Context, Expression, Individual, In, IsRoot, IsFact}
+use Rattle.closure.specs.Groups.{least_same}
 use Rattle.closure.proofs.Facts as fact
+use Rattle.closure.proofs.Groups.{turned, same_as_least}
 use Rattle.exactness.specs.ListedInterpretation.{IsListedInterpretation, IsConsistent}
 use Rattle.exactness.proofs.Complete.{listed_is_model, complete_below, complete_types, complete_contradictory, within, answered, individual_at}
 use Rattle.exactness.specs.Derivability.{IsDerivable, subject_of}
@@ -89,11 +91,23 @@ module _ (o : Ontology) (asked : List ℕ) (elements : List Context) (i : Interp
         let member : IsIn i (expression o e) m = (answered o asked elements i w there listed e m (Expression e) root at).1 (fact.in_itself (fact.root root)) in
         record { member = member; agrees = agrees_at m (Expression e) root at member }
 
+    -- an individual, whose element is that of the least of its group
+    individual_agrees : (a : ℕ) → a < length o.names.individuals → Agrees o i lines (line.Individual a) (i.individual (individual_name o a))
+    individual_agrees a l c e class =
+        let m = i.individual (individual_name o a) in
+        let at = individual_at o asked elements i w there listed consistent a l in
+        let root : IsRoot o asked (Expression e) = IsRoot.named c e class in (
+          λ f. all (Individual a) e (IsRoot.individual a l) root
+              (fact.same_class (least_same o a) (turned (same_as_least o asked a)) ((answered o asked elements i w there listed e m (Individual (least_same o a)) root at).0 f)),
+          λ h. line_true o w lines d i (listed_is_model o asked elements i w there listed consistent) (Sub (line.Individual a) e) h m
+              (within o asked elements i w there listed m (Individual (least_same o a)) at) refl,
+        )
+
     pub meets_claims : ((c e m : ℕ) → IsClassAt o c e → slice_get elements m ≡ Some (Expression e) → ClaimHolds o i lines (e, m))
         × ((a : ℕ) → a < length o.names.individuals → Agrees o i lines (line.Individual a) (i.individual (individual_name o a)))
     meets_claims = (
       claim_holds,
-      λ a l. agrees_at (i.individual (individual_name o a)) (Individual a) (IsRoot.individual a l) (individual_at o asked elements i w there listed consistent a l) refl,
+      individual_agrees,
     )
 
 pub questions_change_nothing : (o : Ontology) (asked other : List ℕ) (elements : List Context) (i : Interpretation) → IsOntology o → AreAsked o asked → IsListedInterpretation o asked elements i → IsConsistent o asked →

@@ -1,23 +1,25 @@
 -- Each fact of the closure is derivable, and no fresh name is left: of a prefix of an intersection each operand, of a prefix of a chain a walk.
-use Rattle.std.proofs.Common.{◌≡◌, ℕ, option_map, ◌+◌, ◌<◌, inl, inr, List, [], ◌∷◌, ◌++◌, map, length, slice_get, slice_index, get_or, take, Some, All, Contains, Bool, true, false, ◌==◌, if◌then◌else◌, refl, sym, ap, ◌∙◌, subst, arith, eqb-true}
+use Rattle.std.proofs.Common.{◌≡◌, ◌⊎◌, ℕ, length-take, option_map, ◌+◌, ◌<◌, inl, inr, List, [], ◌∷◌, ◌++◌, map, length, slice_get, slice_index, get_or, take, Some, All, Contains, Bool, true, false, ◌==◌, if◌then◌else◌, refl, sym, ap, ◌∙◌, subst, arith, eqb-true}
 use Rattle.std.specs.List.{AllByRecursion}
 use Rattle.std.proofs.lemmas.Option.{slice_get_within, slice_get-map, slice_get-get_or}
 use Rattle.std.proofs.lemmas.List.{take_all}
-use Rattle.std.proofs.lemmas.List.Elements.{All-head, All-tail, All-cons, All-nil, All-push}
-use Rattle.axioms.specs.Ontology.{Ontology, Class, And, SubProperty, nothing}
+use Rattle.std.proofs.lemmas.List.Elements.{All-head, All-tail, All-cons, All-nil, All-push, All-contains}
+use Rattle.axioms.specs.Ontology.{Ontology, Class, And, SubProperty, DifferentIndividuals, nothing}
 use Rattle.axioms.specs.WellFormedness.{IsOntology}
 use Rattle.lemmas.proofs.Members.{Contains-from_slice_get}
 use Rattle.lemmas.proofs.Places.{take_push}
-use Rattle.certificate.specs.Certificate.{Subject, Expression, Individual, Conclusion, Sub, Edge}
+use Rattle.certificate.specs.Certificate.{Subject, Expression, Individual, Conclusion, Sub, Edge, Same}
 use Rattle.cert_check.specs.Lines.{IsWalk}
 use Rattle.certificate.specs.Certificate.{Line}
 use Rattle.certificate.specs.Writability.{IsSubjectOf}
 use Rattle.cert_check.specs.Derivation.{IsDerivation, HasLine}
-use Rattle.normal_forms.specs.Forms.{Class2, Whole, Prefix, Property2, Property, Steps, N1, N2, N3, N4, N5, N6, N7, N8, N9, IsForm, sub_class, equivalent, right_and, left_and, disjoint, right_some, left_some, domain, sub_property, same_property, chain, transitive, reflexive, class_assertion, property_assertion, first_of, first_steps, IsNextInCircle}
-use Rattle.closure.specs.Closure.{Context, Fact, In, IsAtOrBelow, same, step, IsRoot, named, individual, question, IsContextBy, root, target, Gives, in_thing, in_itself, asserted, asserted_edge, subsumed, both, successor, predecessor, unsatisfiable, chained, loop, IsFact, AreFacts, given}
+use Rattle.normal_forms.specs.Forms.{Class2, Whole, Prefix, Property2, Property, Steps, N1, N2, N3, N4, N5, N6, N7, N8, N9, N10, N11, N12, IsForm, sub_class, equivalent, right_and, left_and, disjoint, right_some, left_some, domain, sub_property, same_property, chain, transitive, reflexive, class_assertion, property_assertion, same_individuals, different_individuals, negative_assertion, first_of, first_steps, IsNextInCircle}
+use Rattle.closure.specs.Closure as closure
+use Rattle.closure.specs.Closure.{Context, Fact, In, IsAtOrBelow, same, step, AreSame, itself, forth, back, IsRoot, named, individual, question, IsContextBy, root, target, Gives, in_thing, in_itself, asserted, asserted_edge, subsumed, both, successor, predecessor, unsatisfiable, chained, loop, same_class, same_source, same_target, different, denied, IsFact, AreFacts, given}
 use Rattle.exactness.specs.Derivability.{IsDerivable, AreDerivable, none, more, subject_of, ClassIsDerivable, WalkIsDerivable, EdgeIsDerivable, FactIsDerivable}
 use Rattle.exactness.proofs.Derivable.{derivation_from_each}
-use Rattle.exactness.proofs.Rules.{derivable_within, k1, k2, k4_sub, k4_same, k5, k6, k7, k8, k9, k10, k11, k12_sub, k12_same, k13_chain, k13_transitive, k14, k15, k16}
+use Rattle.exactness.proofs.Within.{different_within}
+use Rattle.exactness.proofs.Rules.{derivable_within, axiom_within, k1, k2, k4_sub, k4_same, k5, k6, k7, k8, k9, k10, k11, k12_sub, k12_same, k13_chain, k13_transitive, k14, k15, k16, k17, k18, k19_class, k19_source, k19_target, k20_different, k20_denied}
 
 -- the expression lies above the subject
 abbrev Below : Ontology → Subject → ℕ → Type 0
@@ -77,20 +79,20 @@ module _ (o : Ontology) (asked : List ℕ) (h : IsOntology o) where
       at_first (λ r. EdgeIsDerivable o x r y → WalkIsDerivable o x (take n rs) y) n (length rs) s (Property (slice_index rs 0)) (Steps (take n rs))
       (λ k p. absurd (omega arith))
       (λ k p. rw (take_one rs n k l) (Edge x (slice_index rs 0) y ∷ [], (y, refl, refl), more p none))
-      (λ p. p)
+      (λ p. p.1)
 
-  to_steps : (x y : Subject) (rs : List ℕ) (s n : ℕ) → IsSubjectOf o x → IsSubjectOf o y → Contains o.axioms (SubProperty rs s) → 1 < n → WalkIsDerivable o x (take n rs) y → EdgeIsDerivable o x (first_steps rs (Property s) n) y
-  to_steps x y rs s n i j m k w =
+  to_steps : (x y : Subject) (rs : List ℕ) (s n : ℕ) → IsSubjectOf o x → IsSubjectOf o y → Contains o.axioms (SubProperty rs s) → 1 < n → n < length rs + 1 → WalkIsDerivable o x (take n rs) y → EdgeIsDerivable o x (first_steps rs (Property s) n) y
+  to_steps x y rs s n i j m k l w =
       at_first (λ r. EdgeIsDerivable o x r y) n (length rs) (Property s) (Property (slice_index rs 0)) (Steps (take n rs))
       (λ e. (let v : WalkIsDerivable o x rs y = rw (← take_all n rs (omega arith)) w in k13_chain o h x y rs s v.0 m i j (omega arith) v.1 v.2))
       (λ e. absurd (omega arith))
-      w
+      (omega (arith, length-take n rs), w)
 
   next_step : (x y z : Subject) (rs : List ℕ) (s n r : ℕ) → IsSubjectOf o x → IsSubjectOf o z → Contains o.axioms (SubProperty rs s) → 0 < n → slice_get rs n ≡ Some r → EdgeIsDerivable o x (first_steps rs (Property s) n) y → IsDerivable o (Edge y r z) → EdgeIsDerivable o x (first_steps rs (Property s) (n + 1)) z
   next_step x y z rs s n r i j m k at p q =
       let l : n < length rs = slice_get_within rs n r at in
       let w = from_steps x y rs (Property s) n l p in
-      to_steps x z rs s (n + 1) i j m (omega arith)
+      to_steps x z rs s (n + 1) i j m (omega arith) (omega arith)
       (rw (take_push rs n r at) (w.0 ++ Edge y r z ∷ [], walk_push x (take n rs) y w.0 r z w.1, derivable_push w.0 (Edge y r z) w.2 q))
 
   -- nothing at the end of a walk is nothing at its start
@@ -146,9 +148,75 @@ module _ (o : Ontology) (asked : List ℕ) (h : IsOntology o) where
   by_n9 : {i r j : ℕ} → IsForm o asked (N9 i r j) → IsDerivable o (Edge (Individual i) r (Individual j))
   by_n9 (property_assertion r a b m) = k16 o h r a b m
 
+  by_n10 : {a b : ℕ} → IsForm o asked (N10 a b) → IsDerivable o (Same a b) × IsDerivable o (Same b a)
+  by_n10 (same_individuals xs a b m (n, at_a, at_b)) = (
+    k17 o h xs a b m (n, n + 1, λ e. (let bad : ⊥ = omega arith in bad), at_a, at_b),
+    k17 o h xs b a m (n + 1, n, λ e. (let bad : ⊥ = omega arith in bad), at_b, at_a),
+  )
+
+  -- one is the other, or lines say that they have one element
+  abbrev OneElement : ℕ → ℕ → Type 0
+  OneElement a b = (a ≡ b) ⊎ (IsDerivable o (Same a b) × IsDerivable o (Same b a))
+
+  and_then : (a b c : ℕ) → OneElement a b → IsDerivable o (Same b c) → IsDerivable o (Same c b) → OneElement a c
+  and_then a b c (inl e) p q = inr (subst (λ n. IsDerivable o (Same n c)) (sym e) p, subst (λ n. IsDerivable o (Same c n)) (sym e) q)
+  and_then a b c (inr (p, q)) p' q' = inr (k18 o h a b c p p', k18 o h c b a q' q)
+
+  one_element : {a b : ℕ} → AreSame o asked a b → OneElement a b
+  one_element itself = inl refl
+  one_element (forth {a = a} {b = b} c s form) = let p = by_n10 form in and_then a c b (one_element s) p.0 p.1
+  one_element (back {a = a} {b = b} c s form) = let p = by_n10 form in and_then a c b (one_element s) p.1 p.0
+
+  -- what lies above one lies above the other
+  class_of_same : (a b : ℕ) (c : Class2) → IsDerivable o (Same b a) → ClassIsDerivable o (Individual a) c → ClassIsDerivable o (Individual b) c
+  class_of_same a b (Whole d) s p = k19_class o h b a d s p
+  class_of_same a b (Prefix ds) s p = λ n z l. k19_class o h b a (get_or ds n z) s (p n z l)
+
+  -- the first edge of a walk with another source, its last with another target
+  walk_from : (a b : ℕ) (rs : List ℕ) (y : Subject) → IsDerivable o (Same b a) → 0 < length rs → WalkIsDerivable o (Individual a) rs y → WalkIsDerivable o (Individual b) rs y
+  walk_from a b [] y s l w = absurd (omega arith)
+  walk_from a b (r ∷ rs) y s l ([], w, ps) = absurd w
+  walk_from a b (r ∷ rs) y s l (e ∷ es, (z, first, w), more p ps) =
+      (Edge (Individual b) r z ∷ es, (z, refl, w), more (k19_source o h b a r z s (subst (IsDerivable o) first p)) ps)
+
+  walk_to : (x : Subject) (rs : List ℕ) (a b : ℕ) → IsDerivable o (Same b a) → 0 < length rs → (premises : List Conclusion) → IsWalk x rs (Individual a) premises → AreDerivable o premises → WalkIsDerivable o x rs (Individual b)
+  walk_to x [] a b s l ps w d = absurd (omega arith)
+  walk_to x (r ∷ rs) a b s l [] w d = absurd w
+  walk_to x (r ∷ []) a b s l (e ∷ []) (z, first, w) (more p ps) =
+      let q : IsDerivable o (Edge x r (Individual a)) = subst (λ y. IsDerivable o (Edge x r y)) w (subst (IsDerivable o) first p) in
+      (Edge x r (Individual b) ∷ [], (Individual b, refl, refl), more (k19_target o h b a r x s q) none)
+  walk_to x (r ∷ []) a b s l (e ∷ f ∷ es) (z, first, w) d = absurd w
+  walk_to x (r ∷ q ∷ rs) a b s l (e ∷ es) (z, first, w) (more p ps) =
+      let rest = walk_to z (q ∷ rs) a b s (omega arith) es w ps in
+      (e ∷ rest.0, (z, first, rest.1), more p rest.2)
+
   nothing_behind : (x : Subject) (r : Property2) (y : Subject) → EdgeIsDerivable o x r y → Below o y nothing → Below o x nothing
   nothing_behind x (Property r) y p q = k11 o h x y r p q
-  nothing_behind x (Steps rs) y p q = nothing_back x rs y p.0 p.1 p.2 q
+  nothing_behind x (Steps rs) y p q = nothing_back x rs y p.1.0 p.1.1 p.1.2 q
+
+  -- an edge of one is an edge of the other
+  source_of_same : (a b : ℕ) (r : Property2) (y : Subject) → IsDerivable o (Same b a) → EdgeIsDerivable o (Individual a) r y → EdgeIsDerivable o (Individual b) r y
+  source_of_same a b (Property r) y s p = k19_source o h b a r y s p
+  source_of_same a b (Steps rs) y s (l, w) = (l, walk_from a b rs y s l w)
+
+  target_of_same : (x : Subject) (r : Property2) (a b : ℕ) → IsDerivable o (Same b a) → EdgeIsDerivable o x r (Individual a) → EdgeIsDerivable o x r (Individual b)
+  target_of_same x (Property r) a b s p = k19_target o h b a r x s p
+  target_of_same x (Steps rs) a b s (l, w) = (l, walk_to x rs a b s l w.0 w.1 w.2)
+
+  -- two that are different by an axiom have no one element, and no pair that is denied is there
+  by_n11 : {a b : ℕ} → IsForm o asked (N11 a b) → OneElement a b → Below o (Individual a) nothing
+  by_n11 (different_individuals xs a b m (j, k, l, at_a, at_b)) (inl e) =
+      let bad : j ≡ k = (different_within o xs (axiom_within o h (DifferentIndividuals xs) m)).distinct j k b (subst (λ n. slice_get xs j ≡ Some n) e at_a) at_b in
+      absurd (omega arith)
+  by_n11 (different_individuals xs a b m (j, k, l, at_a, at_b)) (inr s) =
+      k20_different o h xs a b m (j, k, λ e. (let bad : ⊥ = omega arith in bad), at_a, at_b) s.0
+
+  by_n12 : {a r b : ℕ} → IsForm o asked (N12 a r b) → IsDerivable o (Edge (Individual a) r (Individual b)) → Below o (Individual a) nothing
+  by_n12 (negative_assertion r a b m) p = k20_denied o h r a b m p
+
+  n11_within : {a b : ℕ} → IsForm o asked (N11 a b) → a < length o.names.individuals
+  n11_within (different_individuals xs a b m (j, k, l, at_a, at_b)) =
+      All-contains (λ x. x < length o.names.individuals) xs a (different_within o xs (axiom_within o h (DifferentIndividuals xs) m)).within (Contains-from_slice_get xs j a at_a)
 
   -- ---- facts and contexts
 
@@ -160,6 +228,18 @@ module _ (o : Ontology) (asked : List ℕ) (h : IsOntology o) where
   context_within : {older : List Fact} {x : Context} → IsContextBy o asked older x → AllByRecursion (FactIsDerivable o) older → IsSubjectOf o (subject_of x)
   context_within (root r) ps = root_within r
   context_within (target x r) ps = ps.0.1
+
+  class_moved : (a b : ℕ) (c : Class2) → OneElement a b → FactIsDerivable o (In c (closure.Individual a)) → FactIsDerivable o (In c (closure.Individual b))
+  class_moved a b c (inl e) p = subst (λ n. FactIsDerivable o (In c (closure.Individual n))) e p
+  class_moved a b c (inr s) p = ((derivable_within s.0).1, class_of_same a b c s.1 p.1)
+
+  source_moved : (a b : ℕ) (r : Property2) (y : Context) → OneElement a b → FactIsDerivable o (closure.Edge (closure.Individual a) r y) → FactIsDerivable o (closure.Edge (closure.Individual b) r y)
+  source_moved a b r y (inl e) p = subst (λ n. FactIsDerivable o (closure.Edge (closure.Individual n) r y)) e p
+  source_moved a b r y (inr s) p = ((derivable_within s.0).1, p.1, source_of_same a b r (subject_of y) s.1 p.2)
+
+  target_moved : (x : Context) (r : Property2) (a b : ℕ) → OneElement a b → FactIsDerivable o (closure.Edge x r (closure.Individual a)) → FactIsDerivable o (closure.Edge x r (closure.Individual b))
+  target_moved x r a b (inl e) p = subst (λ n. FactIsDerivable o (closure.Edge x r (closure.Individual n))) e p
+  target_moved x r a b (inr s) p = (p.0, (derivable_within s.0).1, target_of_same (subject_of x) r a b s.1 p.2)
 
   -- derivable facts give derivable facts
   derivable_by : {older : List Fact} {f : Fact} → Gives o asked older f → AllByRecursion (FactIsDerivable o) older → FactIsDerivable o f
@@ -177,6 +257,11 @@ module _ (o : Ontology) (asked : List ℕ) (h : IsOntology o) where
       let second = by_below (subject_of y) (subject_of z) c ps.1.0.2 in
       (ps.0.0, ps.1.0.1, by_n6 (subject_of x) (subject_of y) (subject_of z) ps.0.0 ps.1.0.1 form first second)
   derivable_by (loop {x = x} r form c) ps = let l = context_within c ps in (l, l, by_n7 (subject_of x) l form)
+  derivable_by (same_class {b = b} {c = c} a s) ps = class_moved a b c (one_element s) ps.0
+  derivable_by (same_source {b = b} {r = r} {y = y} a s) ps = source_moved a b r y (one_element s) ps.0
+  derivable_by (same_target {b = b} {r = r} {x = x} a s) ps = target_moved x r a b (one_element s) ps.0
+  derivable_by (different {a = a} b form s) ps = (n11_within form, by_n11 form (one_element s))
+  derivable_by (denied {a = a} r b q form below) ps = (ps.0.0, by_n12 form (by_below (Individual a) (Individual b) below ps.0.2))
 
   mutual
     pub fact_derivable : {f : Fact} → IsFact o asked f → FactIsDerivable o f

@@ -4,6 +4,7 @@ pub mod Operands
 pub mod Complete
 pub mod Listed
 pub mod Derivable
+pub mod Within
 pub mod Rules
 pub mod Facts
 pub mod Trimmed

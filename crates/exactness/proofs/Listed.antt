@@ -1,5 +1,5 @@
 -- There is a listed interpretation wherever tests decide the facts, and there is one.
-use Rattle.std.proofs.Common.{◌≡◌, ℕ, zero, suc, ◌<◌, ◌↔◌, ◌⊎◌, Bool, true, false, List, [], ◌∷◌, length, get_or, slice_get, Some, AllPairs, refl, sym, ap, ap₂, ◌∙◌, subst, subst₂, inl, inr, arith}
+use Rattle.std.proofs.Common.{◌≡◌, ℕ, zero, suc, ◌<◌, ◌≤◌, ◌↔◌, ◌⊎◌, Bool, true, false, List, [], ◌∷◌, length, get_or, slice_get, Some, AllPairs, refl, sym, ap, ap₂, ◌∙◌, subst, subst₂, inl, inr, arith}
 use Rattle.std.specs.Str.{bytes_eq}
 use Rattle.std.proofs.lemmas.Bool.{cases_Bool, cases_order, both_ways}
 use Rattle.std.proofs.lemmas.Option.{same_Some, none-some, slice_get-get_or, slice_get_within, get_or_from_slice_get, unwrap_or-slice_get}
@@ -11,9 +11,11 @@ use Rattle.interpretation_spec.specs.Interpretation.{Interpretation}
 use Rattle.interpretation_spec.specs.Agreement.{AgreeOn}
 use Rattle.interpretation_spec.proofs.Agreement.{agreeing}
 use Rattle.normal_forms.specs.Forms.{Whole, Property}
-use Rattle.closure.specs.Closure.{Context, Expression, Individual, In, IsRoot, IsFact}
+use Rattle.closure.specs.Closure.{Context, Expression, Individual, In, AreSame, IsRoot, IsFact}
+use Rattle.closure.specs.Groups.{least_same}
 use Rattle.closure.proofs.Facts as fact
-use Rattle.exactness.specs.ListedInterpretation.{IsSatisfiable, HasEdge, IsBefore, AreSatisfiableContexts, IsListedInterpretation, IsConsistent}
+use Rattle.closure.proofs.Groups.{and_then, turned, same_as_least, is_least, least_unique}
+use Rattle.exactness.specs.ListedInterpretation.{IsSatisfiable, HasEdge, Leads, IsBefore, AreSatisfiableContexts, IsListedInterpretation, IsConsistent}
 use Rattle.exactness.specs.ListedTheorems.{AreTests}
 
 -- the number of a name, or that it has none
@@ -56,7 +58,8 @@ one_place elements ascend m n x at_m at_n = go (cases_order m n)
 module _ (o : Ontology) (asked : List ℕ) (wf : IsOntology o) (consistent : IsConsistent o asked)
     (elements : List Context) (ascend : AllPairs IsBefore elements)
     (satisfiable : (m : ℕ) (x : Context) → slice_get elements m ≡ Some x → IsSatisfiable o asked x)
-    (listed : (x : Context) → IsSatisfiable o asked x → (m : ℕ) × (slice_get elements m ≡ Some x))
+    (leads : (m : ℕ) (x : Context) → slice_get elements m ≡ Some x → Leads o asked x)
+    (listed : (x : Context) → IsSatisfiable o asked x → Leads o asked x → (m : ℕ) × (slice_get elements m ≡ Some x))
     (has : Context → ℕ → Bool) (has-is : (x : Context) (e : ℕ) → (has x e ≡ true) ↔ IsFact o asked (In (Whole e) x))
     (edge : Context → ℕ → Context → Bool) (edge-is : (x : Context) (r : ℕ) (y : Context) → (edge x r y ≡ true) ↔ HasEdge o asked x (Property r) y) where
   context_at : ℕ → Context
@@ -74,13 +77,20 @@ module _ (o : Ontology) (asked : List ℕ) (wf : IsOntology o) (consistent : IsC
   property_test name (inl (r, h)) m n = edge (context_at m) r (context_at n)
   property_test name (inr never) m n = false
 
+  -- the element of the least individual of the group
+  least_listed : (a : ℕ) → a < length o.names.individuals → (m : ℕ) × (slice_get elements m ≡ Some (Individual (least_same o a)))
+  least_listed a l =
+      let b = least_same o a in
+      let low : b ≤ a = is_least o asked a a (turned (same_as_least o asked a)) in
+      let k : b < length o.names.individuals = omega arith in
+      listed (Individual b) (record { context = fact.root (IsRoot.individual b k); without_nothing = consistent.individuals b k }) (is_least o asked a)
+
   place : (name : List ℕ) → Found o.names.individuals name → (m : ℕ) × (x : Context) × (slice_get elements m ≡ Some x)
   place name (inl (a, h)) =
-      let l : a < length o.names.individuals = slice_get_within o.names.individuals a name h in
-      let (m, at) = listed (Individual a) (record { context = fact.root (IsRoot.individual a l); without_nothing = consistent.individuals a l }) in
-      (m, Individual a, at)
+      let (m, at) = least_listed a (slice_get_within o.names.individuals a name h) in
+      (m, Individual (least_same o a), at)
   place name (inr never) =
-      let (m, at) = listed (Expression thing) (record { context = fact.root (IsRoot.named 0 thing wf.thing_node); without_nothing = consistent.things }) in
+      let (m, at) = listed (Expression thing) (record { context = fact.root (IsRoot.named 0 thing wf.thing_node); without_nothing = consistent.things }) tt in
       (m, Expression thing, at)
 
   listed_interpretation : Interpretation
@@ -109,21 +119,23 @@ module _ (o : Ontology) (asked : List ℕ) (wf : IsOntology o) (consistent : IsC
       cc (context_is m x at_m, context_is n y at_n, same)
   property-is r m n x y at_m at_n name h (inr never) = absurd (never r h)
 
-  place-is : (a m : ℕ) → slice_get elements m ≡ Some (Individual a)
+  place-is : (a c m : ℕ) → AreSame o asked a c → slice_get elements m ≡ Some (Individual c)
       → (name : List ℕ) → slice_get o.names.individuals a ≡ Some name → (found : Found o.names.individuals name) → (place name found).0 ≡ m
   unfolding place
-  place-is a m at name h (inl (b, k)) =
+  place-is a c m p at name h (inl (b, k)) =
       let l : b < length o.names.individuals = slice_get_within o.names.individuals b name k in
       let same : b ≡ a = wf.distinct_individuals b a name k h in
-      let its = listed (Individual b) (record { context = fact.root (IsRoot.individual b l); without_nothing = consistent.individuals b l }) in
-      one_place elements ascend its.0 m (Individual b) its.1 (at ∙ ap (λ c. Some (Individual c)) (sym same))
-  place-is a m at name h (inr never) = absurd (never a h)
+      let its = least_listed b l in
+      let q : AreSame o asked (least_same o b) c = and_then (turned (same_as_least o asked b)) (subst (λ n. AreSame o asked n c) (sym same) p) in
+      let one : least_same o b ≡ c = least_unique o asked q (is_least o asked b) (leads m (Individual c) at) in
+      one_place elements ascend its.0 m (Individual (least_same o b)) its.1 (at ∙ ap (λ c. Some (Individual c)) (sym one))
+  place-is a c m p at name h (inr never) = absurd (never a h)
 
   listed_interpretation-is : IsListedInterpretation o asked elements listed_interpretation
   unfolding listed_interpretation
   listed_interpretation-is = record {
     size = refl;
-    contexts = record { ascend = ascend; satisfiable = satisfiable; listed = listed };
+    contexts = record { ascend = ascend; satisfiable = satisfiable; leads = leads; listed = listed };
     classes = λ c e m x node at.
         let name = name_at o.names.classes c in
         let h = name_of o.names.classes c (wf.nodes e (Class c) node) in
@@ -133,9 +145,9 @@ module _ (o : Ontology) (asked : List ℕ) (wf : IsOntology o) (consistent : IsC
         let name = property_name o r in
         let same = property-is r m n x y at_m at_n name (name_of o.names.properties r l) (find_name o.names.properties name) in
         rw same (edge-is x r y);
-    individuals = λ a m l at.
+    individuals = λ a c m l p at.
         let name = individual_name o a in
-        place-is a m at name (name_of o.names.individuals a l) (find_name o.names.individuals name);
+        place-is a c m p at name (name_of o.names.individuals a l) (find_name o.names.individuals name);
     within = λ name.
         let p = place name (find_name o.names.individuals name) in
         slice_get_within elements p.0 p.1 p.2;
@@ -145,8 +157,8 @@ module _ (o : Ontology) (asked : List ℕ) (wf : IsOntology o) (consistent : IsC
 pub listed_exists : (o : Ontology) (asked : List ℕ) → IsOntology o → IsConsistent o asked → (elements : List Context) → AreSatisfiableContexts o asked elements
     → (has : Context → ℕ → Bool) (edge : Context → ℕ → Context → Bool) → AreTests o asked has edge → (i : Interpretation) × IsListedInterpretation o asked elements i
 listed_exists o asked wf consistent elements are has edge tests = (
-  listed_interpretation o asked wf consistent elements are.ascend are.satisfiable are.listed has tests.classes edge tests.edges,
-  listed_interpretation-is o asked wf consistent elements are.ascend are.satisfiable are.listed has tests.classes edge tests.edges,
+  listed_interpretation o asked wf consistent elements are.ascend are.satisfiable are.leads are.listed has tests.classes edge tests.edges,
+  listed_interpretation-is o asked wf consistent elements are.ascend are.satisfiable are.leads are.listed has tests.classes edge tests.edges,
 )
 
 -- ---- and there is one
@@ -192,10 +204,10 @@ same_elements (x ∷ xs) (y ∷ ys) up up' h k =
     ap₂ ◌∷◌ same (same_elements xs ys (tail_ascends x xs up) (tail_ascends y ys up')
     (tail_part x y xs ys same up h) (tail_part y x ys xs (sym same) up' k))
 
--- two lists of the satisfiable contexts are the same
+-- two lists of the satisfiable contexts that lead are the same
 pub contexts_determined : (o : Ontology) (asked : List ℕ) (xs ys : List Context) → AreSatisfiableContexts o asked xs → AreSatisfiableContexts o asked ys → xs ≡ ys
 contexts_determined o asked xs ys p q =
-    same_elements xs ys p.ascend q.ascend (λ m x h. q.listed x (p.satisfiable m x h)) (λ m x h. p.listed x (q.satisfiable m x h))
+    same_elements xs ys p.ascend q.ascend (λ m x h. q.listed x (p.satisfiable m x h) (p.leads m x h)) (λ m x h. p.listed x (q.satisfiable m x h) (q.leads m x h))
 
 pub elements_determined : (o : Ontology) (asked : List ℕ) (xs ys : List Context) (i j : Interpretation)
     → IsListedInterpretation o asked xs i → IsListedInterpretation o asked ys j → xs ≡ ys
@@ -218,8 +230,11 @@ listed_determined o asked elements i j wf consistent p q =
     let b = q.pairs r m n x y l at_m at_n in
     same_tests (i.property (name_at o.names.properties r) m n) (j.property (name_at o.names.properties r) m n) (λ t. b.1 (a.0 t)) (λ t. a.1 (b.0 t)))
     (λ a l.
-    let (m, at) = p.contexts.listed (Individual a) (record { context = fact.root (IsRoot.individual a l); without_nothing = consistent.individuals a l }) in
-    p.individuals a m l at ∙ sym (q.individuals a m l at))
+    let b = least_same o a in
+    let low : b ≤ a = is_least o asked a a (turned (same_as_least o asked a)) in
+    let k : b < length o.names.individuals = omega arith in
+    let (m, at) = p.contexts.listed (Individual b) (record { context = fact.root (IsRoot.individual b k); without_nothing = consistent.individuals b k }) (is_least o asked a) in
+    p.individuals a b m l (same_as_least o asked a) at ∙ sym (q.individuals a b m l (same_as_least o asked a) at))
   where
     element : (m : ℕ) → m < i.size → (x : Context) × (slice_get elements m ≡ Some x)
     element m h = (get_or elements m (Expression thing), slice_get-get_or elements m (Expression thing) (rw (← p.size) h))

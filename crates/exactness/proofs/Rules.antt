@@ -1,15 +1,16 @@
 -- Each rule as a step between derivable conclusions of an ontology.
-use Rattle.std.proofs.Common.{◌≡◌, ℕ, suc, ◌<◌, List, [], ◌∷◌, map, length, slice_get, Some, None, All, Contains, refl, sym, subst, arith}
+use Rattle.std.proofs.Common.{◌≡◌, ℕ, suc, ◌<◌, List, [], ◌∷◌, map, length, slice_get, Some, None, All, Contains, refl, sym, subst, arith, inl, inr}
 use Rattle.std.proofs.lemmas.Option.{slice_get_within}
 use Rattle.std.proofs.lemmas.List.Elements.{All-contains, All-head, All-tail}
-use Rattle.axioms.specs.Ontology.{Ontology, Axiom, And, Exists, SubClass, EquivalentClasses, DisjointClasses, SubProperty, EquivalentProperties, Domain, Transitive, Reflexive, ClassAssertion, PropertyAssertion, AtTwoPlaces, thing, nothing}
+use Rattle.axioms.specs.Ontology.{Ontology, Axiom, And, Exists, SubClass, EquivalentClasses, DisjointClasses, SubProperty, EquivalentProperties, Domain, Transitive, Reflexive, ClassAssertion, PropertyAssertion, SameIndividuals, DifferentIndividuals, NegativePropertyAssertion, AtTwoPlaces, thing, nothing}
 use Rattle.axioms.specs.WellFormedness.{IsOntology, IsAxiomOf}
-use Rattle.lemmas.proofs.Members.{slice_get-from_Contains}
-use Rattle.certificate.specs.Certificate.{Subject, Expression, Individual, Conclusion, Sub, Edge}
+use Rattle.lemmas.proofs.Members.{slice_get-from_Contains, Contains-from_slice_get}
+use Rattle.certificate.specs.Certificate.{Subject, Expression, Individual, Conclusion, Sub, Edge, Same}
 use Rattle.certificate.specs.declared.line.Rule.{Rule}
-use Rattle.certificate.specs.declared.line.Rule.TheVariants.{K1, K2, K3, K4, K5, K6, K7, K8, K9, K10, K11, K12, K13, K14, K15, K16}
+use Rattle.certificate.specs.declared.line.Rule.TheVariants.{K1, K2, K3, K4, K5, K6, K7, K8, K9, K10, K11, K12, K13, K14, K15, K16, K17, K18, K19, K20}
 use Rattle.cert_check.specs.Lines.{Follows, IsWalk}
 use Rattle.certificate.specs.Writability.{IsSubjectOf, IsConclusionOf}
+use Rattle.exactness.proofs.Within.{same_within}
 use Rattle.exactness.specs.Derivability.{IsDerivable, AreDerivable, derived, none, more}
 
 -- ---- what is derivable is in range
@@ -124,3 +125,35 @@ module _ (o : Ontology) (h : IsOntology o) where
   k16 r a b m =
       let l = axiom_within (PropertyAssertion r a b) m in
       by_axiom K16 [] (PropertyAssertion r a b) m (l.1, l.0, l.2) (refl, refl, refl) none
+
+  member_within : (bound : ℕ) (xs : List ℕ) → All (λ x. x < bound) xs → (n a : ℕ) → slice_get xs n ≡ Some a → a < bound
+  member_within bound xs within n a at = All-contains (λ x. x < bound) xs a within (Contains-from_slice_get xs n a at)
+
+  pub k17 : (xs : List ℕ) (a b : ℕ) → Contains o.axioms (SameIndividuals xs) → AtTwoPlaces xs a b → IsDerivable o (Same a b)
+  k17 xs a b k (m, n, apart, at_a, at_b) =
+      let within = (same_within o xs (axiom_within (SameIndividuals xs) k)).within in
+      let bound = length o.names.individuals in
+      by_axiom K17 [] (SameIndividuals xs) k (member_within bound xs within m a at_a, member_within bound xs within n b at_b) (m, n, apart, at_a, at_b) none
+
+  pub k18 : (a b c : ℕ) → IsDerivable o (Same a b) → IsDerivable o (Same b c) → IsDerivable o (Same a c)
+  k18 a b c p q = by_rule K18 (Same a b ∷ Same b c ∷ []) ((derivable_within p).0, (derivable_within q).1) (refl, refl, refl) (more p (more q none))
+
+  pub k19_class : (a b d : ℕ) → IsDerivable o (Same a b) → IsDerivable o (Sub (Individual b) d) → IsDerivable o (Sub (Individual a) d)
+  k19_class a b d p q =
+      by_rule K19 (Same a b ∷ Sub (Individual b) d ∷ []) ((derivable_within p).0, (derivable_within q).1) (refl, refl, refl) (more p (more q none))
+
+  pub k19_source : (a b r : ℕ) (y : Subject) → IsDerivable o (Same a b) → IsDerivable o (Edge (Individual b) r y) → IsDerivable o (Edge (Individual a) r y)
+  k19_source a b r y p q =
+      by_rule K19 (Same a b ∷ Edge (Individual b) r y ∷ []) ((derivable_within p).0, (derivable_within q).1, (derivable_within q).2) (refl, inl (refl, refl, refl)) (more p (more q none))
+
+  pub k19_target : (a b r : ℕ) (x : Subject) → IsDerivable o (Same a b) → IsDerivable o (Edge x r (Individual b)) → IsDerivable o (Edge x r (Individual a))
+  k19_target a b r x p q =
+      by_rule K19 (Same a b ∷ Edge x r (Individual b) ∷ []) ((derivable_within q).0, (derivable_within q).1, (derivable_within p).0) (refl, inr (refl, refl, refl)) (more p (more q none))
+
+  pub k20_different : (xs : List ℕ) (a b : ℕ) → Contains o.axioms (DifferentIndividuals xs) → AtTwoPlaces xs a b → IsDerivable o (Same a b) → IsDerivable o (Sub (Individual a) nothing)
+  k20_different xs a b k places p =
+      by_axiom K20 (Same a b ∷ []) (DifferentIndividuals xs) k ((derivable_within p).0, nothing_within) (places, refl, refl) (more p none)
+
+  pub k20_denied : (r a b : ℕ) → Contains o.axioms (NegativePropertyAssertion r a b) → IsDerivable o (Edge (Individual a) r (Individual b)) → IsDerivable o (Sub (Individual a) nothing)
+  k20_denied r a b k p =
+      by_axiom K20 (Edge (Individual a) r (Individual b) ∷ []) (NegativePropertyAssertion r a b) k ((derivable_within p).0, nothing_within) (refl, refl, refl, refl, refl) (more p none)

@@ -1,5 +1,5 @@
 -- What the rules lead to from the axioms of an ontology, and what a fact of the closure says in lines.
-use Rattle.std.specs.Prelude.{ℕ, List, [], ◌∷◌, Option}
+use Rattle.std.specs.Prelude.{ℕ, ◌<◌, List, [], ◌∷◌, length, Option}
 use Rattle.std.specs.List.{All}
 use Rattle.axioms.specs.Ontology.{Ontology}
 use Rattle.certificate.specs.Certificate.{Subject, Conclusion, Sub, Edge}
@@ -37,10 +37,10 @@ ClassIsDerivable o x (Prefix ds) = All (λ d. IsDerivable o (Sub x d)) ds
 abbrev pub WalkIsDerivable : Ontology → Subject → List ℕ → Subject → Type 0
 WalkIsDerivable o x rs y = (premises : List Conclusion) × IsWalk x rs y premises × AreDerivable o premises
 
--- of a prefix of a chain a walk along its properties
+-- of a prefix of a chain, which has properties, a walk along them
 abbrev pub EdgeIsDerivable : Ontology → Subject → Property2 → Subject → Type 0
 EdgeIsDerivable o x (Property r) y = IsDerivable o (Edge x r y)
-EdgeIsDerivable o x (Steps rs) y = WalkIsDerivable o x rs y
+EdgeIsDerivable o x (Steps rs) y = (0 < length rs) × WalkIsDerivable o x rs y
 
 abbrev pub FactIsDerivable : Ontology → Fact → Type 0
 FactIsDerivable o (In a x) = IsSubjectOf o (subject_of x) × ClassIsDerivable o (subject_of x) a

@@ -5,7 +5,7 @@ use Rattle.axioms.specs.WellFormedness.{IsOntology}
 use Rattle.interpretation_spec.specs.Interpretation.{IsBelow, Interpretation, IsModel, IsMember}
 use Rattle.interpretation_spec.specs.Agreement.{AgreeOn}
 use Rattle.normal_forms.specs.Forms.{Whole, Property}
-use Rattle.closure.specs.Closure.{AreAsked, Context, Expression, Individual, In, IsRoot, IsFact}
+use Rattle.closure.specs.Closure.{AreAsked, Context, Expression, Individual, In, AreSame, IsRoot, IsFact}
 use Rattle.exactness.specs.ListedInterpretation.{HasEdge, AreSatisfiableContexts, IsListedInterpretation, IsConsistent, AgreesWithClosure}
 
 -- where the closure is without contradiction, the listed interpretation satisfies each axiom as it was written
@@ -20,6 +20,14 @@ abbrev pub ListedAgrees : Type 0
 ListedAgrees =
     (o : Ontology) (asked : List ℕ) (elements : List Context) (i : Interpretation) →
     IsOntology o → AreAsked o asked → IsListedInterpretation o asked elements i → AgreesWithClosure o asked elements i
+
+-- where the closure is without contradiction, two individuals have one element in it exactly where they are of one group
+abbrev pub GroupsAreElements : Type 0
+GroupsAreElements =
+    (o : Ontology) (asked : List ℕ) (elements : List Context) (i : Interpretation) →
+    IsOntology o → AreAsked o asked → IsListedInterpretation o asked elements i → IsConsistent o asked →
+    (a b : ℕ) → a < length o.names.individuals → b < length o.names.individuals →
+    (i.individual (individual_name o a) ≡ i.individual (individual_name o b)) ↔ AreSame o asked a b
 
 -- what follows from the axioms is a fact of the closure, of contexts without Nothing
 abbrev pub ClosureIsComplete : Type 0

@@ -3,13 +3,14 @@
 
 ghost use Rattle.exactness.specs.Acceptance.{ShownIsAcceptable};
 ghost use Rattle.exactness.specs.DerivationTheorems.{DerivableHasDerivation, FactsAreDerivable, FactsHaveDerivation, FactHasShortDerivation, TrimmedIsDerivation, TrimmedIsTrimmed};
-ghost use Rattle.exactness.specs.ListedTheorems.{ListedIsModel, ListedAgrees, ClosureIsComplete, TypesAreComplete, ListedExists, ListedIsDetermined};
+ghost use Rattle.exactness.specs.ListedTheorems.{ListedIsModel, ListedAgrees, GroupsAreElements, ClosureIsComplete, TypesAreComplete, ListedExists, ListedIsDetermined};
 ghost use Rattle.exactness.specs.Theorems.{FactsFollow, NothingIsBelowAll, ClosureIsExact, TypesAreExact, ContradictionIsSound, ContradictionIsComplete, QuestionsChangeNothing, ListedMeetsClaims};
 
 /// What holds in the interpretation that the closure lists.
 pub fn listed_interpretation()
     ensures model { ListedIsModel }
     ensures agrees { ListedAgrees }
+    ensures groups { GroupsAreElements }
     ensures complete { ClosureIsComplete }
     ensures types { TypesAreComplete }
     ensures exists { ListedExists }
