@@ -52,9 +52,9 @@ IsAxiomOf-more o p more (Transitive r) h = omega (arith, more.properties)
 IsAxiomOf-more o p more (Reflexive r) h = omega (arith, more.properties)
 IsAxiomOf-more o p more (ClassAssertion c a) h = (omega (arith, more.nodes, h.0), omega (arith, more.individuals, h.1))
 IsAxiomOf-more o p more (PropertyAssertion r a b) h = (omega (arith, more.properties, h.0), omega (arith, more.individuals, h.1), omega (arith, more.individuals, h.2))
-IsAxiomOf-more o p more (SameIndividuals xs) h = absurd h
-IsAxiomOf-more o p more (DifferentIndividuals xs) h = absurd h
-IsAxiomOf-more o p more (NegativePropertyAssertion r a b) h = absurd h
+IsAxiomOf-more o p more (SameIndividuals xs) h = AreOperands-more _ _ more.individuals xs h
+IsAxiomOf-more o p more (DifferentIndividuals xs) h = AreOperands-more _ _ more.individuals xs h
+IsAxiomOf-more o p more (NegativePropertyAssertion r a b) h = (omega (arith, more.properties, h.0), omega (arith, more.individuals, h.1), omega (arith, more.individuals, h.2))
 
 module _ (o : Ontology) (whole : IsOntology o) where
   -- a property that is not there

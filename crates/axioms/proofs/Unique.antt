@@ -177,9 +177,17 @@ module _ (o : Ontology) (whole : IsOntology o) where
       let k : individual_name o a ≡ individual_name o c = cc in
       let l : individual_name o b ≡ individual_name o d = cc in
       ap₂ (λ q x. PropertyAssertion q x b) (property' r s f.0 g.0 h) (individual' a c f.1 g.1 k) ∙ ap (λ x. PropertyAssertion s c x) (individual' b d f.2 g.2 l)
-  same_axiom (SameIndividuals xs) b f g e = absurd f
-  same_axiom (DifferentIndividuals xs) b f g e = absurd f
-  same_axiom (NegativePropertyAssertion r a b) c f g e = absurd f
+  same_axiom (SameIndividuals xs) (SameIndividuals ys) f g e =
+      let h : map (individual_name o) xs ≡ map (individual_name o) ys = cc in
+      ap SameIndividuals (same_numbers (individual_name o) (length o.names.individuals) individual' xs ys f.within g.within h)
+  same_axiom (DifferentIndividuals xs) (DifferentIndividuals ys) f g e =
+      let h : map (individual_name o) xs ≡ map (individual_name o) ys = cc in
+      ap DifferentIndividuals (same_numbers (individual_name o) (length o.names.individuals) individual' xs ys f.within g.within h)
+  same_axiom (NegativePropertyAssertion r a b) (NegativePropertyAssertion s c d) f g e =
+      let h : property_name o r ≡ property_name o s = cc in
+      let k : individual_name o a ≡ individual_name o c = cc in
+      let l : individual_name o b ≡ individual_name o d = cc in
+      ap₂ (λ q x. NegativePropertyAssertion q x b) (property' r s f.0 g.0 h) (individual' a c f.1 g.1 k) ∙ ap (λ x. NegativePropertyAssertion s c x) (individual' b d f.2 g.2 l)
   same_axiom _ _ f g e = cc
 
   same_axioms : (as' bs : List Axiom) → All (IsAxiomOf o) as' → All (IsAxiomOf o) bs → map (axiom_tree o) as' ≡ map (axiom_tree o) bs → as' ≡ bs

@@ -32,10 +32,9 @@ IsAxiomOf o (Transitive r) = r < length o.names.properties
 IsAxiomOf o (Reflexive r) = r < length o.names.properties
 IsAxiomOf o (ClassAssertion c a) = (c < length o.nodes) × (a < length o.names.individuals)
 IsAxiomOf o (PropertyAssertion r a b) = (r < length o.names.properties) × (a < length o.names.individuals) × (b < length o.names.individuals)
--- no ontology has one of these yet
-IsAxiomOf o (SameIndividuals xs) = ⊥
-IsAxiomOf o (DifferentIndividuals xs) = ⊥
-IsAxiomOf o (NegativePropertyAssertion r a b) = ⊥
+IsAxiomOf o (SameIndividuals xs) = AreOperands (length o.names.individuals) xs
+IsAxiomOf o (DifferentIndividuals xs) = AreOperands (length o.names.individuals) xs
+IsAxiomOf o (NegativePropertyAssertion r a b) = (r < length o.names.properties) × (a < length o.names.individuals) × (b < length o.names.individuals)
 
 pub record IsOntology (o : Ontology) : Type 0 where
   -- owl:Thing and owl:Nothing come first, as classes and as expressions

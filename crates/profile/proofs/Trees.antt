@@ -120,6 +120,9 @@ module _ (o p : Ontology) (whole : IsOntology o) (keeps : KeepsAll o p) where
   individual_kept : (a : ℕ) → a < length o.names.individuals → individual_name p a ≡ individual_name o a
   individual_kept a within = same_at o.names.individuals p.names.individuals keeps.kept_individuals [] a within
 
+  individuals_kept : (xs : List ℕ) → All (λ a. a < length o.names.individuals) xs → map (individual_name p) xs ≡ map (individual_name o) xs
+  individuals_kept xs within = same_at_each o.names.individuals p.names.individuals keeps.kept_individuals [] xs within
+
   axiom_kept : (axiom' : Axiom) → IsAxiomOf o axiom' → axiom_tree p axiom' ≡ axiom_tree o axiom'
   axiom_kept (SubClass c d) h = ap₂ tree.SubClassOf (expression_kept c h.0) (expression_kept d h.1)
   axiom_kept (EquivalentClasses cs) h = ap tree.EquivalentClasses (expressions_kept cs h.within)
@@ -133,9 +136,11 @@ module _ (o p : Ontology) (whole : IsOntology o) (keeps : KeepsAll o p) where
   axiom_kept (PropertyAssertion r a b) h =
       ap₂ (λ x y. tree.PropertyAssertion x y (individual_name p b)) (property_kept r h.0) (individual_kept a h.1)
       ∙ ap (tree.PropertyAssertion (property_name o r) (individual_name o a)) (individual_kept b h.2)
-  axiom_kept (SameIndividuals xs) h = absurd h
-  axiom_kept (DifferentIndividuals xs) h = absurd h
-  axiom_kept (NegativePropertyAssertion r a b) h = absurd h
+  axiom_kept (SameIndividuals xs) h = ap tree.SameIndividuals (individuals_kept xs h.within)
+  axiom_kept (DifferentIndividuals xs) h = ap tree.DifferentIndividuals (individuals_kept xs h.within)
+  axiom_kept (NegativePropertyAssertion r a b) h =
+      ap₂ (λ x y. tree.NegativePropertyAssertion x y (individual_name p b)) (property_kept r h.0) (individual_kept a h.1)
+      ∙ ap (tree.NegativePropertyAssertion (property_name o r) (individual_name o a)) (individual_kept b h.2)
 
   axioms_kept_from : (axioms : List Axiom) → All (IsAxiomOf o) axioms → map (axiom_tree p) axioms ≡ map (axiom_tree o) axioms
   axioms_kept_from [] h = refl
