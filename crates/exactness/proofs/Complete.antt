@@ -23,7 +23,6 @@ use Rattle.closure.proofs.Facts as fact
 use Rattle.closure.proofs.Groups.{and_then, turned, same_as_least, is_least, same_decided}
 use Rattle.exactness.specs.ListedInterpretation.{IsSatisfiable, HasEdge, IsListedInterpretation, IsConsistent, AgreesWithClosure}
 use Rattle.exactness.proofs.Operands.{around, IsIn-along, first_of-one, first_of-all, first_steps-one, first_steps-all}
-use Rattle.exactness.proofs.Within.{same_within, different_within, denied_within}
 
 module _ (o : Ontology) (asked : List ℕ) (elements : List Context) (i : Interpretation)
     (wf : IsOntology o) (asked_within : All (λ e. e < length o.nodes) asked) (listed : IsListedInterpretation o asked elements i) where
@@ -290,17 +289,17 @@ module _ (o : Ontology) (asked : List ℕ) (elements : List Context) (i : Interp
         (by_itself (Individual (least_same o a)) (Individual (least_same o b)) (Property r)
         (fact.same_target b (same_as_least o asked b) (fact.same_source a (same_as_least o asked a) (fact.asserted_edge (IsForm.property_assertion r a b k)))))
     satisfies (SameIndividuals xs) k ok =
-        let there = λ (j c : ℕ) (h : slice_get xs j ≡ Some c). All-contains (λ c. c < length o.names.individuals) xs c (same_within o xs ok).within (Contains-from_slice_get xs j c h) in
+        let there = λ (j c : ℕ) (h : slice_get xs j ≡ Some c). All-contains (λ c. c < length o.names.individuals) xs c ok.within (Contains-from_slice_get xs j c h) in
         AllPairs-map (IsSameElement i) (individual_name o) xs (λ m n a b l at_a at_b.
         let e : n ≡ m + (n - m) = omega arith in
         share a b (there m a at_a) (there n b at_b) (along_axiom xs k (n - m) m a b at_a (subst (λ j. slice_get xs j ≡ Some b) e at_b)))
     satisfies (DifferentIndividuals xs) k ok =
-        let there = λ (j c : ℕ) (h : slice_get xs j ≡ Some c). All-contains (λ c. c < length o.names.individuals) xs c (different_within o xs ok).within (Contains-from_slice_get xs j c h) in
+        let there = λ (j c : ℕ) (h : slice_get xs j ≡ Some c). All-contains (λ c. c < length o.names.individuals) xs c ok.within (Contains-from_slice_get xs j c h) in
         AllPairs-map (IsOtherElement i) (individual_name o) xs (λ m n a b l at_a at_b e.
         consistent.individuals a (there m a at_a)
         (fact.different b (IsForm.different_individuals xs a b k (m, n, l, at_a, at_b)) (shared a b (there m a at_a) (there n b at_b) e)))
     satisfies (NegativePropertyAssertion r a b) k ok = λ pair.
-        let there = denied_within o r a b ok in
+        let there = ok in
         let edge = edge_of r (i.individual (individual_name o a)) (i.individual (individual_name o b)) (Individual (least_same o a)) (Individual (least_same o b)) there.0 (individual_at a there.1) (individual_at b there.2) pair in
         consistent.individuals a there.1
         (fact.denied r b edge.property (IsForm.negative_assertion r a b k) (fact.same_target (least_same o b) (from_least b) (fact.same_source (least_same o a) (from_least a) edge.edge)) edge.below)

@@ -18,7 +18,6 @@ use Rattle.closure.specs.Closure as closure
 use Rattle.closure.specs.Closure.{Context, Fact, In, IsAtOrBelow, same, step, AreSame, itself, forth, back, IsRoot, named, individual, question, IsContextBy, root, target, Gives, in_thing, in_itself, asserted, asserted_edge, subsumed, both, successor, predecessor, unsatisfiable, chained, loop, same_class, same_source, same_target, different, denied, IsFact, AreFacts, given}
 use Rattle.exactness.specs.Derivability.{IsDerivable, AreDerivable, none, more, subject_of, ClassIsDerivable, WalkIsDerivable, EdgeIsDerivable, FactIsDerivable}
 use Rattle.exactness.proofs.Derivable.{derivation_from_each}
-use Rattle.exactness.proofs.Within.{different_within}
 use Rattle.exactness.proofs.Rules.{derivable_within, axiom_within, k1, k2, k4_sub, k4_same, k5, k6, k7, k8, k9, k10, k11, k12_sub, k12_same, k13_chain, k13_transitive, k14, k15, k16, k17, k18, k19_class, k19_source, k19_target, k20_different, k20_denied}
 
 -- the expression lies above the subject
@@ -206,7 +205,7 @@ module _ (o : Ontology) (asked : List ℕ) (h : IsOntology o) where
   -- two that are different by an axiom have no one element, and no pair that is denied is there
   by_n11 : {a b : ℕ} → IsForm o asked (N11 a b) → OneElement a b → Below o (Individual a) nothing
   by_n11 (different_individuals xs a b m (j, k, l, at_a, at_b)) (inl e) =
-      let bad : j ≡ k = (different_within o xs (axiom_within o h (DifferentIndividuals xs) m)).distinct j k b (subst (λ n. slice_get xs j ≡ Some n) e at_a) at_b in
+      let bad : j ≡ k = (axiom_within o h (DifferentIndividuals xs) m).distinct j k b (subst (λ n. slice_get xs j ≡ Some n) e at_a) at_b in
       absurd (omega arith)
   by_n11 (different_individuals xs a b m (j, k, l, at_a, at_b)) (inr s) =
       k20_different o h xs a b m (j, k, λ e. (let bad : ⊥ = omega arith in bad), at_a, at_b) s.0
@@ -216,7 +215,7 @@ module _ (o : Ontology) (asked : List ℕ) (h : IsOntology o) where
 
   n11_within : {a b : ℕ} → IsForm o asked (N11 a b) → a < length o.names.individuals
   n11_within (different_individuals xs a b m (j, k, l, at_a, at_b)) =
-      All-contains (λ x. x < length o.names.individuals) xs a (different_within o xs (axiom_within o h (DifferentIndividuals xs) m)).within (Contains-from_slice_get xs j a at_a)
+      All-contains (λ x. x < length o.names.individuals) xs a (axiom_within o h (DifferentIndividuals xs) m).within (Contains-from_slice_get xs j a at_a)
 
   -- ---- facts and contexts
 

@@ -4,7 +4,6 @@ pub mod Operands
 pub mod Complete
 pub mod Listed
 pub mod Derivable
-pub mod Within
 pub mod Rules
 pub mod Facts
 pub mod Trimmed

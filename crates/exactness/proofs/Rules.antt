@@ -10,7 +10,6 @@ use Rattle.certificate.specs.declared.line.Rule.{Rule}
 use Rattle.certificate.specs.declared.line.Rule.TheVariants.{K1, K2, K3, K4, K5, K6, K7, K8, K9, K10, K11, K12, K13, K14, K15, K16, K17, K18, K19, K20}
 use Rattle.cert_check.specs.Lines.{Follows, IsWalk}
 use Rattle.certificate.specs.Writability.{IsSubjectOf, IsConclusionOf}
-use Rattle.exactness.proofs.Within.{same_within}
 use Rattle.exactness.specs.Derivability.{IsDerivable, AreDerivable, derived, none, more}
 
 -- ---- what is derivable is in range
@@ -131,7 +130,7 @@ module _ (o : Ontology) (h : IsOntology o) where
 
   pub k17 : (xs : List ℕ) (a b : ℕ) → Contains o.axioms (SameIndividuals xs) → AtTwoPlaces xs a b → IsDerivable o (Same a b)
   k17 xs a b k (m, n, apart, at_a, at_b) =
-      let within = (same_within o xs (axiom_within (SameIndividuals xs) k)).within in
+      let within = (axiom_within (SameIndividuals xs) k).within in
       let bound = length o.names.individuals in
       by_axiom K17 [] (SameIndividuals xs) k (member_within bound xs within m a at_a, member_within bound xs within n b at_b) (m, n, apart, at_a, at_b) none
 

@@ -191,10 +191,10 @@ module _ (o : Ontology) (w : IsOntology o) (i j : Interpretation) (f : ℕ → �
   axiom_to v (ClassAssertion c b) (lc, lb) h =
       subst (λ x. IsIn j (expression o c) x) (fo.individuals b lb) (into c lc (i.individual (individual_name o b)) (v.individuals (individual_name o b)) h)
   axiom_to v (PropertyAssertion r b c) (lr, lb, lc) h = pair_to v r b c lr lb lc h
-  axiom_to v (SameIndividuals bs) n h = one_element_to bs (absurd n) h
-  axiom_to v (DifferentIndividuals bs) n h = own_elements_to bs (absurd n) h
+  axiom_to v (SameIndividuals bs) n h = one_element_to bs n h
+  axiom_to v (DifferentIndividuals bs) n h = own_elements_to bs n h
   axiom_to v (NegativePropertyAssertion r b c) n h =
-      let of : (r < length o.names.properties) × (b < length o.names.individuals) × (c < length o.names.individuals) = absurd n in
+      let of : (r < length o.names.properties) × (b < length o.names.individuals) × (c < length o.names.individuals) = n in
       λ p. h (pair_from v r b c of.0 of.1 of.2 p)
 
   pub axiom_from : IsInterpretation i → (b : Axiom) → IsAxiomOf o b → Satisfies j (axiom_tree o b) → Satisfies i (axiom_tree o b)
@@ -223,10 +223,10 @@ module _ (o : Ontology) (w : IsOntology o) (i j : Interpretation) (f : ℕ → �
   axiom_from v (ClassAssertion c b) (lc, lb) h =
       back c lc (i.individual (individual_name o b)) (v.individuals (individual_name o b)) (subst (λ x. IsIn j (expression o c) x) (sym (fo.individuals b lb)) h)
   axiom_from v (PropertyAssertion r b c) (lr, lb, lc) h = pair_from v r b c lr lb lc h
-  axiom_from v (SameIndividuals bs) n h = one_element_from bs (absurd n) h
-  axiom_from v (DifferentIndividuals bs) n h = own_elements_from bs (absurd n) h
+  axiom_from v (SameIndividuals bs) n h = one_element_from bs n h
+  axiom_from v (DifferentIndividuals bs) n h = own_elements_from bs n h
   axiom_from v (NegativePropertyAssertion r b c) n h =
-      let of : (r < length o.names.properties) × (b < length o.names.individuals) × (c < length o.names.individuals) = absurd n in
+      let of : (r < length o.names.properties) × (b < length o.names.individuals) × (c < length o.names.individuals) = n in
       λ p. h (pair_to v r b c of.0 of.1 of.2 p)
 
   pub axiom_stays : IsInterpretation i → (b : Axiom) → IsAxiomOf o b → Satisfies i (axiom_tree o b) ↔ Satisfies j (axiom_tree o b)

@@ -3,16 +3,13 @@ use Rattle.std.proofs.Common.{◌≡◌, ℕ, List, length, slice_get, Some, sub
 use Rattle.std.proofs.lemmas.List.Elements.{All-contains}
 use Rattle.lemmas.proofs.Members.{Contains-from_slice_get}
 use Rattle.axioms.specs.Ontology.{Ontology, Axiom, Node, Class, And, Exists, SubClass, EquivalentClasses, DisjointClasses, SubProperty, EquivalentProperties, Domain, Transitive, Reflexive, ClassAssertion, PropertyAssertion, SameIndividuals, DifferentIndividuals, NegativePropertyAssertion}
-use Rattle.axioms.specs.WellFormedness.{AreDistinct, AreOperands, IsAxiomOf, IsNodeOf, IsOntology}
+use Rattle.axioms.specs.WellFormedness.{IsAxiomOf, IsNodeOf, IsOntology}
 use Rattle.normalise.specs.Steps.{OperandsDiffer, PartsDiffer}
 
 pub parts_differ : (o : Ontology) (e : ℕ) (node : Node) → IsNodeOf o e node → PartsDiffer node
 parts_differ o e (Class c) h = tt
 parts_differ o e (And ds) h = h.distinct
 parts_differ o e (Exists r c) h = tt
-
-individuals_differ : (o : Ontology) (xs : List ℕ) → AreOperands (length o.names.individuals) xs → AreDistinct xs
-individuals_differ o xs h = h.distinct
 
 operands_differ : (o : Ontology) (a : Axiom) → IsAxiomOf o a → OperandsDiffer a
 operands_differ o (SubClass c d) h = tt
@@ -25,8 +22,8 @@ operands_differ o (Transitive r) h = tt
 operands_differ o (Reflexive r) h = tt
 operands_differ o (ClassAssertion c a) h = tt
 operands_differ o (PropertyAssertion r a b) h = tt
-operands_differ o (SameIndividuals xs) h = individuals_differ o xs (absurd h)
-operands_differ o (DifferentIndividuals xs) h = individuals_differ o xs (absurd h)
+operands_differ o (SameIndividuals xs) h = h.distinct
+operands_differ o (DifferentIndividuals xs) h = h.distinct
 operands_differ o (NegativePropertyAssertion r a b) h = tt
 
 pub all_differ : (o : Ontology) → IsOntology o → (axioms : List Axiom) → axioms ≡ o.axioms → (n : ℕ) (a : Axiom) → slice_get axioms n ≡ Some a → OperandsDiffer a

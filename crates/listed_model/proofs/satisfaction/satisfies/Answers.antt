@@ -182,7 +182,7 @@ returns-in-PropertyAssertion-clause-satisfied c =
 pub have_one_element-requires : goal.have_one_element-requires
 have_one_element-requires c =
     let xs = ind_numbers c.in-SameIndividuals.individuals.items in
-    let of : AreOperands (length c.args.ontology.now.names.individuals) xs = absurd (rw c.in-SameIndividuals.is at c.requires.of) in
+    let of : AreOperands (length c.args.ontology.now.names.individuals) xs = rw c.in-SameIndividuals.is at c.requires.of in
     rw (c.deref-in-SameIndividuals.ensures.value, c.deref-in-SameIndividuals-2.ensures.value, c.requires.listed.individuals_each) of.within
 
 pub returns-in-SameIndividuals-clause-satisfied : goal.returns-in-SameIndividuals-clause-satisfied
@@ -190,7 +190,7 @@ returns-in-SameIndividuals-clause-satisfied c =
     let o = c.args.ontology.now in
     let l = listed_of c.args.listed.now in
     let xs = ind_numbers c.in-SameIndividuals.individuals.items in
-    let of : AreOperands (length o.names.individuals) xs = absurd (rw c.in-SameIndividuals.is at c.requires.of) in
+    let of : AreOperands (length o.names.individuals) xs = rw c.in-SameIndividuals.is at c.requires.of in
     let said = same_individuals_said o c.well_formed-2.ensures l c.requires.listed xs of.within in
     let e = rw (c.deref-in-SameIndividuals.ensures.value, c.deref-in-SameIndividuals-2.ensures.value) at c.have_one_element.ensures in
     rw c.in-SameIndividuals.is (λ t. said.0 (e.0 t), λ q. e.1 (said.1 q))
@@ -198,7 +198,7 @@ returns-in-SameIndividuals-clause-satisfied c =
 pub have_own_elements-requires-clause-there : goal.have_own_elements-requires-clause-there
 have_own_elements-requires-clause-there c =
     let xs = ind_numbers c.in-DifferentIndividuals.individuals.items in
-    let of : AreOperands (length c.args.ontology.now.names.individuals) xs = absurd (rw c.in-DifferentIndividuals.is at c.requires.of) in
+    let of : AreOperands (length c.args.ontology.now.names.individuals) xs = rw c.in-DifferentIndividuals.is at c.requires.of in
     rw (c.deref-in-DifferentIndividuals.ensures.value, c.deref-in-DifferentIndividuals-2.ensures.value, c.requires.listed.individuals_each) of.within
 
 pub have_own_elements-requires-clause-room : goal.have_own_elements-requires-clause-room
@@ -209,7 +209,7 @@ returns-in-DifferentIndividuals-clause-satisfied c =
     let o = c.args.ontology.now in
     let l = listed_of c.args.listed.now in
     let xs = ind_numbers c.in-DifferentIndividuals.individuals.items in
-    let of : AreOperands (length o.names.individuals) xs = absurd (rw c.in-DifferentIndividuals.is at c.requires.of) in
+    let of : AreOperands (length o.names.individuals) xs = rw c.in-DifferentIndividuals.is at c.requires.of in
     let said = different_individuals_said o c.well_formed-2.ensures l c.requires.listed xs of.within in
     let e = rw (c.deref-in-DifferentIndividuals.ensures.value, c.deref-in-DifferentIndividuals-2.ensures.value) at c.have_own_elements.ensures.own in
     rw c.in-DifferentIndividuals.is (λ t. said.0 (e.0 t), λ q. e.1 (said.1 q))
@@ -218,7 +218,7 @@ pub joins-requires-in-NegativePropertyAssertion : goal.joins-requires-in-Negativ
 joins-requires-in-NegativePropertyAssertion c =
     let o = c.args.ontology.now in
     let p = c.in-NegativePropertyAssertion in
-    let of : (p.property.0 < length o.names.properties) × (p.source.0 < length o.names.individuals) × (p.target.0 < length o.names.individuals) = absurd (rw p.is at c.requires.of) in
+    let of : (p.property.0 < length o.names.properties) × (p.source.0 < length o.names.individuals) × (p.target.0 < length o.names.individuals) = rw p.is at c.requires.of in
     record {
       rows = pair_rows_given o c.args.listed.now c.requires.listed;
       source = rw c.requires.listed.individuals_each of.1;
@@ -230,7 +230,7 @@ returns-in-NegativePropertyAssertion-clause-satisfied c =
     let o = c.args.ontology.now in
     let l = listed_of c.args.listed.now in
     let p = c.in-NegativePropertyAssertion in
-    let of : (p.property.0 < length o.names.properties) × (p.source.0 < length o.names.individuals) × (p.target.0 < length o.names.individuals) = absurd (rw p.is at c.requires.of) in
+    let of : (p.property.0 < length o.names.properties) × (p.source.0 < length o.names.individuals) × (p.target.0 < length o.names.individuals) = rw p.is at c.requires.of in
     let said = property_assertion_said o c.well_formed-2.ensures l c.requires.listed p.property.0 p.source.0 p.target.0 of.0 of.1 of.2 in
     let joined = c.joins-in-NegativePropertyAssertion in
     let e = joined.ensures in

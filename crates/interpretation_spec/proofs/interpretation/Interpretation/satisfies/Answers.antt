@@ -88,7 +88,7 @@ returns-in-PropertyAssertion c =
 pub have_one_element-requires : goal.have_one_element-requires
 have_one_element-requires c =
     let xs = ind_numbers c.in-SameIndividuals.individuals.items in
-    let of : AreOperands (length c.args.ontology.now.names.individuals) xs = absurd (rw c.in-SameIndividuals.is at c.requires.of) in
+    let of : AreOperands (length c.args.ontology.now.names.individuals) xs = rw c.in-SameIndividuals.is at c.requires.of in
     rw (c.deref-in-SameIndividuals.ensures.value, c.requires.made_for.individuals) of.within
 
 pub returns-in-SameIndividuals : goal.returns-in-SameIndividuals
@@ -96,7 +96,7 @@ returns-in-SameIndividuals c =
     let o = c.args.ontology.now in
     let whole = c.well_formed-3.ensures in
     let xs = ind_numbers c.in-SameIndividuals.individuals.items in
-    let of : AreOperands (length o.names.individuals) xs = absurd (rw c.in-SameIndividuals.is at c.requires.of) in
+    let of : AreOperands (length o.names.individuals) xs = rw c.in-SameIndividuals.is at c.requires.of in
     let said = same_individuals_said o c.well_formed-2.ensures c.args.self.now whole xs of.within in
     let e = rw c.deref-in-SameIndividuals.ensures.value at c.have_one_element.ensures in
     rw c.in-SameIndividuals.is (λ t. said.0 (e.0 t), λ q. e.1 (said.1 q))
@@ -104,7 +104,7 @@ returns-in-SameIndividuals c =
 pub have_own_elements-requires : goal.have_own_elements-requires
 have_own_elements-requires c =
     let xs = ind_numbers c.in-DifferentIndividuals.individuals.items in
-    let of : AreOperands (length c.args.ontology.now.names.individuals) xs = absurd (rw c.in-DifferentIndividuals.is at c.requires.of) in
+    let of : AreOperands (length c.args.ontology.now.names.individuals) xs = rw c.in-DifferentIndividuals.is at c.requires.of in
     rw (c.deref-in-DifferentIndividuals.ensures.value, c.requires.made_for.individuals) of.within
 
 pub returns-in-DifferentIndividuals : goal.returns-in-DifferentIndividuals
@@ -112,7 +112,7 @@ returns-in-DifferentIndividuals c =
     let o = c.args.ontology.now in
     let whole = c.well_formed-3.ensures in
     let xs = ind_numbers c.in-DifferentIndividuals.individuals.items in
-    let of : AreOperands (length o.names.individuals) xs = absurd (rw c.in-DifferentIndividuals.is at c.requires.of) in
+    let of : AreOperands (length o.names.individuals) xs = rw c.in-DifferentIndividuals.is at c.requires.of in
     let said = different_individuals_said o c.well_formed-2.ensures c.args.self.now whole xs of.within in
     rw c.in-DifferentIndividuals.is (said_by said c.have_own_elements.result (rw c.deref-in-DifferentIndividuals.ensures.value at c.have_own_elements.ensures))
 
@@ -120,7 +120,7 @@ pub joins-requires-in-NegativePropertyAssertion : goal.joins-requires-in-Negativ
 joins-requires-in-NegativePropertyAssertion c =
     let o = c.args.ontology.now in
     let p = c.in-NegativePropertyAssertion in
-    let of : (p.property.0 < length o.names.properties) × (p.source.0 < length o.names.individuals) × (p.target.0 < length o.names.individuals) = absurd (rw p.is at c.requires.of) in
+    let of : (p.property.0 < length o.names.properties) × (p.source.0 < length o.names.individuals) × (p.target.0 < length o.names.individuals) = rw p.is at c.requires.of in
     record {
       property_there = rw c.requires.made_for.properties of.0;
       source_there = rw c.requires.made_for.individuals of.1;
@@ -132,7 +132,7 @@ returns-in-NegativePropertyAssertion c =
     let o = c.args.ontology.now in
     let whole = c.well_formed-3.ensures in
     let p = c.in-NegativePropertyAssertion in
-    let of : (p.property.0 < length o.names.properties) × (p.source.0 < length o.names.individuals) × (p.target.0 < length o.names.individuals) = absurd (rw p.is at c.requires.of) in
+    let of : (p.property.0 < length o.names.properties) × (p.source.0 < length o.names.individuals) × (p.target.0 < length o.names.individuals) = rw p.is at c.requires.of in
     let said = property_assertion_said o c.well_formed-2.ensures c.args.self.now whole p.property.0 p.source.0 p.target.0 of.0 of.1 of.2 in
     let joined = c.joins-in-NegativePropertyAssertion in
     let e = joined.ensures in
