@@ -1,5 +1,5 @@
 -- In an ontology no operand stands twice.
-use Rattle.std.proofs.Common.{◌≡◌, ℕ, List, length, slice_get, Some, subst}
+use Rattle.std.proofs.Common.{◌≡◌, ℕ, List, slice_get, Some, subst}
 use Rattle.std.proofs.lemmas.List.Elements.{All-contains}
 use Rattle.lemmas.proofs.Members.{Contains-from_slice_get}
 use Rattle.axioms.specs.Ontology.{Ontology, Axiom, Node, Class, And, Exists, SubClass, EquivalentClasses, DisjointClasses, SubProperty, EquivalentProperties, Domain, Transitive, Reflexive, ClassAssertion, PropertyAssertion, SameIndividuals, DifferentIndividuals, NegativePropertyAssertion}
