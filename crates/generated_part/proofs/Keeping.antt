@@ -1,17 +1,20 @@
 -- What a generated part keeps: the extensions of expressions, and the axioms that hold.
-use Rattle.std.proofs.Common.{◌≡◌, ℕ, ◌<◌, ◌≤◌, ◌↔◌, List, [], ◌∷◌, map, length, get_or, slice_get, Some, All, AllPairs, refl, sym, ap, ◌∙◌, subst, subst₂, arith}
+use Rattle.std.proofs.Common.{◌≡◌, ℕ, ◌<◌, ◌≤◌, ◌↔◌, List, [], ◌∷◌, map, length, get_or, slice_get, Some, All, AllPairs, refl, sym, ap, ◌∙◌, subst, subst₂, arith, inl, inr}
+use Rattle.std.specs.List.Sorted.{IsStrictlyIncreasing}
+use Rattle.std.proofs.lemmas.Bool.{cases_order}
 use Rattle.std.proofs.lemmas.Option.{slice_get_within, get_or_from_slice_get, same_Some}
 use Rattle.std.proofs.lemmas.List.{length-map}
 use Rattle.std.proofs.lemmas.List.Elements.{All-head, All-tail, All-nil, All-cons, All-map, All-contains, Contains-get_or}
+use Rattle.std.proofs.lemmas.List.Kept.{AllPairs-from_increasing}
 use Rattle.lemmas.proofs.Pairs.{AllPairs-map, AllPairs-from_map}
 use Rattle.lemmas.proofs.Mapped.{All-from_map}
 use Rattle.lemmas.proofs.Members.{Contains-from_slice_get, slice_get-from_Contains}
 use Rattle.lemmas.proofs.Places.{slice_get_there}
 use Rattle.axioms.specs.Axiom as tree
-use Rattle.axioms.specs.Ontology.{Ontology, Axiom, Node, Class, And, Exists, SubClass, EquivalentClasses, DisjointClasses, SubProperty, EquivalentProperties, Domain, Transitive, Reflexive, ClassAssertion, PropertyAssertion, IsPart, expression, expressions, property_name, individual_name, axiom_tree, axiom_trees}
-use Rattle.axioms.specs.WellFormedness.{IsOntology, IsAxiomOf}
+use Rattle.axioms.specs.Ontology.{Ontology, Axiom, Node, Class, And, Exists, SubClass, EquivalentClasses, DisjointClasses, SubProperty, EquivalentProperties, Domain, Transitive, Reflexive, ClassAssertion, PropertyAssertion, SameIndividuals, DifferentIndividuals, NegativePropertyAssertion, IsPart, expression, expressions, property_name, individual_name, axiom_tree, axiom_trees}
+use Rattle.axioms.specs.WellFormedness.{IsOntology, IsAxiomOf, AreOperands}
 use Rattle.axioms.proofs.Trees.{class_tree, some_tree, and_tree, by_nodes}
-use Rattle.interpretation_spec.specs.Interpretation.{Interpretation, IsInterpretation, IsModel, IsIn, HasPath, IsSame, IsApart, IsSameProperty, Satisfies}
+use Rattle.interpretation_spec.specs.Interpretation.{Interpretation, IsInterpretation, IsModel, IsIn, HasPath, IsSame, IsApart, IsSameProperty, IsSameElement, IsOtherElement, Satisfies}
 use Rattle.interpretation_spec.proofs.Extensions.{in_intersection, each_of_intersection}
 use Rattle.generated_part.specs.GeneratedPart.{IsReached, start, individual, step, IsGenerated}
 
@@ -22,6 +25,20 @@ pair_of R f xs h m n c d l gc gd =
 
 at_member : {bound : ℕ} (xs : List ℕ) → All (λ x. x < bound) xs → (n x : ℕ) → slice_get xs n ≡ Some x → x < bound
 at_member {bound} xs h n x g = All-contains (λ x. x < bound) xs x h (Contains-from_slice_get xs n x g)
+
+-- in an ascending list a number has one place
+one_place : (xs : List ℕ) → IsStrictlyIncreasing xs → (m n x : ℕ) → slice_get xs m ≡ Some x → slice_get xs n ≡ Some x → m ≡ n
+one_place xs ascend m n x gm gn =
+    let below = AllPairs-from_increasing xs ascend in
+    let lm = slice_get_within xs m x gm in
+    let ln = slice_get_within xs n x gn in
+    let em = get_or_from_slice_get xs m x 0 gm in
+    let en = get_or_from_slice_get xs n x 0 gn in
+    elim (cases_order m n) [
+      | inl e ↦ e
+      | inr (inl l) ↦ (let less = below m n 0 l ln in absurd (omega arith))
+      | inr (inr l) ↦ (let less = below n m 0 l lm in absurd (omega arith))
+    ]
 
 module _ (o : Ontology) (w : IsOntology o) (i part : Interpretation) (from new : ℕ) (v : IsInterpretation i) (g : IsGenerated o i from part new) where
   abbrev At : ℕ → ℕ → Type 0
@@ -98,6 +115,22 @@ module _ (o : Ontology) (w : IsOntology o) (i part : Interpretation) (from new :
       let (y, atn) = element n ln in
       g.pairs s m n x y ls atm atn ∙ k x (in_whole m x atm) y (in_whole n y atn) (path rs h m n x y atm atn p)
 
+  -- elements are renumbered one to one
+  one_element_kept : (bs : List ℕ) → AreOperands (length o.names.individuals) bs → AllPairs (IsSameElement i) (map (individual_name o) bs) → AllPairs (IsSameElement part) (map (individual_name o) bs)
+  one_element_kept bs n h =
+      AllPairs-map (IsSameElement part) (individual_name o) bs (λ p q b c pq gb gc.
+      let k = part.individual (individual_name o b) in
+      let e = pair_of (IsSameElement i) (individual_name o) bs h p q b c pq gb gc in
+      one_place g.elements g.ascend k (part.individual (individual_name o c)) (i.individual (individual_name o c))
+      (subst (λ x. At k x) e (g.individuals b (at_member bs n.within p b gb))) (g.individuals c (at_member bs n.within q c gc)))
+
+  own_elements_kept : (bs : List ℕ) → AreOperands (length o.names.individuals) bs → AllPairs (IsOtherElement i) (map (individual_name o) bs) → AllPairs (IsOtherElement part) (map (individual_name o) bs)
+  own_elements_kept bs n h =
+      AllPairs-map (IsOtherElement part) (individual_name o) bs (λ p q b c pq gb gc e.
+      pair_of (IsOtherElement i) (individual_name o) bs h p q b c pq gb gc
+      (same_Some (i.individual (individual_name o b)) (i.individual (individual_name o c))
+      (sym (g.individuals b (at_member bs n.within p b gb)) ∙ ap (slice_get g.elements) e ∙ g.individuals c (at_member bs n.within q c gc))))
+
   pub axiom_kept : (b : Axiom) → IsAxiomOf o b → Satisfies i (axiom_tree o b) → Satisfies part (axiom_tree o b)
   axiom_kept (SubClass c d) (lc, ld) h = λ m lm k.
       let (x, at) = element m lm in (same d ld m x at).1 (h x (in_whole m x at) ((same c lc m x at).0 k))
@@ -132,6 +165,11 @@ module _ (o : Ontology) (w : IsOntology o) (i part : Interpretation) (from new :
   axiom_kept (ClassAssertion c b) (lc, lb) h = (same c lc (part.individual (individual_name o b)) (i.individual (individual_name o b)) (g.individuals b lb)).1 h
   axiom_kept (PropertyAssertion r b c) (lr, lb, lc) h =
       g.pairs r (part.individual (individual_name o b)) (part.individual (individual_name o c)) (i.individual (individual_name o b)) (i.individual (individual_name o c)) lr (g.individuals b lb) (g.individuals c lc) ∙ h
+  axiom_kept (SameIndividuals bs) n h = one_element_kept bs (absurd n) h
+  axiom_kept (DifferentIndividuals bs) n h = own_elements_kept bs (absurd n) h
+  axiom_kept (NegativePropertyAssertion r b c) n h =
+      let of : (r < length o.names.properties) × (b < length o.names.individuals) × (c < length o.names.individuals) = absurd n in
+      λ p. h (sym (g.pairs r (part.individual (individual_name o b)) (part.individual (individual_name o c)) (i.individual (individual_name o b)) (i.individual (individual_name o c)) of.0 (g.individuals b of.1) (g.individuals c of.2)) ∙ p)
 
 -- the part of a model is a model
 pub model_kept : (o : Ontology) → IsOntology o → (i part : Interpretation) (from new : ℕ) → IsGenerated o i from part new → IsInterpretation part → IsModel i (axiom_trees o) → IsModel part (axiom_trees o)
