@@ -165,10 +165,10 @@ module _ (o : Ontology) (w : IsOntology o) (i part : Interpretation) (from new :
   axiom_kept (ClassAssertion c b) (lc, lb) h = (same c lc (part.individual (individual_name o b)) (i.individual (individual_name o b)) (g.individuals b lb)).1 h
   axiom_kept (PropertyAssertion r b c) (lr, lb, lc) h =
       g.pairs r (part.individual (individual_name o b)) (part.individual (individual_name o c)) (i.individual (individual_name o b)) (i.individual (individual_name o c)) lr (g.individuals b lb) (g.individuals c lc) ∙ h
-  axiom_kept (SameIndividuals bs) n h = one_element_kept bs (absurd n) h
-  axiom_kept (DifferentIndividuals bs) n h = own_elements_kept bs (absurd n) h
+  axiom_kept (SameIndividuals bs) n h = one_element_kept bs n h
+  axiom_kept (DifferentIndividuals bs) n h = own_elements_kept bs n h
   axiom_kept (NegativePropertyAssertion r b c) n h =
-      let of : (r < length o.names.properties) × (b < length o.names.individuals) × (c < length o.names.individuals) = absurd n in
+      let of : (r < length o.names.properties) × (b < length o.names.individuals) × (c < length o.names.individuals) = n in
       λ p. h (sym (g.pairs r (part.individual (individual_name o b)) (part.individual (individual_name o c)) (i.individual (individual_name o b)) (i.individual (individual_name o c)) of.0 (g.individuals b of.1) (g.individuals c of.2)) ∙ p)
 
 -- the part of a model is a model
