@@ -167,8 +167,7 @@ module _ (o : Ontology) (w : IsOntology o) (i part : Interpretation) (from new :
       g.pairs r (part.individual (individual_name o b)) (part.individual (individual_name o c)) (i.individual (individual_name o b)) (i.individual (individual_name o c)) lr (g.individuals b lb) (g.individuals c lc) ∙ h
   axiom_kept (SameIndividuals bs) n h = one_element_kept bs n h
   axiom_kept (DifferentIndividuals bs) n h = own_elements_kept bs n h
-  axiom_kept (NegativePropertyAssertion r b c) n h =
-      let of : (r < length o.names.properties) × (b < length o.names.individuals) × (c < length o.names.individuals) = n in
+  axiom_kept (NegativePropertyAssertion r b c) of h =
       λ p. h (sym (g.pairs r (part.individual (individual_name o b)) (part.individual (individual_name o c)) (i.individual (individual_name o b)) (i.individual (individual_name o c)) of.0 (g.individuals b of.1) (g.individuals c of.2)) ∙ p)
 
 -- the part of a model is a model
