@@ -8,12 +8,13 @@ use Rattle.normal_forms.specs.declared.forms.Form.{Form}
 use Rattle.facts.specs.declared.contexts.Context.{Context}
 use Rattle.facts.specs.declared.contexts.Context.TheVariants.{Expr}
 use Rattle.facts.specs.declared.contexts.Fact.{Fact}
-use Rattle.facts.specs.Closure.{Problem, IsContextBy, IsLoop, in_thing, in_itself, by_form, unsatisfiable, loop}
+use Rattle.facts.specs.Closure.{Problem, IsContextBy, IsLoop, in_thing, in_itself, by_form, unsatisfiable, loop, handed_on, different}
 use Rattle.inference.specs.declared.rules.Rules.{Rules}
 use Rattle.inference.specs.Derivations.{Keeps, Derived, Grows}
 use Rattle.inference.specs.Draws.{Draws}
 use Rattle.inference.specs.Visits.{AreWithin}
 use Rattle.inference.specs.Entry.{LoopIsDrawn}
+use Rattle.inference.specs.Sameness.{AreDifferencesDrawn, IsHandedOn}
 use Rattle.inference.specs.Completeness.{AreAt, AreConcluded, IsContextAt, AllDrawn, DrawnAt, ForEach, IsEntered, Drawn, MeetEachOther, AreMet, AreMetBefore}
 use Rattle.inference.proofs.Growth.{there_still}
 use Rattle.inference.proofs.Redundancy.{up_to_redundancy_still}
@@ -66,13 +67,23 @@ all_still s D forms all form there f d = there_still s f (all form there f d)
 pub concluded_still : {k : Problem} {most : ℕ} {a b : Derived} → Grows k most a b → (older : List Fact) → AreConcluded k older a.facts → AreConcluded k older b.facts
 concluded_still s older all = record { forms = all_still s _ _ all.forms; back = λ f b. there_still s f (all.back f b) }
 
--- what the forms give, owl:Nothing carried back, and what is in each context are all that facts give
-pub drawn : (k : Problem) (older facts : List Fact) → AreConcluded k older facts → ((x : Context) → IsContextBy k older x → IsEntered k x facts) → Drawn k older facts
-drawn k older facts all enter _ _ _ (in_thing {x = x} c) = (enter x c).top
-drawn k older facts all enter _ _ _ (in_itself {e = e} c) = (enter (Expr e) c).itself e refl
-drawn k older facts all enter _ _ _ (by_form {f = f} n form at gives) = all.forms form (Contains-from_slice_get k.forms n form at) f gives
-drawn k older facts all enter _ _ _ (unsatisfiable {f = f} b) = all.back f b
-drawn k older facts all enter _ _ _ (loop {f = f} x n form at l c) = (enter x c).loops form (Contains-from_slice_get k.forms n form at) f l
+-- what the forms give, owl:Nothing carried back, what is in each context, and what there is of individuals that are one are all that facts give
+pub drawn : (k : Problem) (older facts : List Fact) → AreConcluded k older facts → ((x : Context) → IsContextBy k older x → IsEntered k x facts)
+    → ((g : Fact) → older ≡ g ∷ [] → IsHandedOn k g facts) → (older ≡ [] → AreDifferencesDrawn k facts) → Drawn k older facts
+drawn k older facts all enter hand differ _ _ _ (in_thing {x = x} c) = (enter x c).top
+drawn k older facts all enter hand differ _ _ _ (in_itself {e = e} c) = (enter (Expr e) c).itself e refl
+drawn k older facts all enter hand differ _ _ _ (by_form {f = f} n form at gives) = all.forms form (Contains-from_slice_get k.forms n form at) f gives
+drawn k older facts all enter hand differ _ _ _ (unsatisfiable {f = f} b) = all.back f b
+drawn k older facts all enter hand differ _ _ _ (loop {f = f} x n form at l c) = (enter x c).loops form (Contains-from_slice_get k.forms n form at) f l
+drawn k _ facts all enter hand differ _ _ _ (handed_on {g = g} {f = f} n form at h) = hand g refl form (Contains-from_slice_get k.forms n form at) f h
+drawn k _ facts all enter hand differ _ _ _ (different n a b at same) = differ refl n a b at same
+
+-- one fact is no other
+pub one_in_hand : (P : Fact → Type 0) (f g : Fact) → f ∷ [] ≡ g ∷ [] → P f → P g
+one_in_hand P f g e p = let same : f ≡ g = cc in subst P same p
+
+pub differences_still : {k : Problem} {most : ℕ} {a b : Derived} → Grows k most a b → AreDifferencesDrawn k a.facts → AreDifferencesDrawn k b.facts
+differences_still s drawn n a b at same = there_still s _ (drawn n a b at same)
 
 pub drawn_still : {k : Problem} {most : ℕ} {a b : Derived} → Grows k most a b → (older : List Fact) → Drawn k older a.facts → Drawn k older b.facts
 drawn_still s older drawn condition form f gives = there_still s f (drawn condition form f gives)

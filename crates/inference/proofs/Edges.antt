@@ -1,19 +1,20 @@
 -- The property of an edge is one that a form puts there.
-use Rattle.std.proofs.Common.{◌≡◌, ℕ, List, [], ◌∷◌, slice_get, Some, Option, refl, subst, arith}
+use Rattle.std.proofs.Common.{◌≡◌, ℕ, zero, suc, ◌+◌, ◌<◌, List, [], ◌∷◌, map, take, slice_get, Some, Option, refl, ap, ◌∙◌, subst, arith}
 use Rattle.std.proofs.lemmas.Option.{none-some, same_Some, slice_get_within}
 use Rattle.normal_forms.specs.declared.forms.PropId2.{PropId2}
 use Rattle.normal_forms.specs.declared.forms.Form.{Form}
-use Rattle.normal_forms.specs.declared.forms.Form.TheVariants.{N1, N2, N3, N4, N5, N6, N7, N8, N9}
+use Rattle.normal_forms.specs.declared.forms.Form.TheVariants.{N1, N2, N3, N4, N5, N6, N7, N8, N9, N10, N11, N12}
 use Rattle.facts.specs.declared.contexts.Context.{Context}
+use Rattle.facts.specs.declared.contexts.Context.TheVariants.{Individual}
 use Rattle.facts.specs.declared.contexts.Fact.{Fact}
 use Rattle.facts.specs.declared.contexts.Fact.TheVariants.{In, Edge}
-use Rattle.facts.specs.Closure.{Problem, FromNone, FromOne, FromTwo, Concludes, Carries, CarriesBack, IsLoop, Gives, in_thing, in_itself, by_form, unsatisfiable, loop}
+use Rattle.facts.specs.Closure.{Problem, FromNone, FromOne, FromTwo, Concludes, Carries, CarriesBack, HandsOn, class, source, target, IsLoop, Gives, in_thing, in_itself, by_form, unsatisfiable, loop, handed_on, different}
 use Rattle.property_closure.specs.PropertyClosures.{Known, Has}
 use Rattle.inference.specs.PropertyClosures.{PutsOnEdges, IsClosureOf}
 use Rattle.inference.specs.Derivations.{Derived, IsDerived}
 use Rattle.inference.specs.Completeness.{AreAt}
 use Rattle.inference.specs.Visits.{chained_property, HasProperty, IsBy}
-use Rattle.inference.proofs.Lists.{Contains-from_slice_get, slice_get_there}
+use Rattle.inference.proofs.Lists.{Contains-from_slice_get, slice_get_there, slice_get_take}
 
 -- the property of the fact, where it is an edge, is one that the form puts there
 abbrev pub IsPutBy : Form → Fact → Type 0
@@ -25,6 +26,9 @@ none (N8 i a) (In _ _) w = tt
 none (N8 i a) (Edge x r y) w = absurd (cc)
 none (N9 i r j) (In _ _) w = tt
 none (N9 i r j) (Edge x p y) w = cc
+none (N10 _ _) f w = absurd w
+none (N11 _ _) f w = absurd w
+none (N12 _ _ _) f w = absurd w
 none (N1 _ _) f w = absurd w
 none (N2 _ _ _) f w = absurd w
 none (N3 _ _ _) f w = absurd w
@@ -33,20 +37,25 @@ none (N5 _ _) f w = absurd w
 none (N6 _ _ _) f w = absurd w
 none (N7 _) f w = absurd w
 
-one : (form : Form) (g f : Fact) → FromOne form g f → IsPutBy form f
-one (N1 a b) (In c x) (In _ _) w = tt
-one (N1 a b) (In c x) (Edge y p z) w = let e = w.1 in absurd (cc)
-one (N1 a b) (Edge _ _ _) f w = absurd w
-one (N3 a r b) (In c x) (In _ _) w = tt
-one (N3 a r b) (In c x) (Edge y p z) w = let e = w.1 in cc
-one (N3 a r b) (Edge _ _ _) f w = absurd w
-one (N2 _ _ _) g f w = absurd w
-one (N4 _ _ _) g f w = absurd w
-one (N5 _ _) g f w = absurd w
-one (N6 _ _ _) g f w = absurd w
-one (N7 _) g f w = absurd w
-one (N8 _ _) g f w = absurd w
-one (N9 _ _ _) g f w = absurd w
+one : (k : Problem) (form : Form) (g f : Fact) → FromOne k form g f → IsPutBy form f
+one k (N1 a b) (In c x) (In _ _) w = tt
+one k (N1 a b) (In c x) (Edge y p z) w = let e = w.1 in absurd (cc)
+one k (N1 a b) (Edge _ _ _) f w = absurd w
+one k (N3 a r b) (In c x) (In _ _) w = tt
+one k (N3 a r b) (In c x) (Edge y p z) w = let e = w.1 in cc
+one k (N3 a r b) (Edge _ _ _) f w = absurd w
+one k (N2 _ _ _) g f w = absurd w
+one k (N4 _ _ _) g f w = absurd w
+one k (N5 _ _) g f w = absurd w
+one k (N6 _ _ _) g f w = absurd w
+one k (N7 _) g f w = absurd w
+one k (N8 _ _) g f w = absurd w
+one k (N9 _ _ _) g f w = absurd w
+one k (N10 _ _) g f w = absurd w
+one k (N11 _ _) g f w = absurd w
+one k (N12 a r b) (Edge x q y) (In _ _) w = tt
+one k (N12 a r b) (Edge x q y) (Edge u p v) w = let e = w.3 in absurd (cc)
+one k (N12 a r b) (In _ _) f w = absurd w
 
 two : (k : Problem) (form : Form) (g h f : Fact) → FromTwo k form g h f → IsPutBy form f
 two k (N2 a b c) (In d x) (In e y) (In _ _) w = tt
@@ -67,10 +76,13 @@ two k (N5 _ _) g h f w = absurd w
 two k (N7 _) g h f w = absurd w
 two k (N8 _ _) g h f w = absurd w
 two k (N9 _ _ _) g h f w = absurd w
+two k (N10 _ _) g h f w = absurd w
+two k (N11 _ _) g h f w = absurd w
+two k (N12 _ _ _) g h f w = absurd w
 
 concludes : (k : Problem) (form : Form) (older : List Fact) (f : Fact) → Concludes k form older f → IsPutBy form f
 concludes k form [] f w = none form f w
-concludes k form (g ∷ []) f w = one form g f w
+concludes k form (g ∷ []) f w = one k form g f w
 concludes k form (g ∷ h ∷ []) f w = two k form g h f w
 concludes k form (g ∷ h ∷ i ∷ more) f w = absurd w
 
@@ -96,6 +108,20 @@ loops z (N5 _ _) f w = absurd w
 loops z (N6 _ _ _) f w = absurd w
 loops z (N8 _ _) f w = absurd w
 loops z (N9 _ _ _) f w = absurd w
+loops z (N10 _ _) f w = absurd w
+loops z (N11 _ _) f w = absurd w
+loops z (N12 _ _ _) f w = absurd w
+
+-- what is handed on keeps its property
+hands : {form : Form} {g f : Fact} → HandsOn form g f → (x : Context) (r : PropId2) (y : Context) → f ≡ Edge x r y → (u v : Context) × (g ≡ Edge u r v)
+hands (class link) x r y e = absurd (cc)
+hands (source {i = i} {r = p} {y = v} link) x r y e = let same : p ≡ r = cc in (Individual i, v, ap (λ (q : PropId2). Edge (Individual i) q v) same)
+hands (target {i = i} {r = p} {x = u} link) x r y e = let same : p ≡ r = cc in (u, Individual i, ap (λ (q : PropId2). Edge u q (Individual i)) same)
+
+-- the place of a fact that alone is older
+one_older : (facts : List Fact) (n : ℕ) (numbers : List ℕ) (g : Fact) → map (slice_get (take n facts)) numbers ≡ Some g ∷ [] → (m : ℕ) × (m < n) × (slice_get facts m ≡ Some g)
+one_older facts n [] g e = absurd (cc)
+one_older facts n (m ∷ ms) g e = let at : slice_get (take n facts) m ≡ Some g = cc in let w = slice_get_take n facts m g at in (m, w.0, w.1)
 
 module _ (k : Problem) {closure : Known} (closed : IsClosureOf k.forms closure) where
   at_edge : (n : ℕ) (form : Form) (f : Fact) → slice_get k.forms n ≡ Some form → IsPutBy form f → (x : Context) (r : PropId2) (y : Context) → f ≡ Edge x r y → Has closure r
@@ -104,17 +130,28 @@ module _ (k : Problem) {closure : Known} (closed : IsClosureOf k.forms closure) 
       let same : p ≡ r = cc in
       subst (Has closure) same (closed.has form (Contains-from_slice_get k.forms n form at) p put)
 
-  given : {c : ℕ} {o : Option ℕ} {older : List Fact} {f : Fact} → Gives k c o older f → (x : Context) (r : PropId2) (y : Context) → f ≡ Edge x r y → Has closure r
-  given (in_thing c) x r y e = absurd (cc)
-  given (in_itself c) x r y e = absurd (cc)
-  given {older = older} {f = f} (by_form n form at gives) x r y e = at_edge n form f at (concludes k form older f gives) x r y e
-  given {older = older} {f = f} (unsatisfiable b) x r y e = absurd (back older f b x r y e)
-  given {f = f} (loop z n form at l c) x r y e = at_edge n form f at (loops z form f l) x r y e
+  given : {c : ℕ} {o : Option ℕ} {older : List Fact} {f : Fact} → Gives k c o older f
+      → ((g : Fact) → older ≡ g ∷ [] → (x : Context) (r : PropId2) (y : Context) → g ≡ Edge x r y → Has closure r) → (x : Context) (r : PropId2) (y : Context) → f ≡ Edge x r y → Has closure r
+  given (in_thing c) before x r y e = absurd (cc)
+  given (in_itself c) before x r y e = absurd (cc)
+  given {older = older} {f = f} (by_form n form at gives) before x r y e = at_edge n form f at (concludes k form older f gives) x r y e
+  given {older = older} {f = f} (unsatisfiable b) before x r y e = absurd (back older f b x r y e)
+  given {f = f} (loop z n form at l c) before x r y e = at_edge n form f at (loops z form f l) x r y e
+  given (handed_on {g = g} n form at h) before x r y e = let w = hands h x r y e in before g refl w.0 r w.1 w.2
+  given (different n a b at same) before x r y e = absurd (cc)
+
+  edge_below : {d : Derived} → IsDerived k d → (bound n : ℕ) (f : Fact) → n < bound → slice_get d.facts n ≡ Some f → (x : Context) (r : PropId2) (y : Context) → f ≡ Edge x r y → Has closure r
+  edge_below {d} s zero n f low at x r y e = absurd (omega arith)
+  edge_below {d} s (suc bound) n f low at x r y e =
+      let q = slice_get_there d.births n (omega (arith, s.long, slice_get_within d.facts n f at)) in
+      let b = s.born n f q.0 at q.1 in
+      given b.2
+      (λ g is u p v h. (let w = one_older d.facts n q.0.older g (b.1 ∙ ap (map Some) is) in
+      edge_below s bound w.0 g (omega (arith, w.1, low)) w.2 u p v h))
+      x r y e
 
   pub first_edge : {d : Derived} → IsDerived k d → (n : ℕ) (f : Fact) → slice_get d.facts n ≡ Some f → (x : Context) (r : PropId2) (y : Context) → f ≡ Edge x r y → Has closure r
-  first_edge {d} s n f at x r y e =
-      let q = slice_get_there d.births n (omega (arith, s.long, slice_get_within d.facts n f at)) in
-      given (s.born n f q.0 at q.1).2 x r y e
+  first_edge s n f at x r y e = edge_below s (n + 1) n f (omega arith) at x r y e
 
   -- so the property of the first of two edges is there
   pub edge_has : {d : Derived} → IsDerived k d → (numbers : List ℕ) (older : List Fact) (p : PropId2) → AreAt d.facts numbers older → chained_property older ≡ Some p → Has closure p

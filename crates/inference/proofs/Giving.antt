@@ -1,7 +1,7 @@
 -- Facts that give nothing with one another.
 use Rattle.std.proofs.Common.{◌≡◌, ℕ, [], ◌∷◌, slice_get, Some, refl, sym, ap, subst}
 use Rattle.normal_forms.specs.declared.forms.Form.{Form}
-use Rattle.normal_forms.specs.declared.forms.Form.TheVariants.{N1, N2, N3, N4, N5, N6, N7, N8, N9}
+use Rattle.normal_forms.specs.declared.forms.Form.TheVariants.{N1, N2, N3, N4, N5, N6, N7, N8, N9, N10, N11, N12}
 use Rattle.normal_forms.specs.declared.forms.Class2.{Class2}
 use Rattle.normal_forms.specs.declared.forms.PropId2.{PropId2}
 use Rattle.normal_forms.specs.Properties.{IsAtOrBelow}
@@ -33,6 +33,9 @@ first_operand k (N6 _ _ _) a b x y h w = absurd w
 first_operand k (N7 _) a b x y h w = absurd w
 first_operand k (N8 _ _) a b x y h w = absurd w
 first_operand k (N9 _ _ _) a b x y h w = absurd w
+first_operand k (N10 _ _) a b x y h w = absurd w
+first_operand k (N11 _ _) a b x y h w = absurd w
+first_operand k (N12 _ _ _) a b x y h w = absurd w
 
 pub second_operand : (k : Problem) (form : Form) (a b : Class2) (x y : Context) (h : Fact) → FromTwo k form (In a x) (In b y) h → by_second form ≡ Some (class_key b)
 second_operand k (N1 _ _) a b x y h w = absurd w
@@ -44,6 +47,9 @@ second_operand k (N6 _ _ _) a b x y h w = absurd w
 second_operand k (N7 _) a b x y h w = absurd w
 second_operand k (N8 _ _) a b x y h w = absurd w
 second_operand k (N9 _ _ _) a b x y h w = absurd w
+second_operand k (N10 _ _) a b x y h w = absurd w
+second_operand k (N11 _ _) a b x y h w = absurd w
+second_operand k (N12 _ _ _) a b x y h w = absurd w
 
 -- from an edge and a class at its target, the class as its filler
 filler : (k : Problem) (form : Form) (x y z : Context) (r : PropId2) (c : Class2) (h : Fact) → FromTwo k form (Edge x r y) (In c z) h → by_filler form ≡ Some (class_key c)
@@ -56,6 +62,9 @@ filler k (N6 _ _ _) x y z r c h w = absurd w
 filler k (N7 _) x y z r c h w = absurd w
 filler k (N8 _ _) x y z r c h w = absurd w
 filler k (N9 _ _ _) x y z r c h w = absurd w
+filler k (N10 _ _) x y z r c h w = absurd w
+filler k (N11 _ _) x y z r c h w = absurd w
+filler k (N12 _ _ _) x y z r c h w = absurd w
 
 -- from two edges, a property at or above that of the first
 pub prefix : (k : Problem) (form : Form) (x y z v : Context) (p q : PropId2) (h : Fact) → FromTwo k form (Edge x p y) (Edge z q v) h → (r : PropId2) × IsAtOrBelow k.forms p r × (by_chain form ≡ Some (property_key r))
@@ -68,6 +77,9 @@ prefix k (N6 r s t) x y z v p q h w = (r, w.0, refl)
 prefix k (N7 _) x y z v p q h w = absurd w
 prefix k (N8 _ _) x y z v p q h w = absurd w
 prefix k (N9 _ _ _) x y z v p q h w = absurd w
+prefix k (N10 _ _) x y z v p q h w = absurd w
+prefix k (N11 _ _) x y z v p q h w = absurd w
+prefix k (N12 _ _ _) x y z v p q h w = absurd w
 
 -- from a class and an edge, in this order, none
 no_edge_behind : (k : Problem) (form : Form) (a : Class2) (x y z : Context) (r : PropId2) (h : Fact) → FromTwo k form (In a x) (Edge y r z) h → ⊥
@@ -80,6 +92,9 @@ no_edge_behind k (N6 _ _ _) a x y z r h w = w
 no_edge_behind k (N7 _) a x y z r h w = w
 no_edge_behind k (N8 _ _) a x y z r h w = w
 no_edge_behind k (N9 _ _ _) a x y z r h w = w
+no_edge_behind k (N10 _ _) a x y z r h w = w
+no_edge_behind k (N11 _ _) a x y z r h w = w
+no_edge_behind k (N12 _ _ _) a x y z r h w = w
 
 -- ---- pairs of facts that give nothing
 

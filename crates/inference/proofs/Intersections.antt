@@ -1,7 +1,7 @@
 -- What intersections give from the classes in a context.
 use Rattle.std.proofs.Common.{◌≡◌, ℕ, List, [], ◌∷◌, slice_get, Some, Contains, inl, sym, ap₂, subst}
 use Rattle.normal_forms.specs.declared.forms.Form.{Form}
-use Rattle.normal_forms.specs.declared.forms.Form.TheVariants.{N1, N2, N3, N4, N5, N6, N7, N8, N9}
+use Rattle.normal_forms.specs.declared.forms.Form.TheVariants.{N1, N2, N3, N4, N5, N6, N7, N8, N9, N10, N11, N12}
 use Rattle.normal_forms.specs.declared.forms.Class2.{Class2}
 use Rattle.facts.specs.declared.contexts.Context.{Context}
 use Rattle.facts.specs.declared.contexts.Fact.{Fact}
@@ -26,6 +26,9 @@ intersection k (N6 _ _ _) a b x y h w = absurd w
 intersection k (N7 _) a b x y h w = absurd w
 intersection k (N8 _ _) a b x y h w = absurd w
 intersection k (N9 _ _ _) a b x y h w = absurd w
+intersection k (N10 _ _) a b x y h w = absurd w
+intersection k (N11 _ _) a b x y h w = absurd w
+intersection k (N12 _ _ _) a b x y h w = absurd w
 
 same_first : (a b c p q r : Class2) → N2 a b c ≡ N2 p q r → a ≡ p
 same_first a b c p q r e = cc

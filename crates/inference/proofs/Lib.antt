@@ -2,6 +2,7 @@ pub mod Lists
 pub mod Growth
 pub mod Redundancy
 pub mod Drawing
+pub mod Handing
 pub mod Giving
 pub mod Intersections
 pub mod Visiting

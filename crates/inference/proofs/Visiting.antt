@@ -1,15 +1,17 @@
 -- A form that gives something from facts is listed for them.
-use Rattle.std.proofs.Common.{◌≡◌, ℕ, List, [], ◌∷◌, slice_get, Some, None, Contains, refl, sym, ap}
+use Rattle.std.proofs.Common.{◌≡◌, ℕ, List, [], ◌∷◌, slice_get, Some, None, Contains, refl, sym, ap, ◌∙◌}
+use Rattle.axioms.specs.declared.ids.IndId.{IndId}
 use Rattle.normal_forms.specs.declared.forms.Form.{Form}
-use Rattle.normal_forms.specs.declared.forms.Form.TheVariants.{N1, N2, N3, N4, N5, N6, N7, N8, N9}
+use Rattle.normal_forms.specs.declared.forms.Form.TheVariants.{N1, N2, N3, N4, N5, N6, N7, N8, N9, N10, N11, N12}
 use Rattle.normal_forms.specs.declared.forms.PropId2.{PropId2}
 use Rattle.facts.specs.declared.contexts.Context.{Context}
+use Rattle.facts.specs.declared.contexts.Context.TheVariants.{Individual}
 use Rattle.facts.specs.declared.contexts.Fact.{Fact}
 use Rattle.facts.specs.declared.contexts.Fact.TheVariants.{In, Edge}
 use Rattle.normal_forms.specs.Properties.{IsAtOrBelow}
 use Rattle.facts.specs.Closure.{Problem, FromNone, FromOne, FromTwo, Concludes, IsLoop}
 use Rattle.indexes.specs.declared.keys.Key.TheVariants.{Whole}
-use Rattle.indexes.specs.Keys.{class_key, by_kind, by_alone, by_first, by_second, by_filler, by_chain}
+use Rattle.indexes.specs.Keys.{class_key, individual_key, by_kind, by_alone, by_first, by_second, by_filler, by_chain, by_denied}
 use Rattle.inference.specs.Visits.{chained_property, AllChainsDrawn}
 use Rattle.inference.specs.Completeness.{AreDrawn, AllDrawn, DrawnAt}
 use Rattle.inference.proofs.Lists.{slice_get-from_Contains}
@@ -24,6 +26,9 @@ kind_given (N6 _ _ _) f w = absurd w
 kind_given (N7 _) f w = absurd w
 kind_given (N8 _ _) f w = refl
 kind_given (N9 _ _ _) f w = refl
+kind_given (N10 _ _) f w = absurd w
+kind_given (N11 _ _) f w = absurd w
+kind_given (N12 _ _ _) f w = absurd w
 
 kind_loop : (x : Context) (form : Form) (f : Fact) → IsLoop x form f → by_kind form ≡ Some (Whole 1)
 kind_loop x (N1 _ _) f w = absurd w
@@ -35,24 +40,38 @@ kind_loop x (N6 _ _ _) f w = absurd w
 kind_loop x (N7 _) f w = refl
 kind_loop x (N8 _ _) f w = absurd w
 kind_loop x (N9 _ _ _) f w = absurd w
+kind_loop x (N10 _ _) f w = absurd w
+kind_loop x (N11 _ _) f w = absurd w
+kind_loop x (N12 _ _ _) f w = absurd w
 
 -- the form is listed for the fact
 abbrev pub IsForOne : Form → Fact → Type 0
 IsForOne form (In a x) = by_alone form ≡ Some (class_key a)
-IsForOne form (Edge x r y) = ⊥
+IsForOne form (Edge x r y) = (a : IndId) × (x ≡ Individual a) × (by_denied form ≡ Some (individual_key a))
 
-pub for_one : (form : Form) (g f : Fact) → FromOne form g f → IsForOne form g
-for_one (N1 a b) (In c x) f w = ap (λ d. Some (class_key d)) (sym w.0)
-for_one (N1 a b) (Edge x r y) f w = w
-for_one (N2 _ _ _) g f w = absurd w
-for_one (N3 a r b) (In c x) f w = ap (λ d. Some (class_key d)) (sym w.0)
-for_one (N3 a r b) (Edge x s y) f w = w
-for_one (N4 _ _ _) g f w = absurd w
-for_one (N5 _ _) g f w = absurd w
-for_one (N6 _ _ _) g f w = absurd w
-for_one (N7 _) g f w = absurd w
-for_one (N8 _ _) g f w = absurd w
-for_one (N9 _ _ _) g f w = absurd w
+pub for_one : (k : Problem) (form : Form) (g f : Fact) → FromOne k form g f → IsForOne form g
+for_one k (N1 a b) (In c x) f w = ap (λ d. Some (class_key d)) (sym w.0)
+for_one k (N1 a b) (Edge x r y) f w = absurd w
+for_one k (N2 _ _ _) g f w = absurd w
+for_one k (N3 a r b) (In c x) f w = ap (λ d. Some (class_key d)) (sym w.0)
+for_one k (N3 a r b) (Edge x s y) f w = absurd w
+for_one k (N4 _ _ _) g f w = absurd w
+for_one k (N5 _ _) g f w = absurd w
+for_one k (N6 _ _ _) g f w = absurd w
+for_one k (N7 _) g f w = absurd w
+for_one k (N8 _ _) g f w = absurd w
+for_one k (N9 _ _ _) g f w = absurd w
+for_one k (N10 _ _) g f w = absurd w
+for_one k (N11 _ _) g f w = absurd w
+for_one k (N12 a r b) (Edge x q y) f w = (a, w.0, refl)
+for_one k (N12 a r b) (In c x) f w = absurd w
+
+-- a form for an edge from an individual denies a pair from it
+pub denied_for : (k : Problem) (form : Form) (a : IndId) (r : PropId2) (y : Context) (f : Fact) → FromOne k form (Edge (Individual a) r y) f → by_denied form ≡ Some (individual_key a)
+denied_for k form a r y f w =
+    let p = for_one k form (Edge (Individual a) r y) f w in
+    let same : a ≡ p.0 = cc in
+    p.2 ∙ ap (λ (i : IndId). Some (individual_key i)) (sym same)
 
 -- the form is listed for the two facts, unless it is a chain
 abbrev pub IsForTwo : Form → Fact → Fact → Type 0
@@ -75,6 +94,9 @@ for_two k (N6 _ _ _) g h f none w = absurd (cc)
 for_two k (N7 _) g h f none w = absurd w
 for_two k (N8 _ _) g h f none w = absurd w
 for_two k (N9 _ _ _) g h f none w = absurd w
+for_two k (N10 _ _) g h f none w = absurd w
+for_two k (N11 _ _) g h f none w = absurd w
+for_two k (N12 _ _ _) g h f none w = absurd w
 
 -- a chain gives something from two edges alone, of which the first is at or below its first property
 chain : (k : Problem) (r s t : PropId2) (older : List Fact) (f : Fact) → Concludes k (N6 r s t) older f → (p : PropId2) × (chained_property older ≡ Some p) × IsAtOrBelow k.forms p r
@@ -99,6 +121,9 @@ module _ (k : Problem) (older new : List Fact)
   given (N7 r) n at f w = plain n (N7 r) f at refl w
   given (N8 i a) n at f w = plain n (N8 i a) f at refl w
   given (N9 i r j) n at f w = plain n (N9 i r j) f at refl w
+  given (N10 a b) n at f w = plain n (N10 a b) f at refl w
+  given (N11 a b) n at f w = plain n (N11 a b) f at refl w
+  given (N12 a r b) n at f w = plain n (N12 a r b) f at refl w
 
   pub all_given : AreDrawn k older new
   all_given form there f w = let at = slice_get-from_Contains k.forms form there in given form at.0 at.1 f w

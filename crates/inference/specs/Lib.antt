@@ -5,3 +5,4 @@ pub mod Visits
 pub mod Meetings
 pub mod Entry
 pub mod Draws
+pub mod Sameness

@@ -1,11 +1,14 @@
 //! What a form gives from facts.
 ghost use Rattle.std.specs.Prelude.{◌≡◌, ◌↔◌, Some};
-ghost use Rattle.facts.specs.Closure.{Problem, Concludes, CarriesBack, FromNone, FromOne, FromTwo, Carries, IsLoop, condition};
+ghost use Rattle.axioms.specs.declared.ids.IndId.{IndId as IndId2};
+ghost use Rattle.facts.specs.Closure.{Problem, Concludes, CarriesBack, FromNone, FromOne, FromTwo, Carries, IsLoop, Links, condition};
+ghost use Rattle.facts.specs.declared.contexts.Context.{Context as Context2};
 ghost use Rattle.facts.specs.declared.contexts.Fact.{Fact as Fact2};
 ghost use Rattle.inference.specs.PropertyClosures.{IsClosureOf};
+ghost use Rattle.inference.specs.Sameness.{AreLinked, IsAtSource, IsAtTarget};
 
 use crate::properties::is_below;
-use axioms::ExprId;
+use axioms::{ExprId, IndId};
 use facts::{Context, Fact};
 use normal_forms::{Class2, Form, PropId2};
 use property_closure::PropertyClosure;
@@ -30,6 +33,9 @@ pub(crate) fn condition_of(form: &Form) -> u8
         Form::N7(..) => 10,
         Form::N8(..) => 2,
         Form::N9(..) => 3,
+        Form::N10(..) => 11,
+        Form::N11(..) => 12,
+        Form::N12(..) => 13,
     }
 }
 
@@ -49,14 +55,18 @@ fn from_none(form: &Form) -> Option<Fact>
 }
 
 /// What the form gives from one fact.
-fn from_one(form: &Form, first: Fact) -> Option<Fact>
-    ensures { (f : Fact2) → (result ≡ Some f) ↔ FromOne form.now first f }
+fn from_one(closure: &PropertyClosure, form: &Form, first: Fact) -> Option<Fact>
+    ensures { (k : Problem) (f : Fact2) → IsClosureOf k.forms closure.now → (result ≡ Some f) ↔ FromOne k form.now first f }
 {
     match (*form, first) {
         (Form::N1(a, b), Fact::In(c, x)) if c == a => Some(Fact::In(b, x)),
         (Form::N3(a, r, b), Fact::In(c, x)) if c == a => {
             Some(Fact::Edge(x, PropId2::Property(r), Context::Expr(b)))
         }
+        (Form::N12(a, r, b), Fact::Edge(x, q, y))
+            if x == Context::Individual(a)
+                && y == Context::Individual(b)
+                && is_below(closure, q, PropId2::Property(r)) => { Some(Fact::In(NOTHING, x)) }
         _ => None,
     }
 }
@@ -103,13 +113,55 @@ pub(crate) fn loop_at(context: Context, form: &Form) -> Option<Fact>
     }
 }
 
+/// The other of the two individuals that the form makes one, where this is one of them.
+fn linked_individual(form: &Form, individual: IndId) -> Option<IndId>
+    ensures { (other : IndId2) → (result ≡ Some other) ↔ Links form.now individual other }
+{
+    match *form {
+        Form::N10(a, b) if a == individual => Some(b),
+        Form::N10(a, b) if b == individual => Some(a),
+        _ => None,
+    }
+}
+
+/// The context of the other of two individuals that the form makes one, where this is the context of one of them.
+fn linked(form: &Form, context: Context) -> Option<Context>
+    ensures { (other : Context2) → (result ≡ Some other) ↔ AreLinked form.now context other }
+{
+    let Context::Individual(individual) = context else {
+        return None;
+    };
+    let other = linked_individual(form, individual)?;
+    Some(Context::Individual(other))
+}
+
+/// The fact at the other of two individuals that the form makes one, where it is a class in one of them, or an edge from one.
+pub(crate) fn at_linked_source(form: &Form, fact: Fact) -> Option<Fact>
+    ensures { (f : Fact2) → (result ≡ Some f) ↔ IsAtSource form.now fact f }
+{
+    match fact {
+        Fact::In(class, x) => Some(Fact::In(class, linked(form, x)?)),
+        Fact::Edge(x, property, y) => Some(Fact::Edge(linked(form, x)?, property, y)),
+    }
+}
+
+/// The edge to the other of two individuals that the form makes one, where the fact is an edge to one of them.
+pub(crate) fn at_linked_target(form: &Form, fact: Fact) -> Option<Fact>
+    ensures { (f : Fact2) → (result ≡ Some f) ↔ IsAtTarget form.now fact f }
+{
+    match fact {
+        Fact::In(..) => None,
+        Fact::Edge(x, property, y) => Some(Fact::Edge(x, property, linked(form, y)?)),
+    }
+}
+
 /// What the form gives from the facts, in their order.
 pub(crate) fn conclusion(closure: &PropertyClosure, form: &Form, older: &[Fact]) -> Option<Fact>
     ensures { (k : Problem) (f : Fact2) → IsClosureOf k.forms closure.now → (result ≡ Some f) ↔ Concludes k form.now older.now f }
 {
     match *older {
         [] => from_none(form),
-        [first] => from_one(form, first),
+        [first] => from_one(closure, form, first),
         [first, second] => from_two(closure, form, first, second),
         _ => None,
     }

@@ -6,6 +6,7 @@ mod known_facts;
 mod pairing;
 mod properties;
 mod rules;
+mod sameness;
 mod second_premises;
 mod visits;
 

@@ -7,13 +7,14 @@ ghost use Rattle.property_closure.specs.PropertyClosures.{Has};
 ghost use Rattle.inference.specs.PropertyClosures.{IsClosureOf, IsClosureOf-prop};
 ghost use Rattle.inference.specs.Completeness.{AreAt, IsContextAt, AllDrawn, AreConcluded, DrawnAt, AreDrawnFrom, AreDrawn, IsDrawnFrom, IsEntered, IsInItself, Drawn};
 ghost use Rattle.inference.specs.Visits.{AllChainsDrawn};
+ghost use Rattle.inference.specs.Sameness.{AreGroupsOf, AreGroupsOf-prop};
 ghost use Rattle.inference.specs.Entry.{HasBegun, LoopIsDrawn, LoopsAreDrawn};
 
 use crate::conclusions::{THING, carried_back, conclusion, condition_of, loop_at};
 use crate::known_facts::{KnownFacts, Stop};
 use crate::visits::{chained, visited};
 use facts::{Birth, Context, Fact};
-use indexes::IndexedProblem;
+use indexes::{Groups, IndexedProblem};
 use normal_forms::{Class2, PropId2};
 use property_closure::PropertyClosure;
 
@@ -22,9 +23,12 @@ use property_closure::PropertyClosure;
 pub struct Rules<'a> {
     pub problem: &'a IndexedProblem,
     pub closure: &'a PropertyClosure,
+    pub groups: &'a Groups,
     pub max_facts: u32,
     /// The closure is that of the forms.
     pub ghost closed: { IsClosureOf problem.now.forms closure.now } by { IsClosureOf-prop problem.now.forms closure.now },
+    /// Individuals are one by the forms.
+    pub ghost grouped: { AreGroupsOf problem.now.forms groups.now } by { AreGroupsOf-prop problem.now.forms groups.now },
 }
 
 /// Where no fact may be added: whether the fact is there.
@@ -43,7 +47,7 @@ impl Rules<'_> {
 
     /// Adds a fact, unless it is there, with what gave it: a condition, older facts and a form.
     #[tactic(auto, using(crate::proofs::Growth::grows_same))]
-    fn add(
+    pub(crate) fn add(
         &self,
         facts: &mut KnownFacts,
         fact: Fact,
@@ -231,6 +235,7 @@ impl Rules<'_> {
         ensures { Draws self.now facts.old facts.new result (Drawn self.now.problem.now [] facts.new.facts) }
     {
         self.draw(facts, &[], &[])?;
+        self.draw_different(facts)?;
         for root in self.problem.roots() {
             self.enter(facts, *root, &[])?;
         }
@@ -283,6 +288,7 @@ impl Rules<'_> {
         ensures { Draws self.now facts.old facts.new result (Drawn self.now.problem.now (fact ∷ []) facts.new.facts) }
     {
         self.draw(facts, &[hand], &[fact])?;
+        self.hand_on(facts, hand, fact)?;
         if let Fact::Edge(_, _, target) = fact {
             self.enter(facts, target, &[hand])?;
         }

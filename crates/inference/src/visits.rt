@@ -13,7 +13,7 @@ ghost use Rattle.inference.specs.PropertyClosures.{IsClosureOf};
 ghost use Rattle.inference.specs.Visits.{HaveAllIntersections, HaveAllVisited, IsNotCarried, NoneUnder, chained_pair, chained_property};
 
 use crate::conclusions::NOTHING;
-use facts::Fact;
+use facts::{Context, Fact};
 use indexes::IndexedProblem;
 use normal_forms::{Class2, Form, PropId2};
 use property_closure::PropertyClosure;
@@ -53,10 +53,11 @@ fn operands(problem: &IndexedProblem, first: Class2, second: Class2) -> &[u32]
 
 /// The forms that give something from one fact.
 fn visited_by_one(problem: &IndexedProblem, first: Fact) -> &[u32]
-    ensures { (n : ℕ) (form : Form2) (f : Fact2) → slice_get problem.now.forms n ≡ Some form → FromOne form first f → Contains result.now n }
+    ensures { (n : ℕ) (form : Form2) (f : Fact2) → slice_get problem.now.forms n ≡ Some form → FromOne problem.now form first f → Contains result.now n }
 {
     match first {
         Fact::In(class, _) => problem.alone(class),
+        Fact::Edge(Context::Individual(source), ..) => problem.denied(source),
         Fact::Edge(..) => &[],
     }
 }

@@ -1,8 +1,13 @@
 use Rattle.std.proofs.Common.{◌≡◌, ◌↔◌, Some, List, subst}
 use Rattle.facts.specs.declared.contexts.Fact.{Fact}
 use Rattle.facts.specs.Closure.{Concludes}
-use Rattle.inference.proofs.Lists.{two_elements}
+use Rattle.inference.proofs.Lists.{one_element, two_elements}
 use Rattle.inference.proofs.conclusions.conclusion.Goals as goal
+
+pub returns-in-len1 : goal.returns-in-len1
+returns-in-len1 c = λ k f closed.
+    let P : List Fact → Type 0 = λ older. (c.from_one.result ≡ Some f) ↔ Concludes k c.args.form.now older f in
+    subst P (one_element c.args.older.now _ c.in-len1.len_at_least c.in-len1.len_below) (c.from_one.ensures k f closed)
 
 pub returns-in-len2 : goal.returns-in-len2
 returns-in-len2 c = λ k f closed.

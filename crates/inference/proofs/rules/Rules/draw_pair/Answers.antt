@@ -8,4 +8,4 @@ may_give-requires c = has_property c.args.self.now.problem.now c.args.self.now.c
 
 pub returns-in_ok-draw : goal.returns-in_ok-draw
 returns-in_ok-draw c =
-    draws c.draw.ensures.grows (drawn c.args.self.now.problem.now (c.args.f ∷ c.args.g ∷ []) c.draw.new.facts.facts c.in_ok-draw.ensures.drawn (λ x none. absurd none))
+    draws c.draw.ensures.grows (drawn c.args.self.now.problem.now (c.args.f ∷ c.args.g ∷ []) c.draw.new.facts.facts c.in_ok-draw.ensures.drawn (λ x none. absurd none) (λ h e. absurd (cc)) (λ e. absurd (cc)))
