@@ -25,6 +25,9 @@ const FORMS: &[Form] = &[
     Form::N7(PropId(17)),
     Form::N8(IndId(18), Class2::Partial(19)),
     Form::N9(IndId(20), PropId(21), IndId(22)),
+    Form::N10(IndId(23), IndId(24)),
+    Form::N11(IndId(25), IndId(26)),
+    Form::N12(IndId(27), PropId(28), IndId(29)),
 ];
 
 /// Whether the list has just these forms.

@@ -33,6 +33,9 @@ const FORMS: &[(Form, bool)] = &[
     (Form::N6(PropId2::Property(PropId(0)), CHAIN, CHAIN), true),
     (Form::N7(PropId(0)), true),
     (Form::N9(IndId(0), PropId(0), IndId(0)), false),
+    (Form::N10(IndId(0), IndId(1)), false),
+    (Form::N11(IndId(0), IndId(1)), false),
+    (Form::N12(IndId(0), PropId(0), IndId(1)), false),
 ];
 
 #[test]

@@ -1,6 +1,7 @@
 //! States that grow: whatever the list of work and the script, the facts at the end are those of one run over all forms.
 
 mod acts;
+mod individuals;
 
 ghost use Rattle.std.specs.Prelude.{◌≡◌, []};
 
@@ -70,6 +71,7 @@ fn perform<W: WorkList>(
         Act::Run => state.run(problem.facts).map(|_| true),
         Act::Stop => state.run(problem.facts.saturating_sub(1)).map(|_| true),
         Act::Serves(facts) => Ok(state.served() == facts),
+        Act::Has(facts) => Ok(state.facts().len() == facts),
     }
 }
 
@@ -108,7 +110,16 @@ fn follows<W: WorkList>(
     tried(state, problem, progress, ALL) && tried(state, problem, progress, Act::Run)
 }
 
-/// Whether two older facts gave the fact so.
+/// How many older facts there are.
+fn count(older: Older) -> usize {
+    match older {
+        Older::None => 0,
+        Older::One(_) => 1,
+        Older::Two(_, _) => 2,
+    }
+}
+
+/// Whether so many older facts gave the fact so.
 fn is_born<W: WorkList>(state: &State<W>, born: &Born) -> bool {
     let Some(place) = state
         .facts()
@@ -124,7 +135,7 @@ fn is_born<W: WorkList>(state: &State<W>, born: &Born) -> bool {
         Some(birth) => {
             birth.condition() == born.condition
                 && birth.form() == Some(born.form)
-                && matches!(birth.older(), Older::Two(_, _))
+                && count(birth.older()) == born.older
         }
         None => false,
     }
@@ -200,14 +211,14 @@ fn in_any_order(
 }
 
 /// How many facts of the problem may be there from the start, and wait beside the list of work: two for each context, one more for each
-/// reflexive property, and one for each assertion.
+/// reflexive property, and one for each assertion and each two that differ.
 fn most_at_start(problem: &Problem) -> usize {
     let contexts = problem.roots.len();
     let mut most = contexts.saturating_mul(2);
     for form in problem.forms {
         most = most.saturating_add(match form {
             Form::N7(_) => contexts,
-            Form::N8(..) | Form::N9(..) => 1,
+            Form::N8(..) | Form::N9(..) | Form::N11(..) => 1,
             _ => 0,
         });
     }

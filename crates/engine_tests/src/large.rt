@@ -1,7 +1,7 @@
 //! States with many facts: one that grows, and one that has its axioms at once.
 
 use crate::adding::add;
-use axioms::{ExprId, Memory};
+use axioms::{ExprId, IndId, Memory};
 use facts::Context;
 use normal_forms::{Class2, Form, FormList};
 use saturate::State;
@@ -109,5 +109,78 @@ fn a_state_has_a_million(alloc: Global, seed: RandomState) -> bool {
 fn two_hundred_thousand_subclasses(rt: HostRuntime) -> Result<(), Fail> {
     let seed = RandomState::new(&rt)?;
     assert!(rt; a_state_has_a_million(rt.alloc(), seed));
+    Ok(())
+}
+
+/// How many individuals are in one group.
+const IN_ONE_GROUP: u32 = 100_000;
+
+/// The forms that make the individuals one, each with the next, and put one of them into a class.
+fn group_forms(alloc: Global) -> Result<FormList, Memory> {
+    let mut forms = FormList::new(alloc);
+    for number in 1..IN_ONE_GROUP {
+        forms.push(Form::N10(IndId(number - 1), IndId(number)))?;
+    }
+    forms.push(Form::N8(IndId(IN_ONE_GROUP / 2), Class2::Expr(after(0))))?;
+    Ok(forms)
+}
+
+/// The forms that put each of the individuals into that class.
+fn class_forms(alloc: Global) -> Result<FormList, Memory> {
+    let mut forms = FormList::new(alloc);
+    for number in 0..IN_ONE_GROUP {
+        forms.push(Form::N8(IndId(number), Class2::Expr(after(0))))?;
+    }
+    Ok(forms)
+}
+
+/// The class, `owl:Thing`, `owl:Nothing` and the individuals.
+fn group_roots(alloc: Global) -> Result<Vec<Context>, Memory> {
+    let mut roots = Vec::new(alloc);
+    for number in 0..3 {
+        roots.push(Context::Expr(ExprId(number)))?;
+    }
+    for number in 0..IN_ONE_GROUP {
+        roots.push(Context::Individual(IndId(number)))?;
+    }
+    Ok(roots)
+}
+
+/// Adds the forms and contexts and runs to the end.
+fn is_added_and_run<W: WorkList>(
+    state: &mut State<W>,
+    forms: Result<FormList, Memory>,
+    roots: Result<Vec<Context>, Memory>,
+) -> bool {
+    match (forms, roots) {
+        (Ok(forms), Ok(roots)) => {
+            add(state, &forms, &roots).is_ok() && state.run(2_000_000) == Ok(())
+        }
+        _ => false,
+    }
+}
+
+/// Whether the group has two facts for each individual, and five for the classes; and no more where the class is asserted of each.
+fn has_a_group<W: WorkList>(state: &mut State<W>, alloc: Global) -> bool {
+    is_added_and_run(state, group_forms(alloc), group_roots(alloc))
+        && state.served() == 200_005
+        && is_added_and_run(state, class_forms(alloc), Ok(Vec::new(alloc)))
+        && state.served() == 200_005
+}
+
+/// Whether a state does. It is made and dropped here alone.
+fn a_state_has_a_group(alloc: Global, seed: RandomState) -> bool {
+    let Ok(mut state) = State::new(alloc, seed, ByContext::new(alloc)) else {
+        return false;
+    };
+    let right = has_a_group(&mut state, alloc);
+    drop(state);
+    right
+}
+
+#[test]
+fn hundred_thousand_in_one_group(rt: HostRuntime) -> Result<(), Fail> {
+    let seed = RandomState::new(&rt)?;
+    assert!(rt; a_state_has_a_group(rt.alloc(), seed));
     Ok(())
 }

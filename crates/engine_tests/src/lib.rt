@@ -16,6 +16,8 @@ mod forms;
 #[cfg(test)]
 mod growing;
 #[cfg(test)]
+mod individuals;
+#[cfg(test)]
 mod large;
 #[cfg(test)]
 mod listed_facts;

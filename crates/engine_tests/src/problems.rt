@@ -8,12 +8,13 @@ use axioms::{ExprId, IndId};
 use facts::{Context, Fact};
 use normal_forms::Form;
 
-/// A fact, and by which condition and form two older ones gave it.
+/// A fact, and by which condition and form so many older ones gave it.
 #[derive(Drop)]
 pub(crate) struct Born {
     pub fact: Fact,
     pub condition: u8,
     pub form: u32,
+    pub older: usize,
 }
 
 /// A problem and the number of its facts.
@@ -67,6 +68,7 @@ pub(crate) const PROBLEMS: &[Problem] = &[
             fact: Fact::Edge(IN2, EDGES_R, IN5),
             condition: 9,
             form: 4,
+            older: 2,
         }),
     },
     // r then s below r, s then r below s, A below some r B, B below some s C, D as some r C.
@@ -90,6 +92,7 @@ pub(crate) const PROBLEMS: &[Problem] = &[
             fact: Fact::Edge(IN2, EDGES_R, IN5),
             condition: 9,
             form: 0,
+            older: 2,
         }),
     },
     // r is reflexive and below s, B is some s A.
@@ -163,6 +166,7 @@ pub(crate) const PROBLEMS: &[Problem] = &[
             fact: Fact::Edge(IN2, EDGES_R, IN5),
             condition: 9,
             form: 8,
+            older: 2,
         }),
     },
     // Five individuals, each by a transitive property before the next: 10 edges.
@@ -181,6 +185,7 @@ pub(crate) const PROBLEMS: &[Problem] = &[
             fact: Fact::Edge(IND0, EDGES_R, IND4),
             condition: 9,
             form: 0,
+            older: 2,
         }),
     },
     // .. and the form that makes it transitive comes last.
@@ -199,6 +204,7 @@ pub(crate) const PROBLEMS: &[Problem] = &[
             fact: Fact::Edge(IND0, EDGES_R, IND4),
             condition: 9,
             form: 4,
+            older: 2,
         }),
     },
     // Four individuals by s, which is below the transitive r: 3 edges by s, and 3 by r.

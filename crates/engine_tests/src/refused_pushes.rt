@@ -94,13 +94,13 @@ fn ends<W: WorkList + Drop>(
 }
 
 /// How many facts may be there from the start, and wait beside the list of work: two for each context, one more for each reflexive
-/// property, and one for each assertion.
+/// property, and one for each assertion and each two that differ.
 fn most_at_start(forms: &FormList, contexts: usize) -> usize {
     let mut most = contexts.saturating_mul(2);
     for number in 0..forms.len() {
         most = most.saturating_add(match forms.get(number) {
             Some(Form::N7(_)) => contexts,
-            Some(Form::N8(..) | Form::N9(..)) => 1,
+            Some(Form::N8(..) | Form::N9(..) | Form::N11(..)) => 1,
             _ => 0,
         });
     }

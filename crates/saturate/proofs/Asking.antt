@@ -2,8 +2,10 @@
 use Rattle.std.proofs.Common.{◌≡◌, ℕ, ◌⊎◌, inl, inr, ⊎_elim, Bool, true, false, not, eqb, Option, List, [], ◌∷◌, length, arith, Some, Contains, refl, sym, ap, subst, ◌∙◌}
 use Rattle.std.proofs.lemmas.Bool.{false≢true}
 use Rattle.std.proofs.lemmas.Option.{none-some, same_Some}
+use Rattle.axioms.specs.declared.ids.ExprId.{ExprId}
+use Rattle.axioms.specs.declared.ids.IndId.{IndId}
 use Rattle.normal_forms.specs.declared.forms.Form.{Form}
-use Rattle.normal_forms.specs.declared.forms.Form.TheVariants.{N1, N2, N3, N4, N5, N6, N7, N8, N9}
+use Rattle.normal_forms.specs.declared.forms.Form.TheVariants.{N1, N2, N3, N4, N5, N6, N7, N8, N9, N10, N11, N12}
 use Rattle.normal_forms.specs.declared.forms.Class2.{Class2}
 use Rattle.normal_forms.specs.declared.forms.Class2.TheVariants as class
 use Rattle.normal_forms.specs.declared.forms.PropId2.{PropId2}
@@ -11,10 +13,11 @@ use Rattle.normal_forms.specs.declared.forms.PropId2.TheVariants as property
 use Rattle.normal_forms.specs.Properties.{IsAtOrBelow}
 use Rattle.indexes.specs.declared.keys.Key.{Key}
 use Rattle.facts.specs.declared.contexts.Context.{Context}
+use Rattle.facts.specs.declared.contexts.Context.TheVariants.{Expr, Individual}
 use Rattle.facts.specs.declared.contexts.Fact.TheVariants.{In, Edge}
-use Rattle.indexes.specs.Keys.{class_key, property_key, by_alone, by_first, by_filler, by_chain, by_plain}
+use Rattle.indexes.specs.Keys.{class_key, property_key, individual_key, by_alone, by_first, by_filler, by_chain, by_plain, by_linked_first, by_linked_second, by_denied}
 use Rattle.indexes.specs.FormsUnderKeys.{IsUnder}
-use Rattle.saturate.specs.Requests.{Asks, IsAsked, BeginsWith}
+use Rattle.saturate.specs.Requests.{Asks, BeginsWith, Denies, HasForm, NamesAbove, NamesClass, NamesIndividual}
 use Rattle.inference.proofs.Lists.{Contains-from_slice_get, slice_get-from_Contains}
 
 -- a list that is not empty has some number
@@ -43,10 +46,18 @@ class_of a c e = sym (one_class a c (same_Some (class_key a) (class_key c) e))
 property_of : (p q : PropId2) → Some (property_key p) ≡ Some (property_key q) → q ≡ p
 property_of p q e = sym (one_property p q (same_Some (property_key p) (property_key q) e))
 
+-- a form under the key is such
+pub under_has : (by_kind : Form → Option Key) (P : Form → Type 0) (at : Key) (added : List Form) → ((form : Form) → by_kind form ≡ Some at → P form) → (n : ℕ) → IsUnder by_kind added at n → HasForm P added
+under_has by_kind P at added is n under = (under.0, Contains-from_slice_get added n under.0 under.1, is under.0 under.2)
+
+-- where none is under the key, none that is there has it
+none_under : (by_kind : Form → Option Key) (at : Key) (added : List Form) → ((n : ℕ) → IsUnder by_kind added at n → ⊥) → (form : Form) → Contains added form → by_kind form ≡ Some at → ⊥
+none_under by_kind at added none form there e = let place = slice_get-from_Contains added form there in none place.0 (form, place.1, e)
+
 -- ---- classes
 
-module _ (all : List Form) (c : Class2) (x : Context) where
-  pub alone : (form : Form) → by_alone form ≡ Some (class_key c) → Asks all form (In c x)
+module _ (c : Class2) where
+  pub alone : (form : Form) → by_alone form ≡ Some (class_key c) → NamesClass form c
   alone (N1 a b) e = class_of a c e
   alone (N3 a r b) e = class_of a c e
   alone (N2 _ _ _) e = absurd (none-some _ e)
@@ -56,8 +67,11 @@ module _ (all : List Form) (c : Class2) (x : Context) where
   alone (N7 _) e = absurd (none-some _ e)
   alone (N8 _ _) e = absurd (none-some _ e)
   alone (N9 _ _ _) e = absurd (none-some _ e)
+  alone (N10 _ _) e = absurd (none-some _ e)
+  alone (N11 _ _) e = absurd (none-some _ e)
+  alone (N12 _ _ _) e = absurd (none-some _ e)
 
-  pub first : (form : Form) → by_first form ≡ Some (class_key c) → Asks all form (In c x)
+  pub first : (form : Form) → by_first form ≡ Some (class_key c) → NamesClass form c
   first (N2 a b d) e = class_of a c e
   first (N1 _ _) e = absurd (none-some _ e)
   first (N3 _ _ _) e = absurd (none-some _ e)
@@ -67,8 +81,11 @@ module _ (all : List Form) (c : Class2) (x : Context) where
   first (N7 _) e = absurd (none-some _ e)
   first (N8 _ _) e = absurd (none-some _ e)
   first (N9 _ _ _) e = absurd (none-some _ e)
+  first (N10 _ _) e = absurd (none-some _ e)
+  first (N11 _ _) e = absurd (none-some _ e)
+  first (N12 _ _ _) e = absurd (none-some _ e)
 
-  pub filler : (form : Form) → by_filler form ≡ Some (class_key c) → Asks all form (In c x)
+  pub filler : (form : Form) → by_filler form ≡ Some (class_key c) → NamesClass form c
   filler (N4 r a b) e = class_of a c e
   filler (N1 _ _) e = absurd (none-some _ e)
   filler (N2 _ _ _) e = absurd (none-some _ e)
@@ -78,8 +95,11 @@ module _ (all : List Form) (c : Class2) (x : Context) where
   filler (N7 _) e = absurd (none-some _ e)
   filler (N8 _ _) e = absurd (none-some _ e)
   filler (N9 _ _ _) e = absurd (none-some _ e)
+  filler (N10 _ _) e = absurd (none-some _ e)
+  filler (N11 _ _) e = absurd (none-some _ e)
+  filler (N12 _ _ _) e = absurd (none-some _ e)
 
-  key : (form : Form) → Asks all form (In c x) → (by_alone form ≡ Some (class_key c)) ⊎ ((by_first form ≡ Some (class_key c)) ⊎ (by_filler form ≡ Some (class_key c)))
+  key : (form : Form) → NamesClass form c → (by_alone form ≡ Some (class_key c)) ⊎ ((by_first form ≡ Some (class_key c)) ⊎ (by_filler form ≡ Some (class_key c)))
   key (N1 a b) h = inl (ap (λ d. Some (class_key d)) (sym h))
   key (N2 a b d) h = inr (inl (ap (λ d. Some (class_key d)) (sym h)))
   key (N3 a r b) h = inl (ap (λ d. Some (class_key d)) (sym h))
@@ -89,80 +109,187 @@ module _ (all : List Form) (c : Class2) (x : Context) where
   key (N7 _) h = absurd h
   key (N8 _ _) h = absurd h
   key (N9 _ _ _) h = absurd h
+  key (N10 _ _) h = absurd h
+  key (N11 _ _) h = absurd h
+  key (N12 _ _ _) h = absurd h
 
-  -- a form under the key asks
-  pub asked_by : (by_kind : Form → Option Key) (added : List Form) → ((form : Form) → by_kind form ≡ Some (class_key c) → Asks all form (In c x)) → (n : ℕ) → IsUnder by_kind added (class_key c) n → IsAsked all added (In c x)
-  asked_by by_kind added asks n under = (under.0, Contains-from_slice_get added n under.0 under.1, asks under.0 under.2)
-
-  -- where none is under one of the keys none asks
-  pub not_asked : (added : List Form) → ((n : ℕ) → IsUnder by_alone added (class_key c) n → ⊥) → ((n : ℕ) → IsUnder by_first added (class_key c) n → ⊥) → ((n : ℕ) → IsUnder by_filler added (class_key c) n → ⊥) → IsAsked all added (In c x) → ⊥
-  not_asked added no_alone no_first no_filler asked =
-      let at = slice_get-from_Contains added asked.0 asked.1 in
-      ⊎_elim (λ e. no_alone at.0 (asked.0, at.1, e)) (λ w. ⊎_elim (λ e. no_first at.0 (asked.0, at.1, e)) (λ e. no_filler at.0 (asked.0, at.1, e)) w) (key asked.0 asked.2)
+  -- where none is under one of the keys none names the class
+  pub not_named : (added : List Form) → ((n : ℕ) → IsUnder by_alone added (class_key c) n → ⊥) → ((n : ℕ) → IsUnder by_first added (class_key c) n → ⊥) → ((n : ℕ) → IsUnder by_filler added (class_key c) n → ⊥) → HasForm (λ form. NamesClass form c) added → ⊥
+  not_named added no_alone no_first no_filler named =
+      ⊎_elim
+      (none_under by_alone (class_key c) added no_alone named.0 named.1)
+      (λ w. ⊎_elim (none_under by_first (class_key c) added no_first named.0 named.1) (none_under by_filler (class_key c) added no_filler named.0 named.1) w)
+      (key named.0 named.2)
 
 -- ---- properties
 
-pub plain : (form : Form) (p : PropId2) → by_plain form ≡ Some (property_key p) → BeginsWith form p
-plain (N5 r s) p e = property_of (property.Property r) p e
-plain (N1 _ _) p e = absurd (none-some _ e)
-plain (N2 _ _ _) p e = absurd (none-some _ e)
-plain (N3 _ _ _) p e = absurd (none-some _ e)
-plain (N4 _ _ _) p e = absurd (none-some _ e)
-plain (N6 _ _ _) p e = absurd (none-some _ e)
-plain (N7 _) p e = absurd (none-some _ e)
-plain (N8 _ _) p e = absurd (none-some _ e)
-plain (N9 _ _ _) p e = absurd (none-some _ e)
+pub plain : (p : PropId2) (form : Form) → by_plain form ≡ Some (property_key p) → BeginsWith form p
+plain p (N5 r s) e = property_of (property.Property r) p e
+plain p (N1 _ _) e = absurd (none-some _ e)
+plain p (N2 _ _ _) e = absurd (none-some _ e)
+plain p (N3 _ _ _) e = absurd (none-some _ e)
+plain p (N4 _ _ _) e = absurd (none-some _ e)
+plain p (N6 _ _ _) e = absurd (none-some _ e)
+plain p (N7 _) e = absurd (none-some _ e)
+plain p (N8 _ _) e = absurd (none-some _ e)
+plain p (N9 _ _ _) e = absurd (none-some _ e)
+plain p (N10 _ _) e = absurd (none-some _ e)
+plain p (N11 _ _) e = absurd (none-some _ e)
+plain p (N12 _ _ _) e = absurd (none-some _ e)
 
-pub chain : (form : Form) (p : PropId2) → by_chain form ≡ Some (property_key p) → BeginsWith form p
-chain (N6 r s t) p e = property_of r p e
-chain (N1 _ _) p e = absurd (none-some _ e)
-chain (N2 _ _ _) p e = absurd (none-some _ e)
-chain (N3 _ _ _) p e = absurd (none-some _ e)
-chain (N4 _ _ _) p e = absurd (none-some _ e)
-chain (N5 _ _) p e = absurd (none-some _ e)
-chain (N7 _) p e = absurd (none-some _ e)
-chain (N8 _ _) p e = absurd (none-some _ e)
-chain (N9 _ _ _) p e = absurd (none-some _ e)
+pub chain : (p : PropId2) (form : Form) → by_chain form ≡ Some (property_key p) → BeginsWith form p
+chain p (N6 r s t) e = property_of r p e
+chain p (N1 _ _) e = absurd (none-some _ e)
+chain p (N2 _ _ _) e = absurd (none-some _ e)
+chain p (N3 _ _ _) e = absurd (none-some _ e)
+chain p (N4 _ _ _) e = absurd (none-some _ e)
+chain p (N5 _ _) e = absurd (none-some _ e)
+chain p (N7 _) e = absurd (none-some _ e)
+chain p (N8 _ _) e = absurd (none-some _ e)
+chain p (N9 _ _ _) e = absurd (none-some _ e)
+chain p (N10 _ _) e = absurd (none-some _ e)
+chain p (N11 _ _) e = absurd (none-some _ e)
+chain p (N12 _ _ _) e = absurd (none-some _ e)
 
-prefix : (form : Form) (p : PropId2) → BeginsWith form p → (by_plain form ≡ Some (property_key p)) ⊎ (by_chain form ≡ Some (property_key p))
-prefix (N5 r s) p h = inl (ap (λ q. Some (property_key q)) (sym h))
-prefix (N6 r s t) p h = inr (ap (λ q. Some (property_key q)) (sym h))
-prefix (N1 _ _) p h = absurd h
-prefix (N2 _ _ _) p h = absurd h
-prefix (N3 _ _ _) p h = absurd h
-prefix (N4 _ _ _) p h = absurd h
-prefix (N7 _) p h = absurd h
-prefix (N8 _ _) p h = absurd h
-prefix (N9 _ _ _) p h = absurd h
+prefix : (p : PropId2) (form : Form) → BeginsWith form p → (by_plain form ≡ Some (property_key p)) ⊎ (by_chain form ≡ Some (property_key p))
+prefix p (N5 r s) h = inl (ap (λ q. Some (property_key q)) (sym h))
+prefix p (N6 r s t) h = inr (ap (λ q. Some (property_key q)) (sym h))
+prefix p (N1 _ _) h = absurd h
+prefix p (N2 _ _ _) h = absurd h
+prefix p (N3 _ _ _) h = absurd h
+prefix p (N4 _ _ _) h = absurd h
+prefix p (N7 _) h = absurd h
+prefix p (N8 _ _) h = absurd h
+prefix p (N9 _ _ _) h = absurd h
+prefix p (N10 _ _) h = absurd h
+prefix p (N11 _ _) h = absurd h
+prefix p (N12 _ _ _) h = absurd h
 
-pub begun_by : (by_kind : Form → Option Key) (added : List Form) (p : PropId2) → ((form : Form) → by_kind form ≡ Some (property_key p) → BeginsWith form p) → (n : ℕ) → IsUnder by_kind added (property_key p) n → (form : Form) × Contains added form × BeginsWith form p
-begun_by by_kind added p begins n under = (under.0, Contains-from_slice_get added n under.0 under.1, begins under.0 under.2)
+pub not_begun : (added : List Form) (p : PropId2) → ((n : ℕ) → IsUnder by_plain added (property_key p) n → ⊥) → ((n : ℕ) → IsUnder by_chain added (property_key p) n → ⊥) → HasForm (λ form. BeginsWith form p) added → ⊥
+not_begun added p no_plain no_chain begun =
+    ⊎_elim
+    (none_under by_plain (property_key p) added no_plain begun.0 begun.1)
+    (none_under by_chain (property_key p) added no_chain begun.0 begun.1)
+    (prefix p begun.0 begun.2)
 
-pub not_begun : (added : List Form) (p : PropId2) → ((n : ℕ) → IsUnder by_plain added (property_key p) n → ⊥) → ((n : ℕ) → IsUnder by_chain added (property_key p) n → ⊥) → (form : Form) → Contains added form → BeginsWith form p → ⊥
-not_begun added p no_plain no_chain form there begins =
-    let at = slice_get-from_Contains added form there in
-    ⊎_elim (λ e. no_plain at.0 (form, at.1, e)) (λ e. no_chain at.0 (form, at.1, e)) (prefix form p begins)
+-- a form that begins with a property at or above another names one above it
+pub begins_above : (all : List Form) (p r : PropId2) → IsAtOrBelow all p r → (form : Form) → BeginsWith form r → NamesAbove all form p
+begins_above all p r low (N5 s t) begins = subst (λ (q : PropId2). IsAtOrBelow all p q) begins low
+begins_above all p r low (N6 s t u) begins = subst (λ (q : PropId2). IsAtOrBelow all p q) begins low
+begins_above all p r low (N1 _ _) begins = absurd begins
+begins_above all p r low (N2 _ _ _) begins = absurd begins
+begins_above all p r low (N3 _ _ _) begins = absurd begins
+begins_above all p r low (N4 _ _ _) begins = absurd begins
+begins_above all p r low (N7 _) begins = absurd begins
+begins_above all p r low (N8 _ _) begins = absurd begins
+begins_above all p r low (N9 _ _ _) begins = absurd begins
+begins_above all p r low (N10 _ _) begins = absurd begins
+begins_above all p r low (N11 _ _) begins = absurd begins
+begins_above all p r low (N12 _ _ _) begins = absurd begins
 
--- a form that begins with a property at or above that of an edge asks for the edge
-pub begins_above : (all : List Form) (form : Form) (x y : Context) (p r : PropId2) → IsAtOrBelow all p r → BeginsWith form r → Asks all form (Edge x p y)
-begins_above all (N5 s t) x y p r low begins = subst (λ (q : PropId2). IsAtOrBelow all p q) begins low
-begins_above all (N6 s t u) x y p r low begins = subst (λ (q : PropId2). IsAtOrBelow all p q) begins low
-begins_above all (N1 _ _) x y p r low begins = absurd begins
-begins_above all (N2 _ _ _) x y p r low begins = absurd begins
-begins_above all (N3 _ _ _) x y p r low begins = absurd begins
-begins_above all (N4 _ _ _) x y p r low begins = absurd begins
-begins_above all (N7 _) x y p r low begins = absurd begins
-begins_above all (N8 _ _) x y p r low begins = absurd begins
-begins_above all (N9 _ _ _) x y p r low begins = absurd begins
+-- a form that names one above it begins with a property at or above it
+pub names_above : (all : List Form) (p : PropId2) (form : Form) → NamesAbove all form p → (r : PropId2) × IsAtOrBelow all p r × BeginsWith form r
+names_above all p (N5 s t) h = (property.Property s, h, refl)
+names_above all p (N6 s t u) h = (s, h, refl)
+names_above all p (N1 _ _) h = absurd h
+names_above all p (N2 _ _ _) h = absurd h
+names_above all p (N3 _ _ _) h = absurd h
+names_above all p (N4 _ _ _) h = absurd h
+names_above all p (N7 _) h = absurd h
+names_above all p (N8 _ _) h = absurd h
+names_above all p (N9 _ _ _) h = absurd h
+names_above all p (N10 _ _) h = absurd h
+names_above all p (N11 _ _) h = absurd h
+names_above all p (N12 _ _ _) h = absurd h
 
--- a form that asks for an edge begins with a property at or above that of the edge
-pub asks_above : (all : List Form) (form : Form) (x y : Context) (p : PropId2) → Asks all form (Edge x p y) → (r : PropId2) × IsAtOrBelow all p r × BeginsWith form r
-asks_above all (N5 s t) x y p h = (property.Property s, h, refl)
-asks_above all (N6 s t u) x y p h = (s, h, refl)
-asks_above all (N1 _ _) x y p h = absurd h
-asks_above all (N2 _ _ _) x y p h = absurd h
-asks_above all (N3 _ _ _) x y p h = absurd h
-asks_above all (N4 _ _ _) x y p h = absurd h
-asks_above all (N7 _) x y p h = absurd h
-asks_above all (N8 _ _) x y p h = absurd h
-asks_above all (N9 _ _ _) x y p h = absurd h
+-- ---- individuals
+
+individual_of : (a i : IndId) → Some (individual_key a) ≡ Some (individual_key i) → a ≡ i
+individual_of a i e = let k : a.0 ≡ i.0 = cc in ap (λ v. record { 0 = v }) k
+
+one_individual : (a b : IndId) → Individual a ≡ Individual b → a ≡ b
+one_individual a b e = cc
+
+module _ (i : IndId) where
+  pub linked_first : (form : Form) → by_linked_first form ≡ Some (individual_key i) → NamesIndividual form (Individual i)
+  linked_first (N10 a b) e = inl (ap Individual (sym (individual_of a i e)))
+  linked_first (N1 _ _) e = absurd (none-some _ e)
+  linked_first (N2 _ _ _) e = absurd (none-some _ e)
+  linked_first (N3 _ _ _) e = absurd (none-some _ e)
+  linked_first (N4 _ _ _) e = absurd (none-some _ e)
+  linked_first (N5 _ _) e = absurd (none-some _ e)
+  linked_first (N6 _ _ _) e = absurd (none-some _ e)
+  linked_first (N7 _) e = absurd (none-some _ e)
+  linked_first (N8 _ _) e = absurd (none-some _ e)
+  linked_first (N9 _ _ _) e = absurd (none-some _ e)
+  linked_first (N11 _ _) e = absurd (none-some _ e)
+  linked_first (N12 _ _ _) e = absurd (none-some _ e)
+
+  pub linked_second : (form : Form) → by_linked_second form ≡ Some (individual_key i) → NamesIndividual form (Individual i)
+  linked_second (N10 a b) e = inr (ap Individual (sym (individual_of b i e)))
+  linked_second (N1 _ _) e = absurd (none-some _ e)
+  linked_second (N2 _ _ _) e = absurd (none-some _ e)
+  linked_second (N3 _ _ _) e = absurd (none-some _ e)
+  linked_second (N4 _ _ _) e = absurd (none-some _ e)
+  linked_second (N5 _ _) e = absurd (none-some _ e)
+  linked_second (N6 _ _ _) e = absurd (none-some _ e)
+  linked_second (N7 _) e = absurd (none-some _ e)
+  linked_second (N8 _ _) e = absurd (none-some _ e)
+  linked_second (N9 _ _ _) e = absurd (none-some _ e)
+  linked_second (N11 _ _) e = absurd (none-some _ e)
+  linked_second (N12 _ _ _) e = absurd (none-some _ e)
+
+  link : (form : Form) → NamesIndividual form (Individual i) → (by_linked_first form ≡ Some (individual_key i)) ⊎ (by_linked_second form ≡ Some (individual_key i))
+  link (N10 a b) h = ⊎_elim (λ e. inl (ap (λ j. Some (individual_key j)) (sym (one_individual i a e)))) (λ e. inr (ap (λ j. Some (individual_key j)) (sym (one_individual i b e)))) h
+  link (N1 _ _) h = absurd h
+  link (N2 _ _ _) h = absurd h
+  link (N3 _ _ _) h = absurd h
+  link (N4 _ _ _) h = absurd h
+  link (N5 _ _) h = absurd h
+  link (N6 _ _ _) h = absurd h
+  link (N7 _) h = absurd h
+  link (N8 _ _) h = absurd h
+  link (N9 _ _ _) h = absurd h
+  link (N11 _ _) h = absurd h
+  link (N12 _ _ _) h = absurd h
+
+  pub not_linked : (added : List Form) → ((n : ℕ) → IsUnder by_linked_first added (individual_key i) n → ⊥) → ((n : ℕ) → IsUnder by_linked_second added (individual_key i) n → ⊥) → HasForm (λ form. NamesIndividual form (Individual i)) added → ⊥
+  not_linked added no_first no_second linked =
+      ⊎_elim
+      (none_under by_linked_first (individual_key i) added no_first linked.0 linked.1)
+      (none_under by_linked_second (individual_key i) added no_second linked.0 linked.1)
+      (link linked.0 linked.2)
+
+  -- a form that denies an edge from it is under its key
+  pub denied_key : (all : List Form) (p : PropId2) (y : Context) (form : Form) → Denies all form (Edge (Individual i) p y) → by_denied form ≡ Some (individual_key i)
+  denied_key all p y (N12 a r b) h = ap (λ j. Some (individual_key j)) (sym (one_individual i a h.0))
+  denied_key all p y (N1 _ _) h = absurd h
+  denied_key all p y (N2 _ _ _) h = absurd h
+  denied_key all p y (N3 _ _ _) h = absurd h
+  denied_key all p y (N4 _ _ _) h = absurd h
+  denied_key all p y (N5 _ _) h = absurd h
+  denied_key all p y (N6 _ _ _) h = absurd h
+  denied_key all p y (N7 _) h = absurd h
+  denied_key all p y (N8 _ _) h = absurd h
+  denied_key all p y (N9 _ _ _) h = absurd h
+  denied_key all p y (N10 _ _) h = absurd h
+  denied_key all p y (N11 _ _) h = absurd h
+
+-- an edge from an expression is not denied
+pub none_denied : (all : List Form) (e : ExprId) (p : PropId2) (y : Context) (form : Form) → Denies all form (Edge (Expr e) p y) → ⊥
+none_denied all e p y (N12 a r b) h = absurd (cc)
+none_denied all e p y (N1 _ _) h = absurd h
+none_denied all e p y (N2 _ _ _) h = absurd h
+none_denied all e p y (N3 _ _ _) h = absurd h
+none_denied all e p y (N4 _ _ _) h = absurd h
+none_denied all e p y (N5 _ _) h = absurd h
+none_denied all e p y (N6 _ _ _) h = absurd h
+none_denied all e p y (N7 _) h = absurd h
+none_denied all e p y (N8 _ _) h = absurd h
+none_denied all e p y (N9 _ _ _) h = absurd h
+none_denied all e p y (N10 _ _) h = absurd h
+none_denied all e p y (N11 _ _) h = absurd h
+
+-- what is such is so in another way
+pub asked_as : (P Q : Form → Type 0) (added : List Form) → ((form : Form) → P form → Q form) → HasForm P added → HasForm Q added
+asked_as P Q added is has = (has.0, has.1, is has.0 has.2)

@@ -8,7 +8,7 @@ use Rattle.normal_forms.specs.declared.forms.Class2.TheVariants as class
 use Rattle.normal_forms.specs.declared.forms.PropId2.{PropId2}
 use Rattle.normal_forms.specs.declared.forms.PropId2.TheVariants as property
 use Rattle.normal_forms.specs.declared.forms.Form.{Form}
-use Rattle.normal_forms.specs.declared.forms.Form.TheVariants.{N1, N2, N3, N4, N5, N6, N7, N8, N9}
+use Rattle.normal_forms.specs.declared.forms.Form.TheVariants.{N1, N2, N3, N4, N5, N6, N7, N8, N9, N10, N11, N12}
 
 abbrev Decided : Type 0 → Type 0
 Decided A = (x y : A) → (x ≡ y) ⊎ ¬ (x ≡ y)
@@ -66,7 +66,7 @@ one_property : Decided PropId2
 one_property = by_parts property_parts property_of same_property (either number number)
 
 abbrev Parts : Type 0
-Parts = (Class2 × Class2) ⊎ ((Class2 × (Class2 × Class2)) ⊎ ((Class2 × (ℕ × ℕ)) ⊎ ((ℕ × (Class2 × Class2)) ⊎ ((ℕ × ℕ) ⊎ ((PropId2 × (PropId2 × PropId2)) ⊎ (ℕ ⊎ ((ℕ × Class2) ⊎ (ℕ × (ℕ × ℕ)))))))))
+Parts = (Class2 × Class2) ⊎ ((Class2 × (Class2 × Class2)) ⊎ ((Class2 × (ℕ × ℕ)) ⊎ ((ℕ × (Class2 × Class2)) ⊎ ((ℕ × ℕ) ⊎ ((PropId2 × (PropId2 × PropId2)) ⊎ (ℕ ⊎ ((ℕ × Class2) ⊎ ((ℕ × (ℕ × ℕ)) ⊎ ((ℕ × ℕ) ⊎ ((ℕ × ℕ) ⊎ (ℕ × (ℕ × ℕ))))))))))))
 
 abbrev form_parts : Form → Parts
 form_parts (N1 a b) = inl (a, b)
@@ -77,7 +77,10 @@ form_parts (N5 r s) = inr (inr (inr (inr (inl (r.0, s.0)))))
 form_parts (N6 r s t) = inr (inr (inr (inr (inr (inl (r, (s, t)))))))
 form_parts (N7 r) = inr (inr (inr (inr (inr (inr (inl r.0))))))
 form_parts (N8 i a) = inr (inr (inr (inr (inr (inr (inr (inl (i.0, a))))))))
-form_parts (N9 i r j) = inr (inr (inr (inr (inr (inr (inr (inr (i.0, (r.0, j.0)))))))))
+form_parts (N9 i r j) = inr (inr (inr (inr (inr (inr (inr (inr (inl (i.0, (r.0, j.0))))))))))
+form_parts (N10 i j) = inr (inr (inr (inr (inr (inr (inr (inr (inr (inl (i.0, j.0))))))))))
+form_parts (N11 i j) = inr (inr (inr (inr (inr (inr (inr (inr (inr (inr (inl (i.0, j.0)))))))))))
+form_parts (N12 i r j) = inr (inr (inr (inr (inr (inr (inr (inr (inr (inr (inr (i.0, (r.0, j.0))))))))))))
 
 abbrev form_of : Parts → Form
 form_of (inl (a, b)) = N1 a b
@@ -88,7 +91,10 @@ form_of (inr (inr (inr (inr (inl (r, s)))))) = N5 (record { 0 = r }) (record { 0
 form_of (inr (inr (inr (inr (inr (inl (r, (s, t)))))))) = N6 r s t
 form_of (inr (inr (inr (inr (inr (inr (inl r))))))) = N7 (record { 0 = r })
 form_of (inr (inr (inr (inr (inr (inr (inr (inl (i, a))))))))) = N8 (record { 0 = i }) a
-form_of (inr (inr (inr (inr (inr (inr (inr (inr (i, (r, j)))))))))) = N9 (record { 0 = i }) (record { 0 = r }) (record { 0 = j })
+form_of (inr (inr (inr (inr (inr (inr (inr (inr (inl (i, (r, j))))))))))) = N9 (record { 0 = i }) (record { 0 = r }) (record { 0 = j })
+form_of (inr (inr (inr (inr (inr (inr (inr (inr (inr (inl (i, j))))))))))) = N10 (record { 0 = i }) (record { 0 = j })
+form_of (inr (inr (inr (inr (inr (inr (inr (inr (inr (inr (inl (i, j)))))))))))) = N11 (record { 0 = i }) (record { 0 = j })
+form_of (inr (inr (inr (inr (inr (inr (inr (inr (inr (inr (inr (i, (r, j))))))))))))) = N12 (record { 0 = i }) (record { 0 = r }) (record { 0 = j })
 
 same_form : (f : Form) → form_of (form_parts f) ≡ f
 same_form (N1 a b) = refl
@@ -100,10 +106,13 @@ same_form (N6 r s t) = refl
 same_form (N7 r) = refl
 same_form (N8 i a) = refl
 same_form (N9 i r j) = refl
+same_form (N10 i j) = refl
+same_form (N11 i j) = refl
+same_form (N12 i r j) = refl
 
 pub one_form : Decided Form
 one_form = by_parts form_parts form_of same_form
-    (either (both one_class one_class) (either (both one_class (both one_class one_class)) (either (both one_class (both number number)) (either (both number (both one_class one_class)) (either (both number number) (either (both one_property (both one_property one_property)) (either number (either (both number one_class) (both number (both number number))))))))))
+    (either (both one_class one_class) (either (both one_class (both one_class one_class)) (either (both one_class (both number number)) (either (both number (both one_class one_class)) (either (both number number) (either (both one_property (both one_property one_property)) (either number (either (both number one_class) (either (both number (both number number)) (either (both number number) (either (both number number) (both number (both number number)))))))))))))
 
 pub is_there : (forms : List Form) (form : Form) → Contains forms form ⊎ ¬ Contains forms form
 is_there [] form = inr (λ c. absurd (omega (arith, c.1)))

@@ -3,18 +3,20 @@ use Rattle.std.proofs.Common.{◌≡◌, ℕ, zero, suc, ◌<◌, ◌≤◌, ◌
 use Rattle.std.proofs.lemmas.List.{take-append-drop}
 use Rattle.std.proofs.lemmas.List.Elements.{Contains-append_left}
 use Rattle.std.proofs.lemmas.Option.{none-some, same_Some}
+use Rattle.axioms.specs.declared.ids.IndId.{IndId}
 use Rattle.normal_forms.specs.declared.forms.Form.{Form}
-use Rattle.normal_forms.specs.declared.forms.Form.TheVariants.{N1, N2, N3, N4, N5, N6, N7, N8, N9}
+use Rattle.normal_forms.specs.declared.forms.Form.TheVariants.{N1, N2, N3, N4, N5, N6, N7, N8, N9, N10, N11, N12}
 use Rattle.normal_forms.specs.declared.forms.PropId2.{PropId2}
 use Rattle.normal_forms.specs.declared.forms.PropId2.TheVariants.{Property}
 use Rattle.normal_forms.specs.Properties.{IsAtOrBelow, same, step}
 use Rattle.facts.specs.declared.contexts.Context.{Context}
+use Rattle.facts.specs.declared.contexts.Context.TheVariants.{Individual}
 use Rattle.facts.specs.declared.contexts.Fact.{Fact}
 use Rattle.facts.specs.declared.contexts.Fact.TheVariants.{In, Edge}
-use Rattle.facts.specs.Closure.{Problem, IsContextBy, FromOne, FromTwo, Concludes, Gives, in_thing, in_itself, by_form, unsatisfiable, loop}
+use Rattle.facts.specs.Closure.{Problem, IsContextBy, FromOne, FromTwo, Concludes, AreSame, HandsOn, Links, Gives, in_thing, in_itself, by_form, unsatisfiable, loop, handed_on, different}
 use Rattle.facts.specs.Births.{Reason}
 use Rattle.facts.proofs.Premises.{no_three}
-use Rattle.saturate.specs.Requests.{Asks, IsAskedAnew, IsNew}
+use Rattle.saturate.specs.Requests.{Asks, IsAskedAnew, IsNew, IsOneOf}
 use Rattle.inference.specs.Derivations.{Derived, IsDerived, Grows, Keeps}
 use Rattle.saturate.specs.Growth.{with_more, KeepsServed}
 use Rattle.inference.specs.Entry.{HasBegun}
@@ -68,9 +70,47 @@ below_cases forms added p _ (step s t h c) = ⊎_elim
     (λ asked. inr asked)
     (below_cases forms added p (Property s) h)
 
+-- ---- individuals
+
+same_more : (forms added : List Form) (i j : IndId) → AreSame forms i j → AreSame (forms ++ added) i j
+same_more forms added i _ AreSame.itself = AreSame.itself
+same_more forms added i j (AreSame.step h form p c l) = AreSame.step h form (same_more forms added i h p) (Contains-append_left forms added form c) l
+
+-- a form that makes two one names them
+linked_form : (form : Form) (i j : IndId) → Links form i j → (a : IndId) × (b : IndId) × (form ≡ N10 a b) × IsOneOf a b (Individual i)
+linked_form (N10 a b) i j l = (a, b, refl, ⊎_elim (λ w. inl (ap Individual w.0)) (λ w. inr (ap Individual w.0)) l)
+linked_form (N1 _ _) i j l = absurd l
+linked_form (N2 _ _ _) i j l = absurd l
+linked_form (N3 _ _ _) i j l = absurd l
+linked_form (N4 _ _ _) i j l = absurd l
+linked_form (N5 _ _) i j l = absurd l
+linked_form (N6 _ _ _) i j l = absurd l
+linked_form (N7 _) i j l = absurd l
+linked_form (N8 _ _) i j l = absurd l
+linked_form (N9 _ _ _) i j l = absurd l
+linked_form (N11 _ _) i j l = absurd l
+linked_form (N12 _ _ _) i j l = absurd l
+
 -- ---- what facts give
 
 module _ (k : Problem) (forms : List Form) (roots : List Context) where
+  more_one : (form : Form) (g f : Fact) → FromOne k form g f → FromOne (with_more k forms roots) form g f
+  more_one (N1 a b) (In c x) f w = w
+  more_one (N1 a b) (Edge _ _ _) f w = absurd w
+  more_one (N3 a r b) (In c x) f w = w
+  more_one (N3 a r b) (Edge _ _ _) f w = absurd w
+  more_one (N12 a r b) (Edge x q y) f w = (w.0, w.1, below_more k.forms forms q (Property r) w.2, w.3)
+  more_one (N12 a r b) (In _ _) f w = absurd w
+  more_one (N2 _ _ _) g f w = absurd w
+  more_one (N4 _ _ _) g f w = absurd w
+  more_one (N5 _ _) g f w = absurd w
+  more_one (N6 _ _ _) g f w = absurd w
+  more_one (N7 _) g f w = absurd w
+  more_one (N8 _ _) g f w = absurd w
+  more_one (N9 _ _ _) g f w = absurd w
+  more_one (N10 _ _) g f w = absurd w
+  more_one (N11 _ _) g f w = absurd w
+
   more_two : (form : Form) (g h f : Fact) → FromTwo k form g h f → FromTwo (with_more k forms roots) form g h f
   more_two (N2 a b c) (In d x) (In e y) f w = w
   more_two (N2 a b c) (In d x) (Edge _ _ _) f w = absurd w
@@ -87,10 +127,13 @@ module _ (k : Problem) (forms : List Form) (roots : List Context) where
   more_two (N7 _) g h f w = absurd w
   more_two (N8 _ _) g h f w = absurd w
   more_two (N9 _ _ _) g h f w = absurd w
+  more_two (N10 _ _) g h f w = absurd w
+  more_two (N11 _ _) g h f w = absurd w
+  more_two (N12 _ _ _) g h f w = absurd w
 
   concludes_more : (form : Form) (older : List Fact) (f : Fact) → Concludes k form older f → Concludes (with_more k forms roots) form older f
   concludes_more form [] f w = w
-  concludes_more form (g ∷ []) f w = w
+  concludes_more form (g ∷ []) f w = more_one form g f w
   concludes_more form (g ∷ h ∷ []) f w = more_two form g h f w
   concludes_more form (g ∷ h ∷ i ∷ rest) f w = absurd w
 
@@ -105,6 +148,8 @@ module _ (k : Problem) (forms : List Form) (roots : List Context) where
   gives_more {older = older} {f = f} (by_form n form at w) = by_form n form (slice_get_more k.forms forms n form at) (concludes_more form older f w)
   gives_more (unsatisfiable b) = unsatisfiable b
   gives_more {older = older} (loop x n form at l c) = loop x n form (slice_get_more k.forms forms n form at) l (context_more older x c)
+  gives_more (handed_on n form at on) = handed_on n form (slice_get_more k.forms forms n form at) on
+  gives_more (different n a b at alike) = different n a b (slice_get_more k.forms forms n (N11 a b) at) (same_more k.forms forms a b alike)
 
   -- facts keep their reasons
   pub derived_more : {d : Derived} → IsDerived k d → IsDerived (with_more k forms roots) d
@@ -119,11 +164,13 @@ module _ (k : Problem) (forms : List Form) (roots : List Context) where
   abbrev Unasked : Fact → Type 0
   Unasked f = ¬ IsAskedAnew k.forms (k.forms ++ forms) f
 
-  asks_one : (form : Form) (g f : Fact) → FromOne form g f → Asks (k.forms ++ forms) form g
+  asks_one : (form : Form) (g f : Fact) → FromOne (with_more k forms roots) form g f → Asks (k.forms ++ forms) form g
   asks_one (N1 a b) (In c x) f w = w.0
   asks_one (N1 a b) (Edge _ _ _) f w = absurd w
   asks_one (N3 a r b) (In c x) f w = w.0
   asks_one (N3 a r b) (Edge _ _ _) f w = absurd w
+  asks_one (N12 a r b) (Edge x q y) f w = (w.0, w.1, w.2)
+  asks_one (N12 a r b) (In _ _) f w = absurd w
   asks_one (N2 _ _ _) g f w = absurd w
   asks_one (N4 _ _ _) g f w = absurd w
   asks_one (N5 _ _) g f w = absurd w
@@ -131,6 +178,13 @@ module _ (k : Problem) (forms : List Form) (roots : List Context) where
   asks_one (N7 _) g f w = absurd w
   asks_one (N8 _ _) g f w = absurd w
   asks_one (N9 _ _ _) g f w = absurd w
+  asks_one (N10 _ _) g f w = absurd w
+  asks_one (N11 _ _) g f w = absurd w
+
+  asks_handed_on : (form : Form) {g f : Fact} → HandsOn form g f → Asks (k.forms ++ forms) form g
+  asks_handed_on form (HandsOn.class {i = i} {j = j} {c = c} l) = let w = linked_form form i j l in subst (λ (y : Form). Asks (k.forms ++ forms) y (In c (Individual i))) (sym w.2) w.3
+  asks_handed_on form (HandsOn.source {i = i} {j = j} {r = r} {y = y} l) = let w = linked_form form i j l in subst (λ (z : Form). Asks (k.forms ++ forms) z (Edge (Individual i) r y)) (sym w.2) (inl w.3)
+  asks_handed_on form (HandsOn.target {i = i} {j = j} {r = r} {x = x} l) = let w = linked_form form i j l in subst (λ (z : Form). Asks (k.forms ++ forms) z (Edge x r (Individual i))) (sym w.2) (inr w.3)
 
   asks_two : (form : Form) (g h f : Fact) → FromTwo (with_more k forms roots) form g h f → Asks (k.forms ++ forms) form g ⊎ Asks (k.forms ++ forms) form h
   asks_two (N2 a b c) (In d x) (In e y) f w = inl w.0
@@ -148,9 +202,29 @@ module _ (k : Problem) (forms : List Form) (roots : List Context) where
   asks_two (N7 _) g h f w = absurd w
   asks_two (N8 _ _) g h f w = absurd w
   asks_two (N9 _ _ _) g h f w = absurd w
+  asks_two (N10 _ _) g h f w = absurd w
+  asks_two (N11 _ _) g h f w = absurd w
+  asks_two (N12 _ _ _) g h f w = absurd w
 
   was_below : (x : Context) (p : PropId2) (y : Context) (q : PropId2) → Unasked (Edge x p y) → IsAtOrBelow (k.forms ++ forms) p q → IsAtOrBelow k.forms p q
   was_below x p y q unasked low = ⊎_elim (λ old. old) (λ asked. absurd (unasked (asked x y))) (below_cases k.forms forms p q low)
+
+  one_before : (form : Form) (g f : Fact) → Unasked g → FromOne (with_more k forms roots) form g f → FromOne k form g f
+  one_before (N1 a b) (In c x) f u w = w
+  one_before (N1 a b) (Edge _ _ _) f u w = absurd w
+  one_before (N3 a r b) (In c x) f u w = w
+  one_before (N3 a r b) (Edge _ _ _) f u w = absurd w
+  one_before (N12 a r b) (Edge x q y) f u w = (w.0, w.1, was_below x q y (Property r) u w.2, w.3)
+  one_before (N12 a r b) (In _ _) f u w = absurd w
+  one_before (N2 _ _ _) g f u w = absurd w
+  one_before (N4 _ _ _) g f u w = absurd w
+  one_before (N5 _ _) g f u w = absurd w
+  one_before (N6 _ _ _) g f u w = absurd w
+  one_before (N7 _) g f u w = absurd w
+  one_before (N8 _ _) g f u w = absurd w
+  one_before (N9 _ _ _) g f u w = absurd w
+  one_before (N10 _ _) g f u w = absurd w
+  one_before (N11 _ _) g f u w = absurd w
 
   two_before : (form : Form) (g h f : Fact) → Unasked g → Unasked h → FromTwo (with_more k forms roots) form g h f → FromTwo k form g h f
   two_before (N2 a b c) (In d x) (In e y) f u v w = w
@@ -168,6 +242,9 @@ module _ (k : Problem) (forms : List Form) (roots : List Context) where
   two_before (N7 _) g h f u v w = absurd w
   two_before (N8 _ _) g h f u v w = absurd w
   two_before (N9 _ _ _) g h f u v w = absurd w
+  two_before (N10 _ _) g h f u v w = absurd w
+  two_before (N11 _ _) g h f u v w = absurd w
+  two_before (N12 _ _ _) g h f u v w = absurd w
 
   -- ---- what was redundant is redundant still
 
@@ -181,6 +258,9 @@ module _ (k : Problem) (forms : List Form) (roots : List Context) where
   goes_on_more (N7 _) on = on
   goes_on_more (N8 _ _) on = on
   goes_on_more (N9 _ _ _) on = on
+  goes_on_more (N10 _ _) on = on
+  goes_on_more (N11 _ _) on = on
+  goes_on_more (N12 _ _ _) on = on
 
   ends_more : (p : PropId2) (form : Form) → EndsAbove k.forms p form → EndsAbove (k.forms ++ forms) p form
   ends_more p (N6 r s t) low = below_more k.forms forms p s low
@@ -192,6 +272,9 @@ module _ (k : Problem) (forms : List Form) (roots : List Context) where
   ends_more p (N7 _) low = low
   ends_more p (N8 _ _) low = low
   ends_more p (N9 _ _ _) low = low
+  ends_more p (N10 _ _) low = low
+  ends_more p (N11 _ _) low = low
+  ends_more p (N12 _ _ _) low = low
 
   -- what is redundant by a form is redundant by each that is equal to it
   redundant_more : (d : Derived) (g h : Fact) (m n : ℕ) (form : Form) → slice_get k.forms m ≡ Some form → slice_get (k.forms ++ forms) n ≡ Some form
@@ -235,9 +318,15 @@ module _ (k : Problem) (forms : List Form) (roots : List Context) where
         let v = was_served g w in
         ⊎_elim
         (λ new. absurd (v.3 (form, new, asks_one form g f gives)))
-        (λ before. alone g f (v.0, v.1, v.2) (by_form before.0 form before.1 gives))
+        (λ before. alone g f (v.0, v.1, v.2) (by_form before.0 form before.1 (one_before form g f v.3 gives)))
         (new_or_there k.forms forms form (Contains-from_slice_get (k.forms ++ forms) n form at))
     one g f w (unsatisfiable b) = absurd b
+    one g f w (handed_on n form at on) =
+        let v = was_served g w in
+        ⊎_elim
+        (λ new. absurd (v.3 (form, new, asks_handed_on form on)))
+        (λ before. alone g f (v.0, v.1, v.2) (handed_on before.0 form before.1 on))
+        (new_or_there k.forms forms form (Contains-from_slice_get (k.forms ++ forms) n form at))
     one g f w (loop x n form at l c) = let v = was_served g w in s.loops v.0 g x v.2 c form (Contains-from_slice_get (k.forms ++ forms) n form at) f l
 
     -- what two facts gave by a form is there still, or redundant still, also by an equal form

@@ -2,17 +2,22 @@
 use Rattle.std.proofs.Common.{◌≡◌, ℕ, zero, suc, ◌<◌, ⊎_elim, List, [], ◌∷◌, map, take, slice_get, Some, None, Option, Contains, refl, sym, subst, arith}
 use Rattle.std.proofs.lemmas.Option.{none-some, same_Some}
 use Rattle.normal_forms.specs.declared.forms.Form.{Form}
-use Rattle.normal_forms.specs.declared.forms.Form.TheVariants.{N1, N2, N3, N4, N5, N6, N7, N8, N9}
+use Rattle.normal_forms.specs.declared.forms.Form.TheVariants.{N1, N2, N3, N4, N5, N6, N7, N8, N9, N10, N11, N12}
 use Rattle.normal_forms.specs.declared.forms.PropId2.{PropId2}
 use Rattle.normal_forms.specs.declared.forms.PropId2.TheVariants.{Property}
 use Rattle.normal_forms.specs.Properties.{IsAtOrBelow, same, step}
 use Rattle.facts.specs.declared.contexts.Context.{Context}
 use Rattle.facts.specs.declared.contexts.Fact.{Fact}
 use Rattle.facts.specs.declared.contexts.Fact.TheVariants.{In, Edge}
-use Rattle.facts.specs.Closure.{Problem, FromTwo, Concludes, IsLoop, Gives, in_thing, in_itself, by_form, unsatisfiable, loop}
+use Rattle.facts.specs.Closure.{Problem, FromTwo, Concludes, HandsOn, IsLoop, Gives, in_thing, in_itself, by_form, unsatisfiable, loop, handed_on, different}
 use Rattle.inference.specs.Derivations.{Derived, IsDerived}
 use Rattle.inference.specs.Completeness.{AreRedundant, Drawn, DrawnUpToRedundancy, EndsAbove, GoesOn}
 use Rattle.inference.proofs.Lists.{Contains-from_slice_get, one_value, slice_get_take, slice_get-from_Contains}
+
+chains_hand_nothing_on : (r s t : PropId2) {g f : Fact} → HandsOn (N6 r s t) g f → ⊥
+chains_hand_nothing_on r s t (HandsOn.class l) = l
+chains_hand_nothing_on r s t (HandsOn.source l) = l
+chains_hand_nothing_on r s t (HandsOn.target l) = l
 
 -- the form of that number is a chain: what is given by it is given as by a chain
 by_chain_form : {k : Problem} {c i : ℕ} {o : Option ℕ} {older : List Fact} {f : Fact} (r s t : PropId2) → Gives k c o older f → o ≡ Some i → slice_get k.forms i ≡ Some (N6 r s t) → Concludes k (N6 r s t) older f
@@ -25,6 +30,14 @@ by_chain_form {i = i} r s t (unsatisfiable b) e at = absurd (none-some i e)
 by_chain_form {k} {i = i} {f = f} r s t (loop x n form there l c) e at =
     let n_is : n ≡ i = same_Some n i e in
     absurd (subst (λ (y : Form). IsLoop x y f) (one_value _ form (N6 r s t) there (subst (λ (j : ℕ). slice_get k.forms j ≡ Some (N6 r s t)) (sym n_is) at)) l)
+
+by_chain_form {k} {i = i} {f = f} r s t (handed_on {g = g} n form there on) e at =
+    let n_is : n ≡ i = same_Some n i e in
+    absurd (chains_hand_nothing_on r s t (subst (λ (y : Form). HandsOn y g f) (one_value _ form (N6 r s t) there (subst (λ (j : ℕ). slice_get k.forms j ≡ Some (N6 r s t)) (sym n_is) at)) on))
+by_chain_form {k} {i = i} r s t (different n a b there alike) e at =
+    let n_is : n ≡ i = same_Some n i e in
+    let is : N11 a b ≡ N6 r s t = one_value _ (N11 a b) (N6 r s t) there (subst (λ (j : ℕ). slice_get k.forms j ≡ Some (N6 r s t)) (sym n_is) at) in
+    absurd (cc)
 
 -- what is below what is below
 below_both : (forms : List Form) (p q r : PropId2) → IsAtOrBelow forms p q → IsAtOrBelow forms q r → IsAtOrBelow forms p r
@@ -84,6 +97,9 @@ module _ {k : Problem} {d : Derived} (s : IsDerived k d) (complete : (f g : Fact
   by_chain n i (N7 _) e at on low joins f g h there places older are from gives = absurd on
   by_chain n i (N8 _ _) e at on low joins f g h there places older are from gives = absurd on
   by_chain n i (N9 _ _ _) e at on low joins f g h there places older are from gives = absurd on
+  by_chain n i (N10 _ _) e at on low joins f g h there places older are from gives = absurd on
+  by_chain n i (N11 _ _) e at on low joins f g h there places older are from gives = absurd on
+  by_chain n i (N12 _ _ _) e at on low joins f g h there places older are from gives = absurd on
 
   redundant_is_there : (n : ℕ) → ((m : ℕ) → m < n → Joins m) → (f g : Fact) (c : ℕ) (o : Option ℕ) (h : Fact) → Contains d.facts f → slice_get d.facts n ≡ Some g → Gives k c o (f ∷ g ∷ []) h → AreRedundant k d (f ∷ g ∷ []) o → Contains d.facts h
   redundant_is_there n joins f g c None h there at gives w = absurd w

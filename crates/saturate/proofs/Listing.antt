@@ -3,7 +3,7 @@ use Rattle.std.proofs.Common.{◌≡◌, ℕ, ◌<◌, ◌⊎◌, inl, inr, ⊎_
 use Rattle.std.proofs.lemmas.List.Elements.{Contains-push, Contains-push_cases}
 use Rattle.std.proofs.lemmas.Option.{slice_get_within}
 use Rattle.normal_forms.specs.declared.forms.Form.{Form}
-use Rattle.normal_forms.specs.declared.forms.Form.TheVariants.{N1, N2, N3, N4, N5, N6, N7, N8, N9}
+use Rattle.normal_forms.specs.declared.forms.Form.TheVariants.{N1, N2, N3, N4, N5, N6, N7, N8, N9, N10, N11, N12}
 use Rattle.facts.specs.declared.contexts.Context.{Context}
 use Rattle.facts.specs.declared.contexts.Fact.{Fact}
 use Rattle.facts.specs.declared.contexts.Fact.TheVariants.{In, Edge}
@@ -211,6 +211,9 @@ from_two k (N6 _ _ _) (In _ _) g h w = absurd w
 from_two k (N7 _) f g h w = absurd w
 from_two k (N8 _ _) f g h w = absurd w
 from_two k (N9 _ _ _) f g h w = absurd w
+from_two k (N10 _ _) f g h w = absurd w
+from_two k (N11 _ _) f g h w = absurd w
+from_two k (N12 _ _ _) f g h w = absurd w
 
 carried : (f g h : Fact) → Carries f g h → Touch f g
 carried (Edge _ _ _) (In _ _) h w = sym w.1

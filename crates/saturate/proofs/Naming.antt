@@ -6,7 +6,7 @@ use Rattle.inference.proofs.Lists.{Contains-from_slice_get, slice_get-from_Conta
 use Rattle.normal_forms.specs.declared.forms.PropId2.{PropId2}
 use Rattle.normal_forms.specs.declared.forms.PropId2.TheVariants.{Property, Partial}
 use Rattle.normal_forms.specs.declared.forms.Form.{Form}
-use Rattle.normal_forms.specs.declared.forms.Form.TheVariants.{N1, N2, N3, N4, N5, N6, N7, N8, N9}
+use Rattle.normal_forms.specs.declared.forms.Form.TheVariants.{N1, N2, N3, N4, N5, N6, N7, N8, N9, N10, N11, N12}
 use Rattle.normal_forms.specs.Properties.{IsPropertyFormOf, property_forms}
 use Rattle.property_closure.specs.PropertyClosures.{Known}
 use Rattle.inference.specs.PropertyClosures.{IsClosureOf}
@@ -27,6 +27,9 @@ form_stays c d m (N6 r s t) h = (property_stays c d m r h.0, property_stays c d 
 form_stays c d m (N7 r) h = property_stays c d m (Property r) h
 form_stays c d m (N8 _ _) h = tt
 form_stays c d m (N9 _ _ _) h = tt
+form_stays c d m (N10 _ _) h = tt
+form_stays c d m (N11 _ _) h = tt
+form_stays c d m (N12 _ _ _) h = tt
 
 pub names_stay : (c d : Counts) → IsMore c d → (form : Form) → HasNames c form → HasNames d form
 names_stay c d m form h = record {

@@ -4,7 +4,7 @@ use Rattle.std.specs.List.{AllByRecursion}
 use Rattle.std.proofs.lemmas.List.Elements.{Contains-push_cases}
 use Rattle.std.proofs.lemmas.Option.{none-some, slice_get_within, slice_get-get_or}
 use Rattle.facts.specs.declared.contexts.Fact.{Fact}
-use Rattle.facts.specs.Closure.{Problem, IsFact, AreFacts, given, none, more, in_thing, in_itself, by_form, unsatisfiable, loop}
+use Rattle.facts.specs.Closure.{Problem, IsFact, AreFacts, given, none, more, in_thing, in_itself, by_form, unsatisfiable, loop, different}
 use Rattle.facts.proofs.Premises.{no_three}
 use Rattle.inference.specs.Derivations.{Derived, IsDerived, Grows, HasMoreFactsThan}
 use Rattle.saturate.specs.Turns.{Queued}
@@ -118,6 +118,7 @@ module _ {k : Problem} (forms : k.forms ≡ []) (roots : k.roots ≡ []) where
   nothing_given facts c o f (by_form n form at gives) = absurd (nowhere k.forms forms n form at)
   nothing_given facts c o f (unsatisfiable back) = absurd back
   nothing_given facts c o f (loop x n form at l there) = absurd (nowhere k.forms forms n form at)
+  nothing_given facts c o f (different n a b at alike) = absurd (nowhere k.forms forms n _ at)
 
   pub begun : {d : Derived} {q : Queued} → d.facts ≡ [] → d.births ≡ [] → q.queued ≡ 0 → q.served ≡ [] → IsUnderWay k d q
   begun {d} {q} facts births zero empty = record {

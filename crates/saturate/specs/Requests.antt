@@ -1,17 +1,26 @@
 -- Which facts forms that are added ask for: what they give with others has to be drawn again.
-use Rattle.std.specs.Prelude.{◌≡◌, ℕ, List, slice_get, Some}
+use Rattle.std.specs.Prelude.{◌≡◌, ◌⊎◌, ℕ, List, slice_get, Some}
 use Rattle.std.specs.List.{Contains}
+use Rattle.axioms.specs.declared.ids.IndId.{IndId}
 use Rattle.normal_forms.specs.declared.forms.Form.{Form}
-use Rattle.normal_forms.specs.declared.forms.Form.TheVariants.{N1, N2, N3, N4, N5, N6}
+use Rattle.normal_forms.specs.declared.forms.Form.TheVariants.{N1, N2, N3, N4, N5, N6, N10, N12}
+use Rattle.normal_forms.specs.declared.forms.Class2.{Class2}
 use Rattle.normal_forms.specs.declared.forms.PropId2.{PropId2}
 use Rattle.normal_forms.specs.declared.forms.PropId2.TheVariants.{Property}
 use Rattle.normal_forms.specs.Properties.{IsAtOrBelow}
 use Rattle.property_closure.specs.PropertyClosures.{Known}
+use Rattle.facts.specs.declared.contexts.Context.{Context}
+use Rattle.facts.specs.declared.contexts.Context.TheVariants.{Individual}
 use Rattle.facts.specs.declared.contexts.Fact.{Fact}
 use Rattle.facts.specs.declared.contexts.Fact.TheVariants.{In, Edge}
 use Rattle.inference.specs.PropertyClosures.{IsClosureOf}
 
--- the form names the class of the fact, or a property at or above that of the edge: of two facts that a form needs one is enough
+-- one of the two individuals
+abbrev pub IsOneOf : IndId → IndId → Context → Type 0
+IsOneOf a b x = (x ≡ Individual a) ⊎ (x ≡ Individual b)
+
+-- the form names the class of the fact, or a property at or above that of the edge, or makes one of its individuals one with another, or denies
+-- the edge: of two facts that a form needs one is enough
 abbrev pub Asks : List Form → Form → Fact → Type 0
 Asks forms (N1 a b) (In c x) = c ≡ a
 Asks forms (N2 a b c) (In d x) = d ≡ a
@@ -19,7 +28,34 @@ Asks forms (N3 a r b) (In c x) = c ≡ a
 Asks forms (N4 r a b) (In c x) = c ≡ a
 Asks forms (N5 r s) (Edge x p y) = IsAtOrBelow forms p (Property r)
 Asks forms (N6 r s t) (Edge x p y) = IsAtOrBelow forms p r
+Asks forms (N10 a b) (In c x) = IsOneOf a b x
+Asks forms (N10 a b) (Edge x p y) = IsOneOf a b x ⊎ IsOneOf a b y
+Asks forms (N12 a r b) (Edge x p y) = (x ≡ Individual a) × (y ≡ Individual b) × IsAtOrBelow forms p (Property r)
 Asks forms _ _ = ⊥
+
+-- the form names the class
+abbrev pub NamesClass : Form → Class2 → Type 0
+NamesClass (N1 a b) c = c ≡ a
+NamesClass (N2 a b d) c = c ≡ a
+NamesClass (N3 a r b) c = c ≡ a
+NamesClass (N4 r a b) c = c ≡ a
+NamesClass _ c = ⊥
+
+-- the form names the property, or one above it, as the lower of two or the first of a chain
+abbrev pub NamesAbove : List Form → Form → PropId2 → Type 0
+NamesAbove forms (N5 r s) p = IsAtOrBelow forms p (Property r)
+NamesAbove forms (N6 r s t) p = IsAtOrBelow forms p r
+NamesAbove forms _ p = ⊥
+
+-- the form makes the individual one with another
+abbrev pub NamesIndividual : Form → Context → Type 0
+NamesIndividual (N10 a b) x = IsOneOf a b x
+NamesIndividual _ x = ⊥
+
+-- the form denies the edge
+abbrev pub Denies : List Form → Form → Fact → Type 0
+Denies forms (N12 a r b) (Edge x p y) = (x ≡ Individual a) × (y ≡ Individual b) × IsAtOrBelow forms p (Property r)
+Denies forms _ _ = ⊥
 
 -- the form asks for no fact
 abbrev pub AsksNothing : Form → Type 0
@@ -35,25 +71,36 @@ BeginsWith _ p = ⊥
 abbrev pub IsNew : List Form → List Form → Form → Type 0
 IsNew before now form = Contains now form × ¬ Contains before form
 
+-- one of the forms is such
+abbrev pub HasForm : (Form → Type 0) → List Form → Type 0
+HasForm P forms = (form : Form) × Contains forms form × P form
+
 -- one of the added forms asks for the fact, by all forms
 abbrev pub IsAsked : List Form → List Form → Fact → Type 0
-IsAsked forms added f = (form : Form) × Contains added form × Asks forms form f
+IsAsked forms added f = HasForm (λ form. Asks forms form f) added
 
 -- a new form asks for the fact, by all that are there now
 abbrev pub IsAskedAnew : List Form → List Form → Fact → Type 0
 IsAskedAnew before now f = (form : Form) × IsNew before now form × Asks now form f
 
--- the fact of that number is such
-abbrev pub IsSuchAt : (Fact → Type 0) → List Fact → ℕ → Type 0
-IsSuchAt P facts n = (f : Fact) × (slice_get facts n ≡ Some f) × P f
+-- what has that number is such
+abbrev pub IsSuchAt : {X : Type 0} → (X → Type 0) → List X → ℕ → Type 0
+IsSuchAt {X} P xs n = (x : X) × (slice_get xs n ≡ Some x) × P x
 
 -- a new form asks for the fact of that number
 abbrev pub IsAskedAt : List Form → List Form → List Fact → ℕ → Type 0
 IsAskedAt before now facts n = IsSuchAt (IsAskedAnew before now) facts n
 
+-- one of the added forms is such, or none is, by all forms, if the closure is that of all
+abbrev pub HasUnder : Known → (List Form → Form → Type 0) → List Form → Type 0
+HasUnder closure P added = (all : List Form) → IsClosureOf all closure → HasForm (P all) added
+
+abbrev pub LacksUnder : Known → (List Form → Form → Type 0) → List Form → Type 0
+LacksUnder closure P added = (all : List Form) → IsClosureOf all closure → HasForm (P all) added → ⊥
+
 -- one of the added forms asks for the fact, or none does, by all forms, if the closure is that of all
 abbrev pub IsAskedUnder : Known → List Form → Fact → Type 0
-IsAskedUnder closure added f = (all : List Form) → IsClosureOf all closure → IsAsked all added f
+IsAskedUnder closure added f = HasUnder closure (λ all form. Asks all form f) added
 
 abbrev pub IsUnaskedUnder : Known → List Form → Fact → Type 0
-IsUnaskedUnder closure added f = (all : List Form) → IsClosureOf all closure → IsAsked all added f → ⊥
+IsUnaskedUnder closure added f = LacksUnder closure (λ all form. Asks all form f) added

@@ -1,16 +1,20 @@
 //! Which facts forms that are added ask for.
-ghost use Rattle.facts.specs.declared.contexts.Context.{Context as Context2};
+ghost use Rattle.facts.specs.declared.contexts.Context.TheVariants as the_contexts;
 ghost use Rattle.facts.specs.declared.contexts.Fact.TheVariants as the_facts;
 ghost use Rattle.normal_forms.specs.declared.forms.Form.{Form as Form2};
+ghost use Rattle.normal_forms.specs.declared.forms.PropId2.TheVariants as the_properties;
+ghost use Rattle.normal_forms.specs.Properties.{IsAtOrBelow};
 ghost use Rattle.indexes.specs.Keys.{by_filler, by_first, class_key};
 ghost use Rattle.property_closure.specs.PropertyClosures.{Has};
-ghost use Rattle.saturate.specs.Requests.{BeginsWith, IsAsked, IsAskedUnder, IsUnaskedUnder};
+ghost use Rattle.saturate.specs.Requests.{BeginsWith, Denies, HasForm, HasUnder, IsAsked, IsAskedUnder, IsSuchAt, IsUnaskedUnder, LacksUnder, NamesAbove, NamesClass, NamesIndividual};
+ghost use Rattle.inference.specs.PropertyClosures.{IsClosureOf};
 ghost use Rattle.inference.specs.Visits.{HasProperty, NoneUnder};
-ghost use Rattle.std.specs.Prelude.{◌≡◌, ℕ, List, Contains, false, true};
+ghost use Rattle.std.specs.Prelude.{◌≡◌, ◌⊎◌, ◌↔◌, ℕ, Contains, IsTrue, List, false, true};
 
-use facts::Fact;
+use axioms::{IndId, PropId};
+use facts::{Context, Fact};
 use indexes::IndexedProblem;
-use normal_forms::{Class2, PropId2};
+use normal_forms::{Class2, Form, PropId2};
 use property_closure::PropertyClosure;
 
 /// Whether there is any number.
@@ -23,7 +27,7 @@ fn is_used(list: &[u32]) -> bool
 
 /// Whether one of the added forms asks for the facts of a class with others.
 fn asks_for_pairs(added: &IndexedProblem, class: Class2) -> bool
-    ensures yes { result ≡ true → (all : List Form2) (x : Context2) → IsAsked all added.now.forms (the_facts.In class x) }
+    ensures yes { result ≡ true → HasForm (λ form. NamesClass form class) added.now.forms }
     ensures first { result ≡ false → NoneUnder by_first added.now.forms (class_key class) }
     ensures filler { result ≡ false → NoneUnder by_filler added.now.forms (class_key class) }
 {
@@ -32,16 +36,16 @@ fn asks_for_pairs(added: &IndexedProblem, class: Class2) -> bool
 
 /// Whether one of the added forms asks for the facts of a class.
 fn asks_for_class(added: &IndexedProblem, class: Class2) -> bool
-    ensures yes { result ≡ true → (all : List Form2) (x : Context2) → IsAsked all added.now.forms (the_facts.In class x) }
-    ensures no { result ≡ false → (all : List Form2) (x : Context2) → IsAsked all added.now.forms (the_facts.In class x) → ⊥ }
+    ensures yes { result ≡ true → HasForm (λ form. NamesClass form class) added.now.forms }
+    ensures no { result ≡ false → HasForm (λ form. NamesClass form class) added.now.forms → ⊥ }
 {
     is_used(added.alone(class)) || asks_for_pairs(added, class)
 }
 
 /// Whether one of the added forms puts the property below another, or is a chain that begins with it.
 fn begins_with(added: &IndexedProblem, property: PropId2) -> bool
-    ensures yes { result ≡ true → (form : Form2) × Contains added.now.forms form × BeginsWith form property }
-    ensures no { result ≡ false → (form : Form2) → Contains added.now.forms form → BeginsWith form property → ⊥ }
+    ensures yes { result ≡ true → HasForm (λ form. BeginsWith form property) added.now.forms }
+    ensures no { result ≡ false → HasForm (λ form. BeginsWith form property) added.now.forms → ⊥ }
 {
     is_used(added.plain_from(property)) || is_used(added.chains_from(property))
 }
@@ -49,8 +53,8 @@ fn begins_with(added: &IndexedProblem, property: PropId2) -> bool
 /// Whether one of the added forms asks for the edges of a property.
 fn asks_for_edges(added: &IndexedProblem, closure: &PropertyClosure, property: PropId2) -> bool
     requires { Has closure.now property }
-    ensures yes { result ≡ true → (x y : Context2) → IsAskedUnder closure.now added.now.forms (the_facts.Edge x property y) }
-    ensures no { result ≡ false → (x y : Context2) → IsUnaskedUnder closure.now added.now.forms (the_facts.Edge x property y) }
+    ensures yes { result ≡ true → HasUnder closure.now (λ all form. NamesAbove all form property) added.now.forms }
+    ensures no { result ≡ false → LacksUnder closure.now (λ all form. NamesAbove all form property) added.now.forms }
 {
     for above in closure.supers(property) {
         if begins_with(added, *above) {
@@ -60,6 +64,149 @@ fn asks_for_edges(added: &IndexedProblem, closure: &PropertyClosure, property: P
     false
 }
 
+/// Whether one of the added forms makes the individual one with another.
+fn is_linked(added: &IndexedProblem, individual: IndId) -> bool
+    ensures yes { result ≡ true → HasForm (λ form. NamesIndividual form (the_contexts.Individual individual)) added.now.forms }
+    ensures no { result ≡ false → HasForm (λ form. NamesIndividual form (the_contexts.Individual individual)) added.now.forms → ⊥ }
+{
+    is_used(added.linked_first(individual)) || is_used(added.linked_second(individual))
+}
+
+/// Whether one of the added forms asks for the facts of a context: it is an individual that is made one with another.
+fn asks_for_individual(added: &IndexedProblem, context: Context) -> bool
+    ensures yes { result ≡ true → HasForm (λ form. NamesIndividual form context) added.now.forms }
+    ensures no { result ≡ false → HasForm (λ form. NamesIndividual form context) added.now.forms → ⊥ }
+{
+    match context {
+        Context::Individual(individual) => is_linked(added, individual),
+        Context::Expr(_) => false,
+    }
+}
+
+/// Whether one of the added forms asks for the facts of either context.
+fn asks_for_ends(added: &IndexedProblem, source: Context, target: Context) -> bool
+    ensures yes { result ≡ true → HasForm (λ form. NamesIndividual form source ⊎ NamesIndividual form target) added.now.forms }
+    ensures no { result ≡ false → HasForm (λ form. NamesIndividual form source ⊎ NamesIndividual form target) added.now.forms → ⊥ }
+{
+    asks_for_individual(added, source) || asks_for_individual(added, target)
+}
+
+fn is_listed(list: &[PropId2], property: PropId2) -> bool
+    ensures { IsTrue result ↔ Contains list.now property }
+{
+    list.contains(&property)
+}
+
+/// Whether the first property is the second or lies above it.
+fn is_above(closure: &PropertyClosure, above: PropId, property: PropId2) -> bool
+    requires { Has closure.now property }
+    ensures { (all : List Form2) → IsClosureOf all closure.now → IsTrue result ↔ IsAtOrBelow all property (the_properties.Property above) }
+{
+    is_listed(closure.supers(property), PropId2::Property(above))
+}
+
+/// Whether the form denies the edge.
+fn denies(
+    closure: &PropertyClosure,
+    form: Form,
+    source: IndId,
+    property: PropId2,
+    target: Context,
+) -> bool
+    requires { Has closure.now property }
+    ensures { (all : List Form2) → IsClosureOf all closure.now → IsTrue result ↔ Denies all form (the_facts.Edge (the_contexts.Individual source) property target) }
+{
+    match form {
+        Form::N12(a, r, b) => {
+            a == source && target == Context::Individual(b) && is_above(closure, r, property)
+        }
+        _ => false,
+    }
+}
+
+/// Whether the added form of that number denies the edge.
+fn denies_at(
+    added: &IndexedProblem,
+    closure: &PropertyClosure,
+    number: u32,
+    source: IndId,
+    property: PropId2,
+    target: Context,
+) -> bool
+    requires { Has closure.now property }
+    ensures { (all : List Form2) → IsClosureOf all closure.now → IsTrue result ↔ IsSuchAt (λ form. Denies all form (the_facts.Edge (the_contexts.Individual source) property target)) added.now.forms number }
+{
+    match added.form(number) {
+        Some(form) => denies(closure, form, source, property, target),
+        None => false,
+    }
+}
+
+/// Whether one of the added forms denies the edge from an individual.
+fn denied_from(
+    added: &IndexedProblem,
+    closure: &PropertyClosure,
+    source: IndId,
+    property: PropId2,
+    target: Context,
+) -> bool
+    requires { Has closure.now property }
+    ensures yes { result ≡ true → HasUnder closure.now (λ all form. Denies all form (the_facts.Edge (the_contexts.Individual source) property target)) added.now.forms }
+    ensures no { result ≡ false → LacksUnder closure.now (λ all form. Denies all form (the_facts.Edge (the_contexts.Individual source) property target)) added.now.forms }
+{
+    for number in added.denied(source) {
+        if denies_at(added, closure, *number, source, property, target) {
+            return true;
+        }
+    }
+    false
+}
+
+/// Whether one of the added forms denies the edge.
+fn asks_for_denied(
+    added: &IndexedProblem,
+    closure: &PropertyClosure,
+    source: Context,
+    property: PropId2,
+    target: Context,
+) -> bool
+    requires { Has closure.now property }
+    ensures yes { result ≡ true → HasUnder closure.now (λ all form. Denies all form (the_facts.Edge source property target)) added.now.forms }
+    ensures no { result ≡ false → LacksUnder closure.now (λ all form. Denies all form (the_facts.Edge source property target)) added.now.forms }
+{
+    match source {
+        Context::Individual(individual) => {
+            denied_from(added, closure, individual, property, target)
+        }
+        Context::Expr(_) => false,
+    }
+}
+
+/// Whether one of the added forms asks for the class in the context.
+fn asks_for_member(added: &IndexedProblem, class: Class2, context: Context) -> bool
+    ensures yes { result ≡ true → (all : List Form2) → IsAsked all added.now.forms (the_facts.In class context) }
+    ensures no { result ≡ false → (all : List Form2) → IsAsked all added.now.forms (the_facts.In class context) → ⊥ }
+{
+    asks_for_class(added, class) || asks_for_individual(added, context)
+}
+
+/// Whether one of the added forms asks for the edge.
+fn asks_for_edge(
+    added: &IndexedProblem,
+    closure: &PropertyClosure,
+    source: Context,
+    property: PropId2,
+    target: Context,
+) -> bool
+    requires { Has closure.now property }
+    ensures yes { result ≡ true → IsAskedUnder closure.now added.now.forms (the_facts.Edge source property target) }
+    ensures no { result ≡ false → IsUnaskedUnder closure.now added.now.forms (the_facts.Edge source property target) }
+{
+    asks_for_edges(added, closure, property)
+        || asks_for_ends(added, source, target)
+        || asks_for_denied(added, closure, source, property, target)
+}
+
 /// Whether one of the added forms asks for the fact. The closure is that of all forms.
 pub(crate) fn asks_for(added: &IndexedProblem, closure: &PropertyClosure, fact: Fact) -> bool
     requires { HasProperty closure.now fact }
@@ -67,7 +214,9 @@ pub(crate) fn asks_for(added: &IndexedProblem, closure: &PropertyClosure, fact: 
     ensures no { result ≡ false → IsUnaskedUnder closure.now added.now.forms fact }
 {
     match fact {
-        Fact::In(class, _) => asks_for_class(added, class),
-        Fact::Edge(_, property, _) => asks_for_edges(added, closure, property),
+        Fact::In(class, context) => asks_for_member(added, class, context),
+        Fact::Edge(source, property, target) => {
+            asks_for_edge(added, closure, source, property, target)
+        }
     }
 }

@@ -144,6 +144,7 @@ fn begun_again<W: WorkList>(
     let rules = Rules {
         problem,
         closure: ground.closure(),
+        groups: ground.groups(),
         max_facts: u32::MAX,
     };
     let Ok(()) = rules.begin_again(facts) else {

@@ -1,32 +1,35 @@
 //! What facts are drawn from.
 ghost use Rattle.inference.specs.PropertyClosures.{IsClosureOf};
+ghost use Rattle.inference.specs.Sameness.{AreGroupsOf};
 ghost use Rattle.std.specs.Prelude.{◌≡◌, ◌++◌, [], IfOk};
 
 use crate::counts::counted;
 use axioms::Memory;
 use facts::Context;
-use indexes::IndexedProblem;
+use indexes::{Groups, IndexedProblem};
 use normal_forms::FormList;
 use property_closure::{PropertyClosure, close};
 use std::alloc::Global;
 use std::marker::Model;
 
-/// Normal forms and the contexts that are there from the start, with what the forms say of properties.
+/// Normal forms and the contexts that are there from the start, with what the forms say of properties, and which individuals they make one.
 #[derive(Drop)]
 pub(crate) struct Ground {
     problem: IndexedProblem,
     closure: PropertyClosure,
+    groups: Groups,
 }
 
 impl Model for Ground {
     ghost use Rattle.facts.specs.Closure.{Problem};
     ghost use Rattle.inference.specs.PropertyClosures.{IsClosureOf};
+    ghost use Rattle.inference.specs.Sameness.{AreGroupsOf};
 
     ghost Value = { Problem };
 
     ghost view = { λ g. g.problem };
 
-    ghost invariant = { λ g. IsClosureOf g.problem.forms g.closure };
+    ghost invariant = { λ g. IsClosureOf g.problem.forms g.closure × AreGroupsOf g.problem.forms g.groups };
 }
 
 /// What the forms say of properties.
@@ -43,9 +46,15 @@ impl Ground {
         ensures forms { IfOk result (λ g. g.forms ≡ []) }
         ensures roots { IfOk result (λ g. g.roots ≡ []) }
     {
-        let closure = closed(alloc, &FormList::new(alloc))?;
+        let none = FormList::new(alloc);
+        let groups = Groups::of(alloc, &none)?;
+        let closure = closed(alloc, &none)?;
         let problem = IndexedProblem::empty(alloc);
-        Ok(Ground { problem, closure })
+        Ok(Ground {
+            problem,
+            closure,
+            groups,
+        })
     }
 
     /// These forms, and the same contexts with those that are added.
@@ -58,14 +67,14 @@ impl Ground {
         ensures forms { IfOk result (λ g. g.forms ≡ forms.now) }
         ensures roots { IfOk result (λ g. g.roots ≡ self.now.roots ++ roots.now) }
     {
+        let groups = Groups::of(alloc, forms)?;
+        let closure = closed(alloc, forms)?;
         let problem = self.problem.grown(forms, roots)?;
-        match closed(alloc, problem.forms()) {
-            Ok(closure) => Ok(Ground { problem, closure }),
-            Err(error) => {
-                drop(problem);
-                Err(error)
-            }
-        }
+        Ok(Ground {
+            problem,
+            closure,
+            groups,
+        })
     }
 
     /// The forms and contexts.
@@ -80,5 +89,12 @@ impl Ground {
         ensures { IsClosureOf self.now.forms result.now }
     {
         &self.closure
+    }
+
+    /// Which individuals the forms make one.
+    pub(crate) fn groups(&self) -> &Groups
+        ensures { AreGroupsOf self.now.forms result.now }
+    {
+        &self.groups
     }
 }

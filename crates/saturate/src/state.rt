@@ -275,6 +275,7 @@ impl<W: WorkList> State<W> {
         let rules = Rules {
             problem,
             closure,
+            groups: self.ground.groups(),
             max_facts,
         };
         rules.serve(&mut self.facts, &self.index, hand, fact, is_second)?;

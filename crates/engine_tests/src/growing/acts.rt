@@ -13,6 +13,8 @@ pub(super) enum Act {
     Stop,
     /// Looks whether so many facts are served.
     Serves(usize),
+    /// Looks whether there are so many facts.
+    Has(usize),
 }
 
 /// All that a problem has.
