@@ -30,7 +30,6 @@ by_chain_form {i = i} r s t (unsatisfiable b) e at = absurd (none-some i e)
 by_chain_form {k} {i = i} {f = f} r s t (loop x n form there l c) e at =
     let n_is : n ≡ i = same_Some n i e in
     absurd (subst (λ (y : Form). IsLoop x y f) (one_value _ form (N6 r s t) there (subst (λ (j : ℕ). slice_get k.forms j ≡ Some (N6 r s t)) (sym n_is) at)) l)
-
 by_chain_form {k} {i = i} {f = f} r s t (handed_on {g = g} n form there on) e at =
     let n_is : n ≡ i = same_Some n i e in
     absurd (chains_hand_nothing_on r s t (subst (λ (y : Form). HandsOn y g f) (one_value _ form (N6 r s t) there (subst (λ (j : ℕ). slice_get k.forms j ≡ Some (N6 r s t)) (sym n_is) at)) on))
