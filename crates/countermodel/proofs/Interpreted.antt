@@ -1,5 +1,5 @@
 -- The interpretation whose members are listed.
-use Rattle.std.proofs.Common.{◌≡◌, ◌↔◌, ◌⊎◌, inl, inr, ℕ, zero, suc, ◌+◌, ◌<◌, ◌≤◌, ◌==◌, ◌||◌, ◌^◌, Bool, true, false, List, [], ◌∷◌, ◌++◌, length, get_or, map, slice_get, Option, Some, unwrap_or, All, Contains, refl, ap, ◌∙◌, subst, arith, eqb-true}
+use Rattle.std.proofs.Common.{◌≡◌, ◌↔◌, ◌⊎◌, inl, inr, ℕ, zero, suc, ◌+◌, ◌<◌, ◌≤◌, ◌==◌, ◌||◌, ◌^◌, Bool, true, false, List, [], ◌∷◌, ◌++◌, length, get_or, map, slice_get, Option, Some, unwrap_or, All, Contains, refl, sym, ap, ◌∙◌, subst, arith, eqb-true}
 use Rattle.std.specs.List.{list_any, enumerate_from}
 use Rattle.std.specs.Str.{bytes_eq}
 use Rattle.std.proofs.lemmas.Bool.{cases_lt, eq-eqb, or_cases, false≢true, false_from_ne_true}
@@ -19,7 +19,9 @@ use Rattle.certificate.specs.Certificate.{Listed}
 use Rattle.certificate.specs.Writability.{IsListedOf, IsNamedClass, listed_numbers}
 use Rattle.listed_model.specs.Listing.{IsListing, elements_of, targets_of}
 use Rattle.closure.specs.Closure.{Context, Expression, Individual, In, IsFact, IsRoot}
+use Rattle.closure.specs.Groups.{least_same}
 use Rattle.closure.proofs.Facts as fact
+use Rattle.closure.proofs.Groups.{and_then, turned, same_as_least, is_least, least_unique}
 use Rattle.normal_forms.specs.Forms.{Whole}
 use Rattle.exactness.specs.ListedInterpretation.{AreSatisfiableContexts, IsConsistent, IsListedInterpretation}
 use Rattle.exactness.specs.Acceptance.{IsListedFor}
@@ -121,12 +123,12 @@ module _ (o : Ontology) (asked : List ℕ) (w : IsOntology o) (consistent : IsCo
 
   inhabited : 0 < length elements
   inhabited =
-      let there = are.listed (Expression thing) (record { context = fact.root (IsRoot.named 0 thing w.thing_node); without_nothing = consistent.things }) in
+      let there = are.listed (Expression thing) (record { context = fact.root (IsRoot.named 0 thing w.thing_node); without_nothing = consistent.things }) tt in
       let l = slice_get_within elements there.0 (Expression thing) there.1 in
       omega arith
 
   number_within : (k m : ℕ) → slice_get numbers k ≡ Some m → m < length elements
-  number_within k m h = slice_get_within elements m (Individual k) (individuals.each k m h)
+  number_within k m h = slice_get_within elements m (Individual (least_same o k)) (individuals.each k m h)
 
   within : (k : ℕ) → get_or numbers k 0 < length elements
   within k = elim (cases_lt k (length numbers)) [
@@ -151,9 +153,10 @@ module _ (o : Ontology) (asked : List ℕ) (w : IsOntology o) (consistent : IsCo
         let targets = property_of r m n l in
         let edges = pair_rows.exact r m n x y at_m at_n in
         (λ h. edges.0 (targets.0 h), λ h. targets.1 (edges.1 h));
-    individuals = λ a m l at.
+    individuals = λ a b m l same at.
         let there : slice_get numbers a ≡ Some (get_or numbers a 0) = slice_get-get_or numbers a 0 (rw individuals.long l) in
-        individual_of a l ∙ one_place elements are.ascend (get_or numbers a 0) m (Individual a) (individuals.each a (get_or numbers a 0) there) at;
+        let least : b ≡ least_same o a = least_unique o asked (and_then (turned same) (same_as_least o asked a)) (are.leads m (Individual b) at) (is_least o asked a) in
+        individual_of a l ∙ one_place elements are.ascend (get_or numbers a 0) m (Individual b) (individuals.each a (get_or numbers a 0) there ∙ ap (λ c. Some (Individual c)) (sym least)) at;
     within = individual_within;
   }
 

@@ -7,7 +7,7 @@ use Rattle.axioms.proofs.Trees.{class_tree}
 use Rattle.listed_model.specs.Listing.{IsListing}
 use Rattle.certificate.specs.Certificate.{Listed}
 use Rattle.certificate.specs.Writability.{IsListedOf}
-use Rattle.closure.specs.Closure.{Context, Individual, In, IsFact}
+use Rattle.closure.specs.Closure.{Context, Individual, In, AreSame, IsFact}
 use Rattle.closure.proofs.Facts as fact
 use Rattle.exactness.specs.ListedInterpretation.{IsListedInterpretation, HasEdge}
 use Rattle.interpretation_spec.specs.Interpretation.{Interpretation, IsInterpretation, IsIn}
@@ -48,10 +48,10 @@ module _ (o : Ontology) (asked : List ℕ) (w : IsOntology o) (l : Listed) (of :
       let says = is.pairs r m n x y b h k in
       (λ t. says.0 (there.1 (here.0 t)), λ f. here.1 (there.0 (says.1 f)))
 
-  individuals : (a m : ℕ) → a < length o.names.individuals → slice_get elements m ≡ Some (Individual a) → j.individual (individual_name o a) ≡ m
-  individuals a m b h =
-      let at = slice_get-get_or l.individuals a 0 (subst (λ n. a < n) (sym of.individuals_each) b) in
-      lists'.individuals a _ at ∙ (sym (lists.individuals a _ at) ∙ is.individuals a m b h)
+  individuals : (a b m : ℕ) → a < length o.names.individuals → AreSame o asked a b → slice_get elements m ≡ Some (Individual b) → j.individual (individual_name o a) ≡ m
+  individuals a b m there same h =
+      let at = slice_get-get_or l.individuals a 0 (subst (λ n. a < n) (sym of.individuals_each) there) in
+      lists'.individuals a _ at ∙ (sym (lists.individuals a _ at) ∙ is.individuals a b m there same h)
 
   pub same_members : IsListedInterpretation o asked elements j
   same_members = record {

@@ -1,5 +1,5 @@
--- Lists of the contexts that pass a test, in their order.
-use Rattle.std.specs.Prelude.{◌≡◌, ℕ, ◌<◌, ◌^◌, Bool, true, List, length, slice_get, Option, Some}
+-- Lists of the contexts of which something holds, in their order.
+use Rattle.std.specs.Prelude.{◌≡◌, ℕ, ◌<◌, ◌^◌, List, length, slice_get, Option, Some}
 use Rattle.std.specs.List.{AllPairs}
 use Rattle.axioms.specs.declared.ids.ExprId.{ExprId}
 use Rattle.axioms.specs.declared.ids.IndId.{IndId}
@@ -9,12 +9,12 @@ use Rattle.closure.specs.Closure.{Context}
 use Rattle.exactness.specs.ListedInterpretation.{IsBefore}
 use Rattle.countermodel.specs.declared.elements.Elements.TheInside.{Inside}
 
--- exactly those before the bound that pass, in order
-pub record AreBefore (test : Context → Bool) (bound : Context) (xs : List Context) : Type 0 where
+-- exactly those before the bound of which P holds, in order
+pub record AreBefore (P : Context → Type 0) (bound : Context) (xs : List Context) : Type 0 where
   pub ascend : AllPairs IsBefore xs
   pub before : (m : ℕ) (x : Context) → slice_get xs m ≡ Some x → IsBefore x bound
-  pub pass : (m : ℕ) (x : Context) → slice_get xs m ≡ Some x → test x ≡ true
-  pub all : (x : Context) → test x ≡ true → IsBefore x bound → (m : ℕ) × (slice_get xs m ≡ Some x)
+  pub pass : (m : ℕ) (x : Context) → slice_get xs m ≡ Some x → P x
+  pub all : (x : Context) → P x → IsBefore x bound → (m : ℕ) × (slice_get xs m ≡ Some x)
 
 -- the table has the place of each expression of the list
 abbrev pub PlacesExpressions : List code.Context → List ℕ → Type 0

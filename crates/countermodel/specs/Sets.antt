@@ -1,5 +1,5 @@
 -- Sets of contexts.
-use Rattle.std.specs.Prelude.{◌<◌, Bool, true, not, ◌&&◌, length, slice_set}
+use Rattle.std.specs.Prelude.{◌≡◌, ◌<◌, Bool, true, not, ◌&&◌, length, slice_set}
 use Rattle.axioms.specs.Ontology.{Ontology}
 use Rattle.facts.specs.declared.contexts.Context as code
 use Rattle.facts.specs.declared.contexts.Context.TheVariants.{Expr, Individual as Individual2}
@@ -20,6 +20,9 @@ with_context s (Individual2 a) = record s { individuals = slice_set s.individual
 -- whether owl:Thing is there, and not owl:Nothing
 abbrev pub admits : Satisfiable → Context → Bool
 admits s x = holds s.things x && not (holds s.nothings x)
+
+abbrev pub IsAdmitted : Satisfiable → Context → Type 0
+IsAdmitted s x = admits s x ≡ true
 
 -- the ontology has the expression or individual
 abbrev pub IsWithin : Ontology → Context → Type 0

@@ -7,8 +7,8 @@ use Rattle.interpretation_spec.specs.NamedInterpretation.{interpretation_of}
 use Rattle.interpretation_spec.specs.Interpretation.{IsModel}
 use Rattle.interpretation_spec.specs.NumberedInterpretation.{NumberedInterpretation}
 
--- its elements are the contexts without owl:Nothing, each in exactly the named classes and asked expressions that are facts of it; and it
--- satisfies each axiom as it was written
+-- its elements are the contexts without owl:Nothing, of individuals that are one the least, each in exactly the named classes and asked
+-- expressions that are facts of it; and it satisfies each axiom as it was written
 pub record IsBuilt (o : Ontology) (asked : List ℕ) (i : NumberedInterpretation) : Type 0 where
   pub elements : List Context
   pub listed : IsListedInterpretation o asked elements (interpretation_of o.names i)

@@ -12,9 +12,9 @@ use engine::Saturation;
 use interpretation_spec::Interpretation;
 use std::alloc::Global;
 
-/// The interpretation that the closure of a consistent ontology lists: an element for each context without `owl:Nothing`, in
-/// exactly the named classes that are facts of it, and in an expression that is asked about exactly where that is in its context. It
-/// satisfies every axiom as it was written.
+/// The interpretation that the closure of a consistent ontology lists: an element for each context without `owl:Nothing`, and one for
+/// all individuals that are one, in exactly the named classes that are facts of it, and in an expression that is asked about exactly
+/// where that is in its context. It satisfies every axiom as it was written.
 ///
 /// # Errors
 ///

@@ -4,24 +4,28 @@ ghost use Rattle.exactness.specs.ListedInterpretation.{AreSatisfiableContexts};
 ghost use Rattle.closure.specs.Denotations.{context_of};
 ghost use Rattle.countermodel.specs.Elements.{contexts_of};
 ghost use Rattle.countermodel.specs.ContextLists.{AreBefore, PlacesExpressions, PlacesIndividuals, place_in};
-ghost use Rattle.countermodel.specs.Sets.{admits};
+ghost use Rattle.countermodel.specs.Leading.{AreGroupsOf, AreLinks, IsElementBy};
+ghost use Rattle.countermodel.specs.Sets.{IsAdmitted};
 ghost use Rattle.engine.specs.Saturations.{IsSaturated};
 ghost use Rattle.std.specs.Prelude.{◌≡◌, ◌<◌, ◌≤◌, ◌^◌, ◌↔◌, [], IfOk, IsTrue, MatchOption, OnOk, Some, List, length, slice_get, ℕ};
 
+use crate::groups::groups_of;
 use crate::satisfiable::Satisfiable;
 use axioms::{ExprId, IndId, Memory, Ontology};
 use engine::Saturation;
 use facts::Context;
+use indexes::Groups;
 use std::alloc::Global;
 use std::marker::Model;
 
-/// The satisfiable contexts in order: expressions by number, and then individuals. Their places are the elements.
+/// The satisfiable contexts in order: expressions by number, and then individuals, of each group its least. Their places are the
+/// elements.
 #[derive(Drop)]
 pub struct Elements {
     contexts: Vec<Context>,
-    // of each expression how many contexts come before it: its place, if it is a context
+    // of each expression how many elements come before it: its place, if it is an element
     expressions: Vec<u32>,
-    // of each individual how many contexts come before it: its place, if it is a context
+    // of each individual how many elements come before it: its place, if it is an element
     individuals: Vec<u32>,
 }
 
@@ -58,7 +62,7 @@ fn list_expressions(
     requires bounded { expressions ≤ 2 ^ 32 }
     requires contexts { contexts.old.items ≡ [] }
     requires places { places.old.items ≡ [] }
-    ensures listed { OnOk result (AreBefore (admits satisfiable.now) (Expression2 expressions) (contexts_of contexts.new.items)) }
+    ensures listed { OnOk result (AreBefore (IsAdmitted satisfiable.now) (Expression2 expressions) (contexts_of contexts.new.items)) }
     ensures placed { OnOk result (PlacesExpressions contexts.new.items places.new.items) }
 {
     for number in 0..expressions {
@@ -71,25 +75,35 @@ fn list_expressions(
     Ok(())
 }
 
-/// Adds the individuals that are contexts, in order. The list gets the number of contexts before each individual.
+/// Whether the individual is a context, and the least of its group.
+fn is_element(satisfiable: &Satisfiable, groups: &Groups, individual: IndId) -> bool
+    requires { AreLinks groups.now }
+    ensures { IsTrue result ↔ IsElementBy satisfiable.now groups.now (Individual2 individual.0) }
+{
+    satisfiable.contains(Context::Individual(individual)) && groups.least(individual) == individual
+}
+
+/// Adds the individuals that are elements, in order. The list gets the number of contexts before each individual.
 fn list_individuals(
     contexts: &mut Vec<Context>,
     places: &mut Vec<u32>,
     satisfiable: &Satisfiable,
+    groups: &Groups,
     individuals: usize,
 ) -> Result<(), Memory>
     requires bounded { individuals ≤ 2 ^ 32 }
-    requires contexts { AreBefore (admits satisfiable.now) (Individual2 0) (contexts_of contexts.old.items) }
+    requires groups { AreLinks groups.now }
+    requires contexts { AreBefore (IsElementBy satisfiable.now groups.now) (Individual2 0) (contexts_of contexts.old.items) }
     requires places { places.old.items ≡ [] }
-    ensures listed { OnOk result (AreBefore (admits satisfiable.now) (Individual2 individuals) (contexts_of contexts.new.items)) }
+    ensures listed { OnOk result (AreBefore (IsElementBy satisfiable.now groups.now) (Individual2 individuals) (contexts_of contexts.new.items)) }
     ensures placed { OnOk result (PlacesIndividuals contexts.new.items places.new.items) }
     ensures kept { OnOk result ((table : List ℕ) → PlacesExpressions contexts.old.items table → PlacesExpressions contexts.new.items table) }
 {
     for number in 0..individuals {
-        let context = Context::Individual(IndId(number as u32));
+        let individual = IndId(number as u32);
         places.push(count(contexts)?)?;
-        if satisfiable.contains(context) {
-            contexts.push(context)?;
+        if is_element(satisfiable, groups, individual) {
+            contexts.push(Context::Individual(individual))?;
         }
     }
     Ok(())
@@ -131,6 +145,21 @@ impl Elements {
         requires { IsSaturated ontology.now saturation.now }
         ensures { IfOk result (λ e. AreSatisfiableContexts ontology.now saturation.now.normal.asked e) }
     {
+        let groups = groups_of(alloc, saturation)?;
+        Elements::by(alloc, ontology, saturation, &groups)
+    }
+
+    // The elements of a saturation, where the individuals form these groups.
+    pub(crate) fn by(
+        alloc: Global,
+        ontology: &Ontology,
+        saturation: &Saturation,
+        groups: &Groups,
+    ) -> Result<Elements, Memory>
+        requires saturated { IsSaturated ontology.now saturation.now }
+        requires groups { AreGroupsOf ontology.now saturation.now.normal.asked groups.now }
+        ensures { IfOk result (λ e. AreSatisfiableContexts ontology.now saturation.now.normal.asked e) }
+    {
         ontology.well_formed();
         ontology.bounded();
         let satisfiable = Satisfiable::of(alloc, ontology, saturation)?;
@@ -140,7 +169,7 @@ impl Elements {
         let many = ontology.expression_count();
         list_expressions(&mut contexts, &mut expressions, &satisfiable, many)?;
         let many = ontology.individuals().len();
-        list_individuals(&mut contexts, &mut individuals, &satisfiable, many)?;
+        list_individuals(&mut contexts, &mut individuals, &satisfiable, groups, many)?;
         count(&contexts)?;
         Ok(Elements {
             contexts,
@@ -163,7 +192,7 @@ impl Elements {
         self.contexts.len() as u32
     }
 
-    /// The element of the context; `None` where it is not satisfiable.
+    /// The element of the context; `None` where it is not satisfiable, or not the least of its group.
     pub fn element(&self, context: Context) -> Option<u32>
         ensures { MatchOption result ((m : ℕ) → slice_get self.now m ≡ Some (context_of context) → ⊥)
             (λ m. slice_get self.now m ≡ Some (context_of context)) }

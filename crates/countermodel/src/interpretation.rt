@@ -9,6 +9,7 @@ ghost use Rattle.std.specs.Prelude.{◌<◌, ◌^◌, All, IfOk, Some};
 use crate::claims::own_claims;
 use crate::class_rows::add_class_rows;
 use crate::elements::Elements;
+use crate::groups::groups_of;
 use crate::individuals::individual_elements;
 use crate::rows::pair_rows;
 use axioms::{Memory, Ontology};
@@ -31,11 +32,12 @@ pub fn listed(alloc: Global, ontology: &Ontology, saturation: &Saturation) -> Re
 {
     ontology.well_formed();
     ontology.bounded();
-    let elements = Elements::of(alloc, ontology, saturation)?;
+    let groups = groups_of(alloc, saturation)?;
+    let elements = Elements::by(alloc, ontology, saturation, &groups)?;
     let mut classes = Vec::new(alloc);
     add_class_rows(alloc, ontology, saturation, &elements, &mut classes)?;
     let pairs = pair_rows(alloc, ontology, saturation, &elements)?;
-    let individuals = individual_elements(alloc, ontology, &elements)?;
+    let individuals = individual_elements(alloc, ontology, &groups, &elements)?;
     let claims = own_claims(alloc, ontology, &elements)?;
     Ok(Listed {
         domain: elements.len(),

@@ -7,6 +7,7 @@ ghost use Rattle.std.specs.Prelude.{IfOk};
 use crate::claims::own_claims;
 use crate::class_rows::add_class_rows;
 use crate::elements::Elements;
+use crate::groups::groups_of;
 use crate::individuals::individual_elements;
 use crate::rows::add_pair_rows;
 use axioms::{Memory, Ontology};
@@ -32,11 +33,12 @@ pub fn text_with_listed(
 {
     ontology.well_formed();
     ontology.bounded();
-    let elements = Elements::of(alloc, ontology, saturation)?;
+    let groups = groups_of(alloc, saturation)?;
+    let elements = Elements::by(alloc, ontology, saturation, &groups)?;
     let mut text = lines.with_domain(elements.len())?;
     add_class_rows(alloc, ontology, saturation, &elements, &mut text)?;
     add_pair_rows(alloc, ontology, saturation, &elements, &mut text)?;
-    let individuals = individual_elements(alloc, ontology, &elements)?;
+    let individuals = individual_elements(alloc, ontology, &groups, &elements)?;
     let claims = own_claims(alloc, ontology, &elements)?;
     text.end(&individuals, &claims)
 }

@@ -10,7 +10,7 @@ use Rattle.countermodel.proofs.Taken.{all_taken}
 use Rattle.countermodel.proofs.interpretation.listed.Goals as goal
 
 pub individual_elements-requires : goal.individual_elements-requires
-individual_elements-requires c = (c.args.saturation.now.normal.asked, c.in_ok-elements.ensures, c.requires.consistent)
+individual_elements-requires c = (c.args.saturation.now.normal.asked, c.in_ok-groups.ensures c.args.ontology.now c.requires.saturated, c.in_ok-elements.ensures, c.requires.consistent)
 
 pub returns : goal.returns
 returns c =
