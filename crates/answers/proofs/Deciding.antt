@@ -11,7 +11,7 @@ use Rattle.facts.specs.declared.contexts.Fact.{Fact}
 use Rattle.facts.specs.declared.contexts.Fact.TheVariants.{In, Edge}
 use Rattle.normal_forms.specs.declared.forms.Class2.TheVariants as classes
 use Rattle.normal_forms.specs.declared.forms.Form.{Form}
-use Rattle.normal_forms.specs.declared.forms.Form.TheVariants.{N1, N2, N3, N4, N5, N6, N7, N8, N9}
+use Rattle.normal_forms.specs.declared.forms.Form.TheVariants.{N1, N2, N3, N4, N5, N6, N7, N8, N9, N10, N11, N12}
 
 abbrev pub Decided : Type 0 → Type 0
 Decided P = P ⊎ (P → ⊥)
@@ -88,6 +88,9 @@ via (N6 _ _ _) p q = inr (λ w. w)
 via (N7 _) p q = inr (λ w. w)
 via (N8 _ _) p q = inr (λ w. w)
 via (N9 _ _ _) p q = inr (λ w. w)
+via (N10 _ _) p q = inr (λ w. w)
+via (N11 _ _) p q = inr (λ w. w)
+via (N12 _ _ _) p q = inr (λ w. w)
 
 pub reach : (fs : List Form) (p q : ℕ) → Decided (Reach fs p q)
 reach [] p q = cases_eq p q
@@ -110,6 +113,9 @@ via_more (N6 _ _ _) P Q R h w = w
 via_more (N7 _) P Q R h w = w
 via_more (N8 _ _) P Q R h w = w
 via_more (N9 _ _ _) P Q R h w = w
+via_more (N10 _ _) P Q R h w = w
+via_more (N11 _ _) P Q R h w = w
+via_more (N12 _ _ _) P Q R h w = w
 
 -- where one of the forms puts s below t, and s is reached, t is reached too
 pub reach_on : (fs : List Form) (s t : PropId) (n p : ℕ) → slice_get fs n ≡ Some (N5 s t) → Reach fs p s.0 → Reach fs p t.0

@@ -1,10 +1,10 @@
--- Lines with a conclusion, and conclusions that are contradictions.
-use Rattle.std.proofs.Common.{◌≡◌, ◌↔◌, ℕ, suc, ◌+◌, ◌<◌, ◌≤◌, inl, inr, Bool, true, false, IsTrue, nat_eq, List, length, slice_get, Some, sym, ap, ap₂, ◌∙◌, refl, subst, arith}
-use Rattle.std.proofs.lemmas.Bool.{cases_eq, eq-eqb, eqb-true, false≢true}
+-- Lines with a conclusion, and subjects that are all things or an individual.
+use Rattle.std.proofs.Common.{◌≡◌, ◌↔◌, ℕ, suc, ◌+◌, ◌<◌, ◌≤◌, inl, inr, Bool, true, IsTrue, nat_eq, List, length, slice_get, Some, sym, ap, ap₂, ◌∙◌, refl, subst, arith}
+use Rattle.std.proofs.lemmas.Bool.{cases_eq, eq-eqb, eqb-true}
 use Rattle.std.proofs.lemmas.List.{length-map}
 use Rattle.std.proofs.lemmas.Option.{slice_get_within, same_Some}
 use Rattle.lemmas.proofs.Mapped.{slice_get_map}
-use Rattle.axioms.specs.Ontology.{thing, nothing}
+use Rattle.axioms.specs.Ontology.{thing}
 use Rattle.axioms.specs.declared.ids.ExprId.{ExprId}
 use Rattle.axioms.specs.declared.ids.IndId.{IndId}
 use Rattle.cert_check.specs.Acceptance.{IsTop}
@@ -14,9 +14,9 @@ use Rattle.certificate.specs.View.{subject_of, conclusion_of, line_of, lines_of}
 use Rattle.certificate.specs.declared.line.Subject as code_subject
 use Rattle.certificate.specs.declared.line.Subject.TheVariants.{Expr, Individual}
 use Rattle.certificate.specs.declared.line.Conclusion as code_conclusion
-use Rattle.certificate.specs.declared.line.Conclusion.TheVariants.{Sub, Edge}
+use Rattle.certificate.specs.declared.line.Conclusion.TheVariants.{Sub, Edge, Same}
 use Rattle.certificate.specs.declared.line.Line as code_line
-use Rattle.answers.specs.Findings.{IsContradiction, IsLineWith}
+use Rattle.answers.specs.Findings.{IsLineWith}
 
 -- ---- the code's conclusions
 
@@ -27,6 +27,7 @@ subject_from (certificate.Individual a) = Individual (record { 0 = a })
 abbrev conclusion_from : Conclusion → code_conclusion.Conclusion
 conclusion_from (certificate.Sub x c) = Sub (subject_from x) (record { 0 = c })
 conclusion_from (certificate.Edge x r y) = Edge (subject_from x) (record { 0 = r }) (subject_from y)
+conclusion_from (certificate.Same a b) = Same (record { 0 = a }) (record { 0 = b })
 
 subject_back : (x : code_subject.Subject) → subject_from (subject_of x) ≡ x
 subject_back (Expr e) = refl
@@ -35,6 +36,7 @@ subject_back (Individual a) = refl
 conclusion_back : (c : code_conclusion.Conclusion) → conclusion_from (conclusion_of c) ≡ c
 conclusion_back (Sub x c) = ap (λ (y : code_subject.Subject). Sub y c) (subject_back x)
 conclusion_back (Edge x r y) = ap₂ (λ (a b : code_subject.Subject). Edge a r b) (subject_back x) (subject_back y)
+conclusion_back (Same a b) = refl
 
 pub same_code : (a b : code_conclusion.Conclusion) → conclusion_of a ≡ conclusion_of b → a ≡ b
 same_code a b e = sym (conclusion_back a) ∙ ap conclusion_from e ∙ conclusion_back b
@@ -67,36 +69,13 @@ none_has P lines n long none k line at says =
     let low : k < length (lines_of lines) = slice_get_within (lines_of lines) k line at in
     none k (omega (arith, low, length-map lines line_of, long)) line at says
 
--- ---- contradictions
-
-class_in : Conclusion → ℕ
-class_in (certificate.Sub x c) = c
-class_in (certificate.Edge x r y) = r
+-- ---- all things and individuals
 
 pub top_is_thing : (e : ℕ) → IsTop (certificate.Expression e) → e ≡ thing
 top_is_thing _ IsTop.of_thing = refl
 
 pub is_top_of : (e : ℕ) → e ≡ thing → IsTop (certificate.Expression e)
 is_top_of e is = subst (λ (k : ℕ). IsTop (certificate.Expression k)) (sym is) IsTop.of_thing
-
-subject_in : Conclusion → Subject
-subject_in (certificate.Sub x c) = x
-subject_in (certificate.Edge x r y) = x
-
-pub contradiction_is : (x : Subject) (c : ℕ) → IsContradiction (certificate.Sub x c) ↔ (IsTop x × (c ≡ nothing))
-unfolding class_in subject_in
-contradiction_is x c = (
-  λ (y, top, says). (subst IsTop (sym (ap subject_in says)) top, ap class_in says),
-  λ (top, is). (x, top, ap (certificate.Sub x) is),
-)
-
-is_sub : Conclusion → Bool
-is_sub (certificate.Sub x c) = true
-is_sub (certificate.Edge x r y) = false
-
-pub edge_is_none : (x : Subject) (r : ℕ) (y : Subject) → IsContradiction (certificate.Edge x r y) → ⊥
-unfolding is_sub
-edge_is_none x r y (z, top, says) = false≢true (ap is_sub says)
 
 pub expression_top : (x : code_subject.Subject) (e : ExprId) (r : Bool) → x ≡ Expr e → r ≡ nat_eq e.0 thing → IsTrue r ↔ IsTop (subject_of x)
 expression_top x e r is by =

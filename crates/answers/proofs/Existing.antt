@@ -1,5 +1,5 @@
 -- The facts of a closure decide the listed interpretation, so that there is one.
-use Rattle.std.proofs.Common.{◌≡◌, ◌↔◌, ℕ, zero, suc, inl, inr, ⊎_elim, Bool, true, false, List, [], ◌∷◌, ◌++◌, length, slice_get, Some, Contains, refl, sym, ap, ◌∙◌, subst, arith}
+use Rattle.std.proofs.Common.{◌≡◌, ◌↔◌, ℕ, zero, suc, inl, inr, ⊎_elim, List, [], ◌∷◌, ◌++◌, length, slice_get, Some, Contains, refl, sym, ap, ◌∙◌, subst, arith}
 use Rattle.lemmas.proofs.Members.{Contains-from_slice_get, slice_get-from_Contains}
 use Rattle.axioms.specs.Ontology.{Ontology, thing, nothing}
 use Rattle.axioms.specs.WellFormedness.{IsOntology}
@@ -19,7 +19,7 @@ use Rattle.closure.specs.Closure.{Context, Expression, Individual, Fact, In, Edg
 use Rattle.closure.specs.Denotations.{Prefixes, SaysProperty, property, steps, SaysContext, expression, individual, SaysFact, edge, SaysForm, n5, IsProblemOf}
 use Rattle.closure.proofs.Names.{context_one, expr_id, ind_id}
 use Rattle.closure.proofs.Names as names
-use Rattle.exactness.specs.ListedInterpretation.{HasEdge, IsConsistent, IsListedInterpretation, IsSatisfiable, AreSatisfiableContexts}
+use Rattle.exactness.specs.ListedInterpretation.{HasEdge, IsConsistent, IsListedInterpretation, IsSatisfiable, Leads, AreSatisfiableContexts}
 use Rattle.exactness.proofs.Listed.{listed_exists}
 use Rattle.interpretation_spec.specs.Interpretation.{Interpretation}
 use Rattle.countermodel.specs.Elements.{contexts_of}
@@ -28,6 +28,7 @@ use Rattle.countermodel.proofs.Facts.{code_of, whole_said, satisfiable_within}
 use Rattle.countermodel.proofs.Listing.{HasListed, HasListedMore, none_listed, listed_more, listed_same, none_listed_more, individual_more, individual_same, no_individual, expressions_done, contexts_done}
 use Rattle.engine.specs.Saturations.{SayTheClosure}
 use Rattle.answers.proofs.Deciding.{Decided, is_yes, tells, SomeOf, some_of, same_context, is_in, Reach, reach, reach_same, reach_on}
+use Rattle.answers.proofs.Leading.{leading}
 
 on : {o : Ontology} {asked : List ℕ} {r s t : Property2} → IsAtOrBelow o asked r s → IsAtOrBelow o asked s t → IsAtOrBelow o asked r t
 on h same = h
@@ -155,41 +156,48 @@ module _ (o : Ontology) (asked : List ℕ) (w : IsOntology o) (b : Prefixes) (k 
       (λ n. inr (λ s. n ((context_has_thing o asked w x).0 s.context)))
       (has_fact x thing)
 
-  abbrev test : Context → Bool
-  test x = is_yes (satisfiable x)
+  -- the context has an element
+  abbrev HasElement : Context → Type 0
+  HasElement x = IsSatisfiable o asked x × Leads o asked x
 
-  expressions : (n : ℕ) → (xs : List code.Context) × (places : List ℕ) × HasListed test n xs places
-  expressions zero = ([], [], none_listed test 0 [] [])
-  expressions (suc n) = (let (xs, places, h) = expressions n in go xs places h (test (Expression n)) refl)
+  has_element : (x : Context) → Decided (HasElement x)
+  has_element x = ⊎_elim
+      (λ s. ⊎_elim (λ l. inl (s, l)) (λ n. inr (λ h. n h.1)) (leading o asked x))
+      (λ n. inr (λ h. n h.0))
+      (satisfiable x)
+
+  expressions : (n : ℕ) → (xs : List code.Context) × (places : List ℕ) × HasListed HasElement n xs places
+  expressions zero = ([], [], none_listed HasElement 0 [] [])
+  expressions (suc n) = (let (xs, places, h) = expressions n in go xs places h (has_element (Expression n)))
     where
-      go : (xs : List code.Context) (places : List ℕ) → HasListed test n xs places → (t : Bool) → test (Expression n) ≡ t → (ys : List code.Context) × (more : List ℕ) × HasListed test (suc n) ys more
-      go xs places h true e =
+      go : (xs : List code.Context) (places : List ℕ) → HasListed HasElement n xs places → Decided (HasElement (Expression n)) → (ys : List code.Context) × (more : List ℕ) × HasListed HasElement (suc n) ys more
+      go xs places h (inl p) =
           let ys : List code.Context = xs ++ contexts.Expr (expr_id n) ∷ [] in
           let more : List ℕ = places ++ length xs ∷ [] in
-          (ys, more, subst (λ m. HasListed test m ys more) (omega arith) (listed_more test n xs places (expr_id n) refl e h))
-      go xs places h false e =
+          (ys, more, subst (λ m. HasListed HasElement m ys more) (omega arith) (listed_more HasElement n xs places (expr_id n) refl p h))
+      go xs places h (inr fails) =
           let more : List ℕ = places ++ length xs ∷ [] in
-          (xs, more, subst (λ m. HasListed test m xs more) (omega arith) (listed_same test n xs places e h))
+          (xs, more, subst (λ m. HasListed HasElement m xs more) (omega arith) (listed_same HasElement n xs places fails h))
 
-  individuals : (before : List code.Context) → HasListedMore test before 0 before [] → (n : ℕ) → (xs : List code.Context) × (places : List ℕ) × HasListedMore test before n xs places
+  individuals : (before : List code.Context) → HasListedMore HasElement before 0 before [] → (n : ℕ) → (xs : List code.Context) × (places : List ℕ) × HasListedMore HasElement before n xs places
   individuals before h zero = (before, [], h)
-  individuals before h (suc n) = (let (xs, places, k) = individuals before h n in go xs places k (test (Individual n)) refl)
+  individuals before h (suc n) = (let (xs, places, k) = individuals before h n in go xs places k (has_element (Individual n)))
     where
-      go : (xs : List code.Context) (places : List ℕ) → HasListedMore test before n xs places → (t : Bool) → test (Individual n) ≡ t → (ys : List code.Context) × (more : List ℕ) × HasListedMore test before (suc n) ys more
-      go xs places k true e =
+      go : (xs : List code.Context) (places : List ℕ) → HasListedMore HasElement before n xs places → Decided (HasElement (Individual n)) → (ys : List code.Context) × (more : List ℕ) × HasListedMore HasElement before (suc n) ys more
+      go xs places k (inl p) =
           let ys : List code.Context = xs ++ contexts.Individual (ind_id n) ∷ [] in
           let more : List ℕ = places ++ length xs ∷ [] in
-          (ys, more, subst (λ m. HasListedMore test before m ys more) (omega arith) (individual_more test n xs places before (ind_id n) refl e k))
-      go xs places k false e =
+          (ys, more, subst (λ m. HasListedMore HasElement before m ys more) (omega arith) (individual_more HasElement n xs places before (ind_id n) refl p k))
+      go xs places k (inr fails) =
           let more : List ℕ = places ++ length xs ∷ [] in
-          (xs, more, subst (λ m. HasListedMore test before m xs more) (omega arith) (individual_same test n xs places before e k))
+          (xs, more, subst (λ m. HasListedMore HasElement before m xs more) (omega arith) (individual_same HasElement n xs places before fails k))
 
   elements : (xs : List Context) × AreSatisfiableContexts o asked xs
   elements =
       let (es, places, h) = expressions (length o.nodes) in
-      let done = expressions_done test (length o.nodes) (contexts_of es) h.listed (λ e t. satisfiable_within o asked w (Expression e) ((tells (satisfiable (Expression e))).0 t)) in
-      let (xs, more, l) = individuals es (none_listed_more test 0 es [] es done (no_individual test es done)) (length o.names.individuals) in
-      (contexts_of xs, contexts_done test (length o.names.individuals) (contexts_of xs) o asked l.listed (λ x. tells (satisfiable x)) (λ a t. satisfiable_within o asked w (Individual a) ((tells (satisfiable (Individual a))).0 t)))
+      let done = expressions_done HasElement HasElement (length o.nodes) (contexts_of es) h.listed (λ e. (λ p. p, λ p. p)) (λ e p. satisfiable_within o asked w (Expression e) p.0) in
+      let (xs, more, l) = individuals es (none_listed_more HasElement 0 es [] es done (no_individual HasElement es done)) (length o.names.individuals) in
+      (contexts_of xs, contexts_done HasElement (length o.names.individuals) (contexts_of xs) o asked l.listed (λ x. (λ p. p, λ p. p)) (λ a p. satisfiable_within o asked w (Individual a) p.0))
 
   pub listed : IsConsistent o asked → (xs : List Context) × (i : Interpretation) × IsListedInterpretation o asked xs i
   listed consistent =

@@ -11,3 +11,4 @@ pub mod Placed
 pub mod Ending
 pub mod Explaining
 pub mod Knowing
+pub mod Leading

@@ -10,6 +10,8 @@ use Rattle.axioms.specs.WellFormedness.{IsOntology}
 use Rattle.axioms.proofs.Trees.{class_tree}
 use Rattle.closure.specs.Closure.{Context, Expression, IsRoot}
 use Rattle.closure.specs.Closure as closure
+use Rattle.closure.specs.Groups.{least_same}
+use Rattle.closure.proofs.Groups.{same_as_least}
 use Rattle.exactness.specs.ListedInterpretation.{IsListedInterpretation}
 use Rattle.generated_part.specs.GeneratedPart.{IsGenerated}
 use Rattle.generated_part.proofs.Keeping.{same, model_kept}
@@ -17,11 +19,13 @@ use Rattle.interpretation_spec.specs.NamedInterpretation.{interpretation_of}
 use Rattle.interpretation_spec.specs.Interpretation.{Interpretation, IsInterpretation, IsIn, IsModel}
 use Rattle.interpretation_spec.specs.NumberedInterpretation.{NumberedInterpretation, IsNumberedInterpretation}
 use Rattle.interpretation_spec.proofs.Names.{stands_well, size_of}
-use Rattle.answers.specs.Explanations.{IsAbout, IsClassNamed, IsOf, Refutes}
+use Rattle.normal_forms.specs.Forms.{Whole}
+use Rattle.answers.specs.Explanations.{IsAbout, IsClassNamed, IsOf, Refutes, leader}
 use Rattle.answers.specs.Findings.{IsPartFor, IsRefutable}
 use Rattle.answers.specs.declared.asked.Asked.{Asked}
 use Rattle.answers.specs.declared.asked.Asked.TheVariants as asked
 use Rattle.answers.proofs.Deriving.{named_tree}
+use Rattle.answers.proofs.Leading.{fact_of_leader}
 
 -- a number stands at one place of a list that ascends
 one_place : (xs : List ℕ) → IsStrictlyIncreasing xs → (m n x : ℕ) → slice_get xs m ≡ Some x → slice_get xs n ≡ Some x → m ≡ n
@@ -60,15 +64,15 @@ module _ (o : Ontology) (questions : List ℕ) (w : IsOntology o) (x : Context) 
   inside : (a : Asked) → (y : Context) → x ≡ y → IsAbout o a y → IsOf i a new
   inside (asked.Class c) (Expression e) same_x about =
       let low = slice_get_within o.nodes e (Class about.0) about.1 in
-      let own : slice_get part.elements part.from ≡ Some (Expression e) = part.own ∙ ap Some same_x in
+      let own : slice_get part.elements part.from ≡ Some (Expression e) = part.own ∙ ap (λ z. Some (leader o z)) same_x in
       subst (λ (t : ClassExpression). IsIn i t new) (named_tree o c.now e about)
       ((holds e low).1 (part.agrees.claimed e part.from (IsRoot.named about.0 e about.1) own))
   inside (asked.Class c) (closure.Individual n) same_x about = absurd about
   inside (asked.Individual a) (Expression e) same_x about = absurd about
   inside (asked.Individual a) (closure.Individual n) same_x about =
       let low = slice_get_within o.names.individuals n a.now about in
-      let own : slice_get part.elements part.from ≡ Some (closure.Individual n) = part.own ∙ ap Some same_x in
-      let there = g.individuals n low ∙ ap Some (part.listed.individuals n part.from low own) in
+      let own : slice_get part.elements part.from ≡ Some (closure.Individual (least_same o n)) = part.own ∙ ap (λ z. Some (leader o z)) same_x in
+      let there = g.individuals n low ∙ ap Some (part.listed.individuals n (least_same o n) part.from low (same_as_least o questions n) own) in
       let name : individual_name o n ≡ a.now = ap (λ (k : Option Iri). unwrap_or k []) about in
       ap i.individual (sym name) ∙ one_place g.elements g.ascend (i.individual (individual_name o n)) new part.from there g.from_at
 
@@ -77,7 +81,8 @@ module _ (o : Ontology) (questions : List ℕ) (w : IsOntology o) (x : Context) 
       let low = slice_get_within o.nodes f (Class c) at in
       let tree = named_tree o name f (c, at, named) in
       let whole = (holds f low).0 (subst (λ (t : ClassExpression). IsIn i t new) (sym tree) h) in
-      refutable.1 ((part.agrees.named c f part.from x at part.own).0 (subst (λ (t : ClassExpression). IsIn part.whole t part.from) (class_tree o c f at) whole))
+      refutable.1 (fact_of_leader o questions x (Whole f)
+      ((part.agrees.named c f part.from (leader o x) at part.own).0 (subst (λ (t : ClassExpression). IsIn part.whole t part.from) (class_tree o c f at) whole)))
 
   pub refutes : questions ≡ [] → (a : Asked) → IsAbout o a x → (name : Iri) (f : ℕ) → IsClassNamed o name f → IsRefutable o questions x f → Refutes o a name p new
   unfolding i

@@ -12,6 +12,7 @@ use Rattle.certificate.specs.Writability.{IsLineOf}
 use Rattle.certificate.specs.View.{lines_of}
 use Rattle.closure.specs.Closure.{Context, Expression}
 use Rattle.closure.specs.Closure as closure
+use Rattle.closure.specs.Groups.{least_same}
 use Rattle.exactness.specs.ListedInterpretation.{IsListedInterpretation}
 use Rattle.exactness.specs.Derivability.{subject_of}
 use Rattle.exactness.specs.Trimming.{EndsWith, EachServes}
@@ -52,6 +53,11 @@ IsAbout o (Class c) (closure.Individual a) = ⊥
 IsAbout o (Individual a) (Expression e) = ⊥
 IsAbout o (Individual a) (closure.Individual n) = slice_get o.names.individuals n ≡ Some a.now
 
+-- the context that has the subject's element: of individuals that are one the least
+abbrev pub leader : Ontology → Context → Context
+leader o (Expression e) = Expression e
+leader o (closure.Individual a) = closure.Individual (least_same o a)
+
 -- ---- what is shown
 
 -- a derivation from the axioms that ends in the conclusion, in which each other line is a premise of a later one
@@ -86,7 +92,7 @@ pub record Refutes (o : Ontology) (asked : Asked) (class : Iri) (i : NumberedInt
   pub subject : Context
   pub about : IsAbout o asked subject
   pub from : ℕ
-  pub own : slice_get elements from ≡ Some subject
+  pub own : slice_get elements from ≡ Some (leader o subject)
   pub generated : IsGenerated o whole from (interpretation_of o.names i) x
 
 -- there is no interpretation of the axioms: the lines derive that all things or an individual are in owl:Nothing

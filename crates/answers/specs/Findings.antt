@@ -7,13 +7,13 @@ use Rattle.cert_check.specs.Acceptance.{IsTop}
 use Rattle.certificate.specs.Certificate.{Conclusion, Line, Subject, Sub}
 use Rattle.certificate.specs.declared.line.Rule.TheVariants.{K3}
 use Rattle.closure.specs.Closure.{Context, In, IsFact}
-use Rattle.exactness.specs.ListedInterpretation.{IsListedInterpretation, AgreesWithClosure}
+use Rattle.exactness.specs.ListedInterpretation.{AreSatisfiableContexts, IsListedInterpretation, AgreesWithClosure}
 use Rattle.generated_part.specs.GeneratedPart.{IsGenerated}
 use Rattle.interpretation_spec.specs.NamedInterpretation.{interpretation_of}
 use Rattle.interpretation_spec.specs.Interpretation.{Interpretation, IsModel}
 use Rattle.interpretation_spec.specs.NumberedInterpretation.{NumberedInterpretation, IsMadeFor}
 use Rattle.normal_forms.specs.Forms.{Whole}
-use Rattle.answers.specs.Explanations.{Explains, IsAbout, IsClassNamed}
+use Rattle.answers.specs.Explanations.{Explains, IsAbout, IsClassNamed, leader}
 use Rattle.answers.specs.declared.asked.Asked.{Asked}
 use Rattle.answers.specs.declared.explanation.Explanation.{Explanation}
 
@@ -33,6 +33,10 @@ IsRefutable o asked x class = (IsFact o asked (In (Whole nothing) x) → ⊥) ×
 abbrev pub line_from_nothing : Subject → ℕ → ℕ → Line
 line_from_nothing subject class number = record { conclusion = Sub subject class; rule = K3; axiom' = None; premises = number ∷ [] }
 
+-- the context's element has that number in the interpretation that the closure lists
+abbrev pub IsElementOf : Ontology → List ℕ → Context → ℕ → Type 0
+IsElementOf o asked x m = (elements : List Context) → AreSatisfiableContexts o asked elements → slice_get elements m ≡ Some (leader o x)
+
 -- the part of the interpretation that the closure lists that is reached from the context's own element, which has that number in it
 pub record IsPartFor (o : Ontology) (asked : List ℕ) (x : Context) (part : NumberedInterpretation) (new : ℕ) : Type 0 where
   pub made : IsMadeFor o.names part
@@ -42,7 +46,7 @@ pub record IsPartFor (o : Ontology) (asked : List ℕ) (x : Context) (part : Num
   pub agrees : AgreesWithClosure o asked elements whole
   pub model : IsModel whole (axiom_trees o)
   pub from : ℕ
-  pub own : slice_get elements from ≡ Some x
+  pub own : slice_get elements from ≡ Some (leader o x)
   pub generated : IsGenerated o whole from (interpretation_of o.names part) new
 
 -- it explains, whatever the names are

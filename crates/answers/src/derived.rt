@@ -68,7 +68,7 @@ fn is_contradiction(conclusion: Conclusion) -> bool
 {
     match conclusion {
         Conclusion::Sub(subject, class) => class == ExprId::NOTHING && is_top(subject),
-        Conclusion::Edge(_, _, _) => false,
+        Conclusion::Edge(_, _, _) | Conclusion::Same(_, _) => false,
     }
 }
 

@@ -2,7 +2,7 @@
 use Rattle.std.proofs.Common.{◌≡◌, ℕ, ◌⊎◌, inl, inr, List, refl, subst, sym}
 use Rattle.axioms.specs.Ontology.{Ontology, nothing}
 use Rattle.normal_forms.specs.Forms.{Class2, Whole, Property2, Property, N4, N6, IsForm}
-use Rattle.closure.specs.Closure.{Context, Expression, Individual, In, Edge, IsAtOrBelow, IsRoot, IsFact, given, none, more}
+use Rattle.closure.specs.Closure.{Context, Expression, Individual, In, Edge, IsAtOrBelow, AreSame, IsRoot, IsFact, given, none, more}
 use Rattle.closure.specs.Closure.{Gives as by}
 use Rattle.closure.proofs.Facts as fact
 
@@ -38,6 +38,12 @@ module _ (o : Ontology) (asked : List ℕ) (e f : ℕ) (root : IsRoot o asked (E
         | inr (is, other) ↦ inr (is, fact.chained r s p q (Expression e) form edge other path path')
       ]
 
+  -- what starts at the root leads to each individual of the target's group
+  handed : {b : ℕ} (r : Property2) (a : ℕ) → AreSame o asked a b → Starts r (Individual a) → Starts r (Individual b)
+  unfolding Starts
+  handed r a same (inl edge) = inl (fact.same_target a same edge)
+  handed r a same (inr (is, edge)) = no_expression is
+
   mutual
     unfolding Starts
 
@@ -49,12 +55,17 @@ module _ (o : Ontology) (asked : List ℕ) (e f : ℕ) (root : IsRoot o asked (E
     class_of_root is (given older (by.both a b form) (more p (more q none))) = fact.both a b form (class_of_root is p) (class_of_root is q)
     class_of_root is (given older (by.predecessor r a q y form path) (more edge (more p none))) = backwards r a q y form path p (λ same. class_of_root same p) (edge_of_root is edge)
     class_of_root is (given older (by.unsatisfiable r y) (more edge (more p none))) = empty r y p (λ same. class_of_root same p) (edge_of_root is edge)
+    class_of_root is (given older (by.same_class a same) are) = no_expression is
+    class_of_root is (given older (by.different b form same) are) = no_expression is
+    class_of_root is (given older (by.denied r b q form path) are) = no_expression is
 
     edge_of_root : {r : Property2} {x y : Context} → x ≡ Expression f → IsFact o asked (Edge x r y) → Starts r y
     edge_of_root is (given older (by.asserted_edge form) are) = no_expression is
     edge_of_root is (given older (by.successor a form) (more p none)) = inl (fact.successor a form (class_of_root is p))
     edge_of_root is (given older (by.chained r s p q y form path path') (more one (more two none))) = joined r s p q y form path path' two (λ same. edge_of_root same two) (edge_of_root is one)
     edge_of_root is (given older (by.loop r form context) are) = inr (is, fact.loop r form (fact.root root))
+    edge_of_root is (given older (by.same_source a same) are) = no_expression is
+    edge_of_root is (given older (by.same_target a same) (more edge none)) = handed _ a same (edge_of_root is edge)
 
   pub facts_of_facts : (c : Class2) → IsFact o asked (In c (Expression f)) → IsFact o asked (In c (Expression e))
   facts_of_facts c p = class_of_root refl p

@@ -6,7 +6,7 @@ use Rattle.std.proofs.lemmas.Option.{slice_get-get_or, slice_get_within, none-so
 use Rattle.axioms.specs.Growth.{IsBounded}
 use Rattle.axioms.specs.Ontology.{Ontology}
 use Rattle.axioms.specs.View.{at_number}
-use Rattle.certificate.specs.Certificate.{Subject, Expression, Individual, Conclusion, Sub, Edge, Line, Listed}
+use Rattle.certificate.specs.Certificate.{Subject, Expression, Individual, Conclusion, Sub, Edge, Same, Line, Listed}
 use Rattle.certificate.specs.Writability.{IsSubjectOf, IsConclusionOf, IsAxiomNumberOf, IsListedOf, HasText, subject_number, conclusion_numbers, axiom_numbers, line_numbers, listed_numbers}
 use Rattle.cert_check.specs.Derivation.{IsDerivation, at_numbers}
 use Rattle.exactness.proofs.Derivable.{prepended_list_parts}
@@ -49,6 +49,8 @@ module _ (o : Ontology) (few : IsBounded o) where
   conclusion_small (Edge x r y) h =
       All-cons IsSmall (subject_number x) (r ∷ subject_number y ∷ []) (subject_small x h.0)
       (All-cons IsSmall r (subject_number y ∷ []) (omega (arith, h.1, few.properties)) (All-cons IsSmall (subject_number y) [] (subject_small y h.2) (All-nil IsSmall)))
+  conclusion_small (Same a b) h =
+      All-cons IsSmall a (b ∷ []) (omega (arith, h.0, few.individuals)) (All-cons IsSmall b [] (omega (arith, h.1, few.individuals)) (All-nil IsSmall))
 
   axiom_small : (n : Option ℕ) → IsAxiomNumberOf o n → All IsSmall (axiom_numbers n)
   axiom_small None h = All-nil IsSmall
