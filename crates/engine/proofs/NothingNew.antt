@@ -12,15 +12,16 @@ use Rattle.std.proofs.lemmas.Option.{slice_get-get_or}
 use Rattle.axioms.specs.WellFormedness.{AreDistinct}
 use Rattle.lemmas.proofs.Members.{Contains-from_slice_get, slice_get-from_Contains}
 use Rattle.normal_forms.specs.declared.forms.Form.{Form}
-use Rattle.normal_forms.specs.declared.forms.Form.TheVariants.{N1, N2, N3, N4, N5, N6, N7, N8, N9}
+use Rattle.normal_forms.specs.declared.forms.Form.TheVariants.{N1, N2, N3, N4, N5, N6, N7, N8, N9, N10, N11, N12}
 use Rattle.normal_forms.specs.declared.forms.PropId2.{PropId2}
 use Rattle.normal_forms.specs.declared.forms.PropId2.TheVariants.{Property}
 use Rattle.normal_forms.specs.Properties.{IsAtOrBelow, same, step}
 use Rattle.facts.specs.declared.contexts.Context.{Context}
 use Rattle.facts.specs.declared.contexts.Fact.{Fact}
 use Rattle.facts.specs.declared.contexts.Fact.TheVariants.{In, Edge}
-use Rattle.facts.specs.Closure.{Problem, IsContextBy, FromTwo, Concludes, Gives, IsFact, in_thing, in_itself, by_form, unsatisfiable, loop}
+use Rattle.facts.specs.Closure.{Problem, IsContextBy, FromOne, FromTwo, Concludes, Gives, IsFact, in_thing, in_itself, by_form, unsatisfiable, loop, handed_on, different}
 use Rattle.facts.proofs.Least.{closed, least}
+use Rattle.facts.proofs.Sameness.{of_more}
 use Rattle.inference.proofs.Growth.{sound}
 use Rattle.saturate.specs.Growth.{KeepsServed}
 use Rattle.saturate.specs.Run.{IsState, IsFinished}
@@ -52,10 +53,30 @@ module _ (old new : Problem) (nothing : BringsNothing old new) where
   two_before (N7 _) g h f w = absurd w
   two_before (N8 _ _) g h f w = absurd w
   two_before (N9 _ _ _) g h f w = absurd w
+  two_before (N10 _ _) g h f w = absurd w
+  two_before (N11 _ _) g h f w = absurd w
+  two_before (N12 _ _ _) g h f w = absurd w
+
+  one_before : (form : Form) (g f : Fact) → FromOne new form g f → FromOne old form g f
+  one_before (N1 a b) (In c x) f w = w
+  one_before (N1 a b) (Edge _ _ _) f w = absurd w
+  one_before (N3 a r b) (In c x) f w = w
+  one_before (N3 a r b) (Edge _ _ _) f w = absurd w
+  one_before (N12 a r b) (Edge x q y) f w = (w.0, w.1, was_below q (Property r) w.2, w.3)
+  one_before (N12 a r b) (In _ _) f w = absurd w
+  one_before (N2 _ _ _) g f w = absurd w
+  one_before (N4 _ _ _) g f w = absurd w
+  one_before (N5 _ _) g f w = absurd w
+  one_before (N6 _ _ _) g f w = absurd w
+  one_before (N7 _) g f w = absurd w
+  one_before (N8 _ _) g f w = absurd w
+  one_before (N9 _ _ _) g f w = absurd w
+  one_before (N10 _ _) g f w = absurd w
+  one_before (N11 _ _) g f w = absurd w
 
   concluded_before : (form : Form) (older : List Fact) (f : Fact) → Concludes new form older f → Concludes old form older f
   concluded_before form [] f w = w
-  concluded_before form (g ∷ []) f w = w
+  concluded_before form (g ∷ []) f w = one_before form g f w
   concluded_before form (g ∷ h ∷ []) f w = two_before form g h f w
   concluded_before form (g ∷ h ∷ i ∷ more) f w = absurd w
 
@@ -79,6 +100,12 @@ module _ (old new : Problem) (nothing : BringsNothing old new) where
   given_before _ _ older f (loop x n form at l c) all =
       let before = was_at n form at in
       closed old _ _ older f (loop x before.0 form before.1 l (was_context older x c)) all
+  given_before _ _ older f (handed_on n form at h) all =
+      let before = was_at n form at in
+      closed old _ _ older f (handed_on before.0 form before.1 h) all
+  given_before _ _ older f (different n a b at one) all =
+      let before = was_at n (N11 a b) at in
+      closed old _ _ older f (different before.0 a b before.1 (of_more nothing.forms one)) all
 
   was_fact : (f : Fact) → IsFact new f → IsFact old f
   was_fact f is = least new (IsFact old) given_before f is
