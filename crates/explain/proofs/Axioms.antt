@@ -4,14 +4,14 @@ use Rattle.std.proofs.lemmas.List.{take_all}
 use Rattle.std.proofs.lemmas.Option.{slice_get_within}
 use Rattle.lemmas.proofs.Members.{Contains-from_slice_get}
 use Rattle.lemmas.proofs.Places.{take_push}
-use Rattle.axioms.specs.Ontology.{Ontology, Axiom, SubClass, EquivalentClasses, DisjointClasses, SubProperty, EquivalentProperties, Domain, Transitive, Reflexive, ClassAssertion, PropertyAssertion}
+use Rattle.axioms.specs.Ontology.{Ontology, Axiom, SubClass, EquivalentClasses, DisjointClasses, SubProperty, EquivalentProperties, Domain, Transitive, Reflexive, ClassAssertion, PropertyAssertion, SameIndividuals, DifferentIndividuals, NegativePropertyAssertion}
 use Rattle.axioms.specs.declared.ids.ExprId.{ExprId}
 use Rattle.axioms.specs.declared.ids.PropId.{PropId}
 use Rattle.certificate.specs.Certificate.{Subject, Conclusion, Sub, Line}
 use Rattle.certificate.specs.Certificate as line
 use Rattle.cert_check.specs.Derivation.{at_numbers}
 use Rattle.cert_check.specs.Lines.{IsWalk, Follows}
-use Rattle.closure.specs.Denotations.{Prefixes, whole, SaysProperty, property, steps, SaysForm, n1, n2, n4, n5, n6, n7, n8, n9}
+use Rattle.closure.specs.Denotations.{Prefixes, whole, SaysProperty, property, steps, SaysForm, n1, n2, n4, n5, n6, n7, n8, n9, n10, n11, n12}
 use Rattle.exactness.proofs.Derivable.{conclusions}
 use Rattle.explain.proofs.Prefixes.{take_one, at_first}
 use Rattle.explain.proofs.Births.{TakesByAxiom}
@@ -30,7 +30,7 @@ use Rattle.normal_forms.specs.declared.forms.Class2.TheVariants as classes
 use Rattle.normal_forms.specs.declared.forms.Form as code_form
 use Rattle.normal_forms.specs.declared.forms.PropId2.{PropId2}
 use Rattle.normal_forms.specs.declared.forms.PropId2.TheVariants as properties
-use Rattle.normal_forms.specs.Forms.{Whole, Property, Steps, Property2, Form, N1, N2, N4, N5, N6, N7, N8, N9, first_steps}
+use Rattle.normal_forms.specs.Forms.{Whole, Property, Steps, Property2, Form, N1, N2, N4, N5, N6, N7, N8, N9, N10, N11, N12, first_steps}
 use Rattle.normal_forms.specs.Origins.{AxiomGives, CircleGives}
 
 -- ---- chains
@@ -172,6 +172,20 @@ module _ (o : Ontology) (b : Prefixes) (k : Problem) (lines : List Line) (number
   edge_assertion_leads r i j form (n9 says_i says_r says_j) (g ∷ h ∷ []) f (takes, shown) = absurd takes
   edge_assertion_leads r i j form (n9 says_i says_r says_j) (g ∷ h ∷ e ∷ more) f (takes, shown) = absurd takes
 
+  -- individuals that are one, or that differ, take no facts alone
+  no_same : (i j : ℕ) (form : code_form.Form) → SaysForm b form (N10 i j) → (older : List Fact) (f : Fact) → Given form older f → ⊥
+  no_same i j form (n10 says_i says_j) older f (takes, shown) = takes
+
+  no_different : (i j : ℕ) (form : code_form.Form) → SaysForm b form (N11 i j) → (older : List Fact) (f : Fact) → Given form older f → ⊥
+  no_different i j form (n11 says_i says_j) older f (takes, shown) = takes
+
+  denied_leads : (r i j : ℕ) (form : code_form.Form) → SaysForm b form (N12 i r j) → (older : List Fact) (f : Fact) → Given form older f → Lead (NegativePropertyAssertion r i j) (said_by f) f
+  denied_leads r i j form (n12 {i = x} {j = y} {r = p} says_i says_r says_j) older f ((q, only, below, is), shown) =
+      let edge : AreShowing b lines numbers (Edge (contexts.Individual x) (properties.Property p) (contexts.Individual y)) =
+      one_shown (subst (λ (fs : List Fact). AreShowingEach b lines numbers (taken (code_form.TheVariants.N12 x p y) fs)) only shown) in
+      leads_to_class (NegativePropertyAssertion r i j) (line.Edge (line.Individual x.0) r (line.Individual y.0) ∷ []) (contexts.Individual x) (record { 0 = 1 }) f is (property_shown (property says_r) edge)
+      (ap line.Individual says_i, refl, ap line.Individual says_j, ap line.Individual says_i, refl)
+
   pub axiom_leads : (a : Axiom) (form : code_form.Form) (g : Form) → SaysForm b form g → AxiomGives a g → (older : List Fact) (f : Fact) → TakesByAxiom k form older f → AreShowingEach b lines numbers (taken form older) → Lead a (said_by f) f
   axiom_leads (SubClass c d) form g says gives older f takes shown =
       let (x, e, at_e, is, at) = by_n1 c d form (subst (SaysForm b form) gives says) older f (takes, shown) in
@@ -198,3 +212,6 @@ module _ (o : Ontology) (b : Prefixes) (k : Problem) (lines : List Line) (number
   axiom_leads (Reflexive r) form g says gives older f takes shown = reflexive_leads r form (subst (SaysForm b form) gives says) older f (takes, shown)
   axiom_leads (ClassAssertion c a) form g says gives older f takes shown = assertion_leads c a form (subst (SaysForm b form) gives says) older f (takes, shown)
   axiom_leads (PropertyAssertion r i j) form g says gives older f takes shown = edge_assertion_leads r i j form (subst (SaysForm b form) gives says) older f (takes, shown)
+  axiom_leads (SameIndividuals xs) form g says (n, (i, j, at_i, at_j, made)) older f takes shown = absurd (no_same i j form (subst (SaysForm b form) made says) older f (takes, shown))
+  axiom_leads (DifferentIndividuals xs) form g says (m, (n, (i, j, low, at_i, at_j, made))) older f takes shown = absurd (no_different i j form (subst (SaysForm b form) made says) older f (takes, shown))
+  axiom_leads (NegativePropertyAssertion r i j) form g says gives older f takes shown = denied_leads r i j form (subst (SaysForm b form) gives says) older f (takes, shown)

@@ -6,18 +6,20 @@ use Rattle.lemmas.proofs.Members.{Contains-none, Contains-cons_cases}
 use Rattle.lemmas.proofs.Places.{slice_get_take}
 use Rattle.axioms.specs.Ontology.{Ontology}
 use Rattle.axioms.specs.declared.ids.PropId.{PropId}
+use Rattle.axioms.specs.declared.ids.IndId.{IndId}
 use Rattle.engine.specs.Saturations.{Saturated, IsSaturated}
 use Rattle.explain.specs.OlderFacts.{rests_on, by_axiom, is_by_axiom, is_axiom}
-use Rattle.explain.specs.Premises.{LiftTo, LiftsTo, first_property, second_property}
+use Rattle.explain.specs.Premises.{LiftTo, LiftsTo, TakesNoSame, first_property, second_property}
 use Rattle.facts.specs.Births.{Reason}
-use Rattle.facts.specs.Closure.{Problem, Gives, in_thing, in_itself, by_form, unsatisfiable, loop, Concludes, IsLoop, condition}
+use Rattle.facts.specs.Closure.{Problem, Gives, in_thing, in_itself, by_form, unsatisfiable, loop, handed_on, different, Concludes, IsLoop, Links, HandsOn, condition, nothing}
 use Rattle.facts.specs.declared.contexts.Context.{Context}
+use Rattle.facts.specs.declared.contexts.Context.TheVariants.{Individual}
 use Rattle.facts.specs.declared.contexts.Fact.{Fact}
 use Rattle.facts.specs.declared.contexts.Fact.TheVariants.{In, Edge}
 use Rattle.normal_forms.specs.Properties.{IsAtOrBelow}
 use Rattle.normal_forms.specs.declared.forms.Class2.{Class2}
 use Rattle.normal_forms.specs.declared.forms.Form.{Form}
-use Rattle.normal_forms.specs.declared.forms.Form.TheVariants.{N1, N2, N3, N4, N5, N6, N7, N8, N9}
+use Rattle.normal_forms.specs.declared.forms.Form.TheVariants.{N1, N2, N3, N4, N5, N6, N7, N8, N9, N10, N11, N12}
 use Rattle.normal_forms.specs.declared.forms.Origin.TheVariants as origins
 use Rattle.normal_forms.specs.declared.forms.PropId2.{PropId2}
 use Rattle.normal_forms.specs.declared.forms.PropId2.TheVariants.{Property}
@@ -48,7 +50,8 @@ first_place xs ms ys e = sym (take-map (slice_get xs) 1 ms) ∙ ap (take 1) e �
 
 -- ---- a form of an axiom
 
--- what such a form takes: of a domain the edge alone, of a loop nothing, and else all that gives the fact
+-- what such a form takes: of a domain the edge alone, of a loop nothing, and else all that gives the fact; where individuals have to be
+-- one, that is another matter
 abbrev pub TakesByAxiom : Problem → Form → List Fact → Fact → Type 0
 TakesByAxiom k (N1 a b) older f = Concludes k (N1 a b) older f
 TakesByAxiom k (N2 a b c) older f = Concludes k (N2 a b c) older f
@@ -59,12 +62,25 @@ TakesByAxiom k (N6 r s t) older f = Concludes k (N6 r s t) older f
 TakesByAxiom k (N7 r) older f = (x : Context) × (older ≡ []) × (f ≡ Edge x (Property r) x)
 TakesByAxiom k (N8 i a) older f = Concludes k (N8 i a) older f
 TakesByAxiom k (N9 i r j) older f = Concludes k (N9 i r j) older f
+TakesByAxiom k (N10 i j) older f = ⊥
+TakesByAxiom k (N11 i j) older f = ⊥
+TakesByAxiom k (N12 i r j) older f = (q : PropId2) × (older ≡ Edge (Individual i) q (Individual j) ∷ []) × IsAtOrBelow k.forms q (Property r) × (f ≡ In nothing (Individual i))
 
 -- the facts at the numbers on which the line rests are what such a form takes
 pub record IsTakenByAxiom (k : Problem) (facts : List Fact) (entries : List Entry) (r : Reason) (form : Form) (f : Fact) : Type 0 where
   pub older : List Fact
   pub at : map (slice_get facts) (rests_on entries r) ≡ map Some older
   pub takes : TakesByAxiom k form older f
+
+-- what makes two individuals one is another form
+other_link : (form : Form) (i j : IndId) → TakesNoSame form → Links form i j → ⊥
+other_link (N10 a b) i j free link = free
+other_link _ i j free link = link
+
+pub other_hand : (form : Form) {g f : Fact} → TakesNoSame form → HandsOn form g f → ⊥
+other_hand form free (HandsOn.class {i = i} {j = j} link) = other_link form i j free link
+other_hand form free (HandsOn.source {i = i} {j = j} link) = other_link form i j free link
+other_hand form free (HandsOn.target {i = i} {j = j} link) = other_link form i j free link
 
 abbrev reason_of : ℕ → List ℕ → Option ℕ → Reason
 reason_of condition older place = record { condition = condition; older = older; form = place }
@@ -98,16 +114,31 @@ module _ (k : Problem) (facts : List Fact) (entries : List Entry) (m : ℕ) (by 
   no_loop r (g ∷ h ∷ []) f c = c
   no_loop r (g ∷ h ∷ i ∷ more) f c = c
 
-  concluded_by : (numbers : List ℕ) (older : List Fact) (form : Form) (f : Fact) → map (slice_get facts) numbers ≡ map Some older → Concludes k form older f → Taken (condition form) numbers (Some m) form f
-  concluded_by numbers older (N1 a b) f at c = record { older = older; at = at; takes = c }
-  concluded_by numbers older (N2 a b d) f at c = record { older = older; at = at; takes = c }
-  concluded_by numbers older (N3 a r b) f at c = record { older = older; at = at; takes = c }
-  concluded_by numbers older (N4 r a b) f at c = by_domain numbers older r a b f at c
-  concluded_by numbers older (N5 r s) f at c = absurd (no_plain r s older f c)
-  concluded_by numbers older (N6 r s t) f at c = record { older = older; at = at; takes = c }
-  concluded_by numbers older (N7 r) f at c = absurd (no_loop r older f c)
-  concluded_by numbers older (N8 i a) f at c = record { older = older; at = at; takes = c }
-  concluded_by numbers older (N9 i r j) f at c = record { older = older; at = at; takes = c }
+  -- an edge at or below a pair that is denied
+  by_denied : (numbers : List ℕ) (older : List Fact) (i : IndId) (r : PropId) (j : IndId) (f : Fact) → map (slice_get facts) numbers ≡ map Some older → Concludes k (N12 i r j) older f → Taken 13 numbers (Some m) (N12 i r j) f
+  by_denied numbers [] i r j f at c = absurd c
+  by_denied numbers (In _ _ ∷ []) i r j f at c = absurd c
+  by_denied numbers (Edge x q y ∷ []) i r j f at c = record {
+    older = Edge x q y ∷ [];
+    at = at;
+    takes = (q, ap₂ (λ v w. Edge v q w ∷ []) c.0 c.1, c.2, c.3 ∙ ap (In nothing) c.0);
+  }
+  by_denied numbers (g ∷ h ∷ []) i r j f at c = absurd c
+  by_denied numbers (g ∷ h ∷ i' ∷ more) i r j f at c = absurd c
+
+  concluded_by : (numbers : List ℕ) (older : List Fact) (form : Form) (f : Fact) → TakesNoSame form → map (slice_get facts) numbers ≡ map Some older → Concludes k form older f → Taken (condition form) numbers (Some m) form f
+  concluded_by numbers older (N1 a b) f free at c = record { older = older; at = at; takes = c }
+  concluded_by numbers older (N2 a b d) f free at c = record { older = older; at = at; takes = c }
+  concluded_by numbers older (N3 a r b) f free at c = record { older = older; at = at; takes = c }
+  concluded_by numbers older (N4 r a b) f free at c = by_domain numbers older r a b f at c
+  concluded_by numbers older (N5 r s) f free at c = absurd (no_plain r s older f c)
+  concluded_by numbers older (N6 r s t) f free at c = record { older = older; at = at; takes = c }
+  concluded_by numbers older (N7 r) f free at c = absurd (no_loop r older f c)
+  concluded_by numbers older (N8 i a) f free at c = record { older = older; at = at; takes = c }
+  concluded_by numbers older (N9 i r j) f free at c = record { older = older; at = at; takes = c }
+  concluded_by numbers older (N10 i j) f free at c = absurd free
+  concluded_by numbers older (N11 i j) f free at c = absurd free
+  concluded_by numbers older (N12 i r j) f free at c = by_denied numbers older i r j f at c
 
   looped_by : (numbers : List ℕ) (x : Context) (form : Form) (f : Fact) → IsLoop x form f → Taken 10 numbers (Some m) form f
   looped_by numbers x (N7 r) f is = record { older = []; at = refl; takes = (x, refl, is) }
@@ -119,20 +150,25 @@ module _ (k : Problem) (facts : List Fact) (entries : List Entry) (m : ℕ) (by 
   looped_by numbers x (N6 r s t) f is = absurd is
   looped_by numbers x (N8 i a) f is = absurd is
   looped_by numbers x (N9 i r j) f is = absurd is
+  looped_by numbers x (N10 i j) f is = absurd is
+  looped_by numbers x (N11 i j) f is = absurd is
+  looped_by numbers x (N12 i r j) f is = absurd is
 
   same_form : {n : ℕ} {form form' : Form} → Some n ≡ Some m → slice_get k.forms n ≡ Some form' → slice_get k.forms m ≡ Some form → form' ≡ form
   same_form {n} {form} {form'} e at there = same_Some form' form (sym at ∙ ap (slice_get k.forms) (same_Some n m e) ∙ there)
 
-  taken_by : {c : ℕ} {place : Option ℕ} {older : List Fact} {f : Fact} (numbers : List ℕ) (form : Form) → Gives k c place older f → place ≡ Some m → slice_get k.forms m ≡ Some form → map (slice_get facts) numbers ≡ map Some older → Taken c numbers place form f
-  taken_by numbers form (in_thing by') e there at = absurd (none-some m e)
-  taken_by numbers form (in_itself by') e there at = absurd (none-some m e)
-  taken_by numbers form (unsatisfiable back) e there at = absurd (none-some m e)
-  taken_by {older = older} {f = f} numbers form (by_form n form' at_n c) e there at =
+  taken_by : {c : ℕ} {place : Option ℕ} {older : List Fact} {f : Fact} (numbers : List ℕ) (form : Form) → TakesNoSame form → Gives k c place older f → place ≡ Some m → slice_get k.forms m ≡ Some form → map (slice_get facts) numbers ≡ map Some older → Taken c numbers place form f
+  taken_by numbers form free (in_thing by') e there at = absurd (none-some m e)
+  taken_by numbers form free (in_itself by') e there at = absurd (none-some m e)
+  taken_by numbers form free (unsatisfiable back) e there at = absurd (none-some m e)
+  taken_by {older = older} {f = f} numbers form free (by_form n form' at_n c) e there at =
       subst (λ (p : Option ℕ). Taken (condition form') numbers p form f) (sym e)
-      (subst (λ g. Taken (condition form') numbers (Some m) g f) (same_form e at_n there) (concluded_by numbers older form' f at c))
-  taken_by {f = f} numbers form (loop x n form' at_n is by') e there at =
+      (subst (λ g. Taken (condition form') numbers (Some m) g f) (same_form e at_n there) (concluded_by numbers older form' f (subst TakesNoSame (sym (same_form e at_n there)) free) at c))
+  taken_by {f = f} numbers form free (loop x n form' at_n is by') e there at =
       subst (λ (p : Option ℕ). Taken 10 numbers p form f) (sym e)
       (subst (λ g. Taken 10 numbers (Some m) g f) (same_form e at_n there) (looped_by numbers x form' f is))
+  taken_by numbers form free (handed_on n form' at_n hands) e there at = absurd (other_hand form' (subst TakesNoSame (sym (same_form e at_n there)) free) hands)
+  taken_by numbers form free (different n a b at_n same) e there at = absurd (subst TakesNoSame (sym (same_form e at_n there)) free)
 
 -- ---- which facts are there, and which edges are lifted
 
@@ -159,6 +195,9 @@ takes_lead_up k (N6 r s t) older f takes = by_chain k r s t older f takes
 takes_lead_up k (N7 r) older f t = none_named k.forms (N7 r) older refl refl
 takes_lead_up k (N8 i a) older f t = none_named k.forms (N8 i a) older refl refl
 takes_lead_up k (N9 i r j) older f t = none_named k.forms (N9 i r j) older refl refl
+takes_lead_up k (N10 i j) older f t = absurd t
+takes_lead_up k (N11 i j) older f t = absurd t
+takes_lead_up k (N12 i r j) older f (q, e, below, is) = subst (LiftTo k.forms (N12 i r j)) (sym e) below
 
 pub same_each : {X : Type 0} (xs ys : List X) → map Some xs ≡ map Some ys → xs ≡ ys
 same_each [] [] e = refl
@@ -188,17 +227,17 @@ module _ (o : Ontology) (s : Saturated) (saturated : IsSaturated o s) (n : ℕ) 
   is_given_by_axiom None h = absurd cc
   is_given_by_axiom (Some e) h = ap is_axiom (same_Some e.origin (origins.Axiom number) h)
 
-  pub taken_by_axiom : (form : Form) (f : Fact) → slice_get s.state.problem.forms m ≡ Some form → slice_get s.state.facts n ≡ Some f → IsTakenByAxiom s.state.problem s.state.facts s.normal.entries r form f
-  taken_by_axiom form f at there =
+  pub taken_by_axiom : (form : Form) (f : Fact) → TakesNoSame form → slice_get s.state.problem.forms m ≡ Some form → slice_get s.state.facts n ≡ Some f → IsTakenByAxiom s.state.problem s.state.facts s.normal.entries r form f
+  taken_by_axiom form f free at there =
       let (older, at_older, gives) = born_by o s n r f saturated born there in
-      taken_by s.state.problem s.state.facts s.normal.entries m (is_given_by_axiom (slice_get s.normal.entries m) origin) r.older form gives place at at_older
+      taken_by s.state.problem s.state.facts s.normal.entries m (is_given_by_axiom (slice_get s.normal.entries m) origin) r.older form free gives place at at_older
 
-  pub rests_there : (form : Form) (f : Fact) → slice_get s.state.problem.forms m ≡ Some form → slice_get s.state.facts n ≡ Some f → (p : ℕ) → Contains (rests_on s.normal.entries r) p → p < length s.state.facts
-  rests_there form f at there p rests =
-      let t = taken_by_axiom form f at there in
+  pub rests_there : (form : Form) (f : Fact) → TakesNoSame form → slice_get s.state.problem.forms m ≡ Some form → slice_get s.state.facts n ≡ Some f → (p : ℕ) → Contains (rests_on s.normal.entries r) p → p < length s.state.facts
+  rests_there form f free at there p rests =
+      let t = taken_by_axiom form f free at there in
       each_there s.state.facts (rests_on s.normal.entries r) t.older p t.at rests
 
-  pub rests_lead_up : (form : Form) (f : Fact) → slice_get s.state.problem.forms m ≡ Some form → slice_get s.state.facts n ≡ Some f → (fs : List Fact) → map (slice_get s.state.facts) (rests_on s.normal.entries r) ≡ map Some fs → LiftTo s.state.problem.forms form fs
-  rests_lead_up form f at there fs at_fs =
-      let t = taken_by_axiom form f at there in
+  pub rests_lead_up : (form : Form) (f : Fact) → TakesNoSame form → slice_get s.state.problem.forms m ≡ Some form → slice_get s.state.facts n ≡ Some f → (fs : List Fact) → map (slice_get s.state.facts) (rests_on s.normal.entries r) ≡ map Some fs → LiftTo s.state.problem.forms form fs
+  rests_lead_up form f free at there fs at_fs =
+      let t = taken_by_axiom form f free at there in
       subst (LiftTo s.state.problem.forms form) (same_each t.older fs (sym t.at ∙ at_fs)) (takes_lead_up s.state.problem form t.older f t.takes)

@@ -6,20 +6,20 @@ use Rattle.axioms.specs.WellFormedness.{IsOntology}
 use Rattle.axioms.specs.declared.ids.ExprId.{ExprId}
 use Rattle.certificate.specs.Certificate.{Line}
 use Rattle.engine.specs.Saturations.{Saturated, IsSaturated}
-use Rattle.explain.proofs.Births.{born_by, same_each, each_there, none_named}
-use Rattle.explain.proofs.ByExpression.{IsOfExpression, expression_kind, expression_leads, leads_to}
+use Rattle.explain.proofs.Births.{born_by, same_each, each_there, none_named, other_hand}
+use Rattle.explain.proofs.ByExpression.{IsOfExpression, expression_free, expression_kind, expression_leads, leads_to}
 use Rattle.explain.proofs.Within.{fact_within, form_said}
 use Rattle.explain.specs.OlderFacts.{rests_on, by_axiom, is_by_axiom, is_axiom}
 use Rattle.explain.specs.Premises.{AreShowingEach, LiftTo, taken}
 use Rattle.explain.specs.FormRule.{expression_rule}
 use Rattle.explain.specs.Step.{LeadTo}
 use Rattle.facts.specs.Births.{Reason}
-use Rattle.facts.specs.Closure.{Problem, Gives, in_thing, in_itself, by_form, unsatisfiable, loop, Concludes, IsLoop, condition}
+use Rattle.facts.specs.Closure.{Problem, Gives, in_thing, in_itself, by_form, unsatisfiable, loop, handed_on, different, Concludes, HandsOn, IsLoop, condition}
 use Rattle.facts.specs.declared.contexts.Context.{Context}
 use Rattle.facts.specs.declared.contexts.Fact.{Fact}
 use Rattle.facts.specs.declared.contexts.Fact.TheVariants.{In, Edge}
 use Rattle.normal_forms.specs.declared.forms.Form.{Form}
-use Rattle.normal_forms.specs.declared.forms.Form.TheVariants.{N1, N2, N3, N4, N5, N6, N7, N8, N9}
+use Rattle.normal_forms.specs.declared.forms.Form.TheVariants.{N1, N2, N3, N4, N5, N6, N7, N8, N9, N10, N11, N12}
 use Rattle.normal_forms.specs.declared.forms.Origin.TheVariants as origins
 use Rattle.normalise.specs.Entries.{form_in, origin_in}
 use Rattle.normalise.specs.declared.entries.Entry.{Entry}
@@ -44,6 +44,9 @@ module _ (k : Problem) (entries : List Entry) (m : ℕ) (by : by_axiom entries (
   concluded_by numbers older (N7 r) f kind c = absurd kind
   concluded_by numbers older (N8 i a) f kind c = absurd kind
   concluded_by numbers older (N9 i r j) f kind c = absurd kind
+  concluded_by numbers older (N10 i j) f kind c = absurd kind
+  concluded_by numbers older (N11 i j) f kind c = absurd kind
+  concluded_by numbers older (N12 i r j) f kind c = absurd kind
 
   no_loop : (x : Context) (form : Form) (f : Fact) → IsOfExpression form → IsLoop x form f → ⊥
   no_loop x (N1 a b) f kind l = l
@@ -55,6 +58,13 @@ module _ (k : Problem) (entries : List Entry) (m : ℕ) (by : by_axiom entries (
   no_loop x (N7 r) f kind l = kind
   no_loop x (N8 i a) f kind l = kind
   no_loop x (N9 i r j) f kind l = kind
+  no_loop x (N10 i j) f kind l = kind
+  no_loop x (N11 i j) f kind l = kind
+  no_loop x (N12 i r j) f kind l = kind
+
+  -- no such form makes individuals one
+  no_hand : (form : Form) {g f : Fact} → IsOfExpression form → HandsOn form g f → ⊥
+  no_hand form kind hands = other_hand form (expression_free form kind) hands
 
   same_form : {n : ℕ} {form form' : Form} → Some n ≡ Some m → slice_get k.forms n ≡ Some form' → slice_get k.forms m ≡ Some form → form' ≡ form
   same_form {n} {form} {form'} e at there = same_Some form' form (sym at ∙ ap (slice_get k.forms) (same_Some n m e) ∙ there)
@@ -69,6 +79,8 @@ module _ (k : Problem) (entries : List Entry) (m : ℕ) (by : by_axiom entries (
       (subst (λ g. IsGivenBy k entries (reason_of (condition form') numbers (Some m)) g older f) same (concluded_by numbers older form' f (subst IsOfExpression (sym same) kind) c))
   given_by {f = f} numbers form (loop x n form' at_n is by') e there kind =
       absurd (no_loop x form f kind (subst (λ g. IsLoop x g f) (same_form e at_n there) is))
+  given_by numbers form (handed_on n form' at_n hands) e there kind = absurd (no_hand form' (subst IsOfExpression (sym (same_form e at_n there)) kind) hands)
+  given_by numbers form (different n a b at_n same) e there kind = absurd (subst IsOfExpression (sym (same_form e at_n there)) kind)
 
 -- each edge is lifted to the property of the form
 lifts : (k : Problem) (form : Form) (older : List Fact) (f : Fact) → IsOfExpression form → Concludes k form older f → LiftTo k.forms form older
@@ -86,6 +98,9 @@ lifts k (N6 r s t) older f kind c = absurd kind
 lifts k (N7 r) older f kind c = absurd kind
 lifts k (N8 i a) older f kind c = absurd kind
 lifts k (N9 i r j) older f kind c = absurd kind
+lifts k (N10 i j) older f kind c = absurd kind
+lifts k (N11 i j) older f kind c = absurd kind
+lifts k (N12 i r j) older f kind c = absurd kind
 
 -- what is known of a fact that the form of an expression gave
 pub record IsBornByExpression (o : Ontology) (s : Saturated) (r : Reason) (form : Form) (f : Fact) : Type 0 where

@@ -16,7 +16,7 @@ use Rattle.closure.specs.Denotations.{Prefixes, SaysClass, whole, prefix, proper
 use Rattle.exactness.proofs.Derivable.{conclusions}
 use Rattle.explain.proofs.Prefixes.{take_one, at_first}
 use Rattle.explain.proofs.Conclusions.{class_shown, property_shown, showing_class, one_shown, two_shown, both_conclude}
-use Rattle.explain.specs.Premises.{AreShowingEach, taken}
+use Rattle.explain.specs.Premises.{AreShowingEach, TakesNoSame, taken}
 use Rattle.explain.specs.LinesOfFacts.{AreShowing, operands_of}
 use Rattle.explain.specs.FormRule.{expression_rule}
 use Rattle.explain.specs.Step.{subject_in, said_by, LeadTo}
@@ -50,11 +50,12 @@ IsOfExpression (code_form.TheVariants.N1 _ _) = Unit {0}
 IsOfExpression (code_form.TheVariants.N2 _ _ _) = Unit {0}
 IsOfExpression (code_form.TheVariants.N3 _ _ _) = Unit {0}
 IsOfExpression (code_form.TheVariants.N4 _ _ _) = Unit {0}
-IsOfExpression (code_form.TheVariants.N5 _ _) = ⊥
-IsOfExpression (code_form.TheVariants.N6 _ _ _) = ⊥
-IsOfExpression (code_form.TheVariants.N7 _) = ⊥
-IsOfExpression (code_form.TheVariants.N8 _ _) = ⊥
-IsOfExpression (code_form.TheVariants.N9 _ _ _) = ⊥
+IsOfExpression _ = ⊥
+
+pub expression_free : (form : code_form.Form) → IsOfExpression form → TakesNoSame form
+expression_free (code_form.TheVariants.N10 _ _) kind = kind
+expression_free (code_form.TheVariants.N11 _ _) kind = kind
+expression_free _ kind = tt
 
 -- what a line says of a whole class in a context, and of a prefix
 said_whole : {b : Prefixes} {c : code_class.Class2} {d : ℕ} (x : Context) → SaysClass b c (Whole d) → said_by (In c x) ≡ Some (Sub (subject_in x) d)

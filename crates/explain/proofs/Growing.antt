@@ -70,6 +70,9 @@ pub conclusions_grown : {old new : List Line} (numbers : List ℕ) (cs : List Co
 conclusions_grown {old} numbers cs g e =
     rw (g.new_is, map-append (λ l. l.conclusion) old g.more) (at_numbers_grown (conclusions old) (conclusions g.more) numbers cs e)
 
+pub conclusion_grown : {old new : List Line} (n : ℕ) (c : Conclusion) → Lengthens old new → at_number (conclusions old) n ≡ Some c → at_number (conclusions new) n ≡ Some c
+conclusion_grown {old} n c g e = rw (g.new_is, map-append (λ l. l.conclusion) old g.more) (at_number_grown (conclusions old) (conclusions g.more) n c e)
+
 -- the number of the last line shows its conclusion
 pub last_conclusion : (lines : List Line) (line : Line) (n : ℕ) → n ≡ length (lines ++ line ∷ []) → at_numbers (conclusions (lines ++ line ∷ [])) (n ∷ []) ≡ Some (line.conclusion ∷ [])
 last_conclusion lines line n e =

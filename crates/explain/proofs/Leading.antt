@@ -16,7 +16,7 @@ use Rattle.explain.proofs.Births.{taken_by_axiom}
 use Rattle.explain.proofs.Within.{fact_within, axiom_number_within, form_said, form_there}
 use Rattle.explain.specs.FormRule.{axiom_rule}
 use Rattle.explain.specs.OlderFacts.{rests_on}
-use Rattle.explain.specs.Premises.{AreShowingEach, taken}
+use Rattle.explain.specs.Premises.{AreShowingEach, TakesNoSame, taken}
 use Rattle.explain.specs.Step.{LeadTo, said_by}
 use Rattle.facts.specs.Births.{Reason}
 use Rattle.facts.specs.declared.contexts.Fact.{Fact}
@@ -54,13 +54,13 @@ module _ (o : Ontology) (s : Saturated) (saturated : IsSaturated o s) (n : ℕ) 
   given = form_said o s.normal m form (origins.Axiom number) saturated.normal (ap (λ (fs : List Form). slice_get fs m) (sym saturated.forms) ∙ at_form) origin
 
   module _ (w : IsOntology o) (a : Axiom) (stated : at_number o.axioms number ≡ Some a) (f : Fact) (there : slice_get s.state.facts n ≡ Some f) (lines : List Line) (numbers : List ℕ)
-      (showing : (fs : List Fact) → map (slice_get s.state.facts) (rests_on s.normal.entries r) ≡ map Some fs → AreShowingEach (prefixes_of s.normal) lines numbers (taken form fs)) where
+      (free : TakesNoSame form) (showing : (fs : List Fact) → map (slice_get s.state.facts) (rests_on s.normal.entries r) ≡ map Some fs → AreShowingEach (prefixes_of s.normal) lines numbers (taken form fs)) where
     gives : AxiomGives a given.0
     gives = subst (λ b. AxiomGives b given.0) (same_Some given.2.0 a (sym given.2.1 ∙ stated)) given.2.2
 
     lead : Lead o (prefixes_of s.normal) s.state.problem lines numbers a (said_by f) f
     lead =
-        let t = taken_by_axiom o s saturated n r born m place number origin form f at_form there in
+        let t = taken_by_axiom o s saturated n r born m place number origin form f free at_form there in
         axiom_leads o (prefixes_of s.normal) s.state.problem lines numbers a form given.0 given.1 gives t.older f t.takes (showing t.older t.at)
 
     follows_by : (c : Conclusion) → said_by f ≡ Some c → Lead o (prefixes_of s.normal) s.state.problem lines numbers a (Some c) f → IsDerived o lines (record { conclusion = c; rule = axiom_rule a; axiom' = Some number; premises = numbers })

@@ -3,7 +3,7 @@ use Rattle.std.proofs.Common.{◌≡◌, ℕ, zero, suc, ◌+◌, ◌<◌, ◌�
 use Rattle.std.proofs.lemmas.Option.{none-some, same_Some, slice_get_within}
 use Rattle.std.proofs.lemmas.List.Elements.{All-contains}
 use Rattle.axioms.specs.declared.ids.PropId.{PropId}
-use Rattle.axioms.specs.Ontology.{Ontology, Axiom, Node, Class, And, Exists, SubClass, EquivalentClasses, DisjointClasses, SubProperty, EquivalentProperties, Domain, Transitive, Reflexive, ClassAssertion, PropertyAssertion}
+use Rattle.axioms.specs.Ontology.{Ontology, Axiom, Node, Class, And, Exists, SubClass, EquivalentClasses, DisjointClasses, SubProperty, EquivalentProperties, Domain, Transitive, Reflexive, ClassAssertion, PropertyAssertion, SameIndividuals, DifferentIndividuals, NegativePropertyAssertion}
 use Rattle.axioms.specs.WellFormedness.{IsOntology, IsAxiomOf}
 use Rattle.certificate.specs.Certificate.{Subject, Conclusion, Edge, Line}
 use Rattle.certificate.specs.Writability.{IsConclusionOf}
@@ -69,6 +69,9 @@ axiom_leads o (Transitive q) r s x y w h = absurd cc
 axiom_leads o (Reflexive q) r s x y w h = absurd cc
 axiom_leads o (ClassAssertion c a) r s x y w h = absurd cc
 axiom_leads o (PropertyAssertion q a b) r s x y w h = absurd cc
+axiom_leads o (SameIndividuals xs) r s x y w (n, (a, b, at, next, e)) = absurd cc
+axiom_leads o (DifferentIndividuals xs) r s x y w (m, (n, (a, b, l, at, there, e))) = absurd cc
+axiom_leads o (NegativePropertyAssertion q a b) r s x y w h = absurd cc
 
 right_none : (e : ℕ) (node : Node) (r s : ℕ) → RightGives e node (N5 r s) → ⊥
 right_none e (Class c) r s h = h

@@ -1,7 +1,10 @@
--- What the search finds is what is above a property, with the ways there.
-use Rattle.std.proofs.Common.{◌≡◌, ℕ, List, [], ◌∷◌, refl, subst, arith}
+-- What the search finds is what forms lead to from a number, with the ways there.
+use Rattle.std.proofs.Common.{◌≡◌, ℕ, List, [], ◌∷◌, refl, sym, subst, arith}
 use Rattle.lemmas.proofs.Members.{Contains-first, Contains-one, slice_get-from_Contains}
+use Rattle.axioms.specs.declared.ids.IndId.{IndId}
 use Rattle.axioms.specs.declared.ids.PropId.{PropId}
+use Rattle.facts.specs.Closure as facts
+use Rattle.facts.specs.Closure.{AreSame}
 use Rattle.normal_forms.specs.declared.forms.Form.{Form}
 use Rattle.normal_forms.specs.declared.forms.PropId2.{PropId2}
 use Rattle.normal_forms.specs.declared.forms.PropId2.TheVariants.{Property}
@@ -10,36 +13,53 @@ use Rattle.number_sets.specs.Search.{AreFound, IsBounded, LeadsTo}
 use Rattle.number_sets.specs.Search as numbers
 use Rattle.explain.specs.declared.told.Told.{Told}
 use Rattle.explain.specs.declared.reached.Reached.{Reached}
-use Rattle.explain.specs.Search.{AreLeadsWithin, AreReached, AreTold, IsWay, as_id, start_of, step_from}
-use Rattle.explain.proofs.Places.{same_id}
+use Rattle.explain.specs.Search.{AreLeadsWithin, AreReached, AreTold, IsLedTo, IsWay, LeadsOver, LeadsUp, itself, onward, start_of, step_from}
 
 abbrev number : Reached → ℕ
-number r = r.property.0
+number r = r.number
 
 abbrev target : Told → ℕ
-target t = t.above.0
+target t = t.to
 
 abbrev by : Told → ℕ → Reached
 by t place = step_from place t
 
-pub bounded : (bound : ℕ) (forms : List Form) (lists : List (List Told)) → AreLeadsWithin bound forms → AreTold bound forms lists → IsBounded target lists
-bounded bound forms lists within told b t c = omega (arith, (within t.form (as_id b) t.above ((told.exact b t).0 c)).1, told.long)
+module _ (Leads : ℕ → ℕ → ℕ → Type 0) (bound : ℕ) (lists : List (List Told)) (told : AreTold bound Leads lists) where
+  pub bounded : AreLeadsWithin bound Leads → IsBounded target lists
+  bounded within b t c = omega (arith, (within t.form b t.to ((told.exact b t).0 c)).1, told.long)
 
-module _ (bound : ℕ) (forms : List Form) (lists : List (List Told)) (told : AreTold bound forms lists) (c : PropId) where
-  way : (found : List Reached) (place : ℕ) (r : Reached) → numbers.IsWay number by (start_of c ∷ []) lists found place r → IsWay forms c found place r.property r.way
-  way found place r (numbers.first _ h) = subst (λ (x : Reached). IsWay forms c found place x.property x.way) (Contains-one (start_of c) r h) refl
-  way found place _ (numbers.step from b t low at tells) = (b, low, at, (told.exact b.property.0 t).0 tells)
+  module _ (c : ℕ) where
+    way : (found : List Reached) (place : ℕ) (r : Reached) → numbers.IsWay number by (start_of c ∷ []) lists found place r → IsWay Leads c found place r.number r.way
+    way found place r (numbers.first _ h) = subst (λ (x : Reached). IsWay Leads c found place x.number x.way) (Contains-one (start_of c) r h) refl
+    way found place _ (numbers.step from b t low at tells) = (b, low, at, (told.exact b.number t).0 tells)
 
-  led : (q : PropId2) → IsAtOrBelow forms (Property c) q → (d : PropId) → q ≡ Property d → LeadsTo number target (start_of c ∷ []) lists d.0
-  led _ same d e = let is : c ≡ d = cc in subst (λ (p : PropId). LeadsTo number target (start_of c ∷ []) lists p.0) is (numbers.itself (start_of c) (Contains-first (start_of c) []))
-  led _ (step s t h form) d e =
-      let is : t ≡ d = cc in
-      let (n, at) = slice_get-from_Contains forms _ form in
-      let x : Told = record { form = n; above = t } in
-      subst (λ (p : PropId). LeadsTo number target (start_of c ∷ []) lists p.0) is (numbers.onward s.0 x (led (Property s) h s refl) ((told.exact s.0 x).1 at))
+    led : {d : ℕ} → IsLedTo Leads c d → LeadsTo number target (start_of c ∷ []) lists d
+    led itself = numbers.itself (start_of c) (Contains-first (start_of c) [])
+    led (onward {d = d} n b before leads) =
+        let x : Told = record { form = n; to = d } in
+        numbers.onward b x (led before) ((told.exact b x).1 leads)
 
-  pub reached : (found : List Reached) → AreFound number target by (start_of c ∷ []) lists found → AreReached forms c found
-  reached found f = record {
-    ways = λ place r g. way found place r (f.ways place r g);
-    all = λ d h. (let (place, (x, at, e)) = f.all d.0 (led (Property d) h d refl) in (place, (x, at, same_id x.property d e)));
-  }
+    pub reached : (found : List Reached) → AreFound number target by (start_of c ∷ []) lists found → AreReached Leads c found
+    reached found f = record {
+      ways = λ place r g. way found place r (f.ways place r g);
+      all = λ d h. f.all d (led h);
+    }
+
+-- ---- what forms lead to
+
+pub led_up : (forms : List Form) (p : PropId) (q : PropId2) → IsAtOrBelow forms (Property p) q → (d : PropId) → q ≡ Property d → IsLedTo (LeadsUp forms) p.0 d.0
+led_up forms p _ same d e = let is : p ≡ d = cc in subst (λ (x : PropId). IsLedTo (LeadsUp forms) p.0 x.0) is itself
+led_up forms p _ (step s t h form) d e =
+    let is : t ≡ d = cc in
+    let (n, at) = slice_get-from_Contains forms _ form in
+    subst (λ (x : PropId). IsLedTo (LeadsUp forms) p.0 x.0) is (onward n s.0 (led_up forms p (Property s) h s refl) at)
+
+pub led_over : {forms : List Form} {i j : IndId} → AreSame forms i j → IsLedTo (LeadsOver forms) i.0 j.0
+led_over facts.itself = itself
+led_over {forms} (facts.step h form before there link) =
+    let (n, at) = slice_get-from_Contains forms form there in
+    onward n h.0 (led_over before) (form, at, link)
+
+-- what such a search found, in the list that it is read from
+pub found_in : (bound : ℕ) (forms : List Form) (links : List (List Told)) (c : ℕ) (found list : List Reached) → AreTold bound (LeadsOver forms) links → AreFound number target by (start_of c ∷ []) links found → list ≡ found → AreReached (LeadsOver forms) c list
+found_in bound forms links c found list told search is = subst (AreReached (LeadsOver forms) c) (sym is) (reached (LeadsOver forms) bound links told c found search)

@@ -18,14 +18,14 @@ use Rattle.lemmas.proofs.Members.{Contains-none, Contains-first, Contains-one, C
 use Rattle.lemmas.proofs.Places.{slice_get_push, take_push}
 use Rattle.number_sets.specs.Pieces.{list_at}
 
-before_or_not : (n m : ℕ) → (n < m) ⊎ (m ≤ n)
+pub before_or_not : (n m : ℕ) → (n < m) ⊎ (m ≤ n)
 before_or_not zero zero = inr (omega arith)
 before_or_not zero (suc m) = inl (omega arith)
 before_or_not (suc n) zero = inr (omega arith)
 before_or_not (suc n) (suc m) = elim (before_or_not n m) [ inl l ↦ inl (omega arith) | inr l ↦ inr (omega arith) ]
 
 -- a premise stays one
-premise_grown : {old new : List Line} → Lengthens old new → (n : ℕ) → IsPremise old n → IsPremise new n
+pub premise_grown : {old new : List Line} → Lengthens old new → (n : ℕ) → IsPremise old n → IsPremise new n
 premise_grown {old} {new} g n (m, later, l, e, h) =
     (m, later, l, subst (λ lines. slice_get lines m ≡ Some later) (sym g.new_is) (slice_get_grown old g.more m later e), h)
 
@@ -99,7 +99,7 @@ used_back lines new walk k d number next low high used =
 of_none : (shown : List (List ℕ)) (n : ℕ) → IsAmongThose shown [] n → ⊥
 of_none shown n (m, h, c) = Contains-none m h
 
-of_one : (shown : List (List ℕ)) (m n : ℕ) → IsAmongThose shown (m ∷ []) n → IsAmong (list_at shown m) n
+pub of_one : (shown : List (List ℕ)) (m n : ℕ) → IsAmongThose shown (m ∷ []) n → IsAmong (list_at shown m) n
 of_one shown m n (k, h, c) = subst (λ i. IsAmong (list_at shown i) n) (sym (Contains-one m k h)) c
 
 of_two : (shown : List (List ℕ)) (m k n : ℕ) → IsAmongThose shown (m ∷ k ∷ []) n → IsAmong (list_at shown m) n ⊎ IsAmong (list_at shown k) n

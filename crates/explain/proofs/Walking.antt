@@ -30,7 +30,7 @@ one_edge x y [] c w = absurd w
 one_edge x y (r ∷ []) c (z, is, e) = (r, is ∙ ap (Edge x r) e)
 one_edge x y (r ∷ s ∷ rs) c (z, is, w) = absurd w
 
-no_edge : (x y : Subject) (rs : List ℕ) → IsWalk x rs y [] → x ≡ y
+pub no_edge : (x y : Subject) (rs : List ℕ) → IsWalk x rs y [] → x ≡ y
 no_edge x y [] w = w
 no_edge x y (r ∷ rs) w = absurd w
 
@@ -41,11 +41,11 @@ walk_split x y (r ∷ rs) (c ∷ cs) ds (u, is, w) =
     let (z, ss, ts, before, after) = walk_split u y rs cs ds w in
     (z, r ∷ ss, ts, (u, is, before), after)
 
-at_one_more : {X : Type 0} (xs : List X) (n : ℕ) (ns : List ℕ) (y : X) (ys : List X) → at_number xs n ≡ Some y → at_numbers xs ns ≡ Some ys → at_numbers xs (n ∷ ns) ≡ Some (y ∷ ys)
+pub at_one_more : {X : Type 0} (xs : List X) (n : ℕ) (ns : List ℕ) (y : X) (ys : List X) → at_number xs n ≡ Some y → at_numbers xs ns ≡ Some ys → at_numbers xs (n ∷ ns) ≡ Some (y ∷ ys)
 at_one_more xs n ns y ys e h = rw (e, h)
 
 -- what stands at numbers one behind the other
-at_numbers_split : {X : Type 0} (xs : List X) (ms ns : List ℕ) (zs : List X) → at_numbers xs (ms ++ ns) ≡ Some zs → (as' : List X) × (bs : List X) × (at_numbers xs ms ≡ Some as') × (at_numbers xs ns ≡ Some bs) × (zs ≡ as' ++ bs)
+pub at_numbers_split : {X : Type 0} (xs : List X) (ms ns : List ℕ) (zs : List X) → at_numbers xs (ms ++ ns) ≡ Some zs → (as' : List X) × (bs : List X) × (at_numbers xs ms ≡ Some as') × (at_numbers xs ns ≡ Some bs) × (zs ≡ as' ++ bs)
 at_numbers_split xs [] ns zs e = ([], zs, refl, e, refl)
 at_numbers_split xs (m ∷ ms) ns zs e =
     let (y, ys, at, rest, is) = prepended_list_parts (at_number xs m) (at_numbers xs (ms ++ ns)) zs e in
@@ -82,7 +82,7 @@ edge_into_nothing lines edge end x l =
     (r, l.target, at ∙ ap Some is, l.at_end)
 
 -- a line of a derivation names what is there
-line_within : (o : Ontology) (lines : List Line) (n : ℕ) (c : Conclusion) → IsDerivation o lines → at_number (conclusions lines) n ≡ Some c → IsConclusionOf o c
+pub line_within : (o : Ontology) (lines : List Line) (n : ℕ) (c : Conclusion) → IsDerivation o lines → at_number (conclusions lines) n ≡ Some c → IsConclusionOf o c
 line_within o lines zero c d e = absurd (none-some c e)
 line_within o lines (suc n) c d e =
     let (line, at, is) = at_conclusion lines n c e in

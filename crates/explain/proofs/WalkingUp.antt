@@ -3,10 +3,11 @@ use Rattle.std.proofs.Common.{◌≡◌, ℕ, ◌≤◌, ◌⊎◌, inl, inr, Li
 use Rattle.std.specs.List.{All}
 use Rattle.std.specs.Prelude.{reverse}
 use Rattle.std.proofs.lemmas.Bool.{cases_lt}
-use Rattle.std.proofs.lemmas.List.{reverse-append, get_or_past}
+use Rattle.std.proofs.lemmas.List.{append_assoc, append-nil, reverse-append, get_or_past}
 use Rattle.std.proofs.lemmas.List.Elements.{All-contains}
 use Rattle.std.proofs.lemmas.Option.{none-some, same_Some}
 use Rattle.lemmas.proofs.Members.{Contains-from_slice_get, slice_get-from_Contains}
+use Rattle.axioms.specs.declared.ids.IndId.{IndId}
 use Rattle.axioms.specs.declared.ids.PropId.{PropId}
 use Rattle.normal_forms.specs.declared.forms.Form.{Form}
 use Rattle.normal_forms.specs.declared.forms.Form.TheVariants.{N5}
@@ -16,81 +17,119 @@ use Rattle.normal_forms.specs.Properties.{IsAtOrBelow, IsPropertyFormOf, same, s
 use Rattle.number_sets.specs.Pieces.{list_at}
 use Rattle.explain.specs.declared.reached.Reached.{Reached}
 use Rattle.explain.specs.declared.reached.Way.{Way}
-use Rattle.explain.specs.Paths.{IsPath}
-use Rattle.explain.specs.Search.{AreAllReached, AreEarlier, AreLeadsWithin, AreReached, AreWays, HasNo, IsWay, Leads, StandsAt}
+use Rattle.explain.specs.Paths.{IsChain, IsPath}
+use Rattle.explain.specs.Search.{AreAllReached, AreEarlier, AreLeadsWithin, AreReached, AreWays, HasNo, IsTrace, IsWay, LeadsOver, LeadsUp, StandsAt, as_id, as_individual}
+use Rattle.explain.specs.Search as search
+use Rattle.explain.proofs.Reaching.{led_up}
 
-pub earlier : (forms : List Form) (c : PropId) (found : List Reached) → AreWays forms c found → AreEarlier found
-earlier forms c found ways place r way g e =
-    let h : IsWay forms c found place r.property (Some way) = subst (IsWay forms c found place r.property) e (ways place r g) in h.1
+-- ---- ways back
 
--- the numbers so far, last first, lead from what stands at a place
-abbrev pub LeadOn : List Reached → ℕ → ℕ → List ℕ → Type 0
-LeadOn found place at numbers = (forms : List Form) (c to : PropId) → AreWays forms c found → StandsAt found to place → (r : Reached) × (slice_get found at ≡ Some r) × IsPath forms r.property (reverse numbers) to
+-- the numbers so far, last first, lead on from a place
+abbrev pub TracesOn : List Reached → ℕ → ℕ → List ℕ → Type 0
+TracesOn found place at numbers = (before : List ℕ) → IsTrace found at before → IsTrace found place (before ++ reverse numbers)
 
-pub lead_more : (found : List Reached) (place at : ℕ) (numbers : List ℕ) (r : Reached) (way : Way) → slice_get found at ≡ Some r → r.way ≡ Some way → LeadOn found place at numbers → LeadOn found place way.from (numbers ++ way.form ∷ [])
-lead_more found place at numbers r way g e before forms c to ways s =
-    let p = before forms c to ways s in
-    let here : p.0 ≡ r = same_Some p.0 r (sym p.1 ∙ g) in
-    let h : IsWay forms c found at r.property (Some way) = subst (IsWay forms c found at r.property) e (ways at r g) in
-    let on : IsPath forms r.property (reverse numbers) to = subst (λ (x : Reached). IsPath forms x.property (reverse numbers) to) here p.2 in
-    (h.0, h.2, rw (reverse-append numbers (way.form ∷ [])) (r.property, h.3, on))
+pub traces_none : (found : List Reached) (place : ℕ) → TracesOn found place place []
+traces_none found place before trace = subst (IsTrace found place) (sym (append-nil before)) trace
 
-pub lead_all : (found : List Reached) (place at : ℕ) (numbers : List ℕ) (r : Reached) → slice_get found at ≡ Some r → r.way ≡ None → LeadOn found place at numbers
-    → (forms : List Form) (c to : PropId) → AreWays forms c found → StandsAt found to place → IsPath forms c (reverse numbers) to
-lead_all found place at numbers r g e before forms c to ways s =
-    let p = before forms c to ways s in
-    let here : p.0 ≡ r = same_Some p.0 r (sym p.1 ∙ g) in
-    let h : r.property ≡ c = subst (IsWay forms c found at r.property) e (ways at r g) in
-    subst (λ (x : PropId). IsPath forms x (reverse numbers) to) (ap (λ (x : Reached). x.property) here ∙ h) p.2
+pub traces_more : (found : List Reached) (place at : ℕ) (numbers : List ℕ) (r : Reached) (way : Way) → slice_get found at ≡ Some r → r.way ≡ Some way → TracesOn found place at numbers → TracesOn found place way.from (numbers ++ way.form ∷ [])
+traces_more found place at numbers r way g e on before trace =
+    let is : (before ++ way.form ∷ []) ++ reverse numbers ≡ before ++ reverse (numbers ++ way.form ∷ []) =
+    append_assoc before (way.form ∷ []) (reverse numbers) ∙ ap (λ ns. before ++ ns) (sym (reverse-append numbers (way.form ∷ []))) in
+    subst (IsTrace found place) is (on (before ++ way.form ∷ []) (search.step at r way g e trace))
+
+pub traces_all : (found : List Reached) (place at : ℕ) (numbers : List ℕ) (r : Reached) → slice_get found at ≡ Some r → r.way ≡ None → TracesOn found place at numbers → IsTrace found place (reverse numbers)
+traces_all found place at numbers r g e on = on [] (search.start at r g e)
 
 pub no_way : (way : Option Way) → ((w : Way) → way ≡ Some w → ⊥) → way ≡ None
 no_way None h = refl
 no_way (Some w) h = absurd (h w refl)
 
+-- ---- a trace is a path
+
+module _ (Leads : ℕ → ℕ → ℕ → Type 0) where
+  pub earlier : (c : ℕ) (found : List Reached) → AreWays Leads c found → AreEarlier found
+  earlier c found ways place r way g e =
+      let h : IsWay Leads c found place r.number (Some way) = subst (IsWay Leads c found place r.number) e (ways place r g) in h.1
+
+  -- the forms of these numbers lead from one to the other, each from where the one before it ends
+  abbrev pub LeadAlong : ℕ → List ℕ → ℕ → Type 0
+  LeadAlong c [] d = c ≡ d
+  LeadAlong c (n ∷ ns) d = (b : ℕ) × Leads n c b × LeadAlong b ns d
+
+  along_more : (c b d n : ℕ) (ns : List ℕ) → LeadAlong c ns b → Leads n b d → LeadAlong c (ns ++ n ∷ []) d
+  along_more c b d n [] e leads = (d, subst (λ x. Leads n x d) (sym e) leads, refl)
+  along_more c b d n (m ∷ ns) (a, first, rest) leads = (a, first, along_more a b d n ns rest leads)
+
+  traced : (c : ℕ) (found : List Reached) → AreWays Leads c found → {place : ℕ} {numbers : List ℕ} → IsTrace found place numbers → (r : Reached) × (slice_get found place ≡ Some r) × LeadAlong c numbers r.number
+  traced c found ways (search.start place r g e) =
+      let h : r.number ≡ c = subst (IsWay Leads c found place r.number) e (ways place r g) in
+      (r, g, sym h)
+  traced c found ways (search.step {numbers = numbers} place r way g e trace) =
+      let h : IsWay Leads c found place r.number (Some way) = subst (IsWay Leads c found place r.number) e (ways place r g) in
+      let (b, at, before) = traced c found ways trace in
+      let same : b ≡ h.0 = same_Some b h.0 (sym at ∙ h.2) in
+      (r, g, along_more c h.0.number r.number way.form numbers (subst (λ (x : Reached). LeadAlong c numbers x.number) same before) h.3)
+
+  pub leads_along : (c d : ℕ) (found : List Reached) (place : ℕ) (numbers : List ℕ) → AreWays Leads c found → StandsAt found d place → IsTrace found place numbers → LeadAlong c numbers d
+  leads_along c d found place numbers ways stands trace =
+      let (r, at, along) = traced c found ways trace in
+      let same : r ≡ stands.0 = same_Some r stands.0 (sym at ∙ stands.1) in
+      subst (LeadAlong c numbers) (ap (λ (x : Reached). x.number) same ∙ stands.2) along
+
+-- of plain property forms
+pub path_along : (forms : List Form) (p : PropId) (numbers : List ℕ) (q : PropId) → LeadAlong (LeadsUp forms) p.0 numbers q.0 → IsPath forms p numbers q
+path_along forms p [] q e = ap as_id e
+path_along forms p (n ∷ ns) q (t, at, rest) = (as_id t, at, path_along forms (as_id t) ns q rest)
+
+-- of forms that make individuals one
+pub chain_along : (forms : List Form) (i : IndId) (numbers : List ℕ) (j : IndId) → LeadAlong (LeadsOver forms) i.0 numbers j.0 → IsChain forms i numbers j
+chain_along forms i [] j e = ap as_individual e
+chain_along forms i (n ∷ ns) j (h, link, rest) = (as_individual h, link, chain_along forms (as_individual h) ns j rest)
+
 -- ---- what is kept for a property
 
 -- its list, or none where it is out of range
-pub kept_at : (forms : List Form) (lists : List (List Reached)) (p : PropId) (list : List Reached) → AreAllReached forms lists → list ≡ list_at lists p.0
-    → AreReached forms p list ⊎ ((list ≡ []) × (length lists ≤ p.0))
-kept_at forms lists p list w is = elim (cases_lt p.0 (length lists)) [
-  | inl l ↦ inl (subst (AreReached forms p) (sym is) (w.each p.0 l))
-  | inr l ↦ inr (is ∙ get_or_past lists p.0 [] l, l)
+pub kept_at : (forms : List Form) (lists : List (List Reached)) (p : ℕ) (list : List Reached) → AreAllReached forms lists → list ≡ list_at lists p
+    → AreReached (LeadsUp forms) p list ⊎ ((list ≡ []) × (length lists ≤ p))
+kept_at forms lists p list w is = elim (cases_lt p (length lists)) [
+  | inl l ↦ inl (subst (AreReached (LeadsUp forms) p) (sym is) (w.each p l))
+  | inr l ↦ inr (is ∙ get_or_past lists p [] l, l)
 ]
 
-none_there : (list : List Reached) (d : PropId) (place : ℕ) → list ≡ [] → StandsAt list d place → ⊥
+none_there : (list : List Reached) (d place : ℕ) → list ≡ [] → StandsAt list d place → ⊥
 none_there list d place e s = none-some s.0 (subst (λ (xs : List Reached). slice_get xs place ≡ Some s.0) e s.1)
 
-pub kept_earlier : (forms : List Form) (lists : List (List Reached)) (p : PropId) (list : List Reached) → AreAllReached forms lists → list ≡ list_at lists p.0 → AreEarlier list
+pub kept_earlier : (forms : List Form) (lists : List (List Reached)) (p : ℕ) (list : List Reached) → AreAllReached forms lists → list ≡ list_at lists p → AreEarlier list
 kept_earlier forms lists p list w is = elim (kept_at forms lists p list w is) [
-  | inl h ↦ earlier forms p list h.ways
-  | inr h ↦ λ place r way g e. absurd (none_there list r.property place h.0 (r, g, refl))
+  | inl h ↦ earlier (LeadsUp forms) p list h.ways
+  | inr h ↦ λ place r way g e. absurd (none_there list r.number place h.0 (r, g, refl))
 ]
 
-pub kept_ways : (forms : List Form) (lists : List (List Reached)) (p d : PropId) (place : ℕ) (list : List Reached) → AreAllReached forms lists → list ≡ list_at lists p.0 → StandsAt list d place → AreWays forms p list
+pub kept_ways : (forms : List Form) (lists : List (List Reached)) (p d place : ℕ) (list : List Reached) → AreAllReached forms lists → list ≡ list_at lists p → StandsAt list d place → AreWays (LeadsUp forms) p list
 kept_ways forms lists p d place list w is s = elim (kept_at forms lists p list w is) [
   | inl h ↦ h.ways
   | inr h ↦ absurd (none_there list d place h.0 s)
 ]
 
 -- a property that no form leads on from is below itself alone
-alone : (forms : List Form) (p : PropId) → ((n : ℕ) (s : PropId) → Leads forms n p s → ⊥) → (q : PropId2) → IsAtOrBelow forms (Property p) q → q ≡ Property p
+alone : (forms : List Form) (p : PropId) → ((n s : ℕ) → LeadsUp forms n p.0 s → ⊥) → (q : PropId2) → IsAtOrBelow forms (Property p) q → q ≡ Property p
 alone forms p none _ same = refl
 alone forms p none _ (step s t h form) =
     let e : Property s ≡ Property p = alone forms p none (Property s) h in
     let is : s ≡ p = cc in
     let n = slice_get-from_Contains forms _ form in
-    absurd (none n.0 t (subst (λ (x : PropId). Leads forms n.0 x t) is n.1))
+    absurd (none n.0 t.0 (subst (λ (x : PropId). LeadsUp forms n.0 x.0 t.0) is n.1))
 
-pub kept_none : (forms : List Form) (lists : List (List Reached)) (p d : PropId) (list : List Reached) → AreAllReached forms lists → list ≡ list_at lists p.0 → HasNo list d → (p.0 ≡ d.0 → ⊥) → IsAtOrBelow forms (Property p) (Property d) → ⊥
-kept_none forms lists p d list w is hidden apart below = elim (kept_at forms lists p list w is) [
-  | inl h ↦ let at = h.all d below in hidden at.0 at.1
+pub kept_none : (forms : List Form) (lists : List (List Reached)) (p d : PropId) (list : List Reached) → AreAllReached forms lists → list ≡ list_at lists p.0 → HasNo list d.0 → (p.0 ≡ d.0 → ⊥) → IsAtOrBelow forms (Property p) (Property d) → ⊥
+kept_none forms lists p d list w is hidden apart below = elim (kept_at forms lists p.0 list w is) [
+  | inl h ↦ let at = h.all d.0 (led_up forms p (Property d) below d refl) in hidden at.0 at.1
   | inr h ↦
-      let e : Property d ≡ Property p = alone forms p (λ n s leads. let l = (w.within n p s leads).0 in absurd (omega (arith, h.1, l))) (Property d) below in
+      let e : Property d ≡ Property p = alone forms p (λ n s leads. let l = (w.within n p.0 s leads).0 in absurd (omega (arith, h.1, l))) (Property d) below in
       let i : d ≡ p = cc in
       apart (ap (λ (x : PropId). x.0) (sym i))
 ]
 
 -- ---- what is made
 
-pub leads_within : (n m : ℕ) (forms : List Form) → All (IsPropertyFormOf n m) forms → AreLeadsWithin n forms
-leads_within n m forms all k r s g = All-contains (IsPropertyFormOf n m) forms (N5 r s) all (Contains-from_slice_get forms k (N5 r s) g)
+pub leads_within : (n m : ℕ) (forms : List Form) → All (IsPropertyFormOf n m) forms → AreLeadsWithin n (LeadsUp forms)
+leads_within n m forms all k r s g = All-contains (IsPropertyFormOf n m) forms (N5 (as_id r) (as_id s)) all (Contains-from_slice_get forms k (N5 (as_id r) (as_id s)) g)

@@ -1,15 +1,16 @@
 -- The rules by which lines follow for forms.
 use Rattle.std.specs.Prelude.{ℕ, Option, Some, None}
-use Rattle.axioms.specs.Ontology.{Ontology, Axiom, SubClass, EquivalentClasses, DisjointClasses, SubProperty, EquivalentProperties, Domain, Transitive, Reflexive, ClassAssertion, PropertyAssertion}
+use Rattle.axioms.specs.Ontology.{Ontology, Axiom, SubClass, EquivalentClasses, DisjointClasses, SubProperty, EquivalentProperties, Domain, Transitive, Reflexive, ClassAssertion, PropertyAssertion, SameIndividuals, DifferentIndividuals, NegativePropertyAssertion}
 use Rattle.axioms.specs.View.{at_number}
 use Rattle.certificate.specs.declared.line.Rule.{Rule}
-use Rattle.certificate.specs.declared.line.Rule.TheVariants.{K4, K5, K6, K7, K8, K9, K10, K12, K13, K14, K15, K16}
+use Rattle.certificate.specs.declared.line.Rule.TheVariants.{K4, K5, K6, K7, K8, K9, K10, K12, K13, K14, K15, K16, K17, K20}
 use Rattle.normal_forms.specs.declared.forms.Form.{Form}
 use Rattle.normal_forms.specs.declared.forms.Form.TheVariants.{N1, N2, N3}
 use Rattle.normal_forms.specs.declared.forms.Origin.{Origin}
 use Rattle.normal_forms.specs.declared.forms.Origin.TheVariants as origins
 
--- the rule for a fact of a form that the axiom gave; a plain subproperty has no such form
+-- the rule for a line of a form that the axiom gave: of individuals that are one it is not the line of a fact; a plain subproperty has
+-- no such form
 abbrev pub axiom_rule : Axiom → Rule
 axiom_rule (SubClass _ _) = K4
 axiom_rule (EquivalentClasses _) = K4
@@ -21,6 +22,9 @@ axiom_rule (Transitive _) = K13
 axiom_rule (Reflexive _) = K14
 axiom_rule (ClassAssertion _ _) = K15
 axiom_rule (PropertyAssertion _ _ _) = K16
+axiom_rule (SameIndividuals _) = K17
+axiom_rule (DifferentIndividuals _) = K20
+axiom_rule (NegativePropertyAssertion _ _ _) = K20
 
 -- the rule for a form that an expression gave
 abbrev pub expression_rule : Form → Rule

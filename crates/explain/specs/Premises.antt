@@ -7,16 +7,23 @@ use Rattle.explain.specs.LinesOfFacts.{AreShowing}
 use Rattle.facts.specs.declared.contexts.Fact.{Fact}
 use Rattle.facts.specs.declared.contexts.Fact.TheVariants.{In, Edge}
 use Rattle.normal_forms.specs.declared.forms.Form.{Form}
-use Rattle.normal_forms.specs.declared.forms.Form.TheVariants.{N4, N6}
+use Rattle.normal_forms.specs.declared.forms.Form.TheVariants.{N4, N6, N10, N11, N12}
 use Rattle.normal_forms.specs.declared.forms.PropId2.{PropId2}
 use Rattle.normal_forms.specs.declared.forms.PropId2.TheVariants.{Property}
 use Rattle.normal_forms.specs.Properties.{IsAtOrBelow}
 use Rattle.normalise.specs.Problem.{prefixes_of}
 
+-- the line of what such a form gives takes no line that individuals are one
+abbrev pub TakesNoSame : Form → Type 0
+TakesNoSame (N10 _ _) = ⊥
+TakesNoSame (N11 _ _) = ⊥
+TakesNoSame _ = Unit {0}
+
 -- the property that the form names for the first fact that it takes, and for the second, where that is an edge
 abbrev pub first_property : Form → Option PropId2
 first_property (N4 r _ _) = Some (Property r)
 first_property (N6 r _ _) = Some r
+first_property (N12 _ r _) = Some (Property r)
 first_property _ = None
 
 abbrev pub second_property : Form → Option PropId2

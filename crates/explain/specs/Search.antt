@@ -1,11 +1,12 @@
--- The search for the properties above one, with the way to each.
-use Rattle.std.specs.Prelude.{◌≡◌, ℕ, ◌<◌, ◌↔◌, List, length, slice_get, Option, Some, None}
+-- The search along forms from one number, with the way to each number that it reaches: from a property to those above it, or from an
+-- individual to those that are one with it.
+use Rattle.std.specs.Prelude.{◌≡◌, ℕ, ◌<◌, ◌↔◌, List, [], ◌∷◌, ◌++◌, length, slice_get, Option, Some, None}
 use Rattle.std.specs.List.{Contains}
+use Rattle.axioms.specs.declared.ids.IndId.{IndId}
 use Rattle.axioms.specs.declared.ids.PropId.{PropId}
+use Rattle.facts.specs.Closure.{Links}
 use Rattle.normal_forms.specs.declared.forms.Form.{Form}
 use Rattle.normal_forms.specs.declared.forms.Form.TheVariants.{N5}
-use Rattle.normal_forms.specs.declared.forms.PropId2.TheVariants.{Property}
-use Rattle.normal_forms.specs.Properties.{IsAtOrBelow}
 use Rattle.number_sets.specs.Pieces.{list_at}
 use Rattle.explain.specs.declared.told.Told.{Told}
 use Rattle.explain.specs.declared.reached.Reached.{Reached}
@@ -14,58 +15,80 @@ use Rattle.explain.specs.declared.reached.Way.{Way}
 abbrev pub as_id : ℕ → PropId
 as_id p = record { 0 = p }
 
--- the form of that number leads from r to s
-abbrev pub Leads : List Form → ℕ → PropId → PropId → Type 0
-Leads forms n r s = slice_get forms n ≡ Some (N5 r s)
+abbrev pub as_individual : ℕ → IndId
+as_individual i = record { 0 = i }
 
--- what plain forms name is below the bound
-abbrev pub AreLeadsWithin : ℕ → List Form → Type 0
-AreLeadsWithin bound forms = (n : ℕ) (r s : PropId) → Leads forms n r s → (r.0 < bound) × (s.0 < bound)
+-- ---- which forms lead from which number to which
 
--- for each property below the bound the plain forms that lead from it
-pub record AreTold (bound : ℕ) (forms : List Form) (lists : List (List Told)) : Type 0 where
+-- the form of that number leads from r to s, which is above
+abbrev pub LeadsUp : List Form → ℕ → ℕ → ℕ → Type 0
+LeadsUp forms n r s = slice_get forms n ≡ Some (N5 (as_id r) (as_id s))
+
+-- the form of that number makes the two one, in either order
+abbrev pub LinksBy : List Form → ℕ → IndId → IndId → Type 0
+LinksBy forms n i j = (form : Form) × (slice_get forms n ≡ Some form) × Links form i j
+
+abbrev pub LeadsOver : List Form → ℕ → ℕ → ℕ → Type 0
+LeadsOver forms n i j = LinksBy forms n (as_individual i) (as_individual j)
+
+-- the numbers that such forms lead to from c
+pub data IsLedTo (Leads : ℕ → ℕ → ℕ → Type 0) (c : ℕ) : ℕ → Type 0 where
+  itself : IsLedTo Leads c c
+  onward : {d : ℕ} (n b : ℕ) → IsLedTo Leads c b → Leads n b d → IsLedTo Leads c d
+
+-- what the forms name is below the bound
+abbrev pub AreLeadsWithin : ℕ → (ℕ → ℕ → ℕ → Type 0) → Type 0
+AreLeadsWithin bound Leads = (n r s : ℕ) → Leads n r s → (r < bound) × (s < bound)
+
+-- for each number below the bound the forms that lead from it
+pub record AreTold (bound : ℕ) (Leads : ℕ → ℕ → ℕ → Type 0) (lists : List (List Told)) : Type 0 where
   pub long : length lists ≡ bound
-  pub exact : (r : ℕ) (t : Told) → Contains (list_at lists r) t ↔ Leads forms t.form (as_id r) t.above
+  pub exact : (r : ℕ) (t : Told) → Contains (list_at lists r) t ↔ Leads t.form r t.to
 
 -- ---- what was reached
 
 -- the last step to d, which stands at that place: none where d is c
-abbrev pub IsWay : List Form → PropId → List Reached → ℕ → PropId → Option Way → Type 0
-IsWay forms c found place d None = d ≡ c
-IsWay forms c found place d (Some way) = (b : Reached) × (way.from < place) × (slice_get found way.from ≡ Some b) × Leads forms way.form b.property d
+abbrev pub IsWay : (ℕ → ℕ → ℕ → Type 0) → ℕ → List Reached → ℕ → ℕ → Option Way → Type 0
+IsWay Leads c found place d None = d ≡ c
+IsWay Leads c found place d (Some way) = (b : Reached) × (way.from < place) × (slice_get found way.from ≡ Some b) × Leads way.form b.number d
 
-abbrev pub AreWays : List Form → PropId → List Reached → Type 0
-AreWays forms c found = (place : ℕ) (r : Reached) → slice_get found place ≡ Some r → IsWay forms c found place r.property r.way
+abbrev pub AreWays : (ℕ → ℕ → ℕ → Type 0) → ℕ → List Reached → Type 0
+AreWays Leads c found = (place : ℕ) (r : Reached) → slice_get found place ≡ Some r → IsWay Leads c found place r.number r.way
 
 -- each way comes from an earlier place
 abbrev pub AreEarlier : List Reached → Type 0
 AreEarlier found = (place : ℕ) (r : Reached) (way : Way) → slice_get found place ≡ Some r → r.way ≡ Some way → way.from < place
 
--- the property was reached, at that place
-abbrev pub StandsAt : List Reached → PropId → ℕ → Type 0
-StandsAt found d place = (r : Reached) × (slice_get found place ≡ Some r) × (r.property ≡ d)
+-- the number was reached, at that place
+abbrev pub StandsAt : List Reached → ℕ → ℕ → Type 0
+StandsAt found d place = (r : Reached) × (slice_get found place ≡ Some r) × (r.number ≡ d)
 
--- the property was reached at no place
-abbrev pub HasNo : List Reached → PropId → Type 0
+-- the number was reached at no place
+abbrev pub HasNo : List Reached → ℕ → Type 0
 HasNo found d = (place : ℕ) → StandsAt found d place → ⊥
 
--- these are c and all above it, with the ways to them
-pub record AreReached (forms : List Form) (c : PropId) (found : List Reached) : Type 0 where
-  pub ways : AreWays forms c found
-  pub all : (d : PropId) → IsAtOrBelow forms (Property c) (Property d) → (place : ℕ) × StandsAt found d place
+-- these are c and all that forms lead to from it, with the ways to them
+pub record AreReached (Leads : ℕ → ℕ → ℕ → Type 0) (c : ℕ) (found : List Reached) : Type 0 where
+  pub ways : AreWays Leads c found
+  pub all : (d : ℕ) → IsLedTo Leads c d → (place : ℕ) × StandsAt found d place
+
+-- the ways back from that place go by the forms of these numbers, the last step first
+pub data IsTrace (found : List Reached) : ℕ → List ℕ → Type 0 where
+  start : (place : ℕ) (r : Reached) → slice_get found place ≡ Some r → r.way ≡ None → IsTrace found place []
+  step : {numbers : List ℕ} (place : ℕ) (r : Reached) (way : Way) → slice_get found place ≡ Some r → r.way ≡ Some way → IsTrace found way.from numbers → IsTrace found place (numbers ++ way.form ∷ [])
 
 -- ---- the search
 
-abbrev pub start_of : PropId → Reached
-start_of c = record { property = c; way = None }
+abbrev pub start_of : ℕ → Reached
+start_of c = record { number = c; way = None }
 
--- what the form leads to from the property at that place
+-- what the form leads to from what was reached at that place
 abbrev pub step_from : ℕ → Told → Reached
-step_from from t = record { property = t.above; way = Some (record { form = t.form; from = from }) }
+step_from from t = record { number = t.to; way = Some (record { form = t.form; from = from }) }
 
 -- ---- what is kept
 
 -- for each property below a bound those above it; other properties are below themselves alone
 pub record AreAllReached (forms : List Form) (lists : List (List Reached)) : Type 0 where
-  pub within : AreLeadsWithin (length lists) forms
-  pub each : (p : ℕ) → p < length lists → AreReached forms (as_id p) (list_at lists p)
+  pub within : AreLeadsWithin (length lists) (LeadsUp forms)
+  pub each : (p : ℕ) → p < length lists → AreReached (LeadsUp forms) p (list_at lists p)

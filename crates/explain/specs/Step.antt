@@ -1,5 +1,5 @@
 -- What a line says of a fact, and what leads to it.
-use Rattle.std.specs.Prelude.{◌≡◌, ℕ, List, Option, Some, None}
+use Rattle.std.specs.Prelude.{◌≡◌, ℕ, List, [], ◌∷◌, Option, Some, None}
 use Rattle.axioms.specs.Ontology.{Ontology}
 use Rattle.certificate.specs.Certificate.{Subject, Expression, Individual, Conclusion, Sub, Edge, Line}
 use Rattle.certificate.specs.declared.line.Rule.{Rule}
@@ -37,3 +37,8 @@ StaysDerivation old new rule axiom' numbers f = (o : Ontology) (b : Prefixes) �
 -- with lines of these numbers that give the fact, those of the shown numbers show it
 abbrev pub ShowsLed : (old new : List Line) → Rule → Option ℕ → List ℕ → code.Fact → List ℕ → Type 0
 ShowsLed old new rule axiom' numbers f shown = (o : Ontology) (b : Prefixes) → LeadTo o b old rule axiom' numbers f → AreShowing b new shown f
+
+-- where a line follows by the rule from two lines of a derivation, the new lines are one
+abbrev pub StaysByTwo : (old new : List Line) → Conclusion → Rule → (first second : ℕ) → Type 0
+StaysByTwo old new conclusion rule first second =
+    (o : Ontology) → IsDerivation o old → IsDerived o old (record { conclusion = conclusion; rule = rule; axiom' = None; premises = first ∷ second ∷ [] }) → IsDerivation o new

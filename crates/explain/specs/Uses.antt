@@ -23,6 +23,10 @@ IsAmongThose shown facts n = (m : ℕ) × Contains facts m × IsAmong (list_at s
 abbrev pub Uses : List Line → List Line → (ℕ → Type 0) → List ℕ → Type 0
 Uses old new Given numbers = (n : ℕ) → n < length new → (length old ≤ n) ⊎ Given n → IsPremise new n ⊎ IsAmong numbers n
 
+-- the form of that number gave the n-th fact
+abbrev pub IsBornBy : Saturated → ℕ → ℕ → Type 0
+IsBornBy s n form = (r : Reason) × (slice_get s.state.births n ≡ Some r) × (r.form ≡ Some form)
+
 -- the line of the n-th fact rests on the m-th
 abbrev pub RestsOn : Saturated → ℕ → ℕ → Type 0
 RestsOn s n m = (r : Reason) × (slice_get s.state.births n ≡ Some r) × Contains (rests_on s.normal.entries r) m

@@ -1,11 +1,11 @@
 //! The properties above each property, with the ways to them.
-ghost use Rattle.explain.specs.Search.{AreLeadsWithin, AreReached, as_id};
+ghost use Rattle.explain.specs.Search.{AreLeadsWithin, AreReached, LeadsUp};
 ghost use Rattle.number_sets.specs.Pieces.{list_at};
 ghost use Rattle.std.specs.Prelude.{◌<◌, ◌≡◌, ◌≤◌, ◌^◌, IfOk, length, ℕ};
 
 use crate::reached::Reached;
 use crate::told::all_told;
-use axioms::{Memory, PropId};
+use axioms::Memory;
 use normal_forms::FormList;
 use number_sets::{NumberSearch, PackedLists};
 use std::alloc::Global;
@@ -18,16 +18,16 @@ pub(crate) fn all_above(
 ) -> Result<PackedLists<Reached>, Memory>
     requires numbers { properties ≤ 2 ^ 32 }
     requires few { length forms.now ≤ 2 ^ 32 }
-    requires within { AreLeadsWithin properties forms.now }
+    requires within { AreLeadsWithin properties (LeadsUp forms.now) }
     ensures length { IfOk result (λ l. length l ≡ properties) }
-    ensures each { IfOk result (λ l. (p : ℕ) → p < properties → AreReached forms.now (as_id p) (list_at l p)) }
+    ensures each { IfOk result (λ l. (p : ℕ) → p < properties → AreReached (LeadsUp forms.now) p (list_at l p)) }
 {
     let told = all_told(alloc, properties, forms)?;
     let mut search = NumberSearch::new(alloc, properties)?;
     let mut above = PackedLists::new(alloc);
     for property in 0..properties {
         let start = Reached {
-            property: PropId(property as u32),
+            number: property as u32,
             way: None,
         };
         search.run(&told, &[start])?;

@@ -1,29 +1,35 @@
 //! What forms led to.
 ghost use Rattle.axioms.specs.View.{axiom_of};
+ghost use Rattle.axioms.specs.declared.ids.IndId.{IndId as Ind};
 ghost use Rattle.cert_check.specs.Derivation.{IsDerivation};
 ghost use Rattle.engine.specs.Saturations.{IsSaturated};
 ghost use Rattle.explain.specs.FormRule.{axiom_rule, expression_rule, origin_rule, stated_rule};
 ghost use Rattle.explain.specs.OlderFacts.{AreOlderShown};
-ghost use Rattle.explain.specs.Uses.{EachIsUsed};
+ghost use Rattle.explain.specs.Premises.{TakesNoSame};
+ghost use Rattle.explain.specs.Uses.{EachIsUsed, IsAmong, IsBornBy, Uses};
 ghost use Rattle.explain.specs.LinesOfFacts.{Lengthens, ShowsFact};
 ghost use Rattle.facts.specs.Births.{reason};
+ghost use Rattle.normal_forms.specs.declared.forms.Form.TheVariants.{N10, N11};
 ghost use Rattle.normalise.specs.Entries.{origin_in};
-ghost use Rattle.std.specs.Prelude.{◌≡◌, ◌<◌, IfOk, OnOk, Some, length, option_map, slice_get};
+ghost use Rattle.std.specs.Prelude.{◌≡◌, ◌<◌, [], IfOk, OnOk, Some, length, option_map, slice_get};
 
 use crate::basis::Basis;
+use crate::between::chain_between;
 use crate::derivation::Derivation;
+use crate::exchange::handed_on;
 use crate::line::{concluded, fact_of};
 use crate::older::rests_on;
 use crate::premises::premises;
+use crate::same::same_along;
 use crate::sink::LineSink;
-use axioms::{Axiom, Memory, Ontology};
+use axioms::{Axiom, IndId, Memory, Ontology};
 use certificate::Rule;
-use facts::{Birth, FactId};
+use facts::{Birth, FactId, Older};
 use normal_forms::{Form, Origin};
 use normalise::Normal;
 use number_sets::PackedLists;
 
-// The rule for a fact of a form that the axiom gave.
+// The rule for a line of a form that the axiom gave.
 fn axiom_rule(stated: &Axiom) -> Rule
     ensures { result ≡ axiom_rule (axiom_of stated.now) }
 {
@@ -36,6 +42,8 @@ fn axiom_rule(stated: &Axiom) -> Rule
         Axiom::Reflexive(..) => Rule::K14,
         Axiom::ClassAssertion(..) => Rule::K15,
         Axiom::PropertyAssertion(..) => Rule::K16,
+        Axiom::SameIndividuals(..) => Rule::K17,
+        Axiom::DifferentIndividuals(..) | Axiom::NegativePropertyAssertion(..) => Rule::K20,
     }
 }
 
@@ -76,6 +84,111 @@ fn origin_rule(
     }
 }
 
+// What a form led to that takes facts alone: adds the line of the fact, where it has one, and gives the numbers of the lines that show
+// the fact.
+fn shown_by_facts<L: LineSink>(
+    basis: &Basis<'_>,
+    derivation: &mut Derivation<L>,
+    shown: &PackedLists<u64>,
+    fact: FactId,
+    birth: &Birth,
+    form: u32,
+    step: &Form,
+) -> Result<Vec<u64>, Memory>
+    requires saturated { IsSaturated basis.now.ontology.now basis.now.saturation.now }
+    requires paths { basis.now.paths.now ≡ basis.now.saturation.now.state.problem.forms }
+    requires there { fact.0 < length basis.now.saturation.now.state.facts }
+    requires derivation { IsDerivation basis.now.ontology.now derivation.old }
+    requires older { AreOlderShown basis.now.saturation.now derivation.old shown.now fact.0 }
+    requires birth { slice_get basis.now.saturation.now.state.births fact.0 ≡ Some (reason birth.now) }
+    requires form { (reason birth.now).form ≡ Some form }
+    requires step { slice_get basis.now.saturation.now.state.problem.forms form ≡ Some step.now }
+    requires facts { TakesNoSame step.now }
+    ensures derivation { OnOk result (IsDerivation basis.now.ontology.now derivation.new) }
+    ensures longer { OnOk result (Lengthens derivation.old derivation.new) }
+    ensures shown { IfOk result (λ numbers. ShowsFact basis.now.saturation.now derivation.new fact.0 numbers.items) }
+    ensures used { IfOk result (λ numbers. EachIsUsed basis.now.saturation.now shown.now fact.0 derivation.old derivation.new numbers.items) }
+{
+    basis.ontology.well_formed();
+    let normal = basis.saturation.normal();
+    let older = rests_on(normal, birth);
+    let numbers = premises(basis, derivation, shown, older, step)?;
+    let fact = fact_of(basis.saturation, fact);
+    let (rule, axiom) = origin_rule(basis.ontology, normal, form, step);
+    let numbers = concluded(basis.alloc, derivation, fact, rule, axiom, numbers)?;
+    Ok(numbers)
+}
+
+// What a form handed on from one of two individuals to the other: adds its lines, and gives their numbers.
+fn shown_by_same<L: LineSink>(
+    basis: &Basis<'_>,
+    derivation: &mut Derivation<L>,
+    shown: &PackedLists<u64>,
+    fact: FactId,
+    birth: &Birth,
+    form: u32,
+) -> Result<Vec<u64>, Memory>
+    requires saturated { IsSaturated basis.now.ontology.now basis.now.saturation.now }
+    requires there { fact.0 < length basis.now.saturation.now.state.facts }
+    requires derivation { IsDerivation basis.now.ontology.now derivation.old }
+    requires older { AreOlderShown basis.now.saturation.now derivation.old shown.now fact.0 }
+    requires birth { slice_get basis.now.saturation.now.state.births fact.0 ≡ Some (reason birth.now) }
+    requires form { (reason birth.now).form ≡ Some form }
+    requires same { (i : Ind) × (j : Ind) × (slice_get basis.now.saturation.now.state.problem.forms form ≡ Some (N10 i j)) }
+    ensures derivation { OnOk result (IsDerivation basis.now.ontology.now derivation.new) }
+    ensures longer { OnOk result (Lengthens derivation.old derivation.new) }
+    ensures shown { IfOk result (λ numbers. ShowsFact basis.now.saturation.now derivation.new fact.0 numbers.items) }
+    ensures used { IfOk result (λ numbers. EachIsUsed basis.now.saturation.now shown.now fact.0 derivation.old derivation.new numbers.items) }
+{
+    basis.ontology.well_formed();
+    let Older::One(older) = birth.older() else {
+        // One fact is handed on.
+        unreachable!()
+    };
+    let given = fact_of(basis.saturation, older);
+    let fact = fact_of(basis.saturation, fact);
+    let known = shown.at(older.0 as usize);
+    let numbers = handed_on(basis, derivation, known, form, given, fact)?;
+    Ok(numbers)
+}
+
+// What a form led to by which two individuals differ that are one: adds the line of the fact, and gives its number.
+fn shown_by_different<L: LineSink>(
+    basis: &Basis<'_>,
+    derivation: &mut Derivation<L>,
+    fact: FactId,
+    form: u32,
+    first: IndId,
+    second: IndId,
+) -> Result<Vec<u64>, Memory>
+    requires saturated { IsSaturated basis.now.ontology.now basis.now.saturation.now }
+    requires there { fact.0 < length basis.now.saturation.now.state.facts }
+    requires derivation { IsDerivation basis.now.ontology.now derivation.old }
+    requires born { IsBornBy basis.now.saturation.now fact.0 form }
+    requires differ { slice_get basis.now.saturation.now.state.problem.forms form ≡ Some (N11 first second) }
+    ensures derivation { OnOk result (IsDerivation basis.now.ontology.now derivation.new) }
+    ensures longer { OnOk result (Lengthens derivation.old derivation.new) }
+    ensures shown { IfOk result (λ numbers. ShowsFact basis.now.saturation.now derivation.new fact.0 numbers.items) }
+    ensures used { IfOk result (λ numbers. Uses derivation.old derivation.new (IsAmong []) numbers.items) }
+{
+    basis.ontology.well_formed();
+    basis.ontology.bounded();
+    let normal = basis.saturation.normal();
+    let individuals = basis.ontology.individuals().len();
+    let found = chain_between(basis.alloc, individuals, normal.forms(), first, second)?;
+    let Some(chain) = found else {
+        // They are one.
+        unreachable!()
+    };
+    let number = same_along(basis, derivation, first, &chain)?;
+    let mut numbers = Vec::new(basis.alloc);
+    numbers.push(number)?;
+    let fact = fact_of(basis.saturation, fact);
+    let (rule, axiom) = origin_rule(basis.ontology, normal, form, &Form::N11(first, second));
+    let numbers = concluded(basis.alloc, derivation, fact, rule, axiom, numbers)?;
+    Ok(numbers)
+}
+
 /// What a form led to: adds the line of the fact, where it has one, and gives the numbers of the lines that show the fact.
 ///
 /// # Errors
@@ -101,13 +214,19 @@ pub(crate) fn shown_by_form<L: LineSink>(
     ensures shown { IfOk result (λ numbers. ShowsFact basis.now.saturation.now derivation.new fact.0 numbers.items) }
     ensures used { IfOk result (λ numbers. EachIsUsed basis.now.saturation.now shown.now fact.0 derivation.old derivation.new numbers.items) }
 {
-    basis.ontology.well_formed();
-    let normal = basis.saturation.normal();
-    let step = normal.forms().at(form as usize);
-    let older = rests_on(normal, birth);
-    let numbers = premises(basis, derivation, shown, older, &step)?;
-    let fact = fact_of(basis.saturation, fact);
-    let (rule, axiom) = origin_rule(basis.ontology, normal, form, &step);
-    let numbers = concluded(basis.alloc, derivation, fact, rule, axiom, numbers)?;
-    Ok(numbers)
+    let step = basis.saturation.normal().forms().at(form as usize);
+    match step {
+        Form::N10(..) => {
+            let numbers = shown_by_same(basis, derivation, shown, fact, birth, form)?;
+            Ok(numbers)
+        }
+        Form::N11(first, second) => {
+            let numbers = shown_by_different(basis, derivation, fact, form, first, second)?;
+            Ok(numbers)
+        }
+        _ => {
+            let numbers = shown_by_facts(basis, derivation, shown, fact, birth, form, &step)?;
+            Ok(numbers)
+        }
+    }
 }

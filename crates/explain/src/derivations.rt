@@ -88,7 +88,7 @@ pub fn lines(
     ensures facts { IfOk result (λ v. HaveFacts ontology.now saturation.now.normal.asked (lines_of v.items)) }
     ensures needed { IfOk result (λ v. EachIsNeeded ontology.now saturation.now.normal.asked (lines_of v.items)) }
 {
-    let mut derivation = Derivation::new(LineList::new(alloc));
+    let mut derivation = Derivation::new(alloc, LineList::new(alloc));
     add_facts(alloc, ontology, saturation, &mut derivation)?;
     Ok(derivation.into_sink().into_lines())
 }
@@ -109,7 +109,7 @@ pub fn contradiction(
     ensures shown { IfOk result (λ v. ShowsContradiction (lines_of v.items)) }
     ensures needed { IfOk result (λ v. EachIsNeeded ontology.now saturation.now.normal.asked (lines_of v.items)) }
 {
-    let mut derivation = Derivation::new(LineList::new(alloc));
+    let mut derivation = Derivation::new(alloc, LineList::new(alloc));
     add_contradiction(alloc, ontology, saturation, &mut derivation)?;
     Ok(derivation.into_sink().into_lines())
 }
@@ -138,7 +138,7 @@ pub fn lines_of(
     let Some(goal) = number_of(saturation.facts(), wanted) else {
         return Ok(None);
     };
-    let mut derivation = Derivation::new(LineList::new(alloc));
+    let mut derivation = Derivation::new(alloc, LineList::new(alloc));
     add_goal(alloc, ontology, saturation, goal, &mut derivation)?;
     Ok(Some(derivation.into_sink().into_lines()))
 }
@@ -158,7 +158,7 @@ pub fn line_text(
     ensures facts { IfOk result (λ t. HaveFacts ontology.now saturation.now.normal.asked t) }
     ensures needed { IfOk result (λ t. EachIsNeeded ontology.now saturation.now.normal.asked t) }
 {
-    let mut facts = Derivation::new(LineText::new(alloc)?);
+    let mut facts = Derivation::new(alloc, LineText::new(alloc)?);
     add_facts(alloc, ontology, saturation, &mut facts)?;
     Ok(facts.into_sink())
 }
@@ -179,7 +179,7 @@ pub fn contradiction_text(
     ensures shown { IfOk result (λ t. ShowsContradiction t) }
     ensures needed { IfOk result (λ t. EachIsNeeded ontology.now saturation.now.normal.asked t) }
 {
-    let mut derivation = Derivation::new(LineText::new(alloc)?);
+    let mut derivation = Derivation::new(alloc, LineText::new(alloc)?);
     add_contradiction(alloc, ontology, saturation, &mut derivation)?;
     Ok(derivation.into_sink())
 }

@@ -1,9 +1,10 @@
 //! The line of a fact.
+ghost use Rattle.axioms.specs.View.{at_number};
 ghost use Rattle.certificate.specs.View.{conclusion_of, subject_of};
 ghost use Rattle.explain.specs.Uses.{IsAmong, Uses};
 ghost use Rattle.explain.specs.LinesOfFacts.{Lengthens};
-ghost use Rattle.explain.specs.Step.{ShowsLed, StaysDerivation, said_by, subject_in};
-ghost use Rattle.std.specs.Prelude.{◌≡◌, ◌<◌, IfOk, OnOk, Some, length, option_map, slice_get};
+ghost use Rattle.explain.specs.Step.{ShowsLed, StaysByTwo, StaysDerivation, said_by, subject_in};
+ghost use Rattle.std.specs.Prelude.{◌≡◌, ◌<◌, ◌∷◌, [], IfOk, OnOk, Some, length, map, option_map, slice_get};
 
 use crate::derivation::Derivation;
 use crate::sink::LineSink;
@@ -22,7 +23,7 @@ pub(crate) fn fact_of(saturation: &Saturation, number: FactId) -> Fact
 }
 
 /// The context as the subject of lines.
-fn subject(context: Context) -> Subject
+pub(crate) fn subject(context: Context) -> Subject
     ensures { subject_of result ≡ subject_in context }
 {
     match context {
@@ -75,4 +76,34 @@ pub(crate) fn concluded<L: LineSink>(
     let mut numbers = Vec::new(alloc);
     numbers.push(number)?;
     Ok(numbers)
+}
+
+/// Adds a line that follows by the rule from the lines of these two numbers, and gives its number.
+///
+/// # Errors
+///
+/// `Memory` where memory was refused.
+pub(crate) fn followed<L: LineSink>(
+    alloc: Global,
+    derivation: &mut Derivation<L>,
+    conclusion: Conclusion,
+    rule: Rule,
+    first: u64,
+    second: u64,
+) -> Result<u64, Memory>
+    ensures longer { OnOk result (Lengthens derivation.old derivation.new) }
+    ensures derivation { OnOk result (StaysByTwo derivation.old derivation.new (conclusion_of conclusion) rule first second) }
+    ensures says { IfOk result (λ n. at_number (map (λ l. l.conclusion) derivation.new) n ≡ Some (conclusion_of conclusion)) }
+    ensures used { IfOk result (λ n. Uses derivation.old derivation.new (IsAmong (first ∷ second ∷ [])) (n ∷ [])) }
+{
+    let mut premises = Vec::new(alloc);
+    premises.push(first)?;
+    premises.push(second)?;
+    let number = derivation.add(Line {
+        conclusion,
+        rule,
+        axiom: None,
+        premises,
+    })?;
+    Ok(number)
 }

@@ -67,7 +67,7 @@ impl PropertyPaths {
             return Ok(Some(Vec::new(alloc)));
         }
         let reached = self.above.at(from.index());
-        match place_of(reached, to) {
+        match place_of(reached, to.0) {
             None => Ok(None),
             Some(place) => Ok(Some(walk(alloc, reached, place)?)),
         }

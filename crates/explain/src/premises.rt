@@ -28,6 +28,7 @@ fn first_property(form: &Form) -> Option<PropId2>
     match *form {
         Form::N4(property, ..) => Some(PropId2::Property(property)),
         Form::N6(property, ..) => Some(property),
+        Form::N12(_, property, _) => Some(PropId2::Property(property)),
         _ => None,
     }
 }

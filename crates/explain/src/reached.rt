@@ -1,29 +1,28 @@
-//! What the search for the properties above one keeps of each.
+//! What a search along forms keeps of each number that it reaches.
 ghost use Rattle.explain.specs.Search.{step_from};
 ghost use Rattle.std.specs.Prelude.{◌<◌, ◌^◌, refl};
 
 use crate::told::Told;
-use axioms::PropId;
 use number_sets::Found;
 
-/// The last step to a property: the plain form of that number, from the property that was reached at the place `from`.
+/// The last step to a number: the form of that number, from what was reached at the place `from`.
 #[derive(Clone, Copy, Debug, PartialEq, Eq)]
 pub(crate) struct Way {
     pub form: u32,
     pub from: u32,
 }
 
-/// A property that was reached, and the last step to it; none where the search began there.
+/// The number of a property or individual that was reached, and the last step to it; none where the search began there.
 #[derive(Clone, Copy, Debug, PartialEq, Eq)]
 pub(crate) struct Reached {
-    pub property: PropId,
+    pub number: u32,
     pub way: Option<Way>,
 }
 
 impl Found<Told> for Reached {
-    ghost number = { λ r. r.property.0 };
+    ghost number = { λ r. r.number };
 
-    ghost target = { λ t. t.above.0 };
+    ghost target = { λ t. t.to };
 
     ghost by = { λ t place. step_from place t };
 
@@ -32,7 +31,7 @@ impl Found<Told> for Reached {
     ghost same_number = { λ t place. refl };
 
     fn number(self) -> usize {
-        self.property.index()
+        self.number as usize
     }
 
     fn by(step: Told, place: usize) -> Reached {
@@ -41,7 +40,7 @@ impl Found<Told> for Reached {
             from: place as u32,
         };
         Reached {
-            property: step.above,
+            number: step.to,
             way: Some(way),
         }
     }

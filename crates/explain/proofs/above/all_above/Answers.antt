@@ -3,13 +3,13 @@ use Rattle.std.proofs.lemmas.List.{length_push}
 use Rattle.number_sets.specs.Pieces.{list_at}
 use Rattle.number_sets.proofs.Members.{each_more}
 use Rattle.explain.specs.declared.reached.Reached.{Reached}
-use Rattle.explain.specs.Search.{as_id, AreReached}
+use Rattle.explain.specs.Search.{AreReached, LeadsUp}
 use Rattle.explain.proofs.Reaching.{bounded, reached}
 use Rattle.explain.proofs.above.all_above.Goals as goal
 
 pub run-requires-clause-bounded : goal.run-requires-clause-bounded
 run-requires-clause-bounded c =
-    bounded c.args.properties c.args.forms.now c.in_ok-told.told c.requires.within c.in_ok-told.ensures
+    bounded (LeadsUp c.args.forms.now) c.args.properties c.in_ok-told.told c.in_ok-told.ensures c.requires.within
 
 pub loop-property-preserved : goal.loop-property-preserved
 loop-property-preserved c =
@@ -20,9 +20,9 @@ loop-property-preserved c =
     let list = c.deref.result.now in
     let told = c.in_ok-told.ensures in
     let is : c.push_list.new.self ≡ lists ++ list ∷ [] = c.in_ok-push_list.ensures.ok in
-    let found = reached c.args.properties forms c.in_ok-told.told told (as_id k) c.run.new.self.found.items c.in_ok-run.ensures.found in
-    let new : AreReached forms (as_id k) list = subst (AreReached forms (as_id k)) (sym c.deref.ensures.value) found in record {
+    let found = reached (LeadsUp forms) c.args.properties c.in_ok-told.told told k c.run.new.self.found.items c.in_ok-run.ensures.found in
+    let new : AreReached (LeadsUp forms) k list = subst (AreReached (LeadsUp forms) k) (sym c.deref.ensures.value) found in record {
       long = omega (arith, ap length is, length_push lists list, before.long);
       wide = c.in_ok-run.ensures.wide ∙ told.long;
-      each = λ p l. subst (λ (now : List (List Reached)). AreReached forms (as_id p) (list_at now p)) (sym is) (each_more (λ n. AreReached forms (as_id n)) lists list k before.long before.each new p l);
+      each = λ p l. subst (λ (now : List (List Reached)). AreReached (LeadsUp forms) p (list_at now p)) (sym is) (each_more (λ n. AreReached (LeadsUp forms) n) lists list k before.long before.each new p l);
     }

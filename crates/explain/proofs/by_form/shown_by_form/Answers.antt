@@ -1,19 +1,14 @@
-use Rattle.std.proofs.Common.{◌<◌, List, length, map, option_map, slice_get, Contains, sym, ap, ◌∙◌, subst}
-use Rattle.std.proofs.lemmas.Option.{same_Some, slice_get_within}
+use Rattle.std.proofs.Common.{◌≡◌, ◌<◌, [], List, length, map, slice_get, Some, sym, ap, ◌∙◌, subst}
+use Rattle.std.proofs.lemmas.Option.{slice_get_within}
 use Rattle.lemmas.proofs.Places.{slice_get_there}
 use Rattle.facts.specs.Births.{reason}
 use Rattle.normal_forms.specs.declared.forms.Form.{Form}
-use Rattle.normalise.specs.Entries.{form_in, origin_in}
+use Rattle.normal_forms.specs.declared.forms.Form.TheVariants.{N11}
+use Rattle.normalise.specs.Entries.{form_in}
 use Rattle.normalise.specs.Listing.{Listing}
-use Rattle.normalise.specs.Problem.{prefixes_of}
-use Rattle.explain.specs.FormRule.{origin_rule}
-use Rattle.explain.specs.OlderFacts.{rests_on}
-use Rattle.explain.specs.LinesOfFacts.{AreShowing}
-use Rattle.explain.proofs.ByForm.{LeadsBy, led_to}
 use Rattle.explain.proofs.Formless.{form_of_birth}
-use Rattle.explain.proofs.Leading.{form_read}
-use Rattle.explain.proofs.Used.{used_by_fact}
-use Rattle.explain.proofs.by_form.shown_by_form.Given.{Over}
+use Rattle.explain.proofs.Sameness.{born_of_different}
+use Rattle.explain.proofs.Used.{used_of_none}
 use Rattle.explain.proofs.by_form.shown_by_form.Goals as goal
 
 pub at-step-requires : goal.at-step-requires
@@ -21,55 +16,15 @@ at-step-requires g c =
     let s = c.args.basis.now.saturation.now in
     let (f, at) = slice_get_there s.state.facts c.args.fact.0 c.requires.there in
     let (form, at_form) = form_of_birth c.args.basis.now.ontology.now s c.requires.saturated c.args.fact.0 (reason c.args.birth.now) c.requires.birth f at c.args.form c.requires.form in
-    subst (λ (fs : List Form). c.args.form < length fs) (c.requires.saturated.forms ∙ sym (c.forms.ensures ∙ ap (λ (v : Listing). map form_in v.entries) c.normal-normal.ensures))
+    subst (λ (fs : List Form). c.args.form < length fs) (c.requires.saturated.forms ∙ sym (c.forms.ensures ∙ ap (λ (v : Listing). map form_in v.entries) c.normal.ensures))
     (slice_get_within s.state.problem.forms c.args.form form at_form)
 
-pub premises-requires-clause-there : goal.premises-requires-clause-there
-premises-requires-clause-there g c m there =
-    let o = c.args.basis.now.ontology.now in
+pub returns-in_ok-numbers-in-N11-clause-used : goal.returns-in_ok-numbers-in-N11-clause-used
+returns-in_ok-numbers-in-N11-clause-used g c =
     let s = c.args.basis.now.saturation.now in
     let r = reason c.args.birth.now in
     let (f, at) = slice_get_there s.state.facts c.args.fact.0 c.requires.there in
-    (led_to o s c.well_formed-2.ensures c.requires.saturated c.args.fact.0 r c.requires.birth f at c.args.form c.requires.form c.at-step.result (form_read o s c.args.form c.forms.result.now c.at-step.result c.requires.saturated (c.forms.ensures ∙ ap (λ (v : Listing). map form_in v.entries) c.normal-normal.ensures) c.at-step.ensures)).there m
-    (subst (λ ns. Contains ns m) (c.rests_on-older.ensures ∙ ap (λ (v : Listing). rests_on v.entries r) c.normal-normal.ensures) there)
-
-pub premises-requires-clause-shown : goal.premises-requires-clause-shown
-premises-requires-clause-shown g c m there f at =
-    let r = reason c.args.birth.now in
-    c.requires.older r c.requires.birth m (subst (λ ns. Contains ns m) (c.rests_on-older.ensures ∙ ap (λ (v : Listing). rests_on v.entries r) c.normal-normal.ensures) there) f at
-
-pub premises-requires-clause-below : goal.premises-requires-clause-below
-premises-requires-clause-below g c fs at_fs =
-    let o = c.args.basis.now.ontology.now in
-    let s = c.args.basis.now.saturation.now in
-    let r = reason c.args.birth.now in
-    let (f, at) = slice_get_there s.state.facts c.args.fact.0 c.requires.there in
-    (led_to o s c.well_formed-2.ensures c.requires.saturated c.args.fact.0 r c.requires.birth f at c.args.form c.requires.form c.at-step.result (form_read o s c.args.form c.forms.result.now c.at-step.result c.requires.saturated (c.forms.ensures ∙ ap (λ (v : Listing). map form_in v.entries) c.normal-normal.ensures) c.at-step.ensures)).lift fs
-    (ap (map (slice_get s.state.facts)) (sym (c.rests_on-older.ensures ∙ ap (λ (v : Listing). rests_on v.entries r) c.normal-normal.ensures)) ∙ at_fs)
-
--- the line that the rule makes follows
-leading : (g : Over) (c : goal.In_ok-numbers-2 g) → LeadsBy c.args.basis.now.ontology.now c.args.basis.now.saturation.now c.premises.new.derivation c.in_ok-numbers.numbers.items c.fact_of-fact.result c.origin_rule-rule.result
-leading g c =
-    let o = c.args.basis.now.ontology.now in
-    let s = c.args.basis.now.saturation.now in
-    let r = reason c.args.birth.now in
-    let f = c.fact_of-fact.result in
-    let to = (led_to o s c.well_formed-2.ensures c.requires.saturated c.args.fact.0 r c.requires.birth f c.fact_of-fact.ensures c.args.form c.requires.form c.at-step.result (form_read o s c.args.form c.forms.result.now c.at-step.result c.requires.saturated (c.forms.ensures ∙ ap (λ (v : Listing). map form_in v.entries) c.normal-normal.ensures) c.at-step.ensures)).lead_to c.premises.new.derivation c.in_ok-numbers.numbers.items
-    (λ fs at. c.in_ok-numbers.ensures.shown fs (ap (map (slice_get s.state.facts)) (c.rests_on-older.ensures ∙ ap (λ (v : Listing). rests_on v.entries r) c.normal-normal.ensures) ∙ at)) in
-    subst (LeadsBy o s c.premises.new.derivation c.in_ok-numbers.numbers.items f)
-    (sym (c.origin_rule-rule.ensures ∙ ap (λ (v : Listing). origin_rule o (option_map origin_in (slice_get v.entries c.args.form)) c.at-step.result) c.normal-normal.ensures)) to
-
-pub returns-clause-derivation : goal.returns-clause-derivation
-returns-clause-derivation g c = c.in_ok-numbers-2.ensures.derivation c.args.basis.now.ontology.now (prefixes_of c.args.basis.now.saturation.now.normal) c.in_ok-numbers.ensures.derivation (leading g c)
-
-pub returns-clause-shown : goal.returns-clause-shown
-returns-clause-shown g c f at =
-    let s = c.args.basis.now.saturation.now in
-    subst (AreShowing (prefixes_of s.normal) c.concluded.new.derivation c.in_ok-numbers-2.numbers.items) (same_Some c.fact_of-fact.result f (sym c.fact_of-fact.ensures ∙ at))
-    (c.in_ok-numbers-2.ensures.shown c.args.basis.now.ontology.now (prefixes_of s.normal) (leading g c))
-
-pub returns-clause-used : goal.returns-clause-used
-returns-clause-used g c =
-    let r = reason c.args.birth.now in
-    used_by_fact c.args.basis.now.saturation.now c.args.shown.now c.args.fact.0 r _ c.requires.birth (sym (c.rests_on-older.ensures ∙ ap (λ (v : Listing). rests_on v.entries r) c.normal-normal.ensures)) c.args.derivation.now c.premises.new.derivation c.concluded.new.derivation
-    c.in_ok-numbers.numbers.items c.in_ok-numbers-2.numbers.items c.in_ok-numbers-2.ensures.longer c.in_ok-numbers.ensures.used c.in_ok-numbers-2.ensures.used
+    let forms = c.requires.saturated.forms ∙ sym (c.forms.ensures ∙ ap (λ (v : Listing). map form_in v.entries) c.normal.ensures) in
+    let here : slice_get s.state.problem.forms c.args.form ≡ Some (N11 c.in-N11.first c.in-N11.second) = ap (λ (fs : List Form). slice_get fs c.args.form) forms ∙ c.at-step.ensures ∙ ap Some c.in-N11.is in
+    let rests = (born_of_different c.args.basis.now.ontology.now s c.requires.saturated c.args.fact.0 r c.requires.birth f at c.args.form c.requires.form c.in-N11.first c.in-N11.second here).rests in
+    used_of_none s c.args.shown.now c.args.fact.0 r c.requires.birth rests c.args.derivation.now c.shown_by_different.new.derivation [] c.in_ok-numbers-in-N11.numbers.items c.in_ok-numbers-in-N11.ensures.used

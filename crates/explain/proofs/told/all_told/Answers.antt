@@ -5,8 +5,8 @@ use Rattle.std.proofs.lemmas.Option.{slice_get_within}
 use Rattle.number_sets.specs.Pieces.{list_at}
 use Rattle.normal_forms.specs.declared.forms.Form.TheVariants.{N5}
 use Rattle.explain.specs.declared.told.Told.{Told}
-use Rattle.explain.specs.Search.{as_id, Leads}
-use Rattle.explain.proofs.Telling.{AreToldBefore, told_more, told_same}
+use Rattle.explain.specs.Search.{as_id, LeadsUp}
+use Rattle.explain.proofs.Telling.{AreToldBefore, told_up, told_no_up}
 use Rattle.explain.proofs.told.all_told.Goals as goal
 use Rattle.explain.proofs.told.all_told.Goals.{in-N5+in_ok-push, in_default}
 
@@ -20,16 +20,16 @@ loop-number-preserved c =
       | in-N5+in_ok-push w ↦
           let sub = w.in-N5.sub in
           let sup = w.in-N5.sup in
-          let here : Leads forms k sub sup = c.at.ensures ∙ ap Some w.in-N5.is in
-          let x : Told = record { form = k; above = sup } in
+          let here : LeadsUp forms k sub.0 sup.0 = c.at.ensures ∙ ap Some w.in-N5.is in
+          let x : Told = record { form = k; to = sup.0 } in
           let is : c.match-at.told ≡ slice_set lists sub.0 (list_at lists sub.0 ++ x ∷ []) =
           w.told-is ∙ w.in_ok-push.ensures.ok ∙ ap (λ n. slice_set lists n (list_at lists n ++ x ∷ [])) w.index.ensures in record {
             long = ap length is ∙ length-set lists sub.0 (list_at lists sub.0 ++ x ∷ []) ∙ before.long;
-            exact = subst (AreToldBefore (k + 1) forms) (sym is) (told_more forms k sub sup lists here (omega (arith, (c.requires.within k sub sup here).0, before.long)) before.exact);
+            exact = subst (AreToldBefore (LeadsUp forms) (k + 1)) (sym is) (told_up forms k sub sup lists here (omega (arith, (c.requires.within k sub.0 sup.0 here).0, before.long)) before.exact);
           }
       | in_default w ↦ record {
         long = ap length w.told-is ∙ before.long;
-        exact = subst (AreToldBefore (k + 1) forms) (sym w.told-is) (told_same forms k _ lists c.at.ensures w.in_default.not-N5 before.exact);
+        exact = subst (AreToldBefore (LeadsUp forms) (k + 1)) (sym w.told-is) (told_no_up forms k _ lists c.at.ensures w.in_default.not-N5 before.exact);
       }
     ]
 
@@ -41,6 +41,6 @@ returns c =
       long = ap length is ∙ before.long;
       exact = λ r t. (
         λ h. ((before.exact r t).0 (subst (λ (l : List (List Told)). Contains (list_at l r) t) is h)).1,
-        λ h. subst (λ (l : List (List Told)). Contains (list_at l r) t) (sym is) ((before.exact r t).1 (omega (arith, slice_get_within forms t.form (N5 (as_id r) t.above) h, c.loop-number-test.false, c.len-number-end.ensures), h)),
+        λ h. subst (λ (l : List (List Told)). Contains (list_at l r) t) (sym is) ((before.exact r t).1 (omega (arith, slice_get_within forms t.form (N5 (as_id r) (as_id t.to)) h, c.loop-number-test.false, c.len-number-end.ensures), h)),
       );
     }

@@ -1,7 +1,7 @@
 use Rattle.std.proofs.Common.{ℕ, List, sym, subst, arith}
 use Rattle.std.proofs.lemmas.Option.{slice_get-get_or}
-use Rattle.explain.specs.Paths.{IsPath}
-use Rattle.explain.proofs.WalkingUp.{LeadOn, lead_more, lead_all, no_way}
+use Rattle.explain.specs.Search.{IsTrace}
+use Rattle.explain.proofs.WalkingUp.{TracesOn, traces_more, traces_all, no_way}
 use Rattle.explain.proofs.walk.walk.Goals as goal
 
 pub loop-at-preserved : goal.loop-at-preserved
@@ -11,13 +11,13 @@ loop-at-preserved c =
     let way = c.in-Some.way in
     let here = slice_get-get_or reached at _ c.loop-at.invariant.there in record {
       there = omega (arith, c.requires.earlier at _ way here c.in-Some.is, c.loop-at.invariant.there);
-      on = subst (LeadOn reached c.args.place way.from) (sym c.in_ok-push.ensures.items) (lead_more reached c.args.place at c.loop-at.numbers.items _ way here c.in-Some.is c.loop-at.invariant.on);
+      on = subst (TracesOn reached c.args.place way.from) (sym c.in_ok-push.ensures.items) (traces_more reached c.args.place at c.loop-at.numbers.items _ way here c.in-Some.is c.loop-at.invariant.on);
     }
 
 pub returns : goal.returns
-returns c = λ forms from to ways s.
+returns c =
     let reached = c.args.reached.now in
     let at = c.loop-at.at in
     let here = slice_get-get_or reached at _ c.loop-at.invariant.there in
-    subst (λ (ns : List ℕ). IsPath forms from ns to) (sym c.reverse.ensures.items)
-    (lead_all reached c.args.place at c.loop-at.numbers.items _ here (no_way _ c.in_default.not-Some) c.loop-at.invariant.on forms from to ways s)
+    subst (IsTrace reached c.args.place) (sym c.reverse.ensures.items)
+    (traces_all reached c.args.place at c.loop-at.numbers.items _ here (no_way _ c.in_default.not-Some) c.loop-at.invariant.on)

@@ -2,7 +2,11 @@ use Rattle.std.proofs.Common.{◌++◌, ◌∷◌, [], ap, ◌∙◌}
 use Rattle.std.proofs.lemmas.Result.{on_ok_weaker}
 use Rattle.certificate.specs.View.{line_of}
 use Rattle.explain.proofs.Growing.{derivation_pushed}
+use Rattle.explain.proofs.SameLines.{added_or_not, kept_grown}
 use Rattle.explain.proofs.derivation.Derivation.add.Goals as goal
+
+pub invariant_of-self : goal.invariant_of-self
+invariant_of-self g c = kept_grown (added_or_not c.add.result _ _ _ c.add.ensures.added c.add.ensures.err) c.self.inside.same.items c.self.invariant
 
 pub returns-clause-derivation : goal.returns-clause-derivation
 returns-clause-derivation g c =
