@@ -5,6 +5,7 @@ use Rattle.std.proofs.lemmas.Option.{none-some, same_Some}
 use Rattle.std.proofs.lemmas.List.Elements.{All-nil, All-from_recursion}
 use Rattle.cert_check.proofs.Places.{All-from_test}
 use Rattle.certificate.specs.Certificate.{Individual, Sub, Line, Certificate}
+use Rattle.certificate.specs.declared.format.Format.TheVariants.{One}
 use Rattle.certificate.specs.declared.line.Rule.TheVariants.{K7, K15}
 use Rattle.certificate.specs.Writability.{certificate_numbers, IsLineOf, HasText}
 use Rattle.cert_check.specs.Derivation.{IsDerived, IsDerivation}
@@ -28,7 +29,7 @@ derivation (suc (suc (suc n))) line g = absurd (none-some line g)
 abbrev certificate : Certificate
 certificate = record { lines = lines; listed = None }
 
-has_text : HasText contradiction certificate
+has_text : HasText contradiction One certificate
 has_text = record {
   lines = All-from_recursion (IsLineOf contradiction) lines (
     record { conclusion = omega arith; axiom' = omega arith },
@@ -40,13 +41,14 @@ has_text = record {
   );
   numbers = All-from_test (2 ^ 32) (certificate_numbers certificate) refl;
   listed = tt;
+  written = tt;
 }
 
 pub contradiction_is_accepted : ContradictionIsAccepted
 unfolding digits
 contradiction_is_accepted = record {
   certificate = certificate;
-  text_is = record { has_text = has_text; spelled = refl };
+  text_is = (One, record { has_text = has_text; spelled = refl });
   derivation = derivation;
   shows = record { subject = Individual 0; top = of_individual; line = (2, _, refl, refl); taxonomy_is = refl; instances_is = refl };
 }

@@ -10,7 +10,7 @@ use Rattle.axioms.specs.View.{at_number}
 use Rattle.axioms.specs.WellFormedness.{IsOntology}
 use Rattle.certificate.specs.Certificate.{Subject, Expression, Individual, Conclusion, Sub, Edge, Same, Line, Listed, Certificate}
 use Rattle.certificate.specs.Writability.{IsListedOf, IsNamedClass}
-use Rattle.certificate.proofs.Meaning.{same_certificate}
+use Rattle.certificate.proofs.Following.{same_some_certificate}
 use Rattle.interpretation_spec.specs.Agreement.{AgreeOn}
 use Rattle.interpretation_spec.specs.NamedInterpretation.{IsFirstUnsatisfied}
 use Rattle.interpretation_spec.specs.Interpretation.{Interpretation, IsModel, Satisfies}
@@ -82,7 +82,7 @@ acceptable o t i text j = record {
   certificate = j.certificate;
   text_is = j.text_is;
   derivation = j.derivation;
-  shows = shown o t i j.certificate.lines j.certificate.listed j.text_is.has_text.listed j.against;
+  shows = shown o t i j.certificate.lines j.certificate.listed j.text_is.1.has_text.listed j.against;
 }
 
 -- ---- what speaks against a certificate that is acceptable
@@ -182,13 +182,13 @@ nothing_against o w t i lines (Some l) fits s reason h = consistent_not o w line
 
 judged_not : (o : Ontology) → IsOntology o → (t i text : List ℕ) → IsAcceptable o t i text → (reason : Reason) → IsJudged o t i text (Some reason) → ⊥
 judged_not o w t i text a reason j =
-    let same : j.certificate ≡ a.certificate = same_certificate o text j.certificate a.certificate j.text_is a.text_is in
-    nothing_against o w t i a.certificate.lines a.certificate.listed a.text_is.has_text.listed a.shows reason
+    let same : j.certificate ≡ a.certificate = same_some_certificate o text j.certificate a.certificate j.text_is a.text_is in
+    nothing_against o w t i a.certificate.lines a.certificate.listed a.text_is.1.has_text.listed a.shows reason
     (subst (λ (c : Certificate). Against o t i c.lines c.listed (Some reason)) same j.against)
 
 bad_line_not : (o : Ontology) (t i text : List ℕ) → IsAcceptable o t i text → (n : ℕ) → HasBadLine o text n → ⊥
 bad_line_not o t i text a n b =
-    let same : a.certificate ≡ b.certificate = same_certificate o text a.certificate b.certificate a.text_is b.text_is in
+    let same : a.certificate ≡ b.certificate = same_some_certificate o text a.certificate b.certificate a.text_is b.text_is in
     let derivation = subst (λ (c : Certificate). IsDerivation o c.lines) same a.derivation in
     b.first.bad (derivation b.first.place b.first.line b.first.there)
 

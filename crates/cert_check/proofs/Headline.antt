@@ -149,4 +149,4 @@ says o w taxonomy instances lines derivation (Some listed) fits shown = says_con
 -- the checker's yes means what the texts say
 pub acceptable_says : (o : Ontology) → IsOntology o → (taxonomy instances text : List ℕ) (a : IsAcceptable o taxonomy instances text) → Says o taxonomy instances a.certificate
 acceptable_says o w taxonomy instances text a =
-    says o w taxonomy instances a.certificate.lines a.derivation a.certificate.listed a.text_is.has_text.listed a.shows
+    says o w taxonomy instances a.certificate.lines a.derivation a.certificate.listed a.text_is.1.has_text.listed a.shows

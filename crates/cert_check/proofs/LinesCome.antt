@@ -1,25 +1,31 @@
 -- Lines of a derivation that a reader gives one after another.
 use Rattle.std.proofs.Common.{◌≡◌, ℕ, ◌+◌, ◌<◌, ◌≤◌, Bool, true, false, List, [], ◌∷◌, ◌++◌, length, Some, None, Option, option_map, refl, sym, ap, ◌∙◌, subst, arith, length-append}
-use Rattle.std.specs.Prelude.{codes}
+use Rattle.std.specs.Prelude.{MatchOption, codes}
 use Rattle.std.specs.Fmt.{decimal}
-use Rattle.std.specs.List.{flat_map}
 use Rattle.std.proofs.KnownBytes.{Consumes-nil}
-use Rattle.std.proofs.lemmas.Grind.{flat_map-append}
-use Rattle.std.proofs.lemmas.List.{append-nil}
 use Rattle.axioms.specs.Ontology.{Ontology}
 use Rattle.source_lines.specs.Sources.{SourceState, IsReadOn}
-use Rattle.certificate.specs.Certificate.{Conclusion, Sub, Edge, Same, Line}
-use Rattle.certificate.specs.SourceReading.{Reading, HasLines, HasNoLine, IsNext, IsNextLine, IsStopped, StopsNext}
-use Rattle.certificate.specs.Text.{axiom_text, conclusion_text, lettered_number, line_feed, line_text, rule_number, spaced_numbers, subject_text}
-use Rattle.certificate.specs.TextLines.{InLines, first_text, part_text}
+use Rattle.certificate.specs.Certificate.{Certificate, Conclusion, Sub, Edge, Same, Line}
+use Rattle.certificate.specs.declared.format.Format.{Format}
+use Rattle.certificate.specs.declared.format.Format.TheVariants.{One, Two}
+use Rattle.certificate.specs.SourceReading.{Reading, HasLines, HasNoLine, IsFinished, IsNext, IsNextLine, IsStopped, StopsNext}
+use Rattle.certificate.specs.Text.{axiom_text, conclusion_text, first_text, lettered_number, line_feed, line_text, lines_text, rule_number, spaced_numbers, subject_text, written}
+use Rattle.certificate.specs.TextLines.{InLines, next_number, part_text}
 use Rattle.certificate.specs.declared.fault.TextFault.{TextFault}
 use Rattle.certificate.specs.Tests.{fits_line}
-use Rattle.certificate.specs.View.{line_of}
-use Rattle.certificate.specs.Writability.{IsLineOf}
+use Rattle.certificate.specs.View.{line_of, listing_of}
+use Rattle.certificate.specs.Writability.{IsLineOf, IsSomeTextOf}
 use Rattle.certificate.specs.declared.line.Line as code
+use Rattle.certificate.specs.declared.listed_runs.ListedRuns.{ListedRuns}
 use Rattle.certificate.proofs.SourceStates.{reads_on}
+use Rattle.certificate.proofs.WrittenLines.{next_text}
+use Rattle.cert_check.specs.Derivation.{IsDerivation}
+use Rattle.cert_check.specs.Faults.{IsFirstBadLine}
+use Rattle.cert_check.specs.Lists.{AreSuperclasses, AreTypes, said_by}
 use Rattle.cert_check.specs.Premises.{RulesTakeAtMost}
-use Rattle.cert_check.specs.Tests.{AllAreKept, HaveCome, KeepsEnough}
+use Rattle.cert_check.specs.Tests.{AllAreKept, HaveCome, IsTestedFrom, KeepsEnough, ShowsThose}
+use Rattle.cert_check.specs.Verdict.{TellsContradiction}
+use Rattle.cert_check.specs.declared.derivation.ShownLines.{ShownLines}
 use Rattle.cert_check.specs.declared.derivation.TestedLines.{TestedLines}
 use Rattle.cert_check.proofs.KeptLines.{AreKeptOf, kept_full, kept_within}
 
@@ -50,7 +56,7 @@ stops_reading fault first old source before after lines h k start l =
 pub reads_since : (first old : Reading) (source before : SourceState) (lines : List Line) → HaveCome first old source before lines
     → (start : SourceState) → HasLines start [] first source → IsReadOn start before
 reads_since first old source before lines h start l =
-    reads_on start (InLines old.is_consistent lines) old before before (h.behind start l) (none_read before)
+    reads_on start (InLines old.format old.is_consistent lines) old before before (h.behind start l).part (none_read before)
 
 -- ---- each line takes bytes
 
@@ -58,13 +64,17 @@ reads_since first old source before lines h start l =
 abbrev pub bytes_to_come : Reading → SourceState → ℕ
 bytes_to_come reading source = source.most + length reading.hand.line + length reading.hand.ahead
 
-first_least : (k : Bool) → 20 ≤ length (first_text k)
-first_least true = omega arith
-first_least false = omega arith
+first_least : (f : Format) (k : Bool) → 20 ≤ length (first_text f k)
+first_least One true = omega arith
+first_least One false = omega arith
+first_least Two true = omega arith
+first_least Two false = omega arith
 
-first_most : (k : Bool) → length (first_text k) ≤ 22
-first_most true = omega arith
-first_most false = omega arith
+first_most : (f : Format) (k : Bool) → length (first_text f k) ≤ 22
+first_most One true = omega arith
+first_most One false = omega arith
+first_most Two true = omega arith
+first_most Two false = omega arith
 
 longer : (n : ℕ) (xs ys : List ℕ) → n ≤ length xs → n ≤ length (xs ++ ys)
 longer n xs ys l = omega (arith, l, length-append xs ys)
@@ -86,33 +96,42 @@ line_some line =
     longer 4 (conclusion ++ rule ++ stated ++ premises) line_feed
     (longer 4 (conclusion ++ rule ++ stated) premises (longer 4 (conclusion ++ rule) stated (longer 4 conclusion rule (conclusion_some line.conclusion))))
 
-lines_longer : (k : Bool) (lines : List Line) → length (part_text (InLines k lines)) ≡ length (first_text k) + length (flat_map line_text lines)
-lines_longer k lines = length-append (first_text k) (flat_map line_text lines)
+-- the text of what the reader named and of these lines
+abbrev text_so_far : Reading → List Line → List ℕ
+text_so_far reading lines = part_text (InLines reading.format reading.is_consistent lines)
+
+lines_longer : (reading : Reading) (lines : List Line)
+    → length (text_so_far reading lines) ≡ length (first_text reading.format reading.is_consistent) + length (lines_text reading.format 1 lines)
+lines_longer reading lines = length-append (first_text reading.format reading.is_consistent) (lines_text reading.format 1 lines)
+
+-- one line more is longer by at least its first word
+more_text : (format : Format) (lines : List Line) (line : Line) → length (lines_text format 1 lines) + 4 ≤ length (lines_text format 1 (lines ++ line ∷ []))
+more_text format lines line =
+    let next = written format (next_number lines) line in
+    let more = ap length (next_text format lines line) ∙ length-append (lines_text format 1 lines) (line_text next) in
+    omega (arith, more, line_some next)
 
 -- since the start, all that came is what was let go, and what is at hand
 bytes_since : (start : SourceState) (lines : List Line) (reading : Reading) (now : SourceState) → HasLines start lines reading now
-    → bytes_to_come reading now + length (part_text (InLines reading.is_consistent lines)) ≡ start.most
+    → bytes_to_come reading now + length (text_so_far reading lines) ≡ start.most
 bytes_since start lines reading now h =
-    let text = part_text (InLines reading.is_consistent lines) in
-    let all : length h.read ≡ length text + length reading.hand.line + length reading.hand.ahead =
-    ap length h.in_order ∙ length-append (text ++ reading.hand.line) reading.hand.ahead ∙ ap (λ n. n + length reading.hand.ahead) (length-append text reading.hand.line) in
-    omega (arith, h.given.fell, all)
+    let text = text_so_far reading lines in
+    let all : length h.part.read ≡ length text + length reading.hand.line + length reading.hand.ahead =
+    ap length h.part.in_order ∙ length-append (text ++ reading.hand.line) reading.hand.ahead ∙ ap (λ n. n + length reading.hand.ahead) (length-append text reading.hand.line) in
+    omega (arith, h.part.given.fell, all)
 
-pub fewer_to_come : (start : SourceState) (lines : List Line) (full : Line) (old new : Reading) (before after : SourceState) → HasLines start lines old before
-    → HasLines start (lines ++ full ∷ []) new after → bytes_to_come new after < bytes_to_come old before
-fewer_to_come start lines full old new before after h k =
-    let more : length (flat_map line_text (lines ++ full ∷ [])) ≡ length (flat_map line_text lines) + length (line_text full) =
-    ap length (flat_map-append line_text lines (full ∷ [])) ∙ length-append (flat_map line_text lines) (flat_map line_text (full ∷ [])) ∙ ap (λ (xs : List ℕ). length (flat_map line_text lines) + length xs) (append-nil (line_text full)) in
+pub fewer_to_come : (start : SourceState) (lines : List Line) (full : Line) (old new : Reading) (before after : SourceState) → new.format ≡ old.format
+    → HasLines start lines old before → HasLines start (lines ++ full ∷ []) new after → bytes_to_come new after < bytes_to_come old before
+fewer_to_come start lines full old new before after same h k =
     omega (
       arith,
       bytes_since start lines old before h,
       bytes_since start (lines ++ full ∷ []) new after k,
-      lines_longer old.is_consistent lines,
-      lines_longer new.is_consistent (lines ++ full ∷ []),
-      more,
-      line_some full,
-      first_most old.is_consistent,
-      first_least new.is_consistent,
+      lines_longer old lines,
+      lines_longer new (lines ++ full ∷ []),
+      subst (λ (f : Format). length (lines_text old.format 1 lines) + 4 ≤ length (lines_text f 1 (lines ++ full ∷ []))) (sym same) (more_text old.format lines full),
+      first_most old.format old.is_consistent,
+      first_least new.format new.is_consistent,
     )
 
 -- ---- what is found when all have come
@@ -142,8 +161,34 @@ all_are_kept o first old new source before after lines tested found e (most, is,
       kept = kept_full o most (subst (λ (x : Ontology). RulesTakeAtMost x most) e rules) lines _ _ _ _ _ (subst (λ (m : Option ℕ). AreKeptOf m tested o lines) is k);
     }
 
+-- and with what is listed behind the lines this is kept of the certificate
+pub is_tested : (o : Ontology) (first last : Reading) (start before after end : SourceState) (tested : TestedLines) (shown : ShownLines) (listed : Option ListedRuns) → first.ontology ≡ o
+    → HasLines start [] first before → AllAreKept o first last before after tested → ShowsThose tested shown → IsFinished last after end (option_map listing_of listed)
+    → IsTestedFrom o start end (record { lines = shown; listed = listed })
+is_tested o first last start before after end tested shown listed e h k (bad, contradictory, above, types) finished =
+    let lines = k.lines in
+    let certificate : Certificate = record { lines = lines; listed = option_map listing_of listed } in
+    let read = finished start lines (k.come.behind start h) in
+    record {
+      taken = read.taken;
+      given = read.given;
+      unfailed = read.unfailed;
+      end = read.end;
+      tested = record {
+        certificate = certificate;
+        text_is = subst (λ (x : Ontology). IsSomeTextOf x read.taken certificate) (k.come.ontology ∙ e) read.text_is;
+        bad_is = subst (λ (b : Option ℕ). MatchOption b (IsDerivation o lines) (IsFirstBadLine o lines)) (sym bad) k.kept.tested.bad_is;
+        shown = record {
+          contradiction = subst (λ (b : Bool). TellsContradiction b lines) (sym contradictory) k.kept.shown.contradiction;
+          superclasses = subst (AreSuperclasses o (said_by lines)) (sym above) k.kept.shown.superclasses;
+          members = subst (AreTypes o (said_by lines)) (sym types) k.kept.shown.members;
+        };
+        listed_is = refl;
+      };
+    }
+
 -- the next line leaves fewer bytes
 pub next_fewer : (first old new : Reading) (source before after : SourceState) (lines : List Line) (kept : Line) (start : SourceState) → HasLines start [] first source
     → HaveCome first old source before lines → IsNextLine old new before after kept → bytes_to_come new after < bytes_to_come old before
 next_fewer first old new source before after lines kept start l h n =
-    fewer_to_come start lines n.full old new before after (h.behind start l) (n.behind start lines (h.behind start l))
+    fewer_to_come start lines n.full old new before after n.format (h.behind start l) (n.behind start lines (h.behind start l))

@@ -1,4 +1,4 @@
--- The certificate of an ontology with one subclass axiom is acceptable.
+-- The certificate of an ontology with one subclass axiom is acceptable, in both formats.
 use Rattle.std.proofs.Common.{◌≡◌, ℕ, zero, suc, ◌<◌, ◌≤◌, ◌↔◌, List, [], ◌∷◌, take, slice_get, All, Bool, true, false, ◌&&◌, ◌||◌, ◌==◌, if◌then◌else◌, Some, None, Contains, refl, sym, ap, ap₂, ◌∙◌, subst, subst₂, arith, ◌^◌, slice_index_or, codes, bytes_eq, true≢false, eqb-true, inl, inr}
 use Rattle.std.specs.List.{list_any}
 use Rattle.std.specs.Fmt.{digits}
@@ -10,14 +10,16 @@ use Rattle.axioms.specs.Ontology.{Ontology, Class, SubClass, IsClassAt, axiom_tr
 use Rattle.interpretation_spec.specs.Interpretation.{Interpretation, IsModel, Satisfies}
 use Rattle.taxonomy.specs.Texts.{taxonomy_text, instances_text}
 use Rattle.certificate.specs.Certificate.{Expression, Conclusion, Sub, Line, Listed, Certificate}
+use Rattle.certificate.specs.declared.format.Format.{Format}
+use Rattle.certificate.specs.declared.format.Format.TheVariants.{One, Two}
 use Rattle.certificate.specs.declared.line.Rule.{Rule}
 use Rattle.certificate.specs.declared.line.Rule.TheVariants.{K1, K2, K4}
 use Rattle.cert_check.specs.Lines.{Follows}
-use Rattle.certificate.specs.Writability.{certificate_numbers, IsConclusionOf, IsLineOf, HasText, AreElements, IsNamedClass}
+use Rattle.certificate.specs.Writability.{certificate_numbers, AreEarlier, IsConclusionOf, IsLineOf, HasNumbers, HasText, AreElements, IsNamedClass}
 use Rattle.cert_check.specs.Derivation.{IsDerived, IsDerivation, HasLine}
 use Rattle.cert_check.specs.Acceptance.{Agrees, ClaimHolds, LiesBelow, IsConsistentShown}
 use Rattle.listed_model.specs.Listing.{elements_of, IsListing}
-use Rattle.cert_check.specs.Examples.{OneSubclassIsAccepted}
+use Rattle.cert_check.specs.Examples.{OneSubclassIsAccepted, OneSubclassIsAcceptedInFormatTwo}
 use Rattle.cert_check.proofs.Places.{All-from_test}
 use Rattle.axioms.specs.Examples.{one_subclass}
 use Rattle.axioms.proofs.FourClasses.{number_at}
@@ -224,8 +226,8 @@ shown = record {
 over : (conclusion : Conclusion) (rule : Rule) (premises : List ℕ) → IsConclusionOf small conclusion → IsLineOf small (record { conclusion = conclusion; rule = rule; axiom' = None; premises = premises })
 over conclusion rule premises h = record { conclusion = h; axiom' = tt }
 
-has_text : HasText small certificate
-has_text = record {
+has_text : (format : Format) → HasNumbers format lines → HasText small format certificate
+has_text format written = record {
   lines = All-from_recursion (IsLineOf small) lines (
     over _ _ _ (omega arith),
     (
@@ -257,6 +259,7 @@ has_text = record {
         (((0, refl), omega arith), (((2, refl), omega arith), (((3, refl), omega arith), tt)));
     claims_ascend = omega arith;
   };
+  written = written;
 }
   where
     none : All (λ n. (1 ≤ n) × (n < 2 ^ 64)) []
@@ -266,7 +269,22 @@ pub one_subclass_is_accepted : OneSubclassIsAccepted
 unfolding digits
 one_subclass_is_accepted = record {
   certificate = certificate;
-  text_is = record { has_text = has_text; spelled = refl };
+  text_is = (One, record { has_text = has_text One tt; spelled = refl });
+  derivation = derivation;
+  shows = shown;
+}
+
+earlier : AreEarlier 1 lines
+earlier = (none 1, (none 2, (none 3, (none 4, (All-from_recursion (λ p. p < 5) (3 ∷ []) (omega arith, tt), (none 6, (none 7, tt)))))))
+  where
+    none : (n : ℕ) → All (λ p. p < n) []
+    none n = All-nil (λ p. p < n)
+
+pub is_accepted_in_format_two : OneSubclassIsAcceptedInFormatTwo
+unfolding digits
+is_accepted_in_format_two = record {
+  certificate = certificate;
+  text_is = (Two, record { has_text = has_text Two (omega arith, earlier); spelled = refl });
   derivation = derivation;
   shows = shown;
 }

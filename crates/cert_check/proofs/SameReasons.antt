@@ -1,4 +1,4 @@
--- The same speaks against a certificate with a listing as with the narrowed one.
+-- The same speaks against a certificate with a listing as with one onto which it is folded, as the narrowed one is.
 use Rattle.std.proofs.Common.{◌≡◌, ◌↔◌, ℕ, ◌<◌, List, map, get_or, slice_get, Option, Some, None, Contains, sym, ap, subst}
 use Rattle.std.proofs.lemmas.List.Elements.{All-contains, All-map}
 use Rattle.std.proofs.lemmas.Option.{slice_get_within}
@@ -14,9 +14,9 @@ use Rattle.certificate.specs.Writability.{IsListedOf, IsNamedClass}
 use Rattle.listed_model.specs.Listing.{IsListing}
 use Rattle.listed_model.specs.Interpretations.{listed_interpretation}
 use Rattle.listed_model.proofs.Interpreted.{listing_is, interpretation_is}
+use Rattle.narrowing.specs.FoldedListing.{FoldsListing, IsFoldedListing, folded_claim}
 use Rattle.narrowing.specs.Narrowed.{IsNarrowed, place_among, narrowed_claim}
-use Rattle.narrowing.proofs.Folded.{is_folded}
-use Rattle.narrowing.proofs.Keeping.{is_listed}
+use Rattle.narrowing.proofs.SameListing.{narrowed_is_folded}
 use Rattle.cert_check.specs.declared.verdict.Reason.{Reason}
 use Rattle.cert_check.specs.declared.verdict.Reason.TheVariants.{BadText, BadLine, AxiomFails, ClaimMissing, ClaimDisagrees, IndividualDisagrees, NoContradiction, TaxonomyDiffers, InstancesDiffer}
 use Rattle.cert_check.specs.Acceptance.{Agrees, ClaimHolds}
@@ -53,40 +53,33 @@ member_from f xs y c =
     let (x, there, is) = slice_get_map_from f xs k y at in
     (x, Contains-from_slice_get xs k x there, is)
 
--- ---- a listing and the narrowed one
+-- ---- a listing and one onto which it is folded
 
-module _ (o : Ontology) (w : IsOntology o) (l m : Listed) (fits : IsListedOf o l) (n : IsNarrowed l m) where
+module _ (o : Ontology) (w : IsOntology o) (l m : Listed) (fits : IsListedOf o l) (f : ℕ → ℕ) (fo : FoldsListing o l m f) where
   module _ (i j : Interpretation) (p : IsListing o l i) (q : IsListing o m j) (v : IsInterpretation i) (u : IsInterpretation j) where
-    folds : Folds o i j (place_among n.used)
-    folds = is_folded o w l m fits n i j p q v u
+    folds : Folds o i j f
+    folds = fo.folded i j p q v u
 
-    pub agrees_same : (lines : List Line) (subject : Subject) (x : ℕ) → x < l.domain → Agrees o i lines subject x ↔ Agrees o j lines subject (place_among n.used x)
-    agrees_same lines subject x lx = agree_same o w i j (place_among n.used) folds lines subject x (subst (λ k. x < k) (sym p.size) lx)
+    agrees_same : (lines : List Line) (subject : Subject) (x : ℕ) → x < l.domain → Agrees o i lines subject x ↔ Agrees o j lines subject (f x)
+    agrees_same lines subject x lx = agree_same o w i j f folds lines subject x (subst (λ k. x < k) (sym p.size) lx)
 
-    pub claims_same : (lines : List Line) (claim : ℕ × ℕ) → Contains l.claims claim → ClaimHolds o i lines claim ↔ ClaimHolds o j lines (narrowed_claim n.used claim)
+    claims_same : (lines : List Line) (claim : ℕ × ℕ) → Contains l.claims claim → ClaimHolds o i lines claim ↔ ClaimHolds o j lines (folded_claim f claim)
     claims_same lines claim there =
         let ((c, g), lx) = All-contains (λ c. IsNamedClass o c.0 × (c.1 < l.domain)) l.claims claim fits.claims there in
-        let s = stays o w i j (place_among n.used) folds claim.0 claim.1 (slice_get_within o.nodes claim.0 _ g) (subst (λ k. claim.1 < k) (sym p.size) lx) in
+        let s = stays o w i j f folds claim.0 claim.1 (slice_get_within o.nodes claim.0 _ g) (subst (λ k. claim.1 < k) (sym p.size) lx) in
         let a = agrees_same lines (Expression claim.0) claim.1 lx in
         (λ h. record { member = s.0 h.member; agrees = a.0 h.agrees }, λ h. record { member = s.1 h.member; agrees = a.1 h.agrees })
 
-  -- the claims and the individuals are those of the listing, each element by its place
-  claims_are : map (narrowed_claim n.used) l.claims ≡ m.claims
-  claims_are = sym (ap (λ (k : Listed). k.claims) n.narrowed)
+  claim_to : (claim : ℕ × ℕ) → Contains l.claims claim → Contains m.claims (folded_claim f claim)
+  claim_to claim c = subst (λ (claims : List (ℕ × ℕ)). Contains claims (folded_claim f claim)) (sym fo.claims) (Contains-map (folded_claim f) l.claims claim c)
 
-  individuals_are : map (place_among n.used) l.individuals ≡ m.individuals
-  individuals_are = sym (ap (λ (k : Listed). k.individuals) n.narrowed)
+  claim_from : (claim : ℕ × ℕ) → Contains m.claims claim → (old : ℕ × ℕ) × Contains l.claims old × (folded_claim f old ≡ claim)
+  claim_from claim c = member_from (folded_claim f) l.claims claim (subst (λ (claims : List (ℕ × ℕ)). Contains claims claim) fo.claims c)
 
-  claim_to : (claim : ℕ × ℕ) → Contains l.claims claim → Contains m.claims (narrowed_claim n.used claim)
-  claim_to claim c = subst (λ (claims : List (ℕ × ℕ)). Contains claims (narrowed_claim n.used claim)) claims_are (Contains-map (narrowed_claim n.used) l.claims claim c)
-
-  claim_from : (claim : ℕ × ℕ) → Contains m.claims claim → (old : ℕ × ℕ) × Contains l.claims old × (narrowed_claim n.used old ≡ claim)
-  claim_from claim c = member_from (narrowed_claim n.used) l.claims claim (subst (λ (claims : List (ℕ × ℕ)). Contains claims claim) (sym claims_are) c)
-
-  -- narrowing keeps for which classes something is claimed
+  -- folding keeps for which classes something is claimed
   has_claim_same : (lines : List Line) (c : ℕ) → HasClaim o lines l c ↔ HasClaim o lines m c
   has_claim_same lines c = (
-    λ h e g some. (let (x, there) = h e g some in (place_among n.used x, claim_to (e, x) there)),
+    λ h e g some. (let (x, there) = h e g some in (f x, claim_to (e, x) there)),
     λ h e g some.
         (let (y, there) = h e g some in
         let (old, from, is) = claim_from (e, y) there in
@@ -100,20 +93,20 @@ module _ (o : Ontology) (w : IsOntology o) (l m : Listed) (fits : IsListedOf o l
           (let (old, from, is) = claim_from (e, y) there in
           let g' : IsClassAt o c old.0 = subst (IsClassAt o c) (sym (ap (λ (k : ℕ × ℕ). k.0) is)) g in
           subst (ClaimHolds o j lines) is ((claims_same i j p q v u lines old from).0 (h old.0 old.1 g' from))),
-      λ h e x g there. (claims_same i j p q v u lines (e, x) there).1 (h e (place_among n.used x) g (claim_to (e, x) there)),
+      λ h e x g there. (claims_same i j p q v u lines (e, x) there).1 (h e (f x) g (claim_to (e, x) there)),
     )
 
-    individual_same : (a x : ℕ) → slice_get l.individuals a ≡ Some x → Agrees o i lines (Individual a) x ↔ Agrees o j lines (Individual a) (place_among n.used x)
+    individual_same : (a x : ℕ) → slice_get l.individuals a ≡ Some x → Agrees o i lines (Individual a) x ↔ Agrees o j lines (Individual a) (f x)
     individual_same a x g = agrees_same i j p q v u lines (Individual a) x (All-contains (λ x. x < l.domain) l.individuals x fits.individuals (Contains-from_slice_get l.individuals a x g))
 
     individuals_same : (a : ℕ) → IndividualAgrees o i lines l a ↔ IndividualAgrees o j lines m a
     individuals_same a = (
       λ h y g.
-          (let (x, there, is) = slice_get_map_from (place_among n.used) l.individuals a y (subst (λ (xs : List ℕ). slice_get xs a ≡ Some y) (sym individuals_are) g) in
+          (let (x, there, is) = slice_get_map_from f l.individuals a y (subst (λ (xs : List ℕ). slice_get xs a ≡ Some y) fo.individuals g) in
           subst (λ z. Agrees o j lines (Individual a) z) is ((individual_same a x there).0 (h x there))),
       λ h x g.
           (individual_same a x g).1
-          (h (place_among n.used x) (subst (λ (xs : List ℕ). slice_get xs a ≡ Some (place_among n.used x)) individuals_are (slice_get_map (place_among n.used) l.individuals a x g))),
+          (h (f x) (subst (λ (xs : List ℕ). slice_get xs a ≡ Some (f x)) (sym fo.individuals) (slice_get_map f l.individuals a x g))),
     )
 
     back : {A B : ℕ → Type 0} → ((k : ℕ) → A k ↔ B k) → (k : ℕ) → B k ↔ A k
@@ -155,44 +148,41 @@ module _ (o : Ontology) (w : IsOntology o) (l m : Listed) (fits : IsListedOf o l
     )
     claims_against_from _ h = absurd h
 
-    abbrev fold : Folds o i j (place_among n.used)
+    abbrev fold : Folds o i j f
     fold = folds i j p q v u
 
     module _ (t s : List ℕ) where
       against_to : (reason : Option Reason) → ListingAgainst o t s lines l i reason → ListingAgainst o t s lines m j reason
-      against_to (Some (AxiomFails k)) h = (first_stays o w i j (place_among n.used) fold v k).0 h
-      against_to (Some (ClaimMissing c)) h = ((model_same o w i j (place_among n.used) fold v u).0 h.0, claims_against_to (Some (ClaimMissing c)) h.1)
-      against_to (Some (ClaimDisagrees c)) h = ((model_same o w i j (place_among n.used) fold v u).0 h.0, claims_against_to (Some (ClaimDisagrees c)) h.1)
-      against_to (Some (IndividualDisagrees a)) h = ((model_same o w i j (place_among n.used) fold v u).0 h.0, claims_against_to (Some (IndividualDisagrees a)) h.1)
-      against_to (Some (TaxonomyDiffers at)) h = ((model_same o w i j (place_among n.used) fold v u).0 h.0, claims_against_to None h.1, h.2)
-      against_to (Some (InstancesDiffer at)) h = ((model_same o w i j (place_among n.used) fold v u).0 h.0, claims_against_to None h.1, h.2)
+      against_to (Some (AxiomFails k)) h = (first_stays o w i j f fold v k).0 h
+      against_to (Some (ClaimMissing c)) h = ((model_same o w i j f fold v u).0 h.0, claims_against_to (Some (ClaimMissing c)) h.1)
+      against_to (Some (ClaimDisagrees c)) h = ((model_same o w i j f fold v u).0 h.0, claims_against_to (Some (ClaimDisagrees c)) h.1)
+      against_to (Some (IndividualDisagrees a)) h = ((model_same o w i j f fold v u).0 h.0, claims_against_to (Some (IndividualDisagrees a)) h.1)
+      against_to (Some (TaxonomyDiffers at)) h = ((model_same o w i j f fold v u).0 h.0, claims_against_to None h.1, h.2)
+      against_to (Some (InstancesDiffer at)) h = ((model_same o w i j f fold v u).0 h.0, claims_against_to None h.1, h.2)
       against_to (Some (BadText at)) h = absurd h.2.texts
       against_to (Some (BadLine k)) h = absurd h.2.texts
       against_to (Some NoContradiction) h = absurd h.2.texts
-      against_to None h = ((model_same o w i j (place_among n.used) fold v u).0 h.0, claims_against_to None h.1, h.2)
+      against_to None h = ((model_same o w i j f fold v u).0 h.0, claims_against_to None h.1, h.2)
 
       against_from : (reason : Option Reason) → ListingAgainst o t s lines m j reason → ListingAgainst o t s lines l i reason
-      against_from (Some (AxiomFails k)) h = (first_stays o w i j (place_among n.used) fold v k).1 h
-      against_from (Some (ClaimMissing c)) h = ((model_same o w i j (place_among n.used) fold v u).1 h.0, claims_against_from (Some (ClaimMissing c)) h.1)
-      against_from (Some (ClaimDisagrees c)) h = ((model_same o w i j (place_among n.used) fold v u).1 h.0, claims_against_from (Some (ClaimDisagrees c)) h.1)
-      against_from (Some (IndividualDisagrees a)) h = ((model_same o w i j (place_among n.used) fold v u).1 h.0, claims_against_from (Some (IndividualDisagrees a)) h.1)
-      against_from (Some (TaxonomyDiffers at)) h = ((model_same o w i j (place_among n.used) fold v u).1 h.0, claims_against_from None h.1, h.2)
-      against_from (Some (InstancesDiffer at)) h = ((model_same o w i j (place_among n.used) fold v u).1 h.0, claims_against_from None h.1, h.2)
+      against_from (Some (AxiomFails k)) h = (first_stays o w i j f fold v k).1 h
+      against_from (Some (ClaimMissing c)) h = ((model_same o w i j f fold v u).1 h.0, claims_against_from (Some (ClaimMissing c)) h.1)
+      against_from (Some (ClaimDisagrees c)) h = ((model_same o w i j f fold v u).1 h.0, claims_against_from (Some (ClaimDisagrees c)) h.1)
+      against_from (Some (IndividualDisagrees a)) h = ((model_same o w i j f fold v u).1 h.0, claims_against_from (Some (IndividualDisagrees a)) h.1)
+      against_from (Some (TaxonomyDiffers at)) h = ((model_same o w i j f fold v u).1 h.0, claims_against_from None h.1, h.2)
+      against_from (Some (InstancesDiffer at)) h = ((model_same o w i j f fold v u).1 h.0, claims_against_from None h.1, h.2)
       against_from (Some (BadText at)) h = absurd h.2.texts
       against_from (Some (BadLine k)) h = absurd h.2.texts
       against_from (Some NoContradiction) h = absurd h.2.texts
-      against_from None h = ((model_same o w i j (place_among n.used) fold v u).1 h.0, claims_against_from None h.1, h.2)
-
-  pub narrowed_fits : IsListedOf o m
-  narrowed_fits = is_listed o w l m fits n
+      against_from None h = ((model_same o w i j f fold v u).1 h.0, claims_against_from None h.1, h.2)
 
   -- there is an interpretation that the other listing lists
-  pub reasons_same : (t s : List ℕ) (lines : List Line) (reason : Option Reason) → ConsistentAgainst o t s lines l reason ↔ ConsistentAgainst o t s lines m reason
+  reasons_same : (t s : List ℕ) (lines : List Line) (reason : Option Reason) → ConsistentAgainst o t s lines l reason ↔ ConsistentAgainst o t s lines m reason
   reasons_same t s lines reason = (
     λ h.
         (let j = listed_interpretation o m in
-        let q = listing_is o w m narrowed_fits in
-        let u = interpretation_is o w m narrowed_fits in
+        let q = listing_is o w m fo.listed in
+        let u = interpretation_is o w m fo.listed in
         record { i = j; listing = q; interpretation = u; against = against_to h.i j h.listing q h.interpretation u lines t s reason h.against }),
     λ h.
         (let i = listed_interpretation o l in
@@ -201,6 +191,36 @@ module _ (o : Ontology) (w : IsOntology o) (l m : Listed) (fits : IsListedOf o l
         record { i = i; listing = p; interpretation = v; against = against_from i h.i p h.listing v h.interpretation lines t s reason h.against }),
   )
 
-  -- the same of what is kept of lines
-  pub shown_same : (t s : List ℕ) (above types : List (List ℕ)) (reason : Option Reason) → ConsistentAgainstShown o t s above types m reason → ConsistentAgainstShown o t s above types l reason
-  shown_same t s above types reason h = λ lines above_is types_are. (reasons_same t s lines reason).1 (h lines above_is types_are)
+pub folded_reasons_same : (o : Ontology) → IsOntology o → (l m : Listed) → IsListedOf o l → IsFoldedListing o l m → (t s : List ℕ) (lines : List Line) (reason : Option Reason) → ConsistentAgainst o t s lines l reason ↔ ConsistentAgainst o t s lines m reason
+folded_reasons_same o w l m fits (f, fo) = reasons_same o w l m fits f fo
+
+-- the same of what is kept of lines
+pub shown_same : (o : Ontology) → IsOntology o → (l m : Listed) → IsListedOf o l → IsFoldedListing o l m → (t s : List ℕ) (above types : List (List ℕ)) (reason : Option Reason) → ConsistentAgainstShown o t s above types m reason → ConsistentAgainstShown o t s above types l reason
+shown_same o w l m fits fo t s above types reason h = λ lines above_is types_are. (folded_reasons_same o w l m fits fo t s lines reason).1 (h lines above_is types_are)
+
+-- ---- a listing and the narrowed one
+
+pub narrowed_agrees_same : (o : Ontology) → IsOntology o → (l m : Listed) → IsListedOf o l → (n : IsNarrowed l m) →
+    (i j : Interpretation) → IsListing o l i → IsListing o m j → IsInterpretation i → IsInterpretation j →
+    (lines : List Line) (subject : Subject) (x : ℕ) → x < l.domain → Agrees o i lines subject x ↔ Agrees o j lines subject (place_among n.used x)
+narrowed_agrees_same o w l m fits n = agrees_same o w l m fits (place_among n.used) (narrowed_is_folded o w l m fits n)
+
+pub narrowed_claims_same : (o : Ontology) → IsOntology o → (l m : Listed) → IsListedOf o l → (n : IsNarrowed l m) →
+    (i j : Interpretation) → IsListing o l i → IsListing o m j → IsInterpretation i → IsInterpretation j →
+    (lines : List Line) (claim : ℕ × ℕ) → Contains l.claims claim → ClaimHolds o i lines claim ↔ ClaimHolds o j lines (narrowed_claim n.used claim)
+narrowed_claims_same o w l m fits n = claims_same o w l m fits (place_among n.used) (narrowed_is_folded o w l m fits n)
+
+pub narrowed_reasons_same : (o : Ontology) → IsOntology o → (l m : Listed) → IsListedOf o l → IsNarrowed l m → (t s : List ℕ) (lines : List Line) (reason : Option Reason) → ConsistentAgainst o t s lines l reason ↔ ConsistentAgainst o t s lines m reason
+narrowed_reasons_same o w l m fits n = folded_reasons_same o w l m fits (place_among n.used, narrowed_is_folded o w l m fits n)
+
+-- ---- a listing, one onto which it is folded, and the narrowed one of that
+
+module _ (o : Ontology) (w : IsOntology o) (l few m : Listed) (fits : IsListedOf o l) (fo : IsFoldedListing o l few) (n : IsNarrowed few m) where
+  narrows : FoldsListing o few m (place_among n.used)
+  narrows = narrowed_is_folded o w few m fo.1.listed n
+
+  pub narrow_fits : IsListedOf o m
+  narrow_fits = narrows.listed
+
+  pub shown_by_narrow : (t s : List ℕ) (above types : List (List ℕ)) (reason : Option Reason) → ConsistentAgainstShown o t s above types m reason → ConsistentAgainstShown o t s above types l reason
+  shown_by_narrow t s above types reason h = shown_same o w l few fits fo t s above types reason (shown_same o w few m fo.1.listed (place_among n.used, narrows) t s above types reason h)

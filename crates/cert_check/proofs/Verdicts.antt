@@ -4,7 +4,7 @@ use Rattle.std.proofs.lemmas.Bool.{false≢true}
 use Rattle.axioms.specs.Ontology.{Ontology, axiom_trees}
 use Rattle.interpretation_spec.specs.Interpretation.{Interpretation, IsModel}
 use Rattle.certificate.specs.Certificate.{Line, Listed, Certificate}
-use Rattle.certificate.specs.Writability.{IsTextOf}
+use Rattle.certificate.specs.Writability.{IsSomeTextOf}
 use Rattle.cert_check.specs.declared.verdict.Reason.{Reason}
 use Rattle.cert_check.specs.declared.verdict.Reason.TheVariants.{BadText, BadLine, AxiomFails, ClaimMissing, ClaimDisagrees, IndividualDisagrees, NoContradiction, TaxonomyDiffers, InstancesDiffer}
 use Rattle.cert_check.specs.declared.verdict.Verdict.TheVariants.{Rejected}
@@ -61,11 +61,11 @@ rejected o t i text (BadText at) j = absurd (not_the_text o t i j.certificate.li
 rejected o t i text (BadLine n) j = absurd (not_a_line o t i j.certificate.lines j.certificate.listed n j.against)
 rejected o t i text _ j = j
 
-pub judged : (o : Ontology) (t i text : List ℕ) (c : Certificate) (reason : Option Reason) → IsTextOf o text c → IsDerivation o c.lines
+pub judged : (o : Ontology) (t i text : List ℕ) (c : Certificate) (reason : Option Reason) → IsSomeTextOf o text c → IsDerivation o c.lines
     → Against o t i c.lines c.listed reason → IsJudged o t i text reason
 judged o t i text c reason text_is derivation against = record { certificate = c; text_is = text_is; derivation = derivation; against = against }
 
-pub judged_verdict : (o : Ontology) (t i text : List ℕ) (c : Certificate) (found : Option Reason) → IsTextOf o text c → IsDerivation o c.lines
+pub judged_verdict : (o : Ontology) (t i text : List ℕ) (c : Certificate) (found : Option Reason) → IsSomeTextOf o text c → IsDerivation o c.lines
     → Against o t i c.lines c.listed found → IsVerdict o t i text (verdict_of_reason found)
 judged_verdict o t i text c None text_is derivation against = judged o t i text c None text_is derivation against
 judged_verdict o t i text c (Some reason) text_is derivation against = rejected o t i text reason (judged o t i text c (Some reason) text_is derivation against)

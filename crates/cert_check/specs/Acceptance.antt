@@ -7,7 +7,7 @@ use Rattle.axioms.specs.Ontology.{Ontology, IsClassAt, name_at, expression, indi
 use Rattle.certificate.specs.Certificate.{Subject, Expression, Individual, Sub, Line, Listed, Certificate}
 use Rattle.listed_model.specs.Listing.{IsListing}
 use Rattle.cert_check.specs.Derivation.{IsDerivation, HasLine}
-use Rattle.certificate.specs.Writability.{IsTextOf}
+use Rattle.certificate.specs.Writability.{IsSomeTextOf}
 use Rattle.taxonomy.specs.Texts.{taxonomy_text, instances_text, inconsistent_taxonomy_text, inconsistent_instances_text}
 
 -- ---- acceptance
@@ -63,10 +63,10 @@ abbrev pub Shows : Ontology → List ℕ → List ℕ → Certificate → Type 0
 Shows o taxonomy instances certificate =
     MatchOption certificate.listed (IsContradictionShown taxonomy instances certificate.lines) (IsConsistentShown o taxonomy instances certificate.lines)
 
--- the certificate text shows that the taxonomy and instances texts are right
+-- the certificate text, in whichever format, shows that the taxonomy and instances texts are right
 pub record IsAcceptable (o : Ontology) (taxonomy instances text : List ℕ) : Type 0 where
   pub certificate : Certificate
-  pub text_is : IsTextOf o text certificate
+  pub text_is : IsSomeTextOf o text certificate
   pub derivation : IsDerivation o certificate.lines
   pub shows : Shows o taxonomy instances certificate
 
@@ -133,6 +133,6 @@ Says o taxonomy instances certificate =
 -- derivation, which has each yes or the contradiction, and its listed interpretation refutes each no
 pub record AreRight (o : Ontology) (taxonomy instances text : List ℕ) : Type 0 where
   pub certificate : Certificate
-  pub text_is : IsTextOf o text certificate
+  pub text_is : IsSomeTextOf o text certificate
   pub derivation : IsDerivation o certificate.lines
   pub says : Says o taxonomy instances certificate

@@ -10,6 +10,7 @@ pub mod Verdict
 pub mod Tests
 pub mod Acceptance
 pub mod SourceVerdicts
-pub mod NarrowedListings
+pub mod FoldedListings
 pub mod Soundness
+pub mod Conversions
 pub mod Examples

@@ -4,9 +4,9 @@ use Rattle.std.specs.Io.KnownBytes.{IsAtEnd}
 use Rattle.std.specs.declared.option.Option.{Option}
 use Rattle.axioms.specs.Ontology.{Ontology}
 use Rattle.certificate.specs.Certificate.{Conclusion, Line, Listed, Certificate}
-use Rattle.certificate.specs.Writability.{IsTextOf}
+use Rattle.certificate.specs.Writability.{IsSomeTextOf}
 use Rattle.certificate.specs.SourceReading.{HasLines, HasNoLine, IsStopped, Reading}
-use Rattle.certificate.specs.View.{listed_of}
+use Rattle.certificate.specs.View.{listing_of}
 use Rattle.certificate.specs.declared.fault.TextFault.{TextFault}
 use Rattle.source_lines.specs.Sources.{SourceState, Gives}
 use Rattle.cert_check.specs.Derivation.{IsDerivation, IsDerived}
@@ -45,18 +45,18 @@ ShowsThose kept shown = (shown.bad ≡ kept.bad) × (shown.is_contradictory ≡ 
 -- the text is that of a certificate whose lines have this bad line, if there is one, and show this, and with this interpretation, if there is one
 pub record IsTested (o : Ontology) (text : List ℕ) (bad : Option ℕ) (contradictory : Bool) (above types : List (List ℕ)) (listed : Option Listed) : Type 0 where
   pub certificate : Certificate
-  pub text_is : IsTextOf o text certificate
+  pub text_is : IsSomeTextOf o text certificate
   pub bad_is : MatchOption bad (IsDerivation o certificate.lines) (IsFirstBadLine o certificate.lines)
   pub shown : AreShown o certificate.lines contradictory above types
   pub listed_is : listed ≡ certificate.listed
 
 -- this is what is kept of the certificate whose text it is
 abbrev pub IsTestedIn : Ontology → List ℕ → TestedCertificate → Type 0
-IsTestedIn o text c = IsTested o text c.lines.bad c.lines.is_contradictory c.lines.above c.lines.types (option_map listed_of c.listed)
+IsTestedIn o text c = IsTested o text c.lines.bad c.lines.is_contradictory c.lines.above c.lines.types (option_map listing_of c.listed)
 
 -- what speaks against it, whichever its lines are of which this is kept
 abbrev pub AgainstTested : Ontology → (taxonomy instances : List ℕ) → TestedCertificate → Option Reason → Type 0
-AgainstTested o t i c = AgainstShown o t i c.lines.is_contradictory c.lines.above c.lines.types (option_map listed_of c.listed)
+AgainstTested o t i c = AgainstShown o t i c.lines.is_contradictory c.lines.above c.lines.types (option_map listing_of c.listed)
 
 -- all that the source gave, to its end, is the text of the certificate of which this is kept
 pub record IsTestedFrom (o : Ontology) (start now : SourceState) (c : TestedCertificate) : Type 0 where

@@ -9,7 +9,7 @@ use Rattle.axioms.specs.declared.ids.IndId.{IndId}
 use Rattle.interpretation_spec.specs.NamedInterpretation.{IsFirstUnsatisfied}
 use Rattle.interpretation_spec.specs.Interpretation.{Interpretation, IsInterpretation, IsModel}
 use Rattle.certificate.specs.Certificate.{Expression, Individual, Conclusion, Sub, Edge, Same, Line, Listed, Certificate}
-use Rattle.certificate.specs.Writability.{IsTextOf, IsListedOf}
+use Rattle.certificate.specs.Writability.{IsSomeTextOf, IsListedOf}
 use Rattle.certificate.specs.Prefixes.{IsNoText}
 use Rattle.taxonomy.specs.Texts.{taxonomy_text, instances_text, inconsistent_taxonomy_text, inconsistent_instances_text}
 use Rattle.cert_check.specs.declared.verdict.Reason.{Reason}
@@ -170,14 +170,14 @@ verdict_of_reason (Some reason) = Rejected reason
 -- the text is that of a certificate whose lines are a derivation, and this, if anything, speaks against it
 pub record IsJudged (o : Ontology) (t i text : List ℕ) (reason : Option Reason) : Type 0 where
   pub certificate : Certificate
-  pub text_is : IsTextOf o text certificate
+  pub text_is : IsSomeTextOf o text certificate
   pub derivation : IsDerivation o certificate.lines
   pub against : Against o t i certificate.lines certificate.listed reason
 
 -- the text is that of a certificate with a line that does not follow from lines before it
 pub record HasBadLine (o : Ontology) (text : List ℕ) (number : ℕ) : Type 0 where
   pub certificate : Certificate
-  pub text_is : IsTextOf o text certificate
+  pub text_is : IsSomeTextOf o text certificate
   pub first : IsFirstBadLine o certificate.lines number
 
 -- what the verdict says of an ontology, a taxonomy text, an instances text and a certificate text
@@ -196,5 +196,5 @@ PassesLines verdict = Unit {0}
 -- the text is that of a certificate, and each of its lines is true in every interpretation in which the axioms hold
 pub record HasTrueLines (o : Ontology) (text : List ℕ) : Type 0 where
   pub certificate : Certificate
-  pub text_is : IsTextOf o text certificate
+  pub text_is : IsSomeTextOf o text certificate
   pub lines : (i : Interpretation) → IsModel i (axiom_trees o) → (n : ℕ) (line : Line) → slice_get certificate.lines n ≡ Some line → IsTrueIn o i line.conclusion

@@ -9,7 +9,7 @@ ghost use Rattle.cert_check.specs.Verdict.{ClaimsAgainstLists, ConsistentAgainst
 ghost use Rattle.certificate.specs.Writability.{IsListedOf};
 ghost use Rattle.certificate.specs.SourceFaults.{stream_fault_as_text};
 ghost use Rattle.certificate.specs.SourceReading.{IsStopped};
-ghost use Rattle.certificate.specs.View.{listed_of};
+ghost use Rattle.certificate.specs.View.{listed_of, listing_of};
 ghost use Rattle.interpretation_spec.specs.NamedInterpretation.{IsFirstUnsatisfied};
 ghost use Rattle.interpretation_spec.specs.Interpretation.{Interpretation, IsInterpretation, IsModel};
 ghost use Rattle.source_lines.specs.Sources.{SourceState, source_state};
@@ -24,19 +24,20 @@ use crate::compare::first_difference;
 use crate::derivation::{ShownLines, TestedCertificate, tested_certificate};
 use crate::verdict::{Reason, Verdict};
 use axioms::{Memory, Ontology};
-use certificate::{Listed, TextFault};
+use certificate::{Listed, ListedRuns, TextFault};
 use device::{SliceSource, Source};
 use listed_model::first_unsatisfied;
-use narrowing::narrowed;
+use narrowing::{folded, narrowed};
 use number_sets::{EpochSet, PackedLists};
 use source_lines::StreamFault;
 use std::alloc::Global;
 use taxonomy::{Outcome, Relation, instances_bytes, reduce, taxonomy_bytes};
 
-/// Whether the certificate shows that the taxonomy text and the instances text are those of what follows from the
-/// axioms of the ontology; where it does not, the first reason.
+/// Whether the certificate, in the format that its first line names, shows that the taxonomy text and the instances text are
+/// those of what follows from the axioms of the ontology; where it does not, the first reason.
 ///
-/// It fails only where memory is refused.
+/// It fails only where memory is refused, or where rows list more than [`MOST_ELEMENTS`](crate::MOST_ELEMENTS) elements even once
+/// neighbours of which they say the same are one element.
 pub fn check(
     alloc: Global,
     ontology: &Ontology,
@@ -60,10 +61,12 @@ pub fn check(
     }
 }
 
-/// Whether the certificate that the source gives shows that the taxonomy text and the instances text are those of what
-/// follows from the axioms of the ontology; where it does not, the first reason.
+/// Whether the certificate that the source gives, in the format that its first line names, shows that the taxonomy text and the
+/// instances text are those of what follows from the axioms of the ontology; where it does not, the first reason.
 ///
-/// After a line that cannot follow those before it the source is read no further.
+/// After a line that cannot follow those before it the source is read no further. `Io` comes only where the source failed, and `Memory`
+/// only where memory is refused, or where rows list more than [`MOST_ELEMENTS`](crate::MOST_ELEMENTS) elements even once neighbours of
+/// which they say the same are one element.
 pub fn check_from<S: Source>(
     alloc: Global,
     ontology: &Ontology,
@@ -148,7 +151,7 @@ fn against(
     read: TestedCertificate,
 ) -> Result<Option<Reason>, Memory>
     requires derived { HasDerivation ontology.now read.lines.is_contradictory read.lines.above read.lines.types }
-    requires listed { IfSome (option_map listed_of read.listed) (IsListedOf ontology.now) }
+    requires listed { IfSome (option_map listing_of read.listed) (IsListedOf ontology.now) }
     ensures { IfOk result (AgainstTested ontology.now taxonomy.now instances.now read) }
 {
     let TestedCertificate { lines, listed } = read;
@@ -158,21 +161,24 @@ fn against(
     }
 }
 
-// What speaks against a certificate with a listed interpretation whose lines are a derivation, by the narrowed one.
+// What speaks against a certificate with a listed interpretation whose lines are a derivation. Neighbours of which the rows say the
+// same are made one element before runs are written out, and elements that stand in no line are left out behind that.
 fn against_consistent(
     alloc: Global,
     ontology: &Ontology,
     taxonomy: &[u8],
     instances: &[u8],
     lines: ShownLines,
-    listed: Listed,
+    listed: ListedRuns,
 ) -> Result<Option<Reason>, Memory>
     requires derived { HasDerivation ontology.now lines.is_contradictory lines.above lines.types }
-    requires listed { IsListedOf ontology.now (listed_of listed) }
-    ensures { IfOk result (ConsistentAgainstShown ontology.now taxonomy.now instances.now lines.above lines.types (listed_of listed)) }
+    requires listed { IsListedOf ontology.now (listing_of listed) }
+    ensures { IfOk result (ConsistentAgainstShown ontology.now taxonomy.now instances.now lines.above lines.types (listing_of listed)) }
 {
     ontology.well_formed();
-    let narrow = narrowed(alloc, listed)?;
+    let few = folded(alloc, listed)?;
+    let written = few.expanded(alloc)?;
+    let narrow = narrowed(alloc, written)?;
     against_listed(alloc, ontology, taxonomy, instances, lines, &narrow)
 }
 

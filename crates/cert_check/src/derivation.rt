@@ -16,7 +16,7 @@ use crate::rules::follows;
 use crate::short_conclusion::ShortConclusion;
 use crate::superclasses::{put_below, put_into};
 use axioms::{Axiom, ExprId, Memory, Ontology};
-use certificate::{Conclusion, Line, LineReader, Listed, Subject, TextFault};
+use certificate::{Conclusion, Line, LineReader, ListedRuns, Subject, TextFault};
 use device::Source;
 use number_sets::{OpenLists, PackedLists};
 use std::alloc::Global;
@@ -49,7 +49,7 @@ pub(crate) struct ShownLines {
 #[derive(Drop)]
 pub(crate) struct TestedCertificate {
     pub(crate) lines: ShownLines,
-    pub(crate) listed: Option<Listed>,
+    pub(crate) listed: Option<ListedRuns>,
 }
 
 // What is said at that place, counted from 0.

@@ -1,9 +1,10 @@
-//! The checker of certificates: whether a certificate shows that a taxonomy and instances are right.
+//! The checker of certificates: whether a certificate, in either format, shows that a taxonomy and instances are right.
 #![tactic(auto)]
 
 mod checker;
 mod claims;
 mod compare;
+mod conversion;
 mod derivation;
 mod listing;
 mod operands;
@@ -15,10 +16,11 @@ mod theory;
 mod verdict;
 
 pub use certificate::{
-    CertFault, Certificate, Conclusion, Line, Listed, MakeFault, Rule, Subject, read_certificate,
-    write_certificate,
+    CertFault, CertWriteFault, Certificate, Conclusion, Format, Line, Listed, MOST_ELEMENTS,
+    MakeFault, Rule, Subject, read_certificate, write_certificate,
 };
 pub use checker::{check, check_from};
+pub use conversion::{ConvertFault, acceptable_in_both_formats, convert};
 pub use listing::interpretation_of;
 pub use narrowing::narrow;
 pub use source_lines::StreamFault;

@@ -1,5 +1,5 @@
 -- Whatever lines were read, a certificate's text begins with them.
-use Rattle.std.proofs.Common.{◌≡◌, ℕ, ◌+◌, ◌-◌, ◌^◌, ◌<◌, ◌≤◌, Bool, true, false, eqb, ltb, leb, ◌&&◌, if◌then◌else◌, List, [], ◌∷◌, ◌++◌, length, map, replicate, Option, Some, None, refl, sym, ap, subst, ◌∙◌, ◌⊎◌, inl, inr, arith}
+use Rattle.std.proofs.Common.{◌≡◌, ℕ, ◌+◌, ◌-◌, ◌^◌, ◌<◌, ◌≤◌, Bool, true, false, eqb, ltb, leb, ◌&&◌, if◌then◌else◌, List, [], ◌∷◌, ◌++◌, length, map, replicate, Option, Some, None, refl, sym, ap, subst, ◌∙◌, ◌⊎◌, inl, inr, arith, lit<}
 use Rattle.std.specs.Prelude.{option_map}
 use Rattle.std.specs.List.{list_all, flat_map, enumerate_from}
 use Rattle.std.proofs.lemmas.Bool.{and_parts, and_from, eqb-true, eq-eqb, ltb-true, lt-ltb, leb-true, le-leb, false≢true}
@@ -9,14 +9,16 @@ use Rattle.std.proofs.lemmas.List.Folds.{list_all-append}
 use Rattle.std.proofs.lemmas.Option.{none-some, same_Some}
 use Rattle.lemmas.proofs.Choices.{passed}
 use Rattle.axioms.specs.Ontology.{Ontology}
-use Rattle.certificate.specs.Writability.{HasText}
-use Rattle.certificate.specs.Certificate.{Line, Listed, Certificate}
-use Rattle.certificate.specs.Tests.{is_small, fits_line, fits_class, fits_pairs, fits_claim, fits_domain, fit_classes, fit_pairs, fit_individuals, fit_claims, fits_listed, fits_certificate, key, pair_key, all_after}
-use Rattle.certificate.specs.TextLines.{TextLine, FirstLine, DerivedLine, DomainLine, ClassLine, PairLine, IndividualLine, ClaimLine, LastLine, text_of, Part, Empty, InLines, InRows, Complete, part_text, is_empty, last_of, no_rows, has_individuals, fits_row, with_row, with_line, with_all, IsPart}
+use Rattle.certificate.specs.Text.{written}
+use Rattle.certificate.specs.Writability.{HasNumbers, HasText}
+use Rattle.certificate.specs.Certificate.{Line, Listed, Certificate, Format, One, Two}
+use Rattle.certificate.specs.Tests.{is_small, fits_line, fits_written, fits_class, fits_pairs, fits_claim, fits_domain, fit_classes, fit_pairs, fit_individuals, fit_claims, fits_listed, fits_certificate, key, pair_key, all_after}
+use Rattle.certificate.specs.TextLines.{TextLine, FirstLine, DerivedLine, DomainLine, ClassLine, PairLine, IndividualLine, ClaimLine, LastLine, text_of, Part, Empty, InLines, InRows, Complete, part_text, is_empty, last_of, no_rows, has_individuals, fits_row, is_row_in, follows_in, next_number, with_row, with_line, with_all, IsPart}
 use Rattle.certificate.specs.Prefixes.{GoesOn}
 use Rattle.certificate.proofs.Every.{passes_every}
 use Rattle.certificate.proofs.Meaning.{has_text}
 use Rattle.certificate.proofs.Parts.{none_in, then_all, with_more, with_first, with_one, all_text}
+use Rattle.certificate.proofs.WrittenLines.{read_fits, numbers_read}
 use Rattle.certificate.proofs.Successors.{individual_line, individuals_come}
 
 -- ---- one more at the end
@@ -60,11 +62,19 @@ record AreRows (o : Ontology) (l : Listed) : Type 0 where
   claims : fit_claims o l.domain None l.claims ≡ true
   in_order : (l.claims ≡ []) ⊎ (length l.individuals ≡ length o.names.individuals)
 
+-- the lines fit, and the format has numbers for their premises
+abbrev AreLines : Ontology → Format → List Line → Type 0
+AreLines o format lines = (list_all (fits_line o) lines ≡ true) × HasNumbers format lines
+
+no_lines : (o : Ontology) (format : Format) → AreLines o format []
+no_lines o One = (refl, tt)
+no_lines o Two = (refl, (lit< tt, tt))
+
 abbrev Fits : Ontology → Part → Type 0
 Fits o Empty = Unit {0}
-Fits o (InLines is_consistent lines) = list_all (fits_line o) lines ≡ true
-Fits o (InRows lines listed) = (list_all (fits_line o) lines ≡ true) × AreRows o listed
-Fits o (Complete c) = fits_certificate o c ≡ true
+Fits o (InLines format is_consistent lines) = AreLines o format lines
+Fits o (InRows format lines listed) = AreLines o format lines × AreRows o listed
+Fits o (Complete format c) = (fits_certificate o c ≡ true) × HasNumbers format c.lines
 
 none_yet : (o : Ontology) (domain : ℕ) → fits_domain domain ≡ true → AreRows o (no_rows domain)
 none_yet o domain t = record {
@@ -79,7 +89,7 @@ none_yet o domain t = record {
 }
 
 row_fits : (o : Ontology) (l : Listed) (row : TextLine) → AreRows o l → fits_row o l row ≡ true → AreRows o (with_row l row)
-row_fits o l (ClassLine row) h t =
+row_fits o l (ClassLine format row) h t =
     let p = and_parts (is_empty l.pairs && is_empty l.individuals && is_empty l.claims) (fits_class o l.domain (key (last_of l.classes)) row) t in
     record {
       domain = h.domain;
@@ -91,7 +101,7 @@ row_fits o l (ClassLine row) h t =
       claims = h.claims;
       in_order = h.in_order;
     }
-row_fits o l (PairLine row) h t =
+row_fits o l (PairLine format row) h t =
     let p = and_parts (is_empty l.individuals && is_empty l.claims) (fits_pairs o l.domain (pair_key (last_of l.pairs)) row) t in
     record {
       domain = h.domain;
@@ -152,28 +162,33 @@ listed_fits o l h all =
     (and_from (front && pairs) (fit_individuals o d l.individuals) (and_from front pairs (and_from (fits_domain d) (fit_classes o d None l.classes) h.domain h.classes) h.pairs) individuals) h.claims
 
 line_fits : (o : Ontology) (part next : Part) (line : TextLine) → Fits o part → with_line o part line ≡ Some next → Fits o next
-line_fits o Empty next (FirstLine is_consistent) h e = subst (Fits o) (same_Some (InLines is_consistent []) next e) refl
+line_fits o Empty next (FirstLine format is_consistent) h e = subst (Fits o) (same_Some (InLines format is_consistent []) next e) (no_lines o format)
 line_fits o Empty next _ h e = absurd (none-some next e)
-line_fits o (InLines is_consistent lines) next (DerivedLine line) h e =
-    let p = passed (fits_line o line) (Some (InLines is_consistent (lines ++ line ∷ []))) next e in
-    subst (Fits o) (same_Some (InLines is_consistent (lines ++ line ∷ [])) next p.1) (all_pushed (fits_line o) lines line h p.0)
-line_fits o (InLines true lines) next (DomainLine domain) h e =
-    let p = passed (fits_domain domain) (Some (InRows lines (no_rows domain))) next e in
-    subst (Fits o) (same_Some (InRows lines (no_rows domain)) next p.1) (h, none_yet o domain p.0)
-line_fits o (InLines true lines) next _ h e = absurd (none-some next e)
-line_fits o (InLines false lines) next LastLine h e = subst (Fits o) (same_Some (Complete (record { lines = lines; listed = None })) next e) (and_from (list_all (fits_line o) lines) true h refl)
-line_fits o (InLines false lines) next _ h e = absurd (none-some next e)
-line_fits o (InRows lines l) next LastLine h e =
-    let p = passed (has_individuals o l) (Some (Complete (record { lines = lines; listed = Some l }))) next e in
-    subst (Fits o) (same_Some (Complete (record { lines = lines; listed = Some l })) next p.1)
-    (and_from (list_all (fits_line o) lines) (fits_listed o l) h.0 (listed_fits o l h.1 p.0))
-line_fits o (InRows lines l) next line h e = one_row line e
+line_fits o (InLines format is_consistent lines) next (DerivedLine line) h e =
+    let n = next_number lines in
+    let read = written format n line in
+    let p = passed (fits_written o format n line) (Some (InLines format is_consistent (lines ++ read ∷ []))) next e in
+    subst (Fits o) (same_Some (InLines format is_consistent (lines ++ read ∷ [])) next p.1)
+    (all_pushed (fits_line o) lines read h.0 (read_fits o format n line p.0), numbers_read o format lines line h.1 p.0)
+line_fits o (InLines format true lines) next (DomainLine domain) h e =
+    let p = passed (fits_domain domain) (Some (InRows format lines (no_rows domain))) next e in
+    subst (Fits o) (same_Some (InRows format lines (no_rows domain)) next p.1) (h, none_yet o domain p.0)
+line_fits o (InLines format true lines) next _ h e = absurd (none-some next e)
+line_fits o (InLines format false lines) next LastLine h e =
+    subst (Fits o) (same_Some (Complete format (record { lines = lines; listed = None })) next e) (and_from (list_all (fits_line o) lines) true h.0 refl, h.1)
+line_fits o (InLines format false lines) next _ h e = absurd (none-some next e)
+line_fits o (InRows format lines l) next LastLine h e =
+    let p = passed (has_individuals o l) (Some (Complete format (record { lines = lines; listed = Some l }))) next e in
+    subst (Fits o) (same_Some (Complete format (record { lines = lines; listed = Some l })) next p.1)
+    (and_from (list_all (fits_line o) lines) (fits_listed o l) h.0.0 (listed_fits o l h.1 p.0), h.0.1)
+line_fits o (InRows format lines l) next line h e = one_row line e
   where
-    one_row : (row : TextLine) → (if fits_row o l row then Some (InRows lines (with_row l row)) else None) ≡ Some next → Fits o next
+    one_row : (row : TextLine) → (if follows_in o format l row then Some (InRows format lines (with_row l row)) else None) ≡ Some next → Fits o next
     one_row row e =
-        let p = passed (fits_row o l row) (Some (InRows lines (with_row l row))) next e in
-        subst (Fits o) (same_Some (InRows lines (with_row l row)) next p.1) (h.0, row_fits o l row h.1 p.0)
-line_fits o (Complete c) next line h e = absurd (none-some next e)
+        let p = passed (follows_in o format l row) (Some (InRows format lines (with_row l row))) next e in
+        let q = and_parts (fits_row o l row) (is_row_in format row) p.0 in
+        subst (Fits o) (same_Some (InRows format lines (with_row l row)) next p.1) (h.0, row_fits o l row h.1 q.0)
+line_fits o (Complete format c) next line h e = absurd (none-some next e)
 
 lines_fit : (o : Ontology) (part next : Part) (lines : List TextLine) → Fits o part → with_all o part lines ≡ Some next → Fits o next
 lines_fit o part next [] h e = subst (Fits o) (same_Some part next e) h
@@ -186,15 +201,15 @@ lines_fit o part next (line ∷ lines) h e = go (with_line o part line) refl (λ
 -- ---- the lines that are missing
 
 abbrev Completes : Ontology → Part → Type 0
-Completes o part = (lines : List TextLine) × (c : Certificate) × (with_all o part lines ≡ Some (Complete c))
+Completes o part = (lines : List TextLine) × (format : Format) × (c : Certificate) × (with_all o part lines ≡ Some (Complete format c))
 
 -- the rows are closed where each individual has its element
-closed : (o : Ontology) (lines : List Line) (l : Listed) → length l.individuals ≡ length o.names.individuals
-    → with_all o (InRows lines l) (LastLine ∷ []) ≡ Some (Complete (record { lines = lines; listed = Some l }))
-closed o lines l all = with_one o (InRows lines l) (Complete (record { lines = lines; listed = Some l })) LastLine (rw (eq-eqb (length l.individuals) (length o.names.individuals) all) refl)
+closed : (o : Ontology) (format : Format) (lines : List Line) (l : Listed) → length l.individuals ≡ length o.names.individuals
+    → with_all o (InRows format lines l) (LastLine ∷ []) ≡ Some (Complete format (record { lines = lines; listed = Some l }))
+closed o format lines l all = with_one o (InRows format lines l) (Complete format (record { lines = lines; listed = Some l })) LastLine (rw (eq-eqb (length l.individuals) (length o.names.individuals) all) refl)
 
-rows_complete : (o : Ontology) (lines : List Line) (l : Listed) → length o.names.individuals ≤ 2 ^ 32 → AreRows o l → Completes o (InRows lines l)
-rows_complete o lines l few h = elim h.in_order [
+rows_complete : (o : Ontology) (format : Format) (lines : List Line) (l : Listed) → length o.names.individuals ≤ 2 ^ 32 → AreRows o l → Completes o (InRows format lines l)
+rows_complete o format lines l few h = elim h.in_order [
   | inl none ↦
       let names = length o.names.individuals in
       let missing = names - length l.individuals in
@@ -208,34 +223,33 @@ rows_complete o lines l few h = elim h.in_order [
       passes_every (λ x. ltb x l.domain) elements (recursion_from_All (λ x. ltb x l.domain ≡ true) elements (All-replicate (λ x. ltb x l.domain ≡ true) missing 0 first)) in
       let fits : length l.individuals ≤ names = h.within in
       let all : length full.individuals ≡ names = omega (arith, length-append l.individuals elements, long, fits) in
-      let come = individuals_come o lines l elements none (omega (arith, long, fits)) (omega (arith, long, fits, few)) within in
-      (rows ++ LastLine ∷ [], record { lines = lines; listed = Some full }, with_more o (InRows lines l) (InRows lines full) rows (LastLine ∷ []) come ∙ closed o lines full all)
-  | inr all ↦ (LastLine ∷ [], record { lines = lines; listed = Some l }, closed o lines l all)
+      let come = individuals_come o format lines l elements none (omega (arith, long, fits)) (omega (arith, long, fits, few)) within in
+      (rows ++ LastLine ∷ [], format, record { lines = lines; listed = Some full }, with_more o (InRows format lines l) (InRows format lines full) rows (LastLine ∷ []) come ∙ closed o format lines full all)
+  | inr all ↦ (LastLine ∷ [], format, record { lines = lines; listed = Some l }, closed o format lines l all)
 ]
 
 completes : (o : Ontology) (part : Part) → length o.names.individuals ≤ 2 ^ 32 → Fits o part → Completes o part
-completes o Empty few h = (FirstLine false ∷ LastLine ∷ [], record { lines = []; listed = None }, refl)
-completes o (InLines true lines) few h =
-    let rest = rows_complete o lines (no_rows 1) few (none_yet o 1 refl) in
-    (DomainLine 1 ∷ rest.0, rest.1, with_first o (InLines true lines) (InRows lines (no_rows 1)) (DomainLine 1) rest.0 refl ∙ rest.2)
-completes o (InLines false lines) few h = (LastLine ∷ [], record { lines = lines; listed = None }, refl)
-completes o (InRows lines l) few h = rows_complete o lines l few h.1
-completes o (Complete c) few h = ([], c, refl)
+completes o Empty few h = (FirstLine One false ∷ LastLine ∷ [], One, record { lines = []; listed = None }, refl)
+completes o (InLines format true lines) few h =
+    let rest = rows_complete o format lines (no_rows 1) few (none_yet o 1 refl) in
+    (DomainLine 1 ∷ rest.0, rest.1, rest.2, with_first o (InLines format true lines) (InRows format lines (no_rows 1)) (DomainLine 1) rest.0 refl ∙ rest.3)
+completes o (InLines format false lines) few h = (LastLine ∷ [], format, record { lines = lines; listed = None }, refl)
+completes o (InRows format lines l) few h = rows_complete o format lines l few h.1
+completes o (Complete format c) few h = ([], format, c, refl)
 
 -- what was read is the beginning of a certificate's text
 pub goes_on : (o : Ontology) (part : Part) → length o.names.individuals ≤ 2 ^ 32 → IsPart o part → GoesOn o (part_text part)
 goes_on o part few h =
     let fits = lines_fit o Empty part h.0 tt h.1 in
     let rest = completes o part few fits in
-    let c = rest.1 in (
+    let format = rest.1 in
+    let c = rest.2 in
+    let all = lines_fit o part (Complete format c) rest.0 fits rest.3 in (
       flat_map text_of rest.0,
       c,
-      record {
-        has_text = has_text o c (lines_fit o part (Complete c) rest.0 fits rest.2);
-        spelled = sym (all_text o part (Complete c) rest.0 rest.2);
-      },
+      (format, record { has_text = has_text o format c all.0 all.1; spelled = sym (all_text o part (Complete format c) rest.0 rest.3) }),
     )
 
 -- a whole certificate that lines give has a text
-pub complete_has_text : (o : Ontology) (c : Certificate) → IsPart o (Complete c) → HasText o c
-complete_has_text o c p = has_text o c (lines_fit o Empty (Complete c) p.0 tt p.1)
+pub complete_has_text : (o : Ontology) (format : Format) (c : Certificate) → IsPart o (Complete format c) → HasText o format c
+complete_has_text o format c p = let all = lines_fit o Empty (Complete format c) p.0 tt p.1 in has_text o format c all.0 all.1

@@ -1,15 +1,15 @@
 -- Behind a part, what begins with a line that cannot follow, or is a piece of a line, is no certificate's text.
 use Rattle.std.proofs.Common.{◌≡◌, ℕ, suc, ◌^◌, ◌≤◌, List, [], ◌∷◌, ◌++◌, length, Option, Some, None, refl, sym, ap, subst, ◌∙◌, inl, inr, arith, append_assoc, length-append}
 use Rattle.std.specs.List.{Contains, flat_map}
-use Rattle.std.proofs.lemmas.List.{same_from_push}
+use Rattle.std.proofs.lemmas.List.{append-nil, same_from_push}
 use Rattle.std.proofs.lemmas.List.Elements.{Contains-push, Contains-append_left}
 use Rattle.std.proofs.lemmas.Map.Made.{Contains-tail}
 use Rattle.std.proofs.lemmas.Option.{none-some, same_Some}
 use Rattle.axioms.specs.Ontology.{Ontology}
 use Rattle.source_lines.specs.Lines.{IsWholeLine}
-use Rattle.certificate.specs.Certificate.{Certificate}
+use Rattle.certificate.specs.Certificate.{Certificate, Format}
 use Rattle.certificate.specs.Text.{certificate_text}
-use Rattle.certificate.specs.Writability.{IsTextOf}
+use Rattle.certificate.specs.Writability.{IsTextOf, IsSomeTextOf}
 use Rattle.certificate.specs.TextLines.{TextLine, text_of, Part, Empty, Complete, part_text, with_line, with_all, IsPart, CannotFollow}
 use Rattle.certificate.specs.Prefixes.{GoesOn, EndsLines, IsNoText}
 use Rattle.certificate.proofs.Parts.{all_text, whole_line, ends_lines}
@@ -116,13 +116,13 @@ lines_left_over o start part end (line ∷ lines) (first ∷ all) more small f g
     lines_left_over o a.0 part end lines all more (small_still o start a.0 line small a.1) a.2 (subst (λ (p : Part). with_all o p all ≡ Some end) next b.2) cut.1
 
 -- .. of a certificate's text
-certificate_left : (o : Ontology) (part : Part) (more : List ℕ) → IsPart o part → (c : Certificate) → IsTextOf o (part_text part ++ more) c
-    → (others : List TextLine) × (with_all o part others ≡ Some (Complete c)) × (flat_map text_of others ≡ more)
-certificate_left o part more is c t =
-    let all : with_all o Empty (lines_of c) ≡ Some (Complete c) = certificate_lines o c t.has_text in
-    let whole : certificate_text c ≡ flat_map text_of (lines_of c) = all_text o Empty (Complete c) (lines_of c) all in
+certificate_left : (o : Ontology) (part : Part) (more : List ℕ) → IsPart o part → (format : Format) (c : Certificate) → IsTextOf o format (part_text part ++ more) c
+    → (others : List TextLine) × (with_all o part others ≡ Some (Complete format c)) × (flat_map text_of others ≡ more)
+certificate_left o part more is format c t =
+    let all : with_all o Empty (lines_of format c) ≡ Some (Complete format c) = certificate_lines o format c t.has_text in
+    let whole : certificate_text format c ≡ flat_map text_of (lines_of format c) = all_text o Empty (Complete format c) (lines_of format c) all in
     let front : part_text part ≡ flat_map text_of is.0 = all_text o Empty part is.0 is.1 in
-    lines_left_over o Empty part (Complete c) is.0 (lines_of c) more tt is.1 all (sym whole ∙ sym t.spelled ∙ ap (λ (s : List ℕ). s ++ more) front)
+    lines_left_over o Empty part (Complete format c) is.0 (lines_of format c) more tt is.1 all (sym whole ∙ sym t.spelled ∙ ap (λ (s : List ℕ). s ++ more) front)
 
 no_next : (o : Ontology) (part end : Part) (bytes rest : List ℕ) (others : List TextLine) → IsWholeLine bytes → CannotFollow o part bytes
     → with_all o part others ≡ Some end → flat_map text_of others ≡ bytes ++ rest → ⊥
@@ -134,23 +134,23 @@ no_next o part end bytes rest (line ∷ others) whole cannot f e =
 
 -- no certificate's text goes on with a line that cannot follow
 pub cannot_go_on : (o : Ontology) (part : Part) (bytes rest : List ℕ) → IsPart o part → IsWholeLine bytes → CannotFollow o part bytes
-    → (c : Certificate) → IsTextOf o (part_text part ++ bytes ++ rest) c → ⊥
+    → (c : Certificate) → IsSomeTextOf o (part_text part ++ bytes ++ rest) c → ⊥
 cannot_go_on o part bytes rest is whole cannot c t =
-    let t' = subst (λ (s : List ℕ). IsTextOf o s c) (append_assoc (part_text part) bytes rest) t in
-    let left = certificate_left o part (bytes ++ rest) is c t' in
-    no_next o part (Complete c) bytes rest left.0 whole cannot left.1 left.2
+    let t' = subst (λ (s : List ℕ). IsTextOf o t.0 s c) (append_assoc (part_text part) bytes rest) t.1 in
+    let left = certificate_left o part (bytes ++ rest) is t.0 c t' in
+    no_next o part (Complete t.0 c) bytes rest left.0 whole cannot left.1 left.2
 
-no_end : (o : Ontology) (part : Part) (piece : List ℕ) (c : Certificate) (others : List TextLine) → (Contains piece 10 → ⊥) → ((c : Certificate) → part ≡ Complete c → piece ≡ [] → ⊥)
-    → with_all o part others ≡ Some (Complete c) → flat_map text_of others ≡ piece → ⊥
-no_end o part piece c [] none unfinished f e = unfinished c (same_Some part (Complete c) f) (sym e)
-no_end o part piece c (line ∷ others) none unfinished f e = line_not_within (text_of line) (flat_map text_of others) piece (whole_line line) none e
+no_end : (o : Ontology) (part : Part) (piece : List ℕ) (format : Format) (c : Certificate) (others : List TextLine) → (Contains piece 10 → ⊥)
+    → ((format : Format) (c : Certificate) → part ≡ Complete format c → piece ≡ [] → ⊥) → with_all o part others ≡ Some (Complete format c) → flat_map text_of others ≡ piece → ⊥
+no_end o part piece format c [] none unfinished f e = unfinished format c (same_Some part (Complete format c) f) (sym e)
+no_end o part piece format c (line ∷ others) none unfinished f e = line_not_within (text_of line) (flat_map text_of others) piece (whole_line line) none e
 
 -- nor ends in a piece of a line, nor before its last line
-pub no_piece : (o : Ontology) (part : Part) (piece : List ℕ) → IsPart o part → (Contains piece 10 → ⊥) → ((c : Certificate) → part ≡ Complete c → piece ≡ [] → ⊥)
-    → (c : Certificate) → IsTextOf o (part_text part ++ piece) c → ⊥
+pub no_piece : (o : Ontology) (part : Part) (piece : List ℕ) → IsPart o part → (Contains piece 10 → ⊥) → ((format : Format) (c : Certificate) → part ≡ Complete format c → piece ≡ [] → ⊥)
+    → (c : Certificate) → IsSomeTextOf o (part_text part ++ piece) c → ⊥
 no_piece o part piece is none unfinished c t =
-    let left = certificate_left o part piece is c t in
-    no_end o part piece c left.0 none unfinished left.1 left.2
+    let left = certificate_left o part piece is t.0 c t.1 in
+    no_end o part piece t.0 c left.0 none unfinished left.1 left.2
 
 -- ---- the longest run of lines that goes on
 
@@ -161,7 +161,7 @@ longest_before o part bytes rest is whole cannot (b ∷ more) behind e ends g =
     let p = begins_with_line bytes rest (b ∷ more) behind whole (more_has_line_feed (part_text part) b more ends) e in
     let longer : (part_text part ++ b ∷ more) ++ g.0 ≡ (part_text part ++ bytes) ++ (p.0 ++ g.0) =
     ap (λ (s : List ℕ). (part_text part ++ s) ++ g.0) p.1 ∙ ap (λ (s : List ℕ). s ++ g.0) (sym (append_assoc (part_text part) bytes p.0)) ∙ append_assoc (part_text part ++ bytes) p.0 g.0 in
-    absurd (cannot_go_on o part bytes (p.0 ++ g.0) is whole cannot g.1 (subst (λ (s : List ℕ). IsTextOf o s g.1) longer g.2))
+    absurd (cannot_go_on o part bytes (p.0 ++ g.0) is whole cannot g.1 (subst (λ (s : List ℕ). IsSomeTextOf o s g.1) longer g.2))
 
 -- the text ends for good at a line that cannot follow
 pub no_text_early : (o : Ontology) (part : Part) (bytes rest : List ℕ) → length o.names.individuals ≤ 2 ^ 32 → IsPart o part → IsWholeLine bytes → CannotFollow o part bytes
@@ -186,7 +186,7 @@ longest_at_end part piece none (b ∷ more) behind e ends =
 
 -- .. and where a piece is left, or the last line is missing
 pub no_text_at_end : (o : Ontology) (part : Part) (piece : List ℕ) → length o.names.individuals ≤ 2 ^ 32 → IsPart o part → (Contains piece 10 → ⊥)
-    → ((c : Certificate) → part ≡ Complete c → piece ≡ [] → ⊥) → IsNoText o (part_text part ++ piece) (length (part_text part))
+    → ((format : Format) (c : Certificate) → part ≡ Complete format c → piece ≡ [] → ⊥) → IsNoText o (part_text part ++ piece) (length (part_text part))
 no_text_at_end o part piece few is none unfinished = record {
   run = record {
     lines = part_text part;
@@ -199,3 +199,28 @@ no_text_at_end o part piece few is none unfinished = record {
   };
   none = no_piece o part piece is none unfinished;
 }
+
+-- ---- a text is that of one certificate, in one format
+
+format_in : (p q : Format × Certificate) → Complete p.0 p.1 ≡ Complete q.0 q.1 → p ≡ q
+format_in p q e = ap as_pair e
+  where
+    as_pair : Part → Format × Certificate
+    as_pair (Complete format c) = (format, c)
+    as_pair _ = p
+
+pub same_certificate : (o : Ontology) (f g : Format) (bytes : List ℕ) (c d : Certificate) → IsTextOf o f bytes c → IsTextOf o g bytes d → (f ≡ g) × (c ≡ d)
+same_certificate o f g bytes c d t u =
+    let all : with_all o Empty (lines_of f c) ≡ Some (Complete f c) = certificate_lines o f c t.has_text in
+    let whole : certificate_text f c ≡ flat_map text_of (lines_of f c) = all_text o Empty (Complete f c) (lines_of f c) all in
+    let again : bytes ≡ part_text (Complete f c) ++ [] = t.spelled ∙ sym (append-nil (certificate_text f c)) in
+    let left = certificate_left o (Complete f c) [] (lines_of f c, all) g d (subst (λ (s : List ℕ). IsTextOf o g s d) again u) in
+    let same : ◌≡◌ {A = Format × Certificate} (f, c) (g, d) = none_behind left.0 left.1 left.2 in
+    (ap (λ (p : Format × Certificate). p.0) same, ap (λ (p : Format × Certificate). p.1) same)
+  where
+    none_behind : (others : List TextLine) → with_all o (Complete f c) others ≡ Some (Complete g d) → flat_map text_of others ≡ [] → ◌≡◌ {A = Format × Certificate} (f, c) (g, d)
+    none_behind [] h e = format_in (f, c) (g, d) (same_Some (Complete f c) (Complete g d) h)
+    none_behind (line ∷ others) h e = absurd (line_not_none (text_of line) (flat_map text_of others) (whole_line line) e)
+
+pub same_some_certificate : (o : Ontology) (bytes : List ℕ) (c d : Certificate) → IsSomeTextOf o bytes c → IsSomeTextOf o bytes d → c ≡ d
+same_some_certificate o bytes c d t u = (same_certificate o t.0 u.0 bytes c d t.1 u.1).1

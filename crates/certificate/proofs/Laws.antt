@@ -3,7 +3,6 @@ use Rattle.std.proofs.Common.{◌≡◌, ℕ, Bool, true, cond, List, ◌++◌, 
 use Rattle.std.proofs.lemmas.Option.{none-some, same_Some}
 use Rattle.lemmas.proofs.Choices.{passed}
 use Rattle.certificate.specs.Reading.{Reader, ◌>>=◌, after, behind, both, such, made, by_word, ended}
-use Rattle.certificate.specs.ListedReading.{in_turn}
 use Rattle.certificate.proofs.Words.{after_takes, after_again}
 
 -- The reader reads just the texts of valid values. MayFollow says before which bytes it reads no further than the text.
@@ -140,23 +139,3 @@ pub by_word_reads : {A L R : Type 0} (F : List ℕ → Type 0) (V : L → Type 0
 by_word_reads {A} {L} {R} F V W s u t r q word f g h k left right other =
     by_word_else F V (λ a. (y : R) × (g y ≡ a) × W y) s t r (made g q) word f h (made_reads F W u t q g k (λ y w. right y)) left
     (λ a rest w i. subst (λ b. after word (t b ++ rest) ≡ None) w.1 (ap (λ (z : List ℕ). after word (z ++ rest)) (sym (right w.0)) ∙ other w.0 rest w.2 i))
-
--- ---- a reader that depends on the value before it
-
-pub in_turn_reads : {A B : Type 0} (F G : List ℕ → Type 0) (V : A → Type 0) (W : A → B → Type 0) (t : A → List ℕ) (u : B → List ℕ) (r : Reader A) (q : A → Reader B) → Reads F V t r → ((x : A) → V x → Reads G (W x) u (q x))
-    → ((x : A) (y : B) (rest : List ℕ) → W x y → G rest → F (u y ++ rest)) → Reads G (λ (p : A × B). V p.0 × W p.0 p.1) (λ p. t p.0 ++ u p.1) (in_turn r q)
-in_turn_reads {A} {B} F G V W t u r q h k follows = record {
-  takes = λ bytes p rest e.
-      let a = bind_some (r bytes) (λ x. q x.0 x.1 >>= λ y. Some ((x.0, y.0), y.1)) (p, rest) e in
-      let b = bind_some (q a.0.0 a.0.1) (λ y. Some ((a.0.0, y.0), y.1)) (p, rest) a.2 in
-      let first = h.takes bytes a.0.0 a.0.1 a.1 in
-      let second = (k a.0.0 first.1).takes a.0.1 b.0.0 b.0.1 b.1 in
-      let made : (A × B) × List ℕ = ((a.0.0, b.0.0), b.0.1) in
-      let e' : made ≡ (p, rest) = same_Some _ _ b.2 in
-      subst (λ (m : (A × B) × List ℕ). (bytes ≡ (t m.0.0 ++ u m.0.1) ++ m.1) × (V m.0.0 × W m.0.0 m.0.1)) e'
-      (first.0 ∙ ap (λ (s : List ℕ). t a.0.0 ++ s) second.0 ∙ sym (append_assoc (t a.0.0) (u b.0.0) b.0.1), (first.1, second.1));
-  again = λ p rest v g.
-      ap (in_turn r q) (append_assoc (t p.0) (u p.1) rest)
-      ∙ ap (λ o. o >>= λ x. q x.0 x.1 >>= λ y. Some ((x.0, y.0), y.1)) (h.again p.0 (u p.1 ++ rest) v.0 (follows p.0 p.1 rest v.1 g))
-      ∙ ap (λ o. o >>= λ y. Some ((p.0, y.0), y.1)) ((k p.0 v.0).again p.1 rest v.1 g);
-}

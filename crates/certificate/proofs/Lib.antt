@@ -1,10 +1,15 @@
 pub mod Words
 pub mod Decimals
+pub mod Runs
+pub mod WrittenLines
+pub mod Earlier
 pub mod Laws
 pub mod Many
 pub mod Derivations
+pub mod HeldRows
 pub mod Individuals
 pub mod RowLaws
+pub mod RunReading
 pub mod Whole
 pub mod Every
 pub mod Ordered
@@ -26,6 +31,7 @@ pub mod Completion
 pub mod LineKinds
 pub mod Following
 pub mod SourceStates
+pub mod Stepwise
 pub mod Progress
 pub mod ReaderSteps
 pub mod WholeText

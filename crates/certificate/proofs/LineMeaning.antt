@@ -82,7 +82,7 @@ IsPremise n = (1 ≤ n) × (n < 2 ^ 64)
 pub premise_means : (n : ℕ) → is_premise n ≡ true → IsPremise n
 premise_means n t = let p = and_parts (leb 1 n) (ltb n (2 ^ 64)) t in (leb-true 1 n p.0, ltb-true n (2 ^ 64) p.1)
 
-premise_tests : (n : ℕ) → IsPremise n → is_premise n ≡ true
+pub premise_tests : (n : ℕ) → IsPremise n → is_premise n ≡ true
 premise_tests n h = and_from (leb 1 n) (ltb n (2 ^ 64)) (le-leb 1 n h.0) (lt-ltb n (2 ^ 64) h.1)
 
 premises_fit : (last : Option ℕ) (ns : List ℕ) → AllByRecursion IsPremise ns → Chain (λ (last : Option ℕ). IsNumber) last ns

@@ -1,15 +1,13 @@
--- The tests of a certificate pass exactly where it has a text, and reading finds exactly the certificate of a text.
-use Rattle.std.proofs.Common.{◌≡◌, ℕ, ◌+◌, ◌^◌, ◌<◌, ◌≤◌, Bool, true, eqb, ltb, leb, ◌&&◌, List, [], ◌∷◌, ◌++◌, length, map, Option, Some, None, refl, sym, ap, ◌∙◌, arith}
+-- The tests of a certificate pass exactly where it has a text.
+use Rattle.std.proofs.Common.{◌≡◌, ℕ, ◌+◌, ◌^◌, ◌<◌, ◌≤◌, Bool, true, eqb, ltb, leb, ◌&&◌, List, [], ◌∷◌, ◌++◌, length, map, Option, Some, None, refl, arith}
 use Rattle.std.specs.Prelude.{IfSome}
 use Rattle.std.specs.List.{AllByRecursion, list_all, flat_map, enumerate_from}
 use Rattle.std.proofs.lemmas.Bool.{ltb-true, lt-ltb, leb-true, le-leb, eqb-true, eq-eqb, and_parts, and_from}
 use Rattle.std.proofs.lemmas.List.Elements.{All-from_recursion, recursion_from_All}
-use Rattle.std.proofs.lemmas.Option.{same_Some}
 use Rattle.axioms.specs.Ontology.{Ontology}
-use Rattle.certificate.specs.Certificate.{Line, Listed, Certificate}
-use Rattle.certificate.specs.Writability.{IsLineOf, IsListedOf, line_numbers, listed_numbers, certificate_numbers, HasText, IsTextOf}
+use Rattle.certificate.specs.Certificate.{Line, Listed, Certificate, Format, One}
+use Rattle.certificate.specs.Writability.{IsLineOf, IsListedOf, line_numbers, listed_numbers, certificate_numbers, HasNumbers, HasText}
 use Rattle.certificate.specs.Tests.{is_small, fits_line, fits_class, fits_pairs, fits_claim, fits_domain, fit_individuals, fits_listed, fits_option, fits_certificate, fit_classes, fit_pairs, fit_claims, key, pair_key}
-use Rattle.certificate.specs.ListedReading.{whole}
 use Rattle.certificate.proofs.Every.{every_append, every_left, every_right, every_flat, every_from_flat, every_map, every_from_map, every_both, every_weaker, every_passes, passes_every}
 use Rattle.certificate.proofs.Ordered.{chain_from_test, test_from_chain, chain_each, chain_ascends, chain_made, first_made}
 use Rattle.certificate.proofs.LineMeaning.{IsPremise, IsWritable, line_means, line_tests}
@@ -17,7 +15,7 @@ use Rattle.certificate.proofs.RowMeaning.{IsClassOf, class_parts, class_means, c
 use Rattle.certificate.proofs.Many.{Chain}
 use Rattle.certificate.proofs.Derivations.{IsSmall}
 use Rattle.certificate.proofs.RowLaws.{IsElementOf, AreElementsOfAll, FitsClassAfter, FitsPairsAfter, FitsClaimAfter}
-use Rattle.certificate.proofs.Whole.{FitsLineOf, FitsListed, FitsCertificate, whole_takes, whole_again}
+use Rattle.certificate.proofs.Whole.{FitsLineOf, FitsListed, FitsCertificate}
 
 -- ---- the listed interpretation
 
@@ -198,8 +196,8 @@ HasPremises line = AllByRecursion IsPremise line.premises
 abbrev HasSmall : Line → Type 0
 HasSmall line = AllByRecursion IsSmall (line_numbers line)
 
-pub has_text : (o : Ontology) (c : Certificate) → fits_certificate o c ≡ true → HasText o c
-has_text o c t =
+pub has_text : (o : Ontology) (format : Format) (c : Certificate) → fits_certificate o c ≡ true → HasNumbers format c.lines → HasText o format c
+has_text o format c t written =
     let p = and_parts (list_all (fits_line o) c.lines) (fits_option o c.listed) t in
     let lines : AllByRecursion (IsWritable o) c.lines = every_weaker (λ line. fits_line o line ≡ true) (IsWritable o) (line_means o) c.lines (every_passes (fits_line o) c.lines p.0) in
     let listed = option_means o c.listed p.1 in
@@ -209,6 +207,7 @@ has_text o c t =
       premises = All-from_recursion _ c.lines (every_weaker (IsWritable o) _ (λ line w. All-from_recursion IsPremise line.premises w.premises) c.lines lines);
       numbers = All-from_recursion IsSmall (certificate_numbers c)
           (every_append IsSmall (flat_map line_numbers c.lines) (listed_numbers c.listed) (every_flat IsSmall line_numbers c.lines (every_weaker (IsWritable o) HasSmall (λ line w. w.small) c.lines lines)) listed.1);
+      written = written;
     }
 
 writable : (o : Ontology) (lines : List Line) → AllByRecursion (IsLineOf o) lines → AllByRecursion HasPremises lines → AllByRecursion HasSmall lines → (last : Option Line) → Chain (FitsLineOf o) last lines
@@ -218,8 +217,8 @@ writable o (line ∷ lines) within premises small last = (
   writable o lines within.1 premises.1 small.1 (Some line),
 )
 
-certificate_fits : (o : Ontology) (c : Certificate) → HasText o c → FitsCertificate o c
-certificate_fits o c h =
+certificate_fits : (o : Ontology) (format : Format) (c : Certificate) → HasText o format c → FitsCertificate o c
+certificate_fits o format c h =
     let numbers = recursion_from_All IsSmall (certificate_numbers c) h.numbers in
     let small = every_from_flat IsSmall line_numbers c.lines (every_left IsSmall (flat_map line_numbers c.lines) (listed_numbers c.listed) numbers) in
     let premises = every_weaker _ HasPremises (λ line p. recursion_from_All IsPremise line.premises p) c.lines (recursion_from_All _ c.lines h.premises) in
@@ -235,18 +234,12 @@ lines_pass o last (line ∷ lines) c = and_from (fits_line o line) (list_all (fi
 certificate_tests : (o : Ontology) (c : Certificate) → FitsCertificate o c → fits_certificate o c ≡ true
 certificate_tests o c f = and_from (list_all (fits_line o) c.lines) (fits_option o c.listed) (lines_pass o None c.lines f.lines) (option_tests o c.listed f.listed)
 
-pub text_tests : (o : Ontology) (c : Certificate) → HasText o c → fits_certificate o c ≡ true
-text_tests o c h = certificate_tests o c (certificate_fits o c h)
+pub text_tests : (o : Ontology) (format : Format) (c : Certificate) → HasText o format c → fits_certificate o c ≡ true
+text_tests o format c h = certificate_tests o c (certificate_fits o format c h)
 
--- ---- the two laws of reading
+-- a text in a format is one in format 1 with numbers for the premises
+pub in_one : (o : Ontology) (format : Format) (c : Certificate) → HasText o format c → HasText o One c
+in_one o format c h = record { lines = h.lines; listed = h.listed; premises = h.premises; numbers = h.numbers; written = tt }
 
-pub text_found : (o : Ontology) (bytes : List ℕ) (c : Certificate) → whole o bytes ≡ Some c → IsTextOf o bytes c
-text_found o bytes c e =
-    let a = whole_takes o bytes c e in
-    record { has_text = has_text o c (certificate_tests o c a.1); spelled = a.0 }
-
-pub text_read : (o : Ontology) (bytes : List ℕ) (c : Certificate) → IsTextOf o bytes c → whole o bytes ≡ Some c
-text_read o bytes c t = ap (whole o) t.spelled ∙ whole_again o c (certificate_fits o c t.has_text)
-
-pub same_certificate : (o : Ontology) (bytes : List ℕ) (c d : Certificate) → IsTextOf o bytes c → IsTextOf o bytes d → c ≡ d
-same_certificate o bytes c d t u = same_Some c d (sym (text_read o bytes c t) ∙ text_read o bytes d u)
+pub in_format : (o : Ontology) (format : Format) (c : Certificate) → HasText o One c → HasNumbers format c.lines → HasText o format c
+in_format o format c h written = record { lines = h.lines; listed = h.listed; premises = h.premises; numbers = h.numbers; written = written }

@@ -1,5 +1,5 @@
 -- Rows in order: each is tested behind the one before it.
-use Rattle.std.proofs.Common.{◌≡◌, ℕ, ◌^◌, ◌<◌, ◌≤◌, Bool, true, ltb, ◌&&◌, List, [], ◌∷◌, length, map, Option, Some, None, refl, sym, subst, arith}
+use Rattle.std.proofs.Common.{◌≡◌, ℕ, ◌^◌, ◌<◌, ◌≤◌, Bool, true, ltb, ◌&&◌, List, [], ◌∷◌, length, map, Option, Some, None, refl, sym, subst}
 use Rattle.std.specs.Prelude.{option_map}
 use Rattle.std.specs.List.{AllByRecursion}
 use Rattle.std.proofs.lemmas.Bool.{ltb-true, lt-ltb, and_parts, and_from}
@@ -8,8 +8,7 @@ use Rattle.std.proofs.lemmas.List.{map-id}
 use Rattle.certificate.specs.Writability.{Ascends, AreElements}
 use Rattle.certificate.specs.Tests.{is_after, ascend, are_elements, all_after}
 use Rattle.certificate.proofs.Many.{Chain}
-use Rattle.certificate.proofs.Derivations.{IsSmall}
-use Rattle.certificate.proofs.RowLaws.{AreSmall}
+use Rattle.certificate.proofs.RowLaws.{AreSmall, small_chain}
 
 pub chain_from_test : {A K : Type 0} (of : A → K) (test : Option K → A → Bool) (last : Option A) (xs : List A) → all_after of test (option_map of last) xs ≡ true → Chain (λ last x. test (option_map of last) x ≡ true) last xs
 chain_from_test of test last [] t = tt
@@ -70,10 +69,6 @@ elements_mean d xs t =
       within = All-from_recursion (λ x. x < d) xs (chain_each (IsNext d) (λ x. x < d) (λ last x v. v.0) None xs c);
       ascend = subst Ascends (map-id xs) (chain_ascends (IsNext d) (λ x. x) (λ x y v. ltb-true x y v.1) None xs c);
     }
-
-small_chain : (d : ℕ) (last : Option ℕ) (xs : List ℕ) → d ≤ 2 ^ 32 → AllByRecursion (λ x. x < d) xs → Chain (λ (last : Option ℕ). IsSmall) last xs
-small_chain d last [] small a = tt
-small_chain d last (x ∷ xs) small a = (omega (arith, a.0), small_chain d (Some x) xs small a.1)
 
 pub elements_test : (d : ℕ) (xs : List ℕ) → d ≤ 2 ^ 32 → AreElements d xs → AreSmall xs × (are_elements d xs ≡ true)
 elements_test d xs small h =

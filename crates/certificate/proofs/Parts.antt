@@ -11,12 +11,14 @@ use Rattle.lemmas.proofs.Choices.{passed}
 use Rattle.lemmas.proofs.Ranges.{enumerate_push}
 use Rattle.axioms.specs.Ontology.{Ontology}
 use Rattle.source_lines.specs.Lines.{IsWholeLine}
-use Rattle.certificate.specs.Certificate.{Subject, Expression, Individual, Conclusion, Sub, Edge, Same, Line, Listed}
-use Rattle.certificate.specs.Text.{line_feed, rule_number, lettered_number, spaced_numbers, subject_text, conclusion_text, axiom_text, line_text, class_text, pairs_text, individual_text, claim_text, listed_text}
-use Rattle.certificate.specs.Tests.{is_small, fits_line, fits_domain, fits_class, fits_pairs, key, pair_key}
-use Rattle.certificate.specs.TextLines.{TextLine, FirstLine, DerivedLine, DomainLine, ClassLine, PairLine, IndividualLine, ClaimLine, LastLine, first_text, text_of, Part, Empty, InLines, InRows, Complete, part_text, is_empty, last_of, no_rows, has_individuals, fits_row, with_row, with_line, with_all, IsPart}
+use Rattle.certificate.specs.Certificate.{Subject, Expression, Individual, Conclusion, Sub, Edge, Same, Line, Listed, Format, One, Two}
+use Rattle.certificate.specs.Runs.{Run, runs_of}
+use Rattle.certificate.specs.Text.{line_feed, rule_number, lettered_number, spaced_numbers, subject_text, conclusion_text, axiom_text, line_text, lines_text, written, run_text, elements_text, first_text, class_text, pairs_text, individual_text, claim_text, listed_text}
+use Rattle.certificate.specs.Tests.{is_small, fits_written, fits_domain, fits_class, fits_pairs, key, pair_key}
+use Rattle.certificate.specs.TextLines.{TextLine, FirstLine, DerivedLine, DomainLine, ClassLine, PairLine, IndividualLine, ClaimLine, LastLine, text_of, Part, Empty, InLines, InRows, Complete, part_text, is_empty, last_of, no_rows, has_individuals, fits_row, is_format, is_row_in, follows_in, next_number, with_row, with_line, with_all, IsPart}
 use Rattle.certificate.specs.Prefixes.{EndsLines}
 use Rattle.certificate.proofs.Every.{every_passes}
+use Rattle.certificate.proofs.WrittenLines.{next_text, written_back}
 
 -- ---- one line more
 
@@ -34,23 +36,42 @@ none_behind_two text row = ap (λ (s : List ℕ). s ++ []) (none_behind text row
 none_behind_three : (text row : List ℕ) → (text ++ row) ++ [] ++ [] ++ [] ≡ (text ++ [] ++ [] ++ []) ++ row
 none_behind_three text row = ap (λ (s : List ℕ). s ++ []) (none_behind_two text row) ∙ none_behind (text ++ [] ++ []) row
 
--- the row's text comes behind that of the others
-listed_grows : (o : Ontology) (l : Listed) (line : TextLine) → fits_row o l line ≡ true → listed_text (Some (with_row l line)) ≡ listed_text (Some l) ++ text_of line
-listed_grows o l (ClassLine row) t =
+pub same_format : (f g : Format) → is_format f g ≡ true → f ≡ g
+same_format One One e = refl
+same_format Two Two e = refl
+same_format One Two e = absurd (false≢true e)
+same_format Two One e = absurd (false≢true e)
+
+pub is_own : (f : Format) → is_format f f ≡ true
+is_own One = refl
+is_own Two = refl
+
+class_grows : (o : Ontology) (format : Format) (l : Listed) (row : ℕ × List ℕ) → fits_row o l (ClassLine format row) ≡ true
+    → listed_text format (Some (with_row l (ClassLine format row))) ≡ listed_text format (Some l) ++ class_text format row
+class_grows o format l row t =
     let none = is_empty l.pairs && is_empty l.individuals in
     let p = and_parts (none && is_empty l.claims) (fits_class o l.domain (key (last_of l.classes)) row) t in
     let q = and_parts none (is_empty l.claims) p.0 in
     let r = and_parts (is_empty l.pairs) (is_empty l.individuals) q.0 in
     let before = lettered_number (codes "domain ") l.domain ++ line_feed in
     rw (none_in l.pairs r.0, none_in l.individuals r.1, none_in l.claims q.1)
-    (ap (λ (s : List ℕ). s ++ [] ++ [] ++ []) (sym (flat_map_more class_text before l.classes row)) ∙ none_behind_three (before ++ flat_map class_text l.classes) (class_text row))
-listed_grows o l (PairLine row) t =
+    (ap (λ (s : List ℕ). s ++ [] ++ [] ++ []) (sym (flat_map_more (class_text format) before l.classes row)) ∙ none_behind_three (before ++ flat_map (class_text format) l.classes) (class_text format row))
+
+pairs_grow : (o : Ontology) (format : Format) (l : Listed) (row : ℕ × ℕ × List ℕ) → fits_row o l (PairLine format row) ≡ true
+    → listed_text format (Some (with_row l (PairLine format row))) ≡ listed_text format (Some l) ++ pairs_text format row
+pairs_grow o format l row t =
     let p = and_parts (is_empty l.individuals && is_empty l.claims) (fits_pairs o l.domain (pair_key (last_of l.pairs)) row) t in
     let q = and_parts (is_empty l.individuals) (is_empty l.claims) p.0 in
-    let before = lettered_number (codes "domain ") l.domain ++ line_feed ++ flat_map class_text l.classes in
+    let before = lettered_number (codes "domain ") l.domain ++ line_feed ++ flat_map (class_text format) l.classes in
     rw (none_in l.individuals q.0, none_in l.claims q.1)
-    (ap (λ (s : List ℕ). s ++ [] ++ []) (sym (flat_map_more pairs_text before l.pairs row)) ∙ none_behind_two (before ++ flat_map pairs_text l.pairs) (pairs_text row))
-listed_grows o l (IndividualLine number element) t =
+    (ap (λ (s : List ℕ). s ++ [] ++ []) (sym (flat_map_more (pairs_text format) before l.pairs row)) ∙ none_behind_two (before ++ flat_map (pairs_text format) l.pairs) (pairs_text format row))
+
+-- the row's text comes behind that of the others
+listed_grows : (o : Ontology) (format : Format) (l : Listed) (line : TextLine) → fits_row o l line ≡ true → is_row_in format line ≡ true
+    → listed_text format (Some (with_row l line)) ≡ listed_text format (Some l) ++ text_of line
+listed_grows o format l (ClassLine f row) t w = class_grows o format l row t ∙ ap (λ (f : Format). listed_text format (Some l) ++ class_text f row) (same_format format f w)
+listed_grows o format l (PairLine f row) t w = pairs_grow o format l row t ∙ ap (λ (f : Format). listed_text format (Some l) ++ pairs_text f row) (same_format format f w)
+listed_grows o format l (IndividualLine number element) t w =
     let none = is_empty l.claims in
     let first = none && eqb number (length l.individuals) in
     let within = ltb number (length o.names.individuals) in
@@ -59,48 +80,58 @@ listed_grows o l (IndividualLine number element) t =
     let r = and_parts first within q.0 in
     let s = and_parts none (eqb number (length l.individuals)) r.0 in
     let same : 0 + length l.individuals ≡ number = omega (arith, eqb-true number (length l.individuals) s.1) in
-    let before = lettered_number (codes "domain ") l.domain ++ line_feed ++ flat_map class_text l.classes ++ flat_map pairs_text l.pairs in
+    let before = lettered_number (codes "domain ") l.domain ++ line_feed ++ flat_map (class_text format) l.classes ++ flat_map (pairs_text format) l.pairs in
     let numbered : enumerate_from 0 (l.individuals ++ element ∷ []) ≡ enumerate_from 0 l.individuals ++ (number, element) ∷ [] =
     enumerate_push 0 l.individuals element ∙ ap (λ (n : ℕ). enumerate_from 0 l.individuals ++ (n, element) ∷ []) same in
     rw (none_in l.claims s.0, numbered)
     (ap (λ (s : List ℕ). s ++ []) (sym (flat_map_more individual_text before (enumerate_from 0 l.individuals) (number, element))) ∙ none_behind (before ++ flat_map individual_text (enumerate_from 0 l.individuals)) (individual_text (number, element)))
-listed_grows o l (ClaimLine claim) t =
+listed_grows o format l (ClaimLine claim) t w =
     let before =
-    lettered_number (codes "domain ") l.domain ++ line_feed ++ flat_map class_text l.classes ++ flat_map pairs_text l.pairs ++ flat_map individual_text (enumerate_from 0 l.individuals) in
+    lettered_number (codes "domain ") l.domain ++ line_feed ++ flat_map (class_text format) l.classes ++ flat_map (pairs_text format) l.pairs ++ flat_map individual_text (enumerate_from 0 l.individuals) in
     sym (flat_map_more claim_text before l.claims claim)
-listed_grows o l _ t = absurd (false≢true t)
+listed_grows o format l _ t w = absurd (false≢true t)
 
 -- .. and behind the lines of the derivation
-row_grows : (o : Ontology) (lines : List Line) (l : Listed) (next : Part) (line : TextLine) → (if fits_row o l line then Some (InRows lines (with_row l line)) else None) ≡ Some next
-    → part_text next ≡ part_text (InRows lines l) ++ text_of line
-row_grows o lines l next line e =
-    let p = passed (fits_row o l line) (Some (InRows lines (with_row l line))) next e in
-    let before = first_text true ++ flat_map line_text lines in
-    sym (ap part_text (same_Some (InRows lines (with_row l line)) next p.1)) ∙ ap (λ (s : List ℕ). before ++ s) (listed_grows o l line p.0)
-    ∙ sym (append_assoc before (listed_text (Some l)) (text_of line))
+row_grows : (o : Ontology) (format : Format) (lines : List Line) (l : Listed) (next : Part) (line : TextLine)
+    → (if follows_in o format l line then Some (InRows format lines (with_row l line)) else None) ≡ Some next → part_text next ≡ part_text (InRows format lines l) ++ text_of line
+row_grows o format lines l next line e =
+    let p = passed (follows_in o format l line) (Some (InRows format lines (with_row l line))) next e in
+    let q = and_parts (fits_row o l line) (is_row_in format line) p.0 in
+    let before = first_text format true ++ lines_text format 1 lines in
+    sym (ap part_text (same_Some (InRows format lines (with_row l line)) next p.1)) ∙ ap (λ (s : List ℕ). before ++ s) (listed_grows o format l line q.0 q.1)
+    ∙ sym (append_assoc before (listed_text format (Some l)) (text_of line))
+
+-- no lines of the derivation yet
+none_yet : (format : Format) (is_consistent : Bool) → first_text format is_consistent ++ lines_text format 1 [] ≡ first_text format is_consistent
+none_yet One is_consistent = append-nil (first_text One is_consistent)
+none_yet Two is_consistent = append-nil (first_text Two is_consistent)
 
 pub part_grows : (o : Ontology) (part next : Part) (line : TextLine) → with_line o part line ≡ Some next → part_text next ≡ part_text part ++ text_of line
-part_grows o Empty next (FirstLine is_consistent) e = sym (ap part_text (same_Some (InLines is_consistent []) next e)) ∙ append-nil (first_text is_consistent)
+part_grows o Empty next (FirstLine format is_consistent) e = sym (ap part_text (same_Some (InLines format is_consistent []) next e)) ∙ none_yet format is_consistent
 part_grows o Empty next _ e = absurd (none-some next e)
-part_grows o (InLines is_consistent lines) next (DerivedLine line) e =
-    let p = passed (fits_line o line) (Some (InLines is_consistent (lines ++ line ∷ []))) next e in
-    sym (ap part_text (same_Some _ next p.1)) ∙ sym (flat_map_more line_text (first_text is_consistent) lines line)
-part_grows o (InLines true lines) next (DomainLine domain) e =
-    let p = passed (fits_domain domain) (Some (InRows lines (no_rows domain))) next e in
+part_grows o (InLines format is_consistent lines) next (DerivedLine line) e =
+    let n = next_number lines in
+    let read = written format n line in
+    let p = passed (fits_written o format n line) (Some (InLines format is_consistent (lines ++ read ∷ []))) next e in
+    let first = first_text format is_consistent in
+    let again : lines_text format 1 (lines ++ read ∷ []) ≡ lines_text format 1 lines ++ line_text line = next_text format lines read ∙ ap (λ (l : Line). lines_text format 1 lines ++ line_text l) (written_back o format n line p.0) in
+    sym (ap part_text (same_Some _ next p.1)) ∙ ap (λ (s : List ℕ). first ++ s) again ∙ sym (append_assoc first (lines_text format 1 lines) (line_text line))
+part_grows o (InLines format true lines) next (DomainLine domain) e =
+    let p = passed (fits_domain domain) (Some (InRows format lines (no_rows domain))) next e in
     let row = lettered_number (codes "domain ") domain ++ line_feed in
     let same : row ++ [] ++ [] ++ [] ++ [] ≡ row = append-nil (row ++ [] ++ [] ++ []) ∙ append-nil (row ++ [] ++ []) ∙ append-nil (row ++ []) ∙ append-nil row in
-    sym (ap part_text (same_Some _ next p.1)) ∙ ap (λ (s : List ℕ). first_text true ++ flat_map line_text lines ++ s) same
-part_grows o (InLines true lines) next _ e = absurd (none-some next e)
-part_grows o (InLines false lines) next LastLine e =
-    let before = first_text false ++ flat_map line_text lines in
+    sym (ap part_text (same_Some _ next p.1)) ∙ ap (λ (s : List ℕ). first_text format true ++ lines_text format 1 lines ++ s) same
+part_grows o (InLines format true lines) next _ e = absurd (none-some next e)
+part_grows o (InLines format false lines) next LastLine e =
+    let before = first_text format false ++ lines_text format 1 lines in
     sym (ap part_text (same_Some _ next e)) ∙ ap (λ (s : List ℕ). s ++ codes "end" ++ line_feed) (append-nil before) ∙ append_assoc before (codes "end") line_feed
-part_grows o (InLines false lines) next _ e = absurd (none-some next e)
-part_grows o (InRows lines listed) next LastLine e =
-    let p = passed (has_individuals o listed) (Some (Complete (record { lines = lines; listed = Some listed }))) next e in
-    let before = first_text true ++ flat_map line_text lines ++ listed_text (Some listed) in
+part_grows o (InLines format false lines) next _ e = absurd (none-some next e)
+part_grows o (InRows format lines listed) next LastLine e =
+    let p = passed (has_individuals o listed) (Some (Complete format (record { lines = lines; listed = Some listed }))) next e in
+    let before = first_text format true ++ lines_text format 1 lines ++ listed_text format (Some listed) in
     sym (ap part_text (same_Some _ next p.1)) ∙ append_assoc before (codes "end") line_feed
-part_grows o (InRows lines listed) next line e = row_grows o lines listed next line e
-part_grows o (Complete c) next line e = absurd (none-some next e)
+part_grows o (InRows format lines listed) next line e = row_grows o format lines listed next line e
+part_grows o (Complete format c) next line e = absurd (none-some next e)
 
 -- ---- all lines
 
@@ -212,6 +243,17 @@ unended_axiom (Some n) = unended_lettered (codes " a") n refl
 unended_row : (letter : List ℕ) (n : ℕ) (ns : List ℕ) → Unended letter → Unended (lettered_number letter n ++ spaced_numbers ns)
 unended_row letter n ns h = unended_append (lettered_number letter n) (spaced_numbers ns) (unended_lettered letter n h) (unended_spaced ns)
 
+unended_run : (run : Run) → Unended (run_text run)
+unended_run run = unended_append (codes " ") (if eqb run.first run.last then decimal run.first else decimal run.first ++ codes "-" ++ decimal run.last) refl (go (eqb run.first run.last))
+  where
+    go : (one : Bool) → Unended (if one then decimal run.first else decimal run.first ++ codes "-" ++ decimal run.last)
+    go true = unended_decimal run.first
+    go false = unended_append (decimal run.first ++ codes "-") (decimal run.last) (unended_append (decimal run.first) (codes "-") (unended_decimal run.first) refl) (unended_decimal run.last)
+
+unended_elements : (format : Format) (xs : List ℕ) → Unended (elements_text format xs)
+unended_elements One xs = unended_spaced xs
+unended_elements Two xs = unended_flat run_text (runs_of xs) unended_run
+
 unended_has : (bytes : List ℕ) → Unended bytes → Contains bytes 10 → ⊥
 unended_has bytes h c =
     let all = All-from_recursion (λ b. no_feed b ≡ true) bytes (every_passes no_feed bytes h) in
@@ -221,8 +263,10 @@ whole_from : (front : List ℕ) → Unended front → IsWholeLine (front ++ line
 whole_from front h = record { front = front; ended = refl; single = unended_has front h }
 
 pub whole_line : (line : TextLine) → IsWholeLine (text_of line)
-whole_line (FirstLine true) = whole_from (codes "elcert 1 consistent") refl
-whole_line (FirstLine false) = whole_from (codes "elcert 1 inconsistent") refl
+whole_line (FirstLine One true) = whole_from (codes "elcert 1 consistent") refl
+whole_line (FirstLine One false) = whole_from (codes "elcert 1 inconsistent") refl
+whole_line (FirstLine Two true) = whole_from (codes "elcert 2 consistent") refl
+whole_line (FirstLine Two false) = whole_from (codes "elcert 2 inconsistent") refl
 whole_line (DerivedLine line) =
     let conclusion = conclusion_text line.conclusion in
     let rule = lettered_number (codes " K") (rule_number line.rule) in
@@ -233,8 +277,14 @@ whole_line (DerivedLine line) =
     (unended_axiom line.axiom'))
     (unended_spaced line.premises))
 whole_line (DomainLine domain) = whole_from (lettered_number (codes "domain ") domain) (unended_lettered (codes "domain ") domain refl)
-whole_line (ClassLine row) = whole_from (lettered_number (codes "class e") row.0 ++ spaced_numbers row.1) (unended_row (codes "class e") row.0 row.1 refl)
-whole_line (PairLine row) = whole_from (lettered_number (codes "succ p") row.0 ++ spaced_numbers (row.1 ∷ row.2)) (unended_row (codes "succ p") row.0 (row.1 ∷ row.2) refl)
+whole_line (ClassLine format row) =
+    let first = lettered_number (codes "class e") row.0 in
+    whole_from (first ++ elements_text format row.1) (unended_append first (elements_text format row.1) (unended_lettered (codes "class e") row.0 refl) (unended_elements format row.1))
+whole_line (PairLine format row) =
+    let first = lettered_number (codes "succ p") row.0 in
+    let second = lettered_number (codes " ") row.1 ++ elements_text format row.2 in
+    whole_from (first ++ second) (unended_append first second (unended_lettered (codes "succ p") row.0 refl)
+    (unended_append (lettered_number (codes " ") row.1) (elements_text format row.2) (unended_lettered (codes " ") row.1 refl) (unended_elements format row.2)))
 whole_line (IndividualLine number element) = whole_from (lettered_number (codes "ind i") number ++ spaced_numbers (element ∷ [])) (unended_row (codes "ind i") number (element ∷ []) refl)
 whole_line (ClaimLine claim) = whole_from (lettered_number (codes "claim e") claim.0 ++ spaced_numbers (claim.1 ∷ [])) (unended_row (codes "claim e") claim.0 (claim.1 ∷ []) refl)
 whole_line LastLine = whole_from (codes "end") refl

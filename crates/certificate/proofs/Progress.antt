@@ -7,7 +7,7 @@ use Rattle.axioms.specs.Ontology.{Ontology}
 use Rattle.device.specs.Device.{HasFailed}
 use Rattle.source_lines.specs.Sources.{SourceState}
 use Rattle.source_lines.specs.Lines.{IsReady, IsWholeLine}
-use Rattle.certificate.specs.Certificate.{Certificate}
+use Rattle.certificate.specs.Certificate.{Certificate, Format}
 use Rattle.certificate.specs.Text.{certificate_text}
 use Rattle.certificate.specs.Prefixes.{IsNoText}
 use Rattle.certificate.specs.TextLines.{TextLine, Part, Empty, Complete, part_text, IsPart, Follows, CannotFollow}
@@ -74,7 +74,7 @@ stops start part next line old before after Io b h f g =
 -- the line at hand cannot follow, and the part is not a whole certificate with nothing at hand
 pub no_text : (start : SourceState) (part : Part) (old : Reading) (now : SourceState)
     → IsBounded old.ontology → HasRead start part old now → CannotFollow old.ontology part old.hand.line
-    → ((c : Certificate) → part ≡ Complete c → old.hand.line ≡ [] → ⊥) → GivesNoText old.ontology start now old.at
+    → ((format : Format) (c : Certificate) → part ≡ Complete format c → old.hand.line ≡ [] → ⊥) → GivesNoText old.ontology start now old.at
 no_text start part old now b h cannot incomplete = record {
   taken = h.read;
   given = h.given;
@@ -102,20 +102,23 @@ no_text start part old now b h cannot incomplete = record {
         (no_text_at_end old.ontology part old.hand.line (few b) h.is_part unended incomplete))
 
 -- a whole certificate with nothing at hand is what was read
-pub read_whole : (start : SourceState) (c : Certificate) (old : Reading) (now : SourceState)
-    → HasRead start (Complete c) old now → old.hand.line ≡ [] → IsReadAs old.ontology start now c
-read_whole start c old now h none =
+pub read_whole : (start : SourceState) (format : Format) (c : Certificate) (old : Reading) (now : SourceState)
+    → HasRead start (Complete format c) old now → old.hand.line ≡ [] → IsReadAs old.ontology start now c
+read_whole start format c old now h none =
     let ready = at_end h.ready in record {
       taken = h.read;
       given = h.given;
       unfailed = h.unfailed;
       end = ready.1;
-      text_is = record {
-        has_text = complete_has_text old.ontology c h.is_part;
-        spelled =
-            h.in_order ∙ ap₂ (λ (s t : List ℕ). certificate_text c ++ s ++ t) none ready.0
-            ∙ append-nil (certificate_text c ++ []) ∙ append-nil (certificate_text c);
-      };
+      text_is = (
+        format,
+        record {
+          has_text = complete_has_text old.ontology format c h.is_part;
+          spelled =
+              h.in_order ∙ ap₂ (λ (s t : List ℕ). certificate_text format c ++ s ++ t) none ready.0
+              ∙ append-nil (certificate_text format c ++ []) ∙ append-nil (certificate_text format c);
+        },
+      );
     }
   where
     at_end : IsReady old.hand now → (old.hand.ahead ≡ []) × IsAtEnd now.left

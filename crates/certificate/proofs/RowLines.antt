@@ -2,6 +2,7 @@
 use Rattle.std.proofs.Common.{◌≡◌, ℕ, ◌^◌, ◌≤◌, List, length, Option, Some, None, Bool, true, false, eqb, ltb, ◌&&◌, refl, arith}
 use Rattle.std.proofs.lemmas.Bool.{ltb-true, lt-ltb, and_parts, and_from}
 use Rattle.axioms.specs.Ontology.{Ontology}
+use Rattle.certificate.specs.Certificate.{Format}
 use Rattle.certificate.specs.Text.{class_text, pairs_text, individual_text, claim_text}
 use Rattle.certificate.specs.Tests.{is_small, fits_class, fits_pairs, fits_claim}
 use Rattle.certificate.specs.Reading.{Reader}
@@ -9,10 +10,10 @@ use Rattle.certificate.specs.ListedReading.{class_row_at, fitting_class_at, pair
 use Rattle.certificate.specs.SingleLines.{IsTextOfOne}
 use Rattle.certificate.proofs.Laws.{Reads, Anything, restated, such_reads}
 use Rattle.certificate.proofs.OneLine.{read_as, none_read_as, more_than_one}
-use Rattle.certificate.proofs.Ordered.{elements_mean, elements_test}
+use Rattle.certificate.proofs.Ordered.{elements_mean}
 use Rattle.certificate.proofs.LineMeaning.{below_means}
 use Rattle.certificate.proofs.RowMeaning.{named_means, class_parts, pair_parts, claim_parts}
-use Rattle.certificate.proofs.RowLaws.{IsClassRow, class_row_reads, IsPairRow, pair_row_reads, IsClaimRow, claim_row_reads, IsElementOf, individual_reads}
+use Rattle.certificate.proofs.RowLaws.{IsClassText, class_row_reads, IsPairText, pair_row_reads, elements_are_read, IsClaimRow, claim_row_reads, IsElementOf, individual_reads}
 
 -- ---- a reader of just the texts of values that pass a test
 
@@ -41,27 +42,27 @@ tested IsValid text test read h valid = record {
 
 -- ---- the rows of each kind
 
-class_valid : (o : Ontology) (d : ℕ) (last : Option ℕ) → d ≤ 2 ^ 32 → (c : ℕ × List ℕ) → fits_class o d last c ≡ true → IsClassRow c
-class_valid o d last small c t =
+class_valid : (o : Ontology) (format : Format) (d : ℕ) (last : Option ℕ) → d ≤ 2 ^ 32 → (c : ℕ × List ℕ) → fits_class o d last c ≡ true → IsClassText format d c
+class_valid o format d last small c t =
     let p = class_parts o d last c t in
-    ((named_means o c.0 p.0).1, (elements_test d c.1 small (elements_mean d c.1 p.3)).0)
+    ((named_means o c.0 p.0).1, elements_are_read format d c.1 small (elements_mean d c.1 p.3))
 
-pub reads_classes : (o : Ontology) (d : ℕ) (last : Option ℕ) → d ≤ 2 ^ 32 → ReadsThose class_text (fits_class o d last) (fitting_class_at o d last)
+pub reads_classes : (o : Ontology) (format : Format) (d : ℕ) (last : Option ℕ) → d ≤ 2 ^ 32 → ReadsThose (class_text format) (fits_class o d last) (fitting_class_at o format d last)
 unfolding fitting_class_at
-reads_classes o d last small =
-    tested IsClassRow class_text (fits_class o d last) (fitting_class_at o d last)
-    (such_reads Anything IsClassRow class_text class_row_at (fits_class o d last) class_row_reads) (class_valid o d last small)
+reads_classes o format d last small =
+    tested (IsClassText format d) (class_text format) (fits_class o d last) (fitting_class_at o format d last)
+    (such_reads Anything (IsClassText format d) (class_text format) (class_row_at format d) (fits_class o d last) (class_row_reads format d)) (class_valid o format d last small)
 
-pair_valid : (o : Ontology) (d : ℕ) (last : Option (ℕ × ℕ)) → d ≤ 2 ^ 32 → (p : ℕ × ℕ × List ℕ) → fits_pairs o d last p ≡ true → IsPairRow p
-pair_valid o d last small p t =
+pair_valid : (o : Ontology) (format : Format) (d : ℕ) (last : Option (ℕ × ℕ)) → d ≤ 2 ^ 32 → (p : ℕ × ℕ × List ℕ) → fits_pairs o d last p ≡ true → IsPairText format d p
+pair_valid o format d last small p t =
     let a = pair_parts o d last p t in
-    ((below_means p.0 (length o.names.properties) a.0).1, omega (arith, ltb-true p.1 d a.1), (elements_test d p.2 small (elements_mean d p.2 a.3)).0)
+    ((below_means p.0 (length o.names.properties) a.0).1, omega (arith, ltb-true p.1 d a.1), elements_are_read format d p.2 small (elements_mean d p.2 a.3))
 
-pub reads_pairs : (o : Ontology) (d : ℕ) (last : Option (ℕ × ℕ)) → d ≤ 2 ^ 32 → ReadsThose pairs_text (fits_pairs o d last) (fitting_pairs_at o d last)
+pub reads_pairs : (o : Ontology) (format : Format) (d : ℕ) (last : Option (ℕ × ℕ)) → d ≤ 2 ^ 32 → ReadsThose (pairs_text format) (fits_pairs o d last) (fitting_pairs_at o format d last)
 unfolding fitting_pairs_at
-reads_pairs o d last small =
-    tested IsPairRow pairs_text (fits_pairs o d last) (fitting_pairs_at o d last)
-    (such_reads Anything IsPairRow pairs_text pair_row_at (fits_pairs o d last) pair_row_reads) (pair_valid o d last small)
+reads_pairs o format d last small =
+    tested (IsPairText format d) (pairs_text format) (fits_pairs o d last) (fitting_pairs_at o format d last)
+    (such_reads Anything (IsPairText format d) (pairs_text format) (pair_row_at format d) (fits_pairs o d last) (pair_row_reads format d)) (pair_valid o format d last small)
 
 claim_valid : (o : Ontology) (d : ℕ) (last : Option ℕ) → d ≤ 2 ^ 32 → (c : ℕ × ℕ) → fits_claim o d last c ≡ true → IsClaimRow c
 claim_valid o d last small c t =

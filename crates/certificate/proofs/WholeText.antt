@@ -5,8 +5,8 @@ use Rattle.std.proofs.lemmas.List.{map-append}
 use Rattle.axioms.specs.Ontology.{Ontology}
 use Rattle.source_lines.specs.Sources.{SourceState}
 use Rattle.certificate.specs.Certificate.{Line, Listed}
-use Rattle.certificate.specs.Text.{line_feed, line_text}
-use Rattle.certificate.specs.TextLines.{first_text}
+use Rattle.certificate.specs.Certificate.{Format, One, Two}
+use Rattle.certificate.specs.Text.{line_feed, line_text, first_text, written, lines_text}
 use Rattle.certificate.specs.SourceReading.{Reading, HasLines, kept_line, IsNext, IsNextLine, IsStopped, IsReadAs, StopsNext, IsFinished}
 use Rattle.certificate.specs.View.{line_of, lines_of}
 use Rattle.certificate.specs.declared.line.Line.{Line as Written}
@@ -17,21 +17,26 @@ use Rattle.certificate.specs.declared.fault.TextFault.{TextFault}
 ended : (front : List ℕ) → 0 < length (front ++ line_feed)
 ended front = let e = length-append front line_feed in omega (arith, e)
 
-lines_below : (lines : List Line) → length lines ≤ length (flat_map line_text lines)
-lines_below [] = omega arith
-lines_below (line ∷ lines) =
+lines_below : (format : Format) (n : ℕ) (lines : List Line) → length lines ≤ length (lines_text format n lines)
+lines_below format n [] = omega arith
+lines_below One n (line ∷ lines) =
     let e = length-append (line_text line) (flat_map line_text lines) in
     let some : 0 < length (line_text line) = ended _ in
-    omega (arith, e, some, lines_below lines)
+    omega (arith, e, some, lines_below One n lines)
+lines_below Two n (line ∷ lines) =
+    let e = length-append (line_text (written Two n line)) (lines_text Two (n + 1) lines) in
+    let some : 0 < length (line_text (written Two n line)) = ended _ in
+    omega (arith, e, some, lines_below Two (n + 1) lines)
 
 pub lines_within : (start now : SourceState) (lines : List Line) (reading : Reading) → HasLines start lines reading now → length lines ≤ start.most
 lines_within start now lines reading h =
-    let first = first_text reading.is_consistent in
-    let a : length h.read ≡ length (first ++ flat_map line_text lines ++ reading.hand.line) + length reading.hand.ahead
-    = ap (λ (xs : List ℕ). length xs) h.in_order ∙ length-append (first ++ flat_map line_text lines ++ reading.hand.line) reading.hand.ahead in
-    let b = length-append (first ++ flat_map line_text lines) reading.hand.line in
-    let d = length-append first (flat_map line_text lines) in
-    omega (arith, a, b, d, lines_below lines, h.given.fell)
+    let first = first_text reading.format reading.is_consistent in
+    let text = lines_text reading.format 1 lines in
+    let a : length h.part.read ≡ length (first ++ text ++ reading.hand.line) + length reading.hand.ahead
+    = ap (λ (xs : List ℕ). length xs) h.part.in_order ∙ length-append (first ++ text ++ reading.hand.line) reading.hand.ahead in
+    let b = length-append (first ++ text) reading.hand.line in
+    let d = length-append first text in
+    omega (arith, a, b, d, lines_below reading.format 1 lines, h.part.given.fell)
 
 -- ---- one line more
 
@@ -79,3 +84,8 @@ no_next start before after old new o lines read for h e n =
 pub lines_read : (start before after : SourceState) (old : Reading) (o : Ontology) (lines : List Line) (listed : Option Listed) → old.ontology ≡ o → HasLines start lines old before
     → IsFinished old before after listed → IsReadAs o start after (record { lines = lines; listed = listed })
 lines_read start before after old o lines listed for h f = subst (λ (p : Ontology). IsReadAs p start after (record { lines = lines; listed = listed })) for (f start lines h)
+
+-- the certificate with what is listed as it is written out
+pub as_written : (start now : SourceState) (o : Ontology) (lines : List Line) (written listed : Option Listed) → written ≡ listed
+    → IsReadAs o start now (record { lines = lines; listed = listed }) → IsReadAs o start now (record { lines = lines; listed = written })
+as_written start now o lines written listed e h = subst (λ (l : Option Listed). IsReadAs o start now (record { lines = lines; listed = l })) (sym e) h

@@ -1,8 +1,9 @@
--- Certificates: derivation lines, each by one of the twenty rules of format 1, and the interpretation that one of a consistent
--- ontology lists.
+-- Certificates: derivation lines, each by one of the twenty rules, and the interpretation that one of a consistent ontology lists.
 -- Expressions, properties, individuals, axioms and elements stand as their numbers.
 use Rattle.std.specs.Prelude.{ℕ, List}
 use Rattle.std.specs.declared.option.Option.{Option}
+pub use Rattle.certificate.specs.declared.format.Format.{Format}
+pub use Rattle.certificate.specs.declared.format.Format.TheVariants.{One, Two}
 pub use Rattle.certificate.specs.declared.line.Rule.{Rule}
 pub use Rattle.certificate.specs.declared.line.Rule.TheVariants.{K1, K2, K3, K4, K5, K6, K7, K8, K9, K10, K11, K12, K13, K14, K15, K16, K17, K18, K19, K20}
 

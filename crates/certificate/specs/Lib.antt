@@ -1,4 +1,7 @@
 pub mod Certificate
+pub mod Runs
+pub mod Held
+pub mod HeldReading
 pub mod Text
 pub mod Writability
 pub mod View

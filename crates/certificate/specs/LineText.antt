@@ -1,20 +1,21 @@
--- The text of the lines of a derivation as it grows, behind the first line of a consistent certificate.
-use Rattle.std.specs.Prelude.{◌≡◌, ℕ, ◌++◌, List, length, map, drop, Option, Some, None, Bool, true, ◌&&◌, codes}
-use Rattle.std.specs.List.{list_all, flat_map}
-use Rattle.certificate.specs.Certificate.{Subject, Expression, Individual, Conclusion, Sub, Edge, Same, Line}
+-- The text of the lines of a derivation as it grows, behind the first line of a consistent certificate of a format.
+use Rattle.std.specs.Prelude.{◌≡◌, ◌<◌, ℕ, ◌++◌, List, length, map, drop, Option, Some, None, Bool, true, ◌&&◌}
+use Rattle.std.specs.List.{All, list_all}
+use Rattle.certificate.specs.Certificate.{Subject, Expression, Individual, Conclusion, Sub, Edge, Same, Line, Format, One, Two}
 use Rattle.certificate.specs.Tests.{is_small, is_premise}
 use Rattle.certificate.specs.LineReading.{line_at}
 use Rattle.certificate.specs.Reading.{many_from}
-use Rattle.certificate.specs.Text.{line_text}
+use Rattle.certificate.specs.Text.{first_text, written_from, lines_text}
+use Rattle.certificate.specs.Writability.{HasNumbers}
 use Rattle.certificate.specs.View.{subject_of}
 use Rattle.certificate.specs.declared.line.Subject.{Subject as Subject2}
 
-abbrev pub first_line : List ℕ
-first_line = codes "elcert 1 consistent\n"
+abbrev pub first_line : Format → List ℕ
+first_line format = first_text format true
 
--- the lines behind the first line of a text
-unfoldable pub lines_in : List ℕ → List Line
-lines_in text = (many_from (λ last. line_at) None (length (drop 20 text)) (drop 20 text)).0
+-- the lines behind the first line of a text of that format
+unfoldable pub lines_in : Format → List ℕ → List Line
+lines_in format text = written_from format 1 (many_from (λ last. line_at) None (length (drop 20 text)) (drop 20 text)).0
 
 -- what a line speaks of: the subject, the start of an edge, or the first of two that are one
 abbrev pub source_of : Conclusion → Subject
@@ -40,10 +41,16 @@ is_small_axiom (Some n) = is_small n
 abbrev pub fits_types : Line → Bool
 fits_types line = is_small_conclusion line.conclusion && (is_small_axiom line.axiom' && list_all is_premise line.premises)
 
+-- the format has numbers for premises of line n
+abbrev pub HasNumbersOf : Format → ℕ → List ℕ → Type 0
+HasNumbersOf One n premises = Unit {0}
+HasNumbersOf Two n premises = All (λ p. p < n) premises
+
 -- ---- a text with what is kept beside it
 
 -- the text is that of its lines, whose numbers are read again, and the sources are theirs
-pub record IsLineText (text : List ℕ) (sources : List Subject2) : Type 0 where
-  pub spelled : text ≡ first_line ++ flat_map line_text (lines_in text)
-  pub fit : list_all fits_types (lines_in text) ≡ true
-  pub kept : map subject_of sources ≡ map (λ l. source_of l.conclusion) (lines_in text)
+pub record IsLineText (format : Format) (text : List ℕ) (sources : List Subject2) : Type 0 where
+  pub spelled : text ≡ first_line format ++ lines_text format 1 (lines_in format text)
+  pub fit : list_all fits_types (lines_in format text) ≡ true
+  pub numbers : HasNumbers format (lines_in format text)
+  pub kept : map subject_of sources ≡ map (λ l. source_of l.conclusion) (lines_in format text)

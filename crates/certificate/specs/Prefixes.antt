@@ -4,11 +4,11 @@ use Rattle.std.specs.List.{Contains}
 use Rattle.axioms.specs.Ontology.{Ontology}
 use Rattle.certificate.specs.Certificate.{Certificate}
 use Rattle.certificate.specs.Text.{line_feed}
-use Rattle.certificate.specs.Writability.{IsTextOf}
+use Rattle.certificate.specs.Writability.{IsSomeTextOf}
 
 -- the bytes are the beginning of a certificate's text
 abbrev pub GoesOn : Ontology → List ℕ → Type 0
-GoesOn o bytes = (rest : List ℕ) × (c : Certificate) × IsTextOf o (bytes ++ rest) c
+GoesOn o bytes = (rest : List ℕ) × (c : Certificate) × IsSomeTextOf o (bytes ++ rest) c
 
 -- whole lines: none, or the last byte is a line feed
 abbrev pub EndsLines : List ℕ → Type 0
@@ -33,4 +33,4 @@ pub record IsLongestRun (o : Ontology) (taken : List ℕ) (long : ℕ) : Type 0 
 -- the bytes are the text of no certificate; the first line that cannot follow those before it begins at that place
 pub record IsNoText (o : Ontology) (taken : List ℕ) (place : ℕ) : Type 0 where
   pub run : IsLongestRun o taken place
-  pub none : (c : Certificate) → IsTextOf o taken c → ⊥
+  pub none : (c : Certificate) → IsSomeTextOf o taken c → ⊥

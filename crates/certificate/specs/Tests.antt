@@ -2,7 +2,7 @@
 use Rattle.std.specs.Prelude.{ℕ, ◌^◌, List, [], ◌∷◌, length, Option, Some, None, Bool, true, false, ◌&&◌, ◌||◌, nat_lt, nat_le, ◌==◌, option_map, slice_get}
 use Rattle.std.specs.List.{list_all}
 use Rattle.axioms.specs.Ontology.{Ontology, Node, Class, And, Exists}
-use Rattle.certificate.specs.Certificate.{Subject, Expression, Individual, Conclusion, Sub, Edge, Same, Line, Listed, Certificate}
+use Rattle.certificate.specs.Certificate.{Subject, Expression, Individual, Conclusion, Sub, Edge, Same, Line, Listed, Certificate, Format, One, Two}
 
 -- the number has 32 bits
 abbrev pub is_small : ℕ → Bool
@@ -30,6 +30,15 @@ is_premise n = nat_le 1 n && nat_lt n (2 ^ 64)
 
 abbrev pub fits_line : Ontology → Line → Bool
 fits_line o line = fits_conclusion o line.conclusion && fits_axiom o line.axiom' && list_all is_premise line.premises
+
+-- the numbers of premises that line n is written with are read back: as distances they are below n, and 64 bits count the lines
+abbrev pub are_back : Format → ℕ → List ℕ → Bool
+are_back One n premises = true
+are_back Two n premises = nat_lt n (2 ^ 64) && list_all (λ d. nat_lt d n) premises
+
+-- line n, as it is written
+abbrev pub fits_written : Ontology → Format → ℕ → Line → Bool
+fits_written o format n line = fits_line o line && are_back format n line.premises
 
 -- ---- the listed interpretation
 

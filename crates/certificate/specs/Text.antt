@@ -1,9 +1,10 @@
--- The text of a certificate, format 1: lines of ASCII, with single spaces and decimal numbers.
-use Rattle.std.specs.Prelude.{ℕ, List, [], ◌∷◌, ◌++◌, Some, None, codes}
+-- The text of a certificate, in either format: lines of ASCII, with single spaces and decimal numbers.
+use Rattle.std.specs.Prelude.{ℕ, ◌+◌, List, [], ◌∷◌, ◌++◌, Some, None, Bool, true, false, if◌then◌else◌, ◌==◌, codes}
 use Rattle.std.specs.declared.option.Option.{Option}
 use Rattle.std.specs.List.{flat_map, enumerate_from}
 use Rattle.std.specs.Fmt.{decimal}
-use Rattle.certificate.specs.Certificate.{Subject, Expression, Individual, Conclusion, Sub, Edge, Same, Rule, K1, K2, K3, K4, K5, K6, K7, K8, K9, K10, K11, K12, K13, K14, K15, K16, K17, K18, K19, K20, Line, Listed, Certificate}
+use Rattle.certificate.specs.Certificate.{Subject, Expression, Individual, Conclusion, Sub, Edge, Same, Rule, K1, K2, K3, K4, K5, K6, K7, K8, K9, K10, K11, K12, K13, K14, K15, K16, K17, K18, K19, K20, Line, Listed, Certificate, Format, One, Two}
+use Rattle.certificate.specs.Runs.{Run, runs_of, distances}
 
 -- the end of a line
 abbrev pub line_feed : List ℕ
@@ -54,19 +55,48 @@ abbrev pub axiom_text : Option ℕ → List ℕ
 axiom_text None = []
 axiom_text (Some n) = lettered_number (codes " a") n
 
--- as sub e2 e3 K4 a1 3
+-- a line with these premises, as sub e2 e3 K4 a1 3
 abbrev pub line_text : Line → List ℕ
 line_text line =
     conclusion_text line.conclusion ++ lettered_number (codes " K") (rule_number line.rule)
     ++ axiom_text line.axiom' ++ spaced_numbers line.premises ++ line_feed
 
--- as class e3 1 2
-abbrev pub class_text : ℕ × List ℕ → List ℕ
-class_text c = lettered_number (codes "class e") c.0 ++ spaced_numbers c.1 ++ line_feed
+-- the numbers that stand for the premises of line n: their own, or how far they stand before it. What is written so is read so, too
+abbrev pub written_premises : Format → ℕ → List ℕ → List ℕ
+written_premises One n premises = premises
+written_premises Two n premises = distances n premises
 
--- as succ p0 1 2
-abbrev pub pairs_text : ℕ × ℕ × List ℕ → List ℕ
-pairs_text p = lettered_number (codes "succ p") p.0 ++ spaced_numbers (p.1 ∷ p.2) ++ line_feed
+-- line n with the premises that are written
+abbrev pub written : Format → ℕ → Line → Line
+written One n line = line
+written Two n line = record line { premises = distances n line.premises }
+
+-- .. lines from number n on
+abbrev pub written_from : Format → ℕ → List Line → List Line
+written_from One n lines = lines
+written_from Two n [] = []
+written_from Two n (line ∷ lines) = written Two n line ∷ written_from Two (n + 1) lines
+
+-- the text of lines from number n on
+abbrev pub lines_text : Format → ℕ → List Line → List ℕ
+lines_text format n lines = flat_map line_text (written_from format n lines)
+
+-- as 4, or as 4-7
+abbrev pub run_text : Run → List ℕ
+run_text run = codes " " ++ (if run.first == run.last then decimal run.first else decimal run.first ++ codes "-" ++ decimal run.last)
+
+-- elements, each by itself or by runs
+abbrev pub elements_text : Format → List ℕ → List ℕ
+elements_text One xs = spaced_numbers xs
+elements_text Two xs = flat_map run_text (runs_of xs)
+
+-- as class e3 1 2, or class e3 1-2
+abbrev pub class_text : Format → ℕ × List ℕ → List ℕ
+class_text format c = lettered_number (codes "class e") c.0 ++ elements_text format c.1 ++ line_feed
+
+-- as succ p0 1 2 3, or succ p0 1 2-3
+abbrev pub pairs_text : Format → ℕ × ℕ × List ℕ → List ℕ
+pairs_text format p = lettered_number (codes "succ p") p.0 ++ (lettered_number (codes " ") p.1 ++ elements_text format p.2) ++ line_feed
 
 -- as ind i0 2
 abbrev pub individual_text : ℕ × ℕ → List ℕ
@@ -77,24 +107,31 @@ abbrev pub claim_text : ℕ × ℕ → List ℕ
 claim_text c = lettered_number (codes "claim e") c.0 ++ spaced_numbers (c.1 ∷ []) ++ line_feed
 
 -- the lines of the listed interpretation, only of a consistent certificate
-abbrev pub listed_text : Option Listed → List ℕ
-listed_text None = []
-listed_text (Some l) =
+abbrev pub listed_text : Format → Option Listed → List ℕ
+listed_text format None = []
+listed_text format (Some l) =
     lettered_number (codes "domain ") l.domain ++ line_feed
-    ++ flat_map class_text l.classes
-    ++ flat_map pairs_text l.pairs
+    ++ flat_map (class_text format) l.classes
+    ++ flat_map (pairs_text format) l.pairs
     ++ flat_map individual_text (enumerate_from 0 l.individuals)
     ++ flat_map claim_text l.claims
 
-abbrev pub header : Option Listed → List ℕ
-header None = codes "elcert 1 inconsistent" ++ line_feed
-header (Some l) = codes "elcert 1 consistent" ++ line_feed
+-- the first line, which names the format and whether an interpretation is listed
+abbrev pub first_text : Format → Bool → List ℕ
+first_text One true = codes "elcert 1 consistent" ++ line_feed
+first_text One false = codes "elcert 1 inconsistent" ++ line_feed
+first_text Two true = codes "elcert 2 consistent" ++ line_feed
+first_text Two false = codes "elcert 2 inconsistent" ++ line_feed
 
-abbrev pub certificate_text : Certificate → List ℕ
-certificate_text c = header c.listed ++ flat_map line_text c.lines ++ listed_text c.listed ++ codes "end" ++ line_feed
+abbrev pub is_listed : Option Listed → Bool
+is_listed None = false
+is_listed (Some l) = true
+
+abbrev pub certificate_text : Format → Certificate → List ℕ
+certificate_text format c = first_text format (is_listed c.listed) ++ lines_text format 1 c.lines ++ listed_text format c.listed ++ codes "end" ++ line_feed
 
 -- ---- the text of a certificate that lists an interpretation, as it grows
 
 -- the first line, the lines of the derivation, and the line that counts the elements
-abbrev pub text_to_domain : List Line → ℕ → List ℕ
-text_to_domain lines domain = codes "elcert 1 consistent" ++ line_feed ++ flat_map line_text lines ++ (lettered_number (codes "domain ") domain ++ line_feed)
+abbrev pub text_to_domain : Format → List Line → ℕ → List ℕ
+text_to_domain format lines domain = first_text format true ++ lines_text format 1 lines ++ (lettered_number (codes "domain ") domain ++ line_feed)

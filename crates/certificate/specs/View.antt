@@ -11,6 +11,10 @@ use Rattle.certificate.specs.declared.listed.ClassRow.{ClassRow}
 use Rattle.certificate.specs.declared.listed.PairRow.{PairRow}
 use Rattle.certificate.specs.declared.listed.Claim.{Claim}
 use Rattle.certificate.specs.declared.listed.Listed.{Listed}
+use Rattle.certificate.specs.declared.run.Run.{Run}
+use Rattle.certificate.specs.declared.listed_runs.ListedRuns.{ListedRuns}
+use Rattle.certificate.specs.Held.{held_class, held_pairs, held_listing}
+use Rattle.certificate.specs.Runs as runs
 
 abbrev pub subject_of : Subject → certificate.Subject
 subject_of (Expr e) = certificate.Expression e.0
@@ -33,6 +37,16 @@ class_row_of c = (c.class.0, c.elements.items)
 abbrev pub pair_row_of : PairRow → ℕ × ℕ × List ℕ
 pair_row_of p = (p.property.0, p.source, p.targets.items)
 
+-- .. with the elements that they hold
+abbrev pub held_row : ClassRow → ℕ × List ℕ
+held_row c = held_class (class_row_of c)
+
+abbrev pub held_pair_row : PairRow → ℕ × ℕ × List ℕ
+held_pair_row p = held_pairs (pair_row_of p)
+
+abbrev pub run_of : Run → runs.Run
+run_of run = record { first = run.first; last = run.last }
+
 abbrev pub claim_of : Claim → ℕ × ℕ
 claim_of c = (c.class.0, c.element)
 
@@ -44,6 +58,10 @@ listed_of l = record {
   individuals = l.individuals.items;
   claims = map claim_of l.claims.items;
 }
+
+-- .. with the elements that its rows hold
+abbrev pub listing_of : ListedRuns → certificate.Listed
+listing_of l = held_listing (listed_of l.rows)
 
 -- the certificate of these lines and of this interpretation, if there is one
 abbrev pub certificate_from : List Line → Option Listed → certificate.Certificate

@@ -1,9 +1,10 @@
--- Which certificates have a text: what they name is there, in the order of the text, and their numbers fit.
-use Rattle.std.specs.Prelude.{◌≡◌, ℕ, ◌<◌, ◌≤◌, ◌^◌, ◌⊎◌, List, [], ◌∷◌, ◌++◌, map, length, Some, None, IfSome}
+-- Which certificates have a text in a format: what they name is there, in the order of the text, and their numbers fit.
+use Rattle.std.specs.Prelude.{◌≡◌, ℕ, ◌+◌, ◌-◌, ◌<◌, ◌≤◌, ◌^◌, ◌⊎◌, List, [], ◌∷◌, ◌++◌, map, length, take, Some, None, IfSome}
 use Rattle.std.specs.declared.option.Option.{Option}
 use Rattle.std.specs.List.{All, AllPairs, flat_map, enumerate_from}
 use Rattle.axioms.specs.Ontology.{Ontology, IsClassAt}
-use Rattle.certificate.specs.Certificate.{Subject, Expression, Individual, Conclusion, Sub, Edge, Same, Line, Listed, Certificate}
+use Rattle.axioms.specs.View.{at_number}
+use Rattle.certificate.specs.Certificate.{Subject, Expression, Individual, Conclusion, Sub, Edge, Same, Line, Listed, Certificate, Format, One, Two}
 use Rattle.certificate.specs.Text.{certificate_text}
 
 -- what a subject names is there
@@ -85,15 +86,37 @@ listed_numbers (Some l) =
 abbrev pub certificate_numbers : Certificate → List ℕ
 certificate_numbers c = flat_map line_numbers c.lines ++ listed_numbers c.listed
 
+-- the premises of each line, counted from n on, are lines before it
+abbrev pub AreEarlier : ℕ → List Line → Type 0
+AreEarlier n [] = Unit {0}
+AreEarlier n (line ∷ lines) = All (λ p. p < n) line.premises × AreEarlier (n + 1) lines
+
+-- the line of that number is the first with a premise that is no line before it
+pub record IsFirstLater (lines : List Line) (number : ℕ) : Type 0 where
+  pub others : AreEarlier 1 (take (number - 1) lines)
+  pub line : Line
+  pub there : at_number lines number ≡ Some line
+  pub later : All (λ p. p < number) line.premises → ⊥
+
+-- the format has numbers for the premises: distances only of earlier lines, and these are counted by 64 bits
+abbrev pub HasNumbers : Format → List Line → Type 0
+HasNumbers One lines = Unit {0}
+HasNumbers Two lines = (length lines < 2 ^ 64) × AreEarlier 1 lines
+
 -- the certificate can be written
-pub record HasText (o : Ontology) (c : Certificate) : Type 0 where
+pub record HasText (o : Ontology) (format : Format) (c : Certificate) : Type 0 where
   pub lines : All (IsLineOf o) c.lines
   pub listed : IfSome c.listed (IsListedOf o)
   -- numbers of lines have 64 bits, and all others 32
   pub premises : All (λ line. All (λ n. (1 ≤ n) × (n < 2 ^ 64)) line.premises) c.lines
   pub numbers : All (λ n. n < 2 ^ 32) (certificate_numbers c)
+  pub written : HasNumbers format c.lines
 
--- the text is that of the certificate
-pub record IsTextOf (o : Ontology) (text : List ℕ) (c : Certificate) : Type 0 where
-  pub has_text : HasText o c
-  pub spelled : text ≡ certificate_text c
+-- the text is that of the certificate in the format
+pub record IsTextOf (o : Ontology) (format : Format) (text : List ℕ) (c : Certificate) : Type 0 where
+  pub has_text : HasText o format c
+  pub spelled : text ≡ certificate_text format c
+
+-- .. in some format
+abbrev pub IsSomeTextOf : Ontology → List ℕ → Certificate → Type 0
+IsSomeTextOf o text c = (format : Format) × IsTextOf o format text c

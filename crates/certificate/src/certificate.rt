@@ -6,6 +6,7 @@ ghost use Rattle.certificate.specs.View.{lines_of, listed_of, certificate_from};
 
 use crate::fault::MakeFault;
 use crate::fitting::have_text;
+use crate::format::Format;
 use crate::line::Line;
 use crate::listed::Listed;
 use axioms::Ontology;
@@ -30,16 +31,16 @@ impl Model for Certificate {
 impl Certificate {
     /// The certificate of these lines and, of a consistent ontology, of this interpretation.
     ///
-    /// Refused with `NoText` exactly where they have no text: where they name what the ontology does not have, where
-    /// rows are out of order, or where a number is too large. Needs no memory.
+    /// Refused with `NoText` exactly where they have no text in format 1, and so in none: where they name what the ontology does not
+    /// have, where rows are out of order, or where a number is too large. Needs no memory.
     pub fn new(
         ontology: &Ontology,
         lines: Vec<Line>,
         listed: Option<Listed>,
     ) -> Result<Certificate, MakeFault>
         ensures made { IfOk result (λ c. c ≡ certificate_from lines.items listed) }
-        ensures text { IfOk result (λ c. HasText ontology.now c) }
-        ensures none { OnErr result (HasText ontology.now (certificate_from lines.items listed) → ⊥) }
+        ensures text { IfOk result (λ c. HasText ontology.now Format.One c) }
+        ensures none { OnErr result (HasText ontology.now Format.One (certificate_from lines.items listed) → ⊥) }
         ensures fault { IfErr result (λ fault. fault ≡ MakeFault.NoText) }
     {
         if !have_text(ontology, &lines, &listed) {

@@ -2,11 +2,13 @@
 
 ghost use Rattle.std.specs.Prelude.{◌≡◌, length};
 ghost use Rattle.certificate.specs.declared.fault.CertFault.TheVariants as cert_faults;
+ghost use Rattle.certificate.specs.declared.fault.CertWriteFault.TheVariants as write_faults;
 ghost use Rattle.certificate.specs.declared.fault.ReadFault.TheVariants as read_faults;
 ghost use Rattle.certificate.specs.declared.fault.TextFault.TheVariants as text_faults;
 ghost use Rattle.certificate.specs.SourceFaults.{stream_fault_as_text};
 
 use axioms::Memory;
+use device::Failed;
 use source_lines::StreamFault;
 use std::alloc::{AllocError, AllocFailed};
 
@@ -25,7 +27,7 @@ pub enum CertFault {
     /// They are the text of none. The first line that cannot follow those before it begins at that byte; where the
     /// last line is missing it is the number of bytes.
     BadText { at: usize },
-    /// A growth of memory was refused.
+    /// A growth of memory was refused, or runs have more than [`MOST_ELEMENTS`](crate::MOST_ELEMENTS) elements.
     Memory,
 }
 
@@ -37,6 +39,33 @@ impl From<Memory> for CertFault {
     }
 }
 
+/// Why a certificate is not written.
+#[derive(Clone, Copy, Debug, PartialEq, Eq)]
+pub enum CertWriteFault {
+    /// The line of that number, counted from 1, is the first with a premise that is no line before it: it has no text in format 2.
+    LaterPremise { line: usize },
+    /// The sink failed.
+    Io,
+    /// A growth of memory was refused.
+    Memory,
+}
+
+impl From<Failed> for CertWriteFault {
+    ghost from_gives = { λ _ e. e ≡ write_faults.Io };
+
+    fn from(_error: Failed) -> CertWriteFault {
+        CertWriteFault::Io
+    }
+}
+
+impl From<Memory> for CertWriteFault {
+    ghost from_gives = { λ _ e. e ≡ write_faults.Memory };
+
+    fn from(_error: Memory) -> CertWriteFault {
+        CertWriteFault::Memory
+    }
+}
+
 /// Why a certificate is not read from a source.
 #[derive(Clone, Copy, Debug, PartialEq, Eq)]
 pub enum TextFault {
@@ -45,7 +74,7 @@ pub enum TextFault {
     BadText { at: usize },
     /// The source failed.
     Io,
-    /// A growth of memory was refused.
+    /// A growth of memory was refused, or runs have more than [`MOST_ELEMENTS`](crate::MOST_ELEMENTS) elements that were to be written out.
     Memory,
 }
 

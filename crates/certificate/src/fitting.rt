@@ -1,13 +1,15 @@
 //! Whether lines and rows may stand in a text: their numbers are those of the ontology, in the text's order.
 
-ghost use Rattle.std.specs.Prelude.{◌≡◌, None, map, nat_lt};
+ghost use Rattle.std.specs.Prelude.{◌≡◌, ◌&&◌, None, map, nat_le, nat_lt};
 ghost use Rattle.std.specs.List.{list_all};
-ghost use Rattle.certificate.specs.Tests.{fits_subject, fits_conclusion, fits_axiom, is_premise, fits_line, is_named, is_after, ascend, are_elements, fits_class, is_pair_after, fits_pairs, fits_claim, fit_classes, fit_pairs, fit_claims, fit_individuals, fits_listed, fits_certificate};
+ghost use Rattle.certificate.specs.HeldReading.{Ascended, read_in};
+ghost use Rattle.certificate.specs.Tests.{fits_property, fits_subject, fits_conclusion, fits_axiom, is_premise, fits_line, is_named, is_after, ascend, are_elements, fits_class, is_pair_after, fits_pairs, fits_claim, fit_classes, fit_pairs, fit_claims, fit_individuals, fits_listed, fits_certificate};
 ghost use Rattle.certificate.specs.View.{subject_of, conclusion_of, line_of, lines_of, class_row_of, pair_row_of, claim_of, listed_of, certificate_from};
 
+use crate::format::Format;
 use crate::line::{Conclusion, Line, Subject};
 use crate::listed::{Claim, ClassRow, Listed, PairRow};
-use axioms::{ExprId, Ontology};
+use axioms::{ExprId, Ontology, PropId};
 
 fn fits_subject(ontology: &Ontology, subject: Subject) -> bool
     ensures { result ≡ fits_subject ontology.now (subject_of subject) }
@@ -98,14 +100,47 @@ fn are_elements(domain: u32, elements: &[u32]) -> bool
     !elements.is_empty() && ascend(domain, elements)
 }
 
+// Whether the elements, as they are read in the format, are elements of the domain, at least one, ascending. Runs are ascending where
+// they are read.
+#[inline(always)]
+fn are_read_elements(format: Format, domain: u32, numbers: &[u32]) -> bool
+    requires { Ascended format domain numbers.now }
+    ensures { result ≡ are_elements domain (read_in format numbers.now) }
+{
+    match format {
+        Format::One => are_elements(domain, numbers),
+        Format::Two => !numbers.is_empty(),
+    }
+}
+
+// Whether a row of the class may stand after one of the class `last`.
+#[inline(always)]
+fn may_follow_class(ontology: &Ontology, last: Option<u32>, class: ExprId) -> bool
+    ensures { result ≡ (is_named ontology.now class.0 && nat_le 2 class.0 && is_after last class.0) }
+{
+    is_named(ontology, class) && 2 <= class.0 && is_after(last, class.0)
+}
+
+/// Whether the row, as it is read in the format, may stand after one of the class `last`.
+#[inline(always)]
+pub(crate) fn fits_read_class(
+    ontology: &Ontology,
+    format: Format,
+    domain: u32,
+    last: Option<u32>,
+    row: &ClassRow,
+) -> bool
+    requires { Ascended format domain row.now.elements.items }
+    ensures { result ≡ fits_class ontology.now domain last (row.now.class.0, read_in format row.now.elements.items) }
+{
+    may_follow_class(ontology, last, row.class) && are_read_elements(format, domain, &row.elements)
+}
+
 /// Whether the row may stand after one of the class `last`.
 pub fn fits_class(ontology: &Ontology, domain: u32, last: Option<u32>, row: &ClassRow) -> bool
     ensures { result ≡ fits_class ontology.now domain last (class_row_of row.now) }
 {
-    is_named(ontology, row.class)
-        && 2 <= row.class.0
-        && is_after(last, row.class.0)
-        && are_elements(domain, &row.elements)
+    may_follow_class(ontology, last, row.class) && are_elements(domain, &row.elements)
 }
 
 fn is_pair_after(last: Option<(u32, u32)>, property: u32, source: u32) -> bool
@@ -117,13 +152,43 @@ fn is_pair_after(last: Option<(u32, u32)>, property: u32, source: u32) -> bool
     }
 }
 
+// Whether a row of the property and the source may stand after one of those that are `last`.
+#[inline(always)]
+fn may_follow_pairs(
+    ontology: &Ontology,
+    domain: u32,
+    last: Option<(u32, u32)>,
+    property: PropId,
+    source: u32,
+) -> bool
+    ensures { result ≡ (fits_property ontology.now property.0 && nat_lt source domain && is_pair_after last property.0 source) }
+{
+    property.index() < ontology.properties().len()
+        && source < domain
+        && is_pair_after(last, property.0, source)
+}
+
+/// Whether the row, as it is read in the format, may stand after one of the property and the source `last`.
+#[inline(always)]
+pub(crate) fn fits_read_pairs(
+    ontology: &Ontology,
+    format: Format,
+    domain: u32,
+    last: Option<(u32, u32)>,
+    row: &PairRow,
+) -> bool
+    requires { Ascended format domain row.now.targets.items }
+    ensures { result ≡ fits_pairs ontology.now domain last (row.now.property.0, row.now.source, read_in format row.now.targets.items) }
+{
+    may_follow_pairs(ontology, domain, last, row.property, row.source)
+        && are_read_elements(format, domain, &row.targets)
+}
+
 /// Whether the row may stand after one of the property and the source `last`.
 pub fn fits_pairs(ontology: &Ontology, domain: u32, last: Option<(u32, u32)>, row: &PairRow) -> bool
     ensures { result ≡ fits_pairs ontology.now domain last (pair_row_of row.now) }
 {
-    row.property.index() < ontology.properties().len()
-        && row.source < domain
-        && is_pair_after(last, row.property.0, row.source)
+    may_follow_pairs(ontology, domain, last, row.property, row.source)
         && are_elements(domain, &row.targets)
 }
 

@@ -38,7 +38,7 @@ impl Conclusion {
     }
 }
 
-/// The rules of certificates, format 1.
+/// The rules of certificates.
 #[derive(Clone, Copy, Debug, PartialEq, Eq)]
 pub enum Rule {
     K1,

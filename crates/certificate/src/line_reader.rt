@@ -5,11 +5,13 @@ ghost use Rattle.axioms.specs.Growth.{IsBounded};
 ghost use Rattle.source_lines.specs.Sources.{source_state};
 ghost use Rattle.certificate.specs.SourceReading.{AreRowsNext, HasLines, HasNoLine, HasNoRow, IsDomainNext, IsFinished, IsLastNext, IsNext, IsStopped, LetsGo, StopsAtHand, StopsLast, StopsLetting, StopsNext, StopsRows};
 ghost use Rattle.certificate.specs.TextLines.{no_rows};
-ghost use Rattle.certificate.specs.View.{line_of, listed_of};
+ghost use Rattle.certificate.specs.View.{line_of, listing_of};
 
 use crate::fault::TextFault;
+use crate::format::Format;
 use crate::line::Line;
 use crate::listed::Listed;
+use crate::listed_runs::ListedRuns;
 use crate::single_lines::{derived_line, domain_line, first_line, is_last_line};
 use crate::single_rows::take_row;
 use axioms::Ontology;
@@ -18,14 +20,17 @@ use source_lines::SourceLines;
 use std::alloc::Global;
 use std::marker::Model;
 
-/// A reader of a certificate's text that keeps one line of it: it gives the lines one after another, and then what they show.
+/// A reader of a certificate's text, in either format, that keeps one line of it: it gives the lines one after another, and then what
+/// they show.
 ///
 /// Once a call has failed nothing more is promised of the reader.
 #[derive(Drop)]
 pub struct LineReader<'a> {
     ontology: &'a Ontology,
     most_premises: Option<usize>,
+    format: Format,
     is_consistent: bool,
+    count: u64,
     at: usize,
     lines: SourceLines,
 }
@@ -38,23 +43,26 @@ impl<'a> Model for LineReader<'a> {
     ghost view = { λ r. record {
       ontology = r.ontology.now;
       most_premises = r.most_premises;
+      format = r.format;
       is_consistent = r.is_consistent;
+      count = r.count;
       at = r.at;
       hand = r.lines;
     } };
 }
 
 /// The interpretation of no rows.
-fn without_rows(alloc: Global, domain: u32) -> Listed
-    ensures { listed_of result ≡ no_rows domain }
+fn without_rows(alloc: Global, domain: u32) -> ListedRuns
+    ensures { listing_of result ≡ no_rows domain }
 {
-    Listed {
+    let rows = Listed {
         domain,
         classes: Vec::new(alloc),
         pairs: Vec::new(alloc),
         individuals: Vec::new(alloc),
         claims: Vec::new(alloc),
-    }
+    };
+    ListedRuns { rows }
 }
 
 impl<'a> LineReader<'a> {
@@ -77,14 +85,17 @@ impl<'a> LineReader<'a> {
         let mut reader = LineReader {
             ontology,
             most_premises,
+            format: Format::One,
             is_consistent: false,
+            count: 0,
             at: 0,
             lines: SourceLines::new(alloc),
         };
         reader.let_go(source)?;
-        let Some(is_consistent) = first_line(reader.line()) else {
+        let Some((format, is_consistent)) = first_line(reader.line()) else {
             return Err(reader.bad_text());
         };
+        reader.format = format;
         reader.is_consistent = is_consistent;
         reader.let_go(source)?;
         Ok(reader)
@@ -104,10 +115,22 @@ impl<'a> LineReader<'a> {
         ensures fault { IfErr result (λ fault. StopsNext fault self.old (source_state S.Source source.old) (source_state S.Source source.new)) }
         ensures count { S.failures source.old ≤ S.failures source.new }
     {
-        match derived_line(room, self.most_premises, self.ontology, self.line())? {
+        let Some(number) = self.count.checked_add(1) else {
+            return Err(TextFault::Memory);
+        };
+        let line = derived_line(
+            room,
+            self.most_premises,
+            self.ontology,
+            self.format,
+            number,
+            self.line(),
+        )?;
+        match line {
             None => Ok(None),
             Some(line) => {
                 self.let_go(source)?;
+                self.count = number;
                 Ok(Some(line))
             }
         }
@@ -123,9 +146,9 @@ impl<'a> LineReader<'a> {
         &mut self,
         alloc: Global,
         source: &mut S,
-    ) -> Result<Option<Listed>, TextFault>
+    ) -> Result<Option<ListedRuns>, TextFault>
         requires { HasNoLine self.old }
-        ensures listed { IfOk result (λ listed. IsFinished self.old (source_state S.Source source.old) (source_state S.Source source.new) (option_map listed_of listed)) }
+        ensures listed { IfOk result (λ listed. IsFinished self.old (source_state S.Source source.old) (source_state S.Source source.new) (option_map listing_of listed)) }
         ensures fault { IfErr result (λ fault. StopsNext fault self.old (source_state S.Source source.old) (source_state S.Source source.new)) }
         ensures count { S.failures source.old ≤ S.failures source.new }
     {
@@ -142,17 +165,17 @@ impl<'a> LineReader<'a> {
         &mut self,
         alloc: Global,
         source: &mut S,
-    ) -> Result<Listed, TextFault>
+    ) -> Result<ListedRuns, TextFault>
         requires none { HasNoLine self.old }
         requires consistent { self.old.is_consistent ≡ true }
-        ensures listed { IfOk result (λ listed. IsFinished self.old (source_state S.Source source.old) (source_state S.Source source.new) (Some (listed_of listed))) }
+        ensures listed { IfOk result (λ listed. IsFinished self.old (source_state S.Source source.old) (source_state S.Source source.new) (Some (listing_of listed))) }
         ensures fault { IfErr result (λ fault. StopsNext fault self.old (source_state S.Source source.old) (source_state S.Source source.new)) }
         ensures count { S.failures source.old ≤ S.failures source.new }
     {
         let domain = self.domain(source)?;
         let mut listed = without_rows(alloc, domain);
         self.rows(alloc, source, &mut listed)?;
-        if listed.individuals.len() != self.ontology.individuals().len() {
+        if listed.rows.individuals.len() != self.ontology.individuals().len() {
             return Err(self.bad_text());
         }
         self.last(source)?;
@@ -179,14 +202,14 @@ impl<'a> LineReader<'a> {
         &mut self,
         alloc: Global,
         source: &mut S,
-        listed: &mut Listed,
+        listed: &mut ListedRuns,
     ) -> Result<(), TextFault>
-        ensures rows { OnOk result (AreRowsNext self.old self.new (source_state S.Source source.old) (source_state S.Source source.new) (listed_of listed.old) (listed_of listed.new)) }
-        ensures none { OnOk result (HasNoRow self.new (listed_of listed.new)) }
-        ensures fault { IfErr result (λ fault. StopsRows fault self.old (source_state S.Source source.old) (source_state S.Source source.new) (listed_of listed.old)) }
+        ensures rows { OnOk result (AreRowsNext self.old self.new (source_state S.Source source.old) (source_state S.Source source.new) (listing_of listed.old) (listing_of listed.new)) }
+        ensures none { OnOk result (HasNoRow self.new (listing_of listed.new)) }
+        ensures fault { IfErr result (λ fault. StopsRows fault self.old (source_state S.Source source.old) (source_state S.Source source.new) (listing_of listed.old)) }
         ensures count { S.failures source.old ≤ S.failures source.new }
     {
-        while take_row(alloc, self.ontology, listed, self.line())? {
+        while take_row(alloc, self.ontology, self.format, listed, self.line())? {
             self.let_go(source)?;
         }
         Ok(())

@@ -1,42 +1,44 @@
 //! The text of the lines of a derivation.
 
-ghost use Rattle.std.specs.Prelude.{◌≡◌, ◌<◌, ◌^◌, ◌++◌, ◌∷◌, [], IfOk, None, OnErr, OnOk, Some, length, map, option_map, true};
+ghost use Rattle.std.specs.Prelude.{◌≡◌, ◌↔◌, ◌<◌, ◌^◌, ◌++◌, ◌∷◌, [], IfOk, IsTrue, None, OnErr, OnOk, Some, length, map, option_map, true};
 ghost use Rattle.axioms.specs.View.{at_number};
 ghost use Rattle.certificate.specs.LineText as spec;
-ghost use Rattle.certificate.specs.LineText.{source_of};
+ghost use Rattle.certificate.specs.LineText.{HasNumbersOf, source_of};
 ghost use Rattle.certificate.specs.Text.{certificate_text, text_to_domain};
 ghost use Rattle.certificate.specs.View.{conclusion_of, line_of, listed_of, subject_of};
 
 use crate::fitting::are_premises;
+use crate::format::{Format, FormatType};
 use crate::line::{Conclusion, Line, Subject};
 use crate::listed::Listed;
 use crate::listed_text::ListedText;
-use crate::writing::{Spelled, push_domain, push_listed};
+use crate::writing::{is_earlier, push_domain, push_first, push_line, push_listed};
 use axioms::Memory;
 use std::alloc::Global;
-use std::marker::Model;
+use std::marker::{Model, PhantomData};
 
-/// Lines of a derivation, numbered from 1, as the text of a certificate, of which nothing is kept beside but what each speaks of. It
-/// is seen as its lines.
+/// Lines of a derivation, numbered from 1, as the text of a certificate of a format, of which nothing is kept beside but what each
+/// speaks of. It is seen as its lines.
 #[derive(Drop)]
-pub struct LineText {
+pub struct LineText<F: FormatType> {
     /// The first line of the text of a consistent certificate, and then the lines.
     text: Vec<u8>,
     sources: Vec<Subject>,
     /// Room for the text of the line that comes next.
     room: Vec<u8>,
+    format: PhantomData<F>,
 }
 
-impl Model for LineText {
+impl<F: FormatType> Model for LineText<F> {
     ghost use Rattle.std.specs.Prelude.{List};
     ghost use Rattle.certificate.specs.Certificate as certificates;
     ghost use Rattle.certificate.specs.LineText.{IsLineText, lines_in};
 
     ghost Value = { List certificates.Line };
 
-    ghost view = { λ t. lines_in t.text.items };
+    ghost view = { λ t. lines_in F.format t.text.items };
 
-    ghost invariant = { λ t. IsLineText t.text.items t.sources.items };
+    ghost invariant = { λ t. IsLineText F.format t.text.items t.sources.items };
 }
 
 /// The numbers of a subject have 32 bits.
@@ -80,21 +82,32 @@ fn fits_types(line: &Line) -> bool
     is_small_axiom(line.axiom) && are_premises(&line.premises)
 }
 
-impl LineText {
+/// Whether the format has numbers for premises of the line of that number.
+fn has_numbers(format: Format, number: u64, premises: &[u64]) -> bool
+    ensures { IsTrue result ↔ HasNumbersOf format number premises.now }
+{
+    match format {
+        Format::One => true,
+        Format::Two => is_earlier(number, premises),
+    }
+}
+
+impl<F: FormatType> LineText<F> {
     /// No lines.
     ///
     /// # Errors
     ///
     /// `Memory` where memory was refused.
-    pub fn new(alloc: Global) -> Result<LineText, Memory>
+    pub fn new(alloc: Global) -> Result<LineText<F>, Memory>
         ensures { IfOk result (λ t. t ≡ []) }
     {
         let mut text = Vec::new(alloc);
-        text.extend_from_slice(b"elcert 1 consistent\n")?;
+        push_first(&mut text, F::format(), true)?;
         Ok(LineText {
             text,
             sources: Vec::new(alloc),
             room: Vec::new(alloc),
+            format: PhantomData,
         })
     }
 
@@ -116,17 +129,20 @@ impl LineText {
     ///
     /// # Errors
     ///
-    /// `Memory` where memory was refused, or a number of the line is none of a text: that of the axiom has more than 32 bits, or that
-    /// of a premise is 0. Then nothing changes.
+    /// `Memory` where memory was refused, or a number of the line is none of a text: that of the axiom has more than 32 bits, that of a
+    /// premise is 0, or, in format 2, it is that of no earlier line. Then nothing changes.
     pub fn push(&mut self, line: &Line) -> Result<(), Memory>
         ensures ok { OnOk result (self.new ≡ self.old ++ line_of line.now ∷ []) }
         ensures err { OnErr result (self.new ≡ self.old) }
     {
-        if !fits_types(line) {
+        let Some(number) = (self.sources.len() as u64).checked_add(1) else {
+            return Err(Memory);
+        };
+        if !fits_types(line) || !has_numbers(F::format(), number, &line.premises) {
             return Err(Memory);
         }
         self.room.clear();
-        line.push_to(&mut self.room)?;
+        push_line(&mut self.room, F::format(), number, line)?;
         self.sources.reserve(1)?;
         self.text.extend_from_slice(&self.room)?;
         self.sources.push_reserved(line.conclusion.source());
@@ -148,12 +164,15 @@ impl LineText {
     /// # Errors
     ///
     /// `Memory` where memory was refused.
-    pub fn with_domain(self, domain: u32) -> Result<ListedText, Memory>
-        ensures { IfOk result (λ t. t ≡ text_to_domain self domain) }
+    pub fn with_domain(self, domain: u32) -> Result<ListedText<F>, Memory>
+        ensures { IfOk result (λ t. t ≡ text_to_domain F.format self domain) }
     {
         let mut text = self.text;
         push_domain(&mut text, domain)?;
-        Ok(ListedText { text })
+        Ok(ListedText {
+            text,
+            format: PhantomData,
+        })
     }
 
     /// The text of the certificate of these lines and of an interpretation.
@@ -162,10 +181,10 @@ impl LineText {
     ///
     /// `Memory` where memory was refused.
     pub fn with_listed(self, listed: &Listed) -> Result<Vec<u8>, Memory>
-        ensures { IfOk result (λ v. v.items ≡ certificate_text (record { lines = self; listed = Some (listed_of listed.now) })) }
+        ensures { IfOk result (λ v. v.items ≡ certificate_text F.format (record { lines = self; listed = Some (listed_of listed.now) })) }
     {
         let mut text = self.text;
-        push_listed(&mut text, listed)?;
+        push_listed(&mut text, F::format(), listed)?;
         text.extend_from_slice(b"end\n")?;
         Ok(text)
     }
@@ -176,10 +195,10 @@ impl LineText {
     ///
     /// `Memory` where memory was refused.
     pub fn alone(&self, alloc: Global) -> Result<Vec<u8>, Memory>
-        ensures { IfOk result (λ v. v.items ≡ certificate_text (record { lines = self.now; listed = None })) }
+        ensures { IfOk result (λ v. v.items ≡ certificate_text F.format (record { lines = self.now; listed = None })) }
     {
         let mut text = Vec::new(alloc);
-        text.extend_from_slice(b"elcert 1 inconsistent\n")?;
+        push_first(&mut text, F::format(), false)?;
         text.extend_from_slice(&self.text[20..])?;
         text.extend_from_slice(b"end\n")?;
         Ok(text)

@@ -3,6 +3,10 @@
 use axioms::{ExprId, PropId};
 use smallvec::SmallVec;
 
+/// How many elements the runs of a listing may be written out to, all together. Where they have more, `Memory` is answered before room
+/// for these is asked for. Format 1 writes each element out, so its rows have no such bound.
+pub const MOST_ELEMENTS: usize = 268_435_456;
+
 /// A class other than owl:Thing and owl:Nothing that is not empty, with its elements, ascending.
 #[derive(Debug, PartialEq, Eq, Drop)]
 pub struct ClassRow {

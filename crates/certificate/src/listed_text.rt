@@ -5,18 +5,20 @@ ghost use Rattle.std.specs.List.{enumerate_from, flat_map};
 ghost use Rattle.certificate.specs.Text.{claim_text, class_text, individual_text, pairs_text};
 ghost use Rattle.certificate.specs.View.{claim_of, class_row_of, pair_row_of};
 
+use crate::format::FormatType;
 use crate::listed::{Claim, ClassRow, PairRow};
-use crate::writing::{Spelled, push_each, push_individuals};
+use crate::writing::{push_class, push_each, push_individuals, push_pairs};
 use axioms::Memory;
-use std::marker::Model;
+use std::marker::{Model, PhantomData};
 
-/// The text of a certificate up to a row of the interpretation that it lists. No row is kept beside it. It is seen as its bytes.
+/// The text of a certificate of a format up to a row of the interpretation that it lists. No row is kept beside it. It is seen as its bytes.
 #[derive(Drop)]
-pub struct ListedText {
+pub struct ListedText<F: FormatType> {
     pub(crate) text: Vec<u8>,
+    pub(crate) format: PhantomData<F>,
 }
 
-impl Model for ListedText {
+impl<F: FormatType> Model for ListedText<F> {
     ghost use Rattle.std.specs.Prelude.{List, ℕ};
 
     ghost Value = { List ℕ };
@@ -24,16 +26,16 @@ impl Model for ListedText {
     ghost view = { λ t. t.text.items };
 }
 
-impl ListedText {
+impl<F: FormatType> ListedText<F> {
     /// Adds the row of a class.
     ///
     /// # Errors
     ///
     /// `Memory` where memory was refused. Then a part of the row may stand there.
     pub fn push_class(&mut self, class_row: &ClassRow) -> Result<(), Memory>
-        ensures { OnOk result (self.new ≡ self.old ++ class_text (class_row_of class_row.now)) }
+        ensures { OnOk result (self.new ≡ self.old ++ class_text F.format (class_row_of class_row.now)) }
     {
-        class_row.push_to(&mut self.text)?;
+        push_class(&mut self.text, F::format(), class_row)?;
         Ok(())
     }
 
@@ -43,9 +45,9 @@ impl ListedText {
     ///
     /// `Memory` where memory was refused. Then a part of the row may stand there.
     pub fn push_pairs(&mut self, pair_row: &PairRow) -> Result<(), Memory>
-        ensures { OnOk result (self.new ≡ self.old ++ pairs_text (pair_row_of pair_row.now)) }
+        ensures { OnOk result (self.new ≡ self.old ++ pairs_text F.format (pair_row_of pair_row.now)) }
     {
-        pair_row.push_to(&mut self.text)?;
+        push_pairs(&mut self.text, F::format(), pair_row)?;
         Ok(())
     }
 

@@ -1,16 +1,19 @@
 //! Single lines of a listed interpretation.
 
 ghost use Rattle.std.specs.Prelude.{◌≡◌, ◌&&◌, IfOk, length, map, nat_lt, option_map};
+ghost use Rattle.certificate.specs.Certificate.{Format as Format2};
 ghost use Rattle.certificate.specs.LineValues.{TakesRow};
 ghost use Rattle.certificate.specs.SingleLines.{IsTextOfOne, TakesKind, individual_line};
 ghost use Rattle.certificate.specs.Tests.{is_small, fits_class, fits_pairs, fits_claim, key, pair_key};
 ghost use Rattle.certificate.specs.Text.{class_text, pairs_text, individual_text, claim_text};
 ghost use Rattle.certificate.specs.TextLines.{ClassLine, PairLine, ClaimLine, last_of, is_empty, has_individuals};
-ghost use Rattle.certificate.specs.View.{class_row_of, pair_row_of, claim_of, listed_of};
+ghost use Rattle.certificate.specs.View.{claim_of, class_row_of, held_pair_row, held_row, listing_of, pair_row_of};
 
 use crate::fault::ReadFault;
-use crate::listed::{Claim, ClassRow, Listed, PairRow};
+use crate::format::Format;
+use crate::listed::{Claim, ClassRow, PairRow};
 use crate::listed_reading::{fitting_claim_at, fitting_class_at, fitting_pairs_at, individual_at};
+use crate::listed_runs::ListedRuns;
 use axioms::{Memory, Ontology};
 use std::alloc::Global;
 
@@ -42,16 +45,18 @@ fn last_claim(claims: &[Claim]) -> Option<u32>
 }
 
 // The row of a class that the bytes are, where it may stand after one of the class `last`.
+#[inline(always)]
 fn class_line(
     alloc: Global,
     ontology: &Ontology,
+    format: Format,
     domain: u32,
     last: Option<u32>,
     bytes: &[u8],
 ) -> Result<Option<ClassRow>, Memory>
-    ensures { IfOk result (λ row. IsTextOfOne class_text (fits_class ontology.now domain last) bytes.now (option_map class_row_of row)) }
+    ensures { IfOk result (λ row. IsTextOfOne (class_text format) (fits_class ontology.now domain last) bytes.now (option_map held_row row)) }
 {
-    match fitting_class_at(alloc, ontology, domain, last, bytes) {
+    match fitting_class_at(alloc, ontology, format, domain, last, bytes) {
         Ok((row, rest)) => {
             if !rest.is_empty() {
                 return Ok(None);
@@ -64,16 +69,18 @@ fn class_line(
 }
 
 // The row of pairs that the bytes are, where it may stand after one of the property and the source `last`.
+#[inline(always)]
 fn pair_line(
     alloc: Global,
     ontology: &Ontology,
+    format: Format,
     domain: u32,
     last: Option<(u32, u32)>,
     bytes: &[u8],
 ) -> Result<Option<PairRow>, Memory>
-    ensures { IfOk result (λ row. IsTextOfOne pairs_text (fits_pairs ontology.now domain last) bytes.now (option_map pair_row_of row)) }
+    ensures { IfOk result (λ row. IsTextOfOne (pairs_text format) (fits_pairs ontology.now domain last) bytes.now (option_map held_pair_row row)) }
 {
-    match fitting_pairs_at(alloc, ontology, domain, last, bytes) {
+    match fitting_pairs_at(alloc, ontology, format, domain, last, bytes) {
         Ok((row, rest)) => {
             if !rest.is_empty() {
                 return Ok(None);
@@ -112,111 +119,126 @@ fn claim_line(ontology: &Ontology, domain: u32, last: Option<u32>, bytes: &[u8])
 }
 
 // Whether a row of a class may come.
-fn may_take_class(listed: &Listed) -> bool
-    ensures { result ≡ is_empty (listed_of listed.now).pairs && is_empty (listed_of listed.now).individuals && is_empty (listed_of listed.now).claims }
+fn may_take_class(listed: &ListedRuns) -> bool
+    ensures { result ≡ is_empty (listing_of listed.now).pairs && is_empty (listing_of listed.now).individuals && is_empty (listing_of listed.now).claims }
 {
-    listed.pairs.is_empty() && listed.individuals.is_empty() && listed.claims.is_empty()
+    listed.rows.pairs.is_empty()
+        && listed.rows.individuals.is_empty()
+        && listed.rows.claims.is_empty()
 }
 
 // Whether a row of pairs may come.
-fn may_take_pairs(listed: &Listed) -> bool
-    ensures { result ≡ is_empty (listed_of listed.now).individuals && is_empty (listed_of listed.now).claims }
+fn may_take_pairs(listed: &ListedRuns) -> bool
+    ensures { result ≡ is_empty (listing_of listed.now).individuals && is_empty (listing_of listed.now).claims }
 {
-    listed.individuals.is_empty() && listed.claims.is_empty()
+    listed.rows.individuals.is_empty() && listed.rows.claims.is_empty()
 }
 
 // Whether the element of an individual may come.
-fn may_take_individual(ontology: &Ontology, listed: &Listed) -> bool
-    ensures { result ≡ is_empty (listed_of listed.now).claims && nat_lt (length (listed_of listed.now).individuals) (length ontology.now.names.individuals) }
+fn may_take_individual(ontology: &Ontology, listed: &ListedRuns) -> bool
+    ensures { result ≡ is_empty (listing_of listed.now).claims && nat_lt (length (listing_of listed.now).individuals) (length ontology.now.names.individuals) }
 {
-    listed.claims.is_empty() && listed.individuals.len() < ontology.individuals().len()
+    listed.rows.claims.is_empty() && listed.rows.individuals.len() < ontology.individuals().len()
 }
 
 // Whether a claim may come.
-fn may_take_claim(ontology: &Ontology, listed: &Listed) -> bool
-    ensures { result ≡ has_individuals ontology.now (listed_of listed.now) }
+fn may_take_claim(ontology: &Ontology, listed: &ListedRuns) -> bool
+    ensures { result ≡ has_individuals ontology.now (listing_of listed.now) }
 {
-    listed.individuals.len() == ontology.individuals().len()
+    listed.rows.individuals.len() == ontology.individuals().len()
 }
 
+#[inline(always)]
 fn class_row(
     alloc: Global,
     ontology: &Ontology,
-    listed: &mut Listed,
+    format: Format,
+    listed: &mut ListedRuns,
     bytes: &[u8],
 ) -> Result<bool, Memory>
-    ensures { IfOk result (λ taken. TakesKind ClassLine ontology.now (listed_of listed.old) bytes.now taken (listed_of listed.new)) }
+    ensures { IfOk result (λ taken. TakesKind (ClassLine format) ontology.now format (listing_of listed.old) bytes.now taken (listing_of listed.new)) }
 {
     if !may_take_class(listed) {
         return Ok(false);
     }
-    let last = last_class(&listed.classes);
-    let Some(row) = class_line(alloc, ontology, listed.domain, last, bytes)? else {
+    let last = last_class(&listed.rows.classes);
+    let Some(row) = class_line(alloc, ontology, format, listed.rows.domain, last, bytes)? else {
         return Ok(false);
     };
-    listed.classes.push(row)?;
+    listed.rows.classes.push(row)?;
     Ok(true)
 }
 
+#[inline(always)]
 fn pair_row(
     alloc: Global,
     ontology: &Ontology,
-    listed: &mut Listed,
+    format: Format,
+    listed: &mut ListedRuns,
     bytes: &[u8],
 ) -> Result<bool, Memory>
-    ensures { IfOk result (λ taken. TakesKind PairLine ontology.now (listed_of listed.old) bytes.now taken (listed_of listed.new)) }
+    ensures { IfOk result (λ taken. TakesKind (PairLine format) ontology.now format (listing_of listed.old) bytes.now taken (listing_of listed.new)) }
 {
     if !may_take_pairs(listed) {
         return Ok(false);
     }
-    let last = last_pair(&listed.pairs);
-    let Some(row) = pair_line(alloc, ontology, listed.domain, last, bytes)? else {
+    let last = last_pair(&listed.rows.pairs);
+    let Some(row) = pair_line(alloc, ontology, format, listed.rows.domain, last, bytes)? else {
         return Ok(false);
     };
-    listed.pairs.push(row)?;
+    listed.rows.pairs.push(row)?;
     Ok(true)
 }
 
-fn individual_row(ontology: &Ontology, listed: &mut Listed, bytes: &[u8]) -> Result<bool, Memory>
-    ensures { IfOk result (λ taken. TakesKind individual_line ontology.now (listed_of listed.old) bytes.now taken (listed_of listed.new)) }
+#[inline(always)]
+fn individual_row(
+    ontology: &Ontology,
+    listed: &mut ListedRuns,
+    bytes: &[u8],
+) -> Result<bool, Memory>
+    ensures { IfOk result (λ taken. (format : Format2) → TakesKind individual_line ontology.now format (listing_of listed.old) bytes.now taken (listing_of listed.new)) }
 {
     if !may_take_individual(ontology, listed) {
         return Ok(false);
     }
-    let Some(element) = element_line(listed.domain, listed.individuals.len(), bytes) else {
+    let Some(element) = element_line(listed.rows.domain, listed.rows.individuals.len(), bytes)
+    else {
         return Ok(false);
     };
-    listed.individuals.push(element)?;
+    listed.rows.individuals.push(element)?;
     Ok(true)
 }
 
-fn claim_row(ontology: &Ontology, listed: &mut Listed, bytes: &[u8]) -> Result<bool, Memory>
-    ensures { IfOk result (λ taken. TakesKind ClaimLine ontology.now (listed_of listed.old) bytes.now taken (listed_of listed.new)) }
+#[inline(always)]
+fn claim_row(ontology: &Ontology, listed: &mut ListedRuns, bytes: &[u8]) -> Result<bool, Memory>
+    ensures { IfOk result (λ taken. (format : Format2) → TakesKind ClaimLine ontology.now format (listing_of listed.old) bytes.now taken (listing_of listed.new)) }
 {
     if !may_take_claim(ontology, listed) {
         return Ok(false);
     }
-    let last = last_claim(&listed.claims);
-    let Some(claim) = claim_line(ontology, listed.domain, last, bytes) else {
+    let last = last_claim(&listed.rows.claims);
+    let Some(claim) = claim_line(ontology, listed.rows.domain, last, bytes) else {
         return Ok(false);
     };
-    listed.claims.push(claim)?;
+    listed.rows.claims.push(claim)?;
     Ok(true)
 }
 
 /// Whether the bytes are a row that may follow those of the interpretation, which then has it too.
+#[inline(always)]
 pub(crate) fn take_row(
     alloc: Global,
     ontology: &Ontology,
-    listed: &mut Listed,
+    format: Format,
+    listed: &mut ListedRuns,
     bytes: &[u8],
 ) -> Result<bool, Memory>
-    ensures { IfOk result (λ taken. TakesRow ontology.now (listed_of listed.old) bytes.now taken (listed_of listed.new)) }
+    ensures { IfOk result (λ taken. TakesRow ontology.now format (listing_of listed.old) bytes.now taken (listing_of listed.new)) }
 {
-    if class_row(alloc, ontology, listed, bytes)? {
+    if class_row(alloc, ontology, format, listed, bytes)? {
         return Ok(true);
     }
-    if pair_row(alloc, ontology, listed, bytes)? {
+    if pair_row(alloc, ontology, format, listed, bytes)? {
         return Ok(true);
     }
     if individual_row(ontology, listed, bytes)? {

@@ -1,24 +1,29 @@
 //! The text of a certificate.
 
-ghost use Rattle.std.specs.Prelude.{◌≡◌, ◌≤◌, ◌++◌, List, ℕ, codes, map, OnOk, IfOk, IsErrOf};
+ghost use Rattle.std.specs.Prelude.{◌≡◌, ◌↔◌, ◌<◌, ◌≤◌, ◌++◌, List, ℕ, codes, map, IsTrue, MatchOption, OnOk, IfOk, IfErr, OnErr, IsErrOf};
 ghost use Rattle.std.specs.Fmt.{decimal};
 ghost use Rattle.std.specs.Io.KnownBytes.{Appends, Keeps};
-ghost use Rattle.std.specs.List.{flat_map, enumerate_from};
+ghost use Rattle.std.specs.List.{All, flat_map, enumerate_from};
 ghost use Rattle.device.specs.Device.{AppendsPrefix, HasFailed};
-ghost use Rattle.certificate.specs.Writability.{HasText};
+ghost use Rattle.certificate.specs.Runs.{distances};
+ghost use Rattle.certificate.specs.Writability.{AreEarlier, HasNumbers, HasText, IsFirstLater};
+ghost use Rattle.certificate.specs.Outcome.{IsLater};
 ghost use Rattle.certificate.specs.Text as text;
 ghost use Rattle.certificate.specs.View.{subject_of, conclusion_of, line_of, lines_of, class_row_of, pair_row_of, claim_of, listed_of};
 
 use crate::certificate::Certificate;
+use crate::fault::CertWriteFault;
+use crate::format::Format;
 use crate::line::{Conclusion, Line, Subject};
 use crate::listed::{Claim, ClassRow, Listed, PairRow};
+use crate::run::push_runs;
 use axioms::{Memory, Ontology};
-use device::{Sink, WriteFault, write_all};
+use device::{Sink, write_all};
 use itoa::Buffer;
 use std::alloc::{AllocError, Global};
 
 /// The word and then the number.
-fn push_number(out: &mut Vec<u8>, word: &[u8], number: u64) -> Result<(), AllocError>
+pub(crate) fn push_number(out: &mut Vec<u8>, word: &[u8], number: u64) -> Result<(), AllocError>
     ensures { OnOk result (out.new.items ≡ out.old.items ++ text.lettered_number word.now number) }
 {
     let mut buffer = Buffer::new();
@@ -105,39 +110,6 @@ impl Spelled for u32 {
     }
 }
 
-impl Spelled for Line {
-    ghost text = { λ line. text.line_text (line_of line) };
-
-    fn push_to(&self, out: &mut Vec<u8>) -> Result<(), AllocError> {
-        push_conclusion(out, self.conclusion)?;
-        push_number(out, b" K", self.rule.number())?;
-        push_axiom(out, self.axiom)?;
-        push_each(out, &self.premises)?;
-        out.extend_from_slice(b"\n")
-    }
-}
-
-impl Spelled for ClassRow {
-    ghost text = { λ row. text.class_text (class_row_of row) };
-
-    fn push_to(&self, out: &mut Vec<u8>) -> Result<(), AllocError> {
-        push_number(out, b"class e", self.class.0 as u64)?;
-        push_each(out, &self.elements)?;
-        out.extend_from_slice(b"\n")
-    }
-}
-
-impl Spelled for PairRow {
-    ghost text = { λ row. text.pairs_text (pair_row_of row) };
-
-    fn push_to(&self, out: &mut Vec<u8>) -> Result<(), AllocError> {
-        push_number(out, b"succ p", self.property.0 as u64)?;
-        push_number(out, b" ", u64::from(self.source))?;
-        push_each(out, &self.targets)?;
-        out.extend_from_slice(b"\n")
-    }
-}
-
 impl Spelled for Claim {
     ghost text = { λ claim. text.claim_text (claim_of claim) };
 
@@ -148,11 +120,105 @@ impl Spelled for Claim {
     }
 }
 
-#[tactic(auto, using(crate::proofs::Seen::seen_lines))]
-fn push_lines(out: &mut Vec<u8>, lines: &[Line]) -> Result<(), AllocError>
-    ensures { OnOk result (out.new.items ≡ out.old.items ++ flat_map text.line_text (lines_of lines.now)) }
+// The numbers that stand for the premises of the line of that number, as distances.
+fn push_distances(out: &mut Vec<u8>, number: u64, premises: &[u64]) -> Result<(), AllocError>
+    ensures { OnOk result (out.new.items ≡ out.old.items ++ text.spaced_numbers (distances number premises.now)) }
 {
-    push_each(out, lines)
+    for premise in premises {
+        push_number(out, b" ", number.saturating_sub(*premise))?;
+    }
+    Ok(())
+}
+
+fn push_premises(
+    out: &mut Vec<u8>,
+    format: Format,
+    number: u64,
+    premises: &[u64],
+) -> Result<(), AllocError>
+    ensures { OnOk result (out.new.items ≡ out.old.items ++ text.spaced_numbers (text.written_premises format number premises.now)) }
+{
+    match format {
+        Format::One => push_each(out, premises),
+        Format::Two => push_distances(out, number, premises),
+    }
+}
+
+/// Adds the line of that number.
+#[tactic(auto, using(crate::proofs::WrittenLines::written_line_text))]
+pub(crate) fn push_line(
+    out: &mut Vec<u8>,
+    format: Format,
+    number: u64,
+    line: &Line,
+) -> Result<(), AllocError>
+    ensures { OnOk result (out.new.items ≡ out.old.items ++ text.line_text (text.written format number (line_of line.now))) }
+{
+    push_conclusion(out, line.conclusion)?;
+    push_number(out, b" K", line.rule.number())?;
+    push_axiom(out, line.axiom)?;
+    push_premises(out, format, number, &line.premises)?;
+    out.extend_from_slice(b"\n")
+}
+
+fn push_lines(out: &mut Vec<u8>, format: Format, lines: &[Line]) -> Result<(), AllocError>
+    ensures { OnOk result (out.new.items ≡ out.old.items ++ text.lines_text format 1 (lines_of lines.now)) }
+{
+    for place in 0..lines.len() {
+        push_line(out, format, place as u64 + 1, &lines[place])?;
+    }
+    Ok(())
+}
+
+/// Adds the elements.
+fn push_elements(out: &mut Vec<u8>, format: Format, elements: &[u32]) -> Result<(), AllocError>
+    ensures { OnOk result (out.new.items ≡ out.old.items ++ text.elements_text format elements.now) }
+{
+    match format {
+        Format::One => push_each(out, elements),
+        Format::Two => push_runs(out, elements),
+    }
+}
+
+/// Adds the row of a class.
+pub(crate) fn push_class(
+    out: &mut Vec<u8>,
+    format: Format,
+    row: &ClassRow,
+) -> Result<(), AllocError>
+    ensures { OnOk result (out.new.items ≡ out.old.items ++ text.class_text format (class_row_of row.now)) }
+{
+    push_number(out, b"class e", row.class.0 as u64)?;
+    push_elements(out, format, &row.elements)?;
+    out.extend_from_slice(b"\n")
+}
+
+/// Adds the row of a property and an element.
+pub(crate) fn push_pairs(out: &mut Vec<u8>, format: Format, row: &PairRow) -> Result<(), AllocError>
+    ensures { OnOk result (out.new.items ≡ out.old.items ++ text.pairs_text format (pair_row_of row.now)) }
+{
+    push_number(out, b"succ p", row.property.0 as u64)?;
+    push_number(out, b" ", u64::from(row.source))?;
+    push_elements(out, format, &row.targets)?;
+    out.extend_from_slice(b"\n")
+}
+
+fn push_class_rows(out: &mut Vec<u8>, format: Format, rows: &[ClassRow]) -> Result<(), AllocError>
+    ensures { OnOk result (out.new.items ≡ out.old.items ++ flat_map (text.class_text format) (map class_row_of rows.now)) }
+{
+    for row in rows {
+        push_class(out, format, row)?;
+    }
+    Ok(())
+}
+
+fn push_pair_rows(out: &mut Vec<u8>, format: Format, rows: &[PairRow]) -> Result<(), AllocError>
+    ensures { OnOk result (out.new.items ≡ out.old.items ++ flat_map (text.pairs_text format) (map pair_row_of rows.now)) }
+{
+    for row in rows {
+        push_pairs(out, format, row)?;
+    }
+    Ok(())
 }
 
 fn push_individual(out: &mut Vec<u8>, number: usize, element: u32) -> Result<(), AllocError>
@@ -181,56 +247,116 @@ pub(crate) fn push_domain(out: &mut Vec<u8>, domain: u32) -> Result<(), AllocErr
     out.extend_from_slice(b"\n")
 }
 
-pub(crate) fn push_listed(out: &mut Vec<u8>, listed: &Listed) -> Result<(), AllocError>
-    ensures { OnOk result (out.new.items ≡ out.old.items ++ text.listed_text (Some (listed_of listed.now))) }
+pub(crate) fn push_listed(
+    out: &mut Vec<u8>,
+    format: Format,
+    listed: &Listed,
+) -> Result<(), AllocError>
+    ensures { OnOk result (out.new.items ≡ out.old.items ++ text.listed_text format (Some (listed_of listed.now))) }
 {
     push_domain(out, listed.domain)?;
-    push_each(out, &listed.classes)?;
-    push_each(out, &listed.pairs)?;
+    push_class_rows(out, format, &listed.classes)?;
+    push_pair_rows(out, format, &listed.pairs)?;
     push_individuals(out, &listed.individuals)?;
     push_each(out, &listed.claims)
 }
 
-/// The text of the certificate, in memory.
-pub fn certificate_bytes(alloc: Global, certificate: &Certificate) -> Result<Vec<u8>, Memory>
-    ensures { IfOk result (λ v. v.items ≡ text.certificate_text certificate.now) }
+/// Adds the first line.
+pub(crate) fn push_first(
+    out: &mut Vec<u8>,
+    format: Format,
+    is_consistent: bool,
+) -> Result<(), AllocError>
+    ensures { OnOk result (out.new.items ≡ out.old.items ++ text.first_text format is_consistent) }
+{
+    match (format, is_consistent) {
+        (Format::One, true) => out.extend_from_slice(b"elcert 1 consistent\n"),
+        (Format::One, false) => out.extend_from_slice(b"elcert 1 inconsistent\n"),
+        (Format::Two, true) => out.extend_from_slice(b"elcert 2 consistent\n"),
+        (Format::Two, false) => out.extend_from_slice(b"elcert 2 inconsistent\n"),
+    }
+}
+
+/// The text of the certificate in the format, in memory.
+pub fn certificate_bytes(
+    alloc: Global,
+    certificate: &Certificate,
+    format: Format,
+) -> Result<Vec<u8>, Memory>
+    ensures { IfOk result (λ v. v.items ≡ text.certificate_text format certificate.now) }
 {
     let mut out = Vec::new(alloc);
     match &certificate.listed {
         None => {
-            out.extend_from_slice(b"elcert 1 inconsistent\n")?;
-            push_lines(&mut out, &certificate.lines)?;
+            push_first(&mut out, format, false)?;
+            push_lines(&mut out, format, &certificate.lines)?;
         }
         Some(listed) => {
-            out.extend_from_slice(b"elcert 1 consistent\n")?;
-            push_lines(&mut out, &certificate.lines)?;
-            push_listed(&mut out, listed)?;
+            push_first(&mut out, format, true)?;
+            push_lines(&mut out, format, &certificate.lines)?;
+            push_listed(&mut out, format, listed)?;
         }
     }
     out.extend_from_slice(b"end\n")?;
     Ok(out)
 }
 
-/// Writes the certificate's text; the certificate was made or read for this ontology.
+// Whether each premise of the line of that number is an earlier one.
+pub(crate) fn is_earlier(number: u64, premises: &[u64]) -> bool
+    ensures { IsTrue result ↔ All (λ p. p < number) premises.now }
+{
+    premises.iter().all(|premise| *premise < number)
+}
+
+// The number of the first line with a premise that is not earlier, if there is one.
+fn first_later(lines: &[Line]) -> Option<usize>
+    ensures { MatchOption result (AreEarlier 1 (lines_of lines.now)) (IsFirstLater (lines_of lines.now)) }
+{
+    for place in 0..lines.len() {
+        if !is_earlier(place as u64 + 1, &lines[place].premises) {
+            return Some(place + 1);
+        }
+    }
+    None
+}
+
+// The number of the first line that keeps the lines from being written in the format, if there is one.
+fn first_unwritten(format: Format, lines: &[Line]) -> Option<usize>
+    ensures { MatchOption result (HasNumbers format (lines_of lines.now)) (λ line. (format ≡ Format.Two) × IsFirstLater (lines_of lines.now) line) }
+{
+    match format {
+        Format::One => None,
+        Format::Two => first_later(lines),
+    }
+}
+
+/// Writes the certificate's text in the format; the certificate was made or read for this ontology.
 ///
-/// `Io` comes only where the sink failed in this call. After `Memory` it did not fail and has taken nothing. After either
-/// it has taken a prefix of the text.
+/// `LaterPremise` comes exactly where the format is 2 and a line has a premise that is not earlier, at the first such line; then
+/// nothing is written. `Io` comes only where the sink failed in this call. After `Memory` it did not fail and has taken nothing. After
+/// each of them it has taken a prefix of the text.
 pub fn write_certificate<S: Sink>(
     alloc: Global,
     ontology: &Ontology,
     certificate: &Certificate,
+    format: Format,
     sink: &mut S,
-) -> Result<(), WriteFault>
-    requires { HasText ontology.now certificate.now }
-    ensures ok { OnOk result (Appends (S.taken sink.old) (S.taken sink.new) (text.certificate_text certificate.now)) }
-    ensures begun { AppendsPrefix (S.taken sink.old) (S.taken sink.new) (text.certificate_text certificate.now) }
-    ensures io { IsErrOf result WriteFault.Io → HasFailed (S.failures sink.old) (S.failures sink.new) }
-    ensures untouched { IsErrOf result WriteFault.Memory → Keeps (S.taken sink.old) (S.taken sink.new) }
-    ensures untried { IsErrOf result WriteFault.Memory → S.failures sink.new ≡ S.failures sink.old }
-    ensures unfailed { OnOk result (S.failures sink.new ≡ S.failures sink.old) }
+) -> Result<(), CertWriteFault>
+    requires { HasText ontology.now Format.One certificate.now }
+    ensures text { OnOk result (HasText ontology.now format certificate.now) }
+    ensures later { IfErr result (IsLater format certificate.now.lines) }
+    ensures ok { OnOk result (Appends (S.taken sink.old) (S.taken sink.new) (text.certificate_text format certificate.now)) }
+    ensures begun { AppendsPrefix (S.taken sink.old) (S.taken sink.new) (text.certificate_text format certificate.now) }
+    ensures io { IsErrOf result CertWriteFault.Io → HasFailed (S.failures sink.old) (S.failures sink.new) }
+    ensures untouched { ¬ IsErrOf result CertWriteFault.Io → OnErr result (Keeps (S.taken sink.old) (S.taken sink.new)) }
+    ensures unfailed { ¬ IsErrOf result CertWriteFault.Io → S.failures sink.new ≡ S.failures sink.old }
     ensures count { S.failures sink.old ≤ S.failures sink.new }
+    ensures path { S.path sink.new ≡ S.path sink.old }
 {
-    let text = certificate_bytes(alloc, certificate)?;
+    if let Some(line) = first_unwritten(format, &certificate.lines) {
+        return Err(CertWriteFault::LaterPremise { line });
+    }
+    let text = certificate_bytes(alloc, certificate, format)?;
     write_all(sink, &text)?;
     Ok(())
 }

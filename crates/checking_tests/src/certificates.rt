@@ -10,8 +10,9 @@ ghost use Rattle.certificate.specs.Writability.{HasText};
 use crate::documents::ontology_of;
 use axioms::{ExprId, IndId, Memory, Ontology, PropId};
 use certificate::{
-    CertFault, Certificate, Claim, Conclusion, Line, LineText, Listed, ListedText, MakeFault, Rule,
-    Subject, certificate_bytes, one_certificate, one_text, read_certificate, write_certificate,
+    CertFault, Certificate, Claim, Conclusion, Format, FormatOne, FormatTwo, FormatType, Line,
+    LineText, Listed, ListedText, MakeFault, Rule, Subject, certificate_bytes, one_certificate,
+    one_text, read_certificate, texts, there_and_back, write_certificate,
 };
 use device::BufferSink;
 use readers::{
@@ -26,6 +27,10 @@ use std::test::Fail;
 /// A certificate of the ontology of the one axiom SubClassOf(A B).
 const TEXT: &[u8] =
     b"elcert 1 consistent\nsub e0 e0 K1\nsub e1 e1 K1\nsub e2 e2 K1\nsub e2 e0 K2\nsub e2 e3 K4 a1 3\nsub e3 e3 K1\nsub e3 e0 K2\ndomain 3\nclass e2 1\nclass e3 1 2\nclaim e0 0\nclaim e2 1\nclaim e3 2\nend\n";
+
+/// The same certificate in format 2.
+const IN_FORMAT_TWO: &[u8] =
+    b"elcert 2 consistent\nsub e0 e0 K1\nsub e1 e1 K1\nsub e2 e2 K1\nsub e2 e0 K2\nsub e2 e3 K4 a1 2\nsub e3 e3 K1\nsub e3 e0 K2\ndomain 3\nclass e2 1\nclass e3 1-2\nclaim e0 0\nclaim e2 1\nclaim e3 2\nend\n";
 
 /// SubClassOf(A B), of the classes of the numbers 2 and 3.
 fn one_subclass<R: AllocGlobal + RandomSource>(rt: &R) -> Result<Ontology, Fail> {
@@ -48,26 +53,32 @@ fn stops_at(alloc: Global, ontology: &Ontology, bytes: &[u8], place: Option<usiz
     read_certificate(alloc, ontology, bytes).err() == expected
 }
 
-/// Whether this is the certificate's text, in memory.
-fn has_bytes(alloc: Global, certificate: &Certificate, text: &[u8]) -> bool {
-    match certificate_bytes(alloc, certificate) {
+/// Whether this is the certificate's text in the format, in memory.
+fn has_bytes(alloc: Global, certificate: &Certificate, format: Format, text: &[u8]) -> bool {
+    match certificate_bytes(alloc, certificate, format) {
         Ok(bytes) => bytes.as_slice() == text,
         Err(_) => false,
     }
 }
 
-/// Whether this is the certificate's text, in memory and through a sink.
-fn is_text(alloc: Global, ontology: &Ontology, certificate: &Certificate, text: &[u8]) -> bool
-    requires { HasText ontology.now certificate.now }
+/// Whether this is the certificate's text in the format, in memory and through a sink.
+fn is_text(
+    alloc: Global,
+    ontology: &Ontology,
+    certificate: &Certificate,
+    format: Format,
+    text: &[u8],
+) -> bool
+    requires { HasText ontology.now Format.One certificate.now }
 {
     let mut sink = BufferSink::new(alloc);
-    write_certificate(alloc, ontology, certificate, &mut sink).is_ok()
+    write_certificate(alloc, ontology, certificate, format, &mut sink).is_ok()
         && sink.bytes() == text
-        && has_bytes(alloc, certificate, text)
+        && has_bytes(alloc, certificate, format, text)
 }
 
-/// The lines as the text of a certificate.
-fn grown_lines(alloc: Global, lines: &[Line]) -> Result<LineText, Memory> {
+/// The lines as the text of a certificate of the format.
+fn grown_lines<F: FormatType>(alloc: Global, lines: &[Line]) -> Result<LineText<F>, Memory> {
     let mut text = LineText::new(alloc)?;
     for line in lines {
         text.push(line)?;
@@ -76,7 +87,7 @@ fn grown_lines(alloc: Global, lines: &[Line]) -> Result<LineText, Memory> {
 }
 
 /// Adds the rows of classes and of pairs.
-fn add_rows(text: &mut ListedText, listed: &Listed) -> Result<(), Memory> {
+fn add_rows<F: FormatType>(text: &mut ListedText<F>, listed: &Listed) -> Result<(), Memory> {
     for row in &listed.classes {
         text.push_class(row)?;
     }
@@ -87,28 +98,29 @@ fn add_rows(text: &mut ListedText, listed: &Listed) -> Result<(), Memory> {
 }
 
 /// The text of the certificate of the lines and of the interpretation, grown line by line and row by row.
-fn grown(alloc: Global, lines: &[Line], listed: &Listed) -> Result<Vec<u8>, Memory> {
-    let mut text = grown_lines(alloc, lines)?.with_domain(listed.domain)?;
+fn grown<F: FormatType>(alloc: Global, lines: &[Line], listed: &Listed) -> Result<Vec<u8>, Memory> {
+    let mut text = grown_lines::<F>(alloc, lines)?.with_domain(listed.domain)?;
     add_rows(&mut text, listed)?;
     text.end(&listed.individuals, &listed.claims)
 }
 
-/// Whether the text of a certificate grows to this, where it lists an interpretation.
-fn grows_to(alloc: Global, certificate: &Certificate, text: &[u8]) -> bool {
+/// Whether the text of a certificate of the format grows to this, where it lists an interpretation.
+fn grows_to<F: FormatType>(alloc: Global, certificate: &Certificate, text: &[u8]) -> bool {
     let Some(listed) = certificate.listed() else {
         return true;
     };
-    match grown(alloc, certificate.lines(), listed) {
+    match grown::<F>(alloc, certificate.lines(), listed) {
         Ok(bytes) => bytes.as_slice() == text,
         Err(_) => false,
     }
 }
 
-/// Whether the text is read, and written again as it was.
-fn is_kept(alloc: Global, ontology: &Ontology, text: &[u8]) -> bool {
+/// Whether the text, which is in the format, is read, and written again as it was.
+fn is_kept<F: FormatType>(alloc: Global, ontology: &Ontology, text: &[u8]) -> bool {
     match read_certificate(alloc, ontology, text) {
         Ok(certificate) => {
-            is_text(alloc, ontology, &certificate, text) && grows_to(alloc, &certificate, text)
+            is_text(alloc, ontology, &certificate, F::format(), text)
+                && grows_to::<F>(alloc, &certificate, text)
         }
         Err(_) => false,
     }
@@ -141,23 +153,25 @@ const CLAIMS: &[Claim] = &[
 ];
 
 /// Whether the certificate of the text has these members.
-fn has_members(alloc: Global, ontology: &Ontology) -> bool {
-    match read_certificate(alloc, ontology, TEXT) {
+fn has_members(alloc: Global, ontology: &Ontology, text: &[u8]) -> bool {
+    match read_certificate(alloc, ontology, text) {
         Ok(certificate) => are_members(&certificate, 7, 3, CLAIMS),
         Err(_) => false,
     }
 }
 
-/// The text is kept, and has its members.
-fn assert_kept<R: AllocGlobal + Abort>(rt: &R, ontology: &Ontology) {
-    assert!(rt; is_kept(rt.alloc(), ontology, TEXT), "kept");
-    assert!(rt; has_members(rt.alloc(), ontology), "members");
+/// The text, which is in the format, is kept, and has its members.
+fn assert_kept<F: FormatType, R: AllocGlobal + Abort>(rt: &R, ontology: &Ontology, text: &[u8]) {
+    assert!(rt; is_kept::<F>(rt.alloc(), ontology, text), "kept");
+    assert!(rt; has_members(rt.alloc(), ontology, text), "members");
 }
 
 #[test]
 fn laws() {
     one_certificate();
     one_text();
+    texts();
+    there_and_back();
 }
 
 /// Whether reading the text, cut there, stops at the start of its last line.
@@ -265,7 +279,38 @@ fn are_read<R: AllocGlobal + Abort>(rt: &R, ontology: &Ontology) {
         let bytes = text.as_bytes();
         assert!(rt;
             stops_at(rt.alloc(), ontology, bytes, *at)
-                && (at.is_some() || is_kept(rt.alloc(), ontology, bytes)),
+                && (at.is_some() || is_kept::<FormatOne>(rt.alloc(), ontology, bytes)),
+            "{text}"
+        );
+    }
+}
+
+/// The same in format 2: lines of individuals, pairs whose targets are neighbours, and first lines.
+const TEXTS_IN_FORMAT_TWO: &[(&str, Option<usize>)] = &[
+    (
+        "elcert 2 inconsistent\nedge i1 p0 e2 K16\nedge e2 p1 i0 K8 1\nend\n",
+        None,
+    ),
+    ("elcert 2 inconsistent\nedge i1 p0 e2 K8 1\nend\n", Some(22)),
+    (
+        "elcert 2 consistent\ndomain 4\nsucc p0 1 0-1 3\nsucc p1 0 0\nind i0 0\nind i1 0\nend\n",
+        None,
+    ),
+    (
+        "elcert 2 consistent\ndomain 4\nsucc p0 1 0 1 3\nind i0 0\nind i1 0\nend\n",
+        Some(29),
+    ),
+    ("elcert 3 inconsistent\nend\n", Some(0)),
+    ("elcert 02 inconsistent\nend\n", Some(0)),
+];
+
+/// Reading each of these stops there, and those that are read are kept.
+fn are_read_in_format_two<R: AllocGlobal + Abort>(rt: &R, ontology: &Ontology) {
+    for (text, at) in TEXTS_IN_FORMAT_TWO {
+        let bytes = text.as_bytes();
+        assert!(rt;
+            stops_at(rt.alloc(), ontology, bytes, *at)
+                && (at.is_some() || is_kept::<FormatTwo>(rt.alloc(), ontology, bytes)),
             "{text}"
         );
     }
@@ -304,7 +349,7 @@ fn is_made(alloc: Global, ontology: &Ontology) -> Result<bool, AllocError> {
     let text = b"elcert 1 inconsistent\nedge e2 p1 i0 K16 7\nend\n";
     let lines = one_edge(alloc, 2, None, 7)?;
     match Certificate::new(ontology, lines, None) {
-        Ok(certificate) => Ok(has_bytes(alloc, &certificate, text)),
+        Ok(certificate) => Ok(has_bytes(alloc, &certificate, Format::One, text)),
         Err(_) => Ok(false),
     }
 }
@@ -340,11 +385,31 @@ fn assert_made<R: AllocGlobal + Abort>(rt: &R, ontology: &Ontology) {
     assert!(rt; Rule::K16.number() == 16, "number");
 }
 
+/// Whether a text of the format takes a first line with this premise.
+fn takes_premise<F: FormatType>(alloc: Global, premise: u64) -> Result<bool, Memory> {
+    let line = edge(alloc, 2, None, premise)?;
+    Ok(LineText::<F>::new(alloc)?.push(&line).is_ok())
+}
+
+/// A text of format 2 takes no line with a premise that is not earlier.
+fn assert_later_premise_refused<R: AllocGlobal + Abort>(rt: &R) {
+    assert!(rt;
+        takes_premise::<FormatOne>(rt.alloc(), 1) == Ok(true),
+        "format 1"
+    );
+    assert!(rt;
+        takes_premise::<FormatTwo>(rt.alloc(), 1) == Ok(false),
+        "format 2"
+    );
+}
+
 #[test]
 fn certificates_of_one_subclass(rt: HostRuntime) -> Result<(), Fail> {
     let ontology = one_subclass(&rt)?;
-    assert_kept(&rt, &ontology);
+    assert_kept::<FormatOne, _>(&rt, &ontology, TEXT);
+    assert_kept::<FormatTwo, _>(&rt, &ontology, IN_FORMAT_TWO);
     assert_lines(&rt, &ontology, TEXT);
+    assert_lines(&rt, &ontology, IN_FORMAT_TWO);
     assert_listed_behind_lines(&rt, &ontology);
     assert_failing_reads(&rt, &ontology);
     are_cut(&rt, &ontology);
@@ -360,6 +425,8 @@ fn certificates_over_names(rt: HostRuntime) -> Result<(), Fail> {
     assert_no_readers(&rt, &ontology);
     assert_premises_kept(&rt, &ontology);
     are_read(&rt, &ontology);
+    are_read_in_format_two(&rt, &ontology);
     assert_made(&rt, &ontology);
+    assert_later_premise_refused(&rt);
     Ok(())
 }

@@ -1,6 +1,9 @@
 //! Verdicts on small certificates that were worked out by hand: right ones, cut ones and ones that were changed.
 
+mod conversions;
 mod domains;
+mod format_two;
+mod individuals;
 mod lines;
 mod models;
 mod one_subclass;

@@ -1,7 +1,7 @@
 //! Ontologies that documents state.
 
 use axioms::Ontology;
-use profile::read_bytes;
+use profile::{Version, read_bytes};
 use std::hash::RandomState;
 use std::random::RandomSource;
 use std::test::Fail;
@@ -11,5 +11,6 @@ pub(crate) fn ontology_of<R: AllocGlobal + RandomSource>(
     rt: &R,
     document: &str,
 ) -> Result<Ontology, Fail> {
-    Ok(read_bytes(rt.alloc(), document.as_bytes(), RandomState::new(rt)?)?)
+    let state = RandomState::new(rt)?;
+    Ok(read_bytes(rt.alloc(), document.as_bytes(), Version::Two, state)?)
 }

@@ -11,7 +11,7 @@ use Rattle.lemmas.proofs.Members.{Contains-later, Contains-from_slice_get}
 use Rattle.lemmas.proofs.Pairs.{AllPairs-map}
 use Rattle.narrowing.specs.Narrowed.{StandsIn, in_class, as_source, as_target, IsNarrowed, place_among, narrowed_domain, narrowed_class, narrowed_pairs, narrowed_claim, narrowed_to}
 use Rattle.narrowing.proofs.Climbing.{Climbs, climbs, fitting, place_order}
-use Rattle.narrowing.proofs.Folded.{domain_cases, below_domain, place_below}
+use Rattle.narrowing.proofs.Folding.{domain_cases, below_domain, place_below}
 
 -- ---- the order of the text
 

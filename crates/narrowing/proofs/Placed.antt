@@ -6,9 +6,7 @@ use Rattle.std.proofs.lemmas.Bool.{cases_lt, eq-eqb, ne_eqb}
 use Rattle.std.proofs.lemmas.List.Sorted.{searched}
 use Rattle.lemmas.proofs.Pairs.{AllPairs-head, AllPairs-tail}
 use Rattle.interpretation_spec.proofs.Ascending.{no_descent}
-use Rattle.listed_model.proofs.Given.{ascends_pairs}
 use Rattle.listed_model.proofs.Members.{rising}
-use Rattle.certificate.specs.Writability.{Ascends}
 use Rattle.narrowing.specs.Narrowed.{place_among}
 
 pub place_at : (xs : List ℕ) → AllPairs (λ x y. x < y) xs → (i : ℕ) → i < length xs → place_among xs (get_or xs i 0) ≡ i
@@ -23,15 +21,14 @@ pub place_missing : (xs : List ℕ) (x : ℕ) → ((k : ℕ) → k < length xs �
 place_missing [] x none = refl
 place_missing (y ∷ ys) x none = rw (ne_eqb y x (none 0 (omega arith))) (ap suc (place_missing ys x (λ k l. none (suc k) (omega arith))))
 
-pub place_found : (xs : List ℕ) (x i : ℕ) → Ascends xs → IsBinarySearchResult (λ y. nat_cmp y x) xs (Ok i) → i ≡ place_among xs x
+pub place_found : (xs : List ℕ) (x i : ℕ) → AllPairs (λ x y. x < y) xs → IsBinarySearchResult (λ y. nat_cmp y x) xs (Ok i) → i ≡ place_among xs x
 place_found xs x i up found =
-    let pairs = ascends_pairs xs up in
-    let (l, e) = searched xs x (Ok i) found (no_descent xs (rising xs pairs)) in
-    sym (place_at xs pairs i l) ∙ ap (place_among xs) e
+    let (l, e) = searched xs x (Ok i) found (no_descent xs (rising xs up)) in
+    sym (place_at xs up i l) ∙ ap (place_among xs) e
 
-pub place_not_found : (xs : List ℕ) (x i : ℕ) → Ascends xs → IsBinarySearchResult (λ y. nat_cmp y x) xs (Err i) → length xs ≡ place_among xs x
+pub place_not_found : (xs : List ℕ) (x i : ℕ) → AllPairs (λ x y. x < y) xs → IsBinarySearchResult (λ y. nat_cmp y x) xs (Err i) → length xs ≡ place_among xs x
 place_not_found xs x i up found =
-    let (within, below, above) = searched xs x (Err i) found (no_descent xs (rising xs (ascends_pairs xs up))) in
+    let (within, below, above) = searched xs x (Err i) found (no_descent xs (rising xs up)) in
     sym (place_missing xs x (λ k l e.
     elim (cases_lt k i) [
       | inl b ↦ (let m = below k b in omega arith)

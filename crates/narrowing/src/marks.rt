@@ -30,8 +30,8 @@ fn count_pair_elements(rows: &[PairRow]) -> usize
     count
 }
 
-// How many numbers of elements stand in the lines, each as often as it stands there.
-fn count_of(listed: &Listed) -> usize
+/// How many numbers of elements stand in the lines, each as often as it stands there.
+pub(crate) fn count_of(listed: &Listed) -> usize
     ensures { result ≡ min (length (elements_of_lines listed.now)) (2 ^ 64 - 1) }
 {
     count_class_elements(&listed.classes)

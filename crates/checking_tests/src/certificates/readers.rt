@@ -193,8 +193,13 @@ fn has_no_reader<S: Source>(alloc: Global, ontology: &Ontology, source: &mut S) 
     LineReader::new(alloc, ontology, None, source).err() == Some(TextFault::BadText { at: 0 })
 }
 
-/// Nothing, a text of another version and a first line that is cut.
-const NO_CERTIFICATES: &[&str] = &["", "elcert 2 consistent\nend\n", "elcert 1 consistent"];
+/// Nothing, a text of no format and first lines that are cut.
+const NO_CERTIFICATES: &[&str] = &[
+    "",
+    "elcert 3 consistent\nend\n",
+    "elcert 1 consistent",
+    "elcert 2 consistent",
+];
 
 /// They have no readers.
 pub(crate) fn assert_no_readers<R: AllocGlobal + Abort>(rt: &R, ontology: &Ontology) {

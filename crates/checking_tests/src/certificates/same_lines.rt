@@ -4,7 +4,9 @@ use super::readers::assert_lines;
 use super::{has_bytes, is_kept, stops_at};
 use crate::documents::ontology_of;
 use axioms::{IndId, Memory, Ontology};
-use certificate::{Certificate, Conclusion, Line, LineText, MakeFault, Rule, Subject};
+use certificate::{
+    Certificate, Conclusion, Format, FormatOne, FormatTwo, Line, LineText, MakeFault, Rule, Subject,
+};
 use std::alloc::{AllocError, Global};
 use std::process::Abort;
 use std::random::RandomSource;
@@ -25,13 +27,22 @@ const TEXTS: &[&str] = &[
     "elcert 1 consistent\nsame i2 i0 K17 a2\nsub i0 e2 K15 a1\nsub i2 e2 K19 1 2\nedge i0 p0 i1 K16 a2\nedge i2 p0 i1 K19 1 4\nsame i2 i2 K18\nsub e2 e2 K1\ndomain 1\nclass e2 0\nsucc p0 0 0\nind i0 0\nind i1 0\nind i2 0\nclaim e0 0\nclaim e2 0\nend\n",
 ];
 
+/// The first of them in format 2.
+const IN_FORMAT_TWO: &[u8] =
+    b"elcert 2 inconsistent\nsame i0 i1 K17 a1\nsame i1 i2 K17 a2\nsame i0 i2 K18 2 1\nsub i0 e1 K20 a1 1\nend\n";
+
 /// The texts are read, and written again as they were.
 fn are_kept<R: AllocGlobal + Abort>(rt: &R, ontology: &Ontology) {
     for text in TEXTS {
         let bytes = text.as_bytes();
-        assert!(rt; is_kept(rt.alloc(), ontology, bytes), "{text}");
+        assert!(rt; is_kept::<FormatOne>(rt.alloc(), ontology, bytes), "{text}");
         assert_lines(rt, ontology, bytes);
     }
+    assert!(rt;
+        is_kept::<FormatTwo>(rt.alloc(), ontology, IN_FORMAT_TWO),
+        "format 2"
+    );
+    assert_lines(rt, ontology, IN_FORMAT_TWO);
 }
 
 /// What is no line: not an individual, none of the ontology, one too few or too many, numbers and spaces spelled otherwise, no rule,
@@ -106,6 +117,7 @@ fn is_made(alloc: Global, ontology: &Ontology) -> Result<bool, AllocError> {
         Ok(certificate) => Ok(has_bytes(
             alloc,
             &certificate,
+            Format::One,
             b"elcert 1 inconsistent\nsame i2 i0 K17 a1\nend\n",
         )),
         Err(_) => Ok(false),
@@ -125,7 +137,7 @@ fn is_not_made(
 
 /// What the line speaks of, where a text keeps it.
 fn source_in_text(alloc: Global, line: &Line) -> Result<Option<Subject>, Memory> {
-    let mut text = LineText::new(alloc)?;
+    let mut text = LineText::<FormatOne>::new(alloc)?;
     text.push(line)?;
     Ok(text.source(1))
 }

@@ -13,6 +13,10 @@ const NO_CLASSES: &str =
 const TWO_CLASSES: &str =
     "eltax 1 consistent\n<http://www.w3.org/2002/07/owl#Thing>\n<x:A> < <http://www.w3.org/2002/07/owl#Thing>\n<x:B> < <http://www.w3.org/2002/07/owl#Thing>\nbottom <http://www.w3.org/2002/07/owl#Nothing>\n";
 
+/// The taxonomy text where the one class is all.
+const EQUAL_TO_THING: &str =
+    "eltax 1 consistent\n<http://www.w3.org/2002/07/owl#Thing> = <x:A>\nbottom <http://www.w3.org/2002/07/owl#Nothing>\n";
+
 /// The instances text where there are no individuals.
 const NO_INDIVIDUALS: &str = "elinst 1 consistent\n";
 
@@ -48,7 +52,7 @@ fn a_reflexive_property_in_huge_domains(rt: HostRuntime) -> Result<(), Fail> {
 }
 
 const CLASS_OF_ALL: Texts<'static> = Texts {
-    taxonomy: "eltax 1 consistent\n<http://www.w3.org/2002/07/owl#Thing> = <x:A>\nbottom <http://www.w3.org/2002/07/owl#Nothing>\n",
+    taxonomy: EQUAL_TO_THING,
     instances: NO_INDIVIDUALS,
     certificate: "elcert 1 consistent\nsub e0 e0 K1\nsub e0 e2 K4 a1 1\nsub e1 e1 K1\nsub e2 e2 K1\nsub e2 e0 K2\ndomain 1\nclass e2 0\nclaim e0 0\nclaim e2 0\nend\n",
 };
@@ -70,6 +74,71 @@ fn a_class_of_all_in_huge_domains(rt: HostRuntime) -> Result<(), Fail> {
         "Prefix(:=<x:>) Ontology(SubClassOf(owl:Thing :A))",
         CLASS_OF_ALL,
         CLASS_OF_ALL_CHANGES,
+    )
+}
+
+const RUN_OF_ALL: Texts<'static> = Texts {
+    taxonomy: EQUAL_TO_THING,
+    instances: NO_INDIVIDUALS,
+    certificate: "elcert 2 consistent\nsub e0 e0 K1\nsub e0 e2 K4 a1 1\nsub e1 e1 K1\nsub e2 e2 K1\nsub e2 e0 K2\ndomain 4294967295\nclass e2 0-4294967294\nclaim e0 0\nclaim e2 4294967294\nend\n",
+};
+
+const RUN_OF_ALL_CHANGES: &[Change] = &[
+    ("end", "end", None),
+    (
+        "0-4294967294",
+        "0-4294967293",
+        Some(Reason::AxiomFails { axiom: 1 }),
+    ),
+    (
+        "0-4294967294",
+        "1-4294967294",
+        Some(Reason::AxiomFails { axiom: 1 }),
+    ),
+    (
+        "0-4294967294",
+        "0-1000000000 1000000002-4294967294",
+        Some(Reason::AxiomFails { axiom: 1 }),
+    ),
+];
+
+#[test]
+fn a_run_of_all_in_huge_domains(rt: HostRuntime) -> Result<(), Fail> {
+    judge(
+        &rt,
+        "Prefix(:=<x:>) Ontology(SubClassOf(owl:Thing :A))",
+        RUN_OF_ALL,
+        RUN_OF_ALL_CHANGES,
+    )
+}
+
+const RUN_OF_TARGETS: Texts<'static> = Texts {
+    taxonomy: NO_CLASSES,
+    instances: NO_INDIVIDUALS,
+    certificate: "elcert 2 consistent\nsub e0 e0 K1\nsub e1 e1 K1\ndomain 4294967295\nsucc p0 7 0-4294967294\nclaim e0 4294967294\nend\n",
+};
+
+const RUN_OF_TARGETS_CHANGES: &[Change] = &[
+    ("end", "end", None),
+    (
+        "succ p0 7 0-4294967294",
+        "succ p0 7 8-4294967294\nsucc p0 8 8-4294967294",
+        None,
+    ),
+    (
+        "succ p0 7 0-4294967294",
+        "succ p0 7 8-4294967294\nsucc p0 8 0-4294967294",
+        Some(Reason::AxiomFails { axiom: 1 }),
+    ),
+];
+
+#[test]
+fn runs_of_targets_in_huge_domains(rt: HostRuntime) -> Result<(), Fail> {
+    judge(
+        &rt,
+        "Prefix(:=<x:>) Ontology(TransitiveObjectProperty(:r))",
+        RUN_OF_TARGETS,
+        RUN_OF_TARGETS_CHANGES,
     )
 }
 

@@ -38,7 +38,17 @@ const MODELS: &str = "+ TransitiveObjectProperty(:r) | succ p0 0 1 2;succ p0 1 2
 + ClassAssertion(:A :a) | class e2 1;ind i0 1;
 - ClassAssertion(:A :a) | class e2 1;ind i0 2;
 + ObjectPropertyAssertion(:r :a :b) | succ p0 0 1;ind i0 0;ind i1 1;
-- ObjectPropertyAssertion(:r :a :b) | succ p0 0 1;ind i0 1;ind i1 0;";
+- ObjectPropertyAssertion(:r :a :b) | succ p0 0 1;ind i0 1;ind i1 0;
++ SameIndividual(:a :b :c) | ind i0 1;ind i1 1;ind i2 1;
+- SameIndividual(:a :b :c) | ind i0 1;ind i1 1;ind i2 2;
+- SameIndividual(:a :b :c) | ind i0 2;ind i1 1;ind i2 1;
++ DifferentIndividuals(:a :b :c) | ind i0 1;ind i1 0;ind i2 2;
+- DifferentIndividuals(:a :b :c) | ind i0 1;ind i1 2;ind i2 1;
+- DifferentIndividuals(:a :b :c) | ind i0 1;ind i1 2;ind i2 2;
++ NegativeObjectPropertyAssertion(:r :a :b) | succ p0 1 0;ind i0 0;ind i1 1;
+- NegativeObjectPropertyAssertion(:r :a :b) | succ p0 0 1;ind i0 0;ind i1 1;
++ NegativeObjectPropertyAssertion(:r :a :a) | succ p0 0 1 2;ind i0 0;
+- NegativeObjectPropertyAssertion(:r :a :a) | succ p0 0 0 1 2;ind i0 0;";
 
 /// The verdict that the sign of a row asks for: where its axiom holds, the claim for owl:Thing is missed next.
 fn expected(sign: &str) -> Verdict {

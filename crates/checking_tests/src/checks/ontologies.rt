@@ -20,6 +20,24 @@ pub(super) const CONTRADICTION_DOCUMENT: &str =
 pub(super) const CIRCLE_AND_NOTHING_DOCUMENT: &str =
     "Prefix(:=<x:>) Ontology(SubClassOf(:A :B) SubClassOf(:B :A) SubClassOf(:C :D) SubClassOf(:D owl:Nothing))";
 
+/// The class A of the number 2, the properties r and s of the numbers 0 and 1, the individuals a, b, c and d of the numbers 0 to 3;
+/// the axioms
+///
+/// - 1: SameIndividual(a b c)
+/// - 2: DifferentIndividuals(b d a)
+/// - 3: NegativeObjectPropertyAssertion(r a b)
+/// - 4: ObjectPropertyAssertion(r a c)
+/// - 5: ClassAssertion(A c)
+/// - 6: SubObjectPropertyOf(r s)
+pub(super) fn groups<R: AllocGlobal + RandomSource>(rt: &R) -> Result<Ontology, Fail> {
+    ontology_of(
+        rt,
+        "Prefix(:=<x:>) Ontology(
+SameIndividual(:a :b :c) DifferentIndividuals(:b :d :a) NegativeObjectPropertyAssertion(:r :a :b)
+ObjectPropertyAssertion(:r :a :c) ClassAssertion(:A :c) SubObjectPropertyOf(:r :s))",
+    )
+}
+
 /// The classes A, B and C of the numbers 2, 3 and 4, the properties r, s and t of the numbers 0, 1 and 2, the individuals a and
 /// b of the numbers 0 and 1; the axioms
 ///

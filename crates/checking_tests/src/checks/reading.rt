@@ -41,7 +41,7 @@ const READS: &[Reads] = &[
     (
         1,
         "elcert 1",
-        "elcert 2",
+        "elcert 3",
         20,
         Some(Reason::BadText { at: 0 }),
     ),

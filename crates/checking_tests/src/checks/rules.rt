@@ -1,6 +1,6 @@
-//! Uses of each rule over an ontology with an axiom of each shape: some that follow, and some that do not.
+//! Uses of each rule over ontologies that have an axiom of each shape between them: some that follow, and some that do not.
 
-use super::ontologies::each_shape;
+use super::ontologies::{each_shape, groups};
 use super::{CONTRADICTION, bad_line, has_verdict, with_lines};
 use axioms::Ontology;
 use cert_check::{Reason, Verdict};
@@ -9,8 +9,8 @@ use std::process::Abort;
 use std::random::RandomSource;
 use std::test::Fail;
 
-// In each table a row is a derivation, its lines apart by `;`. Behind `+` all of it follows, so that only a contradiction is
-// missing, behind `-` all but its last line, and behind `1` not even its first line.
+// In each table a row is a derivation, its lines apart by `;`. Behind `!` all of it follows and shows a contradiction, behind `+` all
+// of it follows, so that only a contradiction is missing, behind `-` all but its last line, and behind `1` not even its first line.
 
 /// Rules on what lies in what, from K1 to K7.
 const RULES_OF_CLASSES: &str = "+ sub e0 e0 K1
@@ -191,9 +191,9 @@ const RULES_OF_INDIVIDUALS: &str = "+ sub i0 e2 K15 a10
 - edge i0 p0 e1 K16 a11
 - edge i0 p0 i1 K16 a11;edge i0 p0 i1 K16 a11 1";
 
-/// Rules on individuals that are one, on such as differ and on pairs that are denied, from K17 to K20. No ontology has an axiom of
-/// one of these kinds, so that nothing follows by these rules, whatever the axiom and the premises.
-const RULES_OF_ONE_ELEMENT: &str = "- same i0 i1 K17
+/// Rules on individuals that are one, on such as differ and on pairs that are denied, from K17 to K20, where the ontology has no
+/// axiom of one of these kinds, so that nothing follows by these rules, whatever the axiom and the premises.
+const RULES_WITHOUT_GROUPS: &str = "- same i0 i1 K17
 - same i0 i0 K17
 - same i0 i1 K17 a2
 - same i0 i1 K17 a3
@@ -238,8 +238,87 @@ const RULES_OF_ONE_ELEMENT: &str = "- same i0 i1 K17
 1 same i1 i0 K17 a11;edge i0 p0 i1 K16 a11;edge i1 p0 i1 K19 1 2
 1 same i1 i0 K17 a11;edge i0 p0 i1 K16 a11;edge i1 p0 i1 K19 2 1";
 
+/// The same rules where the ontology has axioms of these kinds: K17 and K18.
+const RULES_OF_ONE_ELEMENT: &str = "+ same i0 i1 K17 a1
++ same i1 i0 K17 a1
++ same i2 i0 K17 a1
+- same i0 i0 K17 a1
+- same i0 i3 K17 a1
+- same i3 i1 K17 a2
+- same i0 i1 K17 a2
+- same i0 i2 K17 a4
+- same i0 i1 K17
+- same i0 i1 K17 a1;same i0 i2 K17 a1 1
+- sub i0 e2 K17 a1
+- edge i0 p0 i1 K17 a1
++ same i0 i1 K17 a1;same i1 i2 K17 a1;same i0 i2 K18 1 2
++ same i0 i1 K17 a1;same i1 i0 K17 a1;same i0 i0 K18 1 2
+- same i0 i1 K17 a1;same i1 i2 K17 a1;same i0 i2 K18 2 1
+- same i0 i1 K17 a1;same i1 i2 K17 a1;same i2 i0 K18 1 2
+- same i0 i1 K17 a1;same i2 i1 K17 a1;same i0 i1 K18 1 2
+- same i0 i1 K17 a1;same i2 i1 K17 a1;same i0 i2 K18 1 2
+- same i0 i1 K17 a1;same i1 i2 K17 a1;same i0 i2 K18
+- same i0 i1 K17 a1;same i1 i2 K17 a1;same i0 i1 K18 1
+- same i0 i1 K17 a1;same i1 i2 K17 a1;same i0 i2 K18 1 2 2
+- same i0 i1 K17 a1;same i1 i2 K17 a1;same i0 i2 K18 a1 1 2
+- same i2 i0 K17 a1;edge i0 p0 i2 K16 a4;same i2 i2 K18 1 2";
+
+/// .. K19: in a class, at a source, at a target, and at one end alone.
+const RULES_OF_MOVES: &str = "+ sub i2 e2 K15 a5;same i0 i2 K17 a1;sub i0 e2 K19 2 1
+- sub i2 e2 K15 a5;same i0 i2 K17 a1;sub i0 e2 K19 1 2
+- sub i2 e2 K15 a5;same i2 i0 K17 a1;sub i0 e2 K19 2 1
+- sub i2 e2 K15 a5;same i0 i2 K17 a1;sub i0 e0 K19 2 1
+- sub i2 e2 K15 a5;same i0 i2 K17 a1;sub i1 e2 K19 2 1
+- sub i2 e2 K15 a5;same i0 i2 K17 a1;sub i2 e2 K19 2 1
+- sub i2 e2 K15 a5;same i0 i2 K17 a1;sub i0 e2 K19 2
+- sub i2 e2 K15 a5;same i0 i2 K17 a1;sub i0 e2 K19 2 1 1
+- sub i2 e2 K15 a5;same i0 i2 K17 a1;sub i0 e2 K19 a1 2 1
+- sub i1 e0 K2;same i0 i2 K17 a1;sub i0 e0 K19 2 1
++ edge i0 p0 i2 K16 a4;same i1 i0 K17 a1;edge i1 p0 i2 K19 2 1
++ edge i0 p0 i2 K16 a4;same i1 i2 K17 a1;edge i0 p0 i1 K19 2 1
+- edge i0 p0 i2 K16 a4;same i1 i0 K17 a1;edge i1 p0 i2 K19 1 2
+- edge i0 p0 i2 K16 a4;same i0 i1 K17 a1;edge i1 p0 i2 K19 2 1
+- edge i0 p0 i2 K16 a4;same i2 i1 K17 a1;edge i0 p0 i1 K19 2 1
+- edge i0 p0 i2 K16 a4;same i1 i0 K17 a1;edge i0 p0 i2 K19 2 1
+- edge i0 p0 i2 K16 a4;same i1 i0 K17 a1;edge i1 p0 i1 K19 2 1
+- edge i0 p0 i2 K16 a4;same i1 i2 K17 a1;edge i1 p0 i1 K19 2 1
+- edge i0 p0 i2 K16 a4;same i1 i0 K17 a1;edge i1 p1 i2 K19 2 1
+- edge i0 p0 i2 K16 a4;same i1 i2 K17 a1;edge i0 p1 i1 K19 2 1
+- edge i0 p0 i2 K16 a4;same i1 i0 K17 a1;edge i1 p0 i2 K19 a1 2 1
+- edge i0 p0 i2 K16 a4;same i1 i0 K17 a1;edge i1 p0 i2 K19 1
+- edge i0 p0 i2 K16 a4;same i1 i0 K17 a1;sub i1 e0 K19 2 1
++ edge i0 p0 i2 K16 a4;same i2 i0 K17 a1;edge i2 p0 i2 K19 2 1;same i0 i2 K17 a1;edge i2 p0 i0 K19 4 3
+- edge i0 p0 i2 K16 a4;same i2 i0 K17 a1;edge i2 p0 i2 K19 2 1;same i0 i2 K17 a1;edge i0 p0 i0 K19 4 3
+- same i0 i1 K17 a1;same i1 i2 K17 a1;same i0 i2 K19 1 2";
+
+/// .. K20: of two that differ, and of a pair that is denied.
+const RULES_OF_DIFFERENCE: &str = "! same i0 i1 K17 a1;sub i0 e1 K20 a2 1
+! same i1 i0 K17 a1;sub i1 e1 K20 a2 1
+- same i0 i1 K17 a1;sub i1 e1 K20 a2 1
+- same i0 i2 K17 a1;sub i0 e1 K20 a2 1
+- same i0 i1 K17 a1;same i1 i0 K17 a1;same i0 i0 K18 1 2;sub i0 e1 K20 a2 3
+- same i0 i1 K17 a1;sub i0 e2 K20 a2 1
+- same i0 i1 K17 a1;sub i0 e1 K20 a1 1
+- same i0 i1 K17 a1;sub i0 e1 K20 a3 1
+- same i0 i1 K17 a1;sub i0 e1 K20 1
+- same i0 i1 K17 a1;sub i0 e1 K20 a2
+- same i0 i1 K17 a1;sub i0 e1 K20 a2 1 1
+- same i0 i1 K17 a1;edge i0 p0 i1 K20 a2 1
+! edge i0 p0 i2 K16 a4;same i1 i2 K17 a1;edge i0 p0 i1 K19 2 1;sub i0 e1 K20 a3 3
+- edge i0 p0 i2 K16 a4;same i1 i2 K17 a1;edge i0 p0 i1 K19 2 1;sub i1 e1 K20 a3 3
+- edge i0 p0 i2 K16 a4;same i1 i2 K17 a1;edge i0 p0 i1 K19 2 1;sub i0 e2 K20 a3 3
+- edge i0 p0 i2 K16 a4;same i1 i2 K17 a1;edge i0 p0 i1 K19 2 1;sub i0 e1 K20 a2 3
+- edge i0 p0 i2 K16 a4;same i1 i2 K17 a1;edge i0 p0 i1 K19 2 1;sub i0 e1 K20 3
+- edge i0 p0 i2 K16 a4;same i1 i2 K17 a1;edge i0 p0 i1 K19 2 1;sub i0 e1 K20 a3 1
+- edge i0 p0 i2 K16 a4;same i1 i2 K17 a1;edge i0 p0 i1 K19 2 1;edge i0 p1 i1 K12 a6 3;sub i0 e1 K20 a3 4
+- edge i0 p0 i2 K16 a4;same i2 i0 K17 a1;edge i2 p0 i2 K19 2 1;same i1 i2 K17 a1;edge i1 p0 i2 K19 4 3;same i0 i2 K17 a1;edge i1 p0 i0 K19 6 5;sub i1 e1 K20 a3 7
+- sub i0 e1 K20 a3";
+
 /// The verdict that the sign of a row asks for.
 fn expected(sign: &str, lines: &str) -> Verdict {
+    if sign == "!" {
+        return Verdict::Accepted;
+    }
     if sign == "+" {
         return Verdict::Rejected(Reason::NoContradiction);
     }
@@ -279,6 +358,13 @@ fn judge<R: AllocGlobal + Abort + RandomSource>(rt: &R, rows: &str) -> Result<()
     Ok(())
 }
 
+/// .. where individuals are one.
+fn judge_groups<R: AllocGlobal + Abort + RandomSource>(rt: &R, rows: &str) -> Result<(), Fail> {
+    let ontology = groups(rt)?;
+    are_judged(rt, &ontology, rows);
+    Ok(())
+}
+
 #[test]
 fn uses_of_rules_of_classes(rt: HostRuntime) -> Result<(), Fail> {
     judge(&rt, RULES_OF_CLASSES)
@@ -295,6 +381,21 @@ fn uses_of_rules_of_individuals(rt: HostRuntime) -> Result<(), Fail> {
 }
 
 #[test]
+fn uses_of_rules_without_groups(rt: HostRuntime) -> Result<(), Fail> {
+    judge(&rt, RULES_WITHOUT_GROUPS)
+}
+
+#[test]
 fn uses_of_rules_of_one_element(rt: HostRuntime) -> Result<(), Fail> {
-    judge(&rt, RULES_OF_ONE_ELEMENT)
+    judge_groups(&rt, RULES_OF_ONE_ELEMENT)
+}
+
+#[test]
+fn uses_of_rules_of_moves(rt: HostRuntime) -> Result<(), Fail> {
+    judge_groups(&rt, RULES_OF_MOVES)
+}
+
+#[test]
+fn uses_of_rules_of_difference(rt: HostRuntime) -> Result<(), Fail> {
+    judge_groups(&rt, RULES_OF_DIFFERENCE)
 }

@@ -1,4 +1,4 @@
-use Rattle.certificate.proofs.Meaning.{same_certificate}
+use Rattle.certificate.proofs.Following.{same_certificate}
 use Rattle.certificate.proofs.reading.one_certificate.Goals as goal
 
 pub returns : goal.returns

@@ -21,14 +21,15 @@ in_turn start a b c e f d cs ps is ks domain classes pairs individuals claims =
 pub returns : goal.returns
 returns c =
     let l = c.args.listed.now in
+    let format = c.args.format in
     let behind : List ℕ → List ℕ → List ℕ = λ before text. before ++ text in
-    on_ok_weaker c.push_each-3.result
-    (λ last. in_turn c.args.out.now.items c.push_domain.new.out.items c.push_each.new.out.items c.push_each-2.new.out.items c.push_individuals.new.out.items c.push_each-3.new.out.items
-    (lettered_number (codes "domain ") l.domain ++ line_feed) (flat_map class_text (map class_row_of l.classes.items)) (flat_map pairs_text (map pair_row_of l.pairs.items))
+    on_ok_weaker c.push_each.result
+    (λ last. in_turn c.args.out.now.items c.push_domain.new.out.items c.push_class_rows.new.out.items c.push_pair_rows.new.out.items c.push_individuals.new.out.items c.push_each.new.out.items
+    (lettered_number (codes "domain ") l.domain ++ line_feed) (flat_map (class_text format) (map class_row_of l.classes.items)) (flat_map (pairs_text format) (map pair_row_of l.pairs.items))
     (flat_map individual_text (enumerate_from 0 l.individuals.items)) (flat_map claim_text (map claim_of l.claims.items))
     c.in_ok-push_domain.ensures
-    (c.in_ok-push_each.ensures ∙ ap (behind c.push_domain.new.out.items) (each_seen class_text class_row_of c.deref.result.now l.classes.items c.deref.ensures.value))
-    (c.in_ok-push_each-2.ensures ∙ ap (behind c.push_each.new.out.items) (each_seen pairs_text pair_row_of c.deref-2.result.now l.pairs.items c.deref-2.ensures.value))
-    (c.in_ok-push_individuals.ensures ∙ ap (λ (xs : List ℕ). c.push_each-2.new.out.items ++ flat_map individual_text (enumerate_from 0 xs)) c.deref-3.ensures.value)
+    (c.in_ok-push_class_rows.ensures ∙ ap (λ xs. c.push_domain.new.out.items ++ flat_map (class_text format) (map class_row_of xs)) c.deref.ensures.value)
+    (c.in_ok-push_pair_rows.ensures ∙ ap (λ xs. c.push_class_rows.new.out.items ++ flat_map (pairs_text format) (map pair_row_of xs)) c.deref-2.ensures.value)
+    (c.in_ok-push_individuals.ensures ∙ ap (λ (xs : List ℕ). c.push_pair_rows.new.out.items ++ flat_map individual_text (enumerate_from 0 xs)) c.deref-3.ensures.value)
     (last ∙ ap (behind c.push_individuals.new.out.items) (each_seen claim_text claim_of c.deref-4.result.now l.claims.items c.deref-4.ensures.value)))
-    c.push_each-3.ensures
+    c.push_each.ensures

@@ -1,4 +1,4 @@
-use Rattle.narrowing.proofs.Folded.{is_folded}
+use Rattle.narrowing.proofs.Folding.{is_folded}
 use Rattle.narrowing.proofs.Keeping.{is_listed, is_narrow}
 use Rattle.narrowing.proofs.theory.narrowed_interpretations.Goals as goal
 

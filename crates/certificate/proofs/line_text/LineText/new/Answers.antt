@@ -1,14 +1,20 @@
-use Rattle.std.proofs.Common.{◌≡◌, List, ℕ, ◌++◌, ap, ◌∙◌, sym, subst}
+use Rattle.std.proofs.Common.{◌≡◌, List, ℕ, true, ◌++◌, ap, ap₂, ◌∙◌, sym, subst}
+use Rattle.certificate.specs.Certificate.{Format}
 use Rattle.certificate.specs.LineText.{IsLineText, first_line, lines_in}
+use Rattle.certificate.specs.Text.{first_text}
 use Rattle.certificate.proofs.LineTexts.{no_lines, no_line_text}
 use Rattle.certificate.proofs.line_text.LineText.new.Goals as goal
 
 pub invariant_of-result : goal.invariant_of-result
-invariant_of-result c =
-    let text : c.extend_from_slice.new.self.items ≡ first_line = c.in_ok-extend_from_slice.ensures.items ∙ ap (λ (s : List ℕ). s ++ first_line) c.new-text.ensures.items in
-    subst (λ (s : List ℕ). IsLineText s c.new.result.items) (sym text) (no_line_text c.new.result.items c.new.ensures.items)
+invariant_of-result g c =
+    let format = g.F.FormatType.format in
+    let text : c.push_first.new.out.items ≡ first_line format
+    = c.in_ok-push_first.ensures ∙ ap₂ (λ (s : List ℕ) (f : Format). s ++ first_text f true) c.new-text.ensures.items c.format.ensures in
+    subst (λ (s : List ℕ). IsLineText format s c.new.result.items) (sym text) (no_line_text format c.new.result.items c.new.ensures.items)
 
 pub returns : goal.returns
-returns c =
-    let text : c.extend_from_slice.new.self.items ≡ first_line = c.in_ok-extend_from_slice.ensures.items ∙ ap (λ (s : List ℕ). s ++ first_line) c.new-text.ensures.items in
-    ap lines_in text ∙ no_lines
+returns g c =
+    let format = g.F.FormatType.format in
+    let text : c.push_first.new.out.items ≡ first_line format
+    = c.in_ok-push_first.ensures ∙ ap₂ (λ (s : List ℕ) (f : Format). s ++ first_text f true) c.new-text.ensures.items c.format.ensures in
+    ap (lines_in format) text ∙ no_lines format

@@ -1,0 +1,6 @@
+use Rattle.std.proofs.Common.{◌≡◌, ◌++◌, take}
+use Rattle.narrowing.specs.Points.{within, class_points}
+use Rattle.narrowing.proofs.starts.add_class_points.Given as goal
+
+abbrev pub invariant-loop-row : goal.invariant-loop-row
+invariant-loop-row l = l.starts.items ≡ l.fn.starts.items ++ within l.domain (class_points (take l.row-index l.rows))
