@@ -9,7 +9,7 @@ use Rattle.axioms.specs.WellFormedness.{IsOntology}
 use Rattle.interpretation_spec.specs.Interpretation.{IsIn}
 use Rattle.certificate.specs.Certificate.{Sub, Line, Listed, Certificate}
 use Rattle.certificate.specs.Certificate as line
-use Rattle.certificate.specs.Writability.{IsTextOf, IsListedOf}
+use Rattle.certificate.specs.Writability.{IsSomeTextOf, IsListedOf}
 use Rattle.cert_check.specs.Derivation.{IsDerivation, HasLine}
 use Rattle.cert_check.specs.Acceptance.{Agrees, ClaimHolds, LiesBelow, Belongs, IsConsistentShown, IsContradictionShown, IsAcceptable}
 use Rattle.normal_forms.specs.Forms.{Whole}
@@ -125,13 +125,13 @@ module _ (o : Ontology) (w : IsOntology o) (lines : List Line) (derivation : IsD
     instances_is = texts.instances_is;
   }
 
-pub shown_is_acceptable : (o : Ontology) (taxonomy instances text : List ℕ) (c : Certificate) → IsOntology o → IsTextOf o text c → IsDerivation o c.lines →
+pub shown_is_acceptable : (o : Ontology) (taxonomy instances text : List ℕ) (c : Certificate) → IsOntology o → IsSomeTextOf o text c → IsDerivation o c.lines →
     MatchOption c.listed (IsContradictionShown taxonomy instances c.lines) (ShowsClosure o taxonomy instances c.lines) → IsAcceptable o taxonomy instances text
 shown_is_acceptable o taxonomy instances text c w is derivation shows = record {
   certificate = c;
   text_is = is;
   derivation = derivation;
-  shows = shown c.listed is.has_text.listed shows;
+  shows = shown c.listed is.1.has_text.listed shows;
 }
   where
     shown : (l : Option Listed) → IfSome l (IsListedOf o) → MatchOption l (IsContradictionShown taxonomy instances c.lines) (ShowsClosure o taxonomy instances c.lines)

@@ -6,7 +6,7 @@ use Rattle.axioms.specs.WellFormedness.{IsOntology}
 use Rattle.interpretation_spec.specs.Interpretation.{Interpretation}
 use Rattle.taxonomy.specs.Texts.{taxonomy_text, instances_text}
 use Rattle.certificate.specs.Certificate.{Line, Listed, Certificate}
-use Rattle.certificate.specs.Writability.{IsTextOf}
+use Rattle.certificate.specs.Writability.{IsSomeTextOf}
 use Rattle.cert_check.specs.Derivation.{IsDerivation}
 use Rattle.cert_check.specs.Acceptance.{IsContradictionShown, IsAcceptable}
 use Rattle.listed_model.specs.Listing.{IsListing}
@@ -48,10 +48,10 @@ pub record ShowsClosure (o : Ontology) (taxonomy instances : List ℕ) (lines : 
   pub interpretation : IsListedFor o [] listed
   pub texts : AreTextsOfClosure o taxonomy instances
 
--- a derivation that shows so much, or a contradiction, makes the texts acceptable, whatever found it
+-- a derivation that shows so much, or a contradiction, makes the texts acceptable, whatever found it and in whichever format it is written
 abbrev pub ShownIsAcceptable : Type 0
 ShownIsAcceptable =
     (o : Ontology) (taxonomy instances text : List ℕ) (c : Certificate) →
-    IsOntology o → IsTextOf o text c → IsDerivation o c.lines →
+    IsOntology o → IsSomeTextOf o text c → IsDerivation o c.lines →
     MatchOption c.listed (IsContradictionShown taxonomy instances c.lines) (ShowsClosure o taxonomy instances c.lines) →
     IsAcceptable o taxonomy instances text

@@ -1,8 +1,8 @@
 -- Lines with an individual in the place of another that is one with it.
-use Rattle.std.proofs.Common.{◌≡◌, ◌⊎◌, ℕ, zero, suc, ◌+◌, ◌<◌, ◌≤◌, inl, inr, List, [], ◌∷◌, ◌++◌, length, map, slice_get, get_or, take, drop, Some, None, Contains, refl, sym, ap, ap₂, ◌∙◌, subst, arith}
+use Rattle.std.proofs.Common.{◌≡◌, ◌⊎◌, ℕ, suc, ◌+◌, ◌<◌, inl, inr, List, [], ◌∷◌, ◌++◌, length, get_or, take, Some, None, Contains, refl, sym, ap, ◌∙◌, subst}
 use Rattle.std.proofs.lemmas.List.{take_more}
 use Rattle.std.proofs.lemmas.List.Elements.{Contains-append_left, Contains-append_right, Contains-append_cases}
-use Rattle.std.proofs.lemmas.Option.{same_Some, none-some}
+use Rattle.std.proofs.lemmas.Option.{same_Some}
 use Rattle.lemmas.proofs.Members.{Contains-first, Contains-later, Contains-one, Contains-cons_cases}
 use Rattle.axioms.specs.Ontology.{Ontology}
 use Rattle.axioms.specs.View.{at_number}
@@ -14,7 +14,6 @@ use Rattle.certificate.specs.declared.line.Rule.TheVariants.{K19}
 use Rattle.cert_check.specs.Derivation.{IsDerivation, IsDerived, at_numbers}
 use Rattle.cert_check.specs.Lines.{Follows, IsWalk}
 use Rattle.exactness.proofs.Derivable.{conclusions, prepended_list_parts}
-use Rattle.explain.proofs.Growing.{conclusions_grown}
 use Rattle.explain.proofs.Used.{before_or_not, premise_grown, used_beside, used_from, used_not, used_twice}
 use Rattle.explain.proofs.Walking.{line_within}
 use Rattle.explain.specs.LinesOfFacts.{Lengthens}

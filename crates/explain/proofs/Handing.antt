@@ -1,5 +1,5 @@
 -- Which individual a form puts in the place of which, as the two facts tell.
-use Rattle.std.proofs.Common.{◌≡◌, ◌⊎◌, ℕ, inl, inr, List, slice_get, Some, refl, sym, ap, ap₂, ◌∙◌, subst}
+use Rattle.std.proofs.Common.{◌≡◌, ◌⊎◌, ℕ, inl, inr, List, slice_get, Some, sym, ap, ap₂, ◌∙◌, subst}
 use Rattle.axioms.specs.declared.ids.IndId.{IndId}
 use Rattle.explain.specs.Exchanges.{HandsOnBy}
 use Rattle.explain.specs.Search.{LinksBy}

@@ -6,12 +6,11 @@ use Rattle.lemmas.proofs.Mapped.{slice_get_map}
 use Rattle.lemmas.proofs.Places.{take_push}
 use Rattle.axioms.specs.View.{at_number, expr_numbers}
 use Rattle.axioms.specs.declared.ids.ExprId.{ExprId}
-use Rattle.certificate.specs.Certificate.{Subject, Conclusion, Sub, Line}
+use Rattle.certificate.specs.Certificate.{Subject, Sub, Line}
 use Rattle.cert_check.specs.Derivation.{at_numbers}
 use Rattle.closure.specs.Closure as definition
 use Rattle.closure.specs.Denotations.{Prefixes, SaysClass, SaysFact, in_context}
 use Rattle.exactness.proofs.Derivable.{conclusions, prepended_list_parts}
-use Rattle.explain.proofs.Births.{heads, tails}
 use Rattle.explain.proofs.Conclusions.{class_shown, showing_class}
 use Rattle.explain.proofs.Exchanging.{numbers_long}
 use Rattle.explain.proofs.Growing.{at_numbers_joined, conclusions_grown}

@@ -1,5 +1,5 @@
 -- Where numbers stand among what was reached.
-use Rattle.std.proofs.Common.{◌≡◌, ℕ, ◌<◌, List, length}
+use Rattle.std.proofs.Common.{ℕ, ◌<◌, List, length}
 use Rattle.std.proofs.lemmas.Option.{slice_get_within}
 use Rattle.explain.specs.declared.reached.Reached.{Reached}
 use Rattle.explain.specs.Search.{StandsAt}

@@ -1,22 +1,21 @@
 -- Lines that say that individuals are one: they stay where lines are added, and they follow from the axiom that gave the form.
-use Rattle.std.proofs.Common.{◌≡◌, ◌⊎◌, ℕ, zero, suc, ◌+◌, ◌<◌, ◌≤◌, inl, inr, List, [], ◌∷◌, ◌++◌, length, map, drop, get_or, slice_get, option_map, Option, Some, None, Result, Ok, Err, OnOk, OnErr, Contains, refl, sym, ap, ◌∙◌, subst, arith}
+use Rattle.std.proofs.Common.{◌≡◌, ◌⊎◌, ℕ, zero, suc, ◌+◌, ◌<◌, ◌≤◌, inl, inr, List, [], ◌∷◌, ◌++◌, length, map, drop, get_or, slice_get, option_map, Some, None, Result, Ok, Err, OnOk, OnErr, Contains, refl, sym, ap, ◌∙◌, subst, arith}
 use Rattle.std.proofs.lemmas.List.{append-nil, drop_all}
-use Rattle.std.proofs.lemmas.List.Elements.{All-contains, All-weaker}
-use Rattle.std.proofs.lemmas.Option.{none-some, same_Some}
+use Rattle.std.proofs.lemmas.List.Elements.{All-weaker}
+use Rattle.std.proofs.lemmas.Option.{none-some}
 use Rattle.lemmas.proofs.Mapped.{slice_get_map_from}
 use Rattle.lemmas.proofs.Members.{Contains-from_slice_get}
 use Rattle.axioms.specs.Ontology.{Ontology, Axiom, SubClass, EquivalentClasses, DisjointClasses, SubProperty, EquivalentProperties, Domain, Transitive, Reflexive, ClassAssertion, PropertyAssertion, SameIndividuals, DifferentIndividuals, NegativePropertyAssertion, AtTwoPlaces}
 use Rattle.axioms.specs.View.{at_number}
 use Rattle.axioms.specs.WellFormedness.{IsOntology}
 use Rattle.axioms.specs.declared.ids.IndId.{IndId}
-use Rattle.certificate.specs.Certificate.{Conclusion, Same, Line}
-use Rattle.certificate.specs.Writability.{IsConclusionOf}
+use Rattle.certificate.specs.Certificate.{Same, Line}
 use Rattle.certificate.specs.declared.line.Rule.TheVariants.{K17, K18}
 use Rattle.cert_check.specs.Derivation.{IsDerivation, IsDerived}
 use Rattle.cert_check.specs.Lines.{Follows}
 use Rattle.closure.specs.Denotations.{Prefixes, SaysForm, n10}
 use Rattle.engine.specs.Saturations.{Saturated, IsSaturated}
-use Rattle.exactness.proofs.Rules.{axiom_within, derivable_within, k17}
+use Rattle.exactness.proofs.Rules.{derivable_within, k17}
 use Rattle.explain.proofs.ByExpression.{IsOfExpression, expression_kind}
 use Rattle.explain.proofs.Growing.{conclusion_grown}
 use Rattle.explain.proofs.Walking.{line_within}

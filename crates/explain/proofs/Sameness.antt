@@ -1,5 +1,5 @@
 -- Facts that a form hands on from one of two individuals to the other, and facts of two that differ.
-use Rattle.std.proofs.Common.{◌≡◌, ◌⊎◌, ℕ, ◌<◌, inl, inr, List, [], ◌∷◌, length, map, slice_get, option_map, Option, Some, None, Contains, refl, sym, ap, ◌∙◌, subst, arith}
+use Rattle.std.proofs.Common.{◌≡◌, ℕ, ◌<◌, List, [], ◌∷◌, length, map, slice_get, option_map, Option, Some, Contains, refl, sym, ap, ◌∙◌, subst, arith}
 use Rattle.std.proofs.lemmas.List.Elements.{All-contains}
 use Rattle.std.proofs.lemmas.Option.{none-some, same_Some, slice_get_within}
 use Rattle.lemmas.proofs.Members.{Contains-first, Contains-from_slice_get}
@@ -10,7 +10,6 @@ use Rattle.axioms.specs.declared.ids.IndId.{IndId}
 use Rattle.certificate.specs.Certificate.{Conclusion, Sub, Same, Line}
 use Rattle.certificate.specs.Certificate as line
 use Rattle.certificate.specs.declared.line.Rule.TheVariants.{K20}
-use Rattle.cert_check.specs.Derivation.{IsDerived}
 use Rattle.cert_check.specs.Lines.{Follows}
 use Rattle.closure.specs.Denotations.{Prefixes, SaysForm, n11, SaysFact, edge}
 use Rattle.closure.specs.Closure as definition
@@ -31,9 +30,9 @@ use Rattle.explain.specs.FormRule.{origin_rule, stated_rule}
 use Rattle.explain.specs.LinesOfFacts.{AreShowing, steps_of}
 use Rattle.explain.specs.OlderFacts.{rests_on}
 use Rattle.explain.specs.SameLines.{SaysSame}
-use Rattle.explain.specs.Step.{LeadTo, said_by, subject_in}
+use Rattle.explain.specs.Step.{said_by, subject_in}
 use Rattle.facts.specs.Births.{Reason, numbers_of}
-use Rattle.facts.specs.Closure.{Problem, Gives, in_thing, in_itself, by_form, unsatisfiable, loop, handed_on, different, AreSame, Concludes, HandsOn, IsLoop, Links, nothing}
+use Rattle.facts.specs.Closure.{Problem, Gives, in_thing, in_itself, by_form, unsatisfiable, loop, handed_on, different, AreSame, Concludes, HandsOn, IsLoop, nothing}
 use Rattle.facts.specs.declared.births.Older as code_older
 use Rattle.facts.specs.declared.births.Older.TheVariants as older
 use Rattle.facts.specs.declared.births.FactId.{FactId}

@@ -1,5 +1,5 @@
 -- Facts in which an individual stands for another that is one with it.
-use Rattle.std.specs.Prelude.{◌≡◌, ℕ, ◌<◌, List, [], ◌∷◌, length, map, slice_get, get_or, Option, Some, MatchOption}
+use Rattle.std.specs.Prelude.{◌≡◌, ℕ, ◌<◌, List, ◌∷◌, length, map, slice_get, get_or, Option, Some, MatchOption}
 use Rattle.axioms.specs.View.{at_number, expr_numbers, prop_numbers}
 use Rattle.axioms.specs.declared.ids.ExprId.{ExprId}
 use Rattle.axioms.specs.declared.ids.IndId.{IndId}

@@ -1,6 +1,5 @@
 -- Edges lifted by plain property forms.
 use Rattle.std.specs.Prelude.{◌≡◌, ℕ, List, Option, MatchOption, slice_get, Some}
-use Rattle.std.specs.Global.{Vec}
 use Rattle.axioms.specs.declared.ids.PropId.{PropId}
 use Rattle.certificate.specs.Certificate.{Line}
 use Rattle.engine.specs.Saturations.{Saturated}
@@ -27,6 +26,6 @@ abbrev pub IsStepOf : Listing → ℕ → Option (PropId × ℕ) → Type 0
 IsStepOf v form found = MatchOption found ((r s : PropId) (n : ℕ) → GivesStep v form r s n → ⊥) (λ step. (r : PropId) × GivesStep v form r step.0 step.1)
 
 -- the new lines of the shown numbers show the edge lifted by the form, where the old lines of these numbers show it
-abbrev pub ShowsLedOn : Saturated → (old new : List Line) → List ℕ → (source target : Context) → ℕ → Vec ℕ → Type 0
+abbrev pub ShowsLedOn : Saturated → (old new : List Line) → List ℕ → (source target : Context) → ℕ → List ℕ → Type 0
 ShowsLedOn s old new numbers source target form shown =
-    (below above : PropId) → LiftsEdgeTo s old numbers source target form below above → AreShowing (prefixes_of s.normal) new shown.items (Edge source (Property above) target)
+    (below above : PropId) → LiftsEdgeTo s old numbers source target form below above → AreShowing (prefixes_of s.normal) new shown (Edge source (Property above) target)

@@ -18,6 +18,10 @@ abbrev pub subject_in : code_context.Context → Subject
 subject_in (contexts.Expr e) = Expression e.0
 subject_in (contexts.Individual a) = Individual a.0
 
+-- the line by the rule, with the axiom, from the lines of these numbers
+abbrev pub line_by : Conclusion → Rule → Option ℕ → List ℕ → Line
+line_by conclusion rule axiom' premises = record { conclusion = conclusion; rule = rule; axiom' = axiom'; premises = premises }
+
 -- what a line says of a fact, where the fact is not of a prefix
 abbrev pub said_by : code.Fact → Option Conclusion
 said_by (facts.In (classes.Expr e) x) = Some (Sub (subject_in x) e.0)

@@ -18,6 +18,7 @@ use crate::between::chain_between;
 use crate::derivation::Derivation;
 use crate::exchange::handed_on;
 use crate::line::{concluded, fact_of};
+use crate::lines_by_fact::{LineNumbers, LinesByFact};
 use crate::older::rests_on;
 use crate::premises::premises;
 use crate::same::same_along;
@@ -27,7 +28,7 @@ use certificate::Rule;
 use facts::{Birth, FactId, Older};
 use normal_forms::{Form, Origin};
 use normalise::Normal;
-use number_sets::PackedLists;
+use smallvec::SmallVec;
 
 // The rule for a line of a form that the axiom gave.
 fn axiom_rule(stated: &Axiom) -> Rule
@@ -89,12 +90,12 @@ fn origin_rule(
 fn shown_by_facts<L: LineSink>(
     basis: &Basis<'_>,
     derivation: &mut Derivation<L>,
-    shown: &PackedLists<u64>,
+    shown: &LinesByFact,
     fact: FactId,
     birth: &Birth,
     form: u32,
     step: &Form,
-) -> Result<Vec<u64>, Memory>
+) -> Result<LineNumbers, Memory>
     requires saturated { IsSaturated basis.now.ontology.now basis.now.saturation.now }
     requires paths { basis.now.paths.now ≡ basis.now.saturation.now.state.problem.forms }
     requires there { fact.0 < length basis.now.saturation.now.state.facts }
@@ -123,11 +124,11 @@ fn shown_by_facts<L: LineSink>(
 fn shown_by_same<L: LineSink>(
     basis: &Basis<'_>,
     derivation: &mut Derivation<L>,
-    shown: &PackedLists<u64>,
+    shown: &LinesByFact,
     fact: FactId,
     birth: &Birth,
     form: u32,
-) -> Result<Vec<u64>, Memory>
+) -> Result<LineNumbers, Memory>
     requires saturated { IsSaturated basis.now.ontology.now basis.now.saturation.now }
     requires there { fact.0 < length basis.now.saturation.now.state.facts }
     requires derivation { IsDerivation basis.now.ontology.now derivation.old }
@@ -147,8 +148,8 @@ fn shown_by_same<L: LineSink>(
     };
     let given = fact_of(basis.saturation, older);
     let fact = fact_of(basis.saturation, fact);
-    let known = shown.at(older.0 as usize);
-    let numbers = handed_on(basis, derivation, known, form, given, fact)?;
+    let known = shown.at(basis.alloc, older.0 as usize)?;
+    let numbers = handed_on(basis, derivation, known.as_slice(), form, given, fact)?;
     Ok(numbers)
 }
 
@@ -160,7 +161,7 @@ fn shown_by_different<L: LineSink>(
     form: u32,
     first: IndId,
     second: IndId,
-) -> Result<Vec<u64>, Memory>
+) -> Result<LineNumbers, Memory>
     requires saturated { IsSaturated basis.now.ontology.now basis.now.saturation.now }
     requires there { fact.0 < length basis.now.saturation.now.state.facts }
     requires derivation { IsDerivation basis.now.ontology.now derivation.old }
@@ -181,7 +182,7 @@ fn shown_by_different<L: LineSink>(
         unreachable!()
     };
     let number = same_along(basis, derivation, first, &chain)?;
-    let mut numbers = Vec::new(basis.alloc);
+    let mut numbers = SmallVec::new(basis.alloc);
     numbers.push(number)?;
     let fact = fact_of(basis.saturation, fact);
     let (rule, axiom) = origin_rule(basis.ontology, normal, form, &Form::N11(first, second));
@@ -197,11 +198,11 @@ fn shown_by_different<L: LineSink>(
 pub(crate) fn shown_by_form<L: LineSink>(
     basis: &Basis<'_>,
     derivation: &mut Derivation<L>,
-    shown: &PackedLists<u64>,
+    shown: &LinesByFact,
     fact: FactId,
     birth: &Birth,
     form: u32,
-) -> Result<Vec<u64>, Memory>
+) -> Result<LineNumbers, Memory>
     requires saturated { IsSaturated basis.now.ontology.now basis.now.saturation.now }
     requires paths { basis.now.paths.now ≡ basis.now.saturation.now.state.problem.forms }
     requires there { fact.0 < length basis.now.saturation.now.state.facts }

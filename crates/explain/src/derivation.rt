@@ -3,13 +3,14 @@ ghost use Rattle.axioms.specs.Ontology.{Ontology as Ontology2};
 ghost use Rattle.axioms.specs.View.{at_number};
 ghost use Rattle.cert_check.specs.Derivation.{IsDerivation, IsDerived};
 ghost use Rattle.certificate.specs.LineText.{source_of};
-ghost use Rattle.certificate.specs.View.{line_of, subject_of};
+ghost use Rattle.certificate.specs.View.{conclusion_of, subject_of};
+ghost use Rattle.explain.specs.Step.{line_by};
 ghost use Rattle.explain.specs.SameLines.{SaysSame};
 ghost use Rattle.std.specs.Prelude.{◌≡◌, ◌<◌, ◌^◌, ◌++◌, ◌∷◌, [], IfOk, IfSome, OnErr, OnOk, length, map, option_map};
 
 use crate::sink::LineSink;
 use axioms::{IndId, Memory};
-use certificate::{Line, Subject};
+use certificate::{Conclusion, Rule, Subject};
 use std::alloc::Global;
 use std::marker::Model;
 
@@ -66,19 +67,25 @@ impl<L: LineSink> Derivation<L> {
         }
     }
 
-    /// Adds a line, and gives its number.
+    /// Adds a line by that rule, with the axiom of that number, from the lines of these numbers, and gives its number.
     ///
     /// # Errors
     ///
     /// `Memory` where memory was refused, or the sink takes no such line; then nothing changes.
-    pub(crate) fn add(&mut self, line: Line) -> Result<u64, Memory>
-        ensures added { OnOk result (self.new ≡ self.old ++ line_of line ∷ []) }
+    pub(crate) fn add(
+        &mut self,
+        conclusion: Conclusion,
+        rule: Rule,
+        axiom_number: Option<usize>,
+        premises: &[u64],
+    ) -> Result<u64, Memory>
+        ensures added { OnOk result (self.new ≡ self.old ++ line_by (conclusion_of conclusion) rule axiom_number premises.now ∷ []) }
         ensures number { IfOk result (λ n. n ≡ length self.new) }
         // A line that follows from those of a derivation makes a derivation.
-        ensures derivation { OnOk result ((o : Ontology2) → IsDerivation o self.old → IsDerived o self.old (line_of line) → IsDerivation o self.new) }
+        ensures derivation { OnOk result ((o : Ontology2) → IsDerivation o self.old → IsDerived o self.old (line_by (conclusion_of conclusion) rule axiom_number premises.now) → IsDerivation o self.new) }
         ensures err { OnErr result (self.new ≡ self.old) }
     {
-        self.sink.add(line)
+        self.sink.add(conclusion, rule, axiom_number, premises)
     }
 
     /// What the line of that number speaks of: its subject, or the start of its edge.

@@ -14,10 +14,10 @@ ghost use Rattle.std.specs.Prelude.{◌≡◌, [], IfOk, IfSome, MatchOption, On
 
 use crate::derivation::Derivation;
 use crate::shown::{add_goal, add_lines};
-use crate::sink::{LineList, LineSink};
+use crate::sink::{LineList, LineSink, TextOfLines};
 use crate::wanted::{first_contradiction, number_of, wanted};
 use axioms::{ExprId, Memory, Ontology};
-use certificate::{Line, LineText};
+use certificate::{FormatType, Line, LineText};
 use engine::Saturation;
 use facts::{Context, Fact};
 use normal_forms::Class2;
@@ -143,43 +143,43 @@ pub fn lines_of(
     Ok(Some(derivation.into_sink().into_lines()))
 }
 
-/// The lines that `lines` gives, as text: no line is held in memory.
+/// The lines that `lines` gives, as text of a format: no line is held in memory.
 ///
 /// # Errors
 ///
 /// `Memory` where memory was refused, or 32 bits do not count the facts.
-pub fn line_text(
+pub fn line_text<F: FormatType>(
     alloc: Global,
     ontology: &Ontology,
     saturation: &Saturation,
-) -> Result<LineText, Memory>
+) -> Result<LineText<F>, Memory>
     requires { IsSaturated ontology.now saturation.now }
     ensures derivation { IfOk result (λ t. IsDerivation ontology.now t) }
     ensures facts { IfOk result (λ t. HaveFacts ontology.now saturation.now.normal.asked t) }
     ensures needed { IfOk result (λ t. EachIsNeeded ontology.now saturation.now.normal.asked t) }
 {
-    let mut facts = Derivation::new(alloc, LineText::new(alloc)?);
+    let mut facts = Derivation::new(alloc, TextOfLines::<F>::new(alloc)?);
     add_facts(alloc, ontology, saturation, &mut facts)?;
-    Ok(facts.into_sink())
+    Ok(facts.into_sink().into_text())
 }
 
-/// The lines that `contradiction` gives, as text.
+/// The lines that `contradiction` gives, as text of a format.
 ///
 /// # Errors
 ///
 /// `Memory` where memory was refused, or 32 bits do not count the facts.
-pub fn contradiction_text(
+pub fn contradiction_text<F: FormatType>(
     alloc: Global,
     ontology: &Ontology,
     saturation: &Saturation,
-) -> Result<LineText, Memory>
+) -> Result<LineText<F>, Memory>
     requires saturated { IsSaturated ontology.now saturation.now }
     requires contradictory { IsConsistent ontology.now saturation.now.normal.asked → ⊥ }
     ensures derivation { IfOk result (λ t. IsDerivation ontology.now t) }
     ensures shown { IfOk result (λ t. ShowsContradiction t) }
     ensures needed { IfOk result (λ t. EachIsNeeded ontology.now saturation.now.normal.asked t) }
 {
-    let mut derivation = Derivation::new(alloc, LineText::new(alloc)?);
+    let mut derivation = Derivation::new(alloc, TextOfLines::<F>::new(alloc)?);
     add_contradiction(alloc, ontology, saturation, &mut derivation)?;
-    Ok(derivation.into_sink())
+    Ok(derivation.into_sink().into_text())
 }

@@ -16,6 +16,7 @@ ghost use Rattle.std.specs.Prelude.{◌≡◌, ◌<◌, ℕ, List, IfOk, OnOk, l
 use crate::basis::Basis;
 use crate::derivation::Derivation;
 use crate::line::{followed, subject};
+use crate::lines_by_fact::LineNumbers;
 use crate::operands::{operands, steps};
 use crate::same::same_line;
 use crate::sink::LineSink;
@@ -23,6 +24,7 @@ use axioms::{IndId, Memory};
 use certificate::{Conclusion, Rule, Subject};
 use facts::{Context, Fact};
 use normal_forms::{Class2, PropId2};
+use smallvec::SmallVec;
 
 /// An individual that stands for another, where the form of that number makes them one.
 #[derive(Clone, Copy)]
@@ -52,7 +54,7 @@ fn class_exchanged<L: LineSink>(
     known: &[u64],
     exchange: Exchange,
     class: Class2,
-) -> Result<Vec<u64>, Memory>
+) -> Result<LineNumbers, Memory>
     requires saturated { IsSaturated basis.now.ontology.now basis.now.saturation.now }
     requires derivation { IsDerivation basis.now.ontology.now derivation.old }
     requires linked { LinksBy basis.now.saturation.now.state.problem.forms exchange.form exchange.new exchange.old }
@@ -64,12 +66,12 @@ fn class_exchanged<L: LineSink>(
 {
     let Exchange { form, old, new } = exchange;
     let operands = operands(basis.alloc, basis.saturation.normal(), class)?;
-    let mut numbers = Vec::new(basis.alloc);
+    let mut numbers = SmallVec::new(basis.alloc);
     for place in 0..known.len() {
         let same = same_line(basis, derivation, form, new, old)?;
         let moved = Conclusion::Sub(Subject::Individual(new), operands[place]);
         let line = known[place];
-        let number = followed(basis.alloc, derivation, moved, Rule::K19, same, line)?;
+        let number = followed(derivation, moved, Rule::K19, same, line)?;
         numbers.push(number)?;
     }
     Ok(numbers)
@@ -99,7 +101,7 @@ fn source_exchanged<L: LineSink>(
     exchange: Exchange,
     property: PropId2,
     target: Context,
-) -> Result<Vec<u64>, Memory>
+) -> Result<LineNumbers, Memory>
     requires saturated { IsSaturated basis.now.ontology.now basis.now.saturation.now }
     requires derivation { IsDerivation basis.now.ontology.now derivation.old }
     requires linked { LinksBy basis.now.saturation.now.state.problem.forms exchange.form exchange.new exchange.old }
@@ -116,8 +118,8 @@ fn source_exchanged<L: LineSink>(
     let next = first_target(derivation, walk, target);
     let moved = Conclusion::Edge(Subject::Individual(new), steps[0], next);
     let line = walk[0];
-    let number = followed(basis.alloc, derivation, moved, Rule::K19, same, line)?;
-    let mut numbers = Vec::new(basis.alloc);
+    let number = followed(derivation, moved, Rule::K19, same, line)?;
+    let mut numbers = SmallVec::new(basis.alloc);
     numbers.push(number)?;
     numbers.extend_from_slice(&walk[1..])?;
     Ok(numbers)
@@ -131,7 +133,7 @@ fn target_exchanged<L: LineSink>(
     exchange: Exchange,
     source: Context,
     property: PropId2,
-) -> Result<Vec<u64>, Memory>
+) -> Result<LineNumbers, Memory>
     requires saturated { IsSaturated basis.now.ontology.now basis.now.saturation.now }
     requires derivation { IsDerivation basis.now.ontology.now derivation.old }
     requires linked { LinksBy basis.now.saturation.now.state.problem.forms exchange.form exchange.new exchange.old }
@@ -152,8 +154,8 @@ fn target_exchanged<L: LineSink>(
         unreachable!()
     };
     let moved = Conclusion::Edge(before, steps[last], Subject::Individual(new));
-    let number = followed(basis.alloc, derivation, moved, Rule::K19, same, line)?;
-    let mut numbers = Vec::new(basis.alloc);
+    let number = followed(derivation, moved, Rule::K19, same, line)?;
+    let mut numbers = SmallVec::new(basis.alloc);
     numbers.extend_from_slice(&walk[..last])?;
     numbers.push(number)?;
     Ok(numbers)
@@ -171,7 +173,7 @@ pub(crate) fn handed_on<L: LineSink>(
     form: u32,
     given: Fact,
     fact: Fact,
-) -> Result<Vec<u64>, Memory>
+) -> Result<LineNumbers, Memory>
     requires saturated { IsSaturated basis.now.ontology.now basis.now.saturation.now }
     requires derivation { IsDerivation basis.now.ontology.now derivation.old }
     requires hands { HandsOnBy basis.now.saturation.now.state.problem.forms form given fact }

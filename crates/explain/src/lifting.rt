@@ -12,6 +12,7 @@ ghost use Rattle.std.specs.Prelude.{◌≡◌, IfOk, OnOk};
 use crate::basis::Basis;
 use crate::derivation::Derivation;
 use crate::line::concluded;
+use crate::lines_by_fact::LineNumbers;
 use crate::sink::LineSink;
 use axioms::{Memory, PropId};
 use certificate::Rule;
@@ -48,16 +49,16 @@ fn step(normal: &Normal, form: usize) -> Option<(PropId, usize)>
 fn lifted_by<L: LineSink>(
     basis: &Basis<'_>,
     derivation: &mut Derivation<L>,
-    numbers: Vec<u64>,
+    numbers: LineNumbers,
     ends: Ends,
     form: u32,
-) -> Result<Vec<u64>, Memory>
+) -> Result<LineNumbers, Memory>
     requires saturated { IsSaturated basis.now.ontology.now basis.now.saturation.now }
     requires derivation { IsDerivation basis.now.ontology.now derivation.old }
     requires leads { (r : Prop) × (s : Prop) × LiftsEdgeTo basis.now.saturation.now derivation.old numbers.items ends.source ends.target form r s }
     ensures derivation { OnOk result (IsDerivation basis.now.ontology.now derivation.new) }
     ensures longer { OnOk result (Lengthens derivation.old derivation.new) }
-    ensures shown { IfOk result (ShowsLedOn basis.now.saturation.now derivation.old derivation.new numbers.items ends.source ends.target form) }
+    ensures shown { IfOk result (λ v. ShowsLedOn basis.now.saturation.now derivation.old derivation.new numbers.items ends.source ends.target form v.items) }
     ensures used { IfOk result (λ v. Uses derivation.old derivation.new (IsAmong numbers.items) v.items) }
 {
     basis.ontology.well_formed();
@@ -85,30 +86,29 @@ fn lifted_by<L: LineSink>(
 pub(crate) fn lifted<L: LineSink>(
     basis: &Basis<'_>,
     derivation: &mut Derivation<L>,
-    numbers: &[u64],
+    numbers: LineNumbers,
     ends: Ends,
     property: PropId2,
     above: PropId2,
-) -> Result<Vec<u64>, Memory>
+) -> Result<LineNumbers, Memory>
     requires saturated { IsSaturated basis.now.ontology.now basis.now.saturation.now }
     requires paths { basis.now.paths.now ≡ basis.now.saturation.now.state.problem.forms }
     requires derivation { IsDerivation basis.now.ontology.now derivation.old }
-    requires shown { AreShowingIn basis.now.saturation.now derivation.old numbers.now (Edge ends.source property ends.target) }
+    requires shown { AreShowingIn basis.now.saturation.now derivation.old numbers.items (Edge ends.source property ends.target) }
     requires below { IsAtOrBelow basis.now.saturation.now.state.problem.forms property above }
     ensures derivation { OnOk result (IsDerivation basis.now.ontology.now derivation.new) }
     ensures longer { OnOk result (Lengthens derivation.old derivation.new) }
     ensures shown { IfOk result (λ v. AreShowingIn basis.now.saturation.now derivation.new v.items (Edge ends.source above ends.target)) }
-    ensures used { IfOk result (λ v. Uses derivation.old derivation.new (IsAmong numbers.now) v.items) }
+    ensures used { IfOk result (λ v. Uses derivation.old derivation.new (IsAmong numbers.items) v.items) }
 {
-    let mut lines = Vec::new(basis.alloc);
-    lines.extend_from_slice(numbers)?;
     let (PropId2::Property(from), PropId2::Property(to)) = (property, above) else {
-        return Ok(lines);
+        return Ok(numbers);
     };
     let Some(path) = basis.paths.path(basis.alloc, from, to)? else {
         // The property is at the one above or below it.
         unreachable!()
     };
+    let mut lines = numbers;
     for form in &path {
         lines = lifted_by(basis, derivation, lines, ends, *form)?;
     }

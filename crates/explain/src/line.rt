@@ -7,12 +7,14 @@ ghost use Rattle.explain.specs.Step.{ShowsLed, StaysByTwo, StaysDerivation, said
 ghost use Rattle.std.specs.Prelude.{◌≡◌, ◌<◌, ◌∷◌, [], IfOk, OnOk, Some, length, map, option_map, slice_get};
 
 use crate::derivation::Derivation;
+use crate::lines_by_fact::LineNumbers;
 use crate::sink::LineSink;
 use axioms::Memory;
-use certificate::{Conclusion, Line, Rule, Subject};
+use certificate::{Conclusion, Rule, Subject};
 use engine::Saturation;
 use facts::{Context, Fact, FactId};
 use normal_forms::{Class2, PropId2};
+use smallvec::SmallVec;
 use std::alloc::Global;
 
 pub(crate) fn fact_of(saturation: &Saturation, number: FactId) -> Fact
@@ -57,8 +59,8 @@ pub(crate) fn concluded<L: LineSink>(
     fact: Fact,
     rule: Rule,
     axiom_number: Option<usize>,
-    premises: Vec<u64>,
-) -> Result<Vec<u64>, Memory>
+    premises: LineNumbers,
+) -> Result<LineNumbers, Memory>
     ensures longer { OnOk result (Lengthens derivation.old derivation.new) }
     ensures derivation { OnOk result (StaysDerivation derivation.old derivation.new rule axiom_number premises.items fact) }
     ensures shown { IfOk result (λ numbers. ShowsLed derivation.old derivation.new rule axiom_number premises.items fact numbers.items) }
@@ -67,13 +69,8 @@ pub(crate) fn concluded<L: LineSink>(
     let Some(conclusion) = conclusion(fact) else {
         return Ok(premises);
     };
-    let number = derivation.add(Line {
-        conclusion,
-        rule,
-        axiom: axiom_number,
-        premises,
-    })?;
-    let mut numbers = Vec::new(alloc);
+    let number = derivation.add(conclusion, rule, axiom_number, premises.as_slice())?;
+    let mut numbers = SmallVec::new(alloc);
     numbers.push(number)?;
     Ok(numbers)
 }
@@ -84,7 +81,6 @@ pub(crate) fn concluded<L: LineSink>(
 ///
 /// `Memory` where memory was refused.
 pub(crate) fn followed<L: LineSink>(
-    alloc: Global,
     derivation: &mut Derivation<L>,
     conclusion: Conclusion,
     rule: Rule,
@@ -96,14 +92,6 @@ pub(crate) fn followed<L: LineSink>(
     ensures says { IfOk result (λ n. at_number (map (λ l. l.conclusion) derivation.new) n ≡ Some (conclusion_of conclusion)) }
     ensures used { IfOk result (λ n. Uses derivation.old derivation.new (IsAmong (first ∷ second ∷ [])) (n ∷ [])) }
 {
-    let mut premises = Vec::new(alloc);
-    premises.push(first)?;
-    premises.push(second)?;
-    let number = derivation.add(Line {
-        conclusion,
-        rule,
-        axiom: None,
-        premises,
-    })?;
+    let number = derivation.add(conclusion, rule, None, &[first, second])?;
     Ok(number)
 }

@@ -9,12 +9,10 @@ ghost use Rattle.std.specs.Prelude.{◌++◌, ◌∷◌, [], IfOk, OnOk, Some};
 use crate::derivation::Derivation;
 use crate::sink::LineSink;
 use axioms::{ExprId, Memory, Ontology};
-use certificate::{Conclusion, Line, Rule};
-use std::alloc::Global;
+use certificate::{Conclusion, Rule};
 
 // Adds the line that carries owl:Nothing from the target of an edge to its source, and gives its number.
 fn carried_over<L: LineSink>(
-    alloc: Global,
     ontology: &Ontology,
     derivation: &mut Derivation<L>,
     edge: u64,
@@ -32,15 +30,8 @@ fn carried_over<L: LineSink>(
         // The edge has a line.
         unreachable!()
     };
-    let mut premises = Vec::new(alloc);
-    premises.push(edge)?;
-    premises.push(end)?;
-    let number = derivation.add(Line {
-        conclusion: Conclusion::Sub(source, ExprId::NOTHING),
-        rule: Rule::K11,
-        axiom: None,
-        premises,
-    })?;
+    let conclusion = Conclusion::Sub(source, ExprId::NOTHING);
+    let number = derivation.add(conclusion, Rule::K11, None, &[edge, end])?;
     Ok(number)
 }
 
@@ -51,7 +42,6 @@ fn carried_over<L: LineSink>(
 ///
 /// `Memory` where memory was refused.
 pub(crate) fn carried_back<L: LineSink>(
-    alloc: Global,
     ontology: &Ontology,
     derivation: &mut Derivation<L>,
     walk: &[u64],
@@ -66,7 +56,7 @@ pub(crate) fn carried_back<L: LineSink>(
 {
     let mut number = end;
     for k in (0..walk.len()).rev() {
-        number = carried_over(alloc, ontology, derivation, walk[k], number)?;
+        number = carried_over(ontology, derivation, walk[k], number)?;
     }
     Ok(number)
 }

@@ -14,12 +14,12 @@ use crate::basis::Basis;
 use crate::derivation::Derivation;
 use crate::lifting::{Ends, lifted};
 use crate::line::fact_of;
+use crate::lines_by_fact::{LineNumbers, LinesByFact};
 use crate::sink::LineSink;
 use axioms::Memory;
 use facts::{Fact, FactId, Older};
 use normal_forms::{Form, PropId2};
-use number_sets::PackedLists;
-use std::alloc::Global;
+use smallvec::SmallVec;
 
 // The property that the form names for the first fact that it takes, where that is an edge.
 fn first_property(form: &Form) -> Option<PropId2>
@@ -43,23 +43,14 @@ fn second_property(form: &Form) -> Option<PropId2>
     }
 }
 
-// The same numbers.
-fn copied(alloc: Global, numbers: &[u64]) -> Result<Vec<u64>, Memory>
-    ensures { IfOk result (λ v. v.items ≡ numbers.now) }
-{
-    let mut all = Vec::new(alloc);
-    all.extend_from_slice(numbers)?;
-    Ok(all)
-}
-
 // The numbers of the lines that show an older fact; an edge is lifted to the property, where there is one.
 fn lifted_to<L: LineSink>(
     basis: &Basis<'_>,
     derivation: &mut Derivation<L>,
-    shown: &PackedLists<u64>,
+    shown: &LinesByFact,
     older: FactId,
     property: Option<PropId2>,
-) -> Result<Vec<u64>, Memory>
+) -> Result<LineNumbers, Memory>
     requires saturated { IsSaturated basis.now.ontology.now basis.now.saturation.now }
     requires paths { basis.now.paths.now ≡ basis.now.saturation.now.state.problem.forms }
     requires derivation { IsDerivation basis.now.ontology.now derivation.old }
@@ -71,17 +62,14 @@ fn lifted_to<L: LineSink>(
     ensures shown { IfOk result (λ v. ShowsLedUp basis.now.saturation.now derivation.new property older.0 v.items) }
     ensures used { IfOk result (λ v. Uses derivation.old derivation.new (IsAmong (list_at shown.now older.0)) v.items) }
 {
-    let known = shown.at(older.0 as usize);
+    let known = shown.at(basis.alloc, older.0 as usize)?;
     match (fact_of(basis.saturation, older), property) {
         (Fact::Edge(source, below, target), Some(above)) => {
             let ends = Ends { source, target };
             let numbers = lifted(basis, derivation, known, ends, below, above)?;
             Ok(numbers)
         }
-        _ => {
-            let numbers = copied(basis.alloc, known)?;
-            Ok(numbers)
-        }
+        _ => Ok(known),
     }
 }
 
@@ -94,10 +82,10 @@ fn lifted_to<L: LineSink>(
 pub(crate) fn premises<L: LineSink>(
     basis: &Basis<'_>,
     derivation: &mut Derivation<L>,
-    shown: &PackedLists<u64>,
+    shown: &LinesByFact,
     older: Older,
     form: &Form,
-) -> Result<Vec<u64>, Memory>
+) -> Result<LineNumbers, Memory>
     requires saturated { IsSaturated basis.now.ontology.now basis.now.saturation.now }
     requires paths { basis.now.paths.now ≡ basis.now.saturation.now.state.problem.forms }
     requires derivation { IsDerivation basis.now.ontology.now derivation.old }
@@ -110,7 +98,7 @@ pub(crate) fn premises<L: LineSink>(
     ensures used { IfOk result (λ v. Uses derivation.old derivation.new (IsAmongThose shown.now (numbers_of older)) v.items) }
 {
     match older {
-        Older::None => Ok(Vec::new(basis.alloc)),
+        Older::None => Ok(SmallVec::new(basis.alloc)),
         Older::One(only) => {
             let property = first_property(form);
             let numbers = lifted_to(basis, derivation, shown, only, property)?;
@@ -121,7 +109,7 @@ pub(crate) fn premises<L: LineSink>(
             let mut numbers = lifted_to(basis, derivation, shown, first, property)?;
             let property = second_property(form);
             let more = lifted_to(basis, derivation, shown, second, property)?;
-            numbers.extend_from_slice(&more)?;
+            numbers.extend_from_slice(more.as_slice())?;
             Ok(numbers)
         }
     }

@@ -17,7 +17,7 @@ use crate::derivation::Derivation;
 use crate::line::followed;
 use crate::sink::LineSink;
 use axioms::{IndId, Memory};
-use certificate::{Conclusion, Line, Rule};
+use certificate::{Conclusion, Rule};
 use normal_forms::{Form, Origin};
 use normalise::Normal;
 
@@ -59,12 +59,7 @@ pub(crate) fn same_line<L: LineSink>(
         // An axiom says that they are one.
         unreachable!()
     };
-    let number = derivation.add(Line {
-        conclusion: Conclusion::Same(first, second),
-        rule: Rule::K17,
-        axiom: Some(axiom),
-        premises: Vec::new(basis.alloc),
-    })?;
+    let number = derivation.add(Conclusion::Same(first, second), Rule::K17, Some(axiom), &[])?;
     derivation.keep_same(form, first, second, number)?;
     Ok(number)
 }
@@ -119,7 +114,7 @@ fn joined<L: LineSink>(
     ensures used { IfOk result (λ n. Uses derivation.old derivation.new (IsAmong (before ∷ behind ∷ [])) (n ∷ [])) }
 {
     let same = Conclusion::Same(first, last);
-    let number = followed(basis.alloc, derivation, same, Rule::K18, before, behind)?;
+    let number = followed(derivation, same, Rule::K18, before, behind)?;
     Ok(number)
 }
 

@@ -12,13 +12,14 @@ use crate::basis::Basis;
 use crate::by_form::shown_by_form;
 use crate::derivation::Derivation;
 use crate::line::{concluded, fact_of};
+use crate::lines_by_fact::{LineNumbers, LinesByFact};
 use crate::nothing::carried_back;
 use crate::sink::LineSink;
 use axioms::Memory;
 use certificate::Rule;
 use facts::{Birth, Fact, FactId, Older};
 use normal_forms::Class2;
-use number_sets::PackedLists;
+use smallvec::SmallVec;
 
 // The rule for what a context lies in.
 fn rule(fact: Fact) -> Rule
@@ -34,10 +35,10 @@ fn rule(fact: Fact) -> Rule
 fn shown_without_form<L: LineSink>(
     basis: &Basis<'_>,
     derivation: &mut Derivation<L>,
-    shown: &PackedLists<u64>,
+    shown: &LinesByFact,
     fact: FactId,
     birth: &Birth,
-) -> Result<Vec<u64>, Memory>
+) -> Result<LineNumbers, Memory>
     requires saturated { IsSaturated basis.now.ontology.now basis.now.saturation.now }
     requires there { fact.0 < length basis.now.saturation.now.state.facts }
     requires derivation { IsDerivation basis.now.ontology.now derivation.old }
@@ -52,17 +53,17 @@ fn shown_without_form<L: LineSink>(
     basis.ontology.well_formed();
     match birth.older() {
         Older::Two(edge, class) => {
-            let walk = shown.at(edge.0 as usize);
-            let ends = shown.at(class.0 as usize);
-            let end = ends[0];
-            let number = carried_back(basis.alloc, basis.ontology, derivation, walk, end)?;
-            let mut numbers = Vec::new(basis.alloc);
+            let walk = shown.at(basis.alloc, edge.0 as usize)?;
+            let ends = shown.at(basis.alloc, class.0 as usize)?;
+            let end = ends.as_slice()[0];
+            let number = carried_back(basis.ontology, derivation, walk.as_slice(), end)?;
+            let mut numbers = SmallVec::new(basis.alloc);
             numbers.push(number)?;
             Ok(numbers)
         }
         _ => {
             let fact = fact_of(basis.saturation, fact);
-            let none = Vec::new(basis.alloc);
+            let none = SmallVec::new(basis.alloc);
             let numbers = concluded(basis.alloc, derivation, fact, rule(fact), None, none)?;
             Ok(numbers)
         }
@@ -78,9 +79,9 @@ fn shown_without_form<L: LineSink>(
 pub(crate) fn show<L: LineSink>(
     basis: &Basis<'_>,
     derivation: &mut Derivation<L>,
-    shown: &PackedLists<u64>,
+    shown: &LinesByFact,
     fact: FactId,
-) -> Result<Vec<u64>, Memory>
+) -> Result<LineNumbers, Memory>
     requires saturated { IsSaturated basis.now.ontology.now basis.now.saturation.now }
     requires paths { basis.now.paths.now ≡ basis.now.saturation.now.state.problem.forms }
     requires there { fact.0 < length basis.now.saturation.now.state.facts }

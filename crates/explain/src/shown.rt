@@ -11,6 +11,7 @@ ghost use Rattle.std.specs.Prelude.{◌+◌, ◌<◌, ◌≤◌, ◌≡◌, [], 
 
 use crate::basis::Basis;
 use crate::derivation::Derivation;
+use crate::lines_by_fact::LinesByFact;
 use crate::marking::mark_older;
 use crate::paths::PropertyPaths;
 use crate::resting::on_goal;
@@ -20,7 +21,6 @@ use axioms::{Memory, Ontology};
 use engine::Saturation;
 use facts::FactId;
 use normalise::property_forms_are_named;
-use number_sets::PackedLists;
 use std::alloc::Global;
 
 // How many marks there are. It is `Memory` where 32 bits do not count them.
@@ -56,7 +56,7 @@ fn show_next<L: LineSink>(
     marks: &[bool],
     fact: FactId,
     derivation: &mut Derivation<L>,
-    shown: &mut PackedLists<u64>,
+    shown: &mut LinesByFact,
 ) -> Result<(), Memory>
     requires ready { AreReady basis.now.ontology.now basis.now.saturation.now basis.now.paths.now marks.now }
     requires there { fact.0 < length marks.now }
@@ -71,7 +71,7 @@ fn show_next<L: LineSink>(
         return Ok(());
     }
     let numbers = show(basis, derivation, shown, fact)?;
-    shown.push_list(&numbers)?;
+    shown.push_list(numbers.as_slice())?;
     Ok(())
 }
 
@@ -89,7 +89,7 @@ fn show_each<L: LineSink>(
     ensures shown { OnOk result (ShowsMarked basis.now.saturation.now marks.now derivation.new) }
     ensures needed { OnOk result (EachIsNeeded basis.now.ontology.now basis.now.saturation.now.normal.asked derivation.new) }
 {
-    let mut shown = PackedLists::new(basis.alloc);
+    let mut shown = LinesByFact::with_room(basis.alloc, marks.len())?;
     for number in 0..count {
         show_next(basis, marks, FactId(number), derivation, &mut shown)?;
     }

@@ -1,11 +1,12 @@
 -- Pairs in order of their keys, and where the pairs of each key start.
-use Rattle.std.proofs.Common.{◌≡◌, ℕ, ◌+◌, ◌-◌, ◌<◌, ◌≤◌, ⊎_elim, List, [], length, map, get_or, drop, Contains, refl, sym, ap, ◌∙◌, Ordering, Less, Equal, Greater, false, arith, length-drop, length-take}
+use Rattle.std.proofs.Common.{◌≡◌, ℕ, ◌+◌, ◌-◌, ◌<◌, ◌≤◌, ⊎_elim, List, [], ◌∷◌, length, map, get_or, drop, Contains, refl, sym, ap, subst, ◌∙◌, Ordering, Less, Equal, Greater, false, arith, length-drop, length-take}
 use Rattle.std.proofs.lemmas.Bool.{cases_lt}
 use Rattle.std.proofs.lemmas.List.{get_or_default, get_or-map, get_or-take, get_or-drop, get_or_past, length-map}
 use Rattle.std.proofs.lemmas.List.Sorted.{IsNonDecreasingBy-from_sort}
 use Rattle.std.specs.List.Sorted.{IsSorted, IsNonDecreasingBy}
 use Rattle.std.specs.Ordering.{ordering_then, is_lt, nat_cmp}
-use Rattle.indexes.specs.Lists.{list_at, key_at, IsWithin, AreLists, Divides, AreStarts}
+use Rattle.lemmas.proofs.Members.{Contains-none, Contains-first}
+use Rattle.indexes.specs.Lists.{list_at, key_at, IsWithin, AreLists, Divides, AreStarts, AreAllListed}
 
 -- what comes first decides unless it is equal
 first_not_less : (a b : Ordering) → is_lt (ordering_then a b) ≡ false → is_lt a ≡ false
@@ -143,3 +144,9 @@ module _ (starts numbers : List ℕ) (pairs : List (ℕ × ℕ)) (are : AreStart
 
   pub lists_are : AreLists pairs starts numbers
   lists_are key n = (λ c. listed_paired key n c, λ c. paired_listed key n c)
+
+-- the number of a pair is in the list of its key
+pub all_listed : (starts numbers : List ℕ) (pairs : List (ℕ × ℕ)) → AreStarts starts pairs → numbers ≡ map (λ (p : ℕ × ℕ). p.1) pairs → AreAllListed starts numbers
+all_listed starts numbers [] are e none = e
+all_listed starts numbers (p ∷ ps) are e none =
+    absurd (Contains-none p.1 (subst (λ (list : List ℕ). Contains list p.1) (none p.0) ((lists_are starts numbers (p ∷ ps) are e p.0 p.1).1 (Contains-first p ps))))

@@ -1,5 +1,5 @@
 -- Lists of numbers by key, all in one piece.
-use Rattle.std.specs.Prelude.{ℕ, ◌+◌, ◌-◌, ◌<◌, ◌≤◌, ◌↔◌, List, length, take, drop, slice_index, slice_index_or}
+use Rattle.std.specs.Prelude.{◌≡◌, ℕ, ◌+◌, ◌-◌, ◌<◌, ◌≤◌, ◌↔◌, List, [], length, take, drop, slice_index, slice_index_or}
 use Rattle.std.specs.List.{Contains}
 
 -- the list of a key: the numbers from where it starts up to where that of the next key does, and none where there is no next
@@ -9,6 +9,10 @@ list_at starts numbers key = take (slice_index starts (key + 1) - slice_index st
 -- no list starts behind the next, nor behind the end of the numbers
 abbrev pub IsWithin : List ℕ → List ℕ → Type 0
 IsWithin starts numbers = (key : ℕ) → key + 1 < length starts → (slice_index starts key ≤ slice_index starts (key + 1)) × (slice_index starts (key + 1) ≤ length numbers)
+
+-- where no list has a number, there is none
+abbrev pub AreAllListed : List ℕ → List ℕ → Type 0
+AreAllListed starts numbers = ((key : ℕ) → list_at starts numbers key ≡ []) → numbers ≡ []
 
 -- the list of each key has exactly the numbers that are paired with it
 abbrev pub AreLists : List (ℕ × ℕ) → List ℕ → List ℕ → Type 0

@@ -184,7 +184,7 @@ impl IndexedProblem {
 
     /// Whether some form makes two individuals one. It looks at no form.
     pub fn has_links(&self) -> bool
-        ensures { result ≡ false → (k : Key2) (n : ℕ) → IsUnder by_linked_first self.now.forms k n → ⊥ }
+        ensures { (result ≡ false) ↔ ((k : Key2) (n : ℕ) → IsUnder by_linked_first self.now.forms k n → ⊥) }
     {
         !self.index.linked_first.is_empty()
     }

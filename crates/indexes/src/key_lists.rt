@@ -1,5 +1,5 @@
 //! Lists of the numbers of forms, by keys of two kinds.
-ghost use Rattle.std.specs.Prelude.{◌≡◌, ◌≤◌, IfOk, length, true};
+ghost use Rattle.std.specs.Prelude.{◌≡◌, ◌≤◌, ◌↔◌, IfOk, length, true};
 ghost use Rattle.indexes.specs.FormIndex.{at_key, ListsForms, ListsNothing};
 ghost use Rattle.indexes.specs.Roles.{key_by};
 
@@ -51,7 +51,7 @@ impl KeyLists {
 
     /// Whether no list has a number.
     pub(crate) fn is_empty(&self) -> bool
-        ensures { result ≡ true → ListsNothing self.now }
+        ensures { (result ≡ true) ↔ ListsNothing self.now }
     {
         self.wholes.is_empty() && self.partials.is_empty()
     }

@@ -1,7 +1,7 @@
 //! Lists of numbers by key, all in one piece.
-ghost use Rattle.std.specs.Prelude.{◌≡◌, ◌≤◌, ℕ, [], IfOk, length, map, true};
+ghost use Rattle.std.specs.Prelude.{◌≡◌, ◌≤◌, ◌↔◌, ℕ, [], IfOk, length, map, true};
 ghost use Rattle.std.specs.List.Sorted.{IsNonDecreasingBy};
-ghost use Rattle.indexes.specs.Lists.{list_at, AreLists, AreStarts, IsWithin};
+ghost use Rattle.indexes.specs.Lists.{list_at, AreLists, AreStarts, AreAllListed, IsWithin};
 
 use std::alloc::{AllocError, Global};
 
@@ -12,6 +12,7 @@ pub(crate) struct Lists {
     pub starts: Vec<u32>,
     pub numbers: Vec<u32>,
     ghost within: { IsWithin starts.items numbers.items },
+    ghost listed: { AreAllListed starts.items numbers.items },
 }
 
 fn numbers_of(alloc: Global, pairs: &[(u32, u32)]) -> Result<Vec<u32>, AllocError>
@@ -67,7 +68,7 @@ impl Lists {
 
     /// Whether no list has a number.
     pub(crate) fn is_empty(&self) -> bool
-        ensures { result ≡ true → (key : ℕ) → list_at self.now.starts.items self.now.numbers.items key ≡ [] }
+        ensures { (result ≡ true) ↔ ((key : ℕ) → list_at self.now.starts.items self.now.numbers.items key ≡ []) }
     {
         self.numbers.is_empty()
     }

@@ -14,10 +14,10 @@ use Rattle.normal_forms.specs.Properties.{IsAtOrBelow}
 use Rattle.indexes.specs.declared.keys.Key.{Key}
 use Rattle.facts.specs.declared.contexts.Context.{Context}
 use Rattle.facts.specs.declared.contexts.Context.TheVariants.{Expr, Individual}
-use Rattle.facts.specs.declared.contexts.Fact.TheVariants.{In, Edge}
+use Rattle.facts.specs.declared.contexts.Fact.TheVariants.{Edge}
 use Rattle.indexes.specs.Keys.{class_key, property_key, individual_key, by_alone, by_first, by_filler, by_chain, by_plain, by_linked_first, by_linked_second, by_denied}
 use Rattle.indexes.specs.FormsUnderKeys.{IsUnder}
-use Rattle.saturate.specs.Requests.{Asks, BeginsWith, Denies, HasForm, NamesAbove, NamesClass, NamesIndividual}
+use Rattle.saturate.specs.Requests.{BeginsWith, Denies, HasForm, NamesAbove, NamesClass, NamesIndividual}
 use Rattle.inference.proofs.Lists.{Contains-from_slice_get, slice_get-from_Contains}
 
 -- a list that is not empty has some number

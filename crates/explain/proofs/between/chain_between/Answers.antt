@@ -1,4 +1,4 @@
-use Rattle.std.proofs.Common.{◌≡◌, List, ◌∙◌, sym, subst}
+use Rattle.std.proofs.Common.{List, ◌∙◌, sym, subst}
 use Rattle.explain.specs.Search.{LeadsOver, StandsAt}
 use Rattle.explain.specs.declared.reached.Reached.{Reached}
 use Rattle.explain.proofs.Places.{stands_within}

@@ -76,7 +76,7 @@ leading g c =
     let chain = chain_found c.forms.result.now s.state.problem.forms c.in_ok-found.found c.in-Some.chain c.deref.result.now c.args.first c.args.second forms c.in_ok-found.ensures c.in-Some.is c.deref.ensures.value in
     let says = c.in_ok-number.ensures.says c.args.second chain in
     let to = different_leads o s c.well_formed-2.ensures c.requires.saturated c.args.form c.args.first c.args.second c.requires.differ c.args.fact.0 f there is c.same_along.new.derivation c.in_ok-number.number says in
-    let numbers : c.push.new.self.items ≡ c.in_ok-number.number ∷ [] = c.in_ok-push.ensures.items ∙ ap (λ ns. ns ++ c.in_ok-number.number ∷ []) c.new-numbers.ensures.items in
+    let numbers : c.push.new.self.items ≡ c.in_ok-number.number ∷ [] = c.in_ok-push.ensures.ok ∙ ap (λ ns. ns ++ c.in_ok-number.number ∷ []) c.new-numbers.ensures.items in
     let rule = c.origin_rule-rule.ensures ∙ ap (λ (v : Listing). origin_rule o (option_map origin_in (slice_get v.entries c.args.form)) (N11 c.args.first c.args.second)) c.normal-normal.ensures in
     subst₂ (λ ns by. LeadsBy o s c.same_along.new.derivation ns f by) (sym numbers) (sym rule) to
 
@@ -91,6 +91,6 @@ returns-clause-shown g c f at =
 
 pub returns-clause-used : goal.returns-clause-used
 returns-clause-used g c =
-    let numbers : c.push.new.self.items ≡ c.in_ok-number.number ∷ [] = c.in_ok-push.ensures.items ∙ ap (λ ns. ns ++ c.in_ok-number.number ∷ []) c.new-numbers.ensures.items in
+    let numbers : c.push.new.self.items ≡ c.in_ok-number.number ∷ [] = c.in_ok-push.ensures.ok ∙ ap (λ ns. ns ++ c.in_ok-number.number ∷ []) c.new-numbers.ensures.items in
     used_twice c.args.derivation.now c.same_along.new.derivation c.concluded.new.derivation (IsAmong []) (c.in_ok-number.number ∷ []) c.in_ok-numbers.numbers.items c.in_ok-numbers.ensures.longer c.in_ok-number.ensures.used
     (subst (λ ns. Uses c.same_along.new.derivation c.concluded.new.derivation (IsAmong ns) c.in_ok-numbers.numbers.items) numbers c.in_ok-numbers.ensures.used)

@@ -1,17 +1,14 @@
-use Rattle.std.proofs.Common.{◌<◌, List, length, map, option_map, slice_get, Contains, sym, ap, ◌∙◌, subst}
-use Rattle.std.proofs.lemmas.Option.{same_Some, slice_get_within}
+use Rattle.std.proofs.Common.{map, option_map, slice_get, Contains, sym, ap, ◌∙◌, subst}
+use Rattle.std.proofs.lemmas.Option.{same_Some}
 use Rattle.lemmas.proofs.Places.{slice_get_there}
 use Rattle.facts.specs.Births.{reason}
-use Rattle.normal_forms.specs.declared.forms.Form.{Form}
-use Rattle.normalise.specs.Entries.{form_in, origin_in}
+use Rattle.normalise.specs.Entries.{origin_in}
 use Rattle.normalise.specs.Listing.{Listing}
 use Rattle.normalise.specs.Problem.{prefixes_of}
 use Rattle.explain.specs.FormRule.{origin_rule}
 use Rattle.explain.specs.OlderFacts.{rests_on}
 use Rattle.explain.specs.LinesOfFacts.{AreShowing}
 use Rattle.explain.proofs.ByForm.{LeadsBy, led_to}
-use Rattle.explain.proofs.Formless.{form_of_birth}
-use Rattle.explain.proofs.Leading.{form_read}
 use Rattle.explain.proofs.Used.{used_by_fact}
 use Rattle.explain.proofs.by_form.shown_by_facts.Given.{Over}
 use Rattle.explain.proofs.by_form.shown_by_facts.Goals as goal

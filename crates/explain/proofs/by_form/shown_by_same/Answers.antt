@@ -1,4 +1,4 @@
-use Rattle.std.proofs.Common.{◌≡◌, ◌∷◌, [], ℕ, List, sym, ap, ◌∙◌, subst}
+use Rattle.std.proofs.Common.{sym, subst, ◌∙◌}
 use Rattle.lemmas.proofs.Places.{slice_get_there}
 use Rattle.facts.specs.Births.{reason}
 use Rattle.normalise.specs.Problem.{prefixes_of}
@@ -41,7 +41,7 @@ handed_on-requires-clause-shown g c =
     let s = c.args.basis.now.saturation.now in
     let (i, j, at) = c.requires.same in
     let rest = rests c.args.basis.now.ontology.now s c.requires.saturated c.args.fact.0 (reason c.args.birth.now) c.requires.birth c.fact_of-fact.result c.fact_of-fact.ensures c.args.form c.requires.form i j at c.older.result c.older.ensures c.in-One.older c.in-One.is in
-    subst (λ ns. AreShowing (prefixes_of s.normal) c.args.derivation.now ns c.fact_of-given.result) (sym c.at-known.ensures)
+    subst (λ ns. AreShowing (prefixes_of s.normal) c.args.derivation.now ns c.fact_of-given.result) (sym (c.as_slice.ensures ∙ c.in_ok-known.ensures))
     (c.requires.older (reason c.args.birth.now) c.requires.birth c.in-One.older.0 rest c.fact_of-given.result c.fact_of-given.ensures)
 
 pub handed_on-requires-clause-some : goal.handed_on-requires-clause-some
@@ -50,8 +50,8 @@ handed_on-requires-clause-some g c =
     let (i, j, at) = c.requires.same in
     let rest = rests c.args.basis.now.ontology.now s c.requires.saturated c.args.fact.0 (reason c.args.birth.now) c.requires.birth c.fact_of-fact.result c.fact_of-fact.ensures c.args.form c.requires.form i j at c.older.result c.older.ensures c.in-One.older c.in-One.is in
     let shown = c.requires.older (reason c.args.birth.now) c.requires.birth c.in-One.older.0 rest c.fact_of-given.result c.fact_of-given.ensures in
-    has_edges c.args.basis.now.ontology.now s c.well_formed-2.ensures c.requires.saturated c.in-One.older.0 c.fact_of-given.result c.fact_of-given.ensures c.args.derivation.now c.at-known.result.now
-    (subst (λ ns. AreShowing (prefixes_of s.normal) c.args.derivation.now ns c.fact_of-given.result) (sym c.at-known.ensures) shown)
+    has_edges c.args.basis.now.ontology.now s c.well_formed-2.ensures c.requires.saturated c.in-One.older.0 c.fact_of-given.result c.fact_of-given.ensures c.args.derivation.now c.as_slice.result.now
+    (subst (λ ns. AreShowing (prefixes_of s.normal) c.args.derivation.now ns c.fact_of-given.result) (sym (c.as_slice.ensures ∙ c.in_ok-known.ensures)) shown)
 
 pub returns-clause-used : goal.returns-clause-used
 returns-clause-used g c =
@@ -59,6 +59,6 @@ returns-clause-used g c =
     let (i, j, at) = c.requires.same in
     let shown = c.args.shown.now in
     let only = rests_on_one c.args.basis.now.ontology.now s c.requires.saturated c.args.fact.0 (reason c.args.birth.now) c.requires.birth c.fact_of-fact.result c.fact_of-fact.ensures c.args.form c.requires.form i j at c.older.result c.older.ensures c.in-One.older c.in-One.is in
-    used_from c.args.derivation.now c.handed_on.new.derivation (IsAmong c.at-known.result.now) (ShowsOlder s shown c.args.fact.0) c.in_ok-numbers.numbers.items
-    (λ k h. subst (λ ns. IsAmong ns k) (sym c.at-known.ensures) (of_one shown c.in-One.older.0 k (subst (λ ns. IsAmongThose shown ns k) only (shows_those s shown c.args.fact.0 (reason c.args.birth.now) c.requires.birth k h))))
+    used_from c.args.derivation.now c.handed_on.new.derivation (IsAmong c.as_slice.result.now) (ShowsOlder s shown c.args.fact.0) c.in_ok-numbers.numbers.items
+    (λ k h. subst (λ ns. IsAmong ns k) (sym (c.as_slice.ensures ∙ c.in_ok-known.ensures)) (of_one shown c.in-One.older.0 k (subst (λ ns. IsAmongThose shown ns k) only (shows_those s shown c.args.fact.0 (reason c.args.birth.now) c.requires.birth k h))))
     c.in_ok-numbers.ensures.used

@@ -1,6 +1,5 @@
-use Rattle.std.proofs.Common.{◌≡◌, ◌∷◌, [], ◌++◌, ◌∙◌, ◌+◌, ℕ, List, map, take, length, get_or, slice_get, Some, sym, ap, subst, arith}
-use Rattle.std.proofs.lemmas.List.{take_all, length-map}
-use Rattle.std.proofs.lemmas.Option.{slice_get-get_or}
+use Rattle.std.proofs.Common.{◌≡◌, [], ◌∙◌, ◌+◌, map, take, get_or, Some, sym, ap, subst, arith}
+use Rattle.std.proofs.lemmas.List.{take_all}
 use Rattle.axioms.specs.View.{expr_numbers}
 use Rattle.axioms.specs.declared.ids.ExprId.{ExprId}
 use Rattle.certificate.specs.Certificate.{Sub}
@@ -13,7 +12,6 @@ use Rattle.explain.proofs.MovedClasses.{class_moved, class_more, operand_at, ope
 use Rattle.explain.specs.Step.{subject_in}
 use Rattle.explain.specs.Uses.{IsAmong, Uses}
 use Rattle.facts.specs.declared.contexts.Context.TheVariants.{Individual}
-use Rattle.normalise.specs.Problem.{prefixes_of}
 use Rattle.explain.proofs.exchange.class_exchanged.Goals as goal
 
 pub index-requires : goal.index-requires
@@ -33,11 +31,11 @@ loop-place-preserved g c =
       derivation = c.in_ok-number.ensures.derivation c.args.basis.now.ontology.now c.in_ok-same.ensures.derivation
           (class_follows c.args.basis.now.ontology.now mid c.in_ok-same.same _ c.args.exchange.new c.args.exchange.old c.in_ok-same.ensures.derivation c.in_ok-same.ensures.says _ (says ∙ ap (λ (e : ExprId). Some (Sub (subject_in (Individual c.args.exchange.old)) e.0)) (sym c.index.ensures)));
       longer = lengthened_twice before.longer longer;
-      at = subst (λ ns. at_numbers (conclusions c.followed.new.derivation) ns ≡ Some (map (Sub (line.Individual c.args.exchange.new.0)) (take (k + 1) (expr_numbers c.in_ok-operands.operands.items)))) (sym c.in_ok-push.ensures.items)
+      at = subst (λ ns. at_numbers (conclusions c.followed.new.derivation) ns ≡ Some (map (Sub (line.Individual c.args.exchange.new.0)) (take (k + 1) (expr_numbers c.in_ok-operands.operands.items)))) (sym c.in_ok-push.ensures.ok)
           (class_more c.loop-place.derivation c.followed.new.derivation c.loop-place.numbers.items c.in_ok-number.number (line.Individual c.args.exchange.new.0) (expr_numbers c.in_ok-operands.operands.items) k (get_or c.in_ok-operands.operands.items k d).0
           (operand_read c.normal.result.now c.args.basis.now.saturation.now.normal c.normal.ensures c.args.derivation.now c.args.known.now c.args.class c.in_ok-operands.operands.items c.in_ok-operands.ensures (Individual c.args.exchange.old) c.requires.shown k d (omega (arith, c.loop-place-test.true)))
           longer before.at (c.in_ok-number.ensures.says ∙ ap (λ (e : ExprId). Some (Sub (line.Individual c.args.exchange.new.0) e.0)) c.index.ensures));
-      used = subst (Uses c.args.derivation.now c.followed.new.derivation (IsAmong (take (k + 1) c.args.known.now))) (sym c.in_ok-push.ensures.items)
+      used = subst (Uses c.args.derivation.now c.followed.new.derivation (IsAmong (take (k + 1) c.args.known.now))) (sym c.in_ok-push.ensures.ok)
           (used_next c.args.derivation.now c.loop-place.derivation c.followed.new.derivation c.args.known.now c.loop-place.numbers.items k 0 c.in_ok-number.number (omega (arith, c.loop-place-test.true)) longer before.used
           (used_exchanged c.loop-place.derivation mid c.followed.new.derivation c.in_ok-same.same (get_or c.args.known.now k 0) c.in_ok-number.number [] [] c.in_ok-number.ensures.longer c.in_ok-same.ensures.used c.in_ok-number.ensures.used));
     }

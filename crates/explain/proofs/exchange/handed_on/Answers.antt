@@ -1,4 +1,4 @@
-use Rattle.std.proofs.Common.{◌≡◌, subst}
+use Rattle.std.proofs.Common.{subst}
 use Rattle.explain.proofs.Handing.{class_linked, class_now, class_stands, source_linked, source_now, target_linked, target_now, target_stands}
 use Rattle.explain.specs.LinesOfFacts.{AreShowing}
 use Rattle.normalise.specs.Problem.{prefixes_of}

@@ -1,4 +1,4 @@
-use Rattle.std.proofs.Common.{◌≡◌, ◌∷◌, [], ◌++◌, ◌∙◌, ℕ, ◌<◌, List, Some, drop, get_or, length, sym, ap, ap₂, subst₂, arith}
+use Rattle.std.proofs.Common.{◌≡◌, ◌∷◌, [], ◌++◌, ◌∙◌, Some, drop, get_or, sym, ap, ap₂, subst₂, arith}
 use Rattle.axioms.specs.declared.ids.PropId.{PropId}
 use Rattle.certificate.specs.Certificate.{Edge}
 use Rattle.certificate.specs.View.{subject_of}
@@ -35,12 +35,12 @@ returns-clause-shown g c =
     (showing_grown c.in_ok-same.ensures.longer c.requires.shown) c.first_target-next.ensures in
     source_shown (prefixes_of c.args.basis.now.saturation.now.normal) c.same_line.new.derivation c.followed.new.derivation c.args.walk.now c.extend_from_slice.new.self.items 0 c.in_ok-number.number _ (drop 1 (steps_of e.walk_is.property)) (subject_of c.first_target-next.result)
     c.args.exchange.new c.args.exchange.old c.args.property c.args.target e.walk_is c.in_ok-number.ensures.longer e.steps_are e.at (c.in_ok-number.ensures.says ∙ ap (λ (q : PropId). Some (Edge (subject_in (Individual c.args.exchange.new)) q.0 (subject_of c.first_target-next.result))) c.index.ensures)
-    (c.in_ok-extend_from_slice.ensures.items ∙ ap₂ (λ xs ys. xs ++ ys) (c.in_ok-push.ensures.items ∙ ap (λ ns. ns ++ c.in_ok-number.number ∷ []) c.new-numbers.ensures.items) (rest_read c.args.walk.now))
+    (c.in_ok-extend_from_slice.ensures.ok ∙ ap₂ (λ xs ys. xs ++ ys) (c.in_ok-push.ensures.ok ∙ ap (λ ns. ns ++ c.in_ok-number.number ∷ []) c.new-numbers.ensures.items) (rest_read c.args.walk.now))
 
 pub returns-clause-used : goal.returns-clause-used
 returns-clause-used g c =
     let list = head_tail c.args.walk.now 0 c.requires.some in
     let used = used_exchanged c.args.derivation.now c.same_line.new.derivation c.followed.new.derivation c.in_ok-same.same (get_or c.args.walk.now 0 0) c.in_ok-number.number [] (drop 1 c.args.walk.now) c.in_ok-number.ensures.longer c.in_ok-same.ensures.used c.in_ok-number.ensures.used in
     let numbers : c.extend_from_slice.new.self.items ≡ c.in_ok-number.number ∷ drop 1 c.args.walk.now =
-    c.in_ok-extend_from_slice.ensures.items ∙ ap₂ (λ xs ys. xs ++ ys) (c.in_ok-push.ensures.items ∙ ap (λ ns. ns ++ c.in_ok-number.number ∷ []) c.new-numbers.ensures.items) (rest_read c.args.walk.now) in
+    c.in_ok-extend_from_slice.ensures.ok ∙ ap₂ (λ xs ys. xs ++ ys) (c.in_ok-push.ensures.ok ∙ ap (λ ns. ns ++ c.in_ok-number.number ∷ []) c.new-numbers.ensures.items) (rest_read c.args.walk.now) in
     subst₂ (λ ms ns. Uses c.args.derivation.now c.followed.new.derivation (IsAmong ms) ns) (sym list) (sym numbers) used

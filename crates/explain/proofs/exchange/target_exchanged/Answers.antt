@@ -1,4 +1,4 @@
-use Rattle.std.proofs.Common.{◌≡◌, ◌∷◌, [], ◌++◌, ◌∙◌, ℕ, ◌<◌, ◌-◌, List, Some, option_map, take, get_or, length, sym, ap, ap₂, subst₂, arith}
+use Rattle.std.proofs.Common.{◌≡◌, ◌∷◌, [], ◌++◌, ◌∙◌, ◌-◌, Some, option_map, take, get_or, length, sym, ap, ap₂, subst₂, arith}
 use Rattle.std.proofs.lemmas.Option.{none-some, same_Some}
 use Rattle.axioms.specs.declared.ids.PropId.{PropId}
 use Rattle.certificate.specs.Certificate.{Edge}
@@ -41,12 +41,12 @@ returns-clause-shown g c =
     let step : c.index.result.now.0 ≡ e.ends.last = ap (λ (q : PropId). q.0) c.index.ensures ∙ e.step_is in
     target_shown (prefixes_of c.args.basis.now.saturation.now.normal) c.same_line.new.derivation c.followed.new.derivation c.args.walk.now c.push.new.self.items 0 c.in_ok-number.number c.args.exchange.new c.args.exchange.old c.args.property c.args.source
     e.walk_is e.ends c.in_ok-number.ensures.longer (c.in_ok-number.ensures.says ∙ ap₂ (λ x r. Some (Edge x r (subject_in (Individual c.args.exchange.new)))) from step)
-    (c.in_ok-push.ensures.items ∙ ap (λ ns. ns ++ c.in_ok-number.number ∷ []) (c.in_ok-extend_from_slice.ensures.items ∙ ap (λ ns. ns ++ take (length c.args.walk.now - 1) c.args.walk.now) c.new-numbers.ensures.items))
+    (c.in_ok-push.ensures.ok ∙ ap (λ ns. ns ++ c.in_ok-number.number ∷ []) (c.in_ok-extend_from_slice.ensures.ok ∙ ap (λ ns. ns ++ take (length c.args.walk.now - 1) c.args.walk.now) c.new-numbers.ensures.items))
 
 pub returns-clause-used : goal.returns-clause-used
 returns-clause-used g c =
     let list = all_but_last c.args.walk.now 0 c.requires.some in
     let used = used_exchanged c.args.derivation.now c.same_line.new.derivation c.followed.new.derivation c.in_ok-same.same (get_or c.args.walk.now (length c.args.walk.now - 1) 0) c.in_ok-number.number (take (length c.args.walk.now - 1) c.args.walk.now) [] c.in_ok-number.ensures.longer c.in_ok-same.ensures.used c.in_ok-number.ensures.used in
     let numbers : c.push.new.self.items ≡ take (length c.args.walk.now - 1) c.args.walk.now ++ c.in_ok-number.number ∷ [] =
-    c.in_ok-push.ensures.items ∙ ap (λ ns. ns ++ c.in_ok-number.number ∷ []) (c.in_ok-extend_from_slice.ensures.items ∙ ap (λ ns. ns ++ take (length c.args.walk.now - 1) c.args.walk.now) c.new-numbers.ensures.items) in
+    c.in_ok-push.ensures.ok ∙ ap (λ ns. ns ++ c.in_ok-number.number ∷ []) (c.in_ok-extend_from_slice.ensures.ok ∙ ap (λ ns. ns ++ take (length c.args.walk.now - 1) c.args.walk.now) c.new-numbers.ensures.items) in
     subst₂ (λ ms ns. Uses c.args.derivation.now c.followed.new.derivation (IsAmong ms) ns) (sym list) (sym numbers) used

@@ -1,4 +1,4 @@
-use Rattle.std.proofs.Common.{◌≡◌, ◌++◌, ℕ, List, get_or, slice_get, Some, inl, inr, sym, ap, ◌∙◌, subst, subst₂, arith}
+use Rattle.std.proofs.Common.{◌≡◌, get_or, slice_get, Some, inl, inr, subst, arith}
 use Rattle.explain.specs.LinesOfFacts.{AreShowing}
 use Rattle.explain.proofs.Growing.{lengthened_twice}
 use Rattle.explain.proofs.LiftedEdges.{path_on, stays}
@@ -19,7 +19,7 @@ loop-form-preserved g c =
       derivation = c.in_ok-lines.ensures.derivation;
       longer = lengthened_twice c.loop-form.invariant.longer c.in_ok-lines.ensures.longer;
       shown = (t, to, above, rest, c.in_ok-lines.ensures.shown r t (record { leads = subst (λ fs. slice_get fs (get_or c.deref-form-items.result.now c.loop-form.form-index 0) ≡ Some (N5 r t)) c.requires.paths at; shown = shown }));
-      used = used_twice c.args.derivation.now c.loop-form.derivation c.lifted_by.new.derivation (IsAmong c.args.numbers.now) c.loop-form.lines.items c.in_ok-lines.lines.items c.in_ok-lines.ensures.longer c.loop-form.invariant.used c.in_ok-lines.ensures.used;
+      used = used_twice c.args.derivation.now c.loop-form.derivation c.lifted_by.new.derivation (IsAmong c.args.numbers.items) c.loop-form.lines.items c.in_ok-lines.lines.items c.in_ok-lines.ensures.longer c.loop-form.invariant.used c.in_ok-lines.ensures.used;
     }
 
 pub returns-in_default-clause-shown : goal.returns-in_default-clause-shown
@@ -29,5 +29,4 @@ returns-in_default-clause-shown g c =
       | in_default-via-in-Property+in_default w ↦ stays forms w.in_default.field-0-1 c.args.property c.args.above c.requires.below (inr w.in_default.is-1)
       | in_default-via-in_default w ↦ stays forms w.in_default.field-0-0 c.args.property c.args.above c.requires.below (inl w.in_default.is-0)
     ] in
-    let numbers : c.extend_from_slice.new.self.items ≡ c.args.numbers.now = c.in_ok-extend_from_slice.ensures.items ∙ ap (λ ns. ns ++ c.args.numbers.now) c.new-lines.ensures.items in
-    subst₂ (λ (ns : List ℕ) (q : PropId2). AreShowing (prefixes_of c.args.basis.now.saturation.now.normal) c.args.derivation.now ns (Edge c.args.ends.source q c.args.ends.target)) (sym numbers) same c.requires.shown
+    subst (λ (q : PropId2). AreShowing (prefixes_of c.args.basis.now.saturation.now.normal) c.args.derivation.now c.args.numbers.items (Edge c.args.ends.source q c.args.ends.target)) same c.requires.shown

@@ -14,5 +14,5 @@ invariant-loop-form g l = record {
   derivation : IsDerivation l.basis.ontology.now l.derivation;
   longer : Lengthens l.initial.derivation l.derivation;
   shown : (r : PropId) × (to : PropId) × (l.fn.above ≡ Property to) × IsPath l.basis.paths.now r (drop l.form-index l.form-items) to × AreShowing (prefixes_of l.basis.saturation.now.normal) l.derivation l.lines.items (Edge l.ends.source (Property r) l.ends.target);
-  used : Uses l.initial.derivation l.derivation (IsAmong l.numbers) l.lines.items;
+  used : Uses l.initial.derivation l.derivation (IsAmong l.fn.numbers.items) l.lines.items;
 }

@@ -1,9 +1,8 @@
-use Rattle.std.proofs.Common.{◌≡◌, ◌++◌, ◌∷◌, [], Some, refl, ap, ◌∙◌, subst}
+use Rattle.std.proofs.Common.{◌∷◌, [], Some, refl, ap, ◌∙◌}
 use Rattle.certificate.specs.Certificate.{Sub}
 use Rattle.certificate.specs.View.{subject_of}
 use Rattle.axioms.specs.Ontology.{nothing}
 use Rattle.explain.proofs.Used.{used_by_line}
-use Rattle.explain.specs.Uses.{IsAmong, Uses}
 use Rattle.explain.proofs.Walking.{same_source, carried_line, last_says}
 use Rattle.explain.proofs.nothing.carried_over.Goals as goal
 
@@ -12,8 +11,7 @@ returns-clause-derivation g c =
     let (x, l) = c.requires.edge in
     let same = same_source c.args.derivation.now c.args.edge c.args.end x (subject_of c.in-Some.source) l c.in-Some.ensures in
     c.in_ok-number.ensures.derivation c.args.ontology.now c.requires.derivation
-    (carried_line c.args.ontology.now c.args.derivation.now c.args.edge c.args.end x (subject_of c.in-Some.source) c.push-2.new.self.items c.well_formed-2.ensures c.requires.derivation l same
-    (c.in_ok-push-2.ensures.items ∙ ap (λ ns. ns ++ c.args.end ∷ []) (c.in_ok-push.ensures.items ∙ ap (λ ns. ns ++ c.args.edge ∷ []) c.new-premises.ensures.items)))
+    (carried_line c.args.ontology.now c.args.derivation.now c.args.edge c.args.end x (subject_of c.in-Some.source) (c.args.edge ∷ c.args.end ∷ []) c.well_formed-2.ensures c.requires.derivation l same refl)
 
 pub returns-clause-shown : goal.returns-clause-shown
 returns-clause-shown g c x l =
@@ -22,7 +20,5 @@ returns-clause-shown g c x l =
 
 pub returns-clause-used : goal.returns-clause-used
 returns-clause-used g c =
-    let premises : c.push-2.new.self.items ≡ c.args.edge ∷ c.args.end ∷ [] = c.in_ok-push-2.ensures.items ∙ ap (λ ns. ns ++ c.args.end ∷ []) (c.in_ok-push.ensures.items ∙ ap (λ ns. ns ++ c.args.edge ∷ []) c.new-premises.ensures.items) in
     let number = c.in_ok-number.number in
-    subst (λ ns. Uses c.args.derivation.now c.add.new.self (IsAmong ns) (number ∷ [])) premises
-    (used_by_line c.args.derivation.now c.add.new.self _ (number ∷ []) number c.in_ok-number.ensures.added c.in_ok-number.ensures.number refl)
+    used_by_line c.args.derivation.now c.add.new.self _ (number ∷ []) number c.in_ok-number.ensures.added c.in_ok-number.ensures.number refl

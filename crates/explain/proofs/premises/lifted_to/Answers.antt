@@ -26,8 +26,8 @@ returns-in_ok-numbers-in-Edge-Some-clause-shown g c f there =
     subst (λ p. P p f) (sym c.in-Edge-Some.is-1)
     (subst (P (Some c.in-Edge-Some.above)) (same_Some _ f (sym read ∙ there)) c.in_ok-numbers-in-Edge-Some.ensures.shown)
 
-pub returns-in_ok-numbers-in_default-clause-shown : goal.returns-in_ok-numbers-in_default-clause-shown
-returns-in_ok-numbers-in_default-clause-shown g c f there =
+pub returns-in_default-clause-shown : goal.returns-in_default-clause-shown
+returns-in_default-clause-shown g c f there =
     let facts = c.args.basis.now.saturation.now.state.facts in
     let stays : lifted_to c.args.property f ≡ f =
     elim c.in_default.branch [
@@ -35,10 +35,10 @@ returns-in_ok-numbers-in_default-clause-shown g c f there =
       | in_default-via-in_default w ↦ class_stays c.args.property _ _ f (same_Some f _ (sym there ∙ c.fact_of.ensures ∙ ap (λ g. Some g) w.in_default.is-0))
     ] in
     let P : List ℕ → Fact → Type 0 = AreShowing (prefixes_of c.args.basis.now.saturation.now.normal) c.args.derivation.now in
-    subst (P c.in_ok-numbers-in_default.numbers.items) (sym stays)
-    (subst (λ ns. P ns f) (sym (c.in_ok-numbers-in_default.ensures ∙ c.at-known.ensures)) (c.requires.shown f there))
+    subst (P c.in_ok-known.known.items) (sym stays)
+    (subst (λ ns. P ns f) (sym c.in_ok-known.ensures) (c.requires.shown f there))
 
 pub returns-in_ok-numbers-in-Edge-Some-clause-used : goal.returns-in_ok-numbers-in-Edge-Some-clause-used
 returns-in_ok-numbers-in-Edge-Some-clause-used g c =
-    subst (λ ns. Uses c.args.derivation.now c.lifted.new.derivation (IsAmong ns) c.in_ok-numbers-in-Edge-Some.numbers.items) c.at-known.ensures
+    subst (λ ns. Uses c.args.derivation.now c.lifted.new.derivation (IsAmong ns) c.in_ok-numbers-in-Edge-Some.numbers.items) c.in_ok-known.ensures
     c.in_ok-numbers-in-Edge-Some.ensures.used

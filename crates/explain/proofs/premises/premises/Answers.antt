@@ -39,7 +39,7 @@ returns-in_ok-extend_from_slice-in-Two-clause-shown g c fs at =
     c.in_ok-numbers-in-Two.numbers.items c.in_ok-more-in-Two.more.items _ c.in-Two.is c.first_property-property-in-Two.ensures c.second_property-property.ensures
     (c.requires.there c.in-Two.first.0 (first_number c.args.older c.in-Two.first c.in-Two.second c.in-Two.is))
     (c.requires.there c.in-Two.second.0 (second_number c.args.older c.in-Two.first c.in-Two.second c.in-Two.is))
-    (c.in_ok-extend_from_slice-in-Two.ensures.items ∙ ap (λ ns. c.in_ok-numbers-in-Two.numbers.items ++ ns) c.deref.ensures.value)
+    (c.in_ok-extend_from_slice-in-Two.ensures.ok ∙ ap (λ ns. c.in_ok-numbers-in-Two.numbers.items ++ ns) c.as_slice.ensures)
     (λ f there. showing_grown c.in_ok-more-in-Two.ensures.longer (c.in_ok-numbers-in-Two.ensures.shown f there))
     (λ g also. c.in_ok-more-in-Two.ensures.shown g also) fs at
 
@@ -54,5 +54,5 @@ pub returns-in_ok-extend_from_slice-in-Two-clause-used : goal.returns-in_ok-exte
 returns-in_ok-extend_from_slice-in-Two-clause-used g c =
     used.two_taken c.args.shown.now c.args.older c.in-Two.first c.in-Two.second c.args.derivation.now c.lifted_to-in-Two.new.derivation c.lifted_to-in-Two-2.new.derivation
     c.in_ok-numbers-in-Two.numbers.items c.in_ok-more-in-Two.more.items _ c.in-Two.is
-    (c.in_ok-extend_from_slice-in-Two.ensures.items ∙ ap (λ ns. c.in_ok-numbers-in-Two.numbers.items ++ ns) c.deref.ensures.value)
+    (c.in_ok-extend_from_slice-in-Two.ensures.ok ∙ ap (λ ns. c.in_ok-numbers-in-Two.numbers.items ++ ns) c.as_slice.ensures)
     c.in_ok-more-in-Two.ensures.longer c.in_ok-numbers-in-Two.ensures.used c.in_ok-more-in-Two.ensures.used

@@ -1,9 +1,7 @@
-use Rattle.std.proofs.Common.{◌≡◌, ◌∷◌, [], ◌∙◌, sym, subst, arith}
-use Rattle.axioms.specs.declared.ids.IndId.{IndId}
+use Rattle.std.proofs.Common.{arith}
 use Rattle.explain.proofs.Exchanging.{used_both}
 use Rattle.explain.proofs.Growing.{lengthened_twice}
-use Rattle.explain.proofs.SameLines.{chain_next, chain_over, says_grown}
-use Rattle.explain.specs.SameLines.{SaysSame}
+use Rattle.explain.proofs.SameLines.{chain_next, says_grown}
 use Rattle.explain.proofs.same.same_along.Goals as goal
 
 pub loop-place-init : goal.loop-place-init

@@ -13,13 +13,13 @@ use Rattle.explain.proofs.Used.{used_of_none}
 use Rattle.explain.proofs.showing.shown_without_form.Given.{Over}
 use Rattle.explain.proofs.showing.shown_without_form.Goals as goal
 
-pub bounds-ends-0 : goal.bounds-ends-0
-bounds-ends-0 g c =
+pub bounds-as_slice-0 : goal.bounds-as_slice-0
+bounds-as_slice-0 g c =
     let s = c.args.basis.now.saturation.now in
     let (f, at) = slice_get_there s.state.facts c.args.fact.0 c.requires.there in
     let eight = two_are_carried c.args.basis.now.ontology.now s c.requires.saturated c.args.fact.0 (reason c.args.birth.now) c.requires.birth f at c.requires.form c.in-Two.edge.0 c.in-Two.class.0 (sym c.in-Two.ensures) in
     some_end c.args.basis.now.ontology.now s c.requires.saturated c.args.fact.0 (reason c.args.birth.now) c.requires.birth f at eight c.args.derivation.now c.args.shown.now c.requires.older c.in-Two.edge.0 c.in-Two.class.0 (sym c.in-Two.ensures)
-    c.at-ends.result.now c.at-ends.ensures
+    c.as_slice.result.now (c.as_slice.ensures ∙ c.in_ok-ends-in-Two.ensures)
 
 pub carried_back-requires-clause-walk : goal.carried_back-requires-clause-walk
 carried_back-requires-clause-walk g c =
@@ -29,7 +29,7 @@ carried_back-requires-clause-walk g c =
     let k = is_carried c.args.basis.now.ontology.now s c.requires.saturated c.args.fact.0 (reason c.args.birth.now) c.requires.birth f at eight in (
       subject_in k.carries.source,
       walk_leads c.args.basis.now.ontology.now s c.requires.saturated c.args.fact.0 (reason c.args.birth.now) c.requires.birth f at eight c.args.derivation.now c.args.shown.now c.requires.older c.in-Two.edge.0 c.in-Two.class.0 (sym c.in-Two.ensures)
-          c.at-walk.result.now c.at-ends.result.now c.at-walk.ensures c.at-ends.ensures,
+          c.as_slice-in-Two.result.now c.as_slice.result.now (c.as_slice-in-Two.ensures ∙ c.in_ok-walk-in-Two.ensures) (c.as_slice.ensures ∙ c.in_ok-ends-in-Two.ensures),
     )
 
 pub returns-in_ok-push-in-Two-clause-shown : goal.returns-in_ok-push-in-Two-clause-shown
@@ -38,10 +38,10 @@ returns-in_ok-push-in-Two-clause-shown g c f at =
     let eight = two_are_carried c.args.basis.now.ontology.now s c.requires.saturated c.args.fact.0 (reason c.args.birth.now) c.requires.birth f at c.requires.form c.in-Two.edge.0 c.in-Two.class.0 (sym c.in-Two.ensures) in
     let k = is_carried c.args.basis.now.ontology.now s c.requires.saturated c.args.fact.0 (reason c.args.birth.now) c.requires.birth f at eight in
     let leads = walk_leads c.args.basis.now.ontology.now s c.requires.saturated c.args.fact.0 (reason c.args.birth.now) c.requires.birth f at eight c.args.derivation.now c.args.shown.now c.requires.older c.in-Two.edge.0 c.in-Two.class.0 (sym c.in-Two.ensures)
-    c.at-walk.result.now c.at-ends.result.now c.at-walk.ensures c.at-ends.ensures in
+    c.as_slice-in-Two.result.now c.as_slice.result.now (c.as_slice-in-Two.ensures ∙ c.in_ok-walk-in-Two.ensures) (c.as_slice.ensures ∙ c.in_ok-ends-in-Two.ensures) in
     carried_shown c.args.basis.now.ontology.now s c.requires.saturated c.args.fact.0 (reason c.args.birth.now) c.requires.birth f at eight c.args.derivation.now c.args.shown.now c.requires.older c.in-Two.edge.0 c.in-Two.class.0 (sym c.in-Two.ensures)
     c.carried_back.new.derivation c.in_ok-number-in-Two.number c.push.new.self.items (c.in_ok-number-in-Two.ensures.shown (subject_in k.carries.source) leads)
-    (c.in_ok-push-in-Two.ensures.items ∙ ap (λ ns. ns ++ c.in_ok-number-in-Two.number ∷ []) c.new-numbers.ensures.items)
+    (c.in_ok-push-in-Two.ensures.ok ∙ ap (λ ns. ns ++ c.in_ok-number-in-Two.number ∷ []) c.new-numbers.ensures.items)
 
 pub returns-in_ok-push-in-Two-clause-used : goal.returns-in_ok-push-in-Two-clause-used
 returns-in_ok-push-in-Two-clause-used g c =
@@ -49,8 +49,8 @@ returns-in_ok-push-in-Two-clause-used g c =
     let (f, at) = slice_get_there s.state.facts c.args.fact.0 c.requires.there in
     let eight = two_are_carried c.args.basis.now.ontology.now s c.requires.saturated c.args.fact.0 (reason c.args.birth.now) c.requires.birth f at c.requires.form c.in-Two.edge.0 c.in-Two.class.0 (sym c.in-Two.ensures) in
     carried_used c.args.basis.now.ontology.now s c.requires.saturated c.args.fact.0 (reason c.args.birth.now) c.requires.birth f at eight c.args.derivation.now c.args.shown.now c.requires.older c.in-Two.edge.0 c.in-Two.class.0 (sym c.in-Two.ensures)
-    c.carried_back.new.derivation c.at-walk.result.now c.at-ends.result.now c.in_ok-number-in-Two.number c.push.new.self.items c.at-walk.ensures c.at-ends.ensures
-    (c.in_ok-push-in-Two.ensures.items ∙ ap (λ ns. ns ++ c.in_ok-number-in-Two.number ∷ []) c.new-numbers.ensures.items)
+    c.carried_back.new.derivation c.as_slice-in-Two.result.now c.as_slice.result.now c.in_ok-number-in-Two.number c.push.new.self.items (c.as_slice-in-Two.ensures ∙ c.in_ok-walk-in-Two.ensures) (c.as_slice.ensures ∙ c.in_ok-ends-in-Two.ensures)
+    (c.in_ok-push-in-Two.ensures.ok ∙ ap (λ ns. ns ++ c.in_ok-number-in-Two.number ∷ []) c.new-numbers.ensures.items)
     c.in_ok-number-in-Two.ensures.used
 
 -- where two facts did not give it, nothing was carried

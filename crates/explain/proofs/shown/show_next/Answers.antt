@@ -33,4 +33,4 @@ returns-clause-showing g c =
     (subst (λ k. slice_get s.state.facts k ≡ Some fact.0) next fact.1) (subst (IsMarked marks) next marked) c.requires.ready.saturated.asked c.requires.ready.called_for
     c.requires.showing c.in_ok-numbers.ensures.derivation c.in_ok-numbers.ensures.longer (c.in_ok-numbers.ensures.shown fact.0 fact.1)
     (subst (λ k. EachIsUsed s shown k c.args.derivation.now c.show.new.derivation numbers) next c.in_ok-numbers.ensures.used) in
-    rw (c.in_ok-push_list-2.ensures.ok, c.deref.ensures.value) more
+    rw (c.in_ok-push_list-2.ensures.ok, c.as_slice.ensures) more

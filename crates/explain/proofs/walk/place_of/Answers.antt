@@ -1,5 +1,5 @@
-use Rattle.std.proofs.Common.{inl, inr, arith, sym, ap, ◌∙◌, subst}
-use Rattle.std.proofs.lemmas.Bool.{cases_eq, eq-eqb, false≢true}
+use Rattle.std.proofs.Common.{inl, inr, arith, ap, ◌∙◌, subst}
+use Rattle.std.proofs.lemmas.Bool.{cases_eq}
 use Rattle.std.proofs.lemmas.Option.{get_or_from_slice_get}
 use Rattle.explain.specs.declared.reached.Reached.{Reached}
 use Rattle.explain.specs.Search.{StandsAt}

@@ -1,4 +1,4 @@
-use Rattle.std.proofs.Common.{ℕ, List, sym, subst, arith}
+use Rattle.std.proofs.Common.{sym, subst, arith}
 use Rattle.std.proofs.lemmas.Option.{slice_get-get_or}
 use Rattle.explain.specs.Search.{IsTrace}
 use Rattle.explain.proofs.WalkingUp.{TracesOn, traces_more, traces_all, no_way}

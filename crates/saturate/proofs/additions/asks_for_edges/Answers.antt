@@ -1,4 +1,4 @@
-use Rattle.std.proofs.Common.{Contains, refl}
+use Rattle.std.proofs.Common.{refl}
 use Rattle.std.proofs.lemmas.List.Elements.{Contains-get_or}
 use Rattle.normal_forms.specs.declared.forms.PropId2.{PropId2}
 use Rattle.normal_forms.proofs.Suffice.{suffice}

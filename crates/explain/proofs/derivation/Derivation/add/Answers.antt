@@ -1,6 +1,7 @@
 use Rattle.std.proofs.Common.{◌++◌, ◌∷◌, [], ap, ◌∙◌}
 use Rattle.std.proofs.lemmas.Result.{on_ok_weaker}
-use Rattle.certificate.specs.View.{line_of}
+use Rattle.certificate.specs.View.{conclusion_of}
+use Rattle.explain.specs.Step.{line_by}
 use Rattle.explain.proofs.Growing.{derivation_pushed}
 use Rattle.explain.proofs.SameLines.{added_or_not, kept_grown}
 use Rattle.explain.proofs.derivation.Derivation.add.Goals as goal
@@ -10,6 +11,7 @@ invariant_of-self g c = kept_grown (added_or_not c.add.result _ _ _ c.add.ensure
 
 pub returns-clause-derivation : goal.returns-clause-derivation
 returns-clause-derivation g c =
+    let line = line_by (conclusion_of c.args.conclusion) c.args.rule c.args.axiom_number c.args.premises.now in
     on_ok_weaker c.add.result
-    (λ added o derivation derived. derivation_pushed o _ _ (line_of c.args.line) (added ∙ ap (λ ls. ls ++ line_of c.args.line ∷ []) c.self.view_is) derivation derived)
+    (λ added o derivation derived. derivation_pushed o _ _ line (added ∙ ap (λ ls. ls ++ line ∷ []) c.self.view_is) derivation derived)
     c.add.ensures.added

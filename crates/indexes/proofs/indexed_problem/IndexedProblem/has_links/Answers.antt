@@ -1,18 +1,22 @@
-use Rattle.std.proofs.Common.{◌≡◌, List, ℕ, [], Contains, Bool, true, false, not, sym, subst, arith}
+use Rattle.std.proofs.Common.{◌≡◌, ◌↔◌, List, ℕ, [], Contains, Bool, true, false, not, refl, ap, subst, arith}
 use Rattle.facts.specs.Closure.{Problem}
-use Rattle.indexes.specs.FormIndex.{at_key}
+use Rattle.normal_forms.specs.declared.forms.Form.{Form}
+use Rattle.lemmas.proofs.Members.{Contains-none}
+use Rattle.indexes.specs.FormIndex.{at_key, ListsForms, ListsNothing}
 use Rattle.indexes.specs.Keys.{by_linked_first}
 use Rattle.indexes.specs.FormsUnderKeys.{IsUnder}
+use Rattle.indexes.specs.declared.key_lists.KeyLists.{KeyLists}
+use Rattle.indexes.specs.declared.keys.Key.{Key}
+use Rattle.indexes.proofs.Listing.{unlisted}
 use Rattle.indexes.proofs.indexed_problem.IndexedProblem.has_links.Goals as goal
 
-turned : (b : Bool) → not b ≡ false → b ≡ true
-turned b e = grind arith
-
-none_there : (list : List ℕ) (n : ℕ) → list ≡ [] → Contains list n → ⊥
-none_there list n e c = let w : Contains [] n = subst (λ (l : List ℕ). Contains l n) e c in omega (arith, w.1)
+turned : (b : Bool) → (not b ≡ false) ↔ (b ≡ true)
+turned true = (λ e. refl, λ e. refl)
+turned false = (λ e. grind arith, λ e. grind arith)
 
 pub returns : goal.returns
-returns c = λ no k n under.
-    let lists = c.self.inside.index.linked_first in
-    let there : Contains (at_key lists k) n = (c.self.invariant.linked_first k n).1 (subst (λ (p : Problem). IsUnder by_linked_first p.forms k n) (sym c.self.view_is) under) in
-    none_there (at_key lists k) n (c.is_empty.ensures (turned c.is_empty.result no) k) there
+returns c = subst (λ (p : Problem). (not c.is_empty.result ≡ false) ↔ ((k : Key) (n : ℕ) → IsUnder by_linked_first p.forms k n → ⊥)) c.self.view_is
+    (let lists = unlisted by_linked_first _ c.self.inside.index.linked_first c.self.invariant.linked_first in (
+      λ e. lists.0 (c.is_empty.ensures.0 ((turned c.is_empty.result).0 e)),
+      λ none. (turned c.is_empty.result).1 (c.is_empty.ensures.1 (lists.1 none)),
+    ))

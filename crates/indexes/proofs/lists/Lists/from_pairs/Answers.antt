@@ -1,7 +1,7 @@
 use Rattle.std.proofs.Common.{ℕ, map, ap, subst, ◌∙◌}
 use Rattle.std.proofs.lemmas.List.Sorted.{Contains-permutation, IsPermutation-sym}
 use Rattle.indexes.specs.Lists.{AreStarts}
-use Rattle.indexes.proofs.Dividing.{keys_rise, starts_within, lists_are}
+use Rattle.indexes.proofs.Dividing.{keys_rise, starts_within, lists_are, all_listed}
 use Rattle.indexes.proofs.lists.Lists.from_pairs.Goals as goal
 
 pub starts_of-requires-clause-sorted : goal.starts_of-requires-clause-sorted
@@ -11,7 +11,11 @@ pub invariant_of-result : goal.invariant_of-result
 invariant_of-result c =
     let starts = c.in_ok-starts_of.field-0.items in
     let are : AreStarts starts c.sort_unstable.new.self.items = subst (AreStarts starts) c.deref.ensures.value c.in_ok-starts_of.ensures in
-    record { within = starts_within starts c.in_ok-numbers_of.field-0.items c.sort_unstable.new.self.items are (c.in_ok-numbers_of.ensures ∙ ap (map (λ (p : ℕ × ℕ). p.1)) c.deref-2.ensures.value) }
+    let numbers = c.in_ok-numbers_of.ensures ∙ ap (map (λ (p : ℕ × ℕ). p.1)) c.deref-2.ensures.value in
+    record {
+      within = starts_within starts c.in_ok-numbers_of.field-0.items c.sort_unstable.new.self.items are numbers;
+      listed = all_listed starts c.in_ok-numbers_of.field-0.items c.sort_unstable.new.self.items are numbers;
+    }
 
 pub returns : goal.returns
 returns c =

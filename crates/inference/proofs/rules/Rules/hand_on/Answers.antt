@@ -7,7 +7,7 @@ use Rattle.inference.proofs.Handing.{at_still, class_handed, edge_handed, unlink
 use Rattle.inference.proofs.rules.Rules.hand_on.Goals as goal
 
 pub returns-then-not-has_links : goal.returns-then-not-has_links
-returns-then-not-has_links c = draws (grows_same c.requires.derived) (unlinked c.args.self.now.problem.now c.args.fact c.args.facts.now.facts (c.has_links.ensures c.if-not-has_links.true))
+returns-then-not-has_links c = draws (grows_same c.requires.derived) (unlinked c.args.self.now.problem.now c.args.fact c.args.facts.now.facts (c.has_links.ensures.0 c.if-not-has_links.true))
 
 pub returns-in_ok-hand_on_at-in-In : goal.returns-in_ok-hand_on_at-in-In
 returns-in_ok-hand_on_at-in-In c =

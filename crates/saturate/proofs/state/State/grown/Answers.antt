@@ -1,4 +1,4 @@
-use Rattle.std.proofs.Common.{◌≡◌, ◌≤◌, length, drop, arith}
+use Rattle.std.proofs.Common.{◌≡◌, length, drop, arith}
 use Rattle.inference.specs.Entry.{HasBegun}
 use Rattle.saturate.specs.Growth.{with_more, KeepsServed}
 use Rattle.saturate.proofs.Extending.{derived_then, extended, listed_again, parted}

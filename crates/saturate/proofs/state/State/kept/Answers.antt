@@ -1,0 +1,21 @@
+use Rattle.std.proofs.Common.{◌≡◌, List, ap, ◌∙◌}
+use Rattle.facts.specs.declared.contexts.Fact.{Fact}
+use Rattle.facts.specs.Closure.{Problem}
+use Rattle.facts.specs.Births.{Reason}
+use Rattle.inference.specs.Completeness.{IsClosure}
+use Rattle.saturate.specs.State.{Seen, AreBorn}
+use Rattle.saturate.specs.FinishedStates.{IsKept, served_all}
+use Rattle.saturate.proofs.state.State.kept.Goals as goal
+
+-- what is kept of a state whose facts are the closure, each born of older ones
+kept_of : (s : Seen) (k : Problem) (facts : List Fact) (births : List Reason) → k ≡ s.problem → facts ≡ s.facts → births ≡ s.births →
+    AreBorn s → IsClosure s.problem s.facts → IsKept (served_all k facts births)
+kept_of s k facts births problem_is facts_are births_are born all = rw problem_is (rw facts_are (rw births_are (record { born = born; all = all })))
+
+pub invariant_of-result : goal.invariant_of-result
+invariant_of-result g c = kept_of c.args.self c.self.inside.ground _ _
+    (ap (λ (s : Seen). s.problem) c.self.view_is)
+    (c.into_lists-facts.ensures.facts ∙ ap (λ (s : Seen). s.facts) c.self.view_is)
+    (c.into_lists-facts.ensures.births ∙ ap (λ (s : Seen). s.births) c.self.view_is)
+    c.well_formed-2.ensures.state.born
+    (c.well_formed-2.ensures.closure c.requires)
