@@ -1,6 +1,7 @@
 pub mod Clones
 pub mod Trees
 pub mod FourClasses
+pub mod OwnClasses
 pub mod Counted
 pub mod Insertions
 pub mod Growing

@@ -1,57 +1,52 @@
 -- Where the words name no task.
-use Rattle.std.proofs.Common.{◌≡◌, ◌∙◌, ℕ, List, Option, Some, ap, arith, codes, get_or, refl, subst, sym}
+use Rattle.std.proofs.Common.{◌≡◌, ◌∙◌, ℕ, List, Bool, Option, Some, ap, codes, get_or, refl, subst, sym}
+use Rattle.std.specs.Prelude.{false, true, ◌==◌, if◌then◌else◌}
 use Rattle.std.proofs.lemmas.Option.{same_Some}
 use Rattle.clap.specs.Words.{Row, Text}
 use Rattle.command_line.specs.declared.tasks.Command.{Command}
-use Rattle.command_line.specs.declared.tasks.Command.TheVariants.{Check, Classify, Explain, Instances, Query}
+use Rattle.command_line.specs.declared.tasks.Command.TheVariants.{Check, Classify, Convert, Explain, Instances, Query}
 use Rattle.command_line.specs.declared.tasks.LineFault.{LineFault}
 use Rattle.command_line.specs.declared.tasks.LineFault.TheVariants.{Line, Memory}
-use Rattle.command_line.specs.declared.tasks.Paths.{Paths}
 use Rattle.command_line.specs.declared.tasks.Task.{Task}
-use Rattle.command_line.specs.CommandLine.{AreLimits, IsCommand, IsLimit, IsLimitOfFacts, IsTask, IsTaskOf, NamesTask, Refuses, most_facts}
+use Rattle.command_line.specs.CommandLine.{AreLimits, IsCommand, IsLimitOfFacts, IsTask, IsTaskOf, NamesTask, Refuses, draws_facts}
 use Rattle.program.specs.declared.limits.Limits.{Limits}
 
--- a word that begins with a c is not `query`
-pub not_query : (word other : Text) → get_or other 0 0 ≡ 99 → word ≡ other → word ≡ codes "query" → ⊥
-not_query word other begins is query =
-    let first : 99 ≡ 113 = sym begins ∙ ap (λ (w : Text). get_or w 0 0) (sym is ∙ query) in
-    absurd (omega (arith, first))
+-- the second letter of the command's name: no two commands have the same
+abbrev pub letter_of : Command → ℕ
+letter_of (Classify paths format) = 108
+letter_of (Check paths) = 104
+letter_of (Convert conversion) = 111
+letter_of (Instances document class) = 110
+letter_of (Explain question) = 120
+letter_of (Query document expression) = 117
 
--- commands of one name have one limit of facts
-pub one_limit : (name : Text) (rows : List Row) (c d : Command) (limit : ℕ) → IsCommand name rows c → IsCommand name rows d → IsLimitOfFacts c rows limit → IsLimitOfFacts d rows limit
-one_limit name rows (Check p) (Check q) limit h k is = is
-one_limit name rows (Check p) (Classify q) limit h k is = let a : name ≡ codes "check" = h.0 in let b : name ≡ codes "classify" = k.0 in absurd (cc)
-one_limit name rows (Check p) (Instances document class) limit h k is = let a : name ≡ codes "check" = h.0 in let b : name ≡ codes "instances" = k.0 in absurd (cc)
-one_limit name rows (Check p) (Explain question) limit h k is = let a : name ≡ codes "check" = h.0 in let b : name ≡ codes "explain" = k.0 in absurd (cc)
-one_limit name rows (Check p) (Query document expression) limit h k is = absurd (not_query name (codes "check") refl h.0 k.0)
-one_limit name rows (Classify p) (Check q) limit h k is = let a : name ≡ codes "classify" = h.0 in let b : name ≡ codes "check" = k.0 in absurd (cc)
-one_limit name rows (Instances document class) (Check q) limit h k is = let a : name ≡ codes "instances" = h.0 in let b : name ≡ codes "check" = k.0 in absurd (cc)
-one_limit name rows (Explain question) (Check q) limit h k is = let a : name ≡ codes "explain" = h.0 in let b : name ≡ codes "check" = k.0 in absurd (cc)
-one_limit name rows (Query document expression) (Check q) limit h k is = absurd (not_query name (codes "check") refl k.0 h.0)
-one_limit name rows (Classify p) (Classify q) limit h k is = is
-one_limit name rows (Classify p) (Instances document class) limit h k is = is
-one_limit name rows (Classify p) (Explain question) limit h k is = is
-one_limit name rows (Classify p) (Query document expression) limit h k is = is
-one_limit name rows (Instances document class) (Classify q) limit h k is = is
-one_limit name rows (Instances document class) (Instances document' class') limit h k is = is
-one_limit name rows (Instances document class) (Explain question) limit h k is = is
-one_limit name rows (Instances document class) (Query document' expression) limit h k is = is
-one_limit name rows (Explain question) (Classify q) limit h k is = is
-one_limit name rows (Explain question) (Instances document class) limit h k is = is
-one_limit name rows (Explain question) (Explain question') limit h k is = is
-one_limit name rows (Explain question) (Query document expression) limit h k is = is
-one_limit name rows (Query document expression) (Classify q) limit h k is = is
-one_limit name rows (Query document expression) (Instances document' class) limit h k is = is
-one_limit name rows (Query document expression) (Explain question) limit h k is = is
-one_limit name rows (Query document expression) (Query document' expression') limit h k is = is
+letter_is : (name : Text) (rows : List Row) (command : Command) → IsCommand name rows command → get_or name 1 0 ≡ letter_of command
+letter_is name rows (Classify paths format) is = ap (λ (w : Text). get_or w 1 0) is.0
+letter_is name rows (Check paths) is = ap (λ (w : Text). get_or w 1 0) is.0
+letter_is name rows (Convert conversion) is = ap (λ (w : Text). get_or w 1 0) is.0
+letter_is name rows (Instances document class) is = ap (λ (w : Text). get_or w 1 0) is.0
+letter_is name rows (Explain question) is = ap (λ (w : Text). get_or w 1 0) is.0
+letter_is name rows (Query document expression) is = ap (λ (w : Text). get_or w 1 0) is.0
 
--- a command that is no check has an option for its limit of facts
-pub limit_of_facts : (rows : List Row) (command : Command) (limit : ℕ) → ((paths : Paths) → command ≡ Check paths → ⊥) → IsLimitOfFacts command rows limit → IsLimit (codes "max-facts") most_facts rows limit
-limit_of_facts rows (Check paths) limit other is = absurd (other paths refl)
-limit_of_facts rows (Classify paths) limit other is = is
-limit_of_facts rows (Instances document class) limit other is = is
-limit_of_facts rows (Explain question) limit other is = is
-limit_of_facts rows (Query document expression) limit other is = is
+-- commands of one name have one letter
+pub one_letter : (name : Text) (rows : List Row) (c d : Command) → IsCommand name rows c → IsCommand name rows d → letter_of c ≡ letter_of d
+one_letter name rows c d h k = sym (letter_is name rows c h) ∙ letter_is name rows d k
+
+-- whether a command whose name has that second letter draws facts
+abbrev letter_draws : ℕ → Bool
+letter_draws letter = if letter == 104 then false else if letter == 111 then false else true
+
+draws_is : (command : Command) → draws_facts command ≡ letter_draws (letter_of command)
+draws_is (Classify paths format) = refl
+draws_is (Check paths) = refl
+draws_is (Convert conversion) = refl
+draws_is (Instances document class) = refl
+draws_is (Explain question) = refl
+draws_is (Query document expression) = refl
+
+-- commands of one name draw facts, or do not
+one_draws : (name : Text) (rows : List Row) (c d : Command) → IsCommand name rows c → IsCommand name rows d → draws_facts c ≡ draws_facts d
+one_draws name rows c d h k = draws_is c ∙ ap letter_draws (one_letter name rows c d h k) ∙ sym (draws_is d)
 
 -- where the command of the name has no limits there is no task
 pub no_limits : (name : Text) (rows : List Row) (entered : Option (Text × List Row)) (command : Command) → entered ≡ Some (name, rows) → IsCommand name rows command → ((limits : Limits) → AreLimits rows command limits → ⊥) → (task : Task) → NamesTask entered task → ⊥
@@ -59,7 +54,8 @@ no_limits name rows entered command here is none task h =
     let same : (h.name, h.rows) ≡ (name, rows) = same_Some _ _ (sym h.found ∙ here) in
     let P : Text × List Row → Type 0 = λ p. IsTask p.0 p.1 task in
     let asked : IsTask name rows task = subst P same h.is in
-    none task.limits (record { bytes = asked.limits.bytes; facts = one_limit name rows task.command command task.limits.max_facts asked.command is asked.limits.facts })
+    let Q : Bool → Type 0 = λ draws. IsLimitOfFacts draws rows task.limits.max_facts in
+    none task.limits (record { bytes = asked.limits.bytes; facts = subst Q (one_draws name rows task.command command asked.command is) asked.limits.facts; version = asked.limits.version })
 
 -- words that are no task are refused
 pub refuses : (words : List Text) (fault : LineFault) → ((task : Task) → IsTaskOf words task → ⊥) → Refuses words fault

@@ -1,5 +1,7 @@
 -- The number of an option, from what clap's reader of the option says.
 use Rattle.std.proofs.Common.{◌≡◌, ◌<◌, ◌^◌, ℕ, List, Option, Some, None, Result, Ok, Err, arith, refl, sym, ◌∙◌}
+use Rattle.std.specs.Fmt.{decimal, digits}
+use Rattle.std.specs.Prelude.{codes}
 use Rattle.std.specs.Str.Parse.{IsNumeral, digits_value, without_leading_plus}
 use Rattle.std.proofs.lemmas.Option.{same_Some}
 use Rattle.clap.specs.Words.{ReadsOne, Row, Text, one_of}
@@ -32,3 +34,8 @@ pub one_number : (id : Text) (rows : List Row) (m n : ℕ) → IsNumber id rows 
 one_number id rows m n h k =
     let same : h.word ≡ k.word = same_Some _ _ (sym h.given ∙ k.given) in
     h.value ∙ (rw same (sym k.value))
+
+-- the text of the last version of the profile, and of the last format, is its number, written in decimal
+pub default_text : codes "2" ≡ decimal 2
+unfolding digits
+default_text = refl

@@ -1,20 +1,25 @@
 -- The program's command line, as clap reads it.
-use Rattle.std.specs.Prelude.{◌≡◌, ◌≤◌, ◌<◌, ◌^◌, ℕ, Bool, List, [], ◌∷◌, Option, Some, None, codes, if◌then◌else◌, true, ⊤}
+use Rattle.std.specs.Prelude.{◌≡◌, ◌≤◌, ◌<◌, ◌^◌, ℕ, Bool, List, [], ◌∷◌, Option, Some, None, codes, if◌then◌else◌, true, false, ⊤}
 use Rattle.std.specs.Fmt.{decimal}
 use Rattle.std.specs.Str.Parse.{IsNumeral, digits_value, without_leading_plus}
 use Rattle.clap.specs.Words.{App, Row, Rule, Text, new_app, new_rule, with_rule, with_subcommand, first_of, one_of, subcommand_of, takes}
 use Rattle.clap.specs.Simple.{on_top}
 use Rattle.clap.specs.declared.builder.action.ArgAction.TheVariants.{SetTrue}
 use Rattle.clap.specs.declared.builder.value_parser.ValueParser.TheVariants as vp
+use Rattle.command_line.specs.declared.tasks.Conversion.{Conversion}
+use Rattle.command_line.specs.declared.tasks.FormatNumber.{FormatNumber}
+use Rattle.command_line.specs.declared.tasks.FormatNumber.TheVariants as formats
 use Rattle.command_line.specs.declared.tasks.Paths.{Paths}
 use Rattle.command_line.specs.declared.tasks.Question.{Question}
 use Rattle.command_line.specs.declared.tasks.LineFault.{LineFault}
 use Rattle.command_line.specs.declared.tasks.LineFault.TheVariants.{Line, Memory}
 use Rattle.command_line.specs.declared.tasks.Command.{Command}
-use Rattle.command_line.specs.declared.tasks.Command.TheVariants.{Check, Classify, Explain, Instances, Query}
+use Rattle.command_line.specs.declared.tasks.Command.TheVariants.{Check, Classify, Convert, Explain, Instances, Query}
 use Rattle.command_line.specs.declared.tasks.Task.{Task}
 use Rattle.program.specs.declared.limits.Limits.{Limits}
 use Rattle.program.specs.declared.limits.TheConstants.{MOST_BYTES, MOST_FACTS}
+use Rattle.program.specs.declared.version.Version.{Version}
+use Rattle.program.specs.declared.version.Version.TheVariants.{One, Two}
 
 -- ---- the commands
 
@@ -25,6 +30,24 @@ most_facts = MOST_FACTS
 -- the greatest number of bytes that a caller may ask for, which is the default
 abbrev pub most_bytes : ℕ
 most_bytes = MOST_BYTES
+
+-- the number of a version of the profile
+abbrev pub version_number : Version → ℕ
+version_number One = 1
+version_number Two = 2
+
+-- the version that a caller has who names none, which is the last
+abbrev pub default_version : ℕ
+default_version = version_number Two
+
+-- the number of a format of certificates
+abbrev pub format_number : FormatNumber → ℕ
+format_number formats.One = 1
+format_number formats.Two = 2
+
+-- the format that a caller has who names none, which is the last
+abbrev pub default_format : ℕ
+default_format = format_number formats.Two
 
 -- a path or a name that has to be given
 abbrev pub path : Text → Rule
@@ -42,9 +65,21 @@ max_facts = number (codes "max-facts") most_facts (decimal most_facts)
 abbrev pub max_bytes : Rule
 max_bytes = number (codes "max-bytes") most_bytes (decimal most_bytes)
 
--- `[--max-facts N] [--max-bytes N]`
+-- `--profile N`
+abbrev pub profile : Rule
+profile = number (codes "profile") default_version (decimal default_version)
+
+-- `--format N`
+abbrev pub format : Rule
+format = number (codes "format") default_format (decimal default_format)
+
+-- `[--max-bytes N] [--profile N]`
+abbrev pub with_reading : App → App
+with_reading app = with_rule (with_rule app max_bytes) profile
+
+-- `[--max-facts N] [--max-bytes N] [--profile N]`
 abbrev pub with_limits : App → App
-with_limits app = with_rule (with_rule app max_facts) max_bytes
+with_limits app = with_reading (with_rule app max_facts)
 
 -- a word that may stand or not, as `--dot`
 abbrev pub flag : Text → Rule
@@ -55,15 +90,27 @@ abbrev pub with_paths : App → App
 with_paths app =
     with_rule (with_rule (with_rule (with_rule app (path (codes "DOC"))) (path (codes "TAX"))) (path (codes "INST"))) (path (codes "CERT"))
 
--- `classify DOC TAX INST CERT [--max-facts N] [--max-bytes N]`
+-- `classify DOC TAX INST CERT [--format N] [--max-facts N] [--max-bytes N] [--profile N]`
 abbrev pub classify_app : App
-classify_app = with_limits (with_paths (new_app (codes "classify")))
+classify_app = with_limits (with_rule (with_paths (new_app (codes "classify"))) format)
 
--- `check DOC TAX INST CERT [--max-bytes N]`
+-- `check DOC TAX INST CERT [--max-bytes N] [--profile N]`
 abbrev pub check_app : App
-check_app = with_rule (with_paths (new_app (codes "check"))) max_bytes
+check_app = with_reading (with_paths (new_app (codes "check")))
 
--- `instances DOC CLASS [--max-facts N] [--max-bytes N]`
+-- `DOC CERT OUT [--format N]`
+abbrev pub with_conversion : App → App
+with_conversion app = with_rule (with_rule (with_rule (with_rule app (path (codes "DOC"))) (path (codes "CERT"))) (path (codes "OUT"))) format
+
+-- `convert DOC CERT OUT [--format N] [--max-bytes N] [--profile N]`
+abbrev pub convert_app : App
+convert_app = with_reading (with_conversion (new_app (codes "convert")))
+
+-- the commands that write or read certificates
+abbrev pub with_certificates : App → App
+with_certificates app = with_subcommand (with_subcommand (with_subcommand app classify_app.top) check_app.top) convert_app.top
+
+-- `instances DOC CLASS [--max-facts N] [--max-bytes N] [--profile N]`
 abbrev pub instances_app : App
 instances_app = with_limits (with_rule (with_rule (new_app (codes "instances")) (path (codes "DOC"))) (path (codes "CLASS")))
 
@@ -75,11 +122,11 @@ with_names app = with_rule (with_rule (with_rule app (path (codes "DOC"))) (path
 abbrev pub with_flags : App → App
 with_flags app = with_rule (with_rule app (flag (codes "individual"))) (flag (codes "dot"))
 
--- `explain DOC SUB SUPER [--individual] [--dot] [--max-facts N] [--max-bytes N]`
+-- `explain DOC SUB SUPER [--individual] [--dot] [--max-facts N] [--max-bytes N] [--profile N]`
 abbrev pub explain_app : App
 explain_app = with_limits (with_flags (with_names (new_app (codes "explain"))))
 
--- `query DOC EXPRESSION [--max-facts N] [--max-bytes N]`
+-- `query DOC EXPRESSION [--max-facts N] [--max-bytes N] [--profile N]`
 abbrev pub query_app : App
 query_app = with_limits (with_rule (with_rule (new_app (codes "query")) (path (codes "DOC"))) (path (codes "EXPRESSION")))
 
@@ -89,7 +136,7 @@ with_questions app = with_subcommand (with_subcommand (with_subcommand app insta
 
 -- the program, whose first word after its name is one of the commands
 abbrev pub elc_app : App
-elc_app = with_questions (with_subcommand (with_subcommand (on_top (λ s. record s { subcommand_required = true }) (new_app (codes "elc"))) classify_app.top) check_app.top)
+elc_app = with_questions (with_certificates (on_top (λ s. record s { subcommand_required = true }) (new_app (codes "elc"))))
 
 -- ---- what the words ask for
 
@@ -114,6 +161,17 @@ pub record ArePaths (rows : List Row) (paths : Paths) : Type 0 where
   pub instances : first_of (codes "INST") rows ≡ Some paths.instances.now
   pub certificate : first_of (codes "CERT") rows ≡ Some paths.certificate.now
 
+-- the format is the one whose number the option says
+abbrev pub IsFormat : List Row → FormatNumber → Type 0
+IsFormat rows format = IsNumber (codes "format") rows (format_number format)
+
+-- the conversion is what the words in their places and the option say
+pub record IsConversion (rows : List Row) (conversion : Conversion) : Type 0 where
+  pub document : first_of (codes "DOC") rows ≡ Some conversion.document.now
+  pub certificate : first_of (codes "CERT") rows ≡ Some conversion.certificate.now
+  pub output : first_of (codes "OUT") rows ≡ Some conversion.output.now
+  pub format : IsFormat rows conversion.format
+
 -- a flag is true where its word stands, and false where it does not: clap keeps the text of the one or the other
 abbrev pub IsFlag : (id : Text) → (rows : List Row) → (stands : Bool) → Type 0
 IsFlag id rows stands = first_of id rows ≡ Some (if stands then codes "true" else codes "false")
@@ -128,21 +186,33 @@ pub record IsQuestion (rows : List Row) (question : Question) : Type 0 where
 
 -- the command is what its name and its matches say
 abbrev pub IsCommand : Text → List Row → Command → Type 0
-IsCommand name rows (Classify paths) = (name ≡ codes "classify") × ArePaths rows paths
+IsCommand name rows (Classify paths format) = (name ≡ codes "classify") × ArePaths rows paths × IsFormat rows format
 IsCommand name rows (Check paths) = (name ≡ codes "check") × ArePaths rows paths
+IsCommand name rows (Convert conversion) = (name ≡ codes "convert") × IsConversion rows conversion
 IsCommand name rows (Instances document class) = (name ≡ codes "instances") × (first_of (codes "DOC") rows ≡ Some document.now) × (first_of (codes "CLASS") rows ≡ Some class.now)
 IsCommand name rows (Explain question) = (name ≡ codes "explain") × IsQuestion rows question
 IsCommand name rows (Query document expression) = (name ≡ codes "query") × (first_of (codes "DOC") rows ≡ Some document.now) × (first_of (codes "EXPRESSION") rows ≡ Some expression.now)
 
--- how many facts the command may draw: what its option says. A check draws none and has no such option: its limit is the greatest
-abbrev pub IsLimitOfFacts : Command → List Row → ℕ → Type 0
-IsLimitOfFacts (Check paths) rows limit = limit ≡ most_facts
-IsLimitOfFacts command rows limit = IsLimit (codes "max-facts") most_facts rows limit
+-- a check and a conversion draw no facts
+abbrev pub draws_facts : Command → Bool
+draws_facts (Check paths) = false
+draws_facts (Convert conversion) = false
+draws_facts command = true
+
+-- how many facts may be drawn: what the option says. A command that draws none has no such option: its limit is the greatest
+abbrev pub IsLimitOfFacts : (draws : Bool) → List Row → ℕ → Type 0
+IsLimitOfFacts false rows limit = limit ≡ most_facts
+IsLimitOfFacts true rows limit = IsLimit (codes "max-facts") most_facts rows limit
+
+-- the version is the one whose number the option says
+abbrev pub IsVersion : List Row → Version → Type 0
+IsVersion rows version = IsNumber (codes "profile") rows (version_number version)
 
 -- the limits are those of the command's options
 pub record AreLimits (rows : List Row) (command : Command) (limits : Limits) : Type 0 where
   pub bytes : IsLimit (codes "max-bytes") most_bytes rows limits.max_bytes
-  pub facts : IsLimitOfFacts command rows limits.max_facts
+  pub facts : IsLimitOfFacts (draws_facts command) rows limits.max_facts
+  pub version : IsVersion rows limits.version
 
 -- the task is what a command's name and its matches say
 pub record IsTask (name : Text) (rows : List Row) (task : Task) : Type 0 where

@@ -1,8 +1,9 @@
 //! The commands that the program has.
+ghost use Rattle.std.specs.Fmt.{decimal};
 ghost use Rattle.std.specs.Prelude.{◌≡◌, IfOk, false};
 ghost use Rattle.clap.specs.Words.{app_of, rule_of, with_rule};
 ghost use Rattle.clap.specs.declared.builder.command.Command.TheViews.{out-Command as fields_of};
-ghost use Rattle.command_line.specs.CommandLine.{path, flag, max_facts, max_bytes, with_paths as app_with_paths, with_names as app_with_names, with_flags as app_with_flags, with_limits as app_with_limits, with_questions as app_with_questions, check_app, classify_app, instances_app, explain_app, query_app, elc_app};
+ghost use Rattle.command_line.specs.CommandLine.{number, path, flag, max_facts, max_bytes, with_reading as app_with_reading, with_paths as app_with_paths, with_names as app_with_names, with_flags as app_with_flags, with_limits as app_with_limits, with_conversion as app_with_conversion, with_certificates as app_with_certificates, with_questions as app_with_questions, check_app, classify_app, convert_app, instances_app, explain_app, query_app, elc_app};
 
 use clap::{Arg, ArgAction, Command, value_parser};
 use program::{MOST_BYTES, MOST_BYTES_TEXT, MOST_FACTS, MOST_FACTS_TEXT};
@@ -13,6 +14,7 @@ const ABOUT: &str = "Classifies ontologies in OWL 2 EL, and says why";
 const EXAMPLES: &str = "Examples:
   elc classify food.ofn food.tax food.inst food.cert
   elc check food.ofn food.tax food.inst food.cert
+  elc convert food.ofn food.cert food1.cert --format 1
   elc instances food.ofn http://example.org/Pizza
   elc explain food.ofn http://example.org/Pizza http://example.org/Food
   elc explain food.ofn http://example.org/margherita http://example.org/Pizza --individual
@@ -22,6 +24,8 @@ Names are written in full, without < and >; in an expression as in the document.
 const CLASSIFY_ABOUT: &str = "Writes the taxonomy, the instances and a certificate of both";
 
 const CHECK_ABOUT: &str = "Checks the three texts of a classification against the document";
+
+const CONVERT_ABOUT: &str = "Writes a certificate again in a format, without checking its lines";
 
 const INSTANCES_ABOUT: &str = "Prints the individuals that belong to a class";
 
@@ -39,6 +43,8 @@ const INSTANCES_HELP: &str = "The file of the instances";
 
 const CERTIFICATE_HELP: &str = "The file of the certificate";
 
+const OUTPUT_HELP: &str = "The file to write, which may be that of the certificate";
+
 const CLASS_HELP: &str = "The class, by its name in full, as http://example.org/Pizza";
 
 const EXPRESSION_HELP: &str =
@@ -55,6 +61,10 @@ const DOT_HELP: &str = "Prints a graph for the program dot";
 const MAX_FACTS_HELP: &str = "The most facts to draw from the document, from 1 up to the default";
 
 const MAX_BYTES_HELP: &str = "The most bytes to read of the document, from 1 up to the default";
+
+const FORMAT_HELP: &str = "The format that the certificate is written in, 1 or 2";
+
+const PROFILE_HELP: &str = "The version of the profile that the document is read in, 1 or 2";
 
 /// The command with one path or name more.
 fn with_path<'a>(
@@ -102,14 +112,34 @@ fn max_bytes_option<'a>(alloc: Global) -> Arg<'a>
         .default_value(MOST_BYTES_TEXT)
 }
 
-/// The command with the two limits.
+/// The option of that name, whose number is 1 or 2, and 2 where it is not given.
+fn one_or_two<'a>(alloc: Global, id: &'a str, help: &'a str) -> Arg<'a>
+    ensures rule { rule_of result ≡ number id.entry.now 2 (decimal 2) }
+    ensures local { result.global ≡ false }
+{
+    Arg::new(alloc, id)
+        .long(id)
+        .help(help)
+        .value_parser(value_parser!(u64).range(1..=2))
+        .default_value("2")
+}
+
+/// The command with the options that say how the document is read.
+fn with_reading<'a>(alloc: Global, command: Command<'a>) -> Result<Command<'a>, AllocError>
+    ensures app { IfOk result (λ c. app_of c ≡ app_with_reading (app_of command.entry)) }
+    ensures local { (fields_of command.entry).has_globals ≡ false → IfOk result (λ c. (fields_of c).has_globals ≡ false) }
+{
+    command
+        .arg(max_bytes_option(alloc))?
+        .arg(one_or_two(alloc, "profile", PROFILE_HELP))
+}
+
+/// The command with its limits.
 fn with_limits<'a>(alloc: Global, command: Command<'a>) -> Result<Command<'a>, AllocError>
     ensures app { IfOk result (λ c. app_of c ≡ app_with_limits (app_of command.entry)) }
     ensures local { (fields_of command.entry).has_globals ≡ false → IfOk result (λ c. (fields_of c).has_globals ≡ false) }
 {
-    command
-        .arg(max_facts_option(alloc))?
-        .arg(max_bytes_option(alloc))
+    with_reading(alloc, command.arg(max_facts_option(alloc))?)
 }
 
 fn classify_command<'a>(alloc: Global) -> Result<Command<'a>, AllocError>
@@ -117,7 +147,7 @@ fn classify_command<'a>(alloc: Global) -> Result<Command<'a>, AllocError>
     ensures local { IfOk result (λ c. (fields_of c).has_globals ≡ false) }
 {
     let command = Command::new(alloc, "classify").about(CLASSIFY_ABOUT);
-    let command = with_paths(alloc, command)?;
+    let command = with_paths(alloc, command)?.arg(one_or_two(alloc, "format", FORMAT_HELP))?;
     with_limits(alloc, command)
 }
 
@@ -125,7 +155,38 @@ fn check_command<'a>(alloc: Global) -> Result<Command<'a>, AllocError>
     ensures app { IfOk result (λ c. app_of c ≡ check_app) }
     ensures local { IfOk result (λ c. (fields_of c).has_globals ≡ false) }
 {
-    with_paths(alloc, Command::new(alloc, "check").about(CHECK_ABOUT))?.arg(max_bytes_option(alloc))
+    let command = Command::new(alloc, "check").about(CHECK_ABOUT);
+    let command = with_paths(alloc, command)?;
+    with_reading(alloc, command)
+}
+
+/// The command with the document, the certificate, the file that is written, and its format.
+fn with_conversion<'a>(alloc: Global, command: Command<'a>) -> Result<Command<'a>, AllocError>
+    ensures app { IfOk result (λ c. app_of c ≡ app_with_conversion (app_of command.entry)) }
+    ensures local { (fields_of command.entry).has_globals ≡ false → IfOk result (λ c. (fields_of c).has_globals ≡ false) }
+{
+    let command = with_path(alloc, command, "DOC", DOCUMENT_HELP)?;
+    let command = with_path(alloc, command, "CERT", CERTIFICATE_HELP)?;
+    with_path(alloc, command, "OUT", OUTPUT_HELP)?.arg(one_or_two(alloc, "format", FORMAT_HELP))
+}
+
+fn convert_command<'a>(alloc: Global) -> Result<Command<'a>, AllocError>
+    ensures app { IfOk result (λ c. app_of c ≡ convert_app) }
+    ensures local { IfOk result (λ c. (fields_of c).has_globals ≡ false) }
+{
+    let command = Command::new(alloc, "convert").about(CONVERT_ABOUT);
+    let command = with_conversion(alloc, command)?;
+    with_reading(alloc, command)
+}
+
+/// The command with those that write or read certificates.
+fn with_certificates<'a>(alloc: Global, command: Command<'a>) -> Result<Command<'a>, AllocError>
+    ensures app { IfOk result (λ c. app_of c ≡ app_with_certificates (app_of command.entry)) }
+    ensures local { (fields_of command.entry).has_globals ≡ false → IfOk result (λ c. (fields_of c).has_globals ≡ false) }
+{
+    let command = command.subcommand(classify_command(alloc)?)?;
+    let command = command.subcommand(check_command(alloc)?)?;
+    command.subcommand(convert_command(alloc)?)
 }
 
 fn instances_command<'a>(alloc: Global) -> Result<Command<'a>, AllocError>
@@ -210,13 +271,10 @@ pub(crate) fn elc_command<'a>(alloc: Global) -> Result<Command<'a>, AllocError>
     ensures app { IfOk result (λ c. app_of c ≡ elc_app) }
     ensures local { IfOk result (λ c. (fields_of c).has_globals ≡ false) }
 {
-    let classify = classify_command(alloc)?;
-    let check = check_command(alloc)?;
     let command = Command::new(alloc, "elc")
         .about(ABOUT)
         .after_help(EXAMPLES)
-        .subcommand_required(true)
-        .subcommand(classify)?
-        .subcommand(check)?;
+        .subcommand_required(true);
+    let command = with_certificates(alloc, command)?;
     with_questions(alloc, command)
 }

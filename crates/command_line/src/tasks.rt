@@ -25,13 +25,35 @@ pub struct Question<'a> {
     pub dot: bool,
 }
 
+/// The number of the format that a certificate is written in.
+#[derive(Clone, Copy, Debug, PartialEq, Eq)]
+pub enum FormatNumber {
+    One,
+    Two,
+}
+
+/// A certificate that is written again in a format.
+#[derive(Clone, Copy, Debug, PartialEq, Eq)]
+pub struct Conversion<'a> {
+    pub document: &'a str,
+    pub certificate: &'a str,
+    /// The file that is written.
+    pub output: &'a str,
+    pub format: FormatNumber,
+}
+
 /// What the program is asked to do.
 #[derive(Clone, Copy, Debug, PartialEq, Eq)]
 pub enum Command<'a> {
-    /// Classify the document and write the other three files.
-    Classify(Paths<'a>),
+    /// Classify the document and write the other three files, the certificate in the format.
+    Classify {
+        paths: Paths<'a>,
+        format: FormatNumber,
+    },
     /// Check the other three files against the document.
     Check(Paths<'a>),
+    /// Write the certificate again.
+    Convert(Conversion<'a>),
     /// Print the individuals that belong to the class.
     Instances {
         document: &'a str,
@@ -50,7 +72,7 @@ pub enum Command<'a> {
 #[derive(Clone, Copy, Debug, PartialEq, Eq)]
 pub struct Task<'a> {
     pub command: Command<'a>,
-    /// A check draws no facts, and has the greatest limit of them.
+    /// A check and a conversion draw no facts, and have the greatest limit of them.
     pub limits: Limits,
 }
 

@@ -1,13 +1,13 @@
 //! Reads the program's words.
 ghost use Rattle.std.specs.Prelude.{◌≡◌, ℕ, IfOk, IfErr, map, option_map, true};
 ghost use Rattle.clap.specs.Words.{subcommand_rows_of, rows_of, found_of, first_of, takes};
-ghost use Rattle.command_line.specs.CommandLine.{AreLimits, ArePaths, IsCommand, IsFlag, IsNumber, IsQuestion, IsTaskOf, NamesTask, Finds, Refuses};
+ghost use Rattle.command_line.specs.CommandLine.{AreLimits, ArePaths, IsCommand, IsConversion, IsFlag, IsFormat, IsNumber, IsQuestion, IsTaskOf, IsVersion, NamesTask, Finds, Refuses, draws_facts as draws};
 
 use crate::command::elc_command;
-use crate::tasks::{Command, LineFault, Paths, Question, Task};
+use crate::tasks::{Command, Conversion, FormatNumber, LineFault, Paths, Question, Task};
 use clap::ArgMatches;
 use clap::error::ErrorKind;
-use program::{Limits, MOST_FACTS};
+use program::{Limits, MOST_FACTS, Version};
 use std::alloc::Global;
 
 /// The word that stands for the argument.
@@ -60,16 +60,62 @@ fn number(inner: &ArgMatches<'_>, id: &str) -> Option<u64>
     inner.get_one::<u64>(id)
 }
 
-/// The limits of the command. A check draws no facts, and has no option for them.
+/// The version of the profile.
+fn version(inner: &ArgMatches<'_>) -> Option<Version>
+    ensures { Finds (IsVersion (rows_of (found_of inner.now))) result }
+{
+    match number(inner, "profile")? {
+        1 => Some(Version::One),
+        2 => Some(Version::Two),
+        _ => None,
+    }
+}
+
+/// The number of the format that the certificate is written in.
+fn format(inner: &ArgMatches<'_>) -> Option<FormatNumber>
+    ensures { Finds (IsFormat (rows_of (found_of inner.now))) result }
+{
+    match number(inner, "format")? {
+        1 => Some(FormatNumber::One),
+        2 => Some(FormatNumber::Two),
+        _ => None,
+    }
+}
+
+/// The conversion, whose names the command requires.
+fn conversion<'a>(inner: &ArgMatches<'a>) -> Option<Conversion<'a>>
+    ensures { Finds (IsConversion (rows_of (found_of inner.now))) result }
+{
+    Some(Conversion {
+        document: word(inner, "DOC")?,
+        certificate: word(inner, "CERT")?,
+        output: word(inner, "OUT")?,
+        format: format(inner)?,
+    })
+}
+
+/// Whether the command draws facts, and has an option for how many.
+fn draws_facts(command: &Command<'_>) -> bool
+    ensures { result ≡ draws command.now }
+{
+    match command {
+        Command::Check(_) | Command::Convert(_) => false,
+        _ => true,
+    }
+}
+
+/// The limits of the command.
 fn limits(inner: &ArgMatches<'_>, command: &Command<'_>) -> Option<Limits>
     ensures { Finds (AreLimits (rows_of (found_of inner.now)) command.now) result }
 {
     let max_bytes = number(inner, "max-bytes")?;
-    let max_facts = match command {
-        Command::Check(_) => MOST_FACTS,
-        _ => number(inner, "max-facts")?,
+    let max_facts = if draws_facts(command) {
+        number(inner, "max-facts")?
+    } else {
+        MOST_FACTS
     };
-    Limits::new(max_bytes, max_facts)
+    let version = version(inner)?;
+    Limits::new(max_bytes, max_facts, version)
 }
 
 /// The command of that name.
@@ -77,8 +123,12 @@ fn named<'a>(name: &str, inner: &ArgMatches<'a>) -> Option<Command<'a>>
     ensures { Finds (IsCommand name.now (rows_of (found_of inner.now))) result }
 {
     match name {
-        "classify" => Some(Command::Classify(paths(inner)?)),
+        "classify" => Some(Command::Classify {
+            paths: paths(inner)?,
+            format: format(inner)?,
+        }),
         "check" => Some(Command::Check(paths(inner)?)),
+        "convert" => Some(Command::Convert(conversion(inner)?)),
         "instances" => Some(Command::Instances {
             document: word(inner, "DOC")?,
             class: word(inner, "CLASS")?,

@@ -1,15 +1,30 @@
 //! Limits at both ends, and the statuses.
 
-use program::{Limits, MOST_BYTES, MOST_FACTS, Status};
+use program::{Limits, MOST_BYTES, MOST_FACTS, Status, Version};
 
+/// Numbers of bytes and of facts, and whether they are limits.
+const NUMBERS: &[(u64, u64, bool)] = &[
+    (1, 1, true),
+    (MOST_BYTES, MOST_FACTS, true),
+    (0, 1, false),
+    (1, 0, false),
+    (MOST_BYTES + 1, 1, false),
+    (1, MOST_FACTS + 1, false),
+];
+
+/// They are limits in either version, which these keep.
 #[test]
 fn limits(rt: HostRuntime) {
-    assert!(rt; Limits::new(1, 1).is_some());
-    assert!(rt; Limits::new(MOST_BYTES, MOST_FACTS).is_some());
-    assert!(rt; Limits::new(0, 1).is_none() && Limits::new(1, 0).is_none());
-    assert!(rt;
-        Limits::new(MOST_BYTES + 1, 1).is_none() && Limits::new(1, MOST_FACTS + 1).is_none()
-    );
+    for row in NUMBERS {
+        let (bytes, facts, taken) = *row;
+        for version in [Version::One, Version::Two] {
+            let kept = Limits::new(bytes, facts, version).map(|limits| limits.version);
+            assert!(rt;
+                kept == taken.then_some(version),
+                "{bytes} {facts} {version:?}"
+            );
+        }
+    }
 }
 
 #[test]

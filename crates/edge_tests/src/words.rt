@@ -1,7 +1,7 @@
 //! Command lines and their tasks.
 
-use command_line::{Command, LineFault, Paths, Question, Task, task};
-use program::Limits;
+use command_line::{Command, Conversion, FormatNumber, LineFault, Paths, Question, Task, task};
+use program::{Limits, Version};
 use std::alloc::{AllocError, Global};
 use std::test::Fail;
 
@@ -12,12 +12,23 @@ const PATHS: Paths<'static> = Paths {
     certificate: "a.cert",
 };
 
-/// Words of `classify`, and the limits that they give.
-const CLASSIFY: &[(&[&str], u64, u64)] = &[
+/// Words of `classify`, and the limits that they give, with the version, and the format.
+const CLASSIFY: &[(&[&str], u64, u64, Version, FormatNumber)] = &[
     (
         &["elc", "classify", "a.ofn", "a.tax", "a.inst", "a.cert"],
         100_000_000,
         268_435_456,
+        Version::Two,
+        FormatNumber::Two,
+    ),
+    (
+        &[
+            "elc", "classify", "--format", "2", "a.ofn", "a.tax", "a.inst", "a.cert",
+        ],
+        100_000_000,
+        268_435_456,
+        Version::Two,
+        FormatNumber::Two,
     ),
     (
         &[
@@ -28,21 +39,29 @@ const CLASSIFY: &[(&[&str], u64, u64)] = &[
             "a.ofn",
             "a.tax",
             "a.inst",
+            "--profile",
+            "1",
             "a.cert",
             "--max-bytes=1000",
+            "--format=1",
         ],
         9,
         1000,
+        Version::One,
+        FormatNumber::One,
     ),
 ];
 
 #[test]
 fn classify_with_and_without_options(rt: HostRuntime) -> Result<(), Fail> {
     for row in CLASSIFY {
-        let (words, max_facts, max_bytes) = *row;
-        let limits = Limits::new(max_bytes, max_facts).ok_or("limits")?;
+        let (words, max_facts, max_bytes, version, format) = *row;
+        let limits = Limits::new(max_bytes, max_facts, version).ok_or("limits")?;
         let wanted = Task {
-            command: Command::Classify(PATHS),
+            command: Command::Classify {
+                paths: PATHS,
+                format,
+            },
             limits,
         };
         assert!(rt; task(rt.alloc(), words)? == wanted);
@@ -50,12 +69,13 @@ fn classify_with_and_without_options(rt: HostRuntime) -> Result<(), Fail> {
     Ok(())
 }
 
-/// Words of `check`, and the limits that they give: the greatest number of facts, which it draws none of.
-const CHECK: &[(&[&str], u64, u64)] = &[
+/// Words of `check`, and the limits that they give, with the version: the greatest number of facts, which it draws none of.
+const CHECK: &[(&[&str], u64, u64, Version)] = &[
     (
         &["elc", "check", "a.ofn", "a.tax", "a.inst", "a.cert"],
         100_000_000,
         268_435_456,
+        Version::Two,
     ),
     (
         &[
@@ -67,17 +87,19 @@ const CHECK: &[(&[&str], u64, u64)] = &[
             "a.cert",
             "--max-bytes",
             "1000",
+            "--profile=1",
         ],
         100_000_000,
         1000,
+        Version::One,
     ),
 ];
 
 #[test]
 fn check_with_and_without_its_option(rt: HostRuntime) -> Result<(), Fail> {
     for row in CHECK {
-        let (words, max_facts, max_bytes) = *row;
-        let limits = Limits::new(max_bytes, max_facts).ok_or("limits")?;
+        let (words, max_facts, max_bytes, version) = *row;
+        let limits = Limits::new(max_bytes, max_facts, version).ok_or("limits")?;
         let wanted = Task {
             command: Command::Check(PATHS),
             limits,
@@ -87,12 +109,60 @@ fn check_with_and_without_its_option(rt: HostRuntime) -> Result<(), Fail> {
     Ok(())
 }
 
-/// Words of `instances`, and the limits that they give.
-const INSTANCES: &[(&[&str], u64, u64)] = &[
+/// Words of `convert`, the format, and the limits that they give, with the version: the greatest number of facts, which it
+/// draws none of.
+const CONVERT: &[(&[&str], FormatNumber, u64, Version)] = &[
+    (
+        &["elc", "convert", "a.ofn", "a.cert", "b.cert"],
+        FormatNumber::Two,
+        268_435_456,
+        Version::Two,
+    ),
+    (
+        &[
+            "elc",
+            "convert",
+            "a.ofn",
+            "--format",
+            "1",
+            "a.cert",
+            "--max-bytes=1000",
+            "b.cert",
+            "--profile",
+            "1",
+        ],
+        FormatNumber::One,
+        1000,
+        Version::One,
+    ),
+];
+
+#[test]
+fn convert_with_and_without_options(rt: HostRuntime) -> Result<(), Fail> {
+    for row in CONVERT {
+        let (words, format, max_bytes, version) = *row;
+        let limits = Limits::new(max_bytes, 100_000_000, version).ok_or("limits")?;
+        let wanted = Task {
+            command: Command::Convert(Conversion {
+                document: "a.ofn",
+                certificate: "a.cert",
+                output: "b.cert",
+                format,
+            }),
+            limits,
+        };
+        assert!(rt; task(rt.alloc(), words)? == wanted);
+    }
+    Ok(())
+}
+
+/// Words of `instances`, and the limits that they give, with the version.
+const INSTANCES: &[(&[&str], u64, u64, Version)] = &[
     (
         &["elc", "instances", "a.ofn", "x:A"],
         100_000_000,
         268_435_456,
+        Version::Two,
     ),
     (
         &[
@@ -100,20 +170,23 @@ const INSTANCES: &[(&[&str], u64, u64)] = &[
             "instances",
             "a.ofn",
             "--max-bytes=1000",
+            "--profile",
+            "2",
             "x:A",
             "--max-facts",
             "9",
         ],
         9,
         1000,
+        Version::Two,
     ),
 ];
 
 #[test]
 fn instances_with_and_without_options(rt: HostRuntime) -> Result<(), Fail> {
     for row in INSTANCES {
-        let (words, max_facts, max_bytes) = *row;
-        let limits = Limits::new(max_bytes, max_facts).ok_or("limits")?;
+        let (words, max_facts, max_bytes, version) = *row;
+        let limits = Limits::new(max_bytes, max_facts, version).ok_or("limits")?;
         let wanted = Task {
             command: Command::Instances {
                 document: "a.ofn",
@@ -129,12 +202,13 @@ fn instances_with_and_without_options(rt: HostRuntime) -> Result<(), Fail> {
 /// An expression, which is one word.
 const EXPRESSION: &str = "ObjectSomeValuesFrom(:r :A)";
 
-/// Words of `query`, and the limits that they give.
-const QUERY: &[(&[&str], u64, u64)] = &[
+/// Words of `query`, and the limits that they give, with the version.
+const QUERY: &[(&[&str], u64, u64, Version)] = &[
     (
         &["elc", "query", "a.ofn", EXPRESSION],
         100_000_000,
         268_435_456,
+        Version::Two,
     ),
     (
         &[
@@ -145,17 +219,19 @@ const QUERY: &[(&[&str], u64, u64)] = &[
             "a.ofn",
             "--max-facts=9",
             EXPRESSION,
+            "--profile=1",
         ],
         9,
         1000,
+        Version::One,
     ),
 ];
 
 #[test]
 fn query_with_and_without_options(rt: HostRuntime) -> Result<(), Fail> {
     for row in QUERY {
-        let (words, max_facts, max_bytes) = *row;
-        let limits = Limits::new(max_bytes, max_facts).ok_or("limits")?;
+        let (words, max_facts, max_bytes, version) = *row;
+        let limits = Limits::new(max_bytes, max_facts, version).ok_or("limits")?;
         let wanted = Task {
             command: Command::Query {
                 document: "a.ofn",
@@ -212,7 +288,7 @@ const EXPLAIN: &[(&[&str], bool, bool)] = &[
 
 #[test]
 fn explain_with_and_without_flags(rt: HostRuntime) -> Result<(), Fail> {
-    let defaults = Limits::new(268_435_456, 100_000_000).ok_or("limits")?;
+    let defaults = Limits::new(268_435_456, 100_000_000, Version::Two).ok_or("limits")?;
     for row in EXPLAIN {
         let (words, individual, dot) = *row;
         assert!(rt; task(rt.alloc(), words)? == asked(individual, dot, defaults));
@@ -229,11 +305,13 @@ const EXPLAIN_WITHIN: &[&str] = &[
     "x:B",
     "--max-bytes",
     "1000",
+    "--profile",
+    "1",
 ];
 
 #[test]
 fn explain_with_limits(rt: HostRuntime) -> Result<(), Fail> {
-    let given = Limits::new(1000, 9).ok_or("limits")?;
+    let given = Limits::new(1000, 9, Version::One).ok_or("limits")?;
     assert!(rt; task(rt.alloc(), EXPLAIN_WITHIN)? == asked(false, false, given));
     Ok(())
 }
@@ -267,16 +345,39 @@ const REFUSED: &[&str] = &[
     "elc classify a b c d --max-bytes 18446744073709551617",
     "elc classify a b c d --max-bytes 1 --max-bytes=2",
     "elc classify a b c d --most 1",
+    "elc classify a b c d --profile",
+    "elc classify a b c d --profile 0",
+    "elc classify a b c d --profile 3",
+    "elc classify a b c d --profile 1 --profile 1",
+    "elc classify a b c d --format",
+    "elc classify a b c d --format 0",
+    "elc classify a b c d --format 3",
+    "elc classify a b c d --format two",
+    "elc classify a b c d --format 1 --format 1",
     "elc check a b c",
     "elc check a b c d e",
     "elc check a b c d --max-facts 1",
     "elc check a b c d --max-bytes 0",
     "elc check a b c d --max-bytes 2 --max-bytes 2",
+    "elc check a b c d --profile 3",
+    "elc check a b c d --profile two",
+    "elc check a b c d --format 1",
+    "elc convert a b",
+    "elc convert a b c d",
+    "elc convert a b c --format 0",
+    "elc convert a b c --format 3",
+    "elc convert a b c --format=1 --format=2",
+    "elc convert a b c --max-facts 1",
+    "elc convert a b c --max-bytes 0",
+    "elc convert a b c --profile 3",
+    "elc convert --help",
     "elc instances a",
     "elc instances a b c",
     "elc instances a b --dot",
     "elc instances a b --max-facts 0",
     "elc instances a b --max-bytes 268435457",
+    "elc instances a b --profile 3",
+    "elc instances a b --format 2",
     "elc explain a b",
     "elc explain a b --individual",
     "elc explain a b c d",
@@ -284,6 +385,8 @@ const REFUSED: &[&str] = &[
     "elc explain a b c --individual=true",
     "elc explain a b c --max-facts 100000001",
     "elc explain a b c --max-bytes 0",
+    "elc explain a b c --profile=0",
+    "elc explain a b c --format 2",
     "elc explain --help",
     "elc query a",
     "elc query a b c",
@@ -292,6 +395,8 @@ const REFUSED: &[&str] = &[
     "elc query a b --max-facts 0",
     "elc query a b --max-facts 9 --max-facts 9",
     "elc query a b --max-bytes 268435457",
+    "elc query a b --profile 18446744073709551617",
+    "elc query a b --format 1",
     "elc query --help",
 ];
 
@@ -311,6 +416,17 @@ const TAKEN: &[&str] = &[
     "elc explain a b c --max-facts 1 --max-bytes 268435456",
     "elc query a b --max-facts 1 --max-bytes 268435456",
     "elc query a b --max-facts 100000000 --max-bytes 1",
+    "elc classify a b c d --profile 1",
+    "elc classify a b c d --profile 2",
+    "elc check a b c d --profile 1",
+    "elc check a b c d --profile 2",
+    "elc instances a b --profile 1",
+    "elc explain a b c --profile 2",
+    "elc query a b --profile 2",
+    "elc classify a b c d --format 1",
+    "elc classify a b c d --format 2",
+    "elc convert a b c --format 1 --max-bytes 1",
+    "elc convert a b c --format 2 --max-bytes 268435456",
 ];
 
 #[test]
@@ -325,6 +441,7 @@ fn a_number_at_either_end_is_taken(rt: HostRuntime) -> Result<(), Fail> {
 const EXAMPLES: &[&str] = &[
     "elc classify food.ofn food.tax food.inst food.cert",
     "elc check food.ofn food.tax food.inst food.cert",
+    "elc convert food.ofn food.cert food1.cert --format 1",
     "elc instances food.ofn http://example.org/Pizza",
     "elc explain food.ofn http://example.org/Pizza http://example.org/Food",
     "elc explain food.ofn http://example.org/margherita http://example.org/Pizza --individual",
@@ -375,6 +492,7 @@ const TOLD: &[(&str, &str)] = &[
     ("elc query a", "<EXPRESSION>"),
     ("elc classify a b c d e", "unexpected argument 'e'"),
     ("elc classify a b c d --max-facts 0", "'0' for '--max-facts"),
+    ("elc check a b c d --profile 3", "'3' for '--profile"),
 ];
 
 #[test]

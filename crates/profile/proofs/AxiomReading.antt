@@ -8,12 +8,12 @@ use Rattle.axioms.proofs.Trees.{length_trees}
 use Rattle.axioms.specs.Axiom as tree
 use Rattle.axioms.specs.Expression.{Iri, ClassExpression, Named}
 use Rattle.axioms.specs.Growth.{with_axiom}
-use Rattle.axioms.specs.Ontology.{Ontology, Axiom, SubClass, EquivalentClasses, DisjointClasses, Domain, Transitive, Reflexive, ClassAssertion, PropertyAssertion, EquivalentProperties, SubProperty, name_at, trees, expression, axiom_tree}
+use Rattle.axioms.specs.Ontology.{Ontology, Axiom, SubClass, EquivalentClasses, DisjointClasses, Domain, Transitive, Reflexive, ClassAssertion, PropertyAssertion, EquivalentProperties, SubProperty, SameIndividuals, DifferentIndividuals, NegativePropertyAssertion, name_at, trees, expression, axiom_tree}
 use Rattle.axioms.specs.Numbering.{DeclaresClass, DeclaresIndividual, DeclaresProperty, States, parts, properties_in, axiom_expressions, axiom_properties, axiom_individuals}
-use Rattle.axioms.specs.WellFormedness.{AreDistinct, IsAxiomOf, IsOntology}
+use Rattle.axioms.specs.WellFormedness.{AreDistinct, AreOperands, IsAxiomOf, IsOntology}
 use Rattle.axioms.specs.declared.fault.BuildFault.{BuildFault}
 use Rattle.axioms.specs.declared.fault.BuildFault.TheVariants.{TooManyNames, Memory}
-use Rattle.profile.specs.Additions.{Adds, AxiomRead, ClassRead, ClassesRead, IndividualRead, Overflows, PropertiesRead, PropertyRead, ReadsClass, ReadsClasses, ReadsIndividual, ReadsProperties, ReadsProperty, StatementRead}
+use Rattle.profile.specs.Additions.{Adds, AxiomRead, ClassRead, ClassesRead, IndividualRead, IndividualsRead, Overflows, PairRead, PropertiesRead, PropertyRead, ReadsClass, ReadsClasses, ReadsIndividual, ReadsIndividuals, ReadsPair, ReadsProperties, ReadsProperty, StatementRead}
 use Rattle.profile.proofs.ClassReading.{IsReadSome, numbers_distinct, numbers_kept, numbers_long, numbers_stand, numbers_within, some_parts}
 use Rattle.profile.proofs.Overflowing.{overflow_more, overflow_later}
 use Rattle.profile.proofs.Steps.{adds_join, axiom_stated, keeps_of}
@@ -155,37 +155,84 @@ pub assertion_individual_refused : (c : ClassExpression) (a : Iri) (o p q : Onto
 assertion_individual_refused c a o p q e class TooManyNames h = overflow_later (parts c) [] (properties_in c) [] [] (a ∷ []) [] o p class.adds h
 assertion_individual_refused c a o p q e class Memory h = tt
 
+-- ---- a property, a source and a target
+
 module _ (r a b : Iri) (o p q s : Ontology) (n i j : ℕ) (property : ReadsProperty r o p n) (source : ReadsIndividual a p q i) (target : ReadsIndividual b q s j) where
-  property_there : slice_get s.names.properties n ≡ Some r
-  property_there = (keeps_of [] [] (b ∷ []) [] q s target.0).kept_properties n r ((keeps_of [] [] (a ∷ []) [] p q source.0).kept_properties n r property.1)
+  with_source : Adds [] (r ∷ []) (a ∷ []) [] o q
+  with_source = adds_join [] [] (r ∷ []) [] [] (a ∷ []) [] [] o p q property.0 source.0
 
-  source_there : slice_get s.names.individuals i ≡ Some a
-  source_there = (keeps_of [] [] (b ∷ []) [] q s target.0).kept_individuals i a source.1
+  pub pair_read : ReadsPair r a b o s n i j
+  pair_read = record {
+    adds = adds_join [] [] (r ∷ []) [] (a ∷ []) (b ∷ []) [] [] o q s with_source target.0;
+    property_at = (keeps_of [] [] (b ∷ []) [] q s target.0).kept_properties n r ((keeps_of [] [] (a ∷ []) [] p q source.0).kept_properties n r property.1);
+    source_at = (keeps_of [] [] (b ∷ []) [] q s target.0).kept_individuals i a source.1;
+    target_at = target.1;
+  }
 
-  pub property_assertion_fits : IsAxiomOf s (PropertyAssertion n i j)
-  property_assertion_fits = (slice_get_within s.names.properties n r property_there, slice_get_within s.names.individuals i a source_there, slice_get_within s.names.individuals j b target.1)
+pub pair_property_refused : (r a b : Iri) (o p : Ontology) (fault : BuildFault) → PropertyRead (Err fault) r o p → PairRead (Err fault) r a b o p
+pair_property_refused r a b o p TooManyNames h = overflow_more [] [] (r ∷ []) [] [] (a ∷ b ∷ []) o h
+pair_property_refused r a b o p Memory h = tt
+
+pub pair_source_refused : (r a b : Iri) (o p q : Ontology) (n : ℕ) → ReadsProperty r o p n → (fault : BuildFault) → IndividualRead (Err fault) a p q → PairRead (Err fault) r a b o q
+pair_source_refused r a b o p q n property TooManyNames h = overflow_later [] [] (r ∷ []) [] [] (a ∷ b ∷ []) [] o p property.0 (overflow_more [] [] [] [] (a ∷ []) (b ∷ []) p h)
+pair_source_refused r a b o p q n property Memory h = tt
+
+pub pair_target_refused : (r a b : Iri) (o p q s : Ontology) (n i : ℕ) → ReadsProperty r o p n → ReadsIndividual a p q i → (fault : BuildFault) → IndividualRead (Err fault) b q s → PairRead (Err fault) r a b o s
+pair_target_refused r a b o p q s n i property source TooManyNames h =
+    overflow_later [] [] (r ∷ []) [] (a ∷ []) (b ∷ []) [] o q (adds_join [] [] (r ∷ []) [] [] (a ∷ []) [] [] o p q property.0 source.0) h
+pair_target_refused r a b o p q s n i property source Memory h = tt
+
+-- ---- pairs that are asserted or denied
+
+module _ (r a b : Iri) (o s : Ontology) (n i j : ℕ) (pair : ReadsPair r a b o s n i j) where
+  pub pair_fits : (n < length s.names.properties) × (i < length s.names.individuals) × (j < length s.names.individuals)
+  pair_fits = (slice_get_within s.names.properties n r pair.property_at, slice_get_within s.names.individuals i a pair.source_at, slice_get_within s.names.individuals j b pair.target_at)
+
+  names_stand : (says : Iri → Iri → Iri → tree.Axiom) → says (name_at s.names.properties n) (name_at s.names.individuals i) (name_at s.names.individuals j) ≡ says r a b
+  names_stand says =
+      ap₂ (λ x y. says x y (name_at s.names.individuals j)) (name_stands s.names.properties n r pair.property_at) (name_stands s.names.individuals i a pair.source_at)
+      ∙ ap (says r a) (name_stands s.names.individuals j b pair.target_at)
 
   pub property_assertion_read : (u : Ontology) (result : Result (Unit {0}) BuildFault) → AxiomRead result (PropertyAssertion n i j) s u → StatementRead result (States (tree.PropertyAssertion r a b)) o u
-  property_assertion_read u result added =
-      let first : Adds [] (r ∷ []) (a ∷ []) [] o q = adds_join [] [] (r ∷ []) [] [] (a ∷ []) [] [] o p q property.0 source.0 in
-      let all : Adds [] (r ∷ []) (a ∷ b ∷ []) [] o s = adds_join [] [] (r ∷ []) [] (a ∷ []) (b ∷ []) [] [] o q s first target.0 in
-      let says : axiom_tree s (PropertyAssertion n i j) ≡ tree.PropertyAssertion r a b =
-      ap₂ (λ x y. tree.PropertyAssertion x y (name_at s.names.individuals j)) (name_stands s.names.properties n r property_there) (name_stands s.names.individuals i a source_there)
-      ∙ ap (tree.PropertyAssertion r a) (name_stands s.names.individuals j b target.1) in
-      stated (tree.PropertyAssertion r a b) o s u (PropertyAssertion n i j) all says result added
+  property_assertion_read u result added = stated (tree.PropertyAssertion r a b) o s u (PropertyAssertion n i j) pair.adds (names_stand tree.PropertyAssertion) result added
 
-pub assertion_property_refused : (r a b : Iri) (o p : Ontology) (fault : BuildFault) → PropertyRead (Err fault) r o p → StatementRead (Err fault) (States (tree.PropertyAssertion r a b)) o p
-assertion_property_refused r a b o p TooManyNames h = overflow_more [] [] (r ∷ []) [] [] (a ∷ b ∷ []) o h
-assertion_property_refused r a b o p Memory h = tt
+  pub negative_assertion_read : (u : Ontology) (result : Result (Unit {0}) BuildFault) → AxiomRead result (NegativePropertyAssertion n i j) s u → StatementRead result (States (tree.NegativePropertyAssertion r a b)) o u
+  negative_assertion_read u result added = stated (tree.NegativePropertyAssertion r a b) o s u (NegativePropertyAssertion n i j) pair.adds (names_stand tree.NegativePropertyAssertion) result added
 
-pub assertion_source_refused : (r a b : Iri) (o p q : Ontology) (n : ℕ) → ReadsProperty r o p n → (fault : BuildFault) → IndividualRead (Err fault) a p q → StatementRead (Err fault) (States (tree.PropertyAssertion r a b)) o q
-assertion_source_refused r a b o p q n property TooManyNames h = overflow_later [] [] (r ∷ []) [] [] (a ∷ b ∷ []) [] o p property.0 (overflow_more [] [] [] [] (a ∷ []) (b ∷ []) p h)
-assertion_source_refused r a b o p q n property Memory h = tt
+pub property_assertion_refused : (r a b : Iri) (o p : Ontology) (fault : BuildFault) → PairRead (Err fault) r a b o p → StatementRead (Err fault) (States (tree.PropertyAssertion r a b)) o p
+property_assertion_refused r a b o p TooManyNames h = h
+property_assertion_refused r a b o p Memory h = tt
 
-pub assertion_target_refused : (r a b : Iri) (o p q s : Ontology) (n i : ℕ) → ReadsProperty r o p n → ReadsIndividual a p q i → (fault : BuildFault) → IndividualRead (Err fault) b q s → StatementRead (Err fault) (States (tree.PropertyAssertion r a b)) o s
-assertion_target_refused r a b o p q s n i property source TooManyNames h =
-    overflow_later [] [] (r ∷ []) [] (a ∷ []) (b ∷ []) [] o q (adds_join [] [] (r ∷ []) [] [] (a ∷ []) [] [] o p q property.0 source.0) h
-assertion_target_refused r a b o p q s n i property source Memory h = tt
+pub negative_assertion_refused : (r a b : Iri) (o p : Ontology) (fault : BuildFault) → PairRead (Err fault) r a b o p → StatementRead (Err fault) (States (tree.NegativePropertyAssertion r a b)) o p
+negative_assertion_refused r a b o p TooManyNames h = h
+negative_assertion_refused r a b o p Memory h = tt
+
+-- ---- axioms about several individuals
+
+module _ (as' : List Iri) (o q : Ontology) (ns : List ℕ) (read : ReadsIndividuals as' o q ns) where
+  pub individuals_fit : 2 ≤ length as' → AreDistinct as' → AreOperands (length q.names.individuals) ns
+  individuals_fit many distinct = record {
+    many = omega (arith, many, numbers_long q.names.individuals ns as' read.at);
+    distinct = numbers_distinct q.names.individuals ns as' read.at distinct;
+    within = numbers_within q.names.individuals ns as' read.at;
+  }
+
+  individuals_stand : map (name_at q.names.individuals) ns ≡ as'
+  individuals_stand = numbers_stand q.names.individuals [] ns as' read.at
+
+  pub same_individuals_read : (s : Ontology) (result : Result (Unit {0}) BuildFault) → AxiomRead result (SameIndividuals ns) q s → StatementRead result (States (tree.SameIndividuals as')) o s
+  same_individuals_read s result added = stated (tree.SameIndividuals as') o q s (SameIndividuals ns) read.adds (ap tree.SameIndividuals individuals_stand) result added
+
+  pub different_individuals_read : (s : Ontology) (result : Result (Unit {0}) BuildFault) → AxiomRead result (DifferentIndividuals ns) q s → StatementRead result (States (tree.DifferentIndividuals as')) o s
+  different_individuals_read s result added = stated (tree.DifferentIndividuals as') o q s (DifferentIndividuals ns) read.adds (ap tree.DifferentIndividuals individuals_stand) result added
+
+pub same_individuals_refused : (as' : List Iri) (o p : Ontology) (fault : BuildFault) → IndividualsRead (Err fault) as' o p → StatementRead (Err fault) (States (tree.SameIndividuals as')) o p
+same_individuals_refused as' o p TooManyNames h = h
+same_individuals_refused as' o p Memory h = tt
+
+pub different_individuals_refused : (as' : List Iri) (o p : Ontology) (fault : BuildFault) → IndividualsRead (Err fault) as' o p → StatementRead (Err fault) (States (tree.DifferentIndividuals as')) o p
+different_individuals_refused as' o p TooManyNames h = h
+different_individuals_refused as' o p Memory h = tt
 
 -- ---- axioms about several properties
 

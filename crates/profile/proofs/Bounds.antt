@@ -12,7 +12,7 @@ use Rattle.fs_parser.specs.Document.{AreDeclarations}
 use Rattle.fs_parser.specs.Name.{Prefixes}
 use Rattle.fs_parser.specs.Tree.{AreTrees, IsTree, Tree, Trees, Empty, Then, Name, PlainLiteral, TaggedLiteral, TypedLiteral, Anonymous, Number, Group, Form}
 use Rattle.shapes.specs.Faults.{count_of}
-use Rattle.shapes.specs.declared.version.Version.TheVariants.{One}
+use Rattle.program.specs.declared.version.Version.{Version}
 use Rattle.shapes.specs.Shapes.{Says, row}
 use Rattle.shapes.specs.TreeStatements.{Stated, meaning, said, statement_in}
 use Rattle.profile.specs.Statements.{statement_of, statements}
@@ -72,17 +72,17 @@ said_once : (says : Says) (trees : Trees) → length (said says trees) ≤ 1
 said_once None trees = omega arith
 said_once (Some says) trees = omega arith
 
-one_stated : (tree : Tree) → length (statement_of One tree) ≤ 1
-one_stated tree = go (statement_in One tree)
+one_stated : (version : Version) (tree : Tree) → length (statement_of version tree) ≤ 1
+one_stated version tree = go (statement_in version tree)
   where
     go : (stated : Option Stated) → length (meaning stated) ≤ 1
     go None = omega arith
     go (Some stated) = said_once (row stated.0).2 stated.1
 
-all_stated : (trees : Trees) → length (statements One trees) ≤ count_of trees
-all_stated Empty = omega arith
-all_stated (Then first rest) =
-    omega (arith, one_stated first, all_stated rest, length-append (statement_of One first) (statements One rest))
+all_stated : (version : Version) (trees : Trees) → length (statements version trees) ≤ count_of trees
+all_stated version Empty = omega arith
+all_stated version (Then first rest) =
+    omega (arith, one_stated version first, all_stated version rest, length-append (statement_of version first) (statements version rest))
 
 one_more : {B : Type 0} (y : Option B) (ys : List B) → length (cons_option y ys) ≤ length ys + 1
 one_more (Some y) ys = omega arith
@@ -93,7 +93,7 @@ filtered f [] = omega arith
 filtered f (x ∷ xs) = omega (arith, one_more (f x) (filter_map f xs), filtered f xs)
 
 pub axioms_take_bytes : AxiomsTakeBytes
-axioms_take_bytes bytes o r =
+axioms_take_bytes version bytes o r =
     let ontology = r.text.written.ontology in
     let closed = ontology.closed in
     let trees = r.document.trees in
@@ -105,8 +105,8 @@ axioms_take_bytes bytes o r =
       ap length closed.tokens_are,
       length-append closed.inner (closed.closing ∷ []),
       trees_take _ trees closed.inner closed.are_trees,
-      all_stated trees,
-      filtered logical_axiom (statements One trees),
+      all_stated version trees,
+      filtered logical_axiom (statements version trees),
       ap length r.read.ontology.axioms,
       length-map o.axioms (axiom_tree o),
     )

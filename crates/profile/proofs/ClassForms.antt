@@ -6,7 +6,7 @@ use Rattle.std.proofs.lemmas.Slice.Eq.{bytes_eq-Decides}
 use Rattle.axioms.specs.Expression.{Iri, ClassExpression as Class, Named, Intersection, SomeValues, operand_list}
 use Rattle.axioms.specs.Ontology.{intersection, operands_of as parts_of}
 use Rattle.fs_parser.specs.Tree.{Trees, Form, Empty, Then}
-use Rattle.shapes.specs.declared.version.Version.{Version}
+use Rattle.program.specs.declared.version.Version.{Version}
 use Rattle.shapes.specs.Faults.{count_of, faults, faults_in}
 use Rattle.shapes.specs.Shapes.{Operands, Each, Many, fits_count, operands_of}
 use Rattle.shapes.specs.declared.expected.Expected.TheVariants.{ClassExpression, Property}

@@ -1,7 +1,7 @@
 -- Trees without faults, where class expressions are expected, are class expressions.
 use Rattle.std.proofs.Common.{◌≡◌, ℕ, ◌≤◌, true, false, inl, inr, List, [], ◌∷◌, ◌++◌, length, sym, subst}
 use Rattle.fs_parser.specs.Tree.{Tree, Trees, Name, Form, Empty, Then}
-use Rattle.shapes.specs.declared.version.Version.{Version}
+use Rattle.program.specs.declared.version.Version.{Version}
 use Rattle.shapes.specs.Faults.{faults, faults_in}
 use Rattle.shapes.specs.Shapes.{Many}
 use Rattle.shapes.specs.declared.expected.Expected.TheVariants.{ClassExpression}

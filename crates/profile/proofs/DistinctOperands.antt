@@ -8,15 +8,15 @@ use Rattle.lemmas.proofs.Members.{slice_get-from_Contains}
 use Rattle.axioms.specs.WellFormedness.{AreDistinct}
 use Rattle.axioms.proofs.Growing.{AreDistinct-push}
 use Rattle.fs_parser.specs.Tree.{Tree, Trees, Empty, Then}
-use Rattle.shapes.specs.declared.version.Version.{Version}
+use Rattle.program.specs.declared.version.Version.{Version}
 use Rattle.shapes.specs.Faults.{faults, faults_in}
 use Rattle.shapes.specs.TreeEquality.{same_tree}
 use Rattle.shapes.specs.Shapes.{Many}
 use Rattle.shapes.specs.declared.expected.Expected.{Expected}
-use Rattle.shapes.specs.declared.expected.Expected.TheVariants.{ClassExpression, Property}
+use Rattle.shapes.specs.declared.expected.Expected.TheVariants.{ClassExpression, Individual, Property}
 use Rattle.profile.specs.Statements.{class_of, classes_of, iri_of, iris_of}
 use Rattle.profile.proofs.Faultless.{operand_parts}
-use Rattle.profile.proofs.NameTrees.{property_name}
+use Rattle.profile.proofs.NameTrees.{IsName, individual_name, property_name}
 use Rattle.profile.proofs.SameClass.{same_class, same_name}
 
 abbrev listed : Trees → List Tree
@@ -71,7 +71,13 @@ module _ (version : Version) where
   pub distinct_classes : (ts : Trees) → faults_in version false [] (Many true ClassExpression) ts ≡ [] → AreDistinct (classes_of ts)
   distinct_classes ts h = subst AreDistinct (classes_are ts) (distinct_views ClassExpression class_of (same_class version) ts h)
 
+  distinct_names : (expected : Expected) → ((t : Tree) → faults version expected t ≡ [] → IsName t) → (ts : Trees) → faults_in version false [] (Many true expected) ts ≡ [] → AreDistinct (iris_of ts)
+  distinct_names expected name ts h =
+      let told : IsTold expected iri_of = λ t u f g e. same_name t u (name t f) (name u g) e in
+      subst AreDistinct (iris_are ts) (distinct_views expected iri_of told ts h)
+
   pub distinct_properties : (ts : Trees) → faults_in version false [] (Many true Property) ts ≡ [] → AreDistinct (iris_of ts)
-  distinct_properties ts h =
-      let told : IsTold Property iri_of = λ t u f g e. same_name t u (property_name version t f) (property_name version u g) e in
-      subst AreDistinct (iris_are ts) (distinct_views Property iri_of told ts h)
+  distinct_properties = distinct_names Property (property_name version)
+
+  pub distinct_individuals : (ts : Trees) → faults_in version false [] (Many true Individual) ts ≡ [] → AreDistinct (iris_of ts)
+  distinct_individuals = distinct_names Individual (individual_name version)

@@ -3,7 +3,7 @@ use Rattle.std.proofs.Common.{◌≡◌, ℕ, Bool, true, false, List, [], ◌�
 use Rattle.fs_parser.specs.Tree.{Tree, Trees, Form, Then, place_of}
 use Rattle.axioms.specs.Ontology.{Names}
 use Rattle.shapes.specs.Faults.{Fault, WrongShape, RepeatedOperand, misplaced, count_of, faults, faults_among, faults_in, faults_inside, front_faults, is_repeated, own_trees}
-use Rattle.shapes.specs.declared.version.Version.{Version}
+use Rattle.program.specs.declared.version.Version.{Version}
 use Rattle.shapes.specs.Shapes.{Operands, fits_count, later_expected, may_be_annotated, next_expected, operands_of}
 use Rattle.shapes.specs.declared.expected.Expected.{Expected}
 use Rattle.shapes.proofs.Lists.{fitting_form, unfitting_form}

@@ -1,15 +1,15 @@
 -- Operands without faults are what statements are made of.
 use Rattle.std.proofs.Common.{◌≡◌, true, false, List, [], ◌∷◌, ◌++◌, arith}
 use Rattle.fs_parser.specs.Tree.{Tree, Trees, Empty, Then}
-use Rattle.shapes.specs.declared.version.Version.{Version}
+use Rattle.program.specs.declared.version.Version.{Version}
 use Rattle.shapes.specs.Faults.{count_of, faults, faults_in}
 use Rattle.shapes.specs.Shapes.{Operands, Each, Many, fits_count}
 use Rattle.shapes.specs.declared.expected.Expected.{Expected}
-use Rattle.shapes.specs.declared.expected.Expected.TheVariants.{ClassExpression, Property, PropertyOrChain}
+use Rattle.shapes.specs.declared.expected.Expected.TheVariants.{ClassExpression, Individual, Property, PropertyOrChain}
 use Rattle.profile.specs.ClassTrees.{AreManyOperands, AreOperands, IsOperand}
 use Rattle.profile.proofs.ClassForms.{count_of_classes}
 use Rattle.profile.proofs.ClassTrees.{are_many_distinct, class_tree, class_trees}
-use Rattle.profile.proofs.DistinctOperands.{distinct_properties}
+use Rattle.profile.proofs.DistinctOperands.{distinct_individuals, distinct_properties}
 use Rattle.profile.proofs.Faultless.{operand_parts}
 use Rattle.profile.proofs.NameTrees.{count_of_names, many_trees, property_chain}
 
@@ -35,6 +35,7 @@ module _ (version : Version) where
   many_operands ClassExpression ts g =
       (class_trees version [] ts g.faultless, are_many_distinct version ts (omega (arith, count_of_classes ts, many_trees true ClassExpression ts g.count)) g.faultless)
   many_operands Property ts g = record { many = omega (arith, count_of_names ts, many_trees true Property ts g.count); distinct = distinct_properties version ts g.faultless }
+  many_operands Individual ts g = record { many = omega (arith, count_of_names ts, many_trees true Individual ts g.count); distinct = distinct_individuals version ts g.faultless }
   many_operands _ ts g = tt
 
   pub given_operands : (operands : Operands) (ts : Trees) → AreGiven operands ts → AreOperands operands ts

@@ -12,7 +12,7 @@ use Rattle.axioms.specs.Numbering.{class_name, first_places, parts, properties_i
 use Rattle.axioms.specs.WellFormedness.{AreDistinct, IsOntology}
 use Rattle.fs_parser.specs.Tree.{Tree, Trees, Name, Form, Empty, Then, place_of}
 use Rattle.shapes.specs.Faults.{Fault, WrongShape, RepeatedOperand, ReservedName, UnknownName, count_of, expression_faults, faults, faults_among, faults_in, faults_inside, form_faults, is_annotation, is_repeated, operands_or_none, own_trees}
-use Rattle.shapes.specs.declared.version.Version.{Version}
+use Rattle.program.specs.declared.version.Version.{Version}
 use Rattle.shapes.specs.Names.{is_allowed, is_there, may_be_name}
 use Rattle.shapes.specs.Shapes.{Operands, Each, Many, fits_count, later_expected, may_be_annotated, next_expected, operands_of}
 use Rattle.shapes.specs.declared.expected.Expected.{Expected}

@@ -9,6 +9,7 @@ pub mod Forms
 pub mod Stating
 pub mod AxiomReading
 pub mod PropertyForms
+pub mod IndividualForms
 pub mod Faultless
 pub mod NameTrees
 pub mod ClassForms
@@ -25,3 +26,4 @@ pub mod OneReading
 pub mod Refused
 pub mod Readings
 pub mod OneByOne
+pub mod Versions

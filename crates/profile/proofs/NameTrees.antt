@@ -3,11 +3,11 @@ use Rattle.std.proofs.Common.{◌≡◌, ℕ, ◌≤◌, Bool, true, false, List
 use Rattle.std.proofs.lemmas.Bool.{ltb-true}
 use Rattle.std.proofs.lemmas.Option.{none-some, same_Some}
 use Rattle.fs_parser.specs.Tree.{Tree, Trees, Name, PlainLiteral, TaggedLiteral, TypedLiteral, Anonymous, Number, Group, Form, Empty, Then}
-use Rattle.shapes.specs.declared.version.Version.{Version}
+use Rattle.program.specs.declared.version.Version.{Version}
 use Rattle.shapes.specs.Faults.{count_of, faults, literal_faults}
 use Rattle.shapes.specs.Shapes.{Operands, Many, fits_count, operands_of}
 use Rattle.shapes.specs.declared.expected.Expected.{Expected}
-use Rattle.shapes.specs.declared.expected.Expected.TheVariants.{Property, PropertyOrChain}
+use Rattle.shapes.specs.declared.expected.Expected.TheVariants.{Individual, Property, PropertyOrChain}
 use Rattle.profile.specs.ClassTrees.{IsChain}
 use Rattle.profile.specs.Statements.{iris_of}
 use Rattle.profile.proofs.Faultless.{AreOperandsOf, form_operands}
@@ -40,6 +40,9 @@ module _ (version : Version) where
 
   pub property_name : (t : Tree) → faults version Property t ≡ [] → IsName t
   property_name = name_only Property (λ k. refl) (λ at h. cc)
+
+  pub individual_name : (t : Tree) → faults version Individual t ≡ [] → IsName t
+  individual_name = name_only Individual (λ k. refl) (λ at h. cc)
 
   -- ---- chains
 

@@ -24,7 +24,7 @@ use Rattle.profile.proofs.Steps.{adds_join, adds_nothing, keeps_of}
 abbrev pub tree_name : code.Tree → Iri
 tree_name t = iri_of (tree_of t)
 
-iris_are : (ts : List code.Tree) → iris_of (trees_of ts) ≡ map tree_name ts
+pub iris_are : (ts : List code.Tree) → iris_of (trees_of ts) ≡ map tree_name ts
 iris_are [] = refl
 iris_are (t ∷ ts) = ap (λ rs. tree_name t ∷ rs) (iris_are ts)
 
@@ -39,21 +39,22 @@ one_more rs r o p q ns n read more =
       at = numbers_push q.names.properties ns rs n r (numbers_kept p.names.properties q.names.properties keeps.kept_properties ns rs read.at) more.1;
     }
 
+pub one_name_more : (ts : List code.Tree) (n : ℕ) (t : code.Tree) → n < length ts → t ≡ get_or ts n t → map tree_name (take (n + 1) ts) ≡ map tree_name (take n ts) ++ tree_name t ∷ []
+one_name_more ts n t within item = ap (map tree_name) (take_push ts n t (slice_get-get_or ts n t within ∙ ap Some (sym item))) ∙ map-append tree_name (take n ts) (t ∷ [])
+
 pub property_pushed : (ts : List code.Tree) (n : ℕ) (t : code.Tree) (o p q : Ontology) (ps : List PropId) (r : PropId) (qs : List PropId) → qs ≡ ps ++ r ∷ [] → ReadsProperties (map tree_name (take n ts)) o p (prop_numbers ps) → n < length ts → t ≡ get_or ts n t → ReadsProperty (tree_name t) p q r.0 →
     ReadsProperties (map tree_name (take (n + 1) ts)) o q (prop_numbers qs)
 property_pushed ts n t o p q ps r qs is read within item more =
     let P : List ℕ → Type 0 = λ ns. ReadsProperties (map tree_name (take (n + 1) ts)) o q ns in
     let Q : List Iri → Type 0 = λ rs. ReadsProperties rs o q (prop_numbers ps ++ r.0 ∷ []) in
-    let pushed : map tree_name (take (n + 1) ts) ≡ map tree_name (take n ts) ++ tree_name t ∷ [] =
-    ap (map tree_name) (take_push ts n t (slice_get-get_or ts n t within ∙ ap Some (sym item))) ∙ map-append tree_name (take n ts) (t ∷ []) in
-    subst P (sym (ap prop_numbers is ∙ map-append (λ (x : PropId). x.0) ps (r ∷ []))) (subst Q (sym pushed) (one_more (map tree_name (take n ts)) (tree_name t) o p q (prop_numbers ps) r.0 read more))
+    subst P (sym (ap prop_numbers is ∙ map-append (λ (x : PropId). x.0) ps (r ∷ []))) (subst Q (sym (one_name_more ts n t within item)) (one_more (map tree_name (take n ts)) (tree_name t) o p q (prop_numbers ps) r.0 read more))
 
 pub all_properties : (ts : List code.Tree) (n : ℕ) (o p : Ontology) (ns : List ℕ) → ReadsProperties (map tree_name (take n ts)) o p ns → length ts ≤ n → ReadsProperties (iris_of (trees_of ts)) o p ns
 all_properties ts n o p ns read all =
     let P : List Iri → Type 0 = λ rs. ReadsProperties rs o p ns in
     subst P (ap (map tree_name) (take_all n ts all) ∙ sym (iris_are ts)) read
 
-split_at : (ts : List code.Tree) (n : ℕ) (t : code.Tree) → n < length ts → t ≡ get_or ts n t → map tree_name ts ≡ map tree_name (take n ts) ++ (tree_name t ∷ map tree_name (drop (suc n) ts))
+pub split_at : (ts : List code.Tree) (n : ℕ) (t : code.Tree) → n < length ts → t ≡ get_or ts n t → map tree_name ts ≡ map tree_name (take n ts) ++ (tree_name t ∷ map tree_name (drop (suc n) ts))
 split_at [] n t within is = absurd (omega arith)
 split_at (u ∷ ts) zero t within is = ap (λ x. tree_name x ∷ map tree_name ts) (sym is)
 split_at (u ∷ ts) (suc n) t within is = ap (λ xs. tree_name u ∷ xs) (split_at ts n t (omega arith) is)

@@ -12,7 +12,7 @@ use Rattle.fs_parser.specs.Faults.{IsPlaced}
 use Rattle.fs_parser.specs.State as parser
 use Rattle.fs_parser.specs.declared.fault.ParseFault.{ParseFault}
 use Rattle.fs_parser.specs.declared.fault.ParseFault.TheVariants as parsing
-use Rattle.shapes.specs.declared.version.Version.TheVariants.{One}
+use Rattle.program.specs.declared.version.Version.{Version}
 use Rattle.profile.specs.declared.fault.DocumentFault.{DocumentFault}
 use Rattle.profile.specs.declared.opened.Opened.{Opened}
 use Rattle.profile.specs.declared.fault.DocumentFault.TheVariants as faults
@@ -28,73 +28,78 @@ module _ (text : List ℕ) (tokens : List Token) (utf8 : IsUtf8 text) (spelled :
   no_document f refusal none placed =
       record { refusal = refusal; utf8 = utf8; tokens = tokens; spelled = spelled; none = none refusal; placed = placed }
 
-  pub parse_fault : (f : ParseFault) → (parser.IsRefusal f → (d : Document) → IsDocument d tokens → ⊥) → IsPlaced tokens f → Refuses (of_parsing f) text
-  parse_fault (parsing.Unexpected at) none placed = no_document (parsing.Unexpected at) tt none placed
-  parse_fault (parsing.UnexpectedEnd at) none placed = no_document (parsing.UnexpectedEnd at) tt none placed
-  parse_fault (parsing.UnknownPrefix at) none placed = no_document (parsing.UnknownPrefix at) tt none placed
-  parse_fault (parsing.PrefixTwice at) none placed = no_document (parsing.PrefixTwice at) tt none placed
-  parse_fault (parsing.StandardPrefixChanged at) none placed = no_document (parsing.StandardPrefixChanged at) tt none placed
-  parse_fault (parsing.TooDeep at) none placed = no_document (parsing.TooDeep at) tt none placed
-  parse_fault parsing.Memory none placed = tt
+  pub parse_fault : (version : Version) (f : ParseFault) → (parser.IsRefusal f → (d : Document) → IsDocument d tokens → ⊥) → IsPlaced tokens f → Refuses version (of_parsing f) text
+  parse_fault version (parsing.Unexpected at) none placed = no_document (parsing.Unexpected at) tt none placed
+  parse_fault version (parsing.UnexpectedEnd at) none placed = no_document (parsing.UnexpectedEnd at) tt none placed
+  parse_fault version (parsing.UnknownPrefix at) none placed = no_document (parsing.UnknownPrefix at) tt none placed
+  parse_fault version (parsing.PrefixTwice at) none placed = no_document (parsing.PrefixTwice at) tt none placed
+  parse_fault version (parsing.StandardPrefixChanged at) none placed = no_document (parsing.StandardPrefixChanged at) tt none placed
+  parse_fault version (parsing.TooDeep at) none placed = no_document (parsing.TooDeep at) tt none placed
+  parse_fault version parsing.Memory none placed = tt
 
 -- a document that was read from its trees
-pub listed_opens : (text : List ℕ) (document : Document) → AreTextOf text document → (o : Ontology) → AreReadAs One document.trees o → IsOntology o
-    → (prefixes : Prefixes) → prefixes ≡ prefixes_of document → OpensAs text (record { ontology = o; prefixes = prefixes; bytes = length text })
-listed_opens text document is o read whole prefixes are =
-    let reads : ReadsAs text o = record { document = document; text = is; read = read; well_formed = whole } in
-    record { reads = record { reads = reads; prefixes_are = are }; number = refl }
+pub listed_opens : (version : Version) (text : List ℕ) (document : Document) → AreTextOf text document → (o : Ontology) → AreReadAs version document.trees o → IsOntology o
+    → (prefixes : Prefixes) → prefixes ≡ prefixes_of document → OpensAs version text (record { ontology = o; prefixes = prefixes; version = version; bytes = length text })
+listed_opens version text document is o read whole prefixes are =
+    let reads : ReadsAs version text o = record { document = document; text = is; read = read; well_formed = whole } in
+    record { reads = record { reads = reads; prefixes_are = are }; number = refl; read_in = refl }
 
 -- a document has room for its axioms
-pub axioms_fit : (r : Result Opened DocumentFault) (text : List ℕ) → IfOk r (OpensAs text) → IfOk r (λ d. length d.ontology.axioms ≤ d.bytes)
-axioms_fit (Err e) text h = tt
-axioms_fit (Ok d) text h = omega (arith, axioms_take_bytes text d.ontology h.reads.reads, h.number)
+pub axioms_fit : (version : Version) (r : Result Opened DocumentFault) (text : List ℕ) → IfOk r (OpensAs version text) → IfOk r (λ d. length d.ontology.axioms ≤ d.bytes)
+axioms_fit version (Err e) text h = tt
+axioms_fit version (Ok d) text h = omega (arith, axioms_take_bytes version text d.ontology h.reads.reads, h.number)
+
+-- what was opened names its version
+pub version_kept : (version : Version) (r : Result Opened DocumentFault) (text : List ℕ) → IfOk r (OpensAs version text) → IfOk r (λ d. d.version ≡ version)
+version_kept version (Err e) text h = tt
+version_kept version (Ok d) text h = h.read_in
 
 -- ---- all the bytes of a source
 
-not_read : (xs : List ℕ) (most : ℕ) (e : DocumentFault) → Refuses e xs → length xs ≤ most → RefusesKnown (Some xs) most e
-not_read xs most (faults.NotUtf8 at) h fit = (h, fit)
-not_read xs most (faults.Lex f) h fit = (h, fit)
-not_read xs most (faults.Parse f) h fit = (h, fit)
-not_read xs most (faults.Faults found) h fit = (h, fit)
-not_read xs most faults.TooManyNames h fit = (h, fit)
-not_read xs most faults.Memory h fit = tt
-not_read xs most faults.TooLarge h fit = absurd h
-not_read xs most faults.Io h fit = absurd h
+not_read : (version : Version) (xs : List ℕ) (most : ℕ) (e : DocumentFault) → Refuses version e xs → length xs ≤ most → RefusesKnown version (Some xs) most e
+not_read version xs most (faults.NotUtf8 at) h fit = (h, fit)
+not_read version xs most (faults.Lex f) h fit = (h, fit)
+not_read version xs most (faults.Parse f) h fit = (h, fit)
+not_read version xs most (faults.Faults found) h fit = (h, fit)
+not_read version xs most faults.TooManyNames h fit = (h, fit)
+not_read version xs most faults.Memory h fit = tt
+not_read version xs most faults.TooLarge h fit = absurd h
+not_read version xs most faults.Io h fit = absurd h
 
 -- what was consumed to the end is all that there was
 all_consumed : (xs ys bytes : List ℕ) → Consumes (Some xs) (Some ys) bytes → IsAtEnd (Some ys) → bytes ≡ xs
 all_consumed xs ys bytes all end = sym (all ∙ ap (λ zs. bytes ++ zs) end ∙ append-nil bytes)
 
 known_refused :
-    (left rest : Option (List ℕ)) (bytes : List ℕ) (most : ℕ) (e : DocumentFault) → Consumes left rest bytes → IsAtEnd rest → Refuses e bytes → length bytes ≤ most → RefusesKnown left most e
-known_refused None rest bytes most e all end h fit = tt
-known_refused (Some xs) None bytes most e all end h fit = absurd all
-known_refused (Some xs) (Some ys) bytes most e all end h fit =
+    (version : Version) (left rest : Option (List ℕ)) (bytes : List ℕ) (most : ℕ) (e : DocumentFault) → Consumes left rest bytes → IsAtEnd rest → Refuses version e bytes → length bytes ≤ most → RefusesKnown version left most e
+known_refused version None rest bytes most e all end h fit = tt
+known_refused version (Some xs) None bytes most e all end h fit = absurd all
+known_refused version (Some xs) (Some ys) bytes most e all end h fit =
     let same = all_consumed xs ys bytes all end in
-    let P : List ℕ → Type 0 = Refuses e in not_read xs most e (subst P same h) (omega (arith, ap length same, fit))
+    let P : List ℕ → Type 0 = Refuses version e in not_read version xs most e (subst P same h) (omega (arith, ap length same, fit))
 
 pub answer_refused :
-    (r : Result Opened DocumentFault) (left rest : Option (List ℕ)) (bytes text : List ℕ) (most : ℕ) → Consumes left rest bytes → IsAtEnd rest → length bytes ≤ most → text ≡ bytes →
-    IfErr r (λ e. Refuses e text) → IfErr r (RefusesKnown left most)
-answer_refused (Ok o) left rest bytes text most all end fit same h = tt
-answer_refused (Err e) left rest bytes text most all end fit same h =
-    let P : List ℕ → Type 0 = Refuses e in known_refused left rest bytes most e all end (subst P same h) fit
+    (version : Version) (r : Result Opened DocumentFault) (left rest : Option (List ℕ)) (bytes text : List ℕ) (most : ℕ) → Consumes left rest bytes → IsAtEnd rest → length bytes ≤ most → text ≡ bytes →
+    IfErr r (λ e. Refuses version e text) → IfErr r (RefusesKnown version left most)
+answer_refused version (Ok o) left rest bytes text most all end fit same h = tt
+answer_refused version (Err e) left rest bytes text most all end fit same h =
+    let P : List ℕ → Type 0 = Refuses version e in known_refused version left rest bytes most e all end (subst P same h) fit
 
-known_opened : (left rest : Option (List ℕ)) (bytes : List ℕ) (most : ℕ) (d : Opened) → Consumes left rest bytes → IsAtEnd rest → OpensAs bytes d → length bytes ≤ most → OpensKnown left most d
-known_opened None rest bytes most d all end h fit = tt
-known_opened (Some xs) None bytes most d all end h fit = absurd all
-known_opened (Some xs) (Some ys) bytes most d all end h fit =
+known_opened : (version : Version) (left rest : Option (List ℕ)) (bytes : List ℕ) (most : ℕ) (d : Opened) → Consumes left rest bytes → IsAtEnd rest → OpensAs version bytes d → length bytes ≤ most → OpensKnown version left most d
+known_opened version None rest bytes most d all end h fit = tt
+known_opened version (Some xs) None bytes most d all end h fit = absurd all
+known_opened version (Some xs) (Some ys) bytes most d all end h fit =
     let same = all_consumed xs ys bytes all end in
-    (subst (λ zs. OpensAs zs d) same h, omega (arith, ap length same, fit))
+    (subst (λ zs. OpensAs version zs d) same h, omega (arith, ap length same, fit))
 
 pub answer_opened :
-    (r : Result Opened DocumentFault) (left rest : Option (List ℕ)) (bytes text : List ℕ) (most : ℕ) → Consumes left rest bytes → IsAtEnd rest → length bytes ≤ most → text ≡ bytes →
-    IfOk r (OpensAs text) → IfOk r (OpensKnown left most)
-answer_opened (Err e) left rest bytes text most all end fit same h = tt
-answer_opened (Ok d) left rest bytes text most all end fit same h =
-    known_opened left rest bytes most d all end (subst (λ zs. OpensAs zs d) same h) fit
+    (version : Version) (r : Result Opened DocumentFault) (left rest : Option (List ℕ)) (bytes text : List ℕ) (most : ℕ) → Consumes left rest bytes → IsAtEnd rest → length bytes ≤ most → text ≡ bytes →
+    IfOk r (OpensAs version text) → IfOk r (OpensKnown version left most)
+answer_opened version (Err e) left rest bytes text most all end fit same h = tt
+answer_opened version (Ok d) left rest bytes text most all end fit same h =
+    known_opened version left rest bytes most d all end (subst (λ zs. OpensAs version zs d) same h) fit
 
 -- what was opened is read
-pub opened_read : (left : Option (List ℕ)) (most : ℕ) (d : Opened) → OpensKnown left most d → ReadsKnown left most d.ontology
-opened_read None most d h = tt
-opened_read (Some bytes) most d h = (h.0.reads.reads, h.1)
+pub opened_read : (version : Version) (left : Option (List ℕ)) (most : ℕ) (d : Opened) → OpensKnown version left most d → ReadsKnown version left most d.ontology
+opened_read version None most d h = tt
+opened_read version (Some bytes) most d h = (h.0.reads.reads, h.1)

@@ -5,7 +5,7 @@ use Rattle.std.proofs.lemmas.Slice.Eq.{bytes_eq-Decides}
 use Rattle.axioms.specs.Expression.{Iri, Named, SomeValues}
 use Rattle.axioms.specs.Ontology.{intersection}
 use Rattle.fs_parser.specs.Tree.{Tree, Trees, Name, Form, Empty, Then}
-use Rattle.shapes.specs.declared.version.Version.{Version}
+use Rattle.program.specs.declared.version.Version.{Version}
 use Rattle.shapes.specs.Faults.{faults, faults_in}
 use Rattle.shapes.specs.TreeEquality.{same_tree, same_trees}
 use Rattle.shapes.specs.Shapes.{Many}

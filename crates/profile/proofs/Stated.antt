@@ -13,7 +13,8 @@ use Rattle.shapes.specs.declared.form.Form as shapes
 use Rattle.shapes.specs.declared.form.Form.TheVariants as forms
 use Rattle.shapes.specs.declared.place.Place.{Place}
 use Rattle.shapes.specs.declared.place.Place.TheVariants.{Front, Axioms}
-use Rattle.shapes.specs.declared.version.Version.{Version}
+use Rattle.program.specs.declared.version.Version.{Version}
+use Rattle.program.specs.declared.version.Version.TheVariants.{One, Two}
 use Rattle.profile.specs.Operands.{IsFitting}
 use Rattle.profile.proofs.Faultless.{AreOperandsOf, form_operands, operand_parts}
 use Rattle.profile.proofs.GivenOperands.{AreGiven, given_operands}
@@ -29,6 +30,11 @@ row_operands version (g ∷ gs) k f h = go (takes version (since g) && bytes_eq 
         option_map (λ (s : Shape). s.2) (if b then Some (shape g) else shape_in version (map shape gs) k) ≡ Some (row f).1
     go true i more = ap (λ (x : shapes.Form). Some (row x).1) (same_Some g f i)
     go false i more = more i
+
+-- an annotation is no axiom
+annotation_fits : (version : Version) (ts : Trees) → IsFitting (axiom_by version (form_of version Axiom (codes "Annotation")) ts)
+annotation_fits One ts = tt
+annotation_fits Two ts = tt
 
 module _ (version : Version) where
   by_row : (f : shapes.Form) (ts : Trees) → AreGiven version (row f).1 ts → IsFitting (stated_by f ts)
@@ -78,6 +84,6 @@ module _ (version : Version) where
   part_fits (Front count) (Form at k trees) h = go (bytes_eq k (codes "Annotation")) refl h
     where
       go : (b : Bool) → bytes_eq k (codes "Annotation") ≡ b → (if b then faults version Annotation (Form at k trees) else faults version Axiom (Form at k trees)) ≡ [] → IsFitting (statement_in version (Form at k trees))
-      go true e i = subst (λ (w : List ℕ). IsFitting (axiom_by version (form_of version Axiom w) (behind_annotations trees))) (sym ((bytes_eq-Decides k (codes "Annotation")).0 e)) tt
+      go true e i = subst (λ (w : List ℕ). IsFitting (axiom_by version (form_of version Axiom w) (behind_annotations trees))) (sym ((bytes_eq-Decides k (codes "Annotation")).0 e)) (annotation_fits version (behind_annotations trees))
       go false e i = form_fits at k trees i
   part_fits _ _ h = tt

@@ -17,7 +17,7 @@ use Rattle.shapes.specs.declared.statement.Statement.{Statement as Statement'}
 use Rattle.shapes.specs.View.{faults_of}
 use Rattle.shapes.specs.declared.fault.Fault as code
 use Rattle.shapes.specs.declared.place.Place.{Place}
-use Rattle.shapes.specs.declared.version.Version.{Version}
+use Rattle.program.specs.declared.version.Version.{Version}
 use Rattle.shapes.proofs.Places.{none_from, one_by_one}
 use Rattle.profile.specs.Additions.{AddsStatements, HasFewNames, StatementsOverflow}
 use Rattle.profile.specs.Operands.{IsFitting}
@@ -177,7 +177,7 @@ module _ (version : Version) (ts us : List parsed.Tree) (same : ts ≡ us) (old 
     accepted (Ok o) read = read version (map tree_of us) (behind_all (of_document version) [] none)
     accepted (Err r) read = tt
 
-    pub not_accepted : (r : Result Ontology Refusal) → IfErr r (λ f. (v : Version) (trees : List Tree) → AreTaken (of_document v) trees new → Refuses f v (trees_from trees)) → IfErr r (λ f. Refuses f version (trees_of us))
+    pub not_accepted : (r : Result Ontology Refusal) → IfErr r (λ f. (v : Version) (trees : List Tree) → AreTaken (of_document v) trees new → Refuses v f (trees_from trees)) → IfErr r (λ f. Refuses version f (trees_of us))
     not_accepted (Ok o) refused = tt
     not_accepted (Err r) refused = refused version (map tree_of us) (behind_all (of_document version) [] none)
 
@@ -189,7 +189,7 @@ module _ (version : Version) (ts us : List parsed.Tree) (same : ts ≡ us) (old 
     grown (Ok p) added = added version o (map tree_of us) (behind_all (of_growth version o) [] from)
     grown (Err r) added = tt
 
-    pub not_grown : (r : Result Ontology Refusal) → IfErr r (λ f. (v : Version) (x : Ontology) (trees : List Tree) → AreTaken (of_growth v x) trees new → RefusesStatements f v x (trees_from trees)) →
-        IfErr r (λ f. RefusesStatements f version o (trees_of us))
+    pub not_grown : (r : Result Ontology Refusal) → IfErr r (λ f. (v : Version) (x : Ontology) (trees : List Tree) → AreTaken (of_growth v x) trees new → RefusesStatements v f x (trees_from trees)) →
+        IfErr r (λ f. RefusesStatements version f o (trees_of us))
     not_grown (Ok p) refused = tt
     not_grown (Err r) refused = refused version o (map tree_of us) (behind_all (of_growth version o) [] from)

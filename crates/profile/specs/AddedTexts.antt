@@ -9,7 +9,7 @@ use Rattle.fs_parser.specs.Name.{Prefixes}
 use Rattle.fs_parser.specs.State.{IsRefusal}
 use Rattle.fs_parser.specs.Tree.{Tree, Trees, AreShallow, IsShallow}
 use Rattle.fs_parser.specs.declared.fault.ParseFault.{ParseFault}
-use Rattle.shapes.specs.declared.version.Version.TheVariants.{One}
+use Rattle.program.specs.declared.version.Version.{Version}
 use Rattle.profile.specs.Faults.{SpellNoTokens}
 use Rattle.profile.specs.Growth.{AreAddedAs, IsAddedAs, RefusesExpression, RefusesStatements}
 use Rattle.profile.specs.declared.acceptance.Refusal.{Refusal}
@@ -26,10 +26,10 @@ pub record AreStatementsOf (prefixes : Prefixes) (text : List ℕ) (trees : Tree
   pub are : AreShallow 64 prefixes trees tokens
 
 -- the text is trees that are added to the old ontology
-pub record IsAddedText (prefixes : Prefixes) (text : List ℕ) (old new : Ontology) : Type 0 where
+pub record IsAddedText (version : Version) (prefixes : Prefixes) (text : List ℕ) (old new : Ontology) : Type 0 where
   pub trees : Trees
   pub text_is : AreStatementsOf prefixes text trees
-  pub added : AreAddedAs One old trees new
+  pub added : AreAddedAs version old trees new
 
 -- the tokens of the text are no such trees, and what the fault says of its place in the text holds
 pub record AreNoStatements (prefixes : Prefixes) (text : List ℕ) (fault : ParseFault) : Type 0 where
@@ -40,21 +40,21 @@ pub record AreNoStatements (prefixes : Prefixes) (text : List ℕ) (fault : Pars
   pub said : IsSaidOfTrees 64 (last_place tokens) prefixes tokens fault
 
 -- the text is trees that cannot be added to the old ontology, for what the refusal says
-pub record IsNotAdded (prefixes : Prefixes) (text : List ℕ) (old : Ontology) (refusal : Refusal) : Type 0 where
+pub record IsNotAdded (version : Version) (prefixes : Prefixes) (text : List ℕ) (old : Ontology) (refusal : Refusal) : Type 0 where
   pub trees : Trees
   pub text_is : AreStatementsOf prefixes text trees
-  pub refused : RefusesStatements refusal One old trees
+  pub refused : RefusesStatements version refusal old trees
 
 -- what the fault says of the text that was to be added. There is none of the source, nor of the number of bytes
-abbrev pub RefusesAddition : Prefixes → List ℕ → Ontology → DocumentFault → Type 0
-RefusesAddition prefixes text old (Lex fault) = SpellNoTokens text fault
-RefusesAddition prefixes text old (Parse fault) = AreNoStatements prefixes text fault
-RefusesAddition prefixes text old (Faults found) = IsNotAdded prefixes text old (refusing.Faults found)
-RefusesAddition prefixes text old TooManyNames = IsNotAdded prefixes text old refusing.TooManyNames
-RefusesAddition prefixes text old Memory = Unit {0}
-RefusesAddition prefixes text old (NotUtf8 at) = ⊥
-RefusesAddition prefixes text old TooLarge = ⊥
-RefusesAddition prefixes text old Io = ⊥
+abbrev pub RefusesAddition : Version → Prefixes → List ℕ → Ontology → DocumentFault → Type 0
+RefusesAddition version prefixes text old (Lex fault) = SpellNoTokens text fault
+RefusesAddition version prefixes text old (Parse fault) = AreNoStatements prefixes text fault
+RefusesAddition version prefixes text old (Faults found) = IsNotAdded version prefixes text old (refusing.Faults found)
+RefusesAddition version prefixes text old TooManyNames = IsNotAdded version prefixes text old refusing.TooManyNames
+RefusesAddition version prefixes text old Memory = Unit {0}
+RefusesAddition version prefixes text old (NotUtf8 at) = ⊥
+RefusesAddition version prefixes text old TooLarge = ⊥
+RefusesAddition version prefixes text old Io = ⊥
 
 -- ---- a class expression
 
@@ -66,10 +66,10 @@ pub record IsExpressionOf (prefixes : Prefixes) (text : List ℕ) (tree : Tree) 
 
 -- the text is a class expression over names of the old ontology, and has this number in the new one, which has it and no new
 -- name or axiom
-pub record IsReadExpression (prefixes : Prefixes) (text : List ℕ) (old new : Ontology) (number : ℕ) : Type 0 where
+pub record IsReadExpression (version : Version) (prefixes : Prefixes) (text : List ℕ) (old new : Ontology) (number : ℕ) : Type 0 where
   pub tree : Tree
   pub text_is : IsExpressionOf prefixes text tree
-  pub added : IsAddedAs One old tree new number
+  pub added : IsAddedAs version old tree new number
 
 -- the tokens of the text are no such tree, and what the fault says of its place in the text holds
 pub record IsNoExpression (prefixes : Prefixes) (text : List ℕ) (fault : ParseFault) : Type 0 where
@@ -80,18 +80,18 @@ pub record IsNoExpression (prefixes : Prefixes) (text : List ℕ) (fault : Parse
   pub said : IsSaidOfTrees 63 (last_place tokens) prefixes tokens fault
 
 -- the text is a tree that is no class expression over names of the old ontology, for what the refusal says
-pub record IsNotRead (prefixes : Prefixes) (text : List ℕ) (old : Ontology) (refusal : Refusal) : Type 0 where
+pub record IsNotRead (version : Version) (prefixes : Prefixes) (text : List ℕ) (old : Ontology) (refusal : Refusal) : Type 0 where
   pub tree : Tree
   pub text_is : IsExpressionOf prefixes text tree
-  pub refused : RefusesExpression refusal One old tree
+  pub refused : RefusesExpression version refusal old tree
 
 -- what the fault says of the text that was to be read. An expression brings no name, so there are not too many
-abbrev pub RefusesReading : Prefixes → List ℕ → Ontology → DocumentFault → Type 0
-RefusesReading prefixes text old (Lex fault) = SpellNoTokens text fault
-RefusesReading prefixes text old (Parse fault) = IsNoExpression prefixes text fault
-RefusesReading prefixes text old (Faults found) = IsNotRead prefixes text old (refusing.Faults found)
-RefusesReading prefixes text old Memory = Unit {0}
-RefusesReading prefixes text old TooManyNames = ⊥
-RefusesReading prefixes text old (NotUtf8 at) = ⊥
-RefusesReading prefixes text old TooLarge = ⊥
-RefusesReading prefixes text old Io = ⊥
+abbrev pub RefusesReading : Version → Prefixes → List ℕ → Ontology → DocumentFault → Type 0
+RefusesReading version prefixes text old (Lex fault) = SpellNoTokens text fault
+RefusesReading version prefixes text old (Parse fault) = IsNoExpression prefixes text fault
+RefusesReading version prefixes text old (Faults found) = IsNotRead version prefixes text old (refusing.Faults found)
+RefusesReading version prefixes text old Memory = Unit {0}
+RefusesReading version prefixes text old TooManyNames = ⊥
+RefusesReading version prefixes text old (NotUtf8 at) = ⊥
+RefusesReading version prefixes text old TooLarge = ⊥
+RefusesReading version prefixes text old Io = ⊥

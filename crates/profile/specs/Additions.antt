@@ -9,7 +9,7 @@ use Rattle.axioms.specs.Growth.{most_names}
 use Rattle.axioms.specs.Ontology as numbered
 use Rattle.axioms.specs.Ontology.{Ontology, trees, axiom_tree, axiom_trees}
 use Rattle.axioms.specs.Numbering.{Statement, first_places, same_expression, class_name, parts, properties_in, logical_axiom, statement_expressions, statement_properties, statement_individuals}
-use Rattle.axioms.specs.View.{expr_numbers, prop_numbers}
+use Rattle.axioms.specs.View.{expr_numbers, ind_numbers, prop_numbers}
 use Rattle.axioms.specs.declared.fault.BuildFault.{BuildFault}
 use Rattle.axioms.specs.declared.fault.BuildFault.TheVariants.{TooManyNames, Memory}
 use Rattle.axioms.specs.declared.ids.ExprId.{ExprId}
@@ -122,6 +122,28 @@ abbrev pub IndividualRead : Result IndId BuildFault → Iri → Ontology → Ont
 IndividualRead (Ok i) a old new = ReadsIndividual a old new i.0
 IndividualRead (Err TooManyNames) a old new = Overflows [] [] (a ∷ []) old
 IndividualRead (Err Memory) a old new = Unit {0}
+
+-- the individuals are added, in their order, and each has the number beside it
+pub record ReadsIndividuals (individuals : List Iri) (old new : Ontology) (numbers : List ℕ) : Type 0 where
+  pub adds : Adds [] [] individuals [] old new
+  pub at : AreNumbers new.names.individuals numbers individuals
+
+abbrev pub IndividualsRead : Result (Vec IndId Global) BuildFault → List Iri → Ontology → Ontology → Type 0
+IndividualsRead (Ok ids) individuals old new = ReadsIndividuals individuals old new (ind_numbers ids.items)
+IndividualsRead (Err TooManyNames) individuals old new = Overflows [] [] individuals old
+IndividualsRead (Err Memory) individuals old new = Unit {0}
+
+-- a property, a source and a target are added, and have these numbers
+pub record ReadsPair (r a b : Iri) (old new : Ontology) (property source target : ℕ) : Type 0 where
+  pub adds : Adds [] (r ∷ []) (a ∷ b ∷ []) [] old new
+  pub property_at : slice_get new.names.properties property ≡ Some r
+  pub source_at : slice_get new.names.individuals source ≡ Some a
+  pub target_at : slice_get new.names.individuals target ≡ Some b
+
+abbrev pub PairRead : Result (PropId × IndId × IndId) BuildFault → Iri → Iri → Iri → Ontology → Ontology → Type 0
+PairRead (Ok ids) r a b old new = ReadsPair r a b old new ids.0.0 ids.1.0 ids.2.0
+PairRead (Err TooManyNames) r a b old new = Overflows [] (r ∷ []) (a ∷ b ∷ []) old
+PairRead (Err Memory) r a b old new = Unit {0}
 
 -- an axiom over what is there
 abbrev pub AxiomRead : Result (Unit {0}) BuildFault → numbered.Axiom → Ontology → Ontology → Type 0

@@ -5,7 +5,7 @@ use Rattle.axioms.specs.WellFormedness.{AreDistinct}
 use Rattle.fs_parser.specs.Tree.{Tree, Trees, Name, Form, Empty, Then}
 use Rattle.shapes.specs.Shapes.{Operands, Each, Many}
 use Rattle.shapes.specs.declared.expected.Expected.{Expected}
-use Rattle.shapes.specs.declared.expected.Expected.TheVariants.{ClassExpression, Property, PropertyOrChain}
+use Rattle.shapes.specs.declared.expected.Expected.TheVariants.{ClassExpression, Individual, Property, PropertyOrChain}
 use Rattle.profile.specs.Statements.{chain_of, classes_of, iris_of}
 
 abbrev pub IsOneOf : Bool → Type 0 → Type 0 → Type 0
@@ -56,6 +56,7 @@ IsOperand _ tree = Unit {0}
 abbrev pub AreManyOperands : Expected → Trees → Type 0
 AreManyOperands ClassExpression trees = AreClassTrees trees × AreManyDistinct trees
 AreManyOperands Property trees = AreManyDistinctNames trees
+AreManyOperands Individual trees = AreManyDistinctNames trees
 AreManyOperands _ trees = Unit {0}
 
 -- the trees are what a row of the table expects of operands that are to be different, or of each in turn

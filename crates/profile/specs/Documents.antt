@@ -9,7 +9,7 @@ use Rattle.fs_parser.specs.Document.{Document, IsDocument, prefixes_of}
 use Rattle.fs_parser.specs.Name.{Prefixes}
 use Rattle.profile.specs.Reading.{AreReadAs, HasFewNames}
 use Rattle.profile.specs.declared.opened.Opened.{Opened}
-use Rattle.shapes.specs.declared.version.Version.TheVariants.{One}
+use Rattle.program.specs.declared.version.Version.{Version}
 
 -- the bytes are the text of the document
 pub record AreTextOf (bytes : List ℕ) (document : Document) : Type 0 where
@@ -18,22 +18,23 @@ pub record AreTextOf (bytes : List ℕ) (document : Document) : Type 0 where
   pub spelled : Spells bytes tokens
   pub written : IsDocument document tokens
 
--- the bytes are the text of a document without faults, and the ontology is the well-formed one of its statements
-pub record ReadsAs (bytes : List ℕ) (o : Ontology) : Type 0 where
+-- the bytes are the text of a document without faults in this version, and the ontology is the well-formed one of its statements
+pub record ReadsAs (version : Version) (bytes : List ℕ) (o : Ontology) : Type 0 where
   pub document : Document
   pub text : AreTextOf bytes document
-  pub read : AreReadAs One document.trees o
+  pub read : AreReadAs version document.trees o
   pub well_formed : IsOntology o
 
 -- the bytes read as the ontology, and these are the prefixes with which the names of their document are expanded
-pub record ReadsWith (bytes : List ℕ) (o : Ontology) (prefixes : Prefixes) : Type 0 where
-  pub reads : ReadsAs bytes o
+pub record ReadsWith (version : Version) (bytes : List ℕ) (o : Ontology) (prefixes : Prefixes) : Type 0 where
+  pub reads : ReadsAs version bytes o
   pub prefixes_are : prefixes ≡ prefixes_of reads.document
 
--- what was opened is what the bytes read as, with the prefixes of their document, and how many they are
-pub record OpensAs (bytes : List ℕ) (opened : Opened) : Type 0 where
-  pub reads : ReadsWith bytes opened.ontology opened.prefixes
+-- what was opened is what the bytes read as, with the prefixes of their document, how many they are, and the version
+pub record OpensAs (version : Version) (bytes : List ℕ) (opened : Opened) : Type 0 where
+  pub reads : ReadsWith version bytes opened.ontology opened.prefixes
   pub number : opened.bytes ≡ length bytes
+  pub read_in : opened.version ≡ version
 
 -- what holds of every ontology that is read, also of a source that does not tell its bytes: it is well formed, and that of
 -- some statements, with as many names as there may be

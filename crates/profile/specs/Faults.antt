@@ -17,7 +17,7 @@ use Rattle.profile.specs.declared.acceptance.Refusal.TheVariants as refusing
 use Rattle.shapes.specs.Faults.{document_faults}
 use Rattle.shapes.specs.View.{faults_of}
 use Rattle.shapes.specs.declared.fault.Fault.{Fault}
-use Rattle.shapes.specs.declared.version.Version.TheVariants.{One}
+use Rattle.program.specs.declared.version.Version.{Version}
 use Rattle.profile.specs.Statements.{statements}
 use Rattle.profile.specs.declared.fault.DocumentFault.{DocumentFault}
 use Rattle.profile.specs.declared.fault.DocumentFault.TheVariants.{NotUtf8, TooLarge, Io, Lex, Parse, Faults, TooManyNames, Memory}
@@ -38,9 +38,9 @@ of_refusal (refusing.Faults found) = Faults found
 of_refusal refusing.TooManyNames = TooManyNames
 of_refusal refusing.Memory = Memory
 
--- the bytes read as no ontology
-abbrev pub ReadAsNone : List ℕ → Type 0
-ReadAsNone bytes = (o : Ontology) → ReadsAs bytes o → ⊥
+-- the bytes read as no ontology in this version
+abbrev pub ReadAsNone : Version → List ℕ → Type 0
+ReadAsNone version bytes = (o : Ontology) → ReadsAs version bytes o → ⊥
 
 -- the bytes are a text that spells no tokens, and what the fault says of its place holds
 pub record SpellNoTokens (bytes : List ℕ) (fault : LexFault) : Type 0 where
@@ -59,42 +59,42 @@ pub record AreNoDocument (bytes : List ℕ) (fault : ParseFault) : Type 0 where
   pub placed : parser.IsPlaced tokens fault
 
 -- the bytes are the text of a document, and these are all its faults, in the order of the text
-pub record HaveFaults (bytes : List ℕ) (found : List Fault) : Type 0 where
+pub record HaveFaults (version : Version) (bytes : List ℕ) (found : List Fault) : Type 0 where
   pub document : Document
   pub text : AreTextOf bytes document
-  pub all : document_faults One document.trees ≡ faults_of found
+  pub all : document_faults version document.trees ≡ faults_of found
   pub some : ¬ (found ≡ [])
 
 -- the bytes are the text of a document without faults, whose statements have of a kind more names than there may be
-pub record StateTooManyNames (bytes : List ℕ) : Type 0 where
+pub record StateTooManyNames (version : Version) (bytes : List ℕ) : Type 0 where
   pub document : Document
   pub text : AreTextOf bytes document
-  pub faultless : document_faults One document.trees ≡ []
-  pub many : HaveTooManyNames (statements One document.trees)
+  pub faultless : document_faults version document.trees ≡ []
+  pub many : HaveTooManyNames (statements version document.trees)
 
 -- what the fault says of the bytes
-abbrev pub Refuses : DocumentFault → List ℕ → Type 0
-Refuses (NotUtf8 at) bytes = ¬ IsUtf8 bytes × IsValidUpTo bytes at
-Refuses (Lex fault) bytes = SpellNoTokens bytes fault
-Refuses (Parse fault) bytes = AreNoDocument bytes fault
-Refuses (Faults found) bytes = HaveFaults bytes found.items
-Refuses TooManyNames bytes = StateTooManyNames bytes
-Refuses Memory bytes = Unit {0}
-Refuses TooLarge bytes = ⊥
-Refuses Io bytes = ⊥
+abbrev pub Refuses : Version → DocumentFault → List ℕ → Type 0
+Refuses version (NotUtf8 at) bytes = ¬ IsUtf8 bytes × IsValidUpTo bytes at
+Refuses version (Lex fault) bytes = SpellNoTokens bytes fault
+Refuses version (Parse fault) bytes = AreNoDocument bytes fault
+Refuses version (Faults found) bytes = HaveFaults version bytes found.items
+Refuses version TooManyNames bytes = StateTooManyNames version bytes
+Refuses version Memory bytes = Unit {0}
+Refuses version TooLarge bytes = ⊥
+Refuses version Io bytes = ⊥
 
 -- what an answer says of the bytes of a source that tells them, where at most so many are allowed
-abbrev pub ReadsKnown : Option (List ℕ) → ℕ → Ontology → Type 0
-ReadsKnown None most o = Unit {0}
-ReadsKnown (Some bytes) most o = ReadsAs bytes o × (length bytes ≤ most)
+abbrev pub ReadsKnown : Version → Option (List ℕ) → ℕ → Ontology → Type 0
+ReadsKnown version None most o = Unit {0}
+ReadsKnown version (Some bytes) most o = ReadsAs version bytes o × (length bytes ≤ most)
 
-abbrev pub OpensKnown : Option (List ℕ) → ℕ → Opened → Type 0
-OpensKnown None most opened = Unit {0}
-OpensKnown (Some bytes) most opened = OpensAs bytes opened × (length bytes ≤ most)
+abbrev pub OpensKnown : Version → Option (List ℕ) → ℕ → Opened → Type 0
+OpensKnown version None most opened = Unit {0}
+OpensKnown version (Some bytes) most opened = OpensAs version bytes opened × (length bytes ≤ most)
 
-abbrev pub RefusesKnown : Option (List ℕ) → ℕ → DocumentFault → Type 0
-RefusesKnown None most e = Unit {0}
-RefusesKnown (Some bytes) most TooLarge = most < length bytes
-RefusesKnown (Some bytes) most Io = Unit {0}
-RefusesKnown (Some bytes) most Memory = Unit {0}
-RefusesKnown (Some bytes) most e = Refuses e bytes × (length bytes ≤ most)
+abbrev pub RefusesKnown : Version → Option (List ℕ) → ℕ → DocumentFault → Type 0
+RefusesKnown version None most e = Unit {0}
+RefusesKnown version (Some bytes) most TooLarge = most < length bytes
+RefusesKnown version (Some bytes) most Io = Unit {0}
+RefusesKnown version (Some bytes) most Memory = Unit {0}
+RefusesKnown version (Some bytes) most e = Refuses version e bytes × (length bytes ≤ most)

@@ -3,7 +3,7 @@ use Rattle.std.specs.Prelude.{List}
 use Rattle.axioms.specs.Ontology.{Ontology}
 use Rattle.fs_parser.specs.Tree.{Tree}
 use Rattle.fs_parser.specs.View.{trees_from}
-use Rattle.shapes.specs.declared.version.Version.{Version}
+use Rattle.program.specs.declared.version.Version.{Version}
 use Rattle.profile.specs.Growth.{AreAddedAs, RefusesStatements}
 use Rattle.profile.specs.Reading.{AreReadAs, Refuses}
 use Rattle.profile.specs.Intake.{AreTaken, Taken, of_document, of_growth}
@@ -15,7 +15,7 @@ IsRead t o = (version : Version) (trees : List Tree) → AreTaken (of_document v
 
 -- the refusal tells why the trees state none
 abbrev pub IsRefused : Taken → Refusal → Type 0
-IsRefused t r = (version : Version) (trees : List Tree) → AreTaken (of_document version) trees t → Refuses r version (trees_from trees)
+IsRefused t r = (version : Version) (trees : List Tree) → AreTaken (of_document version) trees t → Refuses version r (trees_from trees)
 
 -- the ontology is the old one with what the trees bring
 abbrev pub IsGrown : Taken → Ontology → Type 0
@@ -23,4 +23,4 @@ IsGrown t o = (version : Version) (old : Ontology) (trees : List Tree) → AreTa
 
 -- the refusal tells why they cannot be added to it
 abbrev pub IsNotGrown : Taken → Refusal → Type 0
-IsNotGrown t r = (version : Version) (old : Ontology) (trees : List Tree) → AreTaken (of_growth version old) trees t → RefusesStatements r version old (trees_from trees)
+IsNotGrown t r = (version : Version) (old : Ontology) (trees : List Tree) → AreTaken (of_growth version old) trees t → RefusesStatements version r old (trees_from trees)

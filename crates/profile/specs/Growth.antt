@@ -5,7 +5,7 @@ use Rattle.axioms.specs.Numbering.{Statement, IsOntologyOf, parts, properties_in
 use Rattle.fs_parser.specs.Tree.{Tree, Trees}
 use Rattle.shapes.specs.Faults.{axiom_faults, expression_faults}
 use Rattle.shapes.specs.View.{faults_of}
-use Rattle.shapes.specs.declared.version.Version.{Version}
+use Rattle.program.specs.declared.version.Version.{Version}
 use Rattle.profile.specs.Additions.{Adds, HasFewNames, AddsStatements, KeepsNumbers, StatementsOverflow}
 use Rattle.profile.specs.Statements.{class_of, statements}
 use Rattle.profile.specs.declared.acceptance.Refusal.{Refusal}
@@ -22,10 +22,10 @@ pub record AreAddedAs (version : Version) (old : Ontology) (trees : Trees) (new 
   pub ontology : (ss : List Statement) → IsOntologyOf ss old → IsOntologyOf (ss ++ statements version trees) new
 
 -- what a refusal says: these are all their faults, in the order of the text; or they have none, and with them too many names
-abbrev pub RefusesStatements : Refusal → Version → Ontology → Trees → Type 0
-RefusesStatements (Faults found) version old trees = (axiom_faults version trees ≡ faults_of found.items) × ¬ (found.items ≡ [])
-RefusesStatements TooManyNames version old trees = (axiom_faults version trees ≡ []) × StatementsOverflow (statements version trees) old
-RefusesStatements Memory version old trees = Unit {0}
+abbrev pub RefusesStatements : Version → Refusal → Ontology → Trees → Type 0
+RefusesStatements version (Faults found) old trees = (axiom_faults version trees ≡ faults_of found.items) × ¬ (found.items ≡ [])
+RefusesStatements version TooManyNames old trees = (axiom_faults version trees ≡ []) × StatementsOverflow (statements version trees) old
+RefusesStatements version Memory old trees = Unit {0}
 
 -- the tree is a class expression without faults, over names that the old ontology has, and has this number in the new one,
 -- which is the old one with its parts, each at its first place, and with no new name or axiom
@@ -37,7 +37,7 @@ pub record IsAddedAs (version : Version) (old : Ontology) (tree : Tree) (new : O
   pub axioms : axiom_trees new ≡ axiom_trees old
 
 -- what a refusal says: these are all the tree's faults, in the order of the text
-abbrev pub RefusesExpression : Refusal → Version → Ontology → Tree → Type 0
-RefusesExpression (Faults found) version old tree = (expression_faults version old.names tree ≡ faults_of found.items) × ¬ (found.items ≡ [])
-RefusesExpression TooManyNames version old tree = ⊥
-RefusesExpression Memory version old tree = Unit {0}
+abbrev pub RefusesExpression : Version → Refusal → Ontology → Tree → Type 0
+RefusesExpression version (Faults found) old tree = (expression_faults version old.names tree ≡ faults_of found.items) × ¬ (found.items ≡ [])
+RefusesExpression version TooManyNames old tree = ⊥
+RefusesExpression version Memory old tree = Unit {0}

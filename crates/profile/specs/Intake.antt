@@ -9,7 +9,7 @@ use Rattle.shapes.specs.Faults.{Fault}
 use Rattle.shapes.specs.Places.{faults_from}
 use Rattle.shapes.specs.declared.place.Place.{Place}
 use Rattle.shapes.specs.declared.place.Place.TheVariants.{Front, Axioms}
-use Rattle.shapes.specs.declared.version.Version.{Version}
+use Rattle.program.specs.declared.version.Version.{Version}
 use Rattle.profile.specs.Additions.{AddsStatements, StatementsOverflow}
 use Rattle.profile.specs.Statements.{statements}
 

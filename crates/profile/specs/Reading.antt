@@ -9,7 +9,7 @@ use Rattle.axioms.specs.Numbering.{Statement, IsOntologyOf, first_places, same_e
 use Rattle.fs_parser.specs.Tree.{Trees}
 use Rattle.shapes.specs.Faults.{document_faults}
 use Rattle.shapes.specs.View.{faults_of}
-use Rattle.shapes.specs.declared.version.Version.{Version}
+use Rattle.program.specs.declared.version.Version.{Version}
 pub use Rattle.profile.specs.Additions.{HasFewNames}
 use Rattle.profile.specs.Additions.{AreTooMany}
 use Rattle.profile.specs.Statements.{statements}
@@ -37,7 +37,7 @@ pub record AreReadAs (version : Version) (trees : Trees) (o : Ontology) : Type 0
   pub few_names : HasFewNames o
 
 -- what a refusal says of the trees: these are all their faults, in the order of the text; or they have none, and too many names
-abbrev pub Refuses : Refusal → Version → Trees → Type 0
-Refuses (Faults found) version trees = (document_faults version trees ≡ faults_of found.items) × ¬ (found.items ≡ [])
-Refuses TooManyNames version trees = (document_faults version trees ≡ []) × HaveTooManyNames (statements version trees)
-Refuses Memory version trees = Unit {0}
+abbrev pub Refuses : Version → Refusal → Trees → Type 0
+Refuses version (Faults found) trees = (document_faults version trees ≡ faults_of found.items) × ¬ (found.items ≡ [])
+Refuses version TooManyNames trees = (document_faults version trees ≡ []) × HaveTooManyNames (statements version trees)
+Refuses version Memory trees = Unit {0}

@@ -7,7 +7,7 @@ use Rattle.fs_parser.specs.Tree.{Tree, Trees, Empty, Then}
 use Rattle.fs_parser.specs.View.{tree_of}
 use Rattle.fs_parser.specs.declared.tree.Tree as code
 use Rattle.shapes.specs.TreeStatements.{meaning, statement_in}
-use Rattle.shapes.specs.declared.version.Version.{Version}
+use Rattle.program.specs.declared.version.Version.{Version}
 pub use Rattle.shapes.specs.Meanings.{operand, iri_of, iris_of, some_values, class_of, classes_of, chain_of}
 
 -- the statement of a tree, if it makes one

@@ -44,7 +44,7 @@ pub fn accept(
     state: RandomState,
 ) -> Result<Ontology, Refusal>
     ensures read { IfOk result (AreReadAs version (trees_of document.now.trees.items)) }
-    ensures refused { IfErr result (λ r. Refuses r version (trees_of document.now.trees.items)) }
+    ensures refused { IfErr result (λ r. Refuses version r (trees_of document.now.trees.items)) }
 {
     let mut reader = match OntologyReader::start(alloc, version, state) {
         Ok(reader) => reader,

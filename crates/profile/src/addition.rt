@@ -10,7 +10,7 @@ use crate::growth::{accept_expression, accept_statements};
 use axioms::{ExprId, Ontology};
 use fs_lexer::tokens;
 use fs_parser::{Prefixes, Tree, expression, statements};
-use shapes::Version;
+use program::Version;
 use std::alloc::Global;
 use std::hash::RandomState;
 
@@ -21,7 +21,7 @@ fn listed_statements<'a>(
     text: &'a str,
 ) -> Result<Vec<Tree<'a>>, DocumentFault>
     ensures found { IfOk result (λ v. AreStatementsOf prefixes.now text.now (trees_of v.items)) }
-    ensures refused { IfErr result (λ e. (old : numbered.Ontology) → RefusesAddition prefixes.now text.now old e) }
+    ensures refused { IfErr result (λ e. (version : Version) (old : numbered.Ontology) → RefusesAddition version prefixes.now text.now old e) }
 {
     let tokens = match tokens(alloc, text) {
         Ok(tokens) => tokens,
@@ -34,7 +34,7 @@ fn listed_statements<'a>(
 }
 
 /// A copy of the ontology, grown by what the text states: axioms and declarations that stand alone, without an `Ontology( .. )`
-/// around them, whose names are expanded with these prefixes. A text of none is one, too.
+/// around them, in this version of the profile, whose names are expanded with these prefixes. A text of none is one, too.
 ///
 /// # Errors
 ///
@@ -45,19 +45,20 @@ pub fn read_addition(
     alloc: Global,
     ontology: &Ontology,
     prefixes: &Prefixes,
+    version: Version,
     text: &str,
     state: RandomState,
 ) -> Result<Ontology, DocumentFault>
     requires { IsTaken ontology.now }
-    ensures added { IfOk result (IsAddedText prefixes.now text.now ontology.now) }
+    ensures added { IfOk result (IsAddedText version prefixes.now text.now ontology.now) }
     ensures taken { IfOk result IsTaken }
-    ensures refused { IfErr result (RefusesAddition prefixes.now text.now ontology.now) }
+    ensures refused { IfErr result (RefusesAddition version prefixes.now text.now ontology.now) }
 {
     let trees = match listed_statements(alloc, prefixes, text) {
         Ok(trees) => trees,
         Err(fault) => return Err(fault),
     };
-    match accept_statements(alloc, ontology, &trees, Version::One, state) {
+    match accept_statements(alloc, ontology, &trees, version, state) {
         Ok(grown) => {
             grown.well_formed();
             Ok(grown)
@@ -73,7 +74,7 @@ fn listed_expression<'a>(
     text: &'a str,
 ) -> Result<Tree<'a>, DocumentFault>
     ensures found { IfOk result (λ t. IsExpressionOf prefixes.now text.now (tree_of t)) }
-    ensures refused { IfErr result (λ e. (old : numbered.Ontology) → RefusesReading prefixes.now text.now old e) }
+    ensures refused { IfErr result (λ e. (version : Version) (old : numbered.Ontology) → RefusesReading version prefixes.now text.now old e) }
 {
     let tokens = match tokens(alloc, text) {
         Ok(tokens) => tokens,
@@ -85,8 +86,8 @@ fn listed_expression<'a>(
     }
 }
 
-/// A copy of the ontology with the class expression that the text is, whose names are expanded with these prefixes, and the
-/// expression's number there. It has no new name and no new axiom.
+/// A copy of the ontology with the class expression that the text is in this version of the profile, whose names are expanded with
+/// these prefixes, and the expression's number there. It has no new name and no new axiom.
 ///
 /// # Errors
 ///
@@ -97,17 +98,18 @@ pub fn read_expression(
     alloc: Global,
     ontology: &Ontology,
     prefixes: &Prefixes,
+    version: Version,
     text: &str,
     state: RandomState,
 ) -> Result<(Ontology, ExprId), DocumentFault>
-    ensures read { IfOk result (λ r. IsReadExpression prefixes.now text.now ontology.now r.0 r.1.0) }
-    ensures refused { IfErr result (RefusesReading prefixes.now text.now ontology.now) }
+    ensures read { IfOk result (λ r. IsReadExpression version prefixes.now text.now ontology.now r.0 r.1.0) }
+    ensures refused { IfErr result (RefusesReading version prefixes.now text.now ontology.now) }
 {
     let tree = match listed_expression(alloc, prefixes, text) {
         Ok(tree) => tree,
         Err(fault) => return Err(fault),
     };
-    match accept_expression(alloc, ontology, &tree, Version::One, state) {
+    match accept_expression(alloc, ontology, &tree, version, state) {
         Ok(read) => Ok(read),
         Err(refusal) => Err(DocumentFault::from(refusal)),
     }

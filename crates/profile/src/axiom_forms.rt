@@ -1,5 +1,5 @@
 //! Axioms, each behind what it is about.
-ghost use Rattle.axioms.specs.Axiom.{SubClassOf, EquivalentClasses, DisjointClasses, PropertyDomain, TransitiveProperty, ReflexiveProperty, ClassAssertion, PropertyAssertion, EquivalentProperties, SubPropertyOf};
+ghost use Rattle.axioms.specs.Axiom.{SubClassOf, EquivalentClasses, DisjointClasses, PropertyDomain, TransitiveProperty, ReflexiveProperty, ClassAssertion, PropertyAssertion, EquivalentProperties, SubPropertyOf, SameIndividuals, DifferentIndividuals, NegativePropertyAssertion};
 ghost use Rattle.axioms.specs.Numbering.{States};
 ghost use Rattle.axioms.specs.View.{axiom_of};
 ghost use Rattle.axioms.specs.WellFormedness.{IsAxiomOf};
@@ -9,6 +9,7 @@ ghost use Rattle.profile.specs.ClassTrees.{AreClassTrees, AreManyDistinct, AreMa
 ghost use Rattle.profile.specs.Statements.{chain_of, class_in, classes_of, iri_in, iris_of};
 
 use crate::expressions::{class_expression, class_expressions};
+use crate::individuals::{individuals, pair};
 use crate::name_builder::NameBuilder;
 use crate::operands::{individual, property};
 use crate::properties::{chain, properties};
@@ -164,16 +165,8 @@ pub(crate) fn property_assertion(
 ) -> Result<(), BuildFault>
     ensures { StatementRead result (States (PropertyAssertion (iri_in first.now) (iri_in second.now) (iri_in third.now))) builder.old builder.new }
 {
-    let property = match property(builder, first) {
-        Ok(property) => property,
-        Err(fault) => return Err(fault),
-    };
-    let source = match individual(builder, second) {
-        Ok(source) => source,
-        Err(fault) => return Err(fault),
-    };
-    let target = match individual(builder, third) {
-        Ok(target) => target,
+    let (property, source, target) = match pair(builder, first, second, third) {
+        Ok(pair) => pair,
         Err(fault) => return Err(fault),
     };
     state(builder, Axiom::PropertyAssertion(property, source, target))
@@ -214,4 +207,55 @@ pub(crate) fn sub_property(
         Err(fault) => return Err(fault),
     };
     state(builder, Axiom::SubProperty(steps, whole))
+}
+
+/// An axiom that the individuals are one.
+pub(crate) fn same_individuals(
+    alloc: Global,
+    builder: &mut NameBuilder,
+    trees: &[Tree<'_>],
+) -> Result<(), BuildFault>
+    requires { AreManyDistinctNames (trees_of trees.now) }
+    ensures { StatementRead result (States (SameIndividuals (iris_of (trees_of trees.now)))) builder.old builder.new }
+{
+    let operands = match individuals(alloc, builder, trees) {
+        Ok(operands) => operands,
+        Err(fault) => return Err(fault),
+    };
+    state(builder, Axiom::SameIndividuals(operands))
+}
+
+/// An axiom that no two of the individuals are one.
+pub(crate) fn different_individuals(
+    alloc: Global,
+    builder: &mut NameBuilder,
+    trees: &[Tree<'_>],
+) -> Result<(), BuildFault>
+    requires { AreManyDistinctNames (trees_of trees.now) }
+    ensures { StatementRead result (States (DifferentIndividuals (iris_of (trees_of trees.now)))) builder.old builder.new }
+{
+    let operands = match individuals(alloc, builder, trees) {
+        Ok(operands) => operands,
+        Err(fault) => return Err(fault),
+    };
+    state(builder, Axiom::DifferentIndividuals(operands))
+}
+
+/// An axiom that the property does not hold from the source to the target.
+pub(crate) fn negative_property_assertion(
+    builder: &mut NameBuilder,
+    first: &Tree<'_>,
+    second: &Tree<'_>,
+    third: &Tree<'_>,
+) -> Result<(), BuildFault>
+    ensures { StatementRead result (States (NegativePropertyAssertion (iri_in first.now) (iri_in second.now) (iri_in third.now))) builder.old builder.new }
+{
+    let (property, source, target) = match pair(builder, first, second, third) {
+        Ok(pair) => pair,
+        Err(fault) => return Err(fault),
+    };
+    state(
+        builder,
+        Axiom::NegativePropertyAssertion(property, source, target),
+    )
 }

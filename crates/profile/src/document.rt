@@ -14,8 +14,7 @@ use axioms::Ontology;
 use device::{ReadFault, Source, read_all};
 use fs_lexer::tokens;
 use fs_parser::{Document, Prefixes, forms, tokens_are_one_document};
-use program::Limits;
-use shapes::Version;
+use program::{Limits, Version};
 use std::alloc::Global;
 use std::hash::RandomState;
 use std::str;
@@ -23,7 +22,7 @@ use std::str;
 /// The document that a text is, by the list of its tokens, which are gone when its trees are there.
 fn listed_document<'a>(alloc: Global, text: &'a str) -> Result<Document<'a>, DocumentFault>
     ensures written { IfOk result (λ d. AreTextOf text.now (document_of d)) }
-    ensures refused { IfErr result (λ e. Refuses e text.now) }
+    ensures refused { IfErr result (λ e. (version : Version) → Refuses version e text.now) }
 {
     let tokens = match tokens(alloc, text) {
         Ok(tokens) => tokens,
@@ -36,10 +35,15 @@ fn listed_document<'a>(alloc: Global, text: &'a str) -> Result<Document<'a>, Doc
 }
 
 /// What a text reads as, by the document with all its trees.
-fn listed_text(alloc: Global, text: &str, state: RandomState) -> Result<Opened, DocumentFault>
-    ensures read { IfOk result (OpensAs text.now) }
+fn listed_text(
+    alloc: Global,
+    text: &str,
+    version: Version,
+    state: RandomState,
+) -> Result<Opened, DocumentFault>
+    ensures read { IfOk result (OpensAs version text.now) }
     ensures taken { IfOk result (λ d. IsTaken d.ontology) }
-    ensures refused { IfErr result (λ e. Refuses e text.now) }
+    ensures refused { IfErr result (λ e. Refuses version e text.now) }
 {
     let document = match listed_document(alloc, text) {
         Ok(document) => document,
@@ -50,12 +54,13 @@ fn listed_text(alloc: Global, text: &str, state: RandomState) -> Result<Opened, 
         Ok(prefixes) => prefixes,
         Err(_) => return Err(DocumentFault::Memory),
     };
-    match accept(alloc, &document, Version::One, state) {
+    match accept(alloc, &document, version, state) {
         Ok(ontology) => {
             ontology.well_formed();
             Ok(Opened {
                 ontology,
                 prefixes,
+                version,
                 bytes: text.len(),
             })
         }
@@ -65,33 +70,43 @@ fn listed_text(alloc: Global, text: &str, state: RandomState) -> Result<Opened, 
 
 /// What a text reads as. Its trees are read one by one; the lists of all tokens and of all trees are made only where it is no
 /// document, for the fault.
-fn read_text(alloc: Global, text: &str, state: RandomState) -> Result<Opened, DocumentFault>
-    ensures read { IfOk result (OpensAs text.now) }
+fn read_text(
+    alloc: Global,
+    text: &str,
+    version: Version,
+    state: RandomState,
+) -> Result<Opened, DocumentFault>
+    ensures read { IfOk result (OpensAs version text.now) }
     ensures taken { IfOk result (λ d. IsTaken d.ontology) }
-    ensures refused { IfErr result (λ e. Refuses e text.now) }
+    ensures refused { IfErr result (λ e. Refuses version e text.now) }
 {
-    match streamed(alloc, text, state) {
+    match streamed(alloc, text, version, state) {
         Some(answer) => answer,
-        None => listed_text(alloc, text, state),
+        None => listed_text(alloc, text, version, state),
     }
 }
 
 /// What the bytes of a document read as.
-fn opened_bytes(alloc: Global, bytes: &[u8], state: RandomState) -> Result<Opened, DocumentFault>
-    ensures read { IfOk result (OpensAs bytes.now) }
+fn opened_bytes(
+    alloc: Global,
+    bytes: &[u8],
+    version: Version,
+    state: RandomState,
+) -> Result<Opened, DocumentFault>
+    ensures read { IfOk result (OpensAs version bytes.now) }
     ensures taken { IfOk result (λ d. IsTaken d.ontology) }
     ensures axioms { IfOk result (λ d. length d.ontology.axioms ≤ d.bytes) }
-    ensures refused { IfErr result (λ e. Refuses e bytes.now) }
+    ensures refused { IfErr result (λ e. Refuses version e bytes.now) }
 {
     match str::from_utf8(bytes) {
-        Ok(text) => read_text(alloc, text, state),
+        Ok(text) => read_text(alloc, text, version, state),
         Err(error) => Err(DocumentFault::NotUtf8 {
             at: error.valid_up_to(),
         }),
     }
 }
 
-/// The ontology that the bytes of a document read as.
+/// The ontology that the bytes of a document read as in this version of the profile.
 ///
 /// # Errors
 ///
@@ -101,20 +116,22 @@ fn opened_bytes(alloc: Global, bytes: &[u8], state: RandomState) -> Result<Opene
 pub fn read_bytes(
     alloc: Global,
     bytes: &[u8],
+    version: Version,
     state: RandomState,
 ) -> Result<Ontology, DocumentFault>
-    ensures read { IfOk result (ReadsAs bytes.now) }
+    ensures read { IfOk result (ReadsAs version bytes.now) }
     ensures taken { IfOk result IsTaken }
     ensures axioms { IfOk result (λ o. length o.axioms ≤ length bytes.now) }
-    ensures refused { IfErr result (λ e. Refuses e bytes.now) }
+    ensures refused { IfErr result (λ e. Refuses version e bytes.now) }
 {
-    match opened_bytes(alloc, bytes, state) {
+    match opened_bytes(alloc, bytes, version, state) {
         Ok(opened) => Ok(opened.ontology),
         Err(fault) => Err(fault),
     }
 }
 
-/// The document that the source gives, within the limit of bytes: its ontology, its prefixes, and how many bytes it has.
+/// The document that the source gives, within the limit of bytes and in the version of the limits: its ontology, its prefixes,
+/// and how many bytes it has.
 ///
 /// What was read of the source by then is lost where the answer is a fault.
 ///
@@ -129,11 +146,12 @@ pub fn read_opened<S: Source>(
 ) -> Result<Opened, DocumentFault>
     // The source's bytes read as this ontology, with these prefixes, and are so many; or they are refused, or too many, or the
     // source failed in this call.
-    ensures read { IfOk result (OpensKnown (S.left source.old) limits.now.max_bytes) }
+    ensures read { IfOk result (OpensKnown limits.now.version (S.left source.old) limits.now.max_bytes) }
     ensures taken { IfOk result (λ d. IsTaken d.ontology) }
     ensures axioms { IfOk result (λ d. length d.ontology.axioms ≤ d.bytes) }
-    ensures refused { IfErr result (RefusesKnown (S.left source.old) limits.now.max_bytes) }
-    // Of a source that does not tell its bytes, too: how many it gave, and that it gave more than the limit.
+    ensures refused { IfErr result (RefusesKnown limits.now.version (S.left source.old) limits.now.max_bytes) }
+    // Of a source that does not tell its bytes, too: the version, how many it gave, and that it gave more than the limit.
+    ensures version { IfOk result (λ d. d.version ≡ limits.now.version) }
     ensures within { IfOk result (λ d. d.bytes ≤ limits.now.max_bytes) }
     ensures bytes { IfOk result (λ d. S.most source.new + d.bytes ≡ S.most source.old) }
     ensures beyond { IsErrOf result DocumentFault.TooLarge → S.most source.new + limits.now.max_bytes < S.most source.old }
@@ -145,14 +163,14 @@ pub fn read_opened<S: Source>(
 {
     let most = limits.max_bytes as usize;
     match read_all(alloc, source, most) {
-        Ok(bytes) => opened_bytes(alloc, &bytes, state),
+        Ok(bytes) => opened_bytes(alloc, &bytes, limits.version, state),
         Err(ReadFault::TooLarge) => Err(DocumentFault::TooLarge),
         Err(ReadFault::Failed) => Err(DocumentFault::Io),
         Err(ReadFault::Memory) => Err(DocumentFault::Memory),
     }
 }
 
-/// The ontology of the document that the source gives, within the limit of bytes.
+/// The ontology of the document that the source gives, within the limit of bytes and in the version of the limits.
 ///
 /// What was read of the source by then is lost where the answer is a fault.
 ///
@@ -166,10 +184,10 @@ pub fn read_document<S: Source>(
     state: RandomState,
 ) -> Result<Ontology, DocumentFault>
     // The source's bytes read as this ontology; or they are refused, or too many, or the source failed in this call.
-    ensures read { IfOk result (ReadsKnown (S.left source.old) limits.now.max_bytes) }
+    ensures read { IfOk result (ReadsKnown limits.now.version (S.left source.old) limits.now.max_bytes) }
     ensures taken { IfOk result IsTaken }
     ensures axioms { IfOk result (λ o. length o.axioms ≤ limits.now.max_bytes) }
-    ensures refused { IfErr result (RefusesKnown (S.left source.old) limits.now.max_bytes) }
+    ensures refused { IfErr result (RefusesKnown limits.now.version (S.left source.old) limits.now.max_bytes) }
     // Of a source that does not tell its bytes, too: it gave more than the limit.
     ensures beyond { IsErrOf result DocumentFault.TooLarge → S.most source.new + limits.now.max_bytes < S.most source.old }
     // What was read of the source, and whether a read failed.

@@ -27,7 +27,7 @@ pub fn accept_statements(
     state: RandomState,
 ) -> Result<Ontology, Refusal>
     ensures added { IfOk result (AreAddedAs version ontology.now (trees_of trees.now)) }
-    ensures refused { IfErr result (λ r. RefusesStatements r version ontology.now (trees_of trees.now)) }
+    ensures refused { IfErr result (λ r. RefusesStatements version r ontology.now (trees_of trees.now)) }
 {
     let copy = match ontology.copy() {
         Ok(copy) => copy,
@@ -58,7 +58,7 @@ pub fn accept_expression(
     state: RandomState,
 ) -> Result<(Ontology, ExprId), Refusal>
     ensures added { IfOk result (λ r. IsAddedAs version ontology.now (tree_of tree.now) r.0 r.1.0) }
-    ensures refused { IfErr result (λ r. RefusesExpression r version ontology.now (tree_of tree.now)) }
+    ensures refused { IfErr result (λ r. RefusesExpression version r ontology.now (tree_of tree.now)) }
 {
     let found = match expression_faults(alloc, ontology, tree, version, state) {
         Ok(found) => found,

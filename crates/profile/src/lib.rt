@@ -2,7 +2,7 @@
 //! grows by more trees.
 #![tactic(auto)]
 
-ghost use Rattle.profile.specs.DocumentTheorems.{AxiomsTakeBytes, BytesHaveOneFaultList, BytesReadAsOneOntology, RefusedBytesReadAsNone, RefusedSourcesReadAsNone};
+ghost use Rattle.profile.specs.DocumentTheorems.{AxiomsTakeBytes, BytesHaveOneFaultList, BytesReadAsOneOntology, FirstVersionIsInSecond, RefusedBytesReadAsNone, RefusedSourcesReadAsNone};
 ghost use Rattle.profile.specs.Theorems.{AdditionsChangeNoNumber, FirstPlacesJoin, OneMoreStatement};
 
 mod acceptance;
@@ -13,6 +13,7 @@ mod document;
 mod expressions;
 mod fault;
 mod growth;
+mod individuals;
 mod name_builder;
 mod names;
 mod ontology_reader;
@@ -29,8 +30,8 @@ pub use fault::DocumentFault;
 pub use growth::{accept_expression, accept_statements};
 pub use ontology_reader::OntologyReader;
 pub use opened::Opened;
-pub use program::{Limits, MOST_BYTES, MOST_FACTS, Status};
-pub use shapes::{Fault, Version};
+pub use program::{Limits, MOST_BYTES, MOST_FACTS, Status, Version};
+pub use shapes::Fault;
 
 /// How an ontology grows: to add what a statement brings, each at its first place, is to read one statement more, and what
 /// is added at the end changes no number.
@@ -40,7 +41,7 @@ pub fn statements_one_by_one()
     ensures numbers { AdditionsChangeNoNumber }
 {}
 
-/// Bytes read as at most one ontology, and have at most one list of faults.
+/// Bytes read as at most one ontology in a version, and have at most one list of faults.
 pub fn one_ontology_is_read()
     ensures ontology { BytesReadAsOneOntology }
     ensures faults { BytesHaveOneFaultList }
@@ -55,4 +56,9 @@ pub fn refused_bytes_read_as_none()
 /// A document has at least as many bytes as its ontology has axioms.
 pub fn axioms_take_bytes()
     ensures { AxiomsTakeBytes }
+{}
+
+/// What bytes read as in the first version of the profile they read as in the second, too.
+pub fn first_version_is_in_second()
+    ensures { FirstVersionIsInSecond }
 {}

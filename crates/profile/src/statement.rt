@@ -6,9 +6,9 @@ ghost use Rattle.profile.specs.ClassTrees.{AreOperands};
 ghost use Rattle.std.specs.Prelude.{Some};
 
 use crate::axiom_forms::{
-    class_assertion, disjoint_classes, equivalent_classes, equivalent_properties,
-    property_assertion, property_domain, reflexive_property, sub_class, sub_property,
-    transitive_property,
+    class_assertion, different_individuals, disjoint_classes, equivalent_classes,
+    equivalent_properties, negative_property_assertion, property_assertion, property_domain,
+    reflexive_property, same_individuals, sub_class, sub_property, transitive_property,
 };
 use crate::declarations::{declare_class, declare_individual, declare_property};
 use crate::name_builder::NameBuilder;
@@ -45,6 +45,13 @@ pub(crate) fn add_statement(
         }
         Statement::PropertyAssertion(property, source, target) => {
             property_assertion(builder, property, source, target)
+        }
+        Statement::SameIndividuals(individuals) => same_individuals(alloc, builder, individuals),
+        Statement::DifferentIndividuals(individuals) => {
+            different_individuals(alloc, builder, individuals)
+        }
+        Statement::NegativePropertyAssertion(property, source, target) => {
+            negative_property_assertion(builder, property, source, target)
         }
         Statement::DeclareClass(name) => declare_class(builder, name),
         Statement::DeclareProperty(name) => declare_property(builder, name),

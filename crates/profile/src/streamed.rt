@@ -10,7 +10,7 @@ use crate::ontology_reader::OntologyReader;
 use crate::opened::Opened;
 use axioms::Ontology;
 use fs_parser::TreeReader;
-use shapes::Version;
+use program::Version;
 use std::alloc::Global;
 use std::hash::RandomState;
 
@@ -38,11 +38,12 @@ fn take_all(trees: &mut TreeReader<'_>, reader: &mut OntologyReader) -> Option<(
 fn answer_to(
     alloc: Global,
     trees: &mut TreeReader<'_>,
+    version: Version,
     state: RandomState,
 ) -> Option<Result<Ontology, Refusal>>
-    ensures { IfSome result (IsAnswerTo trees.old) }
+    ensures { IfSome result (IsAnswerTo version trees.old) }
 {
-    let mut reader = match OntologyReader::start(alloc, Version::One, state) {
+    let mut reader = match OntologyReader::start(alloc, version, state) {
         Ok(reader) => reader,
         Err(_) => return None,
     };
@@ -59,18 +60,19 @@ fn answer_to(
 pub(crate) fn streamed(
     alloc: Global,
     text: &str,
+    version: Version,
     state: RandomState,
 ) -> Option<Result<Opened, DocumentFault>>
-    ensures read { IfSome result (λ r. IfOk r (OpensAs text.now)) }
+    ensures read { IfSome result (λ r. IfOk r (OpensAs version text.now)) }
     ensures taken { IfSome result (λ r. IfOk r (λ d. IsTaken d.ontology)) }
-    ensures refused { IfSome result (λ r. IfErr r (λ e. Refuses e text.now)) }
+    ensures refused { IfSome result (λ r. IfErr r (λ e. Refuses version e text.now)) }
 {
     let mut trees = TreeReader::start(alloc, text)?;
     let prefixes = match trees.prefixes(alloc) {
         Ok(prefixes) => prefixes,
         Err(_) => return None,
     };
-    let answer = answer_to(alloc, &mut trees, state);
+    let answer = answer_to(alloc, &mut trees, version, state);
     drop(trees);
     match answer? {
         Ok(ontology) => {
@@ -78,6 +80,7 @@ pub(crate) fn streamed(
             Some(Ok(Opened {
                 ontology,
                 prefixes,
+                version,
                 bytes: text.len(),
             }))
         }

@@ -8,7 +8,9 @@ use crate::tables::{Shown, counts, random};
 use axioms::{ExprId, Ontology};
 use device::SliceSource;
 use fs_parser::Prefixes;
-use profile::{DocumentFault, Limits, Opened, read_addition, read_expression, read_opened};
+use profile::{
+    DocumentFault, Limits, Opened, Version, read_addition, read_expression, read_opened,
+};
 use std::alloc::{AllocError, Global};
 use std::hash::RandomState;
 use std::test::Fail;
@@ -25,7 +27,7 @@ fn opened_within(
 ) -> Option<Result<Opened, DocumentFault>>
     ensures { IfSome result (λ r. IfOk r (λ d. IsTaken d.ontology)) }
 {
-    let limits = Limits::new(max_bytes, 1)?;
+    let limits = Limits::new(max_bytes, 1, Version::Two)?;
     let mut source = SliceSource::new(document.as_bytes());
     Some(read_opened(alloc, &mut source, &limits, state))
 }
@@ -60,24 +62,26 @@ fn shown_expression(alloc: Global, read: &Result<(Ontology, ExprId), DocumentFau
 }
 
 /// What is shown when the text was read as an expression over the document's names.
-fn read(alloc: Global, state: RandomState, opened: &Opened, text: &str) -> Shown {
-    let read = read_expression(alloc, &opened.ontology, &opened.prefixes, text, state);
+fn read(alloc: Global, state: RandomState, opened: &Opened, version: Version, text: &str) -> Shown {
+    let ontology = &opened.ontology;
+    let read = read_expression(alloc, ontology, &opened.prefixes, version, text, state);
     shown_expression(alloc, &read)
 }
 
 /// What is shown of the document's ontology when the text was added.
-fn added(alloc: Global, state: RandomState, opened: &Opened, text: &str) -> Shown
+fn added(alloc: Global, state: RandomState, opened: &Opened, version: Version, text: &str) -> Shown
     requires { IsTaken opened.now.ontology }
 {
-    let grown = read_addition(alloc, &opened.ontology, &opened.prefixes, text, state);
+    let ontology = &opened.ontology;
+    let grown = read_addition(alloc, ontology, &opened.prefixes, version, text, state);
     shown(alloc, &grown)
 }
 
 /// What is done with a text.
 #[derive(Clone, Copy)]
 enum Reading {
-    Statements,
-    Expression,
+    Statements(Version),
+    Expression(Version),
 }
 
 /// The answers for the rows that differ from what is expected, one behind the other.
@@ -94,8 +98,8 @@ fn differing(
     for row in rows {
         let (text, expected) = *row;
         let found = match reading {
-            Reading::Statements => added(alloc, state, opened, text),
-            Reading::Expression => read(alloc, state, opened, text),
+            Reading::Statements(version) => added(alloc, state, opened, version, text),
+            Reading::Expression(version) => read(alloc, state, opened, version, text),
         }?;
         if found.as_str() != expected {
             out.push_str(text)?;
@@ -135,6 +139,10 @@ const ADDED: &[(&str, &str)] = &[
     (" # nothing\n", "[4, 0, 0, 4, 1]"),
     ("Declaration(Class(:A))", "[4, 0, 0, 4, 1]"),
     ("AnnotationAssertion(:p :A \"t\")", "[4, 0, 0, 4, 1]"),
+    (
+        "SameIndividual(:a :b) DifferentIndividuals(:b :c) NegativeObjectPropertyAssertion(:r :a :c)",
+        "[4, 1, 3, 4, 4]",
+    ),
 ];
 
 #[test]
@@ -143,7 +151,7 @@ fn texts_are_added(rt: HostRuntime) -> Result<(), Fail> {
         rt.alloc(),
         random(&rt)?,
         DOCUMENT,
-        Reading::Statements,
+        Reading::Statements(Version::Two),
         ADDED,
     )?;
     assert!(rt; differing.is_empty(), "{differing}");
@@ -175,7 +183,7 @@ fn texts_are_refused(rt: HostRuntime) -> Result<(), Fail> {
         rt.alloc(),
         random(&rt)?,
         DOCUMENT,
-        Reading::Statements,
+        Reading::Statements(Version::Two),
         REFUSED,
     )?;
     assert!(rt; differing.is_empty(), "{differing}");
@@ -194,6 +202,7 @@ const EXPRESSIONS: &[(&str, &str)] = &[
     ("q:A", "P3 at byte 0"),
     ("ObjectUnionOf(:A :B)", "F1 at byte 0: ObjectUnionOf"),
     ("SubClassOf(:A :B)", "F3 at byte 0"),
+    ("SameIndividual(:A :B)", "F3 at byte 0"),
     ("ObjectSomeValuesFrom(:r :A)", "F8 at byte 21"),
     (
         "ObjectIntersectionOf(:C owl:real)",
@@ -207,10 +216,48 @@ fn expressions_are_read(rt: HostRuntime) -> Result<(), Fail> {
         rt.alloc(),
         random(&rt)?,
         DOCUMENT,
-        Reading::Expression,
+        Reading::Expression(Version::Two),
         EXPRESSIONS,
     )?;
     assert!(rt; differing.is_empty(), "{differing}");
+    Ok(())
+}
+
+/// What the first version adds to a document, and what it refuses.
+const ADDED_BY_THE_FIRST: &[(&str, &str)] = &[
+    ("ClassAssertion(:B :a)", "[4, 0, 1, 4, 2]"),
+    ("SameIndividual(:a :b)", "F1 at byte 0: SameIndividual"),
+    (
+        "SubClassOf(:B :C) DifferentIndividuals(:a :b) NegativeObjectPropertyAssertion(:r :a)",
+        "F1 at byte 18: DifferentIndividuals\nF1 at byte 46: NegativeObjectPropertyAssertion",
+    ),
+];
+
+/// What the first version reads as an expression, and what it refuses.
+const EXPRESSIONS_OF_THE_FIRST: &[(&str, &str)] = &[
+    ("ObjectIntersectionOf(:A :B)", "4 [4, 0, 0, 5, 1]"),
+    ("SameIndividual(:A :B)", "F1 at byte 0: SameIndividual"),
+];
+
+#[test]
+fn texts_are_read_in_a_version(rt: HostRuntime) -> Result<(), Fail> {
+    let state = random(&rt)?;
+    let added = differing_of(
+        rt.alloc(),
+        state,
+        DOCUMENT,
+        Reading::Statements(Version::One),
+        ADDED_BY_THE_FIRST,
+    )?;
+    assert!(rt; added.is_empty(), "{added}");
+    let read = differing_of(
+        rt.alloc(),
+        state,
+        DOCUMENT,
+        Reading::Expression(Version::One),
+        EXPRESSIONS_OF_THE_FIRST,
+    )?;
+    assert!(rt; read.is_empty(), "{read}");
     Ok(())
 }
 
@@ -232,7 +279,7 @@ fn prefixes_are_those_of_the_document(rt: HostRuntime) -> Result<(), Fail> {
         rt.alloc(),
         state,
         "Prefix(p:=<x:>) Prefix(q:=<x:>) Ontology(p:o SubClassOf(p:A p:B))",
-        Reading::Statements,
+        Reading::Statements(Version::Two),
         TWO_PREFIXES,
     )?;
     assert!(rt; two.is_empty(), "{two}");
@@ -240,7 +287,7 @@ fn prefixes_are_those_of_the_document(rt: HostRuntime) -> Result<(), Fail> {
         rt.alloc(),
         state,
         "Ontology(SubClassOf(<x:A> <x:B>))",
-        Reading::Statements,
+        Reading::Statements(Version::Two),
         NO_PREFIX,
     )?;
     assert!(rt; none.is_empty(), "{none}");
@@ -253,7 +300,7 @@ fn added_depth(alloc: Global, state: RandomState, opened: &Opened, levels: usize
 {
     let expression = nested(alloc, levels)?;
     let statement = format!(in alloc; "SubClassOf(<x:A> {expression})")?;
-    added(alloc, state, opened, statement.as_str())
+    added(alloc, state, opened, Version::Two, statement.as_str())
 }
 
 fn shown_depth(alloc: Global, state: RandomState, levels: usize) -> Shown {
@@ -283,11 +330,19 @@ fn added_twice(alloc: Global, state: RandomState, opened: &Opened) -> Shown
         alloc,
         &opened.ontology,
         prefixes,
+        Version::Two,
         "SubClassOf(:B :C)",
         state,
     ) {
         Ok(grown) => {
-            let again = read_addition(alloc, &grown, prefixes, "SubClassOf(:C :D)", state);
+            let again = read_addition(
+                alloc,
+                &grown,
+                prefixes,
+                Version::Two,
+                "SubClassOf(:C :D)",
+                state,
+            );
             shown(alloc, &again)
         }
         Err(fault) => format!(in alloc; "{fault}"),

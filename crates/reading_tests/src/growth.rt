@@ -50,7 +50,7 @@ fn grown_by_statements(
     ontology: &Ontology,
     trees: &[Tree<'_>],
 ) -> Shown {
-    let grown = accept_statements(alloc, ontology, trees, Version::One, state);
+    let grown = accept_statements(alloc, ontology, trees, Version::Two, state);
     shown(alloc, &grown)
 }
 
@@ -61,7 +61,7 @@ fn grown_by_expression(
     ontology: &Ontology,
     tree: &Tree<'_>,
 ) -> Shown {
-    let grown = accept_expression(alloc, ontology, tree, Version::One, state);
+    let grown = accept_expression(alloc, ontology, tree, Version::Two, state);
     shown_expression(alloc, &grown)
 }
 
@@ -110,7 +110,7 @@ fn grown_by(
 fn small(alloc: Global, state: RandomState) -> Option<Ontology> {
     let tokens = tokens(alloc, SMALL).ok()?;
     let document = forms(alloc, &tokens).ok()?;
-    accept(alloc, &document, Version::One, state).ok()
+    accept(alloc, &document, Version::Two, state).ok()
 }
 
 /// The answers for the rows that differ from what is expected, one behind the other.

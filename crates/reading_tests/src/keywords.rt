@@ -23,7 +23,7 @@ fn count_over(
     ontology: &Ontology,
     tree: &Tree<'_>,
 ) -> Option<usize> {
-    let found = expression_faults(alloc, ontology, tree, Version::One, state).ok()?;
+    let found = expression_faults(alloc, ontology, tree, Version::Two, state).ok()?;
     Some(found.len())
 }
 
@@ -60,20 +60,50 @@ fn expected_compare(rt: HostRuntime) {
     assert!(rt; Expected::Class != Expected::ClassExpression);
 }
 
-/// What stands where, a keyword, and its form there, if it has one.
-const FORMS: &[(Expected, &str, Option<Form>)] = &[
-    (Expected::Axiom, "SubClassOf", Some(Form::SubClassOf)),
-    (Expected::Entity, "Class", Some(Form::Class)),
-    (Expected::Axiom, "Class", None),
-    (Expected::ClassExpression, "ObjectUnionOf", None),
+/// What stands where, a keyword, and its form there in either version, if it has one.
+const FORMS: &[(Expected, &str, Option<Form>, Option<Form>)] = &[
+    (
+        Expected::Axiom,
+        "SubClassOf",
+        Some(Form::SubClassOf),
+        Some(Form::SubClassOf),
+    ),
+    (
+        Expected::Entity,
+        "Class",
+        Some(Form::Class),
+        Some(Form::Class),
+    ),
+    (Expected::Axiom, "Class", None, None),
+    (Expected::ClassExpression, "ObjectUnionOf", None, None),
+    (
+        Expected::Axiom,
+        "SameIndividual",
+        None,
+        Some(Form::SameIndividual),
+    ),
+    (
+        Expected::Axiom,
+        "DifferentIndividuals",
+        None,
+        Some(Form::DifferentIndividuals),
+    ),
+    (
+        Expected::Axiom,
+        "NegativeObjectPropertyAssertion",
+        None,
+        Some(Form::NegativeObjectPropertyAssertion),
+    ),
+    (Expected::ClassExpression, "SameIndividual", None, None),
 ];
 
 #[test]
 fn forms_of_keywords(rt: HostRuntime) {
     for row in FORMS {
-        let (expected, keyword, form) = *row;
-        let found = shape_of(expected, keyword, Version::One).map(|shape| shape.form);
-        assert!(rt; found == form, "{keyword}");
+        let (expected, keyword, first, second) = *row;
+        let in_one = shape_of(expected, keyword, Version::One).map(|shape| shape.form);
+        let in_two = shape_of(expected, keyword, Version::Two).map(|shape| shape.form);
+        assert!(rt; in_one == first && in_two == second, "{keyword}");
     }
 }
 
@@ -86,6 +116,11 @@ fn stated(statement: Option<Statement<'_, '_>>) -> (&'static str, usize, usize) 
         }
         Some(Statement::DeclareIndividual(name)) => ("individual", name.at(), name.at()),
         Some(Statement::DisjointClasses(classes)) => ("disjoint", classes.len(), 0),
+        Some(Statement::SameIndividuals(individuals)) => ("same", individuals.len(), 0),
+        Some(Statement::DifferentIndividuals(individuals)) => ("different", individuals.len(), 0),
+        Some(Statement::NegativePropertyAssertion(property, _, target)) => {
+            ("denied", property.at(), target.at())
+        }
         Some(_) => ("other", 0, 0),
         None => ("none", 0, 0),
     }
@@ -98,7 +133,7 @@ fn stated_by(
     tree: &Tree<'_>,
 ) -> Option<(&'static str, usize, usize, usize)> {
     let mut found = Vec::new(alloc);
-    let part = part_faults(alloc, &mut found, Place::Axioms, tree, Version::One, state);
+    let part = part_faults(alloc, &mut found, Place::Axioms, tree, Version::Two, state);
     let faults = found.len();
     drop(found);
     let (_, statement) = part.ok()?;
@@ -154,6 +189,21 @@ const STATED: &[(&str, &str, usize, usize, usize)] = &[
         "disjoint",
         3,
         0,
+        0,
+    ),
+    ("Ontology(SameIndividual(<x:a> <x:b>))", "same", 2, 0, 0),
+    (
+        "Ontology(DifferentIndividuals(<x:a> <x:b> <x:c>))",
+        "different",
+        3,
+        0,
+        0,
+    ),
+    (
+        "Ontology(NegativeObjectPropertyAssertion(<x:r> <x:a> <x:b>))",
+        "denied",
+        41,
+        53,
         0,
     ),
     ("Ontology(Annotation(<x:p> <x:q>))", "none", 0, 0, 1),

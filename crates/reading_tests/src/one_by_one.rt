@@ -45,7 +45,7 @@ fn shown_of_trees(
     most: usize,
     state: RandomState,
 ) -> Shown {
-    let mut reader = match OntologyReader::start(alloc, Version::One, state) {
+    let mut reader = match OntologyReader::start(alloc, Version::Two, state) {
         Ok(reader) => reader,
         Err(_) => return Err(AllocError),
     };

@@ -124,25 +124,38 @@ fn shown_of_document(
     alloc: Global,
     document: &Document<'_>,
     part: Part,
+    version: Version,
     state: RandomState,
 ) -> Shown {
-    match accept(alloc, document, Version::One, state) {
+    match accept(alloc, document, version, state) {
         Ok(ontology) => shown_part(alloc, &ontology, part),
         Err(refusal) => told(alloc, &refusal),
     }
 }
 
-fn shown_of_tokens(alloc: Global, tokens: &[Token<'_>], part: Part, state: RandomState) -> Shown {
+fn shown_of_tokens(
+    alloc: Global,
+    tokens: &[Token<'_>],
+    part: Part,
+    version: Version,
+    state: RandomState,
+) -> Shown {
     match forms(alloc, tokens) {
-        Ok(document) => shown_of_document(alloc, &document, part, state),
+        Ok(document) => shown_of_document(alloc, &document, part, version, state),
         Err(fault) => format!(in alloc; "{fault}"),
     }
 }
 
-/// That part of the ontology that the text states, or its faults, each as a line, or why it is no document.
-pub(crate) fn shown(alloc: Global, text: &str, part: Part, state: RandomState) -> Shown {
+/// That part of the ontology that the text states in the version, or its faults, each as a line, or why it is no document.
+pub(crate) fn shown(
+    alloc: Global,
+    text: &str,
+    part: Part,
+    version: Version,
+    state: RandomState,
+) -> Shown {
     match tokens(alloc, text) {
-        Ok(tokens) => shown_of_tokens(alloc, tokens.as_slice(), part, state),
+        Ok(tokens) => shown_of_tokens(alloc, tokens.as_slice(), part, version, state),
         Err(fault) => format!(in alloc; "{fault}"),
     }
 }
@@ -159,7 +172,7 @@ pub(crate) fn assert_texts<R: AllocGlobal + RandomSource + Abort>(
     let state = random(rt)?;
     for row in rows {
         let (text, expected) = *row;
-        let found = shown(rt.alloc(), text, Part::Counts, state)?;
+        let found = shown(rt.alloc(), text, Part::Counts, Version::Two, state)?;
         assert!(rt; found.as_str() == expected, "{text}: {found}");
     }
     Ok(())
@@ -171,11 +184,21 @@ pub(crate) fn assert_documents<R: AllocGlobal + RandomSource + Abort>(
     part: Part,
     rows: &[Row],
 ) -> Result<(), Fail> {
+    assert_documents_in(rt, Version::Two, part, rows)
+}
+
+/// .. in that version.
+pub(crate) fn assert_documents_in<R: AllocGlobal + RandomSource + Abort>(
+    rt: &R,
+    version: Version,
+    part: Part,
+    rows: &[Row],
+) -> Result<(), Fail> {
     let state = random(rt)?;
     for row in rows {
         let (inside, expected) = *row;
         let text = format!(in rt.alloc(); "Prefix(:=<x:>) Ontology({inside})")?;
-        let found = shown(rt.alloc(), text.as_str(), part, state)?;
+        let found = shown(rt.alloc(), text.as_str(), part, version, state)?;
         assert!(rt; found.as_str() == expected, "{inside}: {found}");
     }
     Ok(())

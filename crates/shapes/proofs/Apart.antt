@@ -1,13 +1,13 @@
--- No keyword is both refused and known, and the first version refuses each that is listed.
-use Rattle.std.proofs.Common.{◌≡◌, ℕ, Bool, true, false, ◌&&◌, ◌||◌, not, List, [], ◌∷◌, refl, sym, ap, ◌∙◌}
+-- No keyword is both refused and known, and which of those that are listed each version refuses.
+use Rattle.std.proofs.Common.{◌≡◌, ℕ, Bool, true, false, ◌&&◌, ◌||◌, not, List, [], ◌∷◌, refl, sym, ap, ◌∙◌, if◌then◌else◌}
 use Rattle.std.specs.List.{list_any, list_all}
 use Rattle.std.specs.Cmp.{second_so}
 use Rattle.std.specs.Str.{bytes_eq}
 use Rattle.std.proofs.lemmas.Bool.{false≢true, not-true}
 use Rattle.std.proofs.lemmas.Slice.Eq.{bytes_eq-Decides}
 use Rattle.shapes.specs.Keywords.{is_known, is_one_of, is_refused, refused_keywords}
-use Rattle.shapes.specs.Laws.{KeywordsAreApart, TheFirstRefusesAll}
-use Rattle.shapes.specs.declared.version.Version.TheVariants.{One}
+use Rattle.shapes.specs.Laws.{KeywordsAreApart, TheFirstRefusesAll, TheSecondRefusesAllOthers, second_keywords}
+use Rattle.program.specs.declared.version.Version.TheVariants.{One, Two}
 
 pub apart : KeywordsAreApart
 unfolding is_refused
@@ -34,3 +34,26 @@ first_refuses keyword = go (is_one_of refused_keywords keyword) refl
     go : (b : Bool) → is_one_of refused_keywords keyword ≡ b → (b && not (is_known One keyword)) ≡ b
     go false e = refl
     go true e = of_one (λ k. not (is_known One k)) refused_keywords keyword refused_are_unknown e
+
+-- of those that are listed the second version knows these alone
+abbrev is_told : List ℕ → Bool
+is_told keyword = if is_one_of second_keywords keyword then is_known Two keyword else not (is_known Two keyword)
+
+all_told : list_all is_told refused_keywords ≡ true
+unfolding is_known
+all_told = refl
+
+pub second_refuses : TheSecondRefusesAllOthers
+unfolding is_refused
+second_refuses keyword = go (is_one_of refused_keywords keyword) (is_one_of second_keywords keyword) (is_known Two keyword) refl refl refl
+  where
+    go : (b c d : Bool) → is_one_of refused_keywords keyword ≡ b → is_one_of second_keywords keyword ≡ c → is_known Two keyword ≡ d → (b && not d) ≡ (b && not c)
+    go false c d e f g = refl
+    go true true true e f g = refl
+    go true false false e f g = refl
+    go true true false e f g =
+        let told : is_told keyword ≡ true = of_one is_told refused_keywords keyword all_told e in
+        absurd (false≢true (sym (rw (f) g) ∙ told))
+    go true false true e f g =
+        let told : is_told keyword ≡ true = of_one is_told refused_keywords keyword all_told e in
+        absurd (false≢true (sym (rw (f) (ap not g)) ∙ told))

@@ -11,7 +11,7 @@ use Rattle.fs_parser.specs.View.{tree_of, trees_of}
 use Rattle.fs_parser.specs.declared.tree.Tree as code
 use Rattle.axioms.specs.Ontology.{Names}
 use Rattle.shapes.specs.Faults.{Fault, RepeatedOperand, WrongShape, behind_annotations, annotation_faults, count_of, faults_among, faults_inside, front_faults, is_annotation, is_repeated, own_trees}
-use Rattle.shapes.specs.declared.version.Version.{Version}
+use Rattle.program.specs.declared.version.Version.{Version}
 use Rattle.shapes.specs.TreeEquality.{same_tree, same_trees}
 use Rattle.shapes.specs.Shapes.{Operands, Many, fits_count, later_expected, may_be_annotated, next_expected, operands_of}
 use Rattle.shapes.specs.declared.expected.Expected.{Expected}

@@ -7,7 +7,7 @@ use Rattle.shapes.specs.Places.{FaultsComeOneByOne, faults_from}
 use Rattle.shapes.specs.declared.expected.Expected.TheVariants.{Annotation, Axiom}
 use Rattle.shapes.specs.declared.place.Place.{Place}
 use Rattle.shapes.specs.declared.place.Place.TheVariants.{Front, Axioms}
-use Rattle.shapes.specs.declared.version.Version.{Version}
+use Rattle.program.specs.declared.version.Version.{Version}
 
 pub one_by_one : FaultsComeOneByOne
 one_by_one version names (Front count) first rest = go (is_name first) (is_annotation first)

@@ -13,7 +13,7 @@ use Rattle.shapes.specs.declared.form.Form.TheVariants as forms
 use Rattle.shapes.specs.declared.expected.Expected.TheVariants.{Axiom}
 use Rattle.shapes.specs.Faults.{behind_annotations, count_of}
 use Rattle.shapes.specs.Shapes.{form_of}
-use Rattle.shapes.specs.declared.version.Version.{Version}
+use Rattle.program.specs.declared.version.Version.{Version}
 use Rattle.shapes.specs.TreeStatements.{axiom_by, stated_by, statement_in}
 
 -- ---- how many

@@ -1,6 +1,6 @@
 -- The faults of the examples, by computing them.
 use Rattle.std.proofs.Common.{refl}
-use Rattle.shapes.specs.Examples.{EveryFaultIsTold, OrderIsTold, RepeatedOperandIsTold}
+use Rattle.shapes.specs.Examples.{EachVersionHasItsOwn, EveryFaultIsTold, OrderIsTold, RepeatedOperandIsTold}
 use Rattle.shapes.specs.Keywords.{is_known, is_refused}
 
 pub every_fault : EveryFaultIsTold
@@ -14,3 +14,7 @@ repeated_operand = refl
 pub order : OrderIsTold
 unfolding is_known is_refused
 order = refl
+
+pub versions : EachVersionHasItsOwn
+unfolding is_known is_refused
+versions = (refl, refl)

@@ -2,7 +2,7 @@
 use Rattle.std.specs.Prelude.{◌≡◌, [], ◌∷◌, codes}
 use Rattle.fs_parser.specs.Tree.{Tree, Trees, Name, Anonymous, Group, Form, Empty, Then}
 use Rattle.shapes.specs.Faults.{RefusedConstruct, UnknownKeyword, WrongShape, RepeatedOperand, ReservedName, AnonymousIndividual, document_faults}
-use Rattle.shapes.specs.declared.version.Version.TheVariants.{One}
+use Rattle.program.specs.declared.version.Version.TheVariants.{One, Two}
 
 abbrev pub one : Tree → Trees
 one t = Then t Empty
@@ -31,3 +31,14 @@ OrderIsTold =
     (two (Form 4 (codes "ClassAssertion") (two (Name 5 (codes "http://www.w3.org/2002/07/owl#Thing")) (Name 6 (codes "http://www.w3.org/2002/07/owl#a"))))
     (Form 7 (codes "Annotation") (two (Name 8 (codes "x:p")) (Name 9 (codes "x:q"))))))))
     ≡ WrongShape 3 ∷ ReservedName 6 ∷ WrongShape 7 ∷ []
+
+-- DifferentIndividuals(:a :b) NegativeObjectPropertyAssertion(:r :a :b): the first version has neither
+abbrev pub differing : Trees
+differing =
+    two (Form 24 (codes "DifferentIndividuals") (two (Name 45 (codes "x:a")) (Name 48 (codes "x:b"))))
+    (Form 52 (codes "NegativeObjectPropertyAssertion") (Then (Name 84 (codes "x:r")) (two (Name 87 (codes "x:a")) (Name 90 (codes "x:b")))))
+
+abbrev pub EachVersionHasItsOwn : Type 0
+EachVersionHasItsOwn =
+    (document_faults One differing ≡ RefusedConstruct 24 (codes "DifferentIndividuals") ∷ RefusedConstruct 52 (codes "NegativeObjectPropertyAssertion") ∷ [])
+    × (document_faults Two differing ≡ [])

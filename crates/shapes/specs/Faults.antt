@@ -8,7 +8,7 @@ use Rattle.shapes.specs.declared.expected.Expected.{Expected}
 use Rattle.shapes.specs.declared.expected.Expected.TheVariants.{Axiom, Annotation, ClassExpression, NameOrLiteral}
 use Rattle.shapes.specs.Shapes.{Operands, Each, operands_of, may_be_annotated, fits_count, next_expected, later_expected, wants_distinct}
 use Rattle.shapes.specs.Keywords.{is_refused, is_known}
-use Rattle.shapes.specs.declared.version.Version.{Version}
+use Rattle.program.specs.declared.version.Version.{Version}
 use Rattle.axioms.specs.Ontology.{Names}
 use Rattle.shapes.specs.Names.{is_allowed, is_there, may_be_name}
 use Rattle.shapes.specs.TreeEquality.{same_tree}

@@ -6,7 +6,7 @@ use Rattle.shapes.specs.Faults.{Fault, WrongShape, each_faults, faults_among, is
 use Rattle.shapes.specs.declared.expected.Expected.TheVariants.{Annotation, Axiom}
 use Rattle.shapes.specs.declared.place.Place.{Place}
 use Rattle.shapes.specs.declared.place.Place.TheVariants.{Front, Axioms}
-use Rattle.shapes.specs.declared.version.Version.{Version}
+use Rattle.program.specs.declared.version.Version.{Version}
 
 -- the faults of a tree that stands at the place
 abbrev pub faults_at : Version → Option Names → Place → Tree → List Fault

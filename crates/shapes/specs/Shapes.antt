@@ -9,8 +9,8 @@ use Rattle.shapes.specs.declared.expected.Expected.{Expected}
 use Rattle.shapes.specs.declared.expected.Expected.TheVariants.{Axiom, Annotation, Entity, ClassExpression, Class, Property, PropertyOrChain, Individual, AnyName, NameOrLiteral}
 use Rattle.shapes.specs.declared.form.Form.{Form}
 use Rattle.shapes.specs.declared.form.Form.TheVariants as forms
-use Rattle.shapes.specs.declared.version.Version.{Version}
-use Rattle.shapes.specs.declared.version.Version.TheVariants.{One}
+use Rattle.program.specs.declared.version.Version.{Version}
+use Rattle.program.specs.declared.version.Version.TheVariants.{One, Two}
 use Rattle.shapes.specs.Meanings.{operand, class_of, classes_of, iri_of, iris_of, chain_of}
 
 -- these operands, or two or more of one kind, of which no two may be equal where it says so
@@ -46,6 +46,10 @@ row forms.ClassAssertion =
     (codes "ClassAssertion", Each (ClassExpression ∷ Individual ∷ []), Some (λ ts. States (axioms.ClassAssertion (class_of (operand ts 0)) (iri_of (operand ts 1)))))
 row forms.ObjectPropertyAssertion =
     (codes "ObjectPropertyAssertion", Each (Property ∷ Individual ∷ Individual ∷ []), Some (λ ts. States (axioms.PropertyAssertion (iri_of (operand ts 0)) (iri_of (operand ts 1)) (iri_of (operand ts 2)))))
+row forms.SameIndividual = (codes "SameIndividual", Many true Individual, Some (λ ts. States (axioms.SameIndividuals (iris_of ts))))
+row forms.DifferentIndividuals = (codes "DifferentIndividuals", Many true Individual, Some (λ ts. States (axioms.DifferentIndividuals (iris_of ts))))
+row forms.NegativeObjectPropertyAssertion =
+    (codes "NegativeObjectPropertyAssertion", Each (Property ∷ Individual ∷ Individual ∷ []), Some (λ ts. States (axioms.NegativePropertyAssertion (iri_of (operand ts 0)) (iri_of (operand ts 1)) (iri_of (operand ts 2)))))
 -- declarations (section 5.8.1), which say what their operand says, and what is declared (section 5.8)
 row forms.Declaration = (codes "Declaration", Each (Entity ∷ []), None)
 row forms.Class = (codes "Class", Each (Class ∷ []), Some (λ ts. DeclaresClass (iri_of (operand ts 0))))
@@ -65,18 +69,23 @@ row forms.ObjectPropertyChain = (codes "ObjectPropertyChain", Many false Propert
 
 -- the first version that takes the form
 abbrev pub since : Form → Version
-since form = One
+since forms.SameIndividual = Two
+since forms.DifferentIndividuals = Two
+since forms.NegativeObjectPropertyAssertion = Two
+since _ = One
 
--- whether the version takes what has been taken since that one; each takes what the first did
+-- whether the version takes what has been taken since that one: each takes what an earlier one does
 abbrev pub takes : Version → Version → Bool
 takes version One = true
+takes One Two = false
+takes Two Two = true
 
 abbrev pub axiom_forms : List Form
 axiom_forms =
     forms.SubClassOf ∷ forms.EquivalentClasses ∷ forms.DisjointClasses ∷ forms.SubObjectPropertyOf ∷ forms.EquivalentObjectProperties
     ∷ forms.ObjectPropertyDomain ∷ forms.TransitiveObjectProperty ∷ forms.ReflexiveObjectProperty ∷ forms.ClassAssertion
-    ∷ forms.ObjectPropertyAssertion ∷ forms.Declaration ∷ forms.AnnotationAssertion ∷ forms.SubAnnotationPropertyOf
-    ∷ forms.AnnotationPropertyDomain ∷ forms.AnnotationPropertyRange ∷ []
+    ∷ forms.ObjectPropertyAssertion ∷ forms.SameIndividual ∷ forms.DifferentIndividuals ∷ forms.NegativeObjectPropertyAssertion
+    ∷ forms.Declaration ∷ forms.AnnotationAssertion ∷ forms.SubAnnotationPropertyOf ∷ forms.AnnotationPropertyDomain ∷ forms.AnnotationPropertyRange ∷ []
 
 abbrev pub entity_forms : List Form
 entity_forms = forms.Class ∷ forms.ObjectProperty ∷ forms.NamedIndividual ∷ forms.AnnotationProperty ∷ []

@@ -11,7 +11,7 @@ use Rattle.shapes.specs.declared.form.Form.{Form}
 use Rattle.shapes.specs.declared.form.Form.TheVariants as forms
 use Rattle.shapes.specs.declared.statement.Statement.{Statement}
 use Rattle.shapes.specs.declared.statement.Statement.TheVariants as statements
-use Rattle.shapes.specs.declared.version.Version.{Version}
+use Rattle.program.specs.declared.version.Version.{Version}
 use Rattle.shapes.specs.Faults.{behind_annotations, count_of}
 use Rattle.shapes.specs.Shapes.{Says, fits_count, form_of, row}
 
@@ -65,6 +65,9 @@ form_stated (statements.Transitive property) = forms.TransitiveObjectProperty
 form_stated (statements.Reflexive property) = forms.ReflexiveObjectProperty
 form_stated (statements.ClassAssertion class individual) = forms.ClassAssertion
 form_stated (statements.PropertyAssertion property source target) = forms.ObjectPropertyAssertion
+form_stated (statements.SameIndividuals individuals) = forms.SameIndividual
+form_stated (statements.DifferentIndividuals individuals) = forms.DifferentIndividuals
+form_stated (statements.NegativePropertyAssertion property source target) = forms.NegativeObjectPropertyAssertion
 form_stated (statements.DeclareClass name) = forms.Class
 form_stated (statements.DeclareProperty name) = forms.ObjectProperty
 form_stated (statements.DeclareIndividual name) = forms.NamedIndividual
@@ -80,6 +83,9 @@ trees_stated (statements.Transitive property) = trees_of (property.now ∷ [])
 trees_stated (statements.Reflexive property) = trees_of (property.now ∷ [])
 trees_stated (statements.ClassAssertion class individual) = trees_of (class.now ∷ individual.now ∷ [])
 trees_stated (statements.PropertyAssertion property source target) = trees_of (property.now ∷ source.now ∷ target.now ∷ [])
+trees_stated (statements.SameIndividuals individuals) = trees_of individuals.now
+trees_stated (statements.DifferentIndividuals individuals) = trees_of individuals.now
+trees_stated (statements.NegativePropertyAssertion property source target) = trees_of (property.now ∷ source.now ∷ target.now ∷ [])
 trees_stated (statements.DeclareClass name) = trees_of (name.now ∷ [])
 trees_stated (statements.DeclareProperty name) = trees_of (name.now ∷ [])
 trees_stated (statements.DeclareIndividual name) = trees_of (name.now ∷ [])

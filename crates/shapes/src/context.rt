@@ -6,9 +6,9 @@ ghost use Rattle.shapes.specs.Names.{is_there};
 ghost use Rattle.shapes.specs.View.{names_of};
 
 use crate::expected::Expected;
-use crate::version::Version;
 use axioms::{Memory, Ontology};
 use fs_parser::Iri;
+use program::Version;
 use std::alloc::Global;
 use std::hash::RandomState;
 

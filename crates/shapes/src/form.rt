@@ -14,6 +14,9 @@ pub enum Form {
     ReflexiveObjectProperty,
     ClassAssertion,
     ObjectPropertyAssertion,
+    SameIndividual,
+    DifferentIndividuals,
+    NegativeObjectPropertyAssertion,
     // declarations, and axioms of annotations
     Declaration,
     AnnotationAssertion,

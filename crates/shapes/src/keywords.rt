@@ -2,7 +2,7 @@
 
 ghost use Rattle.std.specs.Prelude.{◌≡◌, map, option_map};
 ghost use Rattle.shapes.specs.Keywords.{has_shape, is_known, is_refused};
-ghost use Rattle.shapes.specs.Shapes.{form_of, operands_of, shapes_of};
+ghost use Rattle.shapes.specs.Shapes.{form_of, operands_of, shapes_of, takes};
 ghost use Rattle.shapes.specs.View.{operands_view, shape_view};
 
 use crate::expected::Expected::{
@@ -10,7 +10,7 @@ use crate::expected::Expected::{
 };
 use crate::expected::{Expected, Operands};
 use crate::form::Form;
-use crate::version::Version;
+use program::Version;
 
 /// A row of the table: a form, its keyword, the operands that it takes, and the first version that has it.
 #[derive(Clone, Copy, Debug)]
@@ -31,12 +31,17 @@ const DISTINCT_PROPERTIES: Operands<'static> = Operands::Many {
     operand: Property,
 };
 
+const DISTINCT_INDIVIDUALS: Operands<'static> = Operands::Many {
+    distinct: true,
+    operand: Individual,
+};
+
 const PROPERTIES: Operands<'static> = Operands::Many {
     distinct: false,
     operand: Property,
 };
 
-static AXIOMS: [Shape; 15] = [
+static AXIOMS: [Shape; 18] = [
     Shape {
         form: Form::SubClassOf,
         keyword: "SubClassOf",
@@ -96,6 +101,24 @@ static AXIOMS: [Shape; 15] = [
         keyword: "ObjectPropertyAssertion",
         operands: Operands::Each(&[Property, Individual, Individual]),
         since: Version::One,
+    },
+    Shape {
+        form: Form::SameIndividual,
+        keyword: "SameIndividual",
+        operands: DISTINCT_INDIVIDUALS,
+        since: Version::Two,
+    },
+    Shape {
+        form: Form::DifferentIndividuals,
+        keyword: "DifferentIndividuals",
+        operands: DISTINCT_INDIVIDUALS,
+        since: Version::Two,
+    },
+    Shape {
+        form: Form::NegativeObjectPropertyAssertion,
+        keyword: "NegativeObjectPropertyAssertion",
+        operands: Operands::Each(&[Property, Individual, Individual]),
+        since: Version::Two,
     },
     Shape {
         form: Form::Declaration,
@@ -236,6 +259,16 @@ static REFUSED: [&str; 46] = [
     "NegativeObjectPropertyAssertion",
 ];
 
+/// Whether the version takes what has been taken since that one: each takes what an earlier one does.
+fn takes(version: Version, since: Version) -> bool
+    ensures { result ≡ takes version since }
+{
+    match since {
+        Version::One => true,
+        Version::Two => version == Version::Two,
+    }
+}
+
 /// The shapes of the forms that may stand where such a tree is expected.
 fn shapes_of(expected: Expected) -> &'static [Shape]
     ensures { map shape_view result.now ≡ shapes_of expected }
@@ -257,7 +290,7 @@ pub fn shape_of(expected: Expected, keyword: &str, version: Version) -> Option<S
 {
     let shapes = shapes_of(expected);
     for shape in shapes {
-        if version.has(shape.since) && shape.keyword == keyword {
+        if takes(version, shape.since) && shape.keyword == keyword {
             return Some(*shape);
         }
     }

@@ -1,8 +1,8 @@
 //! Which trees are axioms and expressions of the profile, and every fault of a document's trees in the order of the text.
 #![tactic(auto)]
 
-ghost use Rattle.shapes.specs.Examples.{EveryFaultIsTold, OrderIsTold, RepeatedOperandIsTold};
-ghost use Rattle.shapes.specs.Laws.{EachTreeIsItself, KeywordsAreApart, TheFirstRefusesAll};
+ghost use Rattle.shapes.specs.Examples.{EachVersionHasItsOwn, EveryFaultIsTold, OrderIsTold, RepeatedOperandIsTold};
+ghost use Rattle.shapes.specs.Laws.{EachTreeIsItself, KeywordsAreApart, TheFirstRefusesAll, TheSecondRefusesAllOthers};
 ghost use Rattle.shapes.specs.Places.{FaultsComeOneByOne};
 
 mod context;
@@ -15,7 +15,6 @@ mod names;
 mod operand;
 mod place;
 mod statement;
-mod version;
 mod walk;
 
 pub use expected::{Expected, Operands};
@@ -23,8 +22,8 @@ pub use fault::Fault;
 pub use form::Form;
 pub use keywords::{Shape, shape_of};
 pub use place::Place;
+pub use program::Version;
 pub use statement::Statement;
-pub use version::Version;
 pub use walk::{expression_faults, part_faults};
 
 /// The faults of small documents.
@@ -32,12 +31,15 @@ pub fn worked_documents()
     ensures every_fault { EveryFaultIsTold }
     ensures repeated_operand { RepeatedOperandIsTold }
     ensures order { OrderIsTold }
+    ensures versions { EachVersionHasItsOwn }
 {}
 
-/// Laws: no keyword is both refused and known, the first version refuses each that is listed, and each tree equals itself.
+/// Laws: no keyword is both refused and known, the first version refuses each that is listed, the second all of these but
+/// three, and each tree equals itself.
 pub fn keywords_and_trees()
     ensures keywords { KeywordsAreApart }
     ensures first { TheFirstRefusesAll }
+    ensures second { TheSecondRefusesAllOthers }
     ensures trees { EachTreeIsItself }
 {}
 

@@ -9,8 +9,8 @@ ghost use Rattle.shapes.specs.TreeStatements.{axiom_by, entity_in, stated, state
 use crate::expected::Expected;
 use crate::form::Form;
 use crate::keywords::shape_of;
-use crate::version::Version;
 use fs_parser::Tree;
+use program::Version;
 
 /// An axiom or a declaration, over the trees of its operands.
 #[derive(Clone, Copy, Debug)]
@@ -30,6 +30,12 @@ pub enum Statement<'t, 'a> {
     ClassAssertion(&'t Tree<'a>, &'t Tree<'a>),
     /// A property, its source and its target.
     PropertyAssertion(&'t Tree<'a>, &'t Tree<'a>, &'t Tree<'a>),
+    /// Individuals that are one.
+    SameIndividuals(&'t [Tree<'a>]),
+    /// Individuals that differ.
+    DifferentIndividuals(&'t [Tree<'a>]),
+    /// A property, and the source and the target of no pair of it.
+    NegativePropertyAssertion(&'t Tree<'a>, &'t Tree<'a>, &'t Tree<'a>),
     DeclareClass(&'t Tree<'a>),
     DeclareProperty(&'t Tree<'a>),
     DeclareIndividual(&'t Tree<'a>),
@@ -106,6 +112,12 @@ fn stated_by<'t, 'a>(form: Form, operands: &'t [Tree<'a>]) -> Option<Statement<'
         Form::ObjectPropertyAssertion => {
             let (property, source, target) = three(operands)?;
             Some(Statement::PropertyAssertion(property, source, target))
+        }
+        Form::SameIndividual => Some(Statement::SameIndividuals(many(operands)?)),
+        Form::DifferentIndividuals => Some(Statement::DifferentIndividuals(many(operands)?)),
+        Form::NegativeObjectPropertyAssertion => {
+            let (property, source, target) = three(operands)?;
+            Some(Statement::NegativePropertyAssertion(property, source, target))
         }
         Form::Class => Some(Statement::DeclareClass(one(operands)?)),
         Form::ObjectProperty => Some(Statement::DeclareProperty(one(operands)?)),

@@ -19,10 +19,10 @@ use crate::names::{is_allowed, may_be_name};
 use crate::operand::is_new;
 use crate::place::Place;
 use crate::statement::{Statement, axiom_in};
-use crate::version::Version;
 use axioms::{Memory, Ontology};
 use fs_parser::{Iri, Tree};
 use keyed_hash::{KeyedState, NumberedSet};
+use program::Version;
 use std::alloc::Global;
 use std::hash::RandomState;
 

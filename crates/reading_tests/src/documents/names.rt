@@ -31,6 +31,32 @@ fn assertions(rt: HostRuntime) -> Result<(), Fail> {
     assert_documents(&rt, Part::Counts, ASSERTIONS)
 }
 
+const SAME_DIFFERENT_AND_DENIED: &[Row] = &[
+    ("SameIndividual(:a :b)", "[2, 0, 2, 2, 1]"),
+    (
+        "SameIndividual(:a :b) SameIndividual(:b :a)",
+        "[2, 0, 2, 2, 2]",
+    ),
+    ("DifferentIndividuals(:a :b :c)", "[2, 0, 3, 2, 1]"),
+    (
+        "DifferentIndividuals(Annotation(:p :q) :b :a) ClassAssertion(:A :b)",
+        "[3, 0, 2, 3, 2]",
+    ),
+    (
+        "NegativeObjectPropertyAssertion(:r :a :a)",
+        "[2, 1, 1, 2, 1]",
+    ),
+    (
+        "SameIndividual(:b :c) ObjectPropertyAssertion(:r :a :b) SubObjectPropertyOf(:r :s) NegativeObjectPropertyAssertion(:s :a :c)",
+        "[2, 2, 3, 2, 4]",
+    ),
+];
+
+#[test]
+fn same_different_and_denied(rt: HostRuntime) -> Result<(), Fail> {
+    assert_documents(&rt, Part::Counts, SAME_DIFFERENT_AND_DENIED)
+}
+
 const DECLARATIONS: &[Row] = &[
     ("Declaration(Class(:A))", "[3, 0, 0, 3, 0]"),
     (

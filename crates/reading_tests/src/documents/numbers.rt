@@ -65,6 +65,10 @@ const NUMBERS_OF_ASSERTIONS: &[Row] = &[
         "ClassAssertion(:x :x) ObjectPropertyAssertion(:x :y :x)",
         "classes x:x; properties x:x; individuals x:x x:y\nClass(ClassId(2))\nClassAssertion(ExprId(2), IndId(0))\nPropertyAssertion(PropId(0), IndId(1), IndId(0))\n",
     ),
+    (
+        "SameIndividual(:b :a) DifferentIndividuals(:c :b :d) NegativeObjectPropertyAssertion(:r :e :a)",
+        "classes; properties x:r; individuals x:b x:a x:c x:d x:e\nSameIndividuals([IndId(0), IndId(1)])\nDifferentIndividuals([IndId(2), IndId(0), IndId(3)])\nNegativePropertyAssertion(PropId(0), IndId(4), IndId(1))\n",
+    ),
 ];
 
 #[test]

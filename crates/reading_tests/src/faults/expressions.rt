@@ -2,6 +2,7 @@
 
 use crate::deep_documents::deep;
 use crate::tables::{Part, Row, assert_documents, random, shown};
+use profile::Version;
 use std::test::Fail;
 
 const INTERSECTIONS: &[Row] = &[
@@ -82,7 +83,13 @@ fn deepest_expression(rt: HostRuntime) -> Result<(), Fail> {
     for row in DEEP {
         let (levels, inmost, expected) = *row;
         let text = deep(rt.alloc(), "", levels, inmost)?;
-        let found = shown(rt.alloc(), text.as_str(), Part::Faults, random(&rt)?)?;
+        let found = shown(
+            rt.alloc(),
+            text.as_str(),
+            Part::Faults,
+            Version::Two,
+            random(&rt)?,
+        )?;
         assert!(rt; found.as_str() == expected, "{levels}: {found}");
     }
     Ok(())

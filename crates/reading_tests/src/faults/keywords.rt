@@ -1,6 +1,7 @@
 //! Keywords that are unknown, and those that the profile refuses.
 
 use crate::tables::{Part, Row, Shown, assert_documents, random, shown};
+use profile::Version;
 use std::alloc::{AllocError, Global};
 use std::hash::RandomState;
 use std::random::RandomSource;
@@ -24,7 +25,7 @@ fn unknown_keywords(rt: HostRuntime) -> Result<(), Fail> {
     assert_documents(&rt, Part::Faults, UNKNOWN_KEYWORDS)
 }
 
-/// The keywords of OWL 2 that the profile refuses, by the chapters of its structural specification.
+/// The keywords of OWL 2 that each version refuses, by the chapters of its structural specification.
 const REFUSED: &[&str] = &[
     // ontologies (3) and entities (5)
     "Import Datatype DataProperty",
@@ -46,27 +47,46 @@ const REFUSED: &[&str] = &[
     "SubDataPropertyOf EquivalentDataProperties DisjointDataProperties",
     "DataPropertyDomain DataPropertyRange FunctionalDataProperty DatatypeDefinition HasKey",
     // of individuals
-    "SameIndividual DifferentIndividuals NegativeObjectPropertyAssertion",
     "DataPropertyAssertion NegativeDataPropertyAssertion",
 ];
 
+/// Those that the first version refuses, and the second does not.
+const REFUSED_BY_THE_FIRST: &[&str] = &[
+    "SameIndividual",
+    "DifferentIndividuals",
+    "NegativeObjectPropertyAssertion",
+];
+
 /// The faults of a document with this keyword as a statement's and as an operand's.
-fn told_of_keyword(alloc: Global, state: RandomState, keyword: &str) -> Shown {
+fn told_of_keyword(alloc: Global, version: Version, state: RandomState, keyword: &str) -> Shown {
     let text = format!(in alloc; "Ontology({keyword}() SubClassOf({keyword}(<x:A>) <x:B>))")?;
-    shown(alloc, text.as_str(), Part::Faults, state)
+    shown(alloc, text.as_str(), Part::Faults, version, state)
 }
 
-/// Whether the keyword is refused as a statement's and as an operand's.
+/// Whether the version refuses the keyword as a statement's and as an operand's.
 fn is_refused_everywhere<R: AllocGlobal + RandomSource>(
     rt: &R,
+    version: Version,
     keyword: &str,
 ) -> Result<bool, AllocError> {
     // The second one stands behind 23 bytes and the first.
     let second = keyword.len().saturating_add(23);
-    let found = told_of_keyword(rt.alloc(), random(rt)?, keyword)?;
+    let found = told_of_keyword(rt.alloc(), version, random(rt)?, keyword)?;
     let expected = format!(in rt.alloc();
         "F1 at byte 9: {keyword}\nF1 at byte {second}: {keyword}\n"
     )?;
+    Ok(found.as_str() == expected.as_str())
+}
+
+/// Whether the version knows the keyword, so that it is out of place as an operand's, and wants operands as a statement's.
+fn is_known<R: AllocGlobal + RandomSource>(
+    rt: &R,
+    version: Version,
+    keyword: &str,
+) -> Result<bool, AllocError> {
+    let second = keyword.len().saturating_add(23);
+    let found = told_of_keyword(rt.alloc(), version, random(rt)?, keyword)?;
+    let expected = format!(in rt.alloc(); "F3 at byte 9\nF3 at byte {second}\n")?;
     Ok(found.as_str() == expected.as_str())
 }
 
@@ -74,10 +94,23 @@ fn is_refused_everywhere<R: AllocGlobal + RandomSource>(
 fn refused_keywords(rt: HostRuntime) {
     for keywords in REFUSED {
         for keyword in keywords.split(' ') {
-            assert!(rt;
-                is_refused_everywhere(&rt, keyword) == Ok(true),
-                "{keyword}"
-            );
+            for version in [Version::One, Version::Two] {
+                assert!(rt;
+                    is_refused_everywhere(&rt, version, keyword) == Ok(true),
+                    "{version:?} {keyword}"
+                );
+            }
         }
+    }
+}
+
+#[test]
+fn keywords_of_the_second_version(rt: HostRuntime) {
+    for keyword in REFUSED_BY_THE_FIRST {
+        assert!(rt;
+            is_refused_everywhere(&rt, Version::One, keyword) == Ok(true)
+                && is_known(&rt, Version::Two, keyword) == Ok(true),
+            "{keyword}"
+        );
     }
 }

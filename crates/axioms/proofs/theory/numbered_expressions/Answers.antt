@@ -1,4 +1,4 @@
-use Rattle.axioms.proofs.FourClasses.{examples_are_ontologies}
+use Rattle.axioms.proofs.OwnClasses.{examples_are_ontologies}
 use Rattle.axioms.proofs.Trees.{node_tree, part_before}
 use Rattle.axioms.proofs.theory.numbered_expressions.Goals as goal
 

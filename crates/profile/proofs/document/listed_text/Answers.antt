@@ -13,5 +13,5 @@ of-requires c =
 
 pub returns-in-Ok-accept-clause-read : goal.returns-in-Ok-accept-clause-read
 returns-in-Ok-accept-clause-read c =
-    listed_opens c.args.text.now (document_of c.in-Ok.document) c.in-Ok.ensures.written c.in-Ok-accept.ontology c.in-Ok-accept.ensures.read c.well_formed-in-Ok-accept.ensures c.in-Ok-of.prefixes
+    listed_opens c.args.version c.args.text.now (document_of c.in-Ok.document) c.in-Ok.ensures.written c.in-Ok-accept.ontology c.in-Ok-accept.ensures.read c.well_formed-in-Ok-accept.ensures c.in-Ok-of.prefixes
     (c.in-Ok-of.ensures ∙ ap (λ (ps : List Prefix). standard_prefixes ++ prefixes_of_code ps) c.deref.ensures.value)

@@ -10,18 +10,18 @@ use Rattle.profile.proofs.streamed.streamed.Goals as goal
 pub returns-in-Ok-2-clause-read : goal.returns-in-Ok-2-clause-read
 returns-in-Ok-2-clause-read c =
     let left = c.in_ok-trees.trees in
-    let answer = subst (λ (r : Result Ontology Refusal). IsAnswerTo left r) c.in-Ok-2.is c.in_ok-ontology.ensures in
-    streamed_opens c.args.text.now c.utf8.text left c.in_ok-trees.ensures c.in-Ok-2.ontology c.in-Ok.prefixes _ c.in-Ok.ensures refl answer c.well_formed-in-Ok-2.ensures
+    let answer = subst (λ (r : Result Ontology Refusal). IsAnswerTo c.args.version left r) c.in-Ok-2.is c.in_ok-ontology.ensures in
+    streamed_opens c.args.version c.args.text.now c.utf8.text left c.in_ok-trees.ensures c.in-Ok-2.ontology c.in-Ok.prefixes _ c.in-Ok.ensures refl answer c.well_formed-in-Ok-2.ensures
 
 pub returns-in-Ok-2-clause-taken : goal.returns-in-Ok-2-clause-taken
 returns-in-Ok-2-clause-taken c =
     let left = c.in_ok-trees.trees in
-    let answer = subst (λ (r : Result Ontology Refusal). IsAnswerTo left r) c.in-Ok-2.is c.in_ok-ontology.ensures in
-    streamed_taken c.args.text.now c.utf8.text left c.in_ok-trees.ensures c.in-Ok-2.ontology answer c.well_formed-in-Ok-2.ensures
+    let answer = subst (λ (r : Result Ontology Refusal). IsAnswerTo c.args.version left r) c.in-Ok-2.is c.in_ok-ontology.ensures in
+    streamed_taken c.args.version c.args.text.now c.utf8.text left c.in_ok-trees.ensures c.in-Ok-2.ontology answer c.well_formed-in-Ok-2.ensures
 
 pub returns-in-Err-2-clause-refused : goal.returns-in-Err-2-clause-refused
 returns-in-Err-2-clause-refused c =
     let text = c.args.text.now in
     let left = c.in_ok-trees.trees in
-    let answer = subst (λ (r : Result Ontology Refusal). IsAnswerTo left r) c.in-Err-2.is c.in_ok-ontology.ensures in
-    subst (λ (e : DocumentFault). Refuses e text) (sym c.from.ensures) (streamed_refused text c.utf8.text left c.in_ok-trees.ensures c.in-Err-2.refusal answer)
+    let answer = subst (λ (r : Result Ontology Refusal). IsAnswerTo c.args.version left r) c.in-Err-2.is c.in_ok-ontology.ensures in
+    subst (λ (e : DocumentFault). Refuses c.args.version e text) (sym c.from.ensures) (streamed_refused c.args.version text c.utf8.text left c.in_ok-trees.ensures c.in-Err-2.refusal answer)
