@@ -2,7 +2,7 @@
 
 use crate::documents::session_of;
 use crate::sessions::written;
-use session::{Asked, Explanation, Limits, Session, Stop};
+use session::{Asked, Explanation, Limits, Session, Stop, Version};
 use std::alloc::{AllocError, Global};
 use std::hash::RandomState;
 use std::test::Fail;
@@ -22,7 +22,18 @@ pub(crate) fn opened(
     max_bytes: u64,
     axioms: &str,
 ) -> Result<Option<Session>, AllocError> {
-    let Some(limits) = Limits::new(max_bytes, 1) else {
+    opened_in(alloc, state, max_bytes, Version::Two, axioms)
+}
+
+/// .. in which texts are read in that version.
+pub(crate) fn opened_in(
+    alloc: Global,
+    state: RandomState,
+    max_bytes: u64,
+    version: Version,
+    axioms: &str,
+) -> Result<Option<Session>, AllocError> {
+    let Some(limits) = Limits::new(max_bytes, 1, version) else {
         return Ok(None);
     };
     let document = document_of(alloc, axioms)?;
@@ -212,6 +223,69 @@ const ROWS: &[Row] = &[
         consistent: true,
     },
     Row {
+        case: "two individuals that become one",
+        document: "ClassAssertion(:A :a) ClassAssertion(:B :b)",
+        addition: "SameIndividual(:a :b)",
+        facts: 11,
+        served: 7,
+        then: 13,
+        consistent: true,
+    },
+    Row {
+        case: "two groups that become one",
+        document: "SameIndividual(:c :d) SameIndividual(:a :b) ClassAssertion(:A :b)",
+        addition: "SameIndividual(:d :a)",
+        facts: 11,
+        served: 8,
+        then: 13,
+        consistent: true,
+    },
+    Row {
+        case: "the same two once more",
+        document: "SameIndividual(:a :b) ClassAssertion(:A :a)",
+        addition: "SameIndividual(:a :b)",
+        facts: 9,
+        served: 9,
+        then: 9,
+        consistent: true,
+    },
+    Row {
+        case: "one individual that is one of a group",
+        document: "SameIndividual(:a :b) ClassAssertion(:A :a)",
+        addition: "SameIndividual(:b :c)",
+        facts: 9,
+        served: 7,
+        then: 11,
+        consistent: true,
+    },
+    Row {
+        case: "two that become different",
+        document: "SameIndividual(:a :b :c) ClassAssertion(:A :c)",
+        addition: "DifferentIndividuals(:a :c)",
+        facts: 11,
+        served: 11,
+        then: 14,
+        consistent: false,
+    },
+    Row {
+        case: "different ones that become one",
+        document: "DifferentIndividuals(:a :c) SameIndividual(:a :b)",
+        addition: "SameIndividual(:b :c)",
+        facts: 6,
+        served: 4,
+        then: 9,
+        consistent: false,
+    },
+    Row {
+        case: "a pair that is denied",
+        document: "SameIndividual(:b :c) ObjectPropertyAssertion(:r :a :b) SubObjectPropertyOf(:r :s)",
+        addition: "NegativeObjectPropertyAssertion(:s :a :c)",
+        facts: 8,
+        served: 7,
+        then: 9,
+        consistent: false,
+    },
+    Row {
         case: "classes of a contradictory session",
         document: "SubClassOf(owl:Thing owl:Nothing)",
         addition: A_BELOW_B,
@@ -396,7 +470,7 @@ const TAXONOMY: &str =
     "eltax 1 consistent\n<http://www.w3.org/2002/07/owl#Thing>\n<x:D> < <http://www.w3.org/2002/07/owl#Thing>\n<x:E> < <x:D>\n<x:H> < <http://www.w3.org/2002/07/owl#Thing>\n<x:W> < <http://www.w3.org/2002/07/owl#Thing>\nbottom <http://www.w3.org/2002/07/owl#Nothing>\n";
 
 /// Whether all are added, one after the other, run to an end behind each if that is asked for.
-fn are_added(session: &mut Session, axioms: &[&str], between: bool) -> bool {
+pub(crate) fn are_added(session: &mut Session, axioms: &[&str], between: bool) -> bool {
     for axiom in axioms {
         if session.add(axiom).is_err() || (between && session.resume(MANY) != Ok(())) {
             return false;
@@ -462,7 +536,7 @@ fn refusal(alloc: Global, session: &mut Session, text: &str) -> Result<Option<St
 }
 
 /// Whether the text is refused so, and nothing changes.
-fn refuses(
+pub(crate) fn refuses(
     alloc: Global,
     session: &mut Session,
     text: &str,
@@ -608,7 +682,7 @@ fn is_explained(session: &mut Session) -> bool {
 #[test]
 fn prefixes_of_the_document(rt: HostRuntime) -> Result<(), Fail> {
     let state = RandomState::new(&rt)?;
-    let limits = Limits::new(1000, 1).ok_or("limits")?;
+    let limits = Limits::new(1000, 1, Version::Two).ok_or("limits")?;
     let document = "Prefix(p:=<x:>) Ontology(SubClassOf(p:A p:B))";
     let session = session_of(rt.alloc(), state, &limits, document);
     let mut session = session.ok_or("session")?;

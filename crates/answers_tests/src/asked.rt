@@ -4,7 +4,7 @@ ghost use Rattle.engine.specs.Saturations.{IsSaturated};
 use crate::{derivations, listings};
 use axioms::Ontology;
 use engine::{Saturation, saturated};
-use profile::read_bytes;
+use profile::{Version, read_bytes};
 use std::alloc::Global;
 use std::hash::RandomState;
 use std::process::Abort;
@@ -45,7 +45,7 @@ fn is_so<R: AllocGlobal + RandomSource>(
     asked: Asked,
 ) -> Result<bool, Fail> {
     let state = RandomState::new(rt)?;
-    let ontology = read_bytes(rt.alloc(), document.as_bytes(), state)?;
+    let ontology = read_bytes(rt.alloc(), document.as_bytes(), Version::Two, state)?;
     Ok(answer_for(rt.alloc(), state, &ontology, asked))
 }
 

@@ -6,7 +6,7 @@ ghost use Rattle.std.specs.Prelude.{IfSome, List, ℕ};
 use crate::asked;
 use axioms::{ClassId, ExprId, IndId, Kind, Ontology};
 use cert_check::{Conclusion, Line, Rule, Subject, read_certificate};
-use certificate::LineText;
+use certificate::{FormatOne, LineText};
 use classification::is_consistent;
 use engine::Saturation;
 use explain::{contradiction, contradiction_text, line_text, lines, lines_of};
@@ -61,7 +61,7 @@ fn has_lines(alloc: Global, ontology: &Ontology, saturation: &Saturation) -> boo
 }
 
 /// Whether the text, read as that of a certificate of its lines alone, has such lines.
-fn reads_as_lines(alloc: Global, ontology: &Ontology, text: &LineText) -> bool {
+fn reads_as_lines(alloc: Global, ontology: &Ontology, text: &LineText<FormatOne>) -> bool {
     let Ok(bytes) = text.alone(alloc) else {
         return false;
     };
@@ -75,7 +75,7 @@ fn reads_as_lines(alloc: Global, ontology: &Ontology, text: &LineText) -> bool {
 fn has_text(alloc: Global, ontology: &Ontology, saturation: &Saturation) -> bool
     requires { IsSaturated ontology.now saturation.now }
 {
-    match line_text(alloc, ontology, saturation) {
+    match line_text::<FormatOne>(alloc, ontology, saturation) {
         Ok(text) => text.len() == BELOW.len() && reads_as_lines(alloc, ontology, &text),
         Err(_) => false,
     }
@@ -141,7 +141,7 @@ fn has_contradiction(alloc: Global, ontology: &Ontology, saturation: &Saturation
 const TWO_STEPS: &[u8] = b"elcert 1 inconsistent\nsub i0 e2 K15 a2\nsub i0 e1 K4 a1 1\nend\n";
 
 /// Whether the text is that of the certificate.
-fn is_two_steps(alloc: Global, text: &LineText) -> bool {
+fn is_two_steps(alloc: Global, text: &LineText<FormatOne>) -> bool {
     match text.alone(alloc) {
         Ok(bytes) => bytes.as_slice() == TWO_STEPS,
         Err(_) => false,
@@ -155,7 +155,7 @@ fn has_contradiction_text(alloc: Global, ontology: &Ontology, saturation: &Satur
     if is_consistent(ontology, saturation) {
         return false;
     }
-    match contradiction_text(alloc, ontology, saturation) {
+    match contradiction_text::<FormatOne>(alloc, ontology, saturation) {
         Ok(text) => is_two_steps(alloc, &text),
         Err(_) => false,
     }

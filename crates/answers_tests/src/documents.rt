@@ -7,7 +7,7 @@ use cert_check::interpretation_of;
 use certificate::read_certificate;
 use device::SliceSource;
 use interpretation_spec::Interpretation;
-use profile::read_bytes;
+use profile::{Version, read_bytes};
 use session::{Limits, Session};
 use std::alloc::Global;
 use std::hash::RandomState;
@@ -19,7 +19,8 @@ pub(crate) fn ontology_of<R: AllocGlobal + RandomSource>(
     rt: &R,
     document: &str,
 ) -> Result<Ontology, Fail> {
-    Ok(read_bytes(rt.alloc(), document.as_bytes(), RandomState::new(rt)?)?)
+    let state = RandomState::new(rt)?;
+    Ok(read_bytes(rt.alloc(), document.as_bytes(), Version::Two, state)?)
 }
 
 /// A session over the document, of which nothing was run.

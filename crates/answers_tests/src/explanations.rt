@@ -17,7 +17,7 @@ use certificate::Line;
 use engine::{Saturation, saturated};
 use interpretation_spec::Interpretation;
 use judged::is_right_of;
-use profile::read_bytes;
+use profile::{Version, read_bytes};
 use std::alloc::Global;
 use std::hash::RandomState;
 use std::test::Fail;
@@ -56,6 +56,26 @@ const UNSATISFIABLE: &str = "Prefix(:=<x:>) Ontology(SubClassOf(:A owl:Nothing) 
 /// Nothing is in A, but the individual a is.
 const INDIVIDUAL_OF_NOTHING: &str =
     "Prefix(:=<x:>) Ontology(SubClassOf(:A owl:Nothing) ClassAssertion(:A :a))";
+
+/// The individuals a and b are one, a in A and b in B.
+const SAME_INDIVIDUALS: &str =
+    "Prefix(:=<x:>) Ontology(SameIndividual(:a :b) ClassAssertion(:A :a) ClassAssertion(:B :b))";
+
+/// The individuals a and b are one, as c and d are, and a has c, which is another. Nothing is in A.
+const TWO_GROUPS: &str =
+    "Prefix(:=<x:>) Ontology(SameIndividual(:a :b) SameIndividual(:c :d) ObjectPropertyAssertion(:r :a :c) DifferentIndividuals(:a :c) Declaration(Class(:A)))";
+
+/// The individuals b and c are one, and what r leads on from b is reached by s.
+const CHAIN_THROUGH_A_GROUP: &str =
+    "Prefix(:=<x:>) Ontology(SameIndividual(:b :c) ObjectPropertyAssertion(:r :a :b) ObjectPropertyAssertion(:s :c :d) SubObjectPropertyOf(ObjectPropertyChain(:r :s) :t) ObjectPropertyDomain(:t :A))";
+
+/// The individuals a and c are one by way of b, and differ.
+const DIFFERENT_BY_WAY_OF_A_THIRD: &str =
+    "Prefix(:=<x:>) Ontology(SameIndividual(:a :b) SameIndividual(:b :c) DifferentIndividuals(:d :a :c))";
+
+/// The pair of a and c is denied, and a has b, which is c.
+const DENIED_BY_WAY_OF_SAME: &str =
+    "Prefix(:=<x:>) Ontology(SameIndividual(:b :c) ObjectPropertyAssertion(:r :a :b) SubObjectPropertyOf(:r :s) NegativeObjectPropertyAssertion(:s :a :c))";
 
 /// Which explanation is wanted, by its text.
 #[derive(Clone, Copy)]
@@ -188,6 +208,49 @@ const QUESTIONS: &[Question] = &[
             "1. sub individual <x:a> <x:A> by K15 axiom 2\n2. sub individual <x:a> <http://www.w3.org/2002/07/owl#Nothing> by K4 axiom 1 from 1\n",
         ),
     },
+    Question {
+        case: "b is in A, as a is, which it is",
+        document: SAME_INDIVIDUALS,
+        asked: Asked::Individual("x:b"),
+        class: "x:A",
+        wanted: Wanted::Yes(
+            "1. sub individual <x:a> <x:A> by K15 axiom 2\n2. same individual <x:b> individual <x:a> by K17 axiom 1\n3. sub individual <x:b> <x:A> by K19 from 2, 1\n",
+        ),
+    },
+    Question {
+        case: "d is not in A: individuals that are one have one element",
+        document: TWO_GROUPS,
+        asked: Asked::Individual("x:d"),
+        class: "x:A",
+        wanted: Wanted::No(
+            "no\ndomain 2\npair <x:r> 0 1\nindividual <x:a> 0\nindividual <x:b> 0\nindividual <x:c> 1\nindividual <x:d> 1\nelement 1\n",
+        ),
+    },
+    Question {
+        case: "a is in A, by a chain that goes on from what b is",
+        document: CHAIN_THROUGH_A_GROUP,
+        asked: Asked::Individual("x:a"),
+        class: "x:A",
+        wanted: Wanted::YesByLast("\n6. sub individual <x:a> <x:A> by K10 axiom 5 from 5\n"),
+    },
+    Question {
+        case: "a differs from what it is",
+        document: DIFFERENT_BY_WAY_OF_A_THIRD,
+        asked: Asked::Individual("x:d"),
+        class: "http://www.w3.org/2002/07/owl#Thing",
+        wanted: Wanted::Contradictory(
+            "1. same individual <x:a> individual <x:b> by K17 axiom 1\n2. same individual <x:b> individual <x:c> by K17 axiom 2\n3. same individual <x:a> individual <x:c> by K18 from 1, 2\n4. sub individual <x:a> <http://www.w3.org/2002/07/owl#Nothing> by K20 axiom 3 from 3\n",
+        ),
+    },
+    Question {
+        case: "a has what it is denied",
+        document: DENIED_BY_WAY_OF_SAME,
+        asked: Asked::Individual("x:b"),
+        class: "http://www.w3.org/2002/07/owl#Thing",
+        wanted: Wanted::Contradictory(
+            "1. edge individual <x:a> <x:r> individual <x:b> by K16 axiom 2\n2. same individual <x:c> individual <x:b> by K17 axiom 1\n3. edge individual <x:a> <x:r> individual <x:c> by K19 from 2, 1\n4. edge individual <x:a> <x:s> individual <x:c> by K12 axiom 3 from 3\n5. sub individual <x:a> <http://www.w3.org/2002/07/owl#Nothing> by K20 axiom 4 from 4\n",
+        ),
+    },
 ];
 
 /// Whether this is the text.
@@ -292,7 +355,7 @@ fn is_judged(alloc: Global, state: RandomState, ontology: &Ontology, question: &
 
 /// Whether what explains the question is judged right. Here alone an ontology is alive.
 fn is_judged_right(alloc: Global, state: RandomState, question: &Question) -> bool {
-    let Ok(ontology) = read_bytes(alloc, question.document.as_bytes(), state) else {
+    let Ok(ontology) = read_bytes(alloc, question.document.as_bytes(), Version::Two, state) else {
         return false;
     };
     let right = is_judged(alloc, state, &ontology, question);
@@ -317,7 +380,7 @@ fn is_answered(
 
 /// Whether the question is explained as it is wanted. Here alone an ontology is alive.
 fn is_right(alloc: Global, state: RandomState, question: &Question) -> bool {
-    let Ok(ontology) = read_bytes(alloc, question.document.as_bytes(), state) else {
+    let Ok(ontology) = read_bytes(alloc, question.document.as_bytes(), Version::Two, state) else {
         return false;
     };
     let right = is_answered(alloc, state, &ontology, question);

@@ -14,6 +14,8 @@ mod explanations;
 #[cfg(test)]
 mod generated_parts;
 #[cfg(test)]
+mod individuals;
+#[cfg(test)]
 mod listings;
 #[cfg(test)]
 mod names;

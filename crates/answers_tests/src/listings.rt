@@ -5,7 +5,7 @@ ghost use Rattle.interpretation_spec.specs.NumberedInterpretation.{IsMadeFor};
 
 use crate::asked;
 use axioms::{ClassId, ExprId, Ontology, PropId};
-use certificate::{Claim, ClassRow, LineText, Listed, PairRow};
+use certificate::{Claim, ClassRow, FormatOne, LineText, Listed, PairRow};
 use classification::is_consistent;
 use countermodel::{Elements, build, listed, pair_rows, text_with_listed};
 use engine::Saturation;
@@ -142,7 +142,7 @@ fn writes_the_chain(alloc: Global, ontology: &Ontology, saturation: &Saturation)
     if !is_consistent(ontology, saturation) {
         return false;
     }
-    let Ok(lines) = LineText::new(alloc) else {
+    let Ok(lines) = LineText::<FormatOne>::new(alloc) else {
         return false;
     };
     match text_with_listed(alloc, ontology, saturation, lines) {

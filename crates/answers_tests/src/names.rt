@@ -2,7 +2,7 @@
 
 use answers::names_in_order;
 use axioms::Ontology;
-use profile::read_bytes;
+use profile::{Version, read_bytes};
 use std::alloc::Global;
 use std::hash::RandomState;
 use std::test::Fail;
@@ -28,7 +28,7 @@ fn are_in_order(alloc: Global, ontology: &Ontology) -> bool {
 #[test]
 fn names_come_in_byte_order(rt: HostRuntime) -> Result<(), Fail> {
     let state = RandomState::new(&rt)?;
-    let ontology = read_bytes(rt.alloc(), DOCUMENT.as_bytes(), state)?;
+    let ontology = read_bytes(rt.alloc(), DOCUMENT.as_bytes(), Version::Two, state)?;
     let are_in_order = are_in_order(rt.alloc(), &ontology);
     drop(ontology);
     assert!(rt; are_in_order, "a before b");

@@ -4,7 +4,7 @@ use crate::additions::{
     A_BELOW_B, CHAIN_INTO_A_DEFINITION, INDIVIDUALS_AND_DOMAIN, MANY, is_ended, opened, seen,
 };
 use device::SliceSource;
-use session::{Answers, Limits, QueryFault, QuestionFault, Session, Stop, query_text};
+use session::{Answers, Limits, QueryFault, QuestionFault, Session, Stop, Version, query_text};
 use std::alloc::{AllocError, Global};
 use std::hash::RandomState;
 use std::test::Fail;
@@ -141,6 +141,16 @@ const ROWS: &[Row] = &[
         superclasses: &[THING],
         subclasses: &[NOTHING, "x:A"],
         instances: &[],
+    },
+    Row {
+        case: "an intersection of classes of two individuals that are one",
+        document: "SameIndividual(:a :b) ClassAssertion(:A :a) ClassAssertion(:B :b)",
+        query: "ObjectIntersectionOf(:A :B)",
+        facts: 13,
+        with: 19,
+        superclasses: &[THING, "x:A", "x:B"],
+        subclasses: &[NOTHING],
+        instances: &["x:a", "x:b"],
     },
     Row {
         case: "comments, line breaks and no space",
@@ -355,6 +365,7 @@ const REFUSED: &[(&str, &str)] = &[
     ("q:A", "P3 at byte 0"),
     ("^", "X1 at byte 0"),
     ("SubClassOf(:A :B)", "F3 at byte 0"),
+    ("SameIndividual(:A :B)", "F3 at byte 0"),
     ("Declaration(Class(:A))", "F3 at byte 0"),
     ("ObjectIntersectionOf(:A)", "F3 at byte 0"),
     ("ObjectUnionOf(:A :B)", "F1 at byte 0: ObjectUnionOf"),
@@ -522,13 +533,14 @@ enum Wanted {
     Expression(&'static str),
 }
 
-/// A query of a document, within so many bytes and facts, and what is expected.
+/// A query of a document of the version, within so many bytes and facts, and what is expected.
 struct Asked {
     case: &'static str,
     document: &'static str,
     query: &'static str,
     bytes: u64,
     facts: u64,
+    version: Version,
     wanted: Wanted,
 }
 
@@ -545,6 +557,7 @@ const ASKED: &[Asked] = &[
         query: SOMETHING_OF_H,
         bytes: 254,
         facts: 24,
+        version: Version::Two,
         wanted: Wanted::Text(
             "super <http://www.w3.org/2002/07/owl#Thing>\nsuper <x:D>\nsub <http://www.w3.org/2002/07/owl#Nothing>\nsub <x:D>\nsub <x:E>\n",
         ),
@@ -555,6 +568,7 @@ const ASKED: &[Asked] = &[
         query: "ObjectSomeValuesFrom(:r owl:Thing)",
         bytes: 1000,
         facts: 23,
+        version: Version::Two,
         wanted: Wanted::Text(
             "super <http://www.w3.org/2002/07/owl#Thing>\nsuper <x:C>\nsub <http://www.w3.org/2002/07/owl#Nothing>\ninstance <x:a>\n",
         ),
@@ -565,6 +579,7 @@ const ASKED: &[Asked] = &[
         query: SOMETHING_OF_H,
         bytes: 1000,
         facts: 23,
+        version: Version::Two,
         wanted: Wanted::Limit,
     },
     Asked {
@@ -573,6 +588,7 @@ const ASKED: &[Asked] = &[
         query: "ObjectSomeValuesFrom(:loc :Q)",
         bytes: 1000,
         facts: 20,
+        version: Version::Two,
         wanted: Wanted::Expression("F8 at byte 26"),
     },
     Asked {
@@ -581,6 +597,7 @@ const ASKED: &[Asked] = &[
         query: "ObjectSomeValuesFrom(:loc :Q)",
         bytes: 1000,
         facts: 19,
+        version: Version::Two,
         wanted: Wanted::Limit,
     },
     Asked {
@@ -589,6 +606,7 @@ const ASKED: &[Asked] = &[
         query: "ObjectSomeValuesFrom(:loc :H",
         bytes: 252,
         facts: 24,
+        version: Version::Two,
         wanted: Wanted::Expression("U2"),
     },
     Asked {
@@ -597,7 +615,35 @@ const ASKED: &[Asked] = &[
         query: "",
         bytes: 224,
         facts: 24,
+        version: Version::Two,
         wanted: Wanted::Document("U2"),
+    },
+    Asked {
+        case: "a document of the second version in the first",
+        document: "Ontology(SameIndividual(<x:a> <x:b>))",
+        query: "SameIndividual(<x:a> <x:b>)",
+        bytes: 1000,
+        facts: 24,
+        version: Version::One,
+        wanted: Wanted::Document("F1 at byte 9: SameIndividual"),
+    },
+    Asked {
+        case: "an expression that the first version refuses",
+        document: INDIVIDUALS,
+        query: "SameIndividual(:a :b)",
+        bytes: 1000,
+        facts: 24,
+        version: Version::One,
+        wanted: Wanted::Expression("F1 at byte 0: SameIndividual"),
+    },
+    Asked {
+        case: "an expression that the second version does not take there",
+        document: INDIVIDUALS,
+        query: "SameIndividual(:a :b)",
+        bytes: 1000,
+        facts: 24,
+        version: Version::Two,
+        wanted: Wanted::Expression("F3 at byte 0"),
     },
     Asked {
         case: "a fault of the document is told before one of the expression",
@@ -605,6 +651,7 @@ const ASKED: &[Asked] = &[
         query: "^",
         bytes: 1000,
         facts: 24,
+        version: Version::Two,
         wanted: Wanted::Document("P2 at byte 9"),
     },
 ];
@@ -628,7 +675,7 @@ fn is_wanted(
 
 /// Whether the query is answered as is expected.
 fn is_asked(alloc: Global, state: RandomState, row: &Asked) -> Result<bool, AllocError> {
-    let Some(limits) = Limits::new(row.bytes, row.facts) else {
+    let Some(limits) = Limits::new(row.bytes, row.facts, row.version) else {
         return Ok(false);
     };
     let mut source = SliceSource::new(row.document.as_bytes());

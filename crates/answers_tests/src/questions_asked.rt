@@ -1,12 +1,15 @@
 //! Questions about documents worked out by hand, and the texts that answer them.
 
 use device::SliceSource;
-use session::{Asked, Form, Limits, QuestionFault, explanation_text, instances_text};
+use session::{Asked, Form, Limits, QuestionFault, Version, explanation_text, instances_text};
 use std::alloc::Global;
 use std::hash::RandomState;
 use std::test::Fail;
 
 const SUBCLASS: &str = "Prefix(:=<x:>) Ontology(SubClassOf(:A :B))";
+
+const SAME_INDIVIDUALS: &str =
+    "Prefix(:=<x:>) Ontology(SameIndividual(:a :b) ClassAssertion(:A :a) ClassAssertion(:B :b))";
 
 const INDIVIDUALS: &str =
     "Prefix(:=<x:>) Ontology(SubClassOf(:A :B) ClassAssertion(:A :a) ObjectPropertyAssertion(:r :a :b) ObjectPropertyDomain(:r :C) Declaration(NamedIndividual(:c)))";
@@ -30,12 +33,13 @@ fn is_wanted(answer: &Result<Vec<u8>, QuestionFault<'_>>, wanted: &Wanted) -> bo
     }
 }
 
-/// A question after the individuals of a class, and what is expected.
+/// A question after the individuals of a class, within so many facts, of a document of the version, and what is expected.
 struct Members {
     case: &'static str,
     document: &'static str,
     class: &'static str,
     facts: u64,
+    version: Version,
     wanted: Wanted,
 }
 
@@ -45,6 +49,7 @@ const MEMBERS: &[Members] = &[
         document: INDIVIDUALS,
         class: "x:B",
         facts: 17,
+        version: Version::Two,
         wanted: Wanted::Text("<x:a>\n"),
     },
     Members {
@@ -52,6 +57,7 @@ const MEMBERS: &[Members] = &[
         document: INDIVIDUALS,
         class: "http://www.w3.org/2002/07/owl#Thing",
         facts: 17,
+        version: Version::Two,
         wanted: Wanted::Text("<x:a>\n<x:b>\n<x:c>\n"),
     },
     Members {
@@ -59,6 +65,7 @@ const MEMBERS: &[Members] = &[
         document: SUBCLASS,
         class: "x:B",
         facts: 17,
+        version: Version::Two,
         wanted: Wanted::Text(""),
     },
     Members {
@@ -66,6 +73,7 @@ const MEMBERS: &[Members] = &[
         document: INDIVIDUALS,
         class: "x:a",
         facts: 17,
+        version: Version::Two,
         wanted: Wanted::UnknownName("x:a"),
     },
     Members {
@@ -73,6 +81,7 @@ const MEMBERS: &[Members] = &[
         document: INDIVIDUALS,
         class: "x:B",
         facts: 16,
+        version: Version::Two,
         wanted: Wanted::Limit,
     },
     Members {
@@ -80,6 +89,7 @@ const MEMBERS: &[Members] = &[
         document: INDIVIDUALS,
         class: "x:Z",
         facts: 16,
+        version: Version::Two,
         wanted: Wanted::Limit,
     },
     Members {
@@ -87,13 +97,31 @@ const MEMBERS: &[Members] = &[
         document: INDIVIDUALS,
         class: "x:Z",
         facts: 17,
+        version: Version::Two,
         wanted: Wanted::UnknownName("x:Z"),
+    },
+    Members {
+        case: "two individuals that are one",
+        document: SAME_INDIVIDUALS,
+        class: "x:B",
+        facts: 13,
+        version: Version::Two,
+        wanted: Wanted::Text("<x:a>\n<x:b>\n"),
+    },
+    Members {
+        case: "a document of the second version in the first",
+        document: SAME_INDIVIDUALS,
+        class: "x:B",
+        facts: 13,
+        version: Version::One,
+        wanted: Wanted::Refused,
     },
     Members {
         case: "no document",
         document: "Ontology(",
         class: "x:B",
         facts: 17,
+        version: Version::Two,
         wanted: Wanted::Refused,
     },
 ];
@@ -109,13 +137,13 @@ fn lists(alloc: Global, state: RandomState, limits: &Limits, row: &Members) -> b
 fn individuals_of_a_class(rt: HostRuntime) -> Result<(), Fail> {
     let state = RandomState::new(&rt)?;
     for row in MEMBERS {
-        let limits = Limits::new(1000, row.facts).ok_or("limits")?;
+        let limits = Limits::new(1000, row.facts, row.version).ok_or("limits")?;
         assert!(rt; lists(rt.alloc(), state, &limits, row), "{}", row.case);
     }
     Ok(())
 }
 
-/// A question why, and what is expected.
+/// A question why, within so many facts, of a document of the version, and what is expected.
 struct Why {
     case: &'static str,
     document: &'static str,
@@ -123,6 +151,7 @@ struct Why {
     class: &'static str,
     form: Form,
     facts: u64,
+    version: Version,
     wanted: Wanted,
 }
 
@@ -134,6 +163,7 @@ const WHYS: &[Why] = &[
         class: "x:B",
         form: Form::Lines,
         facts: 100,
+        version: Version::Two,
         wanted: Wanted::Text(
             "yes\n1. sub <x:A> <x:A> by K1\n2. sub <x:A> <x:B> by K4 axiom 1 from 1\n",
         ),
@@ -145,6 +175,7 @@ const WHYS: &[Why] = &[
         class: "x:A",
         form: Form::Lines,
         facts: 100,
+        version: Version::Two,
         wanted: Wanted::Text("no\ndomain 1\nclass <x:B> 0\nelement 0\n"),
     },
     Why {
@@ -154,6 +185,7 @@ const WHYS: &[Why] = &[
         class: "x:A",
         form: Form::Graph,
         facts: 100,
+        version: Version::Two,
         wanted: Wanted::Text(
             "digraph refutation {\n  node [shape=ellipse];\n  0 [label=\"0\\n<x:B>\", peripheries=2];\n}\n",
         ),
@@ -165,7 +197,30 @@ const WHYS: &[Why] = &[
         class: "x:A",
         form: Form::Lines,
         facts: 100,
+        version: Version::Two,
         wanted: Wanted::Text("yes\n1. sub individual <x:A> <x:A> by K15 axiom 1\n"),
+    },
+    Why {
+        case: "an individual is in the class of what it is",
+        document: SAME_INDIVIDUALS,
+        asked: Asked::Individual("x:b"),
+        class: "x:A",
+        form: Form::Lines,
+        facts: 13,
+        version: Version::Two,
+        wanted: Wanted::Text(
+            "yes\n1. sub individual <x:a> <x:A> by K15 axiom 2\n2. same individual <x:b> individual <x:a> by K17 axiom 1\n3. sub individual <x:b> <x:A> by K19 from 2, 1\n",
+        ),
+    },
+    Why {
+        case: "a document of the second version in the first",
+        document: SAME_INDIVIDUALS,
+        asked: Asked::Individual("x:b"),
+        class: "x:A",
+        form: Form::Lines,
+        facts: 13,
+        version: Version::One,
+        wanted: Wanted::Refused,
     },
     Why {
         case: "the subject is told before the class",
@@ -174,6 +229,7 @@ const WHYS: &[Why] = &[
         class: "x:Z",
         form: Form::Graph,
         facts: 100,
+        version: Version::Two,
         wanted: Wanted::UnknownName("x:A"),
     },
     Why {
@@ -183,6 +239,7 @@ const WHYS: &[Why] = &[
         class: "x:Z",
         form: Form::Lines,
         facts: 100,
+        version: Version::Two,
         wanted: Wanted::UnknownName("x:Z"),
     },
     Why {
@@ -192,6 +249,7 @@ const WHYS: &[Why] = &[
         class: "x:B",
         form: Form::Lines,
         facts: 7,
+        version: Version::Two,
         wanted: Wanted::Limit,
     },
     Why {
@@ -201,6 +259,7 @@ const WHYS: &[Why] = &[
         class: "x:Z",
         form: Form::Graph,
         facts: 7,
+        version: Version::Two,
         wanted: Wanted::Limit,
     },
     Why {
@@ -210,6 +269,7 @@ const WHYS: &[Why] = &[
         class: "x:Z",
         form: Form::Graph,
         facts: 8,
+        version: Version::Two,
         wanted: Wanted::UnknownName("x:A"),
     },
 ];
@@ -233,7 +293,7 @@ fn explains(alloc: Global, state: RandomState, limits: &Limits, row: &Why) -> bo
 fn reasons(rt: HostRuntime) -> Result<(), Fail> {
     let state = RandomState::new(&rt)?;
     for row in WHYS {
-        let limits = Limits::new(1000, row.facts).ok_or("limits")?;
+        let limits = Limits::new(1000, row.facts, row.version).ok_or("limits")?;
         assert!(rt; explains(rt.alloc(), state, &limits, row), "{}", row.case);
     }
     Ok(())

@@ -3,7 +3,7 @@
 use crate::additions::{INDIVIDUALS_AND_DOMAIN, MANY, opened};
 use device::BufferSink;
 use failing_devices::FailingSink;
-use session::{Session, Summary, TextFault};
+use session::{Format, Session, Summary, TextFault};
 use std::alloc::Global;
 use std::hash::RandomState;
 use std::test::Fail;
@@ -34,7 +34,7 @@ fn written(alloc: Global, session: &Session, failing: usize, calls: usize, piece
     let mut taxonomy = sink_at(alloc, 1, failing, calls, piece);
     let mut instances = sink_at(alloc, 2, failing, calls, piece);
     let mut certificate = sink_at(alloc, 3, failing, calls, piece);
-    let answer = session.write(&mut taxonomy, &mut instances, &mut certificate);
+    let answer = session.write(&mut taxonomy, &mut instances, &mut certificate, Format::One);
     Taken {
         taxonomy: taxonomy.inner.into_bytes(),
         instances: instances.inner.into_bytes(),

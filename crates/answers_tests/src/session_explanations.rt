@@ -1,7 +1,7 @@
 //! What sessions over worked documents explain, and what they do not.
 
 use crate::documents::session_of;
-use session::{AskFault, Asked, Explanation, Limits, Session};
+use session::{AskFault, Asked, Explanation, Limits, Session, Version};
 use std::alloc::Global;
 use std::hash::RandomState;
 use std::test::Fail;
@@ -13,6 +13,9 @@ const REFLEXIVE_HIERARCHY: &str =
 
 const APART: &str =
     "Prefix(:=<x:>) Ontology(DisjointClasses(:A :B) ClassAssertion(:A :a) ClassAssertion(:B :a))";
+
+const SAME_INDIVIDUALS: &str =
+    "Prefix(:=<x:>) Ontology(SameIndividual(:a :b) ClassAssertion(:A :a) ClassAssertion(:B :b) Declaration(Class(:C)))";
 
 /// Which explanation is wanted: so many lines, or that element of so many.
 enum Wanted {
@@ -58,6 +61,20 @@ const ROWS: &[Row] = &[
         asked: Asked::Individual("x:a"),
         class: "x:A",
         wanted: Wanted::Contradictory(3),
+    },
+    Row {
+        case: "b is in A, as it is a",
+        document: SAME_INDIVIDUALS,
+        asked: Asked::Individual("x:b"),
+        class: "x:A",
+        wanted: Wanted::Yes(3),
+    },
+    Row {
+        case: "the one element of a and b is outside C",
+        document: SAME_INDIVIDUALS,
+        asked: Asked::Individual("x:b"),
+        class: "x:C",
+        wanted: Wanted::No(1, 0),
     },
 ];
 
@@ -127,7 +144,7 @@ fn is_explained(alloc: Global, state: RandomState, limits: &Limits, row: &Row) -
 
 #[test]
 fn what_sessions_explain(rt: HostRuntime) -> Result<(), Fail> {
-    let limits = Limits::new(1000, 1).ok_or("limits")?;
+    let limits = Limits::new(1000, 1, Version::Two).ok_or("limits")?;
     let state = RandomState::new(&rt)?;
     for row in ROWS {
         assert!(rt;

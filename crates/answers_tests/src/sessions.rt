@@ -3,7 +3,7 @@ ghost use Rattle.engine.specs.Saturations.{IsSound};
 
 use crate::documents::session_of;
 use device::BufferSink;
-use session::{AskFault, Limits, Session, Stop, Summary, TextFault};
+use session::{AskFault, Format, Limits, Session, Stop, Summary, TextFault, Version};
 use std::alloc::Global;
 use std::hash::RandomState;
 use std::test::Fail;
@@ -55,6 +55,24 @@ const ROWS: &[Row] = &[
         superclasses: " http://www.w3.org/2002/07/owl#Thing x:A x:B",
         subclasses: " http://www.w3.org/2002/07/owl#Nothing x:A x:B",
         instances: "",
+    },
+    Row {
+        case: "same_individuals",
+        document: "Prefix(:=<x:>) Ontology(SameIndividual(:a :b) ClassAssertion(:A :a) ClassAssertion(:B :b))",
+        facts: 13,
+        class: "x:B",
+        superclasses: " http://www.w3.org/2002/07/owl#Thing x:B",
+        subclasses: " http://www.w3.org/2002/07/owl#Nothing x:B",
+        instances: " x:a x:b",
+    },
+    Row {
+        case: "denied_by_way_of_same",
+        document: "Prefix(:=<x:>) Ontology(SameIndividual(:b :c) ObjectPropertyAssertion(:r :a :b) SubObjectPropertyOf(:r :s) NegativeObjectPropertyAssertion(:s :a :c))",
+        facts: 9,
+        class: "http://www.w3.org/2002/07/owl#Nothing",
+        superclasses: " http://www.w3.org/2002/07/owl#Nothing http://www.w3.org/2002/07/owl#Thing",
+        subclasses: " http://www.w3.org/2002/07/owl#Nothing http://www.w3.org/2002/07/owl#Thing",
+        instances: " x:a x:b x:c",
     },
 ];
 
@@ -149,7 +167,7 @@ fn is_answered(alloc: Global, state: RandomState, limits: &Limits, row: &Row) ->
 
 #[test]
 fn what_follows(rt: HostRuntime) -> Result<(), Fail> {
-    let limits = Limits::new(1000, 1).ok_or("limits")?;
+    let limits = Limits::new(1000, 1, Version::Two).ok_or("limits")?;
     let state = RandomState::new(&rt)?;
     for row in ROWS {
         assert!(rt;
@@ -174,7 +192,7 @@ pub(crate) fn written(alloc: Global, session: &Session) -> Taken {
     let mut taxonomy = BufferSink::new(alloc);
     let mut instances = BufferSink::new(alloc);
     let mut certificate = BufferSink::new(alloc);
-    let summary = session.write(&mut taxonomy, &mut instances, &mut certificate);
+    let summary = session.write(&mut taxonomy, &mut instances, &mut certificate, Format::Two);
     Taken {
         taxonomy: taxonomy.into_bytes(),
         instances: instances.into_bytes(),
@@ -210,7 +228,7 @@ fn is_written(alloc: Global, session: &Session) -> bool {
         && written.instances.as_slice() == b"elinst 1 consistent\n".as_slice()
         && written
             .certificate
-            .starts_with(b"elcert 1 consistent\n".as_slice())
+            .starts_with(b"elcert 2 consistent\n".as_slice())
 }
 
 /// Whether nothing is written before the session is run, and the texts when it is.
@@ -231,7 +249,7 @@ fn is_told(alloc: Global, state: RandomState, limits: &Limits) -> bool {
 
 #[test]
 fn texts_of_a_session(rt: HostRuntime) -> Result<(), Fail> {
-    let limits = Limits::new(33, 1).ok_or("limits")?;
+    let limits = Limits::new(33, 1, Version::Two).ok_or("limits")?;
     let state = RandomState::new(&rt)?;
     assert!(rt; is_told(rt.alloc(), state, &limits));
     Ok(())

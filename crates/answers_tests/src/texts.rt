@@ -13,7 +13,7 @@ use answer_texts::{
     write_refutation, write_refutation_graph,
 };
 use axioms::{ExprId, Memory, Ontology};
-use certificate::{Certificate, Conclusion, Line, Rule, Subject, read_certificate};
+use certificate::{Certificate, Conclusion, Format, Line, Rule, Subject, read_certificate};
 use device::BufferSink;
 use explain::{trimmed, write_proof};
 use interpretation_spec::Interpretation;
@@ -115,7 +115,7 @@ fn are_texts(
     text: &[u8],
     graph: &[u8],
 ) -> Result<bool, Fail>
-    requires { HasText ontology.now certificate.now }
+    requires { HasText ontology.now Format.One certificate.now }
 {
     let lines = certificate.lines();
     let mut texts = BufferSink::new(alloc);

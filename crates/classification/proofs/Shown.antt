@@ -6,8 +6,7 @@ use Rattle.std.proofs.lemmas.Bool.{false≢true}
 use Rattle.axioms.specs.Ontology.{Ontology, axiom_trees}
 use Rattle.axioms.specs.WellFormedness.{IsOntology}
 use Rattle.certificate.specs.Certificate.{Line, Listed, Certificate}
-use Rattle.certificate.specs.Writability.{HasText}
-use Rattle.certificate.specs.Text.{certificate_text}
+use Rattle.certificate.specs.Writability.{IsSomeTextOf}
 use Rattle.cert_check.specs.Acceptance.{IsContradictionShown, IsAcceptable}
 use Rattle.cert_check.specs.Derivation.{IsDerivation}
 use Rattle.exactness.specs.ListedInterpretation.{IsConsistent}
@@ -65,10 +64,10 @@ made_for o false (Consistent taxonomy types) is = absurd is
 
 -- ---- acceptance
 
-pub acceptable : (o : Ontology) → IsOntology o → (consistent : Bool) (c : Certificate) → HasText o c → IsDerivation o c.lines → AreShown o consistent c.lines c.listed
-    → (taxonomy instances text : List ℕ) → AreTextsOf o consistent taxonomy instances → text ≡ certificate_text c → IsAcceptable o taxonomy instances text
-acceptable o w consistent c has_text derivation shown taxonomy instances text texts spelled =
-    shown_is_acceptable o taxonomy instances text c w (record { has_text = has_text; spelled = spelled }) derivation (shows consistent c.listed shown texts)
+pub acceptable : (o : Ontology) → IsOntology o → (consistent : Bool) (c : Certificate) (taxonomy instances text : List ℕ) → IsSomeTextOf o text c → IsDerivation o c.lines → AreShown o consistent c.lines c.listed
+    → AreTextsOf o consistent taxonomy instances → IsAcceptable o taxonomy instances text
+acceptable o w consistent c taxonomy instances text text_of derivation shown texts =
+    shown_is_acceptable o taxonomy instances text c w text_of derivation (shows consistent c.listed shown texts)
   where
     shows : (consistent : Bool) (l : Option Listed) → AreShown o consistent c.lines l → AreTextsOf o consistent taxonomy instances
         → MatchOption l (IsContradictionShown taxonomy instances c.lines) (ShowsClosure o taxonomy instances c.lines)

@@ -1,5 +1,5 @@
 -- A certificate of a derivation can be written.
-use Rattle.std.proofs.Common.{◌≡◌, ℕ, zero, suc, ◌<◌, ◌≤◌, ◌^◌, List, [], ◌∷◌, length, map, take, get_or, slice_get, Some, None, Option, All, refl, arith, IfSome, flat_map}
+use Rattle.std.proofs.Common.{◌≡◌, ℕ, zero, suc, ◌+◌, ◌<◌, ◌≤◌, ◌^◌, List, [], ◌∷◌, length, map, take, get_or, slice_get, Some, None, Option, All, refl, arith, IfSome, flat_map}
 use Rattle.std.proofs.lemmas.List.{length-map, length-take-le}
 use Rattle.std.proofs.lemmas.List.Elements.{All-nil, All-cons, All-append}
 use Rattle.std.proofs.lemmas.Option.{slice_get-get_or, slice_get_within, none-some}
@@ -7,7 +7,9 @@ use Rattle.axioms.specs.Growth.{IsBounded}
 use Rattle.axioms.specs.Ontology.{Ontology}
 use Rattle.axioms.specs.View.{at_number}
 use Rattle.certificate.specs.Certificate.{Subject, Expression, Individual, Conclusion, Sub, Edge, Same, Line, Listed}
-use Rattle.certificate.specs.Writability.{IsSubjectOf, IsConclusionOf, IsAxiomNumberOf, IsListedOf, HasText, subject_number, conclusion_numbers, axiom_numbers, line_numbers, listed_numbers}
+use Rattle.certificate.specs.declared.format.Format.{Format}
+use Rattle.certificate.specs.declared.format.Format.TheVariants.{One, Two}
+use Rattle.certificate.specs.Writability.{IsSubjectOf, IsConclusionOf, IsAxiomNumberOf, IsListedOf, AreEarlier, HasNumbers, HasText, subject_number, conclusion_numbers, axiom_numbers, line_numbers, listed_numbers}
 use Rattle.cert_check.specs.Derivation.{IsDerivation, at_numbers}
 use Rattle.exactness.proofs.Derivable.{prepended_list_parts}
 
@@ -36,6 +38,26 @@ numbers_within xs (n ∷ ns) ys at =
     let (z, zs, first, rest, _) = prepended_list_parts (at_number xs n) (at_numbers xs ns) ys at in
     All-cons (IsNumberOf (length xs)) n ns (number_within xs n z first) (numbers_within xs ns zs rest)
 
+-- lines whose premises stand before them, from number n on
+earlier_from_places : (n : ℕ) (lines : List Line) → ((k : ℕ) (line : Line) → slice_get lines k ≡ Some line → All (λ p. p < n + k) line.premises) → AreEarlier n lines
+earlier_from_places n [] h = tt
+earlier_from_places n (line ∷ lines) h =
+    (λ k d l. omega (arith, h 0 line refl k d l), earlier_from_places (n + 1) lines (λ m next at k d l. omega (arith, h (suc m) next at k d l)))
+
+module _ (o : Ontology) (lines : List Line) (derivation : IsDerivation o lines) where
+  -- the premises of a line are numbers of lines before it
+  premises_before : (n : ℕ) (line : Line) → slice_get lines n ≡ Some line → All (IsNumberOf n) line.premises
+  premises_before n line at k d l =
+      let there : n < length lines = slice_get_within lines n line at in
+      let derived = derivation n line at in
+      let before : List Conclusion = map (λ x. x.conclusion) (take n lines) in
+      let within : IsNumberOf (length before) (get_or line.premises k d) = numbers_within before line.premises derived.premises derived.premises_at k d l in
+      (within.0, omega (arith, within.1, length-map (take n lines) (λ (x : Line). x.conclusion), length-take-le n lines (omega (arith, there))))
+
+  has_numbers : (format : Format) → length lines < 2 ^ 64 → HasNumbers format lines
+  has_numbers One long = tt
+  has_numbers Two long = (long, earlier_from_places 1 lines (λ n line at k d l. omega (arith, (premises_before n line at k d l).1)))
+
 -- ---- numbers of what the ontology has
 
 module _ (o : Ontology) (few : IsBounded o) where
@@ -56,13 +78,15 @@ module _ (o : Ontology) (few : IsBounded o) where
   axiom_small None h = All-nil IsSmall
   axiom_small (Some n) h = All-cons IsSmall n [] (omega (arith, h.1, few.axioms)) (All-nil IsSmall)
 
-  pub derivation_has_text : (lines : List Line) (listed : Option Listed) → IsDerivation o lines → length lines < 2 ^ 64
-      → IfSome listed (IsListedOf o) → All IsSmall (listed_numbers listed) → HasText o (record { lines = lines; listed = listed })
-  derivation_has_text lines listed derivation long fits numbers = record {
+  -- a derivation has a text in each format
+  pub derivation_has_text : (format : Format) (lines : List Line) (listed : Option Listed) → IsDerivation o lines → length lines < 2 ^ 64
+      → IfSome listed (IsListedOf o) → All IsSmall (listed_numbers listed) → HasText o format (record { lines = lines; listed = listed })
+  derivation_has_text format lines listed derivation long fits numbers = record {
     lines = All-from_places _ lines (λ n line at. (derivation n line at).within);
     listed = fits;
     premises = All-from_places _ lines premises;
     numbers = All-append IsSmall (flat_map line_numbers lines) (listed_numbers listed) (All-flat IsSmall line_numbers lines small) numbers;
+    written = has_numbers o lines derivation format long;
   }
     where
       small : (n : ℕ) (line : Line) → slice_get lines n ≡ Some line → All IsSmall (line_numbers line)
@@ -73,7 +97,5 @@ module _ (o : Ontology) (few : IsBounded o) where
       premises : (n : ℕ) (line : Line) → slice_get lines n ≡ Some line → All (λ p. (1 ≤ p) × (p < 2 ^ 64)) line.premises
       premises n line at k d l =
           let there : n < length lines = slice_get_within lines n line at in
-          let derived = derivation n line at in
-          let before : List Conclusion = map (λ x. x.conclusion) (take n lines) in
-          let within : IsNumberOf (length before) (get_or line.premises k d) = numbers_within before line.premises derived.premises derived.premises_at k d l in
-          (within.0, omega (arith, within.1, length-map (take n lines) (λ (x : Line). x.conclusion), length-take-le n lines (omega arith), long))
+          let before = premises_before o lines derivation n line at k d l in
+          (before.0, omega (arith, before.1, there, long))

@@ -6,6 +6,9 @@ use Rattle.axioms.specs.WellFormedness.{AreDistinct}
 use Rattle.interpretation_spec.specs.Interpretation.{IsContradictory}
 use Rattle.taxonomy.specs.Texts.{inconsistent_taxonomy_text, inconsistent_instances_text}
 use Rattle.closure.specs.Closure.{Fact, IsFact}
+use Rattle.certificate.specs.Certificate.{Certificate}
+use Rattle.certificate.specs.declared.format.Format.{Format}
+use Rattle.certificate.specs.Writability.{IsTextOf}
 use Rattle.exactness.specs.Acceptance.{AreTextsOfClosure}
 use Rattle.classification.specs.declared.classification.Summary.{Summary}
 
@@ -27,3 +30,7 @@ pub record AreCountsOf (o : Ontology) (s : Summary) : Type 0 where
 abbrev pub AreTextsOf : Ontology → Bool → (taxonomy instances : List ℕ) → Type 0
 AreTextsOf o true taxonomy instances = AreTextsOfClosure o taxonomy instances
 AreTextsOf o false taxonomy instances = (taxonomy ≡ inconsistent_taxonomy_text) × (instances ≡ inconsistent_instances_text)
+
+-- the text is that of a certificate in the format
+abbrev pub IsWrittenIn : Ontology → Format → (text : List ℕ) → Type 0
+IsWrittenIn o format text = (certificate : Certificate) × IsTextOf o format text certificate

@@ -4,6 +4,7 @@ use Rattle.std.specs.declared.option.Option.{Option}
 use Rattle.axioms.specs.Ontology.{Ontology}
 use Rattle.cert_check.specs.Derivation.{IsDerivation}
 use Rattle.certificate.specs.Certificate.{Line, Listed, Certificate}
+use Rattle.certificate.specs.declared.format.Format.{Format}
 use Rattle.certificate.specs.Writability.{IsTextOf}
 use Rattle.classification.specs.Lists.{IsTaxonomyOf, AreTypesOf}
 use Rattle.exactness.specs.Acceptance.{IsListedFor}
@@ -24,9 +25,9 @@ AreShown o true lines (Some listed) = HaveFacts o [] lines × IsListedFor o [] l
 AreShown o false lines None = ShowsContradiction lines
 AreShown o _ lines _ = ⊥
 
--- the text is that of a certificate of a derivation that shows it
-pub record IsCertificateOf (o : Ontology) (consistent : Bool) (text : List ℕ) : Type 0 where
+-- the text in the format is that of a certificate of a derivation that shows it
+pub record IsCertificateOf (o : Ontology) (format : Format) (consistent : Bool) (text : List ℕ) : Type 0 where
   pub certificate : Certificate
-  pub text_of : IsTextOf o text certificate
+  pub text_of : IsTextOf o format text certificate
   pub derivation : IsDerivation o certificate.lines
   pub shown : AreShown o consistent certificate.lines certificate.listed

@@ -1,6 +1,6 @@
 //! A classification with its texts.
 ghost use Rattle.cert_check.specs.Acceptance.{AreRight, IsAcceptable};
-ghost use Rattle.classification.specs.Classifications.{AreCountsOf, AreTextsOf};
+ghost use Rattle.classification.specs.Classifications.{AreCountsOf, AreTextsOf, IsWrittenIn};
 ghost use Rattle.classification.specs.Findings.{IsCertificateOf, IsOutcomeOf};
 ghost use Rattle.exactness.specs.ListedInterpretation.{IsConsistent};
 ghost use Rattle.engine.specs.Saturations.{HasMoreFactsThan, IsSaturated, IsUnasked};
@@ -11,6 +11,7 @@ use crate::consistent::is_consistent;
 use crate::relation::taxonomy_of;
 use crate::types::types_of;
 use axioms::{Memory, Ontology};
+use certificate::{Format, FormatOne, FormatTwo, FormatType};
 use countermodel::text_with_listed;
 use engine::{Saturation, Stop, saturated};
 use explain::{contradiction_text, line_text};
@@ -69,7 +70,7 @@ fn outcome(
 }
 
 /// The text of the certificate of a consistent closure: a derivation of all its facts, with the interpretation that it lists.
-fn certificate_of_closure(
+fn certificate_of_closure<F: FormatType>(
     alloc: Global,
     ontology: &Ontology,
     saturation: &Saturation,
@@ -77,34 +78,34 @@ fn certificate_of_closure(
     requires saturated { IsSaturated ontology.now saturation.now }
     requires unasked { IsUnasked saturation.now }
     requires consistent { IsConsistent ontology.now saturation.now.normal.asked }
-    ensures { IfOk result (λ v. IsCertificateOf ontology.now true v.items) }
+    ensures { IfOk result (λ v. IsCertificateOf ontology.now F.format true v.items) }
 {
     ontology.bounded();
-    let lines = line_text(alloc, ontology, saturation)?;
+    let lines = line_text::<F>(alloc, ontology, saturation)?;
     lines.bounded();
     let text = text_with_listed(alloc, ontology, saturation, lines)?;
     Ok(text)
 }
 
 /// The text of the certificate of a contradiction: a derivation of it.
-fn certificate_of_contradiction(
+fn certificate_of_contradiction<F: FormatType>(
     alloc: Global,
     ontology: &Ontology,
     saturation: &Saturation,
 ) -> Result<Vec<u8>, Memory>
     requires saturated { IsSaturated ontology.now saturation.now }
     requires contradictory { IsConsistent ontology.now saturation.now.normal.asked → ⊥ }
-    ensures { IfOk result (λ v. IsCertificateOf ontology.now false v.items) }
+    ensures { IfOk result (λ v. IsCertificateOf ontology.now F.format false v.items) }
 {
     ontology.bounded();
-    let lines = contradiction_text(alloc, ontology, saturation)?;
+    let lines = contradiction_text::<F>(alloc, ontology, saturation)?;
     lines.bounded();
     let text = lines.alone(alloc)?;
     Ok(text)
 }
 
 /// The text of the certificate of the closure, or of the contradiction that it has.
-fn certificate_of(
+fn certificate_of<F: FormatType>(
     alloc: Global,
     ontology: &Ontology,
     saturation: &Saturation,
@@ -113,12 +114,31 @@ fn certificate_of(
     requires saturated { IsSaturated ontology.now saturation.now }
     requires unasked { IsUnasked saturation.now }
     requires consistent { IsTrue consistent ↔ IsConsistent ontology.now saturation.now.normal.asked }
-    ensures { IfOk result (λ v. IsCertificateOf ontology.now consistent v.items) }
+    ensures { IfOk result (λ v. IsCertificateOf ontology.now F.format consistent v.items) }
 {
     if consistent {
-        certificate_of_closure(alloc, ontology, saturation)
+        certificate_of_closure::<F>(alloc, ontology, saturation)
     } else {
-        certificate_of_contradiction(alloc, ontology, saturation)
+        certificate_of_contradiction::<F>(alloc, ontology, saturation)
+    }
+}
+
+/// The text in the format.
+fn certificate_in(
+    alloc: Global,
+    ontology: &Ontology,
+    saturation: &Saturation,
+    consistent: bool,
+    format: Format,
+) -> Result<Vec<u8>, Memory>
+    requires saturated { IsSaturated ontology.now saturation.now }
+    requires unasked { IsUnasked saturation.now }
+    requires consistent { IsTrue consistent ↔ IsConsistent ontology.now saturation.now.normal.asked }
+    ensures { IfOk result (λ v. IsCertificateOf ontology.now format consistent v.items) }
+{
+    match format {
+        Format::One => certificate_of::<FormatOne>(alloc, ontology, saturation, consistent),
+        Format::Two => certificate_of::<FormatTwo>(alloc, ontology, saturation, consistent),
     }
 }
 
@@ -154,8 +174,8 @@ fn relation_texts(
     Ok((taxonomy, instances))
 }
 
-/// The classification of a saturated ontology, where nothing is asked about. The relations are made and told before there is a line
-/// of the certificate, whose text is the largest of all.
+/// The classification of a saturated ontology, where nothing is asked about, with a certificate in the format. The relations are made
+/// and told before there is a line of the certificate, whose text is the largest of all.
 ///
 /// # Errors
 ///
@@ -164,6 +184,7 @@ pub fn classified(
     alloc: Global,
     ontology: &Ontology,
     saturation: &Saturation,
+    format: Format,
 ) -> Result<Classification, Memory>
     requires saturated { IsSaturated ontology.now saturation.now }
     requires unasked { IsUnasked saturation.now }
@@ -174,11 +195,12 @@ pub fn classified(
     ensures acceptable { IfOk result
         (λ c. IsAcceptable ontology.now c.taxonomy.items c.instances.items c.certificate.items) }
     ensures right { IfOk result (λ c. AreRight ontology.now c.taxonomy.items c.instances.items c.certificate.items) }
+    ensures written { IfOk result (λ c. IsWrittenIn ontology.now format c.certificate.items) }
 {
     ontology.well_formed();
     let consistent = is_consistent(ontology, saturation);
     let (taxonomy, instances) = relation_texts(alloc, ontology, saturation, consistent)?;
-    let certificate = certificate_of(alloc, ontology, saturation, consistent)?;
+    let certificate = certificate_in(alloc, ontology, saturation, consistent, format)?;
     Ok(Classification {
         summary: counted(ontology, saturation, consistent),
         taxonomy,
@@ -192,6 +214,7 @@ fn classification_of(
     alloc: Global,
     ontology: &Ontology,
     saturation: Saturation,
+    format: Format,
 ) -> Result<Classification, Memory>
     requires saturated { IsSaturated ontology.now saturation }
     requires unasked { IsUnasked saturation }
@@ -201,13 +224,14 @@ fn classification_of(
     ensures acceptable { IfOk result
         (λ c. IsAcceptable ontology.now c.taxonomy.items c.instances.items c.certificate.items) }
     ensures right { IfOk result (λ c. AreRight ontology.now c.taxonomy.items c.instances.items c.certificate.items) }
+    ensures written { IfOk result (λ c. IsWrittenIn ontology.now format c.certificate.items) }
 {
-    let made = classified(alloc, ontology, &saturation);
+    let made = classified(alloc, ontology, &saturation, format);
     drop(saturation);
     made
 }
 
-/// The classification of an ontology whose closure has at most `max_facts` facts.
+/// The classification of an ontology whose closure has at most `max_facts` facts, with a certificate in the format.
 ///
 /// # Errors
 ///
@@ -218,6 +242,7 @@ pub fn classify(
     state: RandomState,
     ontology: &Ontology,
     max_facts: u32,
+    format: Format,
 ) -> Result<Classification, Stop>
     ensures counts { IfOk result (λ c. AreCountsOf ontology.now c.summary) }
     ensures within { IfOk result (λ c. c.summary.facts ≤ max_facts) }
@@ -226,13 +251,14 @@ pub fn classify(
     ensures acceptable { IfOk result
         (λ c. IsAcceptable ontology.now c.taxonomy.items c.instances.items c.certificate.items) }
     ensures right { IfOk result (λ c. AreRight ontology.now c.taxonomy.items c.instances.items c.certificate.items) }
+    ensures written { IfOk result (λ c. IsWrittenIn ontology.now format c.certificate.items) }
     ensures limit { result ≡ Err stops.Limit → HasMoreFactsThan ontology.now [] max_facts }
 {
     let saturation = match saturated(alloc, state, ontology, max_facts) {
         Ok(saturation) => saturation,
         Err(stop) => return Err(stop),
     };
-    match classification_of(alloc, ontology, saturation) {
+    match classification_of(alloc, ontology, saturation, format) {
         Ok(classification) => Ok(classification),
         Err(_) => Err(Stop::Memory),
     }

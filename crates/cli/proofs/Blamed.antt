@@ -1,5 +1,6 @@
 -- Which files the answers of calls blame.
 use Rattle.std.proofs.Common.{◌≡◌, ◌∙◌, ◌<◌, ◌-◌, ◌^◌, ℕ, zero, suc, List, Bool, false, Option, Some, None, Result, Ok, Err, refl, sym, ap, subst, inl, inr, arith}
+use Rattle.certificate.specs.declared.format.Format.{Format}
 use Rattle.session.specs.Devices.{Device, FailsIn, IsReadUntil}
 use Rattle.source_lines.specs.Sources.{SourceState}
 use Rattle.cli.specs.Files.{AsksFile, BlamesFile, ClassifiesFile, IsUnopened, IsUnreadable, Store}
@@ -12,6 +13,7 @@ use Rattle.device.specs.Device.{HasFailed}
 use Rattle.profile.specs.Faults.{RefusesKnown}
 use Rattle.profile.specs.declared.fault.DocumentFault.{DocumentFault}
 use Rattle.profile.specs.declared.fault.DocumentFault.TheVariants as reading
+use Rattle.program.specs.declared.version.Version.{Version}
 use Rattle.session.specs.TextAnswers.{IsRead}
 use Rattle.session.specs.declared.question_fault.QuestionFault.{QuestionFault}
 use Rattle.session.specs.declared.question_fault.QuestionFault.TheVariants as asking
@@ -29,16 +31,16 @@ pub unreadable : (fails known : Bool) (held : Option (List ℕ)) (old new : ℕ)
 unreadable fails known held old new none none' failed is = absurd (unfailed old new (none is) (none' is) failed)
 
 -- a document that is not opened is refused
-pub unopened_is_refused : (known : Bool) (held : Option (List ℕ)) (most : ℕ) (fault : DocumentFault) → IsUnopened known held fault → RefusesKnown held most fault
-unopened_is_refused known None most fault is = tt
-unopened_is_refused known (Some bytes) most reading.Io is = tt
-unopened_is_refused known (Some bytes) most reading.Memory is = tt
-unopened_is_refused known (Some bytes) most reading.TooLarge is = absurd is
-unopened_is_refused known (Some bytes) most reading.TooManyNames is = absurd is
-unopened_is_refused known (Some bytes) most (reading.NotUtf8 at) is = absurd is
-unopened_is_refused known (Some bytes) most (reading.Lex fault) is = absurd is
-unopened_is_refused known (Some bytes) most (reading.Parse fault) is = absurd is
-unopened_is_refused known (Some bytes) most (reading.Faults found) is = absurd is
+pub unopened_is_refused : (version : Version) (known : Bool) (held : Option (List ℕ)) (most : ℕ) (fault : DocumentFault) → IsUnopened known held fault → RefusesKnown version held most fault
+unopened_is_refused version known None most fault is = tt
+unopened_is_refused version known (Some bytes) most reading.Io is = tt
+unopened_is_refused version known (Some bytes) most reading.Memory is = tt
+unopened_is_refused version known (Some bytes) most reading.TooLarge is = absurd is
+unopened_is_refused version known (Some bytes) most reading.TooManyNames is = absurd is
+unopened_is_refused version known (Some bytes) most (reading.NotUtf8 at) is = absurd is
+unopened_is_refused version known (Some bytes) most (reading.Lex fault) is = absurd is
+unopened_is_refused version known (Some bytes) most (reading.Parse fault) is = absurd is
+unopened_is_refused version known (Some bytes) most (reading.Faults found) is = absurd is
 
 -- the file of a document that is not opened is to blame
 pub unopened_is_blamed : (fails known : Bool) (held : Option (List ℕ)) (fault : DocumentFault) → IsUnopened known held fault → BlamesFile fails known held fault
@@ -139,10 +141,10 @@ written_some (suc (suc (suc (suc n)))) old new texts before behind working count
 
 -- ---- classifications
 
-pub classifies_file : (s : Store) (facts bytes : ℕ) (held left : Option (List ℕ)) (answer : Result Summary ClassifyFault) (source source' : SourceState) (old new : Sinks) → IsThere s.is_known held → (s.reads_fail ≡ false → source.failures ≡ 0) → (s.reads_fail ≡ false → source'.failures ≡ 0) → AreWorking old → AreCounted new s.failed_before s.failed_behind → IsDocumentRead answer source source' → IsClassification bytes facts left old new answer → ClassifiesFile s held answer
-classifies_file s facts bytes held left (Ok summary) source source' old new there unfailed unfailed' working counted read is = (there, written_none old new is.0 _ _ working counted is.2)
-classifies_file s facts bytes held left (Err (classifying.Document fault)) source source' old new there unfailed unfailed' working counted read is =
+pub classifies_file : (s : Store) (version : Version) (format : Format) (facts bytes : ℕ) (held left : Option (List ℕ)) (answer : Result Summary ClassifyFault) (source source' : SourceState) (old new : Sinks) → IsThere s.is_known held → (s.reads_fail ≡ false → source.failures ≡ 0) → (s.reads_fail ≡ false → source'.failures ≡ 0) → AreWorking old → AreCounted new s.failed_before s.failed_behind → IsDocumentRead answer source source' → IsClassification version format bytes facts left old new answer → ClassifiesFile s held answer
+classifies_file s version format facts bytes held left (Ok summary) source source' old new there unfailed unfailed' working counted read is = (there, written_none old new is.0 _ _ working counted is.2)
+classifies_file s version format facts bytes held left (Err (classifying.Document fault)) source source' old new there unfailed unfailed' working counted read is =
     (read_blamed s.reads_fail s.is_known held fault source source' there unfailed unfailed' read, none new _ _ counted (untouched old new working is.1))
-classifies_file s facts bytes held left (Err classifying.Memory) source source' old new there unfailed unfailed' working counted read is = (there, none new _ _ counted (untouched old new working is.1))
-classifies_file s facts bytes held left (Err classifying.Limit) source source' old new there unfailed unfailed' working counted read is = (there, none new _ _ counted (untouched old new working is.1))
-classifies_file s facts bytes held left (Err (classifying.Io n)) source source' old new there unfailed unfailed' working counted read is = (there, written_some n old new is.1.1 _ _ working counted is.1.3)
+classifies_file s version format facts bytes held left (Err classifying.Memory) source source' old new there unfailed unfailed' working counted read is = (there, none new _ _ counted (untouched old new working is.1))
+classifies_file s version format facts bytes held left (Err classifying.Limit) source source' old new there unfailed unfailed' working counted read is = (there, none new _ _ counted (untouched old new working is.1))
+classifies_file s version format facts bytes held left (Err (classifying.Io n)) source source' old new there unfailed unfailed' working counted read is = (there, written_some n old new is.1.1 _ _ working counted is.1.3)

@@ -1,26 +1,27 @@
 -- What a run of `classify` leaves in files is accepted by a run of `check`.
-use Rattle.std.proofs.Common.{◌≡◌, ◌∙◌, ℕ, List, Bool, Option, Result, Ok, Err, Some, true, refl, sym, ap, subst, inl, inr}
+use Rattle.std.proofs.Common.{◌≡◌, ◌∙◌, ℕ, List, Bool, Option, Result, Ok, Err, Some, true, refl, sym, ap, subst, inl, inr, arith, ◌+◌}
 use Rattle.lemmas.proofs.Choices.{one_value}
 use Rattle.cert_check.specs.declared.verdict.Verdict.{Verdict}
 use Rattle.cert_check.specs.declared.verdict.Verdict.TheVariants.{Accepted}
 use Rattle.axioms.specs.Ontology.{Ontology}
+use Rattle.certificate.specs.declared.format.Format.{Format}
 use Rattle.clap.specs.Words.{Row, Text, takes}
-use Rattle.command_line.proofs.NoTask.{not_query}
+use Rattle.command_line.proofs.NoTask.{one_letter}
 use Rattle.command_line.proofs.Numbers.{one_number}
-use Rattle.command_line.specs.CommandLine.{AreLimits, ArePaths, IsCommand, IsTaskOf, Refuses, elc_app}
+use Rattle.command_line.specs.CommandLine.{AreLimits, ArePaths, IsCommand, IsTaskOf, IsVersion, Refuses, elc_app, version_number}
 use Rattle.command_line.specs.declared.tasks.Command.{Command}
-use Rattle.command_line.specs.declared.tasks.Command.TheVariants.{Check, Classify, Explain, Instances, Query}
+use Rattle.command_line.specs.declared.tasks.Command.TheVariants.{Check, Classify, Convert, Explain, Instances, Query}
+use Rattle.command_line.specs.declared.tasks.FormatNumber.{FormatNumber}
 use Rattle.command_line.specs.declared.tasks.LineFault.{LineFault}
 use Rattle.command_line.specs.declared.tasks.LineFault.TheVariants as line
 use Rattle.command_line.specs.declared.tasks.Paths.{Paths}
 use Rattle.command_line.specs.declared.tasks.Task.{Task}
 use Rattle.cli.specs.declared.fault.CheckFault.{CheckFault}
 use Rattle.cli.specs.declared.fault.CheckFault.TheVariants as checking
-use Rattle.std.specs.Prelude.{codes}
 use Rattle.cli.proofs.WrittenAccepted.{written_is_accepted}
 use Rattle.cli.specs.Checks.{IsChecked, IsCheckFault}
 use Rattle.session.specs.Devices.{Device}
-use Rattle.cli.specs.Runs.{AreApart, HoldTexts, IsCheckRun, IsCheckTold, IsCheckedFiles, IsClassifyAnswer, IsClassifyRun, IsClassifyTold, IsCommandRun, IsPerformed}
+use Rattle.cli.specs.Runs.{AreApart, HoldTexts, IsCheckRun, IsCheckTold, IsCheckedFiles, IsClassifyAnswer, IsClassifyRun, IsClassifyTold, IsCommandRun, IsPerformed, format_of}
 use Rattle.cli.specs.Files.{Store}
 use Rattle.cli.specs.Messages.{Output, IsAnswered, IsLineTold, IsPrinted, IsTold, classify_status, out_of_memory, verdict_status, verdict_text}
 use Rattle.cli.specs.Theorems.{AreSamePaths, IsAcceptedRun, IsDocumentApart, WrittenFilesAreAccepted}
@@ -34,6 +35,8 @@ use Rattle.program.specs.declared.limits.Limits.{Limits}
 use Rattle.program.specs.Status.{code_of}
 use Rattle.program.specs.declared.status.Status.{Status}
 use Rattle.program.specs.declared.status.Status.TheVariants as statuses
+use Rattle.program.specs.declared.version.Version.{Version}
+use Rattle.program.specs.declared.version.Version.TheVariants.{One, Two}
 use Rattle.profile.specs.declared.fault.DocumentFault.{DocumentFault}
 use Rattle.profile.specs.declared.fault.DocumentFault.TheVariants as reading
 use Rattle.system_files.specs.Contents.{Content}
@@ -67,43 +70,43 @@ told_not_done old new IsText status other (inr told) = printed_not_done old new 
 -- ---- the check of what was written
 
 -- a check of four texts in files is one of the texts that they hold
-checked_texts : (most : ℕ) (content : Content) (paths : Paths) (bytes : List ℕ) (texts : Texts) (o : Ontology) (verdict : Verdict) → content paths.document.now ≡ Some bytes → content paths.taxonomy.now ≡ Some texts.taxonomy → content paths.instances.now ≡ Some texts.instances → content paths.certificate.now ≡ Some texts.certificate → IsChecked most (content paths.document.now) (content paths.taxonomy.now) (content paths.instances.now) (content paths.certificate.now) o verdict → IsChecked most (Some bytes) (Some texts.taxonomy) (Some texts.instances) (Some texts.certificate) o verdict
-checked_texts most content paths bytes texts o verdict document taxonomy instances certificate checked =
-    let of_document : Option (List ℕ) → Type 0 = λ d. IsChecked most d (content paths.taxonomy.now) (content paths.instances.now) (content paths.certificate.now) o verdict in
-    let of_taxonomy : Option (List ℕ) → Type 0 = λ t. IsChecked most (Some bytes) t (content paths.instances.now) (content paths.certificate.now) o verdict in
-    let of_instances : Option (List ℕ) → Type 0 = λ i. IsChecked most (Some bytes) (Some texts.taxonomy) i (content paths.certificate.now) o verdict in
-    let of_certificate : Option (List ℕ) → Type 0 = λ c. IsChecked most (Some bytes) (Some texts.taxonomy) (Some texts.instances) c o verdict in
+checked_texts : (version : Version) (most : ℕ) (content : Content) (paths : Paths) (bytes : List ℕ) (texts : Texts) (o : Ontology) (verdict : Verdict) → content paths.document.now ≡ Some bytes → content paths.taxonomy.now ≡ Some texts.taxonomy → content paths.instances.now ≡ Some texts.instances → content paths.certificate.now ≡ Some texts.certificate → IsChecked version most (content paths.document.now) (content paths.taxonomy.now) (content paths.instances.now) (content paths.certificate.now) o verdict → IsChecked version most (Some bytes) (Some texts.taxonomy) (Some texts.instances) (Some texts.certificate) o verdict
+checked_texts version most content paths bytes texts o verdict document taxonomy instances certificate checked =
+    let of_document : Option (List ℕ) → Type 0 = λ d. IsChecked version most d (content paths.taxonomy.now) (content paths.instances.now) (content paths.certificate.now) o verdict in
+    let of_taxonomy : Option (List ℕ) → Type 0 = λ t. IsChecked version most (Some bytes) t (content paths.instances.now) (content paths.certificate.now) o verdict in
+    let of_instances : Option (List ℕ) → Type 0 = λ i. IsChecked version most (Some bytes) (Some texts.taxonomy) i (content paths.certificate.now) o verdict in
+    let of_certificate : Option (List ℕ) → Type 0 = λ c. IsChecked version most (Some bytes) (Some texts.taxonomy) (Some texts.instances) c o verdict in
     subst of_certificate certificate (subst of_instances instances (subst of_taxonomy taxonomy (subst of_document document checked)))
 
 -- texts that were written are accepted in files that hold them, unless the check is stopped
-check_accepted : (paths : Paths) (facts bytes most : ℕ) (content : Content) (old new : Output) (status : ℕ) (document : List ℕ) (texts : Texts) (summary : Summary) (answer : Result (Ontology × Verdict) CheckFault) → IsClassified bytes facts (Some document) summary texts → content paths.document.now ≡ Some document → content paths.taxonomy.now ≡ Some texts.taxonomy → content paths.instances.now ≡ Some texts.instances → content paths.certificate.now ≡ Some texts.certificate → IsCheckedFiles paths most content answer → IsCheckTold paths most answer old new status → IsAcceptedRun most document old new status
-check_accepted paths facts bytes most content old new status document texts summary (Ok p) classified holds taxonomy instances certificate is told =
+check_accepted : (paths : Paths) (written version : Version) (format : Format) (facts bytes most : ℕ) (content : Content) (old new : Output) (status : ℕ) (document : List ℕ) (texts : Texts) (summary : Summary) (answer : Result (Ontology × Verdict) CheckFault) → IsClassified written format bytes facts (Some document) summary texts → content paths.document.now ≡ Some document → content paths.taxonomy.now ≡ Some texts.taxonomy → content paths.instances.now ≡ Some texts.instances → content paths.certificate.now ≡ Some texts.certificate → IsCheckedFiles paths version most content answer → IsCheckTold paths most answer old new status → IsAcceptedRun version most document old new status
+check_accepted paths written version format facts bytes most content old new status document texts summary (Ok p) classified holds taxonomy instances certificate is told =
     let o = p.0 in
     let verdict = p.1 in
-    let checked = checked_texts most content paths document texts o verdict holds taxonomy instances certificate is in
-    let accepted : verdict ≡ Accepted = written_is_accepted bytes most facts document texts summary (Ok verdict) classified (o, checked) in
+    let checked = checked_texts version most content paths document texts o verdict holds taxonomy instances certificate is in
+    let accepted : verdict ≡ Accepted = written_is_accepted written version format bytes most facts document texts summary (Ok verdict) classified (o, checked) in
     let P : Verdict → Type 0 = λ v. IsAnswered old new (verdict_text o v) (verdict_status v) status in
     inl (subst P accepted told)
-check_accepted paths facts bytes most content old new status document texts summary (Err fault) classified holds taxonomy instances certificate is told =
-    let P : Option (List ℕ) → Type 0 = λ d. IsCheckFault most d fault in
-    inr (paths, fault, written_is_accepted bytes most facts document texts summary (Err fault) classified (subst P holds is), told.0, told.1)
+check_accepted paths written version format facts bytes most content old new status document texts summary (Err fault) classified holds taxonomy instances certificate is told =
+    let P : Option (List ℕ) → Type 0 = λ d. IsCheckFault version most d fault in
+    inr (paths, fault, written_is_accepted written version format bytes most facts document texts summary (Err fault) classified (subst P holds is), told.0, told.1)
 
 -- a run that ended with status 0 has classified the document
-answered : (written : Paths) (limits : Limits) (known : Bool) (content content' : Content) (old new : Output) (answer : Result Summary ClassifyFault) → known ≡ true → AreApart written → IsClassifyAnswer written limits.max_facts limits.max_bytes known content content' answer → IsClassifyTold written limits answer old new (code_of statuses.Done) → (summary : Summary) × (texts : Texts) × IsClassified limits.max_bytes limits.max_facts (content written.document.now) summary texts × HoldTexts true written texts content'
-answered written limits known content content' old new (Ok summary) is_known apart is told =
+answered : (written : Paths) (format : Format) (limits : Limits) (known : Bool) (content content' : Content) (old new : Output) (answer : Result Summary ClassifyFault) → known ≡ true → AreApart written → IsClassifyAnswer written format limits known content content' answer → IsClassifyTold written limits answer old new (code_of statuses.Done) → (summary : Summary) × (texts : Texts) × IsClassified limits.version format limits.max_bytes limits.max_facts (content written.document.now) summary texts × HoldTexts true written texts content'
+answered written format limits known content content' old new (Ok summary) is_known apart is told =
     let P : Bool → Type 0 = λ k. HoldTexts k written is.0 content' in
     (summary, is.0, is.1, subst P is_known (is.2 apart))
-answered written limits known content content' old new (Err fault) is_known apart is told = absurd (told_not_done old.err new.err _ (classify_status fault) (fault_not_done fault) told.1)
+answered written format limits known content content' old new (Err fault) is_known apart is told = absurd (told_not_done old.err new.err _ (classify_status fault) (fault_not_done fault) told.1)
 
 -- the run of a check on the same paths
-runs_accepted : (written checked : Paths) (limits : Limits) (most : ℕ) (s s' : Store) (content content' : Content) (old new old' new' : Output) (status : ℕ) (document : List ℕ) → s.is_known ≡ true → AreSamePaths written checked → AreApart written → IsDocumentApart written → content written.document.now ≡ Some document → IsClassifyRun written limits s content content' old new (code_of statuses.Done) → IsCheckRun checked most s' content' old' new' status → IsAcceptedRun most document old' new' status
-runs_accepted written checked limits most s s' content content' old new old' new' status document known same apart document_apart holds run check =
-    let made = answered written limits s.is_known content content' old new run.answer known apart run.made.answered run.told in
+runs_accepted : (written checked : Paths) (format : Format) (limits : Limits) (version : Version) (most : ℕ) (s s' : Store) (content content' : Content) (old new old' new' : Output) (status : ℕ) (document : List ℕ) → s.is_known ≡ true → AreSamePaths written checked → AreApart written → IsDocumentApart written → content written.document.now ≡ Some document → IsClassifyRun written format limits s content content' old new (code_of statuses.Done) → IsCheckRun checked version most s' content' old' new' status → IsAcceptedRun version most document old' new' status
+runs_accepted written checked format limits version most s s' content content' old new old' new' status document known same apart document_apart holds run check =
+    let made = answered written format limits s.is_known content content' old new run.answer known apart run.made.answered run.told in
     let summary = made.0 in
     let texts = made.1 in
-    let P : Option (List ℕ) → Type 0 = λ d. IsClassified limits.max_bytes limits.max_facts d summary texts in
+    let P : Option (List ℕ) → Type 0 = λ d. IsClassified limits.version format limits.max_bytes limits.max_facts d summary texts in
     let kept = run.made.others written.document.now document_apart.taxonomy document_apart.instances document_apart.certificate in
-    check_accepted checked limits.max_facts limits.max_bytes most content' old' new' status document texts summary check.answer (subst P holds made.2)
+    check_accepted checked limits.version version format limits.max_facts limits.max_bytes most content' old' new' status document texts summary check.answer (subst P holds made.2)
     (ap content' (sym same.document) ∙ kept ∙ holds) (ap content' (sym same.taxonomy) ∙ made.3.taxonomy) (ap content' (sym same.instances) ∙ made.3.instances) (ap content' (sym same.certificate) ∙ made.3.certificate) check.checked check.told
 
 -- ---- the words ask for one task
@@ -118,20 +121,36 @@ same_paths rows p q a b = record {
 }
 
 -- what a run of a command says that the words of `classify` ask for
-classify_run : (name : Text) (rows : List Row) (paths : Paths) (command : Command) (limits : Limits) (s : Store) (content content' : Content) (old new : Output) (status : ℕ) → IsCommand name rows (Classify paths) → IsCommand name rows command → IsCommandRun command limits s content content' old new status → (paths' : Paths) × AreSamePaths paths paths' × IsClassifyRun paths' limits s content content' old new status
-classify_run name rows paths (Classify paths') limits s content content' old new status is is' run = (paths', same_paths rows paths paths' is.1 is'.1, run)
-classify_run name rows paths (Check paths') limits s content content' old new status is is' run = let bad : codes "classify" ≡ codes "check" = sym is.0 ∙ is'.0 in absurd (cc)
-classify_run name rows paths (Instances document class) limits s content content' old new status is is' run = let bad : codes "classify" ≡ codes "instances" = sym is.0 ∙ is'.0 in absurd (cc)
-classify_run name rows paths (Explain question) limits s content content' old new status is is' run = let bad : codes "classify" ≡ codes "explain" = sym is.0 ∙ is'.0 in absurd (cc)
-classify_run name rows paths (Query document expression) limits s content content' old new status is is' run = absurd (not_query name (codes "classify") refl is.0 is'.0)
+classify_run : (name : Text) (rows : List Row) (paths : Paths) (number : FormatNumber) (command : Command) (limits : Limits) (s : Store) (content content' : Content) (old new : Output) (status : ℕ) → IsCommand name rows (Classify paths number) → IsCommand name rows command → IsCommandRun command limits s content content' old new status → (paths' : Paths) × (format : Format) × AreSamePaths paths paths' × IsClassifyRun paths' format limits s content content' old new status
+classify_run name rows paths number (Classify paths' number') limits s content content' old new status is is' run = (paths', format_of number', same_paths rows paths paths' is.1 is'.1, run)
+classify_run name rows paths number (Check paths') limits s content content' old new status is is' run = let bad : 108 ≡ 104 = one_letter name rows (Classify paths number) (Check paths') is is' in absurd (cc)
+classify_run name rows paths number (Convert conversion) limits s content content' old new status is is' run = let bad : 108 ≡ 111 = one_letter name rows (Classify paths number) (Convert conversion) is is' in absurd (cc)
+classify_run name rows paths number (Instances document class) limits s content content' old new status is is' run = let bad : 108 ≡ 110 = one_letter name rows (Classify paths number) (Instances document class) is is' in absurd (cc)
+classify_run name rows paths number (Explain question) limits s content content' old new status is is' run = let bad : 108 ≡ 120 = one_letter name rows (Classify paths number) (Explain question) is is' in absurd (cc)
+classify_run name rows paths number (Query document expression) limits s content content' old new status is is' run = let bad : 108 ≡ 117 = one_letter name rows (Classify paths number) (Query document expression) is is' in absurd (cc)
+
+-- the second letter of `check` comes before those of the other commands
+before : (d : ℕ) → ◌≡◌ {A = ℕ} 104 (105 + d) → ⊥
+before d e = omega (arith, e)
 
 -- what a run of a command says that the words of `check` ask for
-check_run : (name : Text) (rows : List Row) (paths : Paths) (command : Command) (limits : Limits) (s : Store) (content content' : Content) (old new : Output) (status : ℕ) → IsCommand name rows (Check paths) → IsCommand name rows command → IsCommandRun command limits s content content' old new status → (paths' : Paths) × AreSamePaths paths paths' × IsCheckRun paths' limits.max_bytes s content old new status
+check_run : (name : Text) (rows : List Row) (paths : Paths) (command : Command) (limits : Limits) (s : Store) (content content' : Content) (old new : Output) (status : ℕ) → IsCommand name rows (Check paths) → IsCommand name rows command → IsCommandRun command limits s content content' old new status → (paths' : Paths) × AreSamePaths paths paths' × IsCheckRun paths' limits.version limits.max_bytes s content old new status
 check_run name rows paths (Check paths') limits s content content' old new status is is' run = (paths', same_paths rows paths paths' is.1 is'.1, run)
-check_run name rows paths (Classify paths') limits s content content' old new status is is' run = let bad : codes "check" ≡ codes "classify" = sym is.0 ∙ is'.0 in absurd (cc)
-check_run name rows paths (Instances document class) limits s content content' old new status is is' run = let bad : codes "check" ≡ codes "instances" = sym is.0 ∙ is'.0 in absurd (cc)
-check_run name rows paths (Explain question) limits s content content' old new status is is' run = let bad : codes "check" ≡ codes "explain" = sym is.0 ∙ is'.0 in absurd (cc)
-check_run name rows paths (Query document expression) limits s content content' old new status is is' run = absurd (not_query name (codes "check") refl is.0 is'.0)
+check_run name rows paths (Classify paths' number') limits s content content' old new status is is' run = absurd (before 3 (one_letter name rows (Check paths) (Classify paths' number') is is'))
+check_run name rows paths (Convert conversion) limits s content content' old new status is is' run = absurd (before 6 (one_letter name rows (Check paths) (Convert conversion) is is'))
+check_run name rows paths (Instances document class) limits s content content' old new status is is' run = absurd (before 5 (one_letter name rows (Check paths) (Instances document class) is is'))
+check_run name rows paths (Explain question) limits s content content' old new status is is' run = absurd (before 15 (one_letter name rows (Check paths) (Explain question) is is'))
+check_run name rows paths (Query document expression) limits s content content' old new status is is' run = absurd (before 12 (one_letter name rows (Check paths) (Query document expression) is is'))
+
+same_version : (v w : Version) → version_number v ≡ version_number w → v ≡ w
+same_version One One e = refl
+same_version Two Two e = refl
+same_version One Two e = let bad : 1 ≡ 2 = e in absurd (cc)
+same_version Two One e = let bad : 2 ≡ 1 = e in absurd (cc)
+
+-- an option has one version
+one_version : (rows : List Row) (v w : Version) → IsVersion rows v → IsVersion rows w → v ≡ w
+one_version rows v w h k = same_version v w (one_number _ _ _ _ h k)
 
 -- the words name one command and its matches, of whatever task is asked about them
 record IsNamed (name : Text) (rows : List Row) (command : Command) (task : Task) : Type 0 where
@@ -154,28 +173,30 @@ line_not_done line.Memory old new h = told_not_done old new _ statuses.Memory (�
 -- the run of a classification that the words ask for
 record IsClassifiedBy (paths : Paths) (s : Store) (content content' : Content) (old new : Output) : Type 0 where
   paths' : Paths
+  format : Format
   limits : Limits
   same : AreSamePaths paths paths'
-  run : IsClassifyRun paths' limits s content content' old new (code_of statuses.Done)
+  run : IsClassifyRun paths' format limits s content content' old new (code_of statuses.Done)
 
-classified : (words : List Text) (task : Task) (paths : Paths) (s : Store) (content content' : Content) (old new : Output) → IsTaskOf words task → task.command ≡ Classify paths → IsPerformed words s content content' old new (code_of statuses.Done) → IsClassifiedBy paths s content content' old new
-classified words task paths s content content' old new of is (inl run) =
-    let made = classify_run _ _ paths run.0.command run.0.limits s content content' old new (code_of statuses.Done) (named words task run.0 (Classify paths) run.1 of is).is run.1.is.command run.2 in
-    record { paths' = made.0; limits = run.0.limits; same = made.1; run = made.2 }
-classified words task paths s content content' old new of is (inr run) = absurd (line_not_done run.0 old.err new.err run.3)
+classified : (words : List Text) (task : Task) (paths : Paths) (number : FormatNumber) (s : Store) (content content' : Content) (old new : Output) → IsTaskOf words task → task.command ≡ Classify paths number → IsPerformed words s content content' old new (code_of statuses.Done) → IsClassifiedBy paths s content content' old new
+classified words task paths number s content content' old new of is (inl run) =
+    let made = classify_run _ _ paths number run.0.command run.0.limits s content content' old new (code_of statuses.Done) (named words task run.0 (Classify paths number) run.1 of is).is run.1.is.command run.2 in
+    record { paths' = made.0; format = made.1; limits = run.0.limits; same = made.2; run = made.3 }
+classified words task paths number s content content' old new of is (inr run) = absurd (line_not_done run.0 old.err new.err run.3)
 
 -- the run of a check that the words ask for
-checked : (words : List Text) (task other : Task) (paths : Paths) (s : Store) (content content' : Content) (old new : Output) (status : ℕ) → IsTaskOf words task → task.command ≡ Check paths → IsTaskOf words other → IsCommandRun other.command other.limits s content content' old new status → (paths' : Paths) × AreSamePaths paths paths' × IsCheckRun paths' task.limits.max_bytes s content old new status
+checked : (words : List Text) (task other : Task) (paths : Paths) (s : Store) (content content' : Content) (old new : Output) (status : ℕ) → IsTaskOf words task → task.command ≡ Check paths → IsTaskOf words other → IsCommandRun other.command other.limits s content content' old new status → (paths' : Paths) × AreSamePaths paths paths' × IsCheckRun paths' task.limits.version task.limits.max_bytes s content old new status
 checked words task other paths s content content' old new status of is of' run =
     let here = named words task other (Check paths) of' of is in
     let made = check_run _ _ paths other.command other.limits s content content' old new status here.is of'.is.command run in
-    let P : ℕ → Type 0 = λ most. IsCheckRun made.0 most s content old new status in
-    (made.0, made.1, subst P (one_number _ _ _ _ of'.is.limits.bytes.number here.limits.bytes.number) made.2)
+    let P : ℕ → Type 0 = λ most. IsCheckRun made.0 other.limits.version most s content old new status in
+    let Q : Version → Type 0 = λ version. IsCheckRun made.0 version task.limits.max_bytes s content old new status in
+    (made.0, made.1, subst Q (one_version _ _ _ of'.is.limits.version here.limits.version) (subst P (one_number _ _ _ _ of'.is.limits.bytes.number here.limits.bytes.number) made.2))
 
 -- words that clap takes are refused only for want of memory
-refused_check : (words : List Text) (task : Task) (paths : Paths) (most : ℕ) (fault : LineFault) (document : List ℕ) (old new : Output) (status : ℕ) → IsTaskOf words task → takes elc_app words ≡ true → Refuses words fault → new.out ≡ old.out → IsLineTold fault old.err new.err status → IsAcceptedRun most document old new status
-refused_check words task paths most (line.Line error) document old new status of taken refuses same told = absurd (refuses taken task of)
-refused_check words task paths most line.Memory document old new status of taken refuses same told = inr (paths, checking.Memory, tt, same, told)
+refused_check : (words : List Text) (task : Task) (paths : Paths) (version : Version) (most : ℕ) (fault : LineFault) (document : List ℕ) (old new : Output) (status : ℕ) → IsTaskOf words task → takes elc_app words ≡ true → Refuses words fault → new.out ≡ old.out → IsLineTold fault old.err new.err status → IsAcceptedRun version most document old new status
+refused_check words task paths version most (line.Line error) document old new status of taken refuses same told = absurd (refuses taken task of)
+refused_check words task paths version most line.Memory document old new status of taken refuses same told = inr (paths, checking.Memory, tt, same, told)
 
 -- what the same paths hold apart from one another
 apart_too : (p q : Paths) → AreSamePaths p q → AreApart p → AreApart q
@@ -201,10 +222,10 @@ both p q r s a b d = record {
 }
 
 pub files_are_accepted : WrittenFilesAreAccepted
-files_are_accepted words words' task task' paths paths' s s' content content' content'' old new old' new' status document of is of' is' taken same apart document_apart known holds first (inl second) =
-    let c = classified words task paths s content content' old new of is first in
+files_are_accepted words words' task task' paths paths' number s s' content content' content'' old new old' new' status document of is of' is' taken same apart document_apart known holds first (inl second) =
+    let c = classified words task paths number s content content' old new of is first in
     let k = checked words' task' second.0 paths' s' content' content'' old' new' status of' is' second.1 second.2 in
     let P : List ℕ → Type 0 = λ path. content path ≡ Some document in
-    runs_accepted c.paths' k.0 c.limits task'.limits.max_bytes s s' content content' old new old' new' status document known (both paths paths' c.paths' k.0 same c.same k.1) (apart_too paths c.paths' c.same apart) (document_apart_too paths c.paths' c.same document_apart) (subst P c.same.document holds) c.run k.2
-files_are_accepted words words' task task' paths paths' s s' content content' content'' old new old' new' status document of is of' is' taken same apart document_apart known holds first (inr second) =
-    refused_check words' task' paths' task'.limits.max_bytes second.0 document old' new' status of' taken second.1 second.2 second.3
+    runs_accepted c.paths' k.0 c.format c.limits task'.limits.version task'.limits.max_bytes s s' content content' old new old' new' status document known (both paths paths' c.paths' k.0 same c.same k.1) (apart_too paths c.paths' c.same apart) (document_apart_too paths c.paths' c.same document_apart) (subst P c.same.document holds) c.run k.2
+files_are_accepted words words' task task' paths paths' number s s' content content' content'' old new old' new' status document of is of' is' taken same apart document_apart known holds first (inr second) =
+    refused_check words' task' paths' task'.limits.version task'.limits.max_bytes second.0 document old' new' status of' taken second.1 second.2 second.3

@@ -8,6 +8,7 @@ use Rattle.axioms.specs.declared.terms.Kind.{Kind}
 use Rattle.cli.proofs.Kept.{opens_file, reads_file, refuses_file}
 use Rattle.profile.specs.declared.opened.Opened.{Opened}
 use Rattle.program.specs.declared.limits.Limits.{Limits}
+use Rattle.program.specs.declared.version.Version.{Version}
 use Rattle.session.specs.TextAnswers.{AnswersInstances, AnswersExplanation, AnswersQuery, IsFaultOf, IsQueryFaultOf, IsReadAs, IsRunAs, LeavesUnanswered}
 use Rattle.session.specs.declared.question_fault.QuestionFault.{QuestionFault}
 use Rattle.session.specs.declared.question_fault.QuestionFault.TheVariants.{Document, Limit, UnknownName, Expression, Memory}
@@ -16,26 +17,26 @@ use Rattle.session.specs.declared.query_fault.QueryFault.TheVariants as querying
 use Rattle.session.specs.declared.form.Form.{Form}
 use Rattle.answers.specs.declared.asked.Asked.{Asked}
 
-read_as_file : (file left : Option (List ℕ)) (most : ℕ) (o : Ontology) → Keeps file left → IsReadAs most left o → IsReadAs most file o
-read_as_file file left most o kept is = record { reads = reads_file file left most o kept is.reads; taken = is.taken }
+read_as_file : (version : Version) (file left : Option (List ℕ)) (most : ℕ) (o : Ontology) → Keeps file left → IsReadAs version most left o → IsReadAs version most file o
+read_as_file version file left most o kept is = record { reads = reads_file version file left most o kept is.reads; taken = is.taken }
 
 pub instances_of_file : (file left : Option (List ℕ)) (limits : Limits) (class text : List ℕ) → Keeps file left → AnswersInstances limits left class text → AnswersInstances limits file class text
-instances_of_file file left limits class text kept is = (is.0, read_as_file file left limits.max_bytes is.0 kept is.1, is.2, is.3)
+instances_of_file file left limits class text kept is = (is.0, read_as_file limits.version file left limits.max_bytes is.0 kept is.1, is.2, is.3)
 
 pub why_of_file : (file left : Option (List ℕ)) (limits : Limits) (asked : Asked) (class : List ℕ) (form : Form) (text : List ℕ) → Keeps file left → AnswersExplanation limits left asked class form text → AnswersExplanation limits file asked class form text
-why_of_file file left limits asked class form text kept is = (is.0, read_as_file file left limits.max_bytes is.0 kept is.1, is.2, is.3)
+why_of_file file left limits asked class form text kept is = (is.0, read_as_file limits.version file left limits.max_bytes is.0 kept is.1, is.2, is.3)
 
 pub question_fault_of_file : (file left : Option (List ℕ)) (limits : Limits) (names : List (Kind × Iri)) (fault : QuestionFault) → Keeps file left → IsFaultOf limits left names fault → IsFaultOf limits file names fault
-question_fault_of_file file left limits names (Document fault) kept is = refuses_file file left limits.max_bytes fault kept is
-question_fault_of_file file left limits names Limit kept is = (is.0, read_as_file file left limits.max_bytes is.0 kept is.1, is.2)
-question_fault_of_file file left limits names (UnknownName name) kept is = (is.0, read_as_file file left limits.max_bytes is.0 kept is.1, is.2, is.3)
+question_fault_of_file file left limits names (Document fault) kept is = refuses_file limits.version file left limits.max_bytes fault kept is
+question_fault_of_file file left limits names Limit kept is = (is.0, read_as_file limits.version file left limits.max_bytes is.0 kept is.1, is.2)
+question_fault_of_file file left limits names (UnknownName name) kept is = (is.0, read_as_file limits.version file left limits.max_bytes is.0 kept is.1, is.2, is.3)
 question_fault_of_file file left limits names (Expression fault) kept is = absurd is
-question_fault_of_file file left limits names Memory kept is = (is.0, read_as_file file left limits.max_bytes is.0 kept is.1)
+question_fault_of_file file left limits names Memory kept is = (is.0, read_as_file limits.version file left limits.max_bytes is.0 kept is.1)
 
 -- ---- queries
 
 run_as_file : (file left : Option (List ℕ)) (limits : Limits) (d : Opened) → Keeps file left → IsRunAs limits left d → IsRunAs limits file d
-run_as_file file left limits d kept is = record { opens = opens_file file left limits.max_bytes d kept is.opens; taken = is.taken; few = is.few }
+run_as_file file left limits d kept is = record { opens = opens_file limits.version file left limits.max_bytes d kept is.opens; read_in = is.read_in; taken = is.taken; few = is.few }
 
 query_of_file : (file left : Option (List ℕ)) (limits : Limits) (text out : List ℕ) → Keeps file left → AnswersQuery limits left text out → AnswersQuery limits file text out
 query_of_file file left limits text out kept is = (is.0, run_as_file file left limits is.0 kept is.1, is.2)
@@ -44,12 +45,12 @@ unanswered_of_file : (file left : Option (List ℕ)) (limits : Limits) (text : L
 unanswered_of_file file left limits text fault kept is = (is.0, run_as_file file left limits is.0 kept is.1, is.2)
 
 query_fault_of_file : (file left : Option (List ℕ)) (limits : Limits) (text : List ℕ) (fault : QuestionFault) → Keeps file left → IsQueryFaultOf limits left text fault → IsQueryFaultOf limits file text fault
-query_fault_of_file file left limits text (Document fault) kept is = refuses_file file left limits.max_bytes fault kept is
-query_fault_of_file file left limits text Limit kept (inl is) = inl (is.0, read_as_file file left limits.max_bytes is.0 kept is.1, is.2)
+query_fault_of_file file left limits text (Document fault) kept is = refuses_file limits.version file left limits.max_bytes fault kept is
+query_fault_of_file file left limits text Limit kept (inl is) = inl (is.0, read_as_file limits.version file left limits.max_bytes is.0 kept is.1, is.2)
 query_fault_of_file file left limits text Limit kept (inr is) = inr (unanswered_of_file file left limits text querying.Limit kept is)
 query_fault_of_file file left limits text (UnknownName name) kept is = absurd is
 query_fault_of_file file left limits text (Expression fault) kept is = unanswered_of_file file left limits text (querying.Expression fault) kept is
-query_fault_of_file file left limits text Memory kept is = (is.0, read_as_file file left limits.max_bytes is.0 kept is.1)
+query_fault_of_file file left limits text Memory kept is = (is.0, read_as_file limits.version file left limits.max_bytes is.0 kept is.1)
 
 -- ---- whole answers about a source's bytes are about those of its file
 

@@ -34,9 +34,9 @@ taken_text true taken new text fresh appends =
 -- ---- what one file holds
 
 -- the file held this, and holds that, since its sink was closed that has taken these bytes
-record IsLeftBy (old new taken : Option (List ℕ)) : Type 0 where
-  written : HasTakenSome taken → new ≡ taken
-  unwritten : taken ≡ Some [] → new ≡ old
+pub record IsLeftBy (old new taken : Option (List ℕ)) : Type 0 where
+  pub written : HasTakenSome taken → new ≡ taken
+  pub unwritten : taken ≡ Some [] → new ≡ old
 
 holds : (known : Bool) (old new taken : Option (List ℕ)) (text : List ℕ) → IsSome text → IsLeftBy old new taken → Holds known taken text → Holds known new text
 holds false old new taken text some left is = tt
@@ -61,6 +61,14 @@ stays_left true old new taken left fresh = left.unwritten fresh
 pub stays : (known : Bool) (old new : Option (List ℕ)) → new ≡ old → Stays known old new
 stays false old new same = tt
 stays true old new same = same
+
+-- ---- one sink is closed
+
+-- the file of the path held what it did before, and its sink is closed
+pub one_left : (first before last : Content) (p path : List ℕ) (taken : Option (List ℕ)) → ((other : List ℕ) → before other ≡ first other) → p ≡ path → IsClosed before last p taken → IsLeftBy (first path) (last path) taken
+one_left first before last p path taken kept same closed =
+    let P : List ℕ → Type 0 = λ q. IsLeftBy (first q) (last q) taken in
+    subst P same (record { written = closed.written; unwritten = λ none. closed.unwritten none ∙ kept p })
 
 -- ---- three sinks are closed, one after the other
 
@@ -115,10 +123,10 @@ pub record AreNew (known : Bool) (old : Sinks) : Type 0 where
 abbrev pub AreSinksClosed : Paths → Sinks → (content content' : Content) → Type 0
 AreSinksClosed paths sinks content content' = AreClosed paths sinks.taxonomy.0 sinks.instances.0 sinks.certificate.0 content content'
 
-sink_holds : (known : Bool) (old new : Device) (held held' : Option (List ℕ)) (text : List ℕ) → old.0 ≡ nothing_taken known → IsSome text → Takes old new text → IsLeftBy held held' new.0 → Holds known held' text
+pub sink_holds : (known : Bool) (old new : Device) (held held' : Option (List ℕ)) (text : List ℕ) → old.0 ≡ nothing_taken known → IsSome text → Takes old new text → IsLeftBy held held' new.0 → Holds known held' text
 sink_holds known old new held held' text fresh some takes left = holds known held held' new.0 text some left (taken_text known old.0 new.0 text fresh takes.0)
 
-sink_begins : (known : Bool) (old new : Device) (held held' : Option (List ℕ)) (text : List ℕ) → old.0 ≡ nothing_taken known → FailsIn old new text → IsLeftBy held held' new.0 → HoldsPrefix known held held' text
+pub sink_begins : (known : Bool) (old new : Device) (held held' : Option (List ℕ)) (text : List ℕ) → old.0 ≡ nothing_taken known → FailsIn old new text → IsLeftBy held held' new.0 → HoldsPrefix known held held' text
 sink_begins known old new held held' text fresh fails left = holds_prefix known held held' new.0 text fails.0.0 left (taken_text known old.0 new.0 (take fails.0.0 text) fresh fails.0.1)
 
 sink_stays : (known : Bool) (old new : Device) (held held' : Option (List ℕ)) → old.0 ≡ nothing_taken known → new ≡ old → IsLeftBy held held' new.0 → Stays known held held'

@@ -15,16 +15,17 @@ use Rattle.cli.specs.declared.fault.CheckFault.{CheckFault}
 use Rattle.cli.specs.declared.fault.CheckFault.TheVariants.{Document, Memory, Io}
 use Rattle.device.specs.declared.device.Source.{Ghosts}
 use Rattle.profile.specs.Faults.{ReadsKnown, RefusesKnown}
+use Rattle.program.specs.declared.version.Version.{Version}
 
 -- the bytes are those of a source that tells its bytes
 abbrev pub AreKnown : Option (List ℕ) → List ℕ → Type 0
 AreKnown None bytes = Unit {0}
 AreKnown (Some left) bytes = left ≡ bytes
 
--- the document reads as this ontology, and the verdict is on the three texts and that ontology: they are accepted exactly
+-- the document reads in the version as this ontology, and the verdict is on the three texts and that ontology: they are accepted exactly
 -- where they are acceptable, and then they say what follows from the axioms; lines that were passed are true
-pub record IsChecked (most : ℕ) (document taxonomy instances certificate : Option (List ℕ)) (o : Ontology) (verdict : Verdict) : Type 0 where
-  pub reads : ReadsKnown document most o
+pub record IsChecked (version : Version) (most : ℕ) (document taxonomy instances certificate : Option (List ℕ)) (o : Ontology) (verdict : Verdict) : Type 0 where
+  pub reads : ReadsKnown version document most o
   pub well_formed : IsOntology o
   pub taxonomy_text : List ℕ
   pub instances_text : List ℕ
@@ -53,15 +54,15 @@ pub record AreTextsJudged (o : Ontology) (taxonomy instances certificate : Optio
 
 -- what a fault says of the document: it is refused, or it is read and this came behind that. The sources of the texts are
 -- numbered from 2
-abbrev pub IsCheckFault : (most : ℕ) → (document : Option (List ℕ)) → CheckFault → Type 0
-IsCheckFault most document (Document fault) = RefusesKnown document most fault
-IsCheckFault most document Memory = IsRead most document
-IsCheckFault most document (Io n) = (2 ≤ n) × (n ≤ 4) × IsRead most document
+abbrev pub IsCheckFault : Version → (most : ℕ) → (document : Option (List ℕ)) → CheckFault → Type 0
+IsCheckFault version most document (Document fault) = RefusesKnown version document most fault
+IsCheckFault version most document Memory = IsRead version most document
+IsCheckFault version most document (Io n) = (2 ≤ n) × (n ≤ 4) × IsRead version most document
 
 -- what an answer says: the document reads as some ontology, and this is the verdict on it and the texts; or a fault
-abbrev pub IsCheckAnswer : (most : ℕ) → (document taxonomy instances certificate : Option (List ℕ)) → Result Verdict CheckFault → Type 0
-IsCheckAnswer most document taxonomy instances certificate (Ok verdict) = (o : Ontology) × IsChecked most document taxonomy instances certificate o verdict
-IsCheckAnswer most document taxonomy instances certificate (Err fault) = IsCheckFault most document fault
+abbrev pub IsCheckAnswer : Version → (most : ℕ) → (document taxonomy instances certificate : Option (List ℕ)) → Result Verdict CheckFault → Type 0
+IsCheckAnswer version most document taxonomy instances certificate (Ok verdict) = (o : Ontology) × IsChecked version most document taxonomy instances certificate o verdict
+IsCheckAnswer version most document taxonomy instances certificate (Err fault) = IsCheckFault version most document fault
 
 -- ---- what was read
 
@@ -139,10 +140,10 @@ IsUnjudged o old new (Document fault) = ⊥
 IsUnjudged o old new Memory = IsReadOn old new
 IsUnjudged o old new (Io n) = (n ≡ 4) × StopsGoingOn o old new
 
--- the certificate's source failed: the document reads as this ontology, and every whole line that the source gave can follow those before
--- it
-pub record StopsInCertificate (most : ℕ) (document : Option (List ℕ)) (old new : SourceState) : Type 0 where
+-- the certificate's source failed: the document reads in the version as this ontology, and every whole line that the source gave can
+-- follow those before it
+pub record StopsInCertificate (version : Version) (most : ℕ) (document : Option (List ℕ)) (old new : SourceState) : Type 0 where
   pub ontology : Ontology
-  pub reads : ReadsKnown document most ontology
+  pub reads : ReadsKnown version document most ontology
   pub well_formed : IsOntology ontology
   pub stops : StopsGoingOn ontology old new

@@ -1,11 +1,16 @@
 -- What is seen of the files of a run, and which of them the answers of its calls blame.
 use Rattle.std.specs.Prelude.{◌≡◌, ◌≤◌, ℕ, List, Bool, false, Option, Result, Ok, Err}
+use Rattle.cert_check.specs.declared.conversion.ConvertFault.{ConvertFault}
+use Rattle.cert_check.specs.declared.conversion.ConvertFault.TheVariants as converting
+use Rattle.command_line.specs.declared.tasks.Conversion.{Conversion}
 use Rattle.command_line.specs.declared.tasks.Paths.{Paths}
 use Rattle.cli.specs.Messages.{read_path}
 use Rattle.cli.specs.declared.fault.CheckFault.{CheckFault}
 use Rattle.cli.specs.declared.fault.CheckFault.TheVariants as checking
 use Rattle.cli.specs.declared.fault.ClassifyFault.{ClassifyFault}
 use Rattle.cli.specs.declared.fault.ClassifyFault.TheVariants as classifying
+use Rattle.cli.specs.declared.fault.ConversionFault.{ConversionFault}
+use Rattle.cli.specs.declared.fault.ConversionFault.TheVariants.{Certificate, Document, Unread}
 use Rattle.device.specs.Device.{HasFailed}
 use Rattle.profile.specs.declared.fault.DocumentFault.{DocumentFault}
 use Rattle.profile.specs.declared.fault.DocumentFault.TheVariants.{Io, Memory}
@@ -97,3 +102,21 @@ ChecksFiles fails known content paths (Ok x) = IsThere known (content paths.docu
 ChecksFiles fails known content paths (Err (checking.Document fault)) = BlamesFile fails known (content paths.document.now) fault
 ChecksFiles fails known content paths (Err checking.Memory) = IsThere known (content paths.document.now)
 ChecksFiles fails known content paths (Err (checking.Io n)) = IsThere known (content paths.document.now) × IsUnreadable fails known (content (read_path paths n))
+
+-- what a fault of a certificate's text says of the writes: that one failed only where that is the fault
+abbrev pub BlamesWrites : Store → ConvertFault → Type 0
+BlamesWrites s converting.Io = SomeWriteFails s
+BlamesWrites s fault = NoWriteFails s
+
+-- the files of the document and of the certificate are there
+abbrev pub AreBothThere : (known : Bool) → Content → Conversion → Type 0
+AreBothThere known content c = IsThere known (content c.document.now) × IsThere known (content c.certificate.now)
+
+-- what an answer of a conversion says of the files that are read, and of the writes that failed
+abbrev pub ConvertsFiles : {X : Type 0} → Store → Content → Conversion → Result X ConversionFault → Type 0
+ConvertsFiles s content c (Ok x) = AreBothThere s.is_known content c × NoWriteFails s
+ConvertsFiles s content c (Err (Document fault)) = BlamesFile s.reads_fail s.is_known (content c.document.now) fault × NoWriteFails s
+ConvertsFiles s content c (Err Unread) =
+    IsThere s.is_known (content c.document.now) × IsUnreadable s.reads_fail s.is_known (content c.certificate.now) × NoWriteFails s
+ConvertsFiles s content c (Err (Certificate converting.Memory)) = IsThere s.is_known (content c.document.now) × NoWriteFails s
+ConvertsFiles s content c (Err (Certificate fault)) = AreBothThere s.is_known content c × BlamesWrites s fault

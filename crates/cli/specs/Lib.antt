@@ -1,6 +1,7 @@
 pub mod Messages
 pub mod Classifications
 pub mod Checks
+pub mod Conversions
 pub mod FileSinks
 pub mod Files
 pub mod Runs

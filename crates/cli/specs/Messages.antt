@@ -79,6 +79,10 @@ reason_text o (InstancesDiffer at) = codes "C9 at byte " ++ decimal at
 abbrev pub rejected_text : (reason : List ℕ) → List ℕ
 rejected_text reason = codes "rejected: " ++ (reason ++ codes "\n")
 
+-- of a certificate that has no text in the format, for a premise of the line of that number
+abbrev pub unconverted_text : (line : ℕ) → List ℕ
+unconverted_text line = codes "cannot convert line " ++ (decimal line ++ codes "\n")
+
 abbrev pub verdict_text : Ontology → Verdict → List ℕ
 verdict_text o Accepted = codes "accepted\n"
 verdict_text o (Rejected reason) = rejected_text (reason_text o reason)

@@ -1,20 +1,33 @@
 -- What a run of the program does.
-use Rattle.std.specs.Prelude.{◌≡◌, ℕ, zero, suc, ◌⊎◌, List, [], ◌∷◌, Bool, true, false, if◌then◌else◌, Option, Some, Result, Ok, Err, take}
+use Rattle.std.specs.Prelude.{◌≡◌, ℕ, zero, suc, ◌⊎◌, List, [], ◌∷◌, Bool, true, false, if◌then◌else◌, Option, Some, Result, Ok, Err, ◌++◌, codes, take}
 use Rattle.axioms.specs.Ontology.{Ontology}
+use Rattle.certificate.specs.declared.format.Format.{Format}
+use Rattle.certificate.specs.declared.format.Format.TheVariants.{One, Two}
 use Rattle.cert_check.specs.declared.verdict.Verdict.{Verdict}
 use Rattle.classification.specs.declared.classification.Summary.{Summary}
 use Rattle.clap.specs.Words.{Text}
 use Rattle.command_line.specs.CommandLine.{IsTaskOf, Refuses}
 use Rattle.command_line.specs.declared.tasks.Command.{Command}
-use Rattle.command_line.specs.declared.tasks.Command.TheVariants.{Check, Classify, Explain, Instances, Query}
+use Rattle.command_line.specs.declared.tasks.Command.TheVariants.{Check, Classify, Convert, Explain, Instances, Query}
+use Rattle.command_line.specs.declared.tasks.Conversion.{Conversion}
+use Rattle.command_line.specs.declared.tasks.FormatNumber.{FormatNumber}
+use Rattle.command_line.specs.declared.tasks.FormatNumber.TheVariants as numbers
 use Rattle.command_line.specs.declared.tasks.LineFault.{LineFault}
 use Rattle.command_line.specs.declared.tasks.Paths.{Paths}
 use Rattle.command_line.specs.declared.tasks.Question.{Question}
 use Rattle.command_line.specs.declared.tasks.Task.{Task}
+use Rattle.cert_check.specs.declared.conversion.ConvertFault.{ConvertFault}
+use Rattle.cert_check.specs.declared.conversion.ConvertFault.TheVariants as converting
 use Rattle.cli.specs.Checks.{IsChecked, IsCheckFault}
+use Rattle.cli.specs.Conversions.{IsConversionAnswer}
+use Rattle.cli.specs.declared.fault.ConversionFault.{ConversionFault}
+use Rattle.cli.specs.declared.fault.ConversionFault.TheVariants.{Certificate, Document, Unread}
+use Rattle.profile.specs.Messages.{status_of}
+use Rattle.program.specs.Status.{code_of}
+use Rattle.std.specs.Fmt.{decimal}
 use Rattle.std.specs.Global.{Vec}
-use Rattle.cli.specs.Files.{AsksFile, ChecksFiles, ClassifiesFile, Store, store}
-use Rattle.cli.specs.Messages.{Output, IsAnswered, IsTold, verdict_text, verdict_status, outputs, summary_text, IsCheckText, check_status, IsClassifyText, classify_status, IsQuestionText, question_status, IsLineTold}
+use Rattle.cli.specs.Files.{AsksFile, ChecksFiles, ClassifiesFile, ConvertsFiles, Store, store}
+use Rattle.cli.specs.Messages.{Output, IsAnswered, IsDocumentText, IsPrinted, IsTold, cannot_read, cannot_write, out_of_memory, rejected_text, unconverted_text, verdict_text, verdict_status, outputs, summary_text, IsCheckText, check_status, IsClassifyText, classify_status, IsQuestionText, question_status, IsLineTold}
 use Rattle.cli.specs.Classifications.{IsFaultOf}
 use Rattle.session.specs.Classifications.{IsClassified}
 use Rattle.session.specs.WrittenTexts.{Texts}
@@ -24,6 +37,7 @@ use Rattle.cli.specs.declared.fault.ClassifyFault.TheVariants.{Io}
 use Rattle.device.specs.declared.device.Sink as sinks
 use Rattle.program.specs.declared.limits.Limits.{Limits}
 use Rattle.program.specs.declared.status.Status.TheVariants as statuses
+use Rattle.program.specs.declared.version.Version.{Version}
 use Rattle.session.specs.TextAnswers as asking
 use Rattle.session.specs.TextAnswers.{AnswersInstances, AnswersExplanation, AnswersQuery}
 use Rattle.session.specs.declared.question_fault.QuestionFault.{QuestionFault}
@@ -79,29 +93,34 @@ HoldTextsUntil (suc (suc (suc zero))) known paths texts old new =
 HoldTextsUntil n known paths texts old new = ⊥
 
 -- what the files hold where the answer is a fault: all that they held where it came before the writing
-abbrev pub AreLeft : Paths → (facts bytes : ℕ) → Bool → (content content' : Content) → ClassifyFault → Type 0
-AreLeft paths facts bytes known content content' (Io n) =
-    (summary : Summary) × (texts : Texts) × IsClassified bytes facts (content paths.document.now) summary texts
+abbrev pub AreLeft : Paths → Format → Limits → Bool → (content content' : Content) → ClassifyFault → Type 0
+AreLeft paths format limits known content content' (Io n) =
+    (summary : Summary) × (texts : Texts) × IsClassified limits.version format limits.max_bytes limits.max_facts (content paths.document.now) summary texts
     × (AreApart paths → HoldTextsUntil n known paths texts content content')
-AreLeft paths facts bytes known content content' fault = (path : List ℕ) → Stays known (content path) (content' path)
+AreLeft paths format limits known content content' fault = (path : List ℕ) → Stays known (content path) (content' path)
 
 -- files at other paths than the three are as they were
 abbrev pub AreOthersKept : Paths → (content content' : Content) → Type 0
 AreOthersKept paths content content' =
     (path : List ℕ) → ¬ (path ≡ paths.taxonomy.now) → ¬ (path ≡ paths.instances.now) → ¬ (path ≡ paths.certificate.now) → content' path ≡ content path
 
+-- the format of that number
+abbrev pub format_of : FormatNumber → Format
+format_of numbers.One = One
+format_of numbers.Two = Two
+
 -- ---- runs: what the answer of the call says, and how it is told
 
 -- what an answer says of a classification in files: the document is classified, and each path holds its text; or why not
-abbrev pub IsClassifyAnswer : Paths → (facts bytes : ℕ) → (known : Bool) → (content content' : Content) → Result Summary ClassifyFault → Type 0
-IsClassifyAnswer paths facts bytes known content content' (Ok summary) =
-    (texts : Texts) × IsClassified bytes facts (content paths.document.now) summary texts × (AreApart paths → HoldTexts known paths texts content')
-IsClassifyAnswer paths facts bytes known content content' (Err fault) =
-    IsFaultOf bytes facts (content paths.document.now) fault × AreLeft paths facts bytes known content content' fault
+abbrev pub IsClassifyAnswer : Paths → Format → Limits → (known : Bool) → (content content' : Content) → Result Summary ClassifyFault → Type 0
+IsClassifyAnswer paths format limits known content content' (Ok summary) =
+    (texts : Texts) × IsClassified limits.version format limits.max_bytes limits.max_facts (content paths.document.now) summary texts × (AreApart paths → HoldTexts known paths texts content')
+IsClassifyAnswer paths format limits known content content' (Err fault) =
+    IsFaultOf limits.version format limits.max_bytes limits.max_facts (content paths.document.now) fault × AreLeft paths format limits known content content' fault
 
 -- the answer is that of a classification in files, no other file is written, and a device is blamed only where it failed
-pub record IsClassifyMade (paths : Paths) (limits : Limits) (s : Store) (content content' : Content) (answer : Result Summary ClassifyFault) : Type 0 where
-  pub answered : IsClassifyAnswer paths limits.max_facts limits.max_bytes s.is_known content content' answer
+pub record IsClassifyMade (paths : Paths) (format : Format) (limits : Limits) (s : Store) (content content' : Content) (answer : Result Summary ClassifyFault) : Type 0 where
+  pub answered : IsClassifyAnswer paths format limits s.is_known content content' answer
   pub blames : ClassifiesFile s (content paths.document.now) answer
   pub others : AreOthersKept paths content content'
 
@@ -112,16 +131,16 @@ IsClassifyTold paths limits (Err fault) old new status =
     (new.out ≡ old.out) × IsTold old.err new.err (IsClassifyText paths limits.max_bytes limits.max_facts fault) (classify_status fault) status
 
 -- a run of `classify`
-pub record IsClassifyRun (paths : Paths) (limits : Limits) (s : Store) (content content' : Content) (old new : Output) (status : ℕ) : Type 0 where
+pub record IsClassifyRun (paths : Paths) (format : Format) (limits : Limits) (s : Store) (content content' : Content) (old new : Output) (status : ℕ) : Type 0 where
   pub answer : Result Summary ClassifyFault
-  pub made : IsClassifyMade paths limits s content content' answer
+  pub made : IsClassifyMade paths format limits s content content' answer
   pub told : IsClassifyTold paths limits answer old new status
 
 -- what an answer says of a check of files: the verdict on them; or why there is none
-abbrev pub IsCheckedFiles : Paths → (bytes : ℕ) → Content → Result (Ontology × Verdict) CheckFault → Type 0
-IsCheckedFiles paths bytes content (Ok p) =
-    IsChecked bytes (content paths.document.now) (content paths.taxonomy.now) (content paths.instances.now) (content paths.certificate.now) p.0 p.1
-IsCheckedFiles paths bytes content (Err fault) = IsCheckFault bytes (content paths.document.now) fault
+abbrev pub IsCheckedFiles : Paths → Version → (bytes : ℕ) → Content → Result (Ontology × Verdict) CheckFault → Type 0
+IsCheckedFiles paths version bytes content (Ok p) =
+    IsChecked version bytes (content paths.document.now) (content paths.taxonomy.now) (content paths.instances.now) (content paths.certificate.now) p.0 p.1
+IsCheckedFiles paths version bytes content (Err fault) = IsCheckFault version bytes (content paths.document.now) fault
 
 -- the verdict is printed; or a fault is told
 abbrev pub IsCheckTold : Paths → (bytes : ℕ) → Result (Ontology × Verdict) CheckFault → (old new : Output) → (status : ℕ) → Type 0
@@ -129,11 +148,47 @@ IsCheckTold paths bytes (Ok p) old new status = IsAnswered old new (verdict_text
 IsCheckTold paths bytes (Err fault) old new status = (new.out ≡ old.out) × IsTold old.err new.err (IsCheckText paths bytes fault) (check_status fault) status
 
 -- a run of `check`
-pub record IsCheckRun (paths : Paths) (bytes : ℕ) (s : Store) (content : Content) (old new : Output) (status : ℕ) : Type 0 where
+pub record IsCheckRun (paths : Paths) (version : Version) (bytes : ℕ) (s : Store) (content : Content) (old new : Output) (status : ℕ) : Type 0 where
   pub answer : Result (Ontology × Verdict) CheckFault
-  pub checked : IsCheckedFiles paths bytes content answer
+  pub checked : IsCheckedFiles paths version bytes content answer
   pub blames : ChecksFiles s.reads_fail s.is_known content paths answer
   pub told : IsCheckTold paths bytes answer old new status
+
+-- files at other paths are as they were
+abbrev pub AreOtherFilesKept : (path : List ℕ) → (content content' : Content) → Type 0
+AreOtherFilesKept path content content' = (other : List ℕ) → ¬ (other ≡ path) → content' other ≡ content other
+
+-- what an answer says of the document, of the certificate's text, and of the file that is written
+abbrev pub IsConvertAnswer : {X : Type 0} → Conversion → Limits → (known : Bool) → (content content' : Content) → Result X ConversionFault → Type 0
+IsConvertAnswer c limits known content content' answer =
+    IsConversionAnswer limits.version limits.max_bytes (format_of c.format) (content c.document.now) (content c.certificate.now)
+    (Holds known (content' c.output.now)) (HoldsPrefix known (content c.output.now) (content' c.output.now)) (Stays known (content c.output.now) (content' c.output.now)) answer
+
+-- the answer is that of a conversion of files, no other file is written, and a device is blamed only where it failed
+pub record IsConversionMade {X : Type 0} (c : Conversion) (limits : Limits) (s : Store) (content content' : Content) (answer : Result X ConversionFault) : Type 0 where
+  pub answered : IsConvertAnswer c limits s.is_known content content' answer
+  pub blames : ConvertsFiles s content c answer
+  pub others : AreOtherFilesKept c.output.now content content'
+
+-- what is told of a certificate that is not converted
+abbrev pub IsUnconvertedTold : (path : List ℕ) → ConvertFault → (old new : Output) → (status : ℕ) → Type 0
+IsUnconvertedTold path (converting.BadText at) old new status = IsAnswered old new (rejected_text (codes "C1 at byte " ++ decimal at)) statuses.Rejected status
+IsUnconvertedTold path (converting.LaterPremise line) old new status = IsAnswered old new (unconverted_text line) statuses.Rejected status
+IsUnconvertedTold path converting.Io old new status = (new.out ≡ old.out) × IsTold old.err new.err (λ text. text ≡ cannot_write path) statuses.File status
+IsUnconvertedTold path converting.Memory old new status = (new.out ≡ old.out) × IsPrinted old.err new.err out_of_memory statuses.Memory status
+
+-- nothing is printed; or a fault is told
+abbrev pub IsConvertTold : {X : Type 0} → Conversion → (bytes : ℕ) → Result X ConversionFault → (old new : Output) → (status : ℕ) → Type 0
+IsConvertTold c bytes (Ok x) old new status = (new ≡ old) × (status ≡ code_of statuses.Done)
+IsConvertTold c bytes (Err (Document fault)) old new status = (new.out ≡ old.out) × IsTold old.err new.err (IsDocumentText c.document.now bytes fault) (status_of fault) status
+IsConvertTold c bytes (Err Unread) old new status = (new.out ≡ old.out) × IsTold old.err new.err (λ text. text ≡ cannot_read c.certificate.now) statuses.File status
+IsConvertTold c bytes (Err (Certificate fault)) old new status = IsUnconvertedTold c.output.now fault old new status
+
+-- a run of `convert`
+pub record IsConvertRun (c : Conversion) (limits : Limits) (s : Store) (content content' : Content) (old new : Output) (status : ℕ) : Type 0 where
+  pub answer : Result (Unit {0}) ConversionFault
+  pub made : IsConversionMade c limits s content content' answer
+  pub told : IsConvertTold c limits.max_bytes answer old new status
 
 -- what an answer says of a question about a document: the text has this property; or why there is none
 abbrev pub IsQuestionAnswer : (List ℕ → Type 0) → (QuestionFault → Type 0) → Result (Vec ℕ) QuestionFault → Type 0
@@ -185,8 +240,9 @@ pub record IsQueryRun (path text : List ℕ) (limits : Limits) (s : Store) (cont
 
 -- a run of a command within the limits
 abbrev pub IsCommandRun : Command → Limits → Store → (content content' : Content) → (old new : Output) → (status : ℕ) → Type 0
-IsCommandRun (Classify paths) limits s content content' old new status = IsClassifyRun paths limits s content content' old new status
-IsCommandRun (Check paths) limits s content content' old new status = IsCheckRun paths limits.max_bytes s content old new status
+IsCommandRun (Classify paths number) limits s content content' old new status = IsClassifyRun paths (format_of number) limits s content content' old new status
+IsCommandRun (Check paths) limits s content content' old new status = IsCheckRun paths limits.version limits.max_bytes s content old new status
+IsCommandRun (Convert conversion) limits s content content' old new status = IsConvertRun conversion limits s content content' old new status
 IsCommandRun (Instances document class) limits s content content' old new status = IsInstancesRun document.now class.now limits s content old new status
 IsCommandRun (Explain question) limits s content content' old new status = IsExplainRun question limits s content old new status
 IsCommandRun (Query document expression) limits s content content' old new status = IsQueryRun document.now expression.now limits s content old new status
@@ -197,9 +253,15 @@ IsPerformed words s content content' old new status =
     ((task : Task) × IsTaskOf words task × IsCommandRun task.command task.limits s content content' old new status)
     ⊎ ((fault : LineFault) × Refuses words fault × (new.out ≡ old.out) × IsLineTold fault old.err new.err status)
 
--- the words do not ask for a classification
-abbrev pub AskForNoClassification : List Text → Type 0
-AskForNoClassification words = (task : Task) (paths : Paths) → IsTaskOf words task → task.command ≡ Classify paths → ⊥
+-- a classification and a conversion write files
+abbrev pub writes_files : Command → Bool
+writes_files (Classify paths number) = true
+writes_files (Convert conversion) = true
+writes_files command = false
+
+-- the words ask for none of them
+abbrev pub AskForNoFiles : List Text → Type 0
+AskForNoFiles words = (task : Task) → IsTaskOf words task → writes_files task.command ≡ false
 
 -- ---- runs, by files and the two outputs before and after
 

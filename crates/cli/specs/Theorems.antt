@@ -4,8 +4,10 @@ use Rattle.axioms.specs.Ontology.{Ontology}
 use Rattle.cert_check.specs.Acceptance.{AreRight, IsAcceptable}
 use Rattle.cert_check.specs.declared.verdict.Verdict.{Verdict}
 use Rattle.cert_check.specs.declared.verdict.Verdict.TheVariants.{Accepted}
-use Rattle.classification.specs.Classifications.{AreCountsOf}
+use Rattle.certificate.specs.declared.format.Format.{Format}
+use Rattle.classification.specs.Classifications.{AreCountsOf, IsWrittenIn}
 use Rattle.classification.specs.declared.classification.Summary.{Summary}
+use Rattle.command_line.specs.declared.tasks.FormatNumber.{FormatNumber}
 use Rattle.command_line.specs.declared.tasks.Paths.{Paths}
 use Rattle.cli.specs.Checks.{IsCheckAnswer}
 use Rattle.clap.specs.Words.{Text, takes}
@@ -23,10 +25,13 @@ use Rattle.cli.specs.declared.fault.CheckFault.TheVariants.{Document, Memory, Io
 use Rattle.cli.specs.declared.fault.ClassifyFault.{ClassifyFault}
 use Rattle.cli.specs.declared.fault.ClassifyFault.TheVariants as classifying
 use Rattle.profile.specs.Documents.{ReadsAs}
+use Rattle.profile.specs.Faults.{ReadAsNone}
 use Rattle.profile.specs.declared.fault.DocumentFault.TheVariants as reading
 use Rattle.engine.specs.Saturations.{HasMoreFactsThan}
 use Rattle.program.specs.Status.{code_of}
 use Rattle.program.specs.declared.status.Status.TheVariants as statuses
+use Rattle.program.specs.declared.version.Version.{Version}
+use Rattle.program.specs.declared.version.Version.TheVariants.{Two}
 use Rattle.system_files.specs.Contents.{Content}
 
 -- a classification that is stopped by this fault says nothing of the document: memory was refused, or a device failed. Or the
@@ -39,59 +44,67 @@ StopsClassification o facts classifying.Memory = Unit {0}
 StopsClassification o facts classifying.Limit = HasMoreFactsThan o [] facts
 StopsClassification o facts (classifying.Io n) = Unit {0}
 
--- the answer is the counts of the ontology, and acceptable texts of it are written, unless the classification is stopped
-abbrev pub IsClassifiedUnlessStopped : Ontology → (facts : ℕ) → (old new : Sinks) → Result Summary ClassifyFault → Type 0
-IsClassifiedUnlessStopped o facts old new (Ok summary) =
-    AreCountsOf o summary × ((texts : Texts) × IsAcceptable o texts.taxonomy texts.instances texts.certificate × AreWritten old new texts)
-IsClassifiedUnlessStopped o facts old new (Err fault) = StopsClassification o facts fault
+-- the answer is the counts of the ontology, and acceptable texts of it are written, with a certificate in the format, unless the
+-- classification is stopped
+abbrev pub IsClassifiedUnlessStopped : Ontology → Format → (facts : ℕ) → (old new : Sinks) → Result Summary ClassifyFault → Type 0
+IsClassifiedUnlessStopped o format facts old new (Ok summary) =
+    AreCountsOf o summary × ((texts : Texts) × IsAcceptable o texts.taxonomy texts.instances texts.certificate × IsWrittenIn o format texts.certificate × AreWritten old new texts)
+IsClassifiedUnlessStopped o format facts old new (Err fault) = StopsClassification o facts fault
 
--- whatever ontology the bytes of a document read as, it is classified
+-- whatever ontology the bytes of a document read as in a version, it is classified in that, in each format
 abbrev pub EveryDocumentIsClassified : Type 0
 EveryDocumentIsClassified =
-    (most facts : ℕ) (bytes : List ℕ) (o : Ontology) (old new : Sinks) (answer : Result Summary ClassifyFault) →
-    ReadsAs bytes o → length bytes ≤ most → IsClassification most facts (Some bytes) old new answer →
-    IsClassifiedUnlessStopped o facts old new answer
+    (version : Version) (format : Format) (most facts : ℕ) (bytes : List ℕ) (o : Ontology) (old new : Sinks) (answer : Result Summary ClassifyFault) →
+    ReadsAs version bytes o → length bytes ≤ most → IsClassification version format most facts (Some bytes) old new answer →
+    IsClassifiedUnlessStopped o format facts old new answer
 
 -- a check that is stopped by this fault says nothing of the texts: memory was refused, a source failed, or the document has
--- more bytes than this checker reads
-abbrev pub IsStop : (most : ℕ) → (document : List ℕ) → CheckFault → Type 0
-IsStop most document (Document reading.TooLarge) = most < length document
-IsStop most document (Document reading.Io) = Unit {0}
-IsStop most document (Document reading.Memory) = Unit {0}
-IsStop most document (Document fault) = ⊥
-IsStop most document Memory = Unit {0}
-IsStop most document (Io n) = Unit {0}
+-- more bytes than this checker reads, or reads as no ontology in its version
+abbrev pub IsStop : Version → (most : ℕ) → (document : List ℕ) → CheckFault → Type 0
+IsStop version most document (Document reading.TooLarge) = most < length document
+IsStop version most document (Document reading.Io) = Unit {0}
+IsStop version most document (Document reading.Memory) = Unit {0}
+IsStop version most document (Document fault) = ReadAsNone version document
+IsStop version most document Memory = Unit {0}
+IsStop version most document (Io n) = Unit {0}
 
 -- the answer of a check is that the texts are accepted, unless the check is stopped
-abbrev pub AcceptsUnlessStopped : (most : ℕ) → (document : List ℕ) → Result Verdict CheckFault → Type 0
-AcceptsUnlessStopped most document (Ok verdict) = verdict ≡ Accepted
-AcceptsUnlessStopped most document (Err fault) = IsStop most document fault
+abbrev pub AcceptsUnlessStopped : Version → (most : ℕ) → (document : List ℕ) → Result Verdict CheckFault → Type 0
+AcceptsUnlessStopped version most document (Ok verdict) = verdict ≡ Accepted
+AcceptsUnlessStopped version most document (Err fault) = IsStop version most document fault
 
--- the texts that a classification of a document writes are accepted where the same document is checked
+-- the texts that a classification of a document writes, in whatever format, are accepted where the same document is checked, in whatever
+-- versions
 abbrev pub WhatIsWrittenIsAccepted : Type 0
 WhatIsWrittenIsAccepted =
-    (most_written most_checked facts : ℕ) (bytes : List ℕ) (texts : Texts) (summary : Summary) (answer : Result Verdict CheckFault) →
-    IsClassified most_written facts (Some bytes) summary texts →
-    IsCheckAnswer most_checked (Some bytes) (Some texts.taxonomy) (Some texts.instances) (Some texts.certificate) answer →
-    AcceptsUnlessStopped most_checked bytes answer
+    (written checked : Version) (format : Format) (most_written most_checked facts : ℕ) (bytes : List ℕ) (texts : Texts) (summary : Summary) (answer : Result Verdict CheckFault) →
+    IsClassified written format most_written facts (Some bytes) summary texts →
+    IsCheckAnswer checked most_checked (Some bytes) (Some texts.taxonomy) (Some texts.instances) (Some texts.certificate) answer →
+    AcceptsUnlessStopped checked most_checked bytes answer
+
+-- a document that reads as an ontology in a version reads as one in the second, too: a check in either is not stopped for what it reads
+-- as
+abbrev pub ReadDocumentsAreNoStop : Type 0
+ReadDocumentsAreNoStop =
+    (written checked : Version) (bytes : List ℕ) (o : Ontology) → ReadsAs written bytes o → (checked ≡ written) ⊎ (checked ≡ Two) → ¬ ReadAsNone checked bytes
 
 -- ---- accepted texts are right
 
--- the document reads as this ontology, and as no other; the taxonomy and the instances say what follows from its axioms, as the
--- certificate shows; and no other taxonomy and instances are acceptable for it
-pub record AreRightFor (document taxonomy instances certificate : List ℕ) : Type 0 where
+-- the document reads in the version as this ontology, and in none as another; the taxonomy and the instances say what follows from its
+-- axioms, as the certificate shows; and no other taxonomy and instances are acceptable for it
+pub record AreRightFor (version : Version) (document taxonomy instances certificate : List ℕ) : Type 0 where
   pub ontology : Ontology
-  pub reads : ReadsAs document ontology
-  pub only : (o : Ontology) → ReadsAs document o → o ≡ ontology
+  pub reads : ReadsAs version document ontology
+  pub only : (other : Version) (o : Ontology) → ReadsAs other document o → o ≡ ontology
   pub right : AreRight ontology taxonomy instances certificate
   pub determined : (others others' text : List ℕ) → IsAcceptable ontology others others' text → (others ≡ taxonomy) × (others' ≡ instances)
 
 -- texts that a check of a document accepts, whoever made them, are right for it
 abbrev pub AcceptedTextsAreRight : Type 0
 AcceptedTextsAreRight =
-    (most : ℕ) (document taxonomy instances certificate : List ℕ) →
-    IsCheckAnswer most (Some document) (Some taxonomy) (Some instances) (Some certificate) (Ok Accepted) →
-    AreRightFor document taxonomy instances certificate
+    (version : Version) (most : ℕ) (document taxonomy instances certificate : List ℕ) →
+    IsCheckAnswer version most (Some document) (Some taxonomy) (Some instances) (Some certificate) (Ok Accepted) →
+    AreRightFor version document taxonomy instances certificate
 
 -- ---- written files are accepted
 
@@ -112,17 +125,17 @@ abbrev pub accepted : List ℕ
 accepted = codes "accepted\n"
 
 -- `accepted` is printed, unless the check is stopped, which is told
-abbrev pub IsAcceptedRun : (most : ℕ) → (document : List ℕ) → (old new : Output) → (status : ℕ) → Type 0
-IsAcceptedRun most document old new status =
+abbrev pub IsAcceptedRun : Version → (most : ℕ) → (document : List ℕ) → (old new : Output) → (status : ℕ) → Type 0
+IsAcceptedRun version most document old new status =
     IsAnswered old new accepted statuses.Done status
-    ⊎ ((paths : Paths) × (fault : CheckFault) × IsStop most document fault × (new.out ≡ old.out) × IsTold old.err new.err (IsCheckText paths most fault) (check_status fault) status)
+    ⊎ ((paths : Paths) × (fault : CheckFault) × IsStop version most document fault × (new.out ≡ old.out) × IsTold old.err new.err (IsCheckText paths most fault) (check_status fault) status)
 
 -- after a run of `classify` with status 0, over files whose content is known, a run of `check` on the same four paths prints
 -- `accepted`. The words of both are taken by clap's function of the program's commands
 abbrev pub WrittenFilesAreAccepted : Type 0
 WrittenFilesAreAccepted =
-    (written checked : List Text) (task task' : Task) (paths paths' : Paths) (s s' : Store) (content content' content'' : Content) (old new old' new' : Output) (status : ℕ) (document : List ℕ) →
-    IsTaskOf written task → task.command ≡ Classify paths → IsTaskOf checked task' → task'.command ≡ Check paths' → takes elc_app checked ≡ true →
+    (written checked : List Text) (task task' : Task) (paths paths' : Paths) (format : FormatNumber) (s s' : Store) (content content' content'' : Content) (old new old' new' : Output) (status : ℕ) (document : List ℕ) →
+    IsTaskOf written task → task.command ≡ Classify paths format → IsTaskOf checked task' → task'.command ≡ Check paths' → takes elc_app checked ≡ true →
     AreSamePaths paths paths' → AreApart paths → IsDocumentApart paths → s.is_known ≡ true → content paths.document.now ≡ Some document →
     IsPerformed written s content content' old new (code_of statuses.Done) → IsPerformed checked s' content' content'' old' new' status →
-    IsAcceptedRun task'.limits.max_bytes document old' new' status
+    IsAcceptedRun task'.limits.version task'.limits.max_bytes document old' new' status

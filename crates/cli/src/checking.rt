@@ -22,7 +22,11 @@ use std::hash::RandomState;
 use system_files::{Files, OpenFault};
 
 /// All the bytes of the source of that number.
-fn bytes_of<S: Source>(alloc: Global, source: &mut S, number: usize) -> Result<Vec<u8>, CheckFault>
+pub(crate) fn bytes_of<S: Source>(
+    alloc: Global,
+    source: &mut S,
+    number: usize,
+) -> Result<Vec<u8>, CheckFault>
     ensures known { IfOk result (λ v. AreKnown (S.left source.old) v.items) }
     ensures read { IsTextRead number result (source_state S.Source source.old) (source_state S.Source source.new) }
 {
@@ -94,9 +98,9 @@ pub fn check_document<D: Source, T: Source, I: Source, C: Source>(
     limits: &Limits,
     state: RandomState,
 ) -> Result<Verdict, CheckFault>
-    // The document reads as an ontology, and the verdict is on that ontology and the three texts; or a fault of the
-    // document is one.
-    ensures answered { IsCheckAnswer limits.now.max_bytes
+    // The document reads as an ontology in the version of the limits, and the verdict is on that ontology and the three
+    // texts; or a fault of the document is one.
+    ensures answered { IsCheckAnswer limits.now.version limits.now.max_bytes
         (D.left document.old) (T.left taxonomy.old) (I.left instances.old) (C.left certificate.old) result }
     // Of a source that does not tell its bytes, too: it gave more than the limit.
     ensures beyond { IsErrOf result (faults.Document document_faults.TooLarge) → D.most document.new + limits.now.max_bytes < D.most document.old }
@@ -106,7 +110,7 @@ pub fn check_document<D: Source, T: Source, I: Source, C: Source>(
     ensures read { Reads D.Source T.Source I.Source C.Source
         (document.old, taxonomy.old, instances.old, certificate.old) (document.new, taxonomy.new, instances.new, certificate.new) result }
     // The certificate's source is at fault only where every whole line that it gave can follow those before it.
-    ensures stops { IsErrOf result (faults.Io 4) → StopsInCertificate limits.now.max_bytes (D.left document.old)
+    ensures stops { IsErrOf result (faults.Io 4) → StopsInCertificate limits.now.version limits.now.max_bytes (D.left document.old)
         (source_state C.Source certificate.old) (source_state C.Source certificate.new) }
 {
     let ontology = match read_document(alloc, document, limits, state) {
@@ -118,7 +122,7 @@ pub fn check_document<D: Source, T: Source, I: Source, C: Source>(
 }
 
 /// All the bytes of the file at the path, which is the text of that number.
-fn file_bytes<F: Files>(
+pub(crate) fn file_bytes<F: Files>(
     alloc: Global,
     files: &F,
     path: &str,
@@ -193,7 +197,7 @@ pub(crate) fn checked_files<F: Files>(
     files: &F,
     state: RandomState,
 ) -> Result<(Ontology, Verdict), CheckFault>
-    ensures checked { IsCheckedFiles paths.now limits.now.max_bytes (F.content files.now) result }
+    ensures checked { IsCheckedFiles paths.now limits.now.version limits.now.max_bytes (F.content files.now) result }
     ensures blames { ChecksFiles F.reads_fail (F.is_known files.now) (F.content files.now) paths.now result }
 {
     let ontology = match ontology_of(alloc, files, paths.document, limits, state) {

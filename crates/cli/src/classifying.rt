@@ -7,6 +7,7 @@ ghost use Rattle.profile.specs.declared.fault.DocumentFault.TheVariants as docum
 ghost use Rattle.std.specs.Prelude.{◌+◌, ◌<◌, IsErrOf};
 
 use crate::fault::ClassifyFault;
+use certificate::Format;
 use classification::Summary;
 use device::{Sink, Source};
 use profile::Limits;
@@ -14,8 +15,8 @@ use session::{RunFault, classification_of, write_texts};
 use std::alloc::Global;
 use std::hash::RandomState;
 
-/// Reads the document, classifies it, and writes the taxonomy, the instances and the certificate, in this order. All
-/// three are made in memory before anything is written.
+/// Reads the document, classifies it, and writes the taxonomy, the instances and the certificate, which is in the format,
+/// in this order. All three are made in memory before anything is written.
 pub fn classify_document<S: Source, T: Sink, I: Sink, C: Sink>(
     alloc: Global,
     source: &mut S,
@@ -23,10 +24,11 @@ pub fn classify_document<S: Source, T: Sink, I: Sink, C: Sink>(
     instances: &mut I,
     certificate: &mut C,
     limits: &Limits,
+    format: Format,
     state: RandomState,
 ) -> Result<Summary, ClassifyFault>
     // What the answer says of the document, and what each sink has taken; a sink is named only where it failed.
-    ensures answered { Classifies T.Sink I.Sink C.Sink limits.now (S.left source.old)
+    ensures answered { Classifies T.Sink I.Sink C.Sink limits.now format (S.left source.old)
         (taxonomy.old, instances.old, certificate.old) (taxonomy.new, instances.new, certificate.new) result }
     // Of a source that does not tell its bytes, too: it gave more than the limit.
     ensures beyond { IsErrOf result (faults.Document document_faults.TooLarge) → S.most source.new + limits.now.max_bytes < S.most source.old }
@@ -34,7 +36,7 @@ pub fn classify_document<S: Source, T: Sink, I: Sink, C: Sink>(
     ensures read { IsDocumentRead result (source_state S.Source source.old) (source_state S.Source source.new) }
     ensures paths { KeepPaths T.Sink I.Sink C.Sink (taxonomy.old, instances.old, certificate.old) (taxonomy.new, instances.new, certificate.new) }
 {
-    let made = match classification_of(alloc, source, limits, state) {
+    let made = match classification_of(alloc, source, limits, format, state) {
         Ok(made) => made,
         Err(RunFault::Document(fault)) => return Err(ClassifyFault::Document(fault)),
         Err(RunFault::Limit) => return Err(ClassifyFault::Limit),

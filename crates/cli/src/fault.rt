@@ -1,6 +1,6 @@
-//! Why a document is not classified, or not checked.
+//! Why a document is not classified or checked, or its certificate not converted.
 
-use classification::Stop;
+use cert_check::ConvertFault;
 use profile::DocumentFault;
 
 /// Why a document was not classified.
@@ -27,4 +27,15 @@ pub enum CheckFault {
     /// The source of that number failed: 2 is the taxonomy's, 3 the instances', 4 the certificate's. (That of the
     /// document, the first, is told inside `Document`.) Those before it were read to their ends, those behind it not at all.
     Io(usize),
+}
+
+/// Why a certificate of a document was not converted.
+#[derive(Debug, Drop)]
+pub enum ConversionFault {
+    /// The document was not read.
+    Document(DocumentFault),
+    /// The certificate's source failed.
+    Unread,
+    /// It has no text in the format, or the sink failed; or memory was refused once the document was read.
+    Certificate(ConvertFault),
 }

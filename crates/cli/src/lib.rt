@@ -1,25 +1,29 @@
 //! Documents in, texts and verdicts out: the calls that the program `elc` makes.
 #![tactic(auto)]
 
-ghost use Rattle.cli.specs.Theorems.{AcceptedTextsAreRight, EveryDocumentIsClassified, WhatIsWrittenIsAccepted, WrittenFilesAreAccepted};
+ghost use Rattle.cli.specs.Theorems.{AcceptedTextsAreRight, EveryDocumentIsClassified, ReadDocumentsAreNoStop, WhatIsWrittenIsAccepted, WrittenFilesAreAccepted};
 
 mod asking;
 mod checking;
 mod classifying;
+mod converting;
 mod fault;
+mod formats;
 mod opening;
 mod printing;
 mod run;
 mod starting;
 
 pub use axioms::Ontology;
-pub use cert_check::{Reason, Verdict};
+pub use cert_check::{ConvertFault, Reason, Verdict};
+pub use certificate::Format;
 pub use checking::check_document;
 pub use classification::Summary;
 pub use classifying::classify_document;
-pub use command_line::{Command, LineFault, Paths, Question, Task, task};
-pub use fault::{CheckFault, ClassifyFault};
-pub use profile::{DocumentFault, Limits, read_document};
+pub use command_line::{Command, Conversion, FormatNumber, LineFault, Paths, Question, Task, task};
+pub use converting::convert_certificate;
+pub use fault::{CheckFault, ClassifyFault, ConversionFault};
+pub use profile::{DocumentFault, Limits, Version, read_document};
 pub use run::perform;
 pub use session::{
     Answers, AskFault, Asked, Explanation, Form, Interpretation, Line, QueryFault, QuestionFault,
@@ -28,23 +32,25 @@ pub use session::{
 pub use starting::start;
 pub use system_files::Files;
 
-/// Every document of the profile is classified: where its bytes are within the limit and read as an ontology,
-/// `classify_document` writes acceptable texts of that ontology and answers its counts, unless memory is refused, a device
-/// fails, or the closure has more facts than the limit.
+/// Every document of the profile is classified: where its bytes are within the limit and read as an ontology in the version
+/// of the limits, `classify_document` writes acceptable texts of that ontology, with a certificate in the format that it is
+/// given, and answers its counts, unless memory is refused, a device fails, or the closure has more facts than the limit.
 pub fn every_document_is_classified()
     ensures { EveryDocumentIsClassified }
 {}
 
 /// The texts that a classification of a document writes are accepted where the same document is checked: whatever
-/// `classify_document` wrote, `check_document` answers `Accepted` on it, unless memory is refused, a source fails, or the
-/// document has more bytes than this checker reads.
+/// `classify_document` wrote, in either format, `check_document` answers `Accepted` on it, unless memory is refused, a source fails, or the
+/// document has more bytes than this checker reads, or reads as no ontology in its version. That can only be where it was
+/// classified in the second version and is checked in the first.
 pub fn what_is_written_is_accepted()
-    ensures { WhatIsWrittenIsAccepted }
+    ensures accepted { WhatIsWrittenIsAccepted }
+    ensures read { ReadDocumentsAreNoStop }
 {}
 
-/// Where `check_document` accepts texts, whoever made them, the document reads as one ontology, and the taxonomy and the
-/// instances are those that its finite interpretations determine: each yes has a derivation from its axioms, each no is
-/// refuted by the listed interpretation of them, and no other texts are acceptable for the document.
+/// Where `check_document` accepts texts, whoever made them, the document reads as one ontology, whatever the version, and the
+/// taxonomy and the instances are those that its finite interpretations determine: each yes has a derivation from its axioms,
+/// each no is refuted by the listed interpretation of them, and no other texts are acceptable for the document.
 pub fn accepted_texts_are_right()
     ensures { AcceptedTextsAreRight }
 {}

@@ -2,7 +2,7 @@
 ghost use Rattle.cli.specs.Files.{BlamesFile, IsUnopened};
 ghost use Rattle.profile.specs.Faults.{ReadsKnown, RefusesKnown};
 ghost use Rattle.std.specs.Io.KnownBytes.{Keeps};
-ghost use Rattle.std.specs.Prelude.{◌≡◌, IfErr, IfOk, OnOk};
+ghost use Rattle.std.specs.Prelude.{IfErr, IfOk, OnOk};
 ghost use Rattle.system_files.specs.Contents.{IsThere};
 
 use axioms::Ontology;
@@ -36,9 +36,9 @@ pub(crate) fn ontology_of<F: Files>(
     limits: &Limits,
     state: RandomState,
 ) -> Result<Ontology, DocumentFault>
-    ensures read { IfOk result (ReadsKnown (F.content files.now path.now) limits.now.max_bytes) }
+    ensures read { IfOk result (ReadsKnown limits.now.version (F.content files.now path.now) limits.now.max_bytes) }
     ensures there { OnOk result (IsThere (F.is_known files.now) (F.content files.now path.now)) }
-    ensures refused { IfErr result (RefusesKnown (F.content files.now path.now) limits.now.max_bytes) }
+    ensures refused { IfErr result (RefusesKnown limits.now.version (F.content files.now path.now) limits.now.max_bytes) }
     ensures fault { IfErr result (BlamesFile F.reads_fail (F.is_known files.now) (F.content files.now path.now)) }
 {
     match document_of(files, path) {

@@ -1,6 +1,6 @@
 //! What the program prints, and its statuses.
 ghost use Rattle.session.specs.Devices.{FailsIn, Takes, seen};
-ghost use Rattle.cli.specs.Messages.{IsPrinted, IsToldMessage, IsDocumentText, IsClassifyMessage, IsCheckText, IsQuestionMessage, check_status, name_at, consistency as word_of, reason_text as text_of_reason, rejected_text, summary_text, verdict_text, verdict_status, written_path as path_written, read_path as path_read, out_of_memory};
+ghost use Rattle.cli.specs.Messages.{IsPrinted, IsToldMessage, IsDocumentText, IsClassifyMessage, IsCheckText, IsQuestionMessage, check_status, name_at, consistency as word_of, cannot_read, cannot_write, reason_text as text_of_reason, rejected_text, summary_text, unconverted_text, verdict_text, verdict_status, written_path as path_written, read_path as path_read, out_of_memory};
 ghost use Rattle.profile.specs.Messages.{status_of};
 ghost use Rattle.std.specs.Fmt.{decimal};
 ghost use Rattle.std.specs.List.{flat_map};
@@ -91,6 +91,20 @@ fn message_of(text: Result<String, AllocError>, status: Status) -> Result<Messag
     }
 }
 
+/// What to tell of a file that is not read.
+pub(crate) fn unread_message(alloc: Global, path: &str) -> Result<Message, AllocError>
+    ensures { IfOk result (λ m. (string_bytes m.text ≡ cannot_read path.now) × (m.status ≡ Status.File)) }
+{
+    message_of(format!(in alloc; "cannot read {path}\n"), Status::File)
+}
+
+/// What to tell of a file that is not written.
+pub(crate) fn unwritten_message(alloc: Global, path: &str) -> Result<Message, AllocError>
+    ensures { IfOk result (λ m. (string_bytes m.text ≡ cannot_write path.now) × (m.status ≡ Status.File)) }
+{
+    message_of(format!(in alloc; "cannot write {path}\n"), Status::File)
+}
+
 /// What to tell of a document that is not read.
 pub(crate) fn document_message(
     alloc: Global,
@@ -110,7 +124,7 @@ pub(crate) fn document_message(
             String::from_str(alloc, "limit: more than 1000000 names\n"),
             status,
         ),
-        DocumentFault::Io => message_of(format!(in alloc; "cannot read {path}\n"), status),
+        DocumentFault::Io => unread_message(alloc, path),
         DocumentFault::NotUtf8 { .. }
         | DocumentFault::Lex(_)
         | DocumentFault::Parse(_)
@@ -153,10 +167,7 @@ pub(crate) fn classify_message(
                 Status::Limit,
             )
         }
-        ClassifyFault::Io(number) => {
-            let path = written_path(paths, *number);
-            message_of(format!(in alloc; "cannot write {path}\n"), Status::File)
-        }
+        ClassifyFault::Io(number) => unwritten_message(alloc, written_path(paths, *number)),
     }
 }
 
@@ -187,10 +198,7 @@ pub(crate) fn check_message(
             String::from_str(alloc, "out of memory\n"),
             Status::Memory,
         ),
-        CheckFault::Io(number) => {
-            let path = read_path(paths, *number);
-            message_of(format!(in alloc; "cannot read {path}\n"), Status::File)
-        }
+        CheckFault::Io(number) => unread_message(alloc, read_path(paths, *number)),
     }
 }
 
@@ -268,7 +276,7 @@ fn name_of(names: &[String], number: usize) -> &str
 }
 
 /// Prints that the texts are rejected by a reason of a word and a number.
-fn print_numbered<O: Sink>(out: &mut O, word: &str, number: usize) -> u8
+pub(crate) fn print_numbered<O: Sink>(out: &mut O, word: &str, number: usize) -> u8
     ensures { IsPrinted (seen O.Sink out.old) (seen O.Sink out.new) (rejected_text (word.now ++ decimal number)) Status.Rejected result }
 {
     let mut buffer = Buffer::new();
@@ -276,6 +284,19 @@ fn print_numbered<O: Sink>(out: &mut O, word: &str, number: usize) -> u8
         b"rejected: ".as_slice(),
         word.as_bytes(),
         buffer.format(number).as_bytes(),
+        b"\n".as_slice(),
+    ];
+    print_pieces(out, &pieces, Status::Rejected)
+}
+
+/// Prints that a certificate has no text in the format, for a premise of the line of that number.
+pub(crate) fn print_unconverted<O: Sink>(out: &mut O, line: usize) -> u8
+    ensures { IsPrinted (seen O.Sink out.old) (seen O.Sink out.new) (unconverted_text line) Status.Rejected result }
+{
+    let mut buffer = Buffer::new();
+    let pieces = [
+        b"cannot convert line ".as_slice(),
+        buffer.format(line).as_bytes(),
         b"\n".as_slice(),
     ];
     print_pieces(out, &pieces, Status::Rejected)

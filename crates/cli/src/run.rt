@@ -1,7 +1,7 @@
 //! A whole run of the program.
 ghost use Rattle.session.specs.Devices.{seen};
 ghost use Rattle.cli.specs.Files.{store};
-ghost use Rattle.cli.specs.Runs.{AskForNoClassification, IsCheckTold, IsClassifyMade, IsClassifyTold, Performs, Runs};
+ghost use Rattle.cli.specs.Runs.{AskForNoFiles, IsCheckTold, IsClassifyMade, IsClassifyTold, IsConvertTold, IsUnconvertedTold, Performs, Runs};
 ghost use Rattle.cli.specs.Messages.{IsLineTold, outputs};
 ghost use Rattle.cli.specs.FileSinks.{HasFresh, HaveNotFailed};
 ghost use Rattle.std.specs.Prelude.{◌≡◌, ℕ, List, IfOk, map};
@@ -9,18 +9,23 @@ ghost use Rattle.std.specs.Prelude.{◌≡◌, ℕ, List, IfOk, map};
 use crate::asking::{perform_explain, perform_instances, perform_query};
 use crate::checking::checked_files;
 use crate::classifying::classify_document;
-use crate::fault::{CheckFault, ClassifyFault};
+use crate::converting::converted_file;
+use crate::fault::{CheckFault, ClassifyFault, ConversionFault};
+use crate::formats::format_of;
 use crate::opening::document_of;
 use crate::printing::{
-    check_message, classify_message, print_summary, print_verdict, tell, tell_out_of_memory,
+    check_message, classify_message, document_message, print_numbered, print_summary,
+    print_unconverted, print_verdict, tell, tell_out_of_memory, unread_message, unwritten_message,
     usage_message,
 };
 use axioms::{Memory, Ontology};
-use cert_check::Verdict;
+use cert_check::{ConvertFault, Verdict};
+use certificate::Format;
 use classification::Summary;
-use command_line::{Command, LineFault, Paths, task};
+use command_line::{Command, Conversion, FormatNumber, LineFault, Paths, task};
 use device::Sink;
 use profile::{DocumentFault, Limits};
+use program::Status;
 use std::alloc::Global;
 use std::hash::RandomState;
 use system_files::Files;
@@ -52,15 +57,16 @@ fn sinks_of<F: Files>(files: &mut F, paths: &Paths<'_>) -> Result<TextSinks<F::O
     })
 }
 
-/// Classifies the document, and writes its texts into their files.
+/// Classifies the document, and writes its texts into their files, the certificate in the format.
 fn classified_files<F: Files>(
     alloc: Global,
     paths: &Paths<'_>,
+    format: Format,
     limits: &Limits,
     files: &mut F,
     state: RandomState,
 ) -> Result<Summary, ClassifyFault>
-    ensures { IsClassifyMade paths.now limits.now (store F.Files files.old files.new) (F.content files.old) (F.content files.new) result }
+    ensures { IsClassifyMade paths.now format limits.now (store F.Files files.old files.new) (F.content files.old) (F.content files.new) result }
 {
     let mut document = match document_of(files, paths.document) {
         Ok(document) => document,
@@ -76,6 +82,7 @@ fn classified_files<F: Files>(
         &mut sinks.instances,
         &mut sinks.certificate,
         limits,
+        format,
         state,
     );
     files.close(sinks.taxonomy);
@@ -105,15 +112,16 @@ fn tell_classified<O: Sink, E: Sink>(
 fn perform_classify<F: Files, O: Sink, E: Sink>(
     alloc: Global,
     paths: &Paths<'_>,
+    number: FormatNumber,
     limits: &Limits,
     files: &mut F,
     out: &mut O,
     err: &mut E,
     state: RandomState,
 ) -> u8
-    ensures { Runs F.Files O.Sink E.Sink (Command.Classify paths.now) limits.now (files.old, out.old, err.old) (files.new, out.new, err.new) result }
+    ensures { Runs F.Files O.Sink E.Sink (Command.Classify paths.now number) limits.now (files.old, out.old, err.old) (files.new, out.new, err.new) result }
 {
-    let answer = classified_files(alloc, paths, limits, files, state);
+    let answer = classified_files(alloc, paths, format_of(number), limits, files, state);
     tell_classified(alloc, answer, paths, limits, out, err)
 }
 
@@ -151,6 +159,68 @@ fn perform_check<F: Files, O: Sink, E: Sink>(
     tell_checked(alloc, answer, paths, limits, out, err)
 }
 
+/// Tells why the certificate is not converted into the file at the path.
+fn tell_unconverted<O: Sink, E: Sink>(
+    alloc: Global,
+    fault: &ConvertFault,
+    path: &str,
+    out: &mut O,
+    err: &mut E,
+) -> u8
+    ensures { IsUnconvertedTold path.now fault.now (outputs O.Sink E.Sink out.old err.old) (outputs O.Sink E.Sink out.new err.new) result }
+{
+    match fault {
+        ConvertFault::BadText { at } => print_numbered(out, "C1 at byte ", *at),
+        ConvertFault::LaterPremise { line } => print_unconverted(out, *line),
+        ConvertFault::Io => tell(err, unwritten_message(alloc, path)),
+        ConvertFault::Memory => tell_out_of_memory(err),
+    }
+}
+
+/// Prints nothing, or why the certificate is not converted.
+fn tell_converted<O: Sink, E: Sink>(
+    alloc: Global,
+    answer: Result<(), ConversionFault>,
+    conversion: &Conversion<'_>,
+    limits: &Limits,
+    out: &mut O,
+    err: &mut E,
+) -> u8
+    ensures { IsConvertTold conversion.now limits.now.max_bytes answer (outputs O.Sink E.Sink out.old err.old) (outputs O.Sink E.Sink out.new err.new) result }
+{
+    match answer {
+        Ok(()) => Status::Done.code(),
+        Err(ConversionFault::Document(fault)) => tell(
+            err,
+            document_message(alloc, &fault, conversion.document, limits),
+        ),
+        Err(ConversionFault::Unread) => tell(err, unread_message(alloc, conversion.certificate)),
+        Err(ConversionFault::Certificate(fault)) => tell_unconverted(
+            alloc,
+            &fault,
+            conversion.output,
+            out,
+            err,
+        ),
+    }
+}
+
+/// Writes the certificate of the document again, in the format that is asked for.
+fn perform_convert<F: Files, O: Sink, E: Sink>(
+    alloc: Global,
+    conversion: &Conversion<'_>,
+    limits: &Limits,
+    files: &mut F,
+    out: &mut O,
+    err: &mut E,
+    state: RandomState,
+) -> u8
+    ensures { Runs F.Files O.Sink E.Sink (Command.Convert conversion.now) limits.now (files.old, out.old, err.old) (files.new, out.new, err.new) result }
+{
+    let answer = converted_file(alloc, conversion, limits, files, state);
+    tell_converted(alloc, answer, conversion, limits, out, err)
+}
+
 /// Tells of words that ask for nothing that the program does.
 fn refuse<E: Sink>(alloc: Global, fault: &LineFault, err: &mut E) -> u8
     ensures { IsLineTold fault.now (seen E.Sink err.old) (seen E.Sink err.new) result }
@@ -174,8 +244,8 @@ pub fn perform<F: Files, O: Sink, E: Sink>(
     // What the words ask for, which file holds which text, what is printed, and the status.
     ensures performed { Performs F.Files O.Sink E.Sink (map (λ w. w.now) words.entry.now)
         (files.old, out.old, err.old) (files.new, out.new, err.new) result }
-    // Only a classification writes files.
-    ensures untouched { AskForNoClassification (map (λ w. w.now) words.entry.now) → files.new ≡ files.old }
+    // Only a classification and a conversion write files.
+    ensures untouched { AskForNoFiles (map (λ w. w.now) words.entry.now) → files.new ≡ files.old }
 {
     let task = match task(alloc, words) {
         Ok(task) => task,
@@ -183,10 +253,13 @@ pub fn perform<F: Files, O: Sink, E: Sink>(
     };
     let limits = task.limits;
     match task.command {
-        Command::Classify(paths) => {
-            perform_classify(alloc, &paths, &limits, files, out, err, state)
+        Command::Classify { paths, format } => {
+            perform_classify(alloc, &paths, format, &limits, files, out, err, state)
         }
         Command::Check(paths) => perform_check(alloc, &paths, &limits, files, out, err, state),
+        Command::Convert(conversion) => {
+            perform_convert(alloc, &conversion, &limits, files, out, err, state)
+        }
         Command::Instances { document, class } => {
             perform_instances(alloc, document, class, &limits, files, out, err, state)
         }

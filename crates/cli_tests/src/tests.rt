@@ -4,10 +4,12 @@ mod asking;
 mod checking;
 mod failing;
 mod forged;
+mod formats;
 mod hierarchies;
 mod refusals;
 mod refused;
 mod starting;
+mod versions;
 mod worked;
 
 use axioms::Memory;

@@ -8,7 +8,7 @@ ghost use Rattle.std.specs.List.{flat_map};
 ghost use Rattle.std.specs.Prelude.{◌≡◌, ◌++◌, [], List, OnOk, map};
 
 use axioms::Memory;
-use certificate::{ClassRow, ListedText, PairRow};
+use certificate::{ClassRow, FormatType, ListedText, PairRow};
 
 /// Takes rows one after another, as values or as text.
 pub(crate) trait RowSink<R> {
@@ -39,8 +39,8 @@ impl<R: Drop> RowSink<R> for Vec<R> {
     ghost nothing = { λ s. sym (append-nil s.items) };
 }
 
-impl RowSink<ClassRow> for ListedText {
-    ghost adds = { λ s t rows. t ≡ s ++ flat_map class_text (map class_row_of rows) };
+impl<F: FormatType> RowSink<ClassRow> for ListedText<F> {
+    ghost adds = { λ s t rows. t ≡ s ++ flat_map (class_text F.format) (map class_row_of rows) };
 
     fn add(&mut self, row: ClassRow) -> Result<(), Memory> {
         self.push_class(&row)
@@ -49,8 +49,8 @@ impl RowSink<ClassRow> for ListedText {
     ghost nothing = { λ s. sym (append-nil s) };
 }
 
-impl RowSink<PairRow> for ListedText {
-    ghost adds = { λ s t rows. t ≡ s ++ flat_map pairs_text (map pair_row_of rows) };
+impl<F: FormatType> RowSink<PairRow> for ListedText<F> {
+    ghost adds = { λ s t rows. t ≡ s ++ flat_map (pairs_text F.format) (map pair_row_of rows) };
 
     fn add(&mut self, row: PairRow) -> Result<(), Memory> {
         self.push_pairs(&row)

@@ -11,25 +11,25 @@ use crate::groups::groups_of;
 use crate::individuals::individual_elements;
 use crate::rows::add_pair_rows;
 use axioms::{Memory, Ontology};
-use certificate::LineText;
+use certificate::{FormatType, LineText};
 use engine::Saturation;
 use std::alloc::Global;
 
 /// The text of the certificate of these lines and of the interpretation that the closure of a consistent ontology lists, with a claim
-/// for each satisfiable class. It is written row by row, of which at most one is kept.
+/// for each satisfiable class, in the format of the lines. It is written row by row, of which at most one is kept.
 ///
 /// # Errors
 ///
 /// `Memory` where memory was refused.
-pub fn text_with_listed(
+pub fn text_with_listed<F: FormatType>(
     alloc: Global,
     ontology: &Ontology,
     saturation: &Saturation,
-    lines: LineText,
+    lines: LineText<F>,
 ) -> Result<Vec<u8>, Memory>
     requires saturated { IsSaturated ontology.now saturation.now }
     requires consistent { IsConsistent ontology.now saturation.now.normal.asked }
-    ensures { IfOk result (λ v. IsTextWithListed ontology.now saturation.now.normal.asked lines v.items) }
+    ensures { IfOk result (λ v. IsTextWithListed ontology.now saturation.now.normal.asked F.format lines v.items) }
 {
     ontology.well_formed();
     ontology.bounded();

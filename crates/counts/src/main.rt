@@ -7,7 +7,7 @@ use axioms::Ontology;
 use device::{ReaderSource, Source, WriterSink, write_all};
 use engine::{Stop, saturated};
 use profile::{DocumentFault, read_document};
-use program::{Limits, MOST_BYTES, Status};
+use program::{Limits, MOST_BYTES, Status, Version};
 use std::alloc::{AllocError, Global};
 use std::hash::RandomState;
 use std::process::ExitCode;
@@ -81,7 +81,7 @@ fn has_word(rt: &HostRuntime) -> io::Result<bool> {
 
 /// What is printed of the document on standard input, and the status.
 fn text_of_input(rt: HostRuntime) -> Result<(String, Status), Status> {
-    let limits = Limits::new(MOST_BYTES, 1).ok_or(Status::Limit)?;
+    let limits = Limits::new(MOST_BYTES, 1, Version::Two).ok_or(Status::Limit)?;
     let state = RandomState::new(&rt).map_err(|_| Status::File)?;
     let with_facts = has_word(&rt).map_err(|_| Status::Usage)?;
     let mut source = ReaderSource::new(rt.stdin());

@@ -8,8 +8,9 @@ use Rattle.normalise.specs.Growth.{Grows}
 use Rattle.profile.proofs.Trees.{keeps_append}
 use Rattle.profile.specs.AddedTexts.{IsReadExpression}
 use Rattle.profile.specs.Statements.{class_of}
+use Rattle.program.specs.declared.version.Version.{Version}
 
-module _ (prefixes : Prefixes) (text : List ℕ) (old new : Ontology) (e : ℕ) (is : IsReadExpression prefixes text old new e) where
+module _ {version : Version} (prefixes : Prefixes) (text : List ℕ) (old new : Ontology) (e : ℕ) (is : IsReadExpression version prefixes text old new e) where
   -- expressions and axioms keep their numbers
   pub grows : Grows old new (length old.axioms)
   grows =

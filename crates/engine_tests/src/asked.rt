@@ -15,7 +15,7 @@ use device::SliceSource;
 use engine::{Saturation, Stop};
 use explain::lines;
 use interpretation_spec::{Interpretation, Row};
-use profile::{Limits, Opened, read_expression, read_opened};
+use profile::{Limits, Opened, Version, read_expression, read_opened};
 use std::alloc::Global;
 use std::hash::RandomState;
 use std::test::Fail;
@@ -195,7 +195,7 @@ fn read(
     ensures there { IfSome result (λ r. r.1.0 < length r.0.nodes) }
 {
     let (ontology, prefixes) = (&document.ontology, &document.prefixes);
-    match read_expression(alloc, ontology, prefixes, text, state) {
+    match read_expression(alloc, ontology, prefixes, Version::Two, text, state) {
         Ok(read) => Some(read),
         Err(_) => None,
     }
@@ -351,7 +351,7 @@ fn answers_of(alloc: Global, state: RandomState, document: &Opened, asked: &Aske
 
 /// The document, with its prefixes.
 fn opened(alloc: Global, state: RandomState) -> Option<Opened> {
-    let limits = Limits::new(1000, 1)?;
+    let limits = Limits::new(1000, 1, Version::Two)?;
     let mut source = SliceSource::new(DOCUMENT.as_bytes());
     read_opened(alloc, &mut source, &limits, state).ok()
 }

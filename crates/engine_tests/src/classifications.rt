@@ -1,25 +1,25 @@
 //! Small ontologies of subclass axioms, worked out by hand.
 
 use axioms::{ClassId, ExprId, IndId, Ontology};
-use cert_check::{Verdict, check};
+use cert_check::{Format, Verdict, check};
 use classification::{Classification, Stop, Summary, class_pair, classify, type_pair};
 use facts::{Context, Fact, StoredFact};
 use normal_forms::Class2;
-use profile::read_bytes;
+use profile::{Version, read_bytes};
 use std::alloc::Global;
 use std::hash::RandomState;
 use std::random::RandomSource;
 use std::test::Fail;
 
 /// The ontology of the document, and its classification within so many facts.
-fn classified<R: AllocGlobal + RandomSource>(
+pub(crate) fn classified<R: AllocGlobal + RandomSource>(
     rt: &R,
     document: &str,
     max_facts: u32,
 ) -> Result<(Ontology, Result<Classification, Stop>), Fail> {
     let state = RandomState::new(rt)?;
-    let ontology = read_bytes(rt.alloc(), document.as_bytes(), state)?;
-    let made = classify(rt.alloc(), state, &ontology, max_facts);
+    let ontology = read_bytes(rt.alloc(), document.as_bytes(), Version::Two, state)?;
+    let made = classify(rt.alloc(), state, &ontology, max_facts, Format::One);
     Ok((ontology, made))
 }
 
@@ -85,7 +85,7 @@ fn stops_at_the_limit_of_facts(rt: HostRuntime) -> Result<(), Fail> {
 }
 
 /// Whether the checker accepts the texts of the ontology.
-fn are_accepted(alloc: Global, ontology: &Ontology, made: &Classification) -> bool {
+pub(crate) fn are_accepted(alloc: Global, ontology: &Ontology, made: &Classification) -> bool {
     let verdict = check(
         alloc,
         ontology,
@@ -142,7 +142,8 @@ fn in_second(context: Context) -> StoredFact {
 
 /// Whether facts say of the classes of one subclass axiom what they say by hand.
 fn speak_of_named_classes<R: AllocGlobal + RandomSource>(rt: &R) -> Result<bool, Fail> {
-    let ontology = read_bytes(rt.alloc(), ONE_SUBCLASS.as_bytes(), RandomState::new(rt)?)?;
+    let state = RandomState::new(rt)?;
+    let ontology = read_bytes(rt.alloc(), ONE_SUBCLASS.as_bytes(), Version::Two, state)?;
     let below = in_second(Context::Expr(ExprId(2)));
     let member = in_second(Context::Individual(IndId(0)));
     Ok(

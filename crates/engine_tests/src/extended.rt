@@ -7,7 +7,7 @@ ghost use Rattle.std.specs.Prelude.{◌≡◌, ◌<◌, IfSome, true, length};
 
 use axioms::{Axiom, Builder, ExprId, Kind, Name, Ontology};
 use engine::Saturation;
-use profile::read_bytes;
+use profile::{Version, read_bytes};
 use std::alloc::Global;
 use std::hash::RandomState;
 use std::test::Fail;
@@ -120,7 +120,7 @@ fn grows(alloc: Global, state: RandomState, ontology: &Ontology, row: &Row) -> b
 #[test]
 fn grows_by_a_subclass(rt: HostRuntime) -> Result<(), Fail> {
     let state = RandomState::new(&rt)?;
-    let ontology = read_bytes(rt.alloc(), DOCUMENT.as_bytes(), state)?;
+    let ontology = read_bytes(rt.alloc(), DOCUMENT.as_bytes(), Version::Two, state)?;
     for row in ROWS {
         assert!(rt;
             grows(rt.alloc(), state, &ontology, row),

@@ -5,7 +5,7 @@ mod individuals;
 
 ghost use Rattle.std.specs.Prelude.{◌≡◌, []};
 
-use crate::adding::add;
+use crate::adding::{add, at_start};
 use crate::lists::{Refusing, Scripted};
 use crate::problems::{
     ALL_GO_ON, Born, CLASSES_MADE_DISJOINT, ONE_ENDS, PROBLEMS, Problem, SUBCLASS_STATED_AGAIN,
@@ -14,7 +14,7 @@ use crate::problems::{
 use acts::{ALL, AT_ONCE, Act, SCRIPTS};
 use axioms::Memory;
 use facts::{FactId, Older, StoredFact};
-use normal_forms::{Form, FormList};
+use normal_forms::FormList;
 use saturate::{State, Stop};
 use std::alloc::Global;
 use std::hash::RandomState;
@@ -121,11 +121,8 @@ fn count(older: Older) -> usize {
 
 /// Whether so many older facts gave the fact so.
 fn is_born<W: WorkList>(state: &State<W>, born: &Born) -> bool {
-    let Some(place) = state
-        .facts()
-        .iter()
-        .position(|fact| fact.get() == born.fact)
-    else {
+    let Born(fact, condition, form, older) = born;
+    let Some(place) = state.facts().iter().position(|known| known.get() == *fact) else {
         return false;
     };
     let Ok(number) = u32::try_from(place) else {
@@ -133,9 +130,9 @@ fn is_born<W: WorkList>(state: &State<W>, born: &Born) -> bool {
     };
     match state.born(FactId(number)) {
         Some(birth) => {
-            birth.condition() == born.condition
-                && birth.form() == Some(born.form)
-                && count(birth.older()) == born.older
+            birth.condition() == *condition
+                && birth.form() == Some(*form)
+                && count(birth.older()) == *older
         }
         None => false,
     }
@@ -210,17 +207,12 @@ fn in_any_order(
         && grows(alloc, seed, problem, facts, script, backwards) == Some(0)
 }
 
-/// How many facts of the problem may be there from the start, and wait beside the list of work: two for each context, one more for each
-/// reflexive property, and one for each assertion and each two that differ.
+/// How many facts of the problem may be there from the start: two for each context, and those of its forms.
 fn most_at_start(problem: &Problem) -> usize {
     let contexts = problem.roots.len();
     let mut most = contexts.saturating_mul(2);
     for form in problem.forms {
-        most = most.saturating_add(match form {
-            Form::N7(_) => contexts,
-            Form::N8(..) | Form::N9(..) | Form::N11(..) => 1,
-            _ => 0,
-        });
+        most = most.saturating_add(at_start(*form, contexts));
     }
     most
 }

@@ -20,12 +20,7 @@ pub(crate) const INDIVIDUALS: &[Problem] = &[
         ],
         roots: &[IN0, IN1, IN2, IN3, IND0, IND1],
         facts: 13,
-        born: Some(Born {
-            fact: Fact::In(C3, IND0),
-            condition: 11,
-            form: 0,
-            older: 1,
-        }),
+        born: Some(Born(Fact::In(C3, IND0), 11, 0, 1)),
     },
     // a is b, and b is another than a.
     Problem {
@@ -33,31 +28,9 @@ pub(crate) const INDIVIDUALS: &[Problem] = &[
         forms: &[Form::N10(IndId(0), IndId(1)), Form::N11(IndId(1), IndId(0))],
         roots: &[IN0, IN1, IND0, IND1],
         facts: 7,
-        born: Some(Born {
-            fact: Fact::In(C1, IND1),
-            condition: 12,
-            form: 1,
-            older: 0,
-        }),
+        born: Some(Born(Fact::In(C1, IND1), 12, 1, 0)),
     },
-    // b is c, a r b, r is below s, and a s c is denied.
-    Problem {
-        name: "denied_by_way_of_same",
-        forms: &[
-            Form::N10(IndId(0), IndId(1)),
-            Form::N9(IndId(2), R, IndId(0)),
-            Form::N5(R, S),
-            Form::N12(IndId(2), S, IndId(1)),
-        ],
-        roots: &[IN0, IN1, IND0, IND1, IND2],
-        facts: 9,
-        born: Some(Born {
-            fact: Fact::In(C1, IND2),
-            condition: 13,
-            form: 3,
-            older: 1,
-        }),
-    },
+    DENIED_BY_WAY_OF_SAME,
     // a and b differ, and a r b is denied.
     Problem {
         name: "different_and_denied",
@@ -122,12 +95,7 @@ pub(crate) const INDIVIDUALS: &[Problem] = &[
         ],
         roots: &[IN0, IN1, IND0, IND1, IND2, IND3],
         facts: 10,
-        born: Some(Born {
-            fact: Fact::In(C1, IND0),
-            condition: 12,
-            form: 4,
-            older: 0,
-        }),
+        born: Some(Born(Fact::In(C1, IND0), 12, 4, 0)),
     },
     // a, b and c differ.
     Problem {
@@ -177,12 +145,7 @@ pub(crate) const INDIVIDUALS: &[Problem] = &[
         ],
         roots: &[IN0, IN1, IN2, IND0, IND1, IND2, IND3],
         facts: 15,
-        born: Some(Born {
-            fact: Fact::Edge(IND2, EDGES_R, IND1),
-            condition: 11,
-            form: 0,
-            older: 1,
-        }),
+        born: Some(Born(Fact::Edge(IND2, EDGES_R, IND1), 11, 0, 1)),
     },
     // .. with d u e, and r then s then u below t.
     Problem {
@@ -214,12 +177,7 @@ pub(crate) const INDIVIDUALS: &[Problem] = &[
         ],
         roots: &[IN0, IN1, IN2, IN3, IN4, IN6, IND0, IND1],
         facts: 25,
-        born: Some(Born {
-            fact: Fact::In(C3, IND0),
-            condition: 11,
-            form: 0,
-            older: 1,
-        }),
+        born: Some(Born(Fact::In(C3, IND0), 11, 0, 1)),
     },
     // a is b, c r a, b is in A, and D as some r A.
     Problem {
@@ -261,12 +219,7 @@ pub(crate) const INDIVIDUALS: &[Problem] = &[
         ],
         roots: &[IN0, IN1, IND0, IND1],
         facts: 13,
-        born: Some(Born {
-            fact: Fact::Edge(IND0, EDGES_R, IND1),
-            condition: 11,
-            form: 1,
-            older: 1,
-        }),
+        born: Some(Born(Fact::Edge(IND0, EDGES_R, IND1), 11, 1, 1)),
     },
     // r then r below s, a r b, b r c, and a s c is denied.
     Problem {
@@ -279,12 +232,7 @@ pub(crate) const INDIVIDUALS: &[Problem] = &[
         ],
         roots: &[IN0, IN1, IND0, IND1, IND2],
         facts: 10,
-        born: Some(Born {
-            fact: Fact::In(C1, IND0),
-            condition: 13,
-            form: 3,
-            older: 1,
-        }),
+        born: Some(Born(Fact::In(C1, IND0), 13, 3, 1)),
     },
     // r is below s, a s b, and a r b is denied.
     Problem {
@@ -324,12 +272,7 @@ pub(crate) const SAME_ADDED: Problem = Problem {
     ],
     roots: &[IN0, IN1, IN2, IN3, IND0, IND1],
     facts: 13,
-    born: Some(Born {
-        fact: Fact::In(C3, IND0),
-        condition: 11,
-        form: 2,
-        older: 1,
-    }),
+    born: Some(Born(Fact::In(C3, IND0), 11, 2, 1)),
 };
 
 /// c is d, a is b, and b is in A, and then d is a.
@@ -382,12 +325,7 @@ pub(crate) const DIFFERENT_ADDED: Problem = Problem {
     ],
     roots: &[IN0, IN1, IN2, IND0, IND1, IND2],
     facts: 14,
-    born: Some(Born {
-        fact: Fact::In(C1, IND0),
-        condition: 12,
-        form: 3,
-        older: 0,
-    }),
+    born: Some(Born(Fact::In(C1, IND0), 12, 3, 0)),
 };
 
 /// a and c differ, and a is b, and then b is c.
@@ -400,17 +338,12 @@ pub(crate) const DIFFERENT_MADE_SAME: Problem = Problem {
     ],
     roots: &[IN0, IN1, IND0, IND1, IND2],
     facts: 9,
-    born: Some(Born {
-        fact: Fact::In(C1, IND0),
-        condition: 12,
-        form: 0,
-        older: 0,
-    }),
+    born: Some(Born(Fact::In(C1, IND0), 12, 0, 0)),
 };
 
-/// b is c, a r b, and r is below s, and then a s c is denied.
-pub(crate) const DENIAL_ADDED: Problem = Problem {
-    name: "denial_added",
+/// b is c, a r b, and r is below s, and a s c is denied, at once or then.
+pub(crate) const DENIED_BY_WAY_OF_SAME: Problem = Problem {
+    name: "denied_by_way_of_same",
     forms: &[
         Form::N10(IndId(0), IndId(1)),
         Form::N9(IndId(2), R, IndId(0)),
@@ -419,12 +352,7 @@ pub(crate) const DENIAL_ADDED: Problem = Problem {
     ],
     roots: &[IN0, IN1, IND0, IND1, IND2],
     facts: 9,
-    born: Some(Born {
-        fact: Fact::In(C1, IND2),
-        condition: 13,
-        form: 3,
-        older: 1,
-    }),
+    born: Some(Born(Fact::In(C1, IND2), 13, 3, 1)),
 };
 
 /// b is c, a r b, and a s c is denied, and then r is below s.
@@ -438,10 +366,5 @@ pub(crate) const DENIED_FROM_BELOW: Problem = Problem {
     ],
     roots: &[IN0, IN1, IND0, IND1, IND2],
     facts: 9,
-    born: Some(Born {
-        fact: Fact::In(C1, IND2),
-        condition: 13,
-        form: 2,
-        older: 1,
-    }),
+    born: Some(Born(Fact::In(C1, IND2), 13, 2, 1)),
 };

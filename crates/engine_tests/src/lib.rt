@@ -8,6 +8,8 @@ mod asked;
 #[cfg(test)]
 mod classifications;
 #[cfg(test)]
+mod classified_individuals;
+#[cfg(test)]
 mod extended;
 #[cfg(test)]
 mod form_lists;

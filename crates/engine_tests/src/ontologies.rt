@@ -10,7 +10,7 @@ use crate::numbered::{
 use axioms::{ExprId, Ontology};
 use engine::{Saturation, Stop, saturated};
 use facts::{Context, Fact, FactId};
-use profile::read_bytes;
+use profile::{Version, read_bytes};
 use std::alloc::Global;
 use std::hash::RandomState;
 use std::test::Fail;
@@ -171,7 +171,7 @@ fn saturates(alloc: Global, state: RandomState, ontology: &Ontology, facts: &[Fa
 
 /// Whether the document is read and leads to its facts.
 fn fits(alloc: Global, state: RandomState, row: &Row) -> bool {
-    let Ok(ontology) = read_bytes(alloc, row.document.as_bytes(), state) else {
+    let Ok(ontology) = read_bytes(alloc, row.document.as_bytes(), Version::Two, state) else {
         return false;
     };
     let right = saturates(alloc, state, &ontology, row.facts);

@@ -8,14 +8,9 @@ use axioms::{ExprId, IndId};
 use facts::{Context, Fact};
 use normal_forms::Form;
 
-/// A fact, and by which condition and form so many older ones gave it.
+/// A fact, by which condition and form it was given, and from how many older facts.
 #[derive(Drop)]
-pub(crate) struct Born {
-    pub fact: Fact,
-    pub condition: u8,
-    pub form: u32,
-    pub older: usize,
-}
+pub(crate) struct Born(pub Fact, pub u8, pub u32, pub usize);
 
 /// A problem and the number of its facts.
 #[derive(Drop)]
@@ -64,12 +59,7 @@ pub(crate) const PROBLEMS: &[Problem] = &[
         ],
         roots: &[IN0, IN1, IN2, IN3, IN5, IN7],
         facts: 20,
-        born: Some(Born {
-            fact: Fact::Edge(IN2, EDGES_R, IN5),
-            condition: 9,
-            form: 4,
-            older: 2,
-        }),
+        born: Some(Born(Fact::Edge(IN2, EDGES_R, IN5), 9, 4, 2)),
     },
     // r then s below r, s then r below s, A below some r B, B below some s C, D as some r C.
     Problem {
@@ -88,12 +78,7 @@ pub(crate) const PROBLEMS: &[Problem] = &[
         ],
         roots: &[IN0, IN1, IN2, IN3, IN5, IN7],
         facts: 20,
-        born: Some(Born {
-            fact: Fact::Edge(IN2, EDGES_R, IN5),
-            condition: 9,
-            form: 0,
-            older: 2,
-        }),
+        born: Some(Born(Fact::Edge(IN2, EDGES_R, IN5), 9, 0, 2)),
     },
     // r is reflexive and below s, B is some s A.
     Problem {
@@ -162,12 +147,7 @@ pub(crate) const PROBLEMS: &[Problem] = &[
         ],
         roots: &[IN7, IN5, IN3, IN2, IN1, IN0],
         facts: 20,
-        born: Some(Born {
-            fact: Fact::Edge(IN2, EDGES_R, IN5),
-            condition: 9,
-            form: 8,
-            older: 2,
-        }),
+        born: Some(Born(Fact::Edge(IN2, EDGES_R, IN5), 9, 8, 2)),
     },
     // Five individuals, each by a transitive property before the next: 10 edges.
     Problem {
@@ -181,12 +161,7 @@ pub(crate) const PROBLEMS: &[Problem] = &[
         ],
         roots: &[IN0, IN1, IND0],
         facts: 18,
-        born: Some(Born {
-            fact: Fact::Edge(IND0, EDGES_R, IND4),
-            condition: 9,
-            form: 0,
-            older: 2,
-        }),
+        born: Some(Born(Fact::Edge(IND0, EDGES_R, IND4), 9, 0, 2)),
     },
     // .. and the form that makes it transitive comes last.
     Problem {
@@ -200,12 +175,7 @@ pub(crate) const PROBLEMS: &[Problem] = &[
         ],
         roots: &[IND2, IND0, IN1, IN0],
         facts: 18,
-        born: Some(Born {
-            fact: Fact::Edge(IND0, EDGES_R, IND4),
-            condition: 9,
-            form: 4,
-            older: 2,
-        }),
+        born: Some(Born(Fact::Edge(IND0, EDGES_R, IND4), 9, 4, 2)),
     },
     // Four individuals by s, which is below the transitive r: 3 edges by s, and 3 by r.
     Problem {

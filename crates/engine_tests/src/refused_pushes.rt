@@ -1,13 +1,13 @@
 //! Documents whose facts a list of work leads to that hands one item back: they are those of one run.
 ghost use Rattle.std.specs.Prelude.{◌≡◌, []};
 
-use crate::adding::add;
+use crate::adding::{add, at_start};
 use crate::lists::Refusing;
 use axioms::Ontology;
 use facts::{Context, StoredFact};
-use normal_forms::{Form, FormList};
+use normal_forms::FormList;
 use normalise::{normalise, roots};
-use profile::read_bytes;
+use profile::{Version, read_bytes};
 use saturate::{State, Stop};
 use std::alloc::Global;
 use std::hash::RandomState;
@@ -30,6 +30,21 @@ const ROWS: &[(&str, &str, u32)] = &[
         "individuals_and_domain",
         "Prefix(:=<x:>) Ontology(SubClassOf(:A :B) ClassAssertion(:A :a) ObjectPropertyAssertion(:r :a :b) ObjectPropertyDomain(:r :C) Declaration(NamedIndividual(:c)))",
         17,
+    ),
+    (
+        "same_individuals",
+        "Prefix(:=<x:>) Ontology(SameIndividual(:a :b) ClassAssertion(:A :a) ClassAssertion(:B :b))",
+        13,
+    ),
+    (
+        "denied_by_way_of_same",
+        "Prefix(:=<x:>) Ontology(SameIndividual(:b :c) ObjectPropertyAssertion(:r :a :b) SubObjectPropertyOf(:r :s) NegativeObjectPropertyAssertion(:s :a :c))",
+        9,
+    ),
+    (
+        "chain_through_a_group",
+        "Prefix(:=<x:>) Ontology(SameIndividual(:b :c) ObjectPropertyAssertion(:r :a :b) ObjectPropertyAssertion(:s :c :d) SubObjectPropertyOf(ObjectPropertyChain(:r :s) :t) ObjectPropertyDomain(:t :A))",
+        15,
     ),
 ];
 
@@ -93,16 +108,13 @@ fn ends<W: WorkList + Drop>(
     }
 }
 
-/// How many facts may be there from the start, and wait beside the list of work: two for each context, one more for each reflexive
-/// property, and one for each assertion and each two that differ.
+/// How many facts may be there from the start: two for each context, and those of the forms.
 fn most_at_start(forms: &FormList, contexts: usize) -> usize {
     let mut most = contexts.saturating_mul(2);
     for number in 0..forms.len() {
-        most = most.saturating_add(match forms.get(number) {
-            Some(Form::N7(_)) => contexts,
-            Some(Form::N8(..) | Form::N9(..) | Form::N11(..)) => 1,
-            _ => 0,
-        });
+        if let Some(form) = forms.get(number) {
+            most = most.saturating_add(at_start(form, contexts));
+        }
     }
     most
 }
@@ -167,7 +179,7 @@ fn each_document_with_each_push_refused(rt: HostRuntime) -> Result<(), Fail> {
     let seed = RandomState::new(&rt)?;
     for row in ROWS {
         let (case, document, facts) = *row;
-        let ontology = read_bytes(rt.alloc(), document.as_bytes(), seed)?;
+        let ontology = read_bytes(rt.alloc(), document.as_bytes(), Version::Two, seed)?;
         let right = fits(rt.alloc(), seed, &ontology, facts);
         drop(ontology);
         assert!(rt; right, "{case}");

@@ -7,8 +7,8 @@
 use device::{
     BufferSink, ReadFault, ReaderSource, Sink, SliceSource, WriterSink, read_all, write_all,
 };
-use program::{MOST_BYTES, MOST_FACTS, Status};
-use session::{DocumentFault, Limits, Session, Stop, TextFault};
+use program::{MOST_BYTES, MOST_FACTS, Status, Version};
+use session::{DocumentFault, Format, Limits, Session, Stop, TextFault};
 use std::alloc::{AllocError, Global};
 use std::hash::RandomState;
 use std::process::ExitCode;
@@ -93,7 +93,7 @@ fn grow(
 fn write_texts<S: Sink>(alloc: Global, session: &Session, out: &mut S) -> Result<(), Status> {
     let mut instances = BufferSink::new(alloc);
     let mut certificate = BufferSink::new(alloc);
-    match session.write(out, &mut instances, &mut certificate) {
+    match session.write(out, &mut instances, &mut certificate, Format::Two) {
         Ok(_) => write_all(out, instances.bytes()).map_err(|_| Status::File),
         Err(TextFault::Io(1)) => Err(Status::File),
         Err(_) => Err(Status::Memory),
@@ -131,7 +131,7 @@ fn write_pieces<S: Sink>(
     out: &mut S,
 ) -> Result<(), Status> {
     let (document, additions) = pieces.split_first().ok_or(Status::Refused)?;
-    let limits = Limits::new(MOST_BYTES, MOST_FACTS).ok_or(Status::Limit)?;
+    let limits = Limits::new(MOST_BYTES, MOST_FACTS, Version::Two).ok_or(Status::Limit)?;
     let mut source = SliceSource::new(document.as_bytes());
     match Session::open(alloc, &mut source, &limits, state) {
         Ok(mut session) => write_grown(alloc, &mut session, additions, at_once, out),

@@ -2,7 +2,7 @@
 
 use axioms::{ExprId, Ontology};
 use normalise::{Normal, normalise};
-use profile::read_bytes;
+use profile::{Version, read_bytes};
 use std::alloc::Global;
 use std::hash::RandomState;
 
@@ -47,7 +47,7 @@ fn asked(mut normal: Normal, ontology: &Ontology, numbers: &str) -> Option<Norma
 /// The ontology of the part's document.
 fn document_of(alloc: Global, state: RandomState, part: &str) -> Option<Ontology> {
     let document = part.split(" ? ").next()?;
-    read_bytes(alloc, document.as_bytes(), state).ok()
+    read_bytes(alloc, document.as_bytes(), Version::Two, state).ok()
 }
 
 /// The stage after that one: the part's document, and what it asks about.

@@ -17,6 +17,7 @@ use Rattle.normalise.specs.View.{Keeps}
 use Rattle.profile.proofs.Trees.{keeps_append}
 use Rattle.profile.specs.AddedTexts.{IsReadExpression}
 use Rattle.profile.specs.Statements.{class_of}
+use Rattle.program.specs.declared.version.Version.{Version}
 use Rattle.session.specs.Additions.{IsWithin}
 use Rattle.session.specs.FactCounts.{HasNoMoreFactsThan}
 use Rattle.session.specs.Queries.{AreAnswersFor, IsQueryAnswer, IsQueryRefusal, NamesFound, SpellsExpression}
@@ -40,7 +41,7 @@ module _ (o p : Ontology) (c d : ClassExpression) (found : NamesFound) (names : 
 
 -- ---- an expression that was read
 
-module _ (prefixes : Prefixes) (text : List ℕ) (old new : Ontology) (e : ℕ) (is : IsReadExpression prefixes text old new e) where
+module _ (version : Version) (prefixes : Prefixes) (text : List ℕ) (old new : Ontology) (e : ℕ) (is : IsReadExpression version prefixes text old new e) where
   -- expressions and axioms keep their numbers
   pub grows : Grows old new (length old.axioms)
   grows =
@@ -62,7 +63,7 @@ module _ (prefixes : Prefixes) (text : List ℕ) (old new : Ontology) (e : ℕ) 
   is_there = omega (arith, length_trees new, slice_get_within (trees new) e (class_of is.tree) is.added.at)
 
   -- it is what the text is
-  pub spelled : SpellsExpression prefixes text old (class_of is.tree)
+  pub spelled : SpellsExpression version prefixes text old (class_of is.tree)
   spelled = record { tree = is.tree; text_is = is.text_is; faultless = is.added.faultless; means = refl }
 
   -- and the names that it has are those of what the text is
@@ -77,7 +78,7 @@ is_root o e asked there same = subst (λ (es : List ℕ). IsRoot o es (Expressio
 
 -- ---- what a session says
 
-module _ (s : Opened) (text : List ℕ) (p : Ontology) (e : ℕ) (is : IsReadExpression s.prefixes text s.ontology p e) where
+module _ (s : Opened) (text : List ℕ) (p : Ontology) (e : ℕ) (is : IsReadExpression s.version s.prefixes text s.ontology p e) where
   -- the names of the expression answer what the text asks
   pub answered : (max_facts : ℕ) (found : NamesFound) → IsFinished s.saturation → IsWithin s text → HasNoMoreFactsThan p (e ∷ []) max_facts → AreAnswersFor p (expression p e) found → IsQueryAnswer s text max_facts found
   answered max_facts found finished within few h = record {
@@ -85,12 +86,12 @@ module _ (s : Opened) (text : List ℕ) (p : Ontology) (e : ℕ) (is : IsReadExp
     answer = record {
       within = within;
       expression = class_of is.tree;
-      spelled = spelled s.prefixes text s.ontology p e is;
+      spelled = spelled s.version s.prefixes text s.ontology p e is;
       few = (p, e, is, few);
-      names = are_answers s.prefixes text s.ontology p e is found h;
+      names = are_answers s.version s.prefixes text s.ontology p e is found h;
     };
   }
 
   -- where memory is refused, the text is an expression
   pub unanswered : (max_facts : ℕ) → IsFinished s.saturation → IsWithin s text → IsQueryRefusal s text max_facts Memory
-  unanswered max_facts finished within = (finished, (within, (class_of is.tree, spelled s.prefixes text s.ontology p e is)))
+  unanswered max_facts finished within = (finished, (within, (class_of is.tree, spelled s.version s.prefixes text s.ontology p e is)))

@@ -12,9 +12,11 @@ use Rattle.fs_parser.specs.Document.{Document, prefixes_of}
 use Rattle.fs_parser.specs.Name.{Prefixes, StandForOne}
 use Rattle.fs_parser.specs.Tree.{Trees, AreShallow}
 use Rattle.profile.proofs.OneReading.{one_document}
-use Rattle.profile.specs.AddedTexts.{AreStatementsOf}
+use Rattle.profile.specs.AddedTexts.{AreStatementsOf, IsAddedText}
 use Rattle.profile.specs.Statements.{statements}
-use Rattle.shapes.specs.declared.version.Version.TheVariants.{One}
+use Rattle.program.specs.declared.version.Version.{Version}
+use Rattle.shapes.specs.Faults.{axiom_faults, document_faults}
+use Rattle.session.proofs.AnyVersion.{document_states, texts_state}
 use Rattle.session.specs.Additions.{IsAddition}
 use Rattle.session.specs.Edits.{Call, Add, Resume, Superclasses, Subclasses, Instances, Explain, Query, Write, Reply, Added, Resumed, Named, Explained, Found, Written, IsCall, AreCalls, IsSessionOver, IsOneDocument, AreStatedBy, accepted, added, bytes_of, EditsAreOneDocument, AcceptedAlikeEndAlike, FinishedIsClosureOfAccepted}
 use Rattle.session.specs.Sessions.{IsSession, KeepsText, Opened}
@@ -22,16 +24,18 @@ use Rattle.session.specs.Sessions.{IsSession, KeepsText, Opened}
 -- ---- texts one behind the other
 
 -- one text more states its statements behind the others
-stated_more : (prefixes : Prefixes) (texts : List (List ℕ)) (stated : List Statement) (text : List ℕ) (trees : Trees) →
-    AreStatedBy prefixes texts stated → AreStatementsOf prefixes text trees → AreStatedBy prefixes (texts ++ text ∷ []) (stated ++ statements One trees)
-stated_more prefixes [] stated text trees are is =
-    (trees, [], is, refl, ap (λ (ss : List Statement). ss ++ statements One trees) are ∙ sym (append-nil (statements One trees)))
-stated_more prefixes (first ∷ texts) stated text trees (first_trees, later, first_is, later_are, same) is = (
+stated_more : (version : Version) (prefixes : Prefixes) (texts : List (List ℕ)) (stated : List Statement) (text : List ℕ) (trees : Trees) →
+    AreStatedBy version prefixes texts stated → AreStatementsOf prefixes text trees → axiom_faults version trees ≡ [] →
+    AreStatedBy version prefixes (texts ++ text ∷ []) (stated ++ statements version trees)
+stated_more version prefixes [] stated text trees are is faultless =
+    (trees, [], is, faultless, refl, ap (λ (ss : List Statement). ss ++ statements version trees) are ∙ sym (append-nil (statements version trees)))
+stated_more version prefixes (first ∷ texts) stated text trees (first_trees, later, first_is, first_faultless, later_are, same) is faultless = (
   first_trees,
-  later ++ statements One trees,
+  later ++ statements version trees,
   first_is,
-  stated_more prefixes texts later text trees later_are is,
-  ap (λ (ss : List Statement). ss ++ statements One trees) same ∙ append_assoc (statements One first_trees) later (statements One trees),
+  first_faultless,
+  stated_more version prefixes texts later text trees later_are is faultless,
+  ap (λ (ss : List Statement). ss ++ statements version trees) same ∙ append_assoc (statements version first_trees) later (statements version trees),
 )
 
 -- and its bytes count
@@ -46,107 +50,118 @@ one_list prefixes one text a b h k =
     let same = one_spelling text h.tokens k.tokens h.spelled k.spelled in
     one_reading prefixes one k.tokens a b (subst P same h.are).are_trees k.are.are_trees
 
--- and texts state one list
-stated_once : (prefixes : Prefixes) → StandForOne prefixes → (texts : List (List ℕ)) (xs ys : List Statement) → AreStatedBy prefixes texts xs → AreStatedBy prefixes texts ys → xs ≡ ys
-stated_once prefixes one [] xs ys h k = h ∙ sym k
-stated_once prefixes one (text ∷ texts) xs ys (a, xs', is_a, later, same) (b, ys', is_b, later', same') =
-    same ∙ ap₂ (λ (t : Trees) (ss : List Statement). statements One t ++ ss) (one_list prefixes one text a b is_a is_b) (stated_once prefixes one texts xs' ys' later later') ∙ sym same'
+-- and texts state one list, in whatever versions
+stated_once : (version other : Version) (prefixes : Prefixes) → StandForOne prefixes → (texts : List (List ℕ)) (xs ys : List Statement) → AreStatedBy version prefixes texts xs → AreStatedBy other prefixes texts ys → xs ≡ ys
+stated_once version other prefixes one [] xs ys h k = h ∙ sym k
+stated_once version other prefixes one (text ∷ texts) xs ys (a, xs', is_a, faultless, later, same) (b, ys', is_b, faultless', later', same') =
+    let trees : a ≡ b = one_list prefixes one text a b is_a is_b in
+    let P : Trees → Type 0 = λ t. axiom_faults version t ≡ [] in
+    let stated : statements version a ≡ statements other b = ap (statements version) trees ∙ texts_state version other b (subst P trees faultless) faultless' in
+    same ∙ ap₂ (λ (ss ts : List Statement). ss ++ ts) stated (stated_once version other prefixes one texts xs' ys' later later') ∙ sym same'
 
 -- ---- one call
 
 -- the same ontology, prefixes and bytes are what the same document states
-same_document : (bytes : List ℕ) (texts : List (List ℕ)) (old new : Opened) → new.ontology ≡ old.ontology → KeepsText old new → IsOneDocument bytes texts old → IsOneDocument bytes texts new
-same_document bytes texts old new ontology kept h = record {
+same_document : (version : Version) (bytes : List ℕ) (texts : List (List ℕ)) (old new : Opened) → new.ontology ≡ old.ontology → KeepsText old new → IsOneDocument version bytes texts old → IsOneDocument version bytes texts new
+same_document version bytes texts old new ontology kept h = record {
+  read_in = kept.version ∙ h.read_in;
   document = h.document;
   text = h.text;
+  faultless = h.faultless;
   prefixes = kept.prefixes ∙ h.prefixes;
   stated = h.stated;
-  are = subst (λ (p : Prefixes). AreStatedBy p texts h.stated) (sym kept.prefixes) h.are;
-  ontology = subst (IsOntologyOf (statements One h.document.trees ++ h.stated)) (sym ontology) h.ontology;
+  are = subst (λ (p : Prefixes). AreStatedBy version p texts h.stated) (sym kept.prefixes) h.are;
+  ontology = subst (IsOntologyOf (statements version h.document.trees ++ h.stated)) (sym ontology) h.ontology;
   well_formed = subst IsOntology (sym ontology) h.well_formed;
   number = kept.bytes ∙ h.number;
 }
 
-one_more : (bytes : List ℕ) (texts : List (List ℕ)) (old new : Opened) (text : List ℕ) → IsOneDocument bytes texts old → IsAddition old text new → IsOntology new.ontology → IsOneDocument bytes (texts ++ text ∷ []) new
-one_more bytes texts old new text h is well_formed =
-    let trees = is.text_is.trees in
-    let all : List Statement = statements One h.document.trees in
+one_more : (version : Version) (bytes : List ℕ) (texts : List (List ℕ)) (old new : Opened) (text : List ℕ) → IsOneDocument version bytes texts old → IsAddition old text new → IsOntology new.ontology → IsOneDocument version bytes (texts ++ text ∷ []) new
+one_more version bytes texts old new text h is well_formed =
+    let text_is : IsAddedText version old.prefixes text old.ontology new.ontology = subst (λ (v : Version). IsAddedText v old.prefixes text old.ontology new.ontology) h.read_in is.text_is in
+    let trees = text_is.trees in
+    let all : List Statement = statements version h.document.trees in
     record {
+      read_in = is.version ∙ h.read_in;
       document = h.document;
       text = h.text;
+      faultless = h.faultless;
       prefixes = is.prefixes ∙ h.prefixes;
-      stated = h.stated ++ statements One trees;
-      are = subst (λ (p : Prefixes). AreStatedBy p (texts ++ text ∷ []) (h.stated ++ statements One trees)) (sym is.prefixes) (stated_more old.prefixes texts h.stated text trees h.are is.text_is.text_is);
-      ontology = subst (λ (ss : List Statement). IsOntologyOf ss new.ontology) (append_assoc all h.stated (statements One trees)) (is.text_is.added.ontology (all ++ h.stated) h.ontology);
+      stated = h.stated ++ statements version trees;
+      are = subst (λ (p : Prefixes). AreStatedBy version p (texts ++ text ∷ []) (h.stated ++ statements version trees)) (sym is.prefixes) (stated_more version old.prefixes texts h.stated text trees h.are text_is.text_is text_is.added.faultless);
+      ontology = subst (λ (ss : List Statement). IsOntologyOf ss new.ontology) (append_assoc all h.stated (statements version trees)) (text_is.added.ontology (all ++ h.stated) h.ontology);
       well_formed = well_formed;
       number = (let more = bytes_more texts text in omega (arith, more, is.bytes, h.number));
     }
 
 -- a session that stays as it is
-stays : (bytes : List ℕ) (texts : List (List ℕ)) (old new : Opened) → IsOneDocument bytes texts old → new ≡ old → IsOneDocument bytes (texts ++ []) new
-stays bytes texts old new h same =
-    subst (λ (ts : List (List ℕ)). IsOneDocument bytes ts new) (sym (append-nil texts)) (subst (IsOneDocument bytes texts) (sym same) h)
+stays : (version : Version) (bytes : List ℕ) (texts : List (List ℕ)) (old new : Opened) → IsOneDocument version bytes texts old → new ≡ old → IsOneDocument version bytes (texts ++ []) new
+stays version bytes texts old new h same =
+    subst (λ (ts : List (List ℕ)). IsOneDocument version bytes ts new) (sym (append-nil texts)) (subst (IsOneDocument version bytes texts) (sym same) h)
 
-one_call : (bytes : List ℕ) (texts : List (List ℕ)) (old : Opened) (call : Call) (reply : Reply) (new : Opened) → IsOneDocument bytes texts old → IsCall old call reply new → IsSession new → IsOneDocument bytes (texts ++ added call reply) new
-one_call bytes texts old (Add text) (Added (Ok _)) new h is session = one_more bytes texts old new text h is session.whole.taken.well_formed
-one_call bytes texts old (Add text) (Added (Err fault)) new h is session = stays bytes texts old new h is.1
-one_call bytes texts old (Resume most) (Resumed answer) new h is session =
-    subst (λ (ts : List (List ℕ)). IsOneDocument bytes ts new) (sym (append-nil texts)) (same_document bytes texts old new is.0 is.1 h)
-one_call bytes texts old (Superclasses class) (Named (Ok names)) new h is session = stays bytes texts old new h is.2
-one_call bytes texts old (Superclasses class) (Named (Err fault)) new h is session = stays bytes texts old new h is.1
-one_call bytes texts old (Subclasses class) (Named (Ok names)) new h is session = stays bytes texts old new h is.2
-one_call bytes texts old (Subclasses class) (Named (Err fault)) new h is session = stays bytes texts old new h is.1
-one_call bytes texts old (Instances class) (Named (Ok names)) new h is session = stays bytes texts old new h is.2
-one_call bytes texts old (Instances class) (Named (Err fault)) new h is session = stays bytes texts old new h is.1
-one_call bytes texts old (Explain asked class) (Explained (Ok explanation)) new h is session = stays bytes texts old new h is.2
-one_call bytes texts old (Explain asked class) (Explained (Err fault)) new h is session = stays bytes texts old new h is.1
-one_call bytes texts old (Query text most) (Found (Ok found)) new h is session = stays bytes texts old new h is.1
-one_call bytes texts old (Query text most) (Found (Err fault)) new h is session = stays bytes texts old new h is.1
-one_call bytes texts old (Write before) (Written after answer) new h is session = stays bytes texts old new h is.1
-one_call bytes texts old call reply new h is session = absurd is
+one_call : (version : Version) (bytes : List ℕ) (texts : List (List ℕ)) (old : Opened) (call : Call) (reply : Reply) (new : Opened) → IsOneDocument version bytes texts old → IsCall old call reply new → IsSession new → IsOneDocument version bytes (texts ++ added call reply) new
+one_call version bytes texts old (Add text) (Added (Ok _)) new h is session = one_more version bytes texts old new text h is session.whole.taken.well_formed
+one_call version bytes texts old (Add text) (Added (Err fault)) new h is session = stays version bytes texts old new h is.1
+one_call version bytes texts old (Resume most) (Resumed answer) new h is session =
+    subst (λ (ts : List (List ℕ)). IsOneDocument version bytes ts new) (sym (append-nil texts)) (same_document version bytes texts old new is.0 is.1 h)
+one_call version bytes texts old (Superclasses class) (Named (Ok names)) new h is session = stays version bytes texts old new h is.2
+one_call version bytes texts old (Superclasses class) (Named (Err fault)) new h is session = stays version bytes texts old new h is.1
+one_call version bytes texts old (Subclasses class) (Named (Ok names)) new h is session = stays version bytes texts old new h is.2
+one_call version bytes texts old (Subclasses class) (Named (Err fault)) new h is session = stays version bytes texts old new h is.1
+one_call version bytes texts old (Instances class) (Named (Ok names)) new h is session = stays version bytes texts old new h is.2
+one_call version bytes texts old (Instances class) (Named (Err fault)) new h is session = stays version bytes texts old new h is.1
+one_call version bytes texts old (Explain asked class) (Explained (Ok explanation)) new h is session = stays version bytes texts old new h is.2
+one_call version bytes texts old (Explain asked class) (Explained (Err fault)) new h is session = stays version bytes texts old new h is.1
+one_call version bytes texts old (Query text most) (Found (Ok found)) new h is session = stays version bytes texts old new h is.1
+one_call version bytes texts old (Query text most) (Found (Err fault)) new h is session = stays version bytes texts old new h is.1
+one_call version bytes texts old (Write format before) (Written after answer) new h is session = stays version bytes texts old new h is.1
+one_call version bytes texts old call reply new h is session = absurd is
 
 -- ---- all calls
 
-all_calls : (bytes : List ℕ) (texts : List (List ℕ)) (old new : Opened) (calls : List Call) (replies : List Reply) → IsOneDocument bytes texts old → AreCalls old calls replies new → IsOneDocument bytes (texts ++ accepted calls replies) new
-all_calls bytes texts old new [] [] h same = stays bytes texts old new h same
-all_calls bytes texts old new (call ∷ calls) (reply ∷ replies) h (mid, is, session, later) =
-    subst (λ (ts : List (List ℕ)). IsOneDocument bytes ts new) (append_assoc texts (added call reply) (accepted calls replies))
-    (all_calls bytes (texts ++ added call reply) mid new calls replies (one_call bytes texts old call reply mid h is session) later)
-all_calls bytes texts old new [] (reply ∷ replies) h are = absurd are
-all_calls bytes texts old new (call ∷ calls) [] h are = absurd are
+all_calls : (version : Version) (bytes : List ℕ) (texts : List (List ℕ)) (old new : Opened) (calls : List Call) (replies : List Reply) → IsOneDocument version bytes texts old → AreCalls old calls replies new → IsOneDocument version bytes (texts ++ accepted calls replies) new
+all_calls version bytes texts old new [] [] h same = stays version bytes texts old new h same
+all_calls version bytes texts old new (call ∷ calls) (reply ∷ replies) h (mid, is, session, later) =
+    subst (λ (ts : List (List ℕ)). IsOneDocument version bytes ts new) (append_assoc texts (added call reply) (accepted calls replies))
+    (all_calls version bytes (texts ++ added call reply) mid new calls replies (one_call version bytes texts old call reply mid h is session) later)
+all_calls version bytes texts old new [] (reply ∷ replies) h are = absurd are
+all_calls version bytes texts old new (call ∷ calls) [] h are = absurd are
 
 -- a session that was opened, and nothing more
-begun : (bytes : List ℕ) (s : Opened) → IsSessionOver bytes s → IsOneDocument bytes [] s
-begun bytes s h =
+begun : (version : Version) (bytes : List ℕ) (s : Opened) → IsSessionOver version bytes s → IsOneDocument version bytes [] s
+begun version bytes s h =
     let reads = h.read.reads.reads in
     record {
+      read_in = h.read.read_in;
       document = reads.document;
       text = reads.text;
+      faultless = reads.read.faultless;
       prefixes = h.read.reads.prefixes_are;
       stated = [];
       are = refl;
-      ontology = subst (λ (ss : List Statement). IsOntologyOf ss s.ontology) (sym (append-nil (statements One reads.document.trees))) reads.read.ontology;
+      ontology = subst (λ (ss : List Statement). IsOntologyOf ss s.ontology) (sym (append-nil (statements version reads.document.trees))) reads.read.ontology;
       well_formed = reads.well_formed;
       number = (let number = h.read.number in omega (arith, number));
     }
 
 pub edits_are_one_document : EditsAreOneDocument
-edits_are_one_document bytes old new calls replies h are = all_calls bytes [] old new calls replies (begun bytes old h) are
+edits_are_one_document version bytes old new calls replies h are = all_calls version bytes [] old new calls replies (begun version bytes old h) are
 
 -- ---- the same texts
 
 pub accepted_alike : AcceptedAlikeEndAlike
-accepted_alike bytes texts s t h k =
+accepted_alike version other bytes texts s t h k =
     let document : h.document ≡ k.document = one_document bytes h.document k.document h.text k.text in
     let prefixes : s.prefixes ≡ t.prefixes = h.prefixes ∙ ap prefixes_of document ∙ sym k.prefixes in
     let one : StandForOne t.prefixes = subst StandForOne (sym k.prefixes) (document_prefixes k.document k.text.tokens k.text.written) in
-    let stated : h.stated ≡ k.stated = stated_once t.prefixes one texts h.stated k.stated (subst (λ (p : Prefixes). AreStatedBy p texts h.stated) prefixes h.are) k.are in
-    let all : statements One h.document.trees ++ h.stated ≡ statements One k.document.trees ++ k.stated =
-    ap₂ (λ (d : Document) (ss : List Statement). statements One d.trees ++ ss) document stated in
-    let ontology : s.ontology ≡ t.ontology = statements_determine (statements One k.document.trees ++ k.stated) s.ontology t.ontology h.well_formed k.well_formed
+    let stated : h.stated ≡ k.stated = stated_once version other t.prefixes one texts h.stated k.stated (subst (λ (p : Prefixes). AreStatedBy version p texts h.stated) prefixes h.are) k.are in
+    let P : Document → Type 0 = λ d. document_faults version d.trees ≡ [] in
+    let states : statements version h.document.trees ≡ statements other k.document.trees =
+    ap (λ (d : Document). statements version d.trees) document ∙ document_states version other k.document.trees (subst P document h.faultless) k.faultless in
+    let all : statements version h.document.trees ++ h.stated ≡ statements other k.document.trees ++ k.stated = ap₂ (λ (ss ts : List Statement). ss ++ ts) states stated in
+    let ontology : s.ontology ≡ t.ontology = statements_determine (statements other k.document.trees ++ k.stated) s.ontology t.ontology h.well_formed k.well_formed
     (subst (λ (ss : List Statement). IsOntologyOf ss s.ontology) all h.ontology) k.ontology in
-    let bytes_are : s.bytes ≡ t.bytes = h.number ∙ sym k.number in
-    cc
+    (ontology, prefixes, h.number ∙ sym k.number)
 
 -- ---- the end
 
@@ -157,4 +172,4 @@ last_session old new [] (reply ∷ replies) h are = absurd are
 last_session old new (call ∷ calls) [] h are = absurd are
 
 pub finished_is_closure : FinishedIsClosureOfAccepted
-finished_is_closure bytes old new calls replies h are = (last_session old new calls replies h.session are).saturated
+finished_is_closure version bytes old new calls replies h are = (last_session old new calls replies h.session are).saturated

@@ -6,8 +6,9 @@ use Rattle.normalise.specs.Growth.{Grows}
 use Rattle.normalise.specs.Roots.{KeepsNames}
 use Rattle.profile.proofs.Trees.{keeps_append}
 use Rattle.profile.specs.AddedTexts.{IsAddedText}
+use Rattle.program.specs.declared.version.Version.{Version}
 
-module _ (prefixes : Prefixes) (text : List ℕ) (old new : Ontology) (is : IsAddedText prefixes text old new) where
+module _ (version : Version) (prefixes : Prefixes) (text : List ℕ) (old new : Ontology) (is : IsAddedText version prefixes text old new) where
   -- expressions and axioms keep their numbers
   pub grows : Grows old new (length old.axioms)
   grows =

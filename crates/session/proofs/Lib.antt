@@ -5,5 +5,6 @@ pub mod Counting
 pub mod AtEnd
 pub mod Growing
 pub mod Asking
+pub mod AnyVersion
 pub mod Calls
 pub mod SameTexts

@@ -1,5 +1,5 @@
 -- What is said of a session that was opened, and of one that was run.
-use Rattle.std.proofs.Common.{◌≡◌, ℕ, List, [], Option, Some, None, Result, Ok, Err, IfOk, IfErr, OnOk, sym, subst}
+use Rattle.std.proofs.Common.{◌≡◌, ℕ, List, [], Option, Some, None, Result, Ok, Err, IfOk, IfErr, OnOk, sym, ◌∙◌, subst}
 use Rattle.std.specs.Prelude.{IsErrOf}
 use Rattle.profile.specs.Documents.{IsTaken}
 use Rattle.profile.specs.Faults.{OpensKnown, RefusesKnown}
@@ -7,6 +7,7 @@ use Rattle.profile.specs.declared.fault.DocumentFault.{DocumentFault}
 use Rattle.profile.specs.declared.fault.DocumentFault.TheVariants.{Io, Memory, TooLarge}
 use Rattle.profile.specs.declared.opened.Opened as reading
 use Rattle.program.specs.declared.limits.Limits.{Limits}
+use Rattle.program.specs.declared.version.Version.{Version}
 use Rattle.session.specs.FactCounts.{HasNoMoreFactsThan}
 use Rattle.session.specs.Sessions.{KeepsText, Opened, as_read}
 use Rattle.session.specs.TextAnswers.{IsRunAs}
@@ -17,10 +18,10 @@ of_read P d (Ok s) holds same = subst P (sym same) holds
 of_read P d (Err e) holds same = tt
 
 -- a session that is not made for want of memory refuses nothing of the document
-pub for_memory : (left : Option (List ℕ)) (most : ℕ) (r : Result Opened DocumentFault) → IfErr r (λ e. e ≡ Memory) → IfErr r (RefusesKnown left most)
-for_memory left most (Ok s) is = tt
-for_memory None most (Err e) is = tt
-for_memory (Some bytes) most (Err e) is = let P : DocumentFault → Type 0 = λ f. RefusesKnown (Some bytes) most f in subst P (sym is) tt
+pub for_memory : (version : Version) (left : Option (List ℕ)) (most : ℕ) (r : Result Opened DocumentFault) → IfErr r (λ e. e ≡ Memory) → IfErr r (RefusesKnown version left most)
+for_memory version left most (Ok s) is = tt
+for_memory version None most (Err e) is = tt
+for_memory version (Some bytes) most (Err e) is = let P : DocumentFault → Type 0 = λ f. RefusesKnown version (Some bytes) most f in subst P (sym is) tt
 
 pub on_ok : {A E : Type 0} (r : Result A E) (X : Type 0) → X → OnOk r X
 on_ok (Ok a) X x = x
@@ -37,10 +38,11 @@ not_too_large (Ok s) is told = cc
 not_too_large (Err e) is told = let same : e ≡ Memory = is in cc
 
 -- what was read stays what it is while the session is run
-pub runs_as : (limits : Limits) (document : Option (List ℕ)) (old new : Opened) → OpensKnown document limits.max_bytes (as_read old) → IsTaken old.ontology
+pub runs_as : (limits : Limits) (document : Option (List ℕ)) (old new : Opened) → OpensKnown limits.version document limits.max_bytes (as_read old) → old.version ≡ limits.version → IsTaken old.ontology
     → new.ontology ≡ old.ontology → KeepsText old new → HasNoMoreFactsThan new.ontology [] limits.max_facts → IsRunAs limits document (as_read new)
-runs_as limits document old new opens taken ontology kept few =
+runs_as limits document old new opens read_in taken ontology kept few =
     let prefixes = kept.prefixes in
     let bytes = kept.bytes in
+    let version = kept.version in
     let same : as_read old ≡ as_read new = cc in
-    record { opens = subst (OpensKnown document limits.max_bytes) same opens; taken = subst IsTaken (sym ontology) taken; few = few }
+    record { opens = subst (OpensKnown limits.version document limits.max_bytes) same opens; read_in = version ∙ read_in; taken = subst IsTaken (sym ontology) taken; few = few }

@@ -7,7 +7,8 @@ use Rattle.axioms.specs.Ontology.{Ontology}
 use Rattle.axioms.specs.declared.terms.Kind.{Kind}
 use Rattle.axioms.specs.declared.terms.Kind.TheVariants as kinds
 use Rattle.cert_check.specs.Acceptance.{AreRight, IsAcceptable}
-use Rattle.classification.specs.Classifications.{AreCountsOf, AreTextsOf}
+use Rattle.certificate.specs.declared.format.Format.{Format}
+use Rattle.classification.specs.Classifications.{AreCountsOf, AreTextsOf, IsWrittenIn}
 use Rattle.classification.specs.declared.classification.Summary.{Summary}
 use Rattle.device.specs.declared.device.Sink.{Ghosts}
 use Rattle.engine.specs.Saturations.{IsFinished}
@@ -83,14 +84,16 @@ IsExplainRefusal s asked class asking.Memory = IsFinished s.saturation
 
 -- ---- texts
 
--- nothing is pending; these are the counts and the texts of the ontology, and the certificate shows that the other two are right
-pub record IsMade (s : Opened) (summary : Summary) (texts : Texts) : Type 0 where
+-- nothing is pending; these are the counts and the texts of the ontology, and the certificate, in this format, shows that the other two are
+-- right
+pub record IsMade (s : Opened) (format : Format) (summary : Summary) (texts : Texts) : Type 0 where
   pub finished : IsFinished s.saturation
   pub counts : AreCountsOf s.ontology summary
   pub facts : summary.facts ≡ length s.saturation.state.facts
   pub texts_are : AreTextsOf s.ontology summary.consistent texts.taxonomy texts.instances
   pub acceptable : IsAcceptable s.ontology texts.taxonomy texts.instances texts.certificate
   pub right : AreRight s.ontology texts.taxonomy texts.instances texts.certificate
+  pub written : IsWrittenIn s.ontology format texts.certificate
 
 -- what a fault says of the session where no text is made: facts are pending, or memory was refused
 abbrev pub IsUnmade : Opened → TextFault → Type 0
@@ -99,15 +102,15 @@ IsUnmade s writing.Memory = IsFinished s.saturation
 IsUnmade s (writing.Io n) = ⊥
 
 -- what a fault says of the session and of what was written: nothing, or the texts until the sink that is told, by its number from 1
-abbrev pub IsTextFault : Opened → (old new : Sinks) → TextFault → Type 0
-IsTextFault s old new (writing.Io n) = (1 ≤ n) × (n ≤ 3) × ((summary : Summary) × (texts : Texts) × IsMade s summary texts × AreWrittenUntil n old new texts)
-IsTextFault s old new fault = IsUnmade s fault × (new ≡ old)
+abbrev pub IsTextFault : Opened → Format → (old new : Sinks) → TextFault → Type 0
+IsTextFault s format old new (writing.Io n) = (1 ≤ n) × (n ≤ 3) × ((summary : Summary) × (texts : Texts) × IsMade s format summary texts × AreWrittenUntil n old new texts)
+IsTextFault s format old new fault = IsUnmade s fault × (new ≡ old)
 
 -- what an answer says of the session and of what was written
-abbrev pub IsWritten : Opened → (old new : Sinks) → Result Summary TextFault → Type 0
-IsWritten s old new (Ok summary) = (texts : Texts) × IsMade s summary texts × AreWritten old new texts
-IsWritten s old new (Err fault) = IsTextFault s old new fault
+abbrev pub IsWritten : Opened → Format → (old new : Sinks) → Result Summary TextFault → Type 0
+IsWritten s format old new (Ok summary) = (texts : Texts) × IsMade s format summary texts × AreWritten old new texts
+IsWritten s format old new (Err fault) = IsTextFault s format old new fault
 
 -- what an answer says of the session, and of the three sinks before and after a call
-abbrev pub Writes : {T I C : Type 0} → Ghosts T → Ghosts I → Ghosts C → Opened → (old new : T × I × C) → Result Summary TextFault → Type 0
-Writes T I C s old new answer = IsWritten s (all_seen T I C old) (all_seen T I C new) answer
+abbrev pub Writes : {T I C : Type 0} → Ghosts T → Ghosts I → Ghosts C → Opened → Format → (old new : T × I × C) → Result Summary TextFault → Type 0
+Writes T I C s format old new answer = IsWritten s format (all_seen T I C old) (all_seen T I C new) answer

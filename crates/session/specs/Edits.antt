@@ -7,6 +7,7 @@ use Rattle.axioms.specs.WellFormedness.{IsOntology}
 use Rattle.answers.specs.Explanations.{Explains}
 use Rattle.answers.specs.declared.asked.Asked.{Asked}
 use Rattle.answers.specs.declared.explanation.Explanation.{Explanation}
+use Rattle.certificate.specs.declared.format.Format.{Format}
 use Rattle.classification.specs.declared.classification.Summary.{Summary}
 use Rattle.closure.specs.Closure.{Context}
 use Rattle.engine.specs.Saturations.{HasResumed, IsFinished, IsSaturated, Saturates}
@@ -21,7 +22,7 @@ use Rattle.profile.specs.AddedTexts.{AreStatementsOf}
 use Rattle.profile.specs.Documents.{AreTextOf, OpensAs, ReadsAs}
 use Rattle.profile.specs.Statements.{statements}
 use Rattle.profile.specs.declared.fault.DocumentFault.{DocumentFault}
-use Rattle.shapes.specs.declared.version.Version.TheVariants.{One}
+use Rattle.program.specs.declared.version.Version.{Version}
 use Rattle.session.specs.Additions.{IsAddition, IsRefusedAddition}
 use Rattle.session.specs.Answers.{AreInstances, AreSubclasses, AreSuperclasses, HasClass, HasNames, IsClassRefusal, IsExplainRefusal, IsMade, IsWritten}
 use Rattle.session.specs.Classifications.{IsClassified}
@@ -31,10 +32,11 @@ use Rattle.session.specs.WrittenTexts.{Sinks, Texts}
 use Rattle.session.specs.declared.fault.AskFault.{AskFault}
 use Rattle.session.specs.declared.fault.TextFault.{TextFault}
 use Rattle.session.specs.declared.query_fault.QueryFault.{QueryFault}
+use Rattle.shapes.specs.Faults.{axiom_faults, document_faults}
 
 -- ---- calls
 
--- what is asked of a session: to add, to run on, to answer, or to write to sinks that have taken so much
+-- what is asked of a session: to add, to run on, to answer, or to write, with a certificate in a format, to sinks that have taken so much
 pub data Call : Type 0 where
   Add : (text : List ℕ) → Call
   Resume : (max_facts : ℕ) → Call
@@ -43,7 +45,7 @@ pub data Call : Type 0 where
   Instances : (class : Iri) → Call
   Explain : (asked : Asked) (class : Iri) → Call
   Query : (text : List ℕ) (max_facts : ℕ) → Call
-  Write : (before : Sinks) → Call
+  Write : (format : Format) (before : Sinks) → Call
 
 -- what is answered: of writing also what the sinks have taken then
 pub data Reply : Type 0 where
@@ -70,12 +72,12 @@ IsCall old (Explain asked class) (Explained (Ok explanation)) new = HasNames old
 IsCall old (Explain asked class) (Explained (Err fault)) new = IsExplainRefusal old asked class fault × (new ≡ old)
 IsCall old (Query text most) (Found (Ok found)) new = IsQueryAnswer old text most found × (new ≡ old)
 IsCall old (Query text most) (Found (Err fault)) new = IsQueryRefusal old text most fault × (new ≡ old)
-IsCall old (Write before) (Written after answer) new = IsWritten old before after answer × (new ≡ old)
+IsCall old (Write format before) (Written after answer) new = IsWritten old format before after answer × (new ≡ old)
 IsCall old call reply new = ⊥
 
--- a session over the document of these bytes
-pub record IsSessionOver (bytes : List ℕ) (s : Opened) : Type 0 where
-  pub read : OpensAs bytes (as_read s)
+-- a session over the document of these bytes, of that version
+pub record IsSessionOver (version : Version) (bytes : List ℕ) (s : Opened) : Type 0 where
+  pub read : OpensAs version bytes (as_read s)
   pub session : IsSession s
 
 -- calls one after the other, with their answers
@@ -96,25 +98,28 @@ abbrev pub accepted : List Call → List Reply → List (List ℕ)
 accepted (call ∷ calls) (reply ∷ replies) = added call reply ++ accepted calls replies
 accepted calls replies = []
 
--- the texts state these, one behind the other, with the prefixes
-abbrev pub AreStatedBy : Prefixes → List (List ℕ) → List Statement → Type 0
-AreStatedBy prefixes [] stated = stated ≡ []
-AreStatedBy prefixes (text ∷ texts) stated =
-    (trees : Trees) × (later : List Statement) × AreStatementsOf prefixes text trees × AreStatedBy prefixes texts later × (stated ≡ statements One trees ++ later)
+-- the texts, which have no faults in the version, state these, one behind the other, with the prefixes
+abbrev pub AreStatedBy : Version → Prefixes → List (List ℕ) → List Statement → Type 0
+AreStatedBy version prefixes [] stated = stated ≡ []
+AreStatedBy version prefixes (text ∷ texts) stated =
+    (trees : Trees) × (later : List Statement) × AreStatementsOf prefixes text trees × (axiom_faults version trees ≡ []) × AreStatedBy version prefixes texts later
+    × (stated ≡ statements version trees ++ later)
 
 abbrev pub bytes_of : List (List ℕ) → ℕ
 bytes_of [] = 0
 bytes_of (text ∷ texts) = length text + bytes_of texts
 
--- the session's ontology is that of the statements of the document and of these texts, with the prefixes of the document; and it has
--- as many bytes as these
-pub record IsOneDocument (bytes : List ℕ) (texts : List (List ℕ)) (s : Opened) : Type 0 where
+-- the session, of that version, has the ontology of the statements of the document and of these texts, which have no faults in the
+-- version, with the prefixes of the document; and it has as many bytes as these
+pub record IsOneDocument (version : Version) (bytes : List ℕ) (texts : List (List ℕ)) (s : Opened) : Type 0 where
+  pub read_in : s.version ≡ version
   pub document : Document
   pub text : AreTextOf bytes document
+  pub faultless : document_faults version document.trees ≡ []
   pub prefixes : s.prefixes ≡ prefixes_of document
   pub stated : List Statement
-  pub are : AreStatedBy s.prefixes texts stated
-  pub ontology : IsOntologyOf (statements One document.trees ++ stated) s.ontology
+  pub are : AreStatedBy version s.prefixes texts stated
+  pub ontology : IsOntologyOf (statements version document.trees ++ stated) s.ontology
   pub well_formed : IsOntology s.ontology
   pub number : s.bytes ≡ length bytes + bytes_of texts
 
@@ -123,31 +128,33 @@ pub record IsOneDocument (bytes : List ℕ) (texts : List (List ℕ)) (s : Opene
 -- whatever calls come, and whichever are refused: what is there is what the document and the accepted texts state
 abbrev pub EditsAreOneDocument : Type 0
 EditsAreOneDocument =
-    (bytes : List ℕ) (old new : Opened) (calls : List Call) (replies : List Reply) → IsSessionOver bytes old → AreCalls old calls replies new →
-    IsOneDocument bytes (accepted calls replies) new
+    (version : Version) (bytes : List ℕ) (old new : Opened) (calls : List Call) (replies : List Reply) → IsSessionOver version bytes old → AreCalls old calls replies new →
+    IsOneDocument version bytes (accepted calls replies) new
 
--- so sessions over the same document that accepted the same texts, whatever else was called, have the same ontology, prefixes and bytes
+-- so sessions over the same document that accepted the same texts, whatever else was called and whichever version each has, have the same
+-- ontology, prefixes and bytes
 abbrev pub AcceptedAlikeEndAlike : Type 0
 AcceptedAlikeEndAlike =
-    (bytes : List ℕ) (texts : List (List ℕ)) (s t : Opened) → IsOneDocument bytes texts s → IsOneDocument bytes texts t → as_read s ≡ as_read t
+    (version other : Version) (bytes : List ℕ) (texts : List (List ℕ)) (s t : Opened) → IsOneDocument version bytes texts s → IsOneDocument other bytes texts t →
+    (s.ontology ≡ t.ontology) × (s.prefixes ≡ t.prefixes) × (s.bytes ≡ t.bytes)
 
 -- where then nothing is pending, the facts are the closure of that ontology
 abbrev pub FinishedIsClosureOfAccepted : Type 0
 FinishedIsClosureOfAccepted =
-    (bytes : List ℕ) (old new : Opened) (calls : List Call) (replies : List Reply) → IsSessionOver bytes old → AreCalls old calls replies new →
+    (version : Version) (bytes : List ℕ) (old new : Opened) (calls : List Call) (replies : List Reply) → IsSessionOver version bytes old → AreCalls old calls replies new →
     IsFinished new.saturation → IsSaturated new.ontology new.saturation
 
--- and the texts are those of a classification of any document that reads as that ontology
+-- and the texts are those of a classification, in any version and format, of any document that reads in any as that ontology
 abbrev pub TextsAreThoseOfOneDocument : Type 0
 TextsAreThoseOfOneDocument =
-    (s : Opened) (summary : Summary) (texts : Texts) (document : List ℕ) (most_bytes most_facts : ℕ) (other : Summary) (others : Texts) →
-    IsOpen s → IsMade s summary texts → ReadsAs document s.ontology → IsClassified most_bytes most_facts (Some document) other others →
+    (s : Opened) (summary : Summary) (texts : Texts) (document : List ℕ) (version classifying : Version) (format other_format : Format) (most_bytes most_facts : ℕ) (other : Summary) (others : Texts) →
+    IsOpen s → IsMade s format summary texts → ReadsAs version document s.ontology → IsClassified classifying other_format most_bytes most_facts (Some document) other others →
     (others.taxonomy ≡ texts.taxonomy) × (others.instances ≡ texts.instances)
 
--- and the interpretation that the closure lists is that of any document that reads as that ontology: it has the same elements, and says
--- the same of each name
+-- and the interpretation that the closure lists is that of any document that reads in any version as that ontology: it has the same
+-- elements, and says the same of each name
 abbrev pub ListedIsThatOfOneDocument : Type 0
 ListedIsThatOfOneDocument =
-    (s : Opened) (document : List ℕ) (o : Ontology) (xs ys : List Context) (i j : Interpretation) →
-    IsOpen s → ReadsAs document s.ontology → ReadsAs document o → IsConsistent s.ontology [] →
+    (s : Opened) (document : List ℕ) (version other : Version) (o : Ontology) (xs ys : List Context) (i j : Interpretation) →
+    IsOpen s → ReadsAs version document s.ontology → ReadsAs other document o → IsConsistent s.ontology [] →
     IsListedInterpretation s.ontology [] xs i → IsListedInterpretation o [] ys j → (xs ≡ ys) × AgreeOn s.ontology i j

@@ -12,8 +12,8 @@ use Rattle.profile.specs.Statements.{class_of}
 use Rattle.profile.specs.declared.fault.DocumentFault.{DocumentFault}
 use Rattle.profile.specs.declared.fault.DocumentFault.TheVariants.{TooLarge}
 use Rattle.profile.specs.declared.opened.Opened as reading
+use Rattle.program.specs.declared.version.Version.{Version}
 use Rattle.shapes.specs.Faults.{expression_faults}
-use Rattle.shapes.specs.declared.version.Version.TheVariants.{One}
 use Rattle.session.specs.FactCounts.{HasNoMoreFactsThan}
 use Rattle.session.specs.Sessions.{Opened, as_read}
 use Rattle.session.specs.declared.query_fault.QueryFault.{QueryFault}
@@ -44,45 +44,45 @@ pub record AreAnswersFor (o : Ontology) (e : ClassExpression) (found : NamesFoun
 
 -- ---- texts that ask
 
--- the text is the class expression, over names of the ontology
-pub record SpellsExpression (prefixes : Prefixes) (text : List ℕ) (o : Ontology) (e : ClassExpression) : Type 0 where
+-- the text is the class expression, in the version and over names of the ontology
+pub record SpellsExpression (version : Version) (prefixes : Prefixes) (text : List ℕ) (o : Ontology) (e : ClassExpression) : Type 0 where
   pub tree : Tree
   pub text_is : IsExpressionOf prefixes text tree
-  pub faultless : expression_faults One o.names tree ≡ []
+  pub faultless : expression_faults version o.names tree ≡ []
   pub means : class_of tree ≡ e
 
 -- the closure of the ontology with the expression that the text is has at most n facts
-abbrev pub HasFewWith : Prefixes → (text : List ℕ) → Ontology → ℕ → Type 0
-HasFewWith prefixes text o n = (p : Ontology) × (e : ℕ) × IsReadExpression prefixes text o p e × HasNoMoreFactsThan p (e ∷ []) n
+abbrev pub HasFewWith : Version → Prefixes → (text : List ℕ) → Ontology → ℕ → Type 0
+HasFewWith version prefixes text o n = (p : Ontology) × (e : ℕ) × IsReadExpression version prefixes text o p e × HasNoMoreFactsThan p (e ∷ []) n
 
 -- it has more
-abbrev pub HasMoreWith : Prefixes → (text : List ℕ) → Ontology → ℕ → Type 0
-HasMoreWith prefixes text o n = (p : Ontology) × (e : ℕ) × IsReadExpression prefixes text o p e × HasMoreFactsThan p (e ∷ []) n
+abbrev pub HasMoreWith : Version → Prefixes → (text : List ℕ) → Ontology → ℕ → Type 0
+HasMoreWith version prefixes text o n = (p : Ontology) × (e : ℕ) × IsReadExpression version prefixes text o p e × HasMoreFactsThan p (e ∷ []) n
 
--- ---- of what was read
+-- ---- of what was read, in the version in which it was read
 
 -- with the text there are no more bytes than there may be; it is a class expression, with which the closure has at most so many facts;
 -- and the names are those of the expression
 pub record IsAnswer (d : reading.Opened) (most_bytes max_facts : ℕ) (text : List ℕ) (found : NamesFound) : Type 0 where
   pub within : d.bytes + length text ≤ most_bytes
   pub expression : ClassExpression
-  pub spelled : SpellsExpression d.prefixes text d.ontology expression
-  pub few : HasFewWith d.prefixes text d.ontology max_facts
+  pub spelled : SpellsExpression d.version d.prefixes text d.ontology expression
+  pub few : HasFewWith d.version d.prefixes text d.ontology max_facts
   pub names : AreAnswersFor d.ontology expression found
 
 -- what the fault says of a text that is not read: with it there are too many bytes; or not too many, and what the fault says of it as a
 -- class expression over names of what was read
 abbrev pub RefusesText : reading.Opened → (most_bytes : ℕ) → (text : List ℕ) → DocumentFault → Type 0
 RefusesText d most_bytes text TooLarge = most_bytes < d.bytes + length text
-RefusesText d most_bytes text fault = (d.bytes + length text ≤ most_bytes) × RefusesReading d.prefixes text d.ontology fault
+RefusesText d most_bytes text fault = (d.bytes + length text ≤ most_bytes) × RefusesReading d.version d.prefixes text d.ontology fault
 
 -- what a fault says of the text where nothing is pending: it is not read; or it is, and the closure with it has more facts, or memory
 -- was refused
 abbrev pub IsUnanswerable : reading.Opened → (most_bytes max_facts : ℕ) → (text : List ℕ) → QueryFault → Type 0
 IsUnanswerable d most_bytes max_facts text Unfinished = ⊥
 IsUnanswerable d most_bytes max_facts text (Expression fault) = RefusesText d most_bytes text fault
-IsUnanswerable d most_bytes max_facts text Limit = (d.bytes + length text ≤ most_bytes) × HasMoreWith d.prefixes text d.ontology max_facts
-IsUnanswerable d most_bytes max_facts text Memory = (d.bytes + length text ≤ most_bytes) × ((e : ClassExpression) × SpellsExpression d.prefixes text d.ontology e)
+IsUnanswerable d most_bytes max_facts text Limit = (d.bytes + length text ≤ most_bytes) × HasMoreWith d.version d.prefixes text d.ontology max_facts
+IsUnanswerable d most_bytes max_facts text Memory = (d.bytes + length text ≤ most_bytes) × ((e : ClassExpression) × SpellsExpression d.version d.prefixes text d.ontology e)
 
 -- ---- of a session
 

@@ -13,19 +13,19 @@ use Rattle.session.specs.declared.question_fault.QuestionFault.TheVariants as as
 use Rattle.session.specs.declared.run_fault.RunFault.{RunFault}
 use Rattle.session.specs.declared.run_fault.RunFault.TheVariants.{Document, Limit, Memory}
 
--- the document reads as the ontology, within the limit of bytes; the facts are those of its closure, with nothing
+-- the document reads as the ontology, in the version and within the limit of bytes; the facts are those of its closure, with nothing
 -- asked about, within that of facts
 pub record IsRun (limits : Limits) (document : Option (List ℕ)) (run : Finished) : Type 0 where
-  pub read : IsReadAs limits.max_bytes document run.ontology
+  pub read : IsReadAs limits.version limits.max_bytes document run.ontology
   pub saturated : IsSaturated run.ontology run.saturation
   pub unasked : IsUnasked run.saturation
   pub within : length run.saturation.state.facts ≤ limits.max_facts
 
 -- what a fault says of the document: it is refused, or it is read and this came behind that
 abbrev pub IsRunFault : Limits → (document : Option (List ℕ)) → RunFault → Type 0
-IsRunFault limits document (Document fault) = RefusesKnown document limits.max_bytes fault
+IsRunFault limits document (Document fault) = RefusesKnown limits.version document limits.max_bytes fault
 IsRunFault limits document Limit = IsBeyondLimit limits document
-IsRunFault limits document Memory = (o : Ontology) × IsReadAs limits.max_bytes document o
+IsRunFault limits document Memory = (o : Ontology) × IsReadAs limits.version limits.max_bytes document o
 
 -- what was read of the document: all of it, where it was read as an ontology; otherwise some of it; and the fault of a source
 -- is told only where it failed

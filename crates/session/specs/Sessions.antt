@@ -5,15 +5,18 @@ use Rattle.engine.specs.Saturations.{Saturated, IsFinished, IsSaturated, IsSound
 use Rattle.fs_parser.specs.Name.{Prefixes}
 use Rattle.profile.specs.Documents.{IsTaken}
 use Rattle.profile.specs.declared.opened.Opened as reading
+use Rattle.program.specs.declared.version.Version.{Version}
 
 -- the ontology of the document and of all that was added, the prefixes with which names are expanded, and what is known so far of
--- what follows; how many bytes the document and what was added have, and how many they may have
+-- what follows; how many bytes the document and what was added have, and how many they may have; and the version of the profile in which
+-- texts are read
 pub record Opened : Type 0 where
   pub ontology : Ontology
   pub prefixes : Prefixes
   pub saturation : Saturated
   pub bytes : ℕ
   pub most_bytes : ℕ
+  pub version : Version
 
 -- what holds at any time: the facts are facts of the ontology's closure, each once, with nothing asked about, and more may be added; the
 -- ontology is well formed and that of some statements; and there are no more bytes than there may be
@@ -31,10 +34,11 @@ pub record IsSession (s : Opened) : Type 0 where
 
 -- what was read
 abbrev pub as_read : Opened → reading.Opened
-as_read s = record { ontology = s.ontology; prefixes = s.prefixes; bytes = s.bytes }
+as_read s = record { ontology = s.ontology; prefixes = s.prefixes; bytes = s.bytes; version = s.version }
 
--- the prefixes and the bytes, and how many there may be, are as they were
+-- the prefixes and the bytes, how many there may be, and the version are as they were
 pub record KeepsText (old new : Opened) : Type 0 where
   pub prefixes : new.prefixes ≡ old.prefixes
   pub bytes : new.bytes ≡ old.bytes
   pub most_bytes : new.most_bytes ≡ old.most_bytes
+  pub version : new.version ≡ old.version

@@ -14,6 +14,7 @@ use Rattle.profile.specs.Faults.{OpensKnown, ReadsKnown, RefusesKnown}
 use Rattle.profile.specs.declared.opened.Opened as reading
 use Rattle.engine.specs.Saturations.{HasMoreFactsThan}
 use Rattle.program.specs.declared.limits.Limits.{Limits}
+use Rattle.program.specs.declared.version.Version.{Version}
 use Rattle.session.specs.declared.question_fault.QuestionFault.{QuestionFault}
 use Rattle.session.specs.declared.question_fault.QuestionFault.TheVariants.{Document, Limit, UnknownName, Expression, Memory}
 use Rattle.session.specs.declared.form.Form.{Form}
@@ -30,9 +31,9 @@ use Rattle.session.specs.declared.query_fault.QueryFault.{QueryFault}
 use Rattle.session.specs.declared.query_fault.QueryFault.TheVariants as querying
 use Rattle.source_lines.specs.Sources.{SourceState, IsReadToItsEnd}
 
--- the document, of at most so many bytes, reads as the ontology
-pub record IsReadAs (most_bytes : ℕ) (document : Option (List ℕ)) (o : Ontology) : Type 0 where
-  pub reads : ReadsKnown document most_bytes o
+-- the document, of at most so many bytes, reads in the version as the ontology
+pub record IsReadAs (version : Version) (most_bytes : ℕ) (document : Option (List ℕ)) (o : Ontology) : Type 0 where
+  pub reads : ReadsKnown version document most_bytes o
   pub taken : IsTaken o
 
 -- ---- the individuals of a class
@@ -52,7 +53,7 @@ pub record ListsInstances (o : Ontology) (class : Iri) (text : List ℕ) : Type 
 -- the document reads as an ontology whose closure has at most so many facts and which has the class, and the lines of the text are of
 -- exactly the individuals that belong to it in every finite interpretation of the axioms, each once and in byte order
 abbrev pub AnswersInstances : Limits → (document : Option (List ℕ)) → (class : Iri) → (text : List ℕ) → Type 0
-AnswersInstances limits document class text = (o : Ontology) × IsReadAs limits.max_bytes document o × HasNoMoreFactsThan o [] limits.max_facts × ListsInstances o class text
+AnswersInstances limits document class text = (o : Ontology) × IsReadAs limits.version limits.max_bytes document o × HasNoMoreFactsThan o [] limits.max_facts × ListsInstances o class text
 
 -- ---- why something follows, or why not
 
@@ -85,14 +86,15 @@ pub record ShowsExplanation (o : Ontology) (asked : Asked) (class : Iri) (form :
 -- explanation that shows whether the subject is in the class
 abbrev pub AnswersExplanation : Limits → (document : Option (List ℕ)) → Asked → (class : Iri) → Form → (text : List ℕ) → Type 0
 AnswersExplanation limits document asked class form text =
-    (o : Ontology) × IsReadAs limits.max_bytes document o × HasNoMoreFactsThan o [] limits.max_facts × ShowsExplanation o asked class form text
+    (o : Ontology) × IsReadAs limits.version limits.max_bytes document o × HasNoMoreFactsThan o [] limits.max_facts × ShowsExplanation o asked class form text
 
 -- ---- the names of a class expression
 
--- the document, of at most so many bytes, reads as the ontology, with these prefixes and so many bytes, and its closure has at most so
--- many facts
+-- the document, of at most so many bytes, reads in the version as the ontology, with these prefixes and so many bytes, and its closure
+-- has at most so many facts
 pub record IsRunAs (limits : Limits) (document : Option (List ℕ)) (d : reading.Opened) : Type 0 where
-  pub opens : OpensKnown document limits.max_bytes d
+  pub opens : OpensKnown limits.version document limits.max_bytes d
+  pub read_in : d.version ≡ limits.version
   pub taken : IsTaken d.ontology
   pub few : HasNoMoreFactsThan d.ontology [] limits.max_facts
 
@@ -101,9 +103,9 @@ abbrev pub query_lines : NamesFound → List ℕ
 query_lines found =
     name_lines (codes "super ") found.superclasses ++ name_lines (codes "sub ") found.subclasses ++ name_lines (codes "instance ") found.instances
 
--- document and text have together at most so many bytes; the text is a class expression over names of the document, with which the closure
--- has at most so many facts; and the lines are of exactly the names that the expression has in every finite interpretation of the axioms,
--- each once and in byte order
+-- document and text have together at most so many bytes; the text is a class expression in the document's version and over its names,
+-- with which the closure has at most so many facts; and the lines are of exactly the names that the expression has in every finite
+-- interpretation of the axioms, each once and in byte order
 pub record ListsAnswers (d : reading.Opened) (most_bytes max_facts : ℕ) (text out : List ℕ) : Type 0 where
   pub found : NamesFound
   pub answer : IsAnswer d most_bytes max_facts text found
@@ -124,26 +126,26 @@ LeavesUnanswered limits document text fault =
 -- the document reads as an ontology whose closure has at most so many facts, and the name is the first of these, each of its kind,
 -- that the ontology lacks
 abbrev pub LacksName : Limits → (document : Option (List ℕ)) → (names : List (Kind × Iri)) → Iri → Type 0
-LacksName limits document names name = (o : Ontology) × IsReadAs limits.max_bytes document o × HasNoMoreFactsThan o [] limits.max_facts × IsFirstUnknown o names name
+LacksName limits document names name = (o : Ontology) × IsReadAs limits.version limits.max_bytes document o × HasNoMoreFactsThan o [] limits.max_facts × IsFirstUnknown o names name
 
 -- the document reads as an ontology whose closure has more facts
 abbrev pub IsBeyondLimit : Limits → (document : Option (List ℕ)) → Type 0
-IsBeyondLimit limits document = (o : Ontology) × IsReadAs limits.max_bytes document o × HasMoreFactsThan o [] limits.max_facts
+IsBeyondLimit limits document = (o : Ontology) × IsReadAs limits.version limits.max_bytes document o × HasMoreFactsThan o [] limits.max_facts
 
 -- what a fault says of the document and of the names in the question: it is refused, or it is read and this came behind that
 abbrev pub IsFaultOf : Limits → (document : Option (List ℕ)) → (names : List (Kind × Iri)) → QuestionFault → Type 0
-IsFaultOf limits document names (Document fault) = RefusesKnown document limits.max_bytes fault
+IsFaultOf limits document names (Document fault) = RefusesKnown limits.version document limits.max_bytes fault
 IsFaultOf limits document names Limit = IsBeyondLimit limits document
 IsFaultOf limits document names (UnknownName name) = LacksName limits document names name.now
-IsFaultOf limits document names Memory = (o : Ontology) × IsReadAs limits.max_bytes document o
+IsFaultOf limits document names Memory = (o : Ontology) × IsReadAs limits.version limits.max_bytes document o
 IsFaultOf limits document names (Expression fault) = ⊥
 
 -- what a fault says of the document and of the text that asks: the document is refused, or it is read and this came behind that
 abbrev pub IsQueryFaultOf : Limits → (document : Option (List ℕ)) → (text : List ℕ) → QuestionFault → Type 0
-IsQueryFaultOf limits document text (Document fault) = RefusesKnown document limits.max_bytes fault
+IsQueryFaultOf limits document text (Document fault) = RefusesKnown limits.version document limits.max_bytes fault
 IsQueryFaultOf limits document text Limit = IsBeyondLimit limits document ⊎ LeavesUnanswered limits document text querying.Limit
 IsQueryFaultOf limits document text (Expression fault) = LeavesUnanswered limits document text (querying.Expression fault)
-IsQueryFaultOf limits document text Memory = (o : Ontology) × IsReadAs limits.max_bytes document o
+IsQueryFaultOf limits document text Memory = (o : Ontology) × IsReadAs limits.version limits.max_bytes document o
 IsQueryFaultOf limits document text (UnknownName name) = ⊥
 
 -- what was read of the document: all of it, where it was read as an ontology; otherwise some of it; and the fault of a source

@@ -1,5 +1,5 @@
 //! A session that grows.
-ghost use Rattle.session.specs.Additions.{IsAddition, IsRefusedAddition, IsWithin};
+ghost use Rattle.session.specs.Additions.{IsAddition, IsRefusedAddition};
 ghost use Rattle.std.specs.Prelude.{◌≡◌, ◌+◌, ◌<◌, ◌≤◌, IfErr, IfNone, IfSome, OnErr, OnOk, length};
 
 use crate::session::Session;
@@ -21,7 +21,7 @@ impl Session {
     }
 
     /// Adds what the text states, axioms and declarations without an `Ontology( .. )` around them, whose names are expanded with the
-    /// prefixes of the document. Nothing is run: each fact stays at its place, and those that something new asks for are pending again.
+    /// prefixes of the document, read in the session's version. Nothing is run: each fact stays at its place, and those that something new asks for are pending again.
     /// Where the text brings nothing new, nothing is pending that was not before.
     ///
     /// # Errors
@@ -40,7 +40,8 @@ impl Session {
             return Err(DocumentFault::TooLarge);
         };
         let (ontology, prefixes) = (&self.ontology, &self.prefixes);
-        let grown = match read_addition(self.alloc, ontology, prefixes, text, self.state) {
+        let (version, state) = (self.version, self.state);
+        let grown = match read_addition(self.alloc, ontology, prefixes, version, text, state) {
             Ok(grown) => grown,
             Err(fault) => return Err(fault),
         };

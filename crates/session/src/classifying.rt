@@ -9,14 +9,15 @@ ghost use Rattle.std.specs.Prelude.{◌+◌, ◌<◌, IfErr, IfOk, IsErrOf};
 
 use crate::opening::run_document;
 use crate::run_fault::RunFault;
+use certificate::Format;
 use classification::{Classification, classified};
 use device::Source;
 use profile::Limits;
 use std::alloc::Global;
 use std::hash::RandomState;
 
-/// The taxonomy, the instances and the certificate of the document that the source gives, in memory, and its counts. Nothing else of
-/// it is kept.
+/// The taxonomy, the instances and the certificate, which is in the format, of the document that the source gives, in memory, and its
+/// counts. Nothing else of it is kept.
 ///
 /// # Errors
 ///
@@ -26,10 +27,11 @@ pub fn classification_of<S: Source>(
     alloc: Global,
     source: &mut S,
     limits: &Limits,
+    format: Format,
     state: RandomState,
 ) -> Result<Classification, RunFault>
     // The texts and the counts are those of the document, or the fault says why there are none; and what was read of the document.
-    ensures classified { IfOk result (λ c. IsClassified limits.now.max_bytes limits.now.max_facts (S.left source.old) c.summary (texts_of c)) }
+    ensures classified { IfOk result (λ c. IsClassified limits.now.version format limits.now.max_bytes limits.now.max_facts (S.left source.old) c.summary (texts_of c)) }
     ensures fault { IfErr result (IsRunFault limits.now (S.left source.old)) }
     // Of a source that does not tell its bytes, too: it gave more than the limit.
     ensures beyond { IsErrOf result (run_faults.Document reading.TooLarge) → S.most source.new + limits.now.max_bytes < S.most source.old }
@@ -39,7 +41,7 @@ pub fn classification_of<S: Source>(
         Ok(finished) => finished,
         Err(fault) => return Err(fault),
     };
-    let made = classified(alloc, &finished.ontology, &finished.saturation);
+    let made = classified(alloc, &finished.ontology, &finished.saturation, format);
     drop(finished);
     match made {
         Ok(made) => Ok(made),

@@ -25,7 +25,7 @@ mod writing;
 
 pub use answering::{explanation_text, instances_text};
 pub use answers::{Asked, Explanation};
-pub use certificate::Line;
+pub use certificate::{Format, Line};
 pub use classification::Summary;
 pub use classifying::classification_of;
 pub use edits::any_edits;
@@ -33,7 +33,7 @@ pub use engine::Stop;
 pub use fault::{AskFault, TextFault};
 pub use form::Form;
 pub use interpretation_spec::Interpretation;
-pub use profile::{DocumentFault, Limits};
+pub use profile::{DocumentFault, Limits, Version};
 pub use queried::query_text;
 pub use query_fault::QueryFault;
 pub use querying::Answers;

@@ -91,13 +91,15 @@ impl Session {
     /// A copy of the ontology with the class expression that the text is, and the expression's number there.
     fn read(&self, text: &str) -> Result<(Ontology, ExprId), DocumentFault>
         ensures within { OnOk result (IsWithin self.now text.now) }
-        ensures read { IfOk result (λ r. IsReadExpression self.now.prefixes text.now self.now.ontology r.0 r.1.0) }
+        ensures read { IfOk result (λ r. IsReadExpression self.now.version self.now.prefixes text.now self.now.ontology r.0 r.1.0) }
         ensures refused { IfErr result (RefusesText (as_read self.now) self.now.most_bytes text.now) }
     {
         if self.bytes_with(text).is_none() {
             return Err(DocumentFault::TooLarge);
         }
-        read_expression(self.alloc, &self.ontology, &self.prefixes, text, self.state)
+        let (ontology, prefixes) = (&self.ontology, &self.prefixes);
+        let (version, state) = (self.version, self.state);
+        read_expression(self.alloc, ontology, prefixes, version, text, state)
     }
 
     /// The names that the expression has, by which the ontology has grown.
@@ -108,7 +110,7 @@ impl Session {
         max_facts: u32,
     ) -> Result<Answers<'s>, Stop>
         requires finished { IsFinished self.now.saturation }
-        requires read { (text : List ℕ) × IsReadExpression self.now.prefixes text self.now.ontology grown.now expr.0 }
+        requires read { (text : List ℕ) × IsReadExpression self.now.version self.now.prefixes text self.now.ontology grown.now expr.0 }
         ensures exact { IfOk result (λ a. AreAnswersFor grown.now (expression grown.now expr.0) (names_in a)) }
         ensures few { OnOk result (HasNoMoreFactsThan grown.now (expr.0 ∷ []) max_facts) }
         ensures limit { result ≡ Err stops.Limit → HasMoreFactsThan grown.now (expr.0 ∷ []) max_facts }

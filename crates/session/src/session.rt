@@ -11,7 +11,7 @@ use axioms::Ontology;
 use device::Source;
 use engine::{Saturation, Stop};
 use fs_parser::Prefixes;
-use profile::{DocumentFault, Limits, Opened, read_opened};
+use profile::{DocumentFault, Limits, Opened, Version, read_opened};
 use std::alloc::Global;
 use std::hash::RandomState;
 use std::marker::Model;
@@ -27,6 +27,8 @@ pub struct Session {
     // Of the document and of all that was added.
     pub(crate) bytes: usize,
     pub(crate) most_bytes: u64,
+    // In which texts are read.
+    pub(crate) version: Version,
 }
 
 impl Model for Session {
@@ -35,9 +37,9 @@ impl Model for Session {
 
     ghost Value = { model.Opened };
 
-    ghost view = { λ s. record { ontology = s.ontology; prefixes = s.prefixes; saturation = s.saturation; bytes = s.bytes; most_bytes = s.most_bytes } };
+    ghost view = { λ s. record { ontology = s.ontology; prefixes = s.prefixes; saturation = s.saturation; bytes = s.bytes; most_bytes = s.most_bytes; version = s.version } };
 
-    ghost invariant = { λ s. IsOpen (record { ontology = s.ontology; prefixes = s.prefixes; saturation = s.saturation; bytes = s.bytes; most_bytes = s.most_bytes }) };
+    ghost invariant = { λ s. IsOpen (record { ontology = s.ontology; prefixes = s.prefixes; saturation = s.saturation; bytes = s.bytes; most_bytes = s.most_bytes; version = s.version }) };
 }
 
 /// A session over what was read, with nothing run.
@@ -58,6 +60,7 @@ fn begun(
         ontology,
         prefixes,
         bytes,
+        version,
     } = opened;
     match Saturation::start(alloc, state, &ontology) {
         Ok(saturation) => Ok(Session {
@@ -68,6 +71,7 @@ fn begun(
             saturation,
             bytes,
             most_bytes,
+            version,
         }),
         Err(_) => {
             drop(ontology);
@@ -78,8 +82,8 @@ fn begun(
 }
 
 impl Session {
-    /// A session over the document that the source gives, within the limit of bytes, which is one for all that is added, too. Nothing
-    /// is run.
+    /// A session over the document that the source gives, within the limit of bytes, which is one for all that is added, too. All texts
+    /// are read in the version of the limits. Nothing is run.
     ///
     /// What was read of the source by then is lost where the answer is a fault.
     ///
@@ -93,15 +97,16 @@ impl Session {
         state: RandomState,
     ) -> Result<Session, DocumentFault>
         // The source's bytes read as the ontology; or they are refused, or too many, or the source failed in this call.
-        ensures read { IfOk result (λ s. ReadsKnown (S.left source.old) limits.now.max_bytes s.ontology) }
+        ensures read { IfOk result (λ s. ReadsKnown limits.now.version (S.left source.old) limits.now.max_bytes s.ontology) }
         ensures taken { IfOk result (λ s. IsTaken s.ontology) }
         ensures axioms { IfOk result (λ s. length s.ontology.axioms ≤ limits.now.max_bytes) }
         ensures unserved { IfOk result (λ s. s.saturation.state.served ≡ []) }
-        // So it has the prefixes of the document, and as many bytes; and the limit is that of the call.
-        ensures opened { IfOk result (λ s. OpensKnown (S.left source.old) limits.now.max_bytes (as_read s)) }
+        // So it has the prefixes of the document, and as many bytes; and the limit and the version are those of the call.
+        ensures opened { IfOk result (λ s. OpensKnown limits.now.version (S.left source.old) limits.now.max_bytes (as_read s)) }
         ensures bytes { IfOk result (λ s. S.most source.new + s.bytes ≡ S.most source.old) }
         ensures limit { IfOk result (λ s. s.most_bytes ≡ limits.now.max_bytes) }
-        ensures refused { IfErr result (RefusesKnown (S.left source.old) limits.now.max_bytes) }
+        ensures version { IfOk result (λ s. s.version ≡ limits.now.version) }
+        ensures refused { IfErr result (RefusesKnown limits.now.version (S.left source.old) limits.now.max_bytes) }
         // Of a source that does not tell its bytes, too: it gave more than the limit.
         ensures beyond { IsErrOf result DocumentFault.TooLarge → S.most source.new + limits.now.max_bytes < S.most source.old }
         // What was read of the source, and whether a read failed.

@@ -6,26 +6,27 @@ ghost use Rattle.std.specs.Prelude.{IfErr, IfOk};
 use crate::fault::TextFault;
 use crate::session::Session;
 use crate::writing::write_texts;
+use certificate::Format;
 use classification::{Classification, Summary, classified};
 use device::Sink;
 
 impl Session {
-    /// The three texts and the counts.
-    fn made(&self) -> Result<Classification, TextFault>
-        ensures made { IfOk result (λ c. IsMade self.now c.summary (texts_of c)) }
+    /// The three texts, with a certificate in the format, and the counts.
+    fn made(&self, format: Format) -> Result<Classification, TextFault>
+        ensures made { IfOk result (λ c. IsMade self.now format c.summary (texts_of c)) }
         ensures unmade { IfErr result (IsUnmade self.now) }
     {
         if !self.saturation.is_finished() {
             return Err(TextFault::Unfinished);
         }
-        match classified(self.alloc, &self.ontology, &self.saturation) {
+        match classified(self.alloc, &self.ontology, &self.saturation, format) {
             Ok(made) => Ok(made),
             Err(_) => Err(TextFault::Memory),
         }
     }
 
-    /// Writes the taxonomy, the instances and the certificate, in this order, and gives the counts. All three are made in memory
-    /// before anything is written.
+    /// Writes the taxonomy, the instances and the certificate, which is in the format, in this order, and gives the counts. All three
+    /// are made in memory before anything is written.
     ///
     /// # Errors
     ///
@@ -36,13 +37,14 @@ impl Session {
         taxonomy: &mut T,
         instances: &mut I,
         certificate: &mut C,
+        format: Format,
     ) -> Result<Summary, TextFault>
         // What the answer says of the session, and what each sink has taken; a sink is named only where it failed.
-        ensures written { Writes T.Sink I.Sink C.Sink self.now
+        ensures written { Writes T.Sink I.Sink C.Sink self.now format
             (taxonomy.old, instances.old, certificate.old) (taxonomy.new, instances.new, certificate.new) result }
         ensures paths { KeepPaths T.Sink I.Sink C.Sink (taxonomy.old, instances.old, certificate.old) (taxonomy.new, instances.new, certificate.new) }
     {
-        let made = match self.made() {
+        let made = match self.made(format) {
             Ok(made) => made,
             Err(fault) => return Err(fault),
         };

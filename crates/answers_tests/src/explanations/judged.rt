@@ -8,7 +8,7 @@ ghost use Rattle.std.specs.Prelude.{List, ℕ};
 use answers::{Asked, Explanation};
 use axioms::{ClassId, IndId, Memory, Ontology};
 use cert_check::{Reason, Verdict, check};
-use certificate::{Certificate, Line, certificate_bytes};
+use certificate::{Certificate, Format, Line, certificate_bytes};
 use interpretation_spec::Interpretation;
 use std::alloc::Global;
 
@@ -16,7 +16,7 @@ use std::alloc::Global;
 /// contradiction.
 fn verdict_on(alloc: Global, ontology: &Ontology, lines: Vec<Line>) -> Option<Verdict> {
     let certificate = Certificate::new(ontology, lines, None).ok()?;
-    let text = certificate_bytes(alloc, &certificate).ok()?;
+    let text = certificate_bytes(alloc, &certificate, Format::Two).ok()?;
     let taxonomy = b"eltax 1 inconsistent\n";
     let instances = b"elinst 1 inconsistent\n";
     check(alloc, ontology, taxonomy, instances, &text).ok()

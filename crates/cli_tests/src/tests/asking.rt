@@ -7,6 +7,9 @@ const SUBCLASS: &str = "Prefix(:=<x:>) Ontology(SubClassOf(:A :B))";
 const INDIVIDUALS: &str =
     "Prefix(:=<x:>) Ontology(SubClassOf(:A :B) ClassAssertion(:A :a) ObjectPropertyAssertion(:r :a :b) ObjectPropertyDomain(:r :C) Declaration(NamedIndividual(:c)))";
 
+const SAME: &str =
+    "Prefix(:=<x:>) Ontology(SameIndividual(:a :b) ClassAssertion(:A :a) ClassAssertion(:B :b))";
+
 const REFLEXIVE: &str =
     "Prefix(:=<x:>) Ontology(ReflexiveObjectProperty(:q) SubObjectPropertyOf(:q :p) EquivalentClasses(:B ObjectSomeValuesFrom(:p :A)))";
 
@@ -51,6 +54,20 @@ const MEMBERS: &[Row] = &[
         words: &["elc", "instances", "doc", "x:B"],
         status: 0,
         text: "",
+    },
+    Row {
+        case: "individuals that are one",
+        document: SAME,
+        words: &["elc", "instances", "doc", "x:A"],
+        status: 0,
+        text: "<x:a>\n<x:b>\n",
+    },
+    Row {
+        case: "individuals that are one, in the first version",
+        document: SAME,
+        words: &["elc", "instances", "doc", "x:A", "--profile", "1"],
+        status: 3,
+        text: "F1 at byte 24: SameIndividual\n",
     },
     Row {
         case: "as many facts as the limit",
@@ -140,6 +157,28 @@ const REASONS: &[Row] = &[
         text: "yes\n1. sub individual <x:a> <x:A> by K15 axiom 2\n",
     },
     Row {
+        case: "an individual that is another",
+        document: SAME,
+        words: &["elc", "explain", "doc", "x:b", "x:A", "--individual"],
+        status: 0,
+        text: "yes\n1. sub individual <x:a> <x:A> by K15 axiom 2\n2. same individual <x:b> individual <x:a> by K17 axiom 1\n3. sub individual <x:b> <x:A> by K19 from 2, 1\n",
+    },
+    Row {
+        case: "an individual that is another, in the first version",
+        document: SAME,
+        words: &[
+            "elc",
+            "explain",
+            "doc",
+            "x:b",
+            "x:A",
+            "--individual",
+            "--profile=1",
+        ],
+        status: 3,
+        text: "F1 at byte 24: SameIndividual\n",
+    },
+    Row {
         case: "an individual is no class",
         document: INDIVIDUALS,
         words: &["elc", "explain", "doc", "x:a", "x:A"],
@@ -204,6 +243,41 @@ const QUERIES: &[Row] = &[
         words: &["elc", "query", "doc", "ObjectSomeValuesFrom(:r owl:Thing)"],
         status: 0,
         text: "super <http://www.w3.org/2002/07/owl#Thing>\nsuper <x:C>\nsub <http://www.w3.org/2002/07/owl#Nothing>\ninstance <x:a>\n",
+    },
+    Row {
+        case: "individuals that are one",
+        document: SAME,
+        words: &[
+            "elc",
+            "query",
+            "doc",
+            "ObjectIntersectionOf(:A :B)",
+            "--profile",
+            "2",
+        ],
+        status: 0,
+        text: "super <http://www.w3.org/2002/07/owl#Thing>\nsuper <x:A>\nsuper <x:B>\nsub <http://www.w3.org/2002/07/owl#Nothing>\ninstance <x:a>\ninstance <x:b>\n",
+    },
+    Row {
+        case: "an axiom is no expression",
+        document: SAME,
+        words: &["elc", "query", "doc", "SameIndividual(:a :b)"],
+        status: 3,
+        text: "F3 at byte 0\n",
+    },
+    Row {
+        case: "an axiom that the first version refuses is that where an expression stands, too",
+        document: INDIVIDUALS,
+        words: &[
+            "elc",
+            "query",
+            "--profile",
+            "1",
+            "doc",
+            "SameIndividual(:a :b)",
+        ],
+        status: 3,
+        text: "F1 at byte 0: SameIndividual\n",
     },
     Row {
         case: "all names where the axioms contradict each other",

@@ -1,7 +1,7 @@
 //! Certificates made by hand, of documents with individuals and disjoint classes, checked through whole runs.
 
 use super::*;
-use cli::{CheckFault, Limits, Verdict, check_document};
+use cli::{CheckFault, Limits, Verdict, Version, check_document};
 use device::SliceSource;
 
 const CONTRADICTION: &[u8] =
@@ -21,6 +21,7 @@ const MEMBER_LINES: &str =
 const LIMITS: Limits = Limits {
     max_bytes: 1000,
     max_facts: 1,
+    version: Version::Two,
 };
 
 /// Whether the checker accepts these texts of the document.
@@ -43,7 +44,7 @@ fn is_accepted<R: AllocGlobal + RandomSource>(
 }
 
 /// Whether a run that checks these texts of the document prints this, and the checker accepts them where the status is 0.
-fn is_checked_to<R: AllocGlobal + RandomSource>(
+pub(super) fn is_checked_to<R: AllocGlobal + RandomSource>(
     rt: &R,
     document: &[u8],
     (taxonomy, instances): (&str, &str),

@@ -3,10 +3,11 @@
 mod devices;
 
 use super::checking::{ONE_CERTIFICATE, changed};
+use super::formats::changed_to_two;
 use super::*;
 use cli::{
-    CheckFault, ClassifyFault, DocumentFault, Limits, Reason, Summary, Verdict, check_document,
-    classify_document,
+    CheckFault, ClassifyFault, ConversionFault, ConvertFault, DocumentFault, Format, Limits,
+    Reason, Summary, Verdict, Version, check_document, classify_document, convert_certificate,
 };
 use device::SliceSource;
 use devices::FailingFiles;
@@ -36,6 +37,7 @@ fn source_at<'a>(
 const LIMITS: Limits = Limits {
     max_bytes: 33,
     max_facts: 8,
+    version: Version::Two,
 };
 
 /// The place of no device.
@@ -61,6 +63,7 @@ fn classified<R: AllocGlobal + RandomSource>(
         &mut instances,
         &mut certificate,
         &LIMITS,
+        Format::Two,
         state,
     );
     let answer = match classified {
@@ -340,7 +343,7 @@ fn is_run_told_before_the_failure<R: AllocGlobal + RandomSource>(
 /// A part of the certificate of one subclass axiom, what stands in its place so that its line cannot follow those before it, in how
 /// many reads the bytes up to the end of this line are given, and where it begins.
 const BAD_LINES: &[(&str, &str, usize, usize)] = &[
-    ("elcert 1", "elcert 2", 3, 0),
+    ("elcert 1", "elcert 3", 3, 0),
     ("claim e3 2", "claim e3 3", 26, 171),
 ];
 
@@ -383,4 +386,60 @@ fn fail_each_read_of_the_document<R: AllocGlobal + Abort + RandomSource>(
 fn a_document_that_fails(rt: HostRuntime) -> Result<(), Fail> {
     let (_answer, whole) = classified(&rt, NOWHERE, 0)?;
     fail_each_read_of_the_document(&rt, &whole)
+}
+
+/// What a conversion of that certificate to format 2 answers where the device at a place fails after some calls, and what its
+/// sink has taken. A fault is given as the place of the device that it names: 0 is the document's, 1 the certificate's, 2 the sink's.
+fn converted<R: AllocGlobal + RandomSource>(
+    rt: &R,
+    failing: usize,
+    calls: usize,
+) -> Result<(Result<(), usize>, Vec<u8>), Fail> {
+    let mut document = source_at(ONE_DOCUMENT, 0, failing, calls);
+    let mut certificate = source_at(ONE_CERTIFICATE.as_bytes(), 1, failing, calls);
+    let mut sink = sink_at(rt.alloc(), 2, failing, calls);
+    let converted = convert_certificate(
+        rt.alloc(),
+        &mut document,
+        &mut certificate,
+        &mut sink,
+        &LIMITS,
+        Format::Two,
+        RandomState::new(rt)?,
+    );
+    let answer = match converted {
+        Ok(()) => Ok(()),
+        Err(ConversionFault::Document(DocumentFault::Io)) => Err(0),
+        Err(ConversionFault::Unread) => Err(1),
+        Err(ConversionFault::Certificate(ConvertFault::Io)) => Err(2),
+        Err(_) => Err(NOWHERE),
+    };
+    Ok((answer, sink.inner.into_bytes()))
+}
+
+/// Places, how many calls the device there answers in a conversion, and how many bytes are written then.
+const CONVERTING: &[(usize, usize, usize)] = &[
+    (0, 0, 0),
+    (0, 5, 0),
+    (1, 0, 0),
+    (1, 27, 0),
+    (2, 0, 0),
+    (2, 185, 185),
+];
+
+#[test]
+fn a_conversion_whose_devices_fail(rt: HostRuntime) -> Result<(), Fail> {
+    let whole = changed_to_two(rt.alloc())?;
+    let (answer, taken) = converted(&rt, NOWHERE, 0)?;
+    assert!(rt; answer == Ok(()) && taken.as_slice() == whole.as_bytes());
+    for row in CONVERTING {
+        let (place, calls, written) = *row;
+        let (answer, taken) = converted(&rt, place, calls)?;
+        assert!(rt; answer == Err(place), "{place} at {calls}");
+        assert!(rt;
+            taken.len() == written && whole.as_bytes().starts_with(&taken),
+            "{place} at {calls}"
+        );
+    }
+    Ok(())
 }

@@ -2,7 +2,7 @@
 //!
 //! The test holds whichever one allocation of it is refused; where none is, it holds, too.
 
-use cli::{ClassifyFault, DocumentFault, Limits, Summary, classify_document};
+use cli::{ClassifyFault, DocumentFault, Format, Limits, Summary, Version, classify_document};
 use device::{SliceSource, WriterSink};
 use std::alloc::Global;
 use std::hash::RandomState;
@@ -54,11 +54,24 @@ const ROWS: &[Row] = &[
             facts: 17,
         },
     },
+    Row {
+        case: "same_individuals",
+        document: "Prefix(:=<x:>) Ontology(SameIndividual(:a :b) ClassAssertion(:A :a) ClassAssertion(:B :b))",
+        taxonomy: "eltax 1 consistent\n<http://www.w3.org/2002/07/owl#Thing>\n<x:A> < <http://www.w3.org/2002/07/owl#Thing>\n<x:B> < <http://www.w3.org/2002/07/owl#Thing>\nbottom <http://www.w3.org/2002/07/owl#Nothing>\n",
+        instances: "elinst 1 consistent\n<x:a> : <x:A> , <x:B>\n<x:b> : <x:A> , <x:B>\n",
+        counts: Summary {
+            consistent: true,
+            classes: 4,
+            individuals: 2,
+            facts: 13,
+        },
+    },
 ];
 
 const LIMITS: Limits = Limits {
     max_bytes: 1000,
     max_facts: 1000,
+    version: Version::Two,
 };
 
 /// Room for each of the three texts, which takes no memory that could be refused. What no text took is 0.
@@ -95,6 +108,7 @@ fn classify(
         &mut instances,
         &mut certificate,
         &LIMITS,
+        Format::Two,
         state,
     )
 }
@@ -116,7 +130,7 @@ fn is_empty(room: &Room) -> bool {
 fn has_texts(room: &Room, row: &Row) -> bool {
     has(&room.taxonomy, row.taxonomy)
         && has(&room.instances, row.instances)
-        && room.certificate.starts_with(b"elcert 1 ".as_slice())
+        && room.certificate.starts_with(b"elcert 2 ".as_slice())
 }
 
 /// Whether the texts of the row are written there; or nothing, with no more said than that, where memory was refused.

@@ -212,6 +212,42 @@ const WORKED: &[(&str, &str, (&str, &str, &str))] = &[
             "inconsistent classes 4 individuals 0 facts 11\n",
         ),
     ),
+    (
+        "same_individuals",
+        "Prefix(:=<x:>) Ontology(SameIndividual(:a :b) ClassAssertion(:A :a) ClassAssertion(:B :b))",
+        (
+            "eltax 1 consistent/T/<x:A> < T/<x:B> < T/bottom N/",
+            "elinst 1 consistent/<x:a> : <x:A> , <x:B>/<x:b> : <x:A> , <x:B>/",
+            "consistent classes 4 individuals 2 facts 13\n",
+        ),
+    ),
+    (
+        "same_and_different",
+        "Prefix(:=<x:>) Ontology(SameIndividual(:a :b) DifferentIndividuals(:b :a))",
+        (
+            "eltax 1 inconsistent/",
+            "elinst 1 inconsistent/",
+            "inconsistent classes 2 individuals 2 facts 7\n",
+        ),
+    ),
+    (
+        "denied_by_way_of_same",
+        "Prefix(:=<x:>) Ontology(SameIndividual(:b :c) ObjectPropertyAssertion(:r :a :b) SubObjectPropertyOf(:r :s) NegativeObjectPropertyAssertion(:s :a :c))",
+        (
+            "eltax 1 inconsistent/",
+            "elinst 1 inconsistent/",
+            "inconsistent classes 2 individuals 3 facts 9\n",
+        ),
+    ),
+    (
+        "different_and_denied",
+        "Prefix(:=<x:>) Ontology(DifferentIndividuals(:a :b) NegativeObjectPropertyAssertion(:r :a :b))",
+        (
+            "eltax 1 consistent/T/bottom N/",
+            "elinst 1 consistent/<x:a> : T/<x:b> : T/",
+            "consistent classes 2 individuals 2 facts 5\n",
+        ),
+    ),
 ];
 
 #[test]

@@ -4,8 +4,8 @@ use super::acts::Act;
 use super::{fits, in_any_order, with_each_push_refused};
 use crate::adding::add;
 use crate::individuals::{
-    DENIAL_ADDED, DENIED_FROM_BELOW, DIFFERENT_ADDED, DIFFERENT_MADE_SAME, EDGE_IN_A_NEW_GROUP,
-    GROUPS_JOINED, INDIVIDUALS, SAME_ADDED, SAME_STATED_AGAIN,
+    DENIED_BY_WAY_OF_SAME, DENIED_FROM_BELOW, DIFFERENT_ADDED, DIFFERENT_MADE_SAME,
+    EDGE_IN_A_NEW_GROUP, GROUPS_JOINED, INDIVIDUALS, SAME_ADDED, SAME_STATED_AGAIN,
 };
 use crate::problems::Problem;
 use axioms::Memory;
@@ -111,7 +111,7 @@ const ADDITIONS: &[(&Problem, &[Act])] = &[
     ),
     // The edge that is denied by way of the one above it.
     (
-        &DENIAL_ADDED,
+        &DENIED_BY_WAY_OF_SAME,
         &[
             Act::Extend(3, 5),
             Act::Run,

@@ -5,12 +5,12 @@ use Rattle.classification.proofs.Writing.{derivation_has_text}
 use Rattle.classification.proofs.classification.certificate_of_closure.Goals as goal
 
 pub returns : goal.returns
-returns c =
+returns g c =
     let o = c.args.ontology.now in
     let lines = c.in_ok-lines.lines in
     let is = c.in_ok-text.ensures in
     let listed = Some is.listed in
-    let has_text = derivation_has_text o c.bounded.ensures lines listed c.in_ok-lines.ensures.derivation c.bounded-2.ensures is.within is.numbers in
+    let has_text = derivation_has_text o c.bounded.ensures g.F.FormatType.format lines listed c.in_ok-lines.ensures.derivation c.bounded-2.ensures is.within is.numbers in
     record {
       certificate = record { lines = lines; listed = listed };
       text_of = record { has_text = has_text; spelled = is.spelled };

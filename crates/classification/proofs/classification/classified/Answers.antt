@@ -27,8 +27,7 @@ returns-clause-texts c = rw (c.counted.ensures.consistent) c.in_ok-taxonomy.ensu
 pub returns-clause-acceptable : goal.returns-clause-acceptable
 returns-clause-acceptable c =
     let made = c.in_ok-certificate.ensures in
-    acceptable c.args.ontology.now c.well_formed-2.ensures c.is_consistent-consistent.result made.certificate made.text_of.has_text made.derivation made.shown _ _ _
-    c.in_ok-taxonomy.ensures made.text_of.spelled
+    acceptable c.args.ontology.now c.well_formed-2.ensures c.is_consistent-consistent.result made.certificate _ _ _ (c.args.format, made.text_of) made.derivation made.shown c.in_ok-taxonomy.ensures
 
 -- acceptable texts are right
 right_where_acceptable : (o : Ontology) → IsOntology o → (taxonomy instances text : List ℕ) → IsAcceptable o taxonomy instances text → AreRight o taxonomy instances text
@@ -39,5 +38,7 @@ pub returns-clause-right : goal.returns-clause-right
 returns-clause-right c =
     let made = c.in_ok-certificate.ensures in
     right_where_acceptable c.args.ontology.now c.well_formed-2.ensures _ _ _
-    (acceptable c.args.ontology.now c.well_formed-2.ensures c.is_consistent-consistent.result made.certificate made.text_of.has_text made.derivation made.shown _ _ _
-    c.in_ok-taxonomy.ensures made.text_of.spelled)
+    (acceptable c.args.ontology.now c.well_formed-2.ensures c.is_consistent-consistent.result made.certificate _ _ _ (c.args.format, made.text_of) made.derivation made.shown c.in_ok-taxonomy.ensures)
+
+pub returns-clause-written : goal.returns-clause-written
+returns-clause-written c = (c.in_ok-certificate.ensures.certificate, c.in_ok-certificate.ensures.text_of)

@@ -21,7 +21,7 @@ returns-in-Ok-clause-blames g c =
     (λ e. g.met.F.Files.unfailing e before) (λ e. g.met.F.Files.unfailing e after) c.query_text.ensures.read
 
 pub returns-in-Err-clause-fault : goal.returns-in-Err-clause-fault
-returns-in-Err-clause-fault g c = unopened_is_refused (g.F.Files.is_known c.args.files.now) _ c.args.limits.now.max_bytes c.in-Err.fault c.in-Err.ensures.fault
+returns-in-Err-clause-fault g c = unopened_is_refused c.args.limits.now.version (g.F.Files.is_known c.args.files.now) _ c.args.limits.now.max_bytes c.in-Err.fault c.in-Err.ensures.fault
 
 pub returns-in-Err-clause-blames : goal.returns-in-Err-clause-blames
 returns-in-Err-clause-blames g c = unopened_is_blamed g.F.Files.reads_fail (g.F.Files.is_known c.args.files.now) _ c.in-Err.fault c.in-Err.ensures.fault

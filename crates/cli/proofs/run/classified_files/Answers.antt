@@ -12,7 +12,7 @@ pub returns-in-Err : goal.returns-in-Err
 returns-in-Err g c =
     let known = g.F.Files.is_known c.args.files.now in
     record {
-      answered = (unopened_is_refused known _ c.args.limits.now.max_bytes c.in-Err.fault c.in-Err.ensures.fault, λ path. stays known _ _ refl);
+      answered = (unopened_is_refused c.args.limits.now.version known _ c.args.limits.now.max_bytes c.in-Err.fault c.in-Err.ensures.fault, λ path. stays known _ _ refl);
       blames = (unopened_is_blamed g.F.Files.reads_fail known _ c.in-Err.fault c.in-Err.ensures.fault, refl);
       others = λ path no_taxonomy no_instances no_certificate. refl;
     }
@@ -21,7 +21,7 @@ pub returns-in_default : goal.returns-in_default
 returns-in_default g c =
     let known = g.F.Files.is_known c.args.files.now in
     record {
-      answered = (refused_memory _ _, λ path. stays known _ _ (c.sinks_of.ensures.kept path));
+      answered = (refused_memory _ _ _, λ path. stays known _ _ (c.sinks_of.ensures.kept path));
       blames = (tt, c.sinks_of.ensures.unfailed);
       others = λ path no_taxonomy no_instances no_certificate. c.sinks_of.ensures.kept path;
     }
@@ -30,6 +30,7 @@ pub returns : goal.returns
 returns g c =
     let paths = c.args.paths.now in
     let limits = c.args.limits.now in
+    let format = c.args.format in
     let files = g.F.Files in
     let known = files.is_known c.args.files.now in
     let content = files.content c.args.files.now in
@@ -69,8 +70,8 @@ returns g c =
     let state : SourceState = record { left = source.left before; most = source.most before; failures = source.failures before } in
     let state' : SourceState = record { left = source.left after.source; most = source.most after.source; failures = source.failures after.source } in
     record {
-      answered = classify_answer paths limits.max_facts limits.max_bytes known content content' (source.left before) old_sinks new_sinks call.result c.in-Ok.ensures.left are_new call.ensures.answered closed;
-      blames = classifies_file store limits.max_facts limits.max_bytes (content paths.document.now) (source.left before) call.result state state' old_sinks new_sinks c.in-Ok.ensures.there
+      answered = classify_answer paths format limits known content content' (source.left before) old_sinks new_sinks call.result c.in-Ok.ensures.left are_new call.ensures.answered closed;
+      blames = classifies_file store limits.version format limits.max_facts limits.max_bytes (content paths.document.now) (source.left before) call.result state state' old_sinks new_sinks c.in-Ok.ensures.there
           (λ e. g.met.F.Files.unfailing e before) (λ e. g.met.F.Files.unfailing e after.source) are_working counted call.ensures.read call.ensures.answered;
       others = others_kept paths _ _ _ content content' closed;
     }

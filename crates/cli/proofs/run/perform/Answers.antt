@@ -1,5 +1,5 @@
-use Rattle.std.proofs.Common.{inl, subst, sym}
-use Rattle.cli.specs.Runs.{Runs}
+use Rattle.std.proofs.Common.{◌≡◌, ◌∙◌, true, false, ap, inl, subst, sym}
+use Rattle.cli.specs.Runs.{Runs, writes_files}
 use Rattle.command_line.specs.declared.tasks.Command.{Command}
 use Rattle.cli.proofs.run.perform.Goals as goal
 
@@ -11,7 +11,9 @@ returns-in-Classify-clause-performed g c =
     inl (task, c.in-Ok.ensures.asked, subst P (sym c.in-Classify.is) call.ensures)
 
 pub returns-in-Classify-clause-untouched : goal.returns-in-Classify-clause-untouched
-returns-in-Classify-clause-untouched g c none = absurd (none c.in-Ok.task c.in-Classify.paths c.in-Ok.ensures.asked c.in-Classify.is)
+returns-in-Classify-clause-untouched g c none =
+    let bad : true ≡ false = sym (ap writes_files c.in-Classify.is) ∙ none c.in-Ok.task c.in-Ok.ensures.asked in
+    absurd (cc)
 
 pub returns-in-Check-clause-performed : goal.returns-in-Check-clause-performed
 returns-in-Check-clause-performed g c =
@@ -40,3 +42,15 @@ returns-in-Query-clause-performed g c =
     let call = c.perform_query in
     let P : Command → Type 0 = λ command. Runs g.F.Files g.O.Sink g.E.Sink command task.limits (c.args.files.now, c.args.out.now, c.args.err.now) (c.args.files.now, call.new.out, call.new.err) call.result in
     inl (task, c.in-Ok.ensures.asked, subst P (sym c.in-Query.is) call.ensures)
+
+pub returns-in-Convert-clause-performed : goal.returns-in-Convert-clause-performed
+returns-in-Convert-clause-performed g c =
+    let task = c.in-Ok.task in
+    let call = c.perform_convert in
+    let P : Command → Type 0 = λ command. Runs g.F.Files g.O.Sink g.E.Sink command task.limits (c.args.files.now, c.args.out.now, c.args.err.now) (call.new.files, call.new.out, call.new.err) call.result in
+    inl (task, c.in-Ok.ensures.asked, subst P (sym c.in-Convert.is) call.ensures)
+
+pub returns-in-Convert-clause-untouched : goal.returns-in-Convert-clause-untouched
+returns-in-Convert-clause-untouched g c none =
+    let bad : true ≡ false = sym (ap writes_files c.in-Convert.is) ∙ none c.in-Ok.task c.in-Ok.ensures.asked in
+    absurd (cc)

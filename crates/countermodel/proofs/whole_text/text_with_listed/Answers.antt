@@ -9,10 +9,10 @@ use Rattle.countermodel.proofs.SpelledWhole.{whole_text}
 use Rattle.countermodel.proofs.whole_text.text_with_listed.Goals as goal
 
 pub individual_elements-requires : goal.individual_elements-requires
-individual_elements-requires c = (c.args.saturation.now.normal.asked, c.in_ok-groups.ensures c.args.ontology.now c.requires.saturated, c.in_ok-elements.ensures, c.requires.consistent)
+individual_elements-requires g c = (c.args.saturation.now.normal.asked, c.in_ok-groups.ensures c.args.ontology.now c.requires.saturated, c.in_ok-elements.ensures, c.requires.consistent)
 
 pub returns : goal.returns
-returns c =
+returns g c =
     let o = c.args.ontology.now in
     let asked = c.args.saturation.now.normal.asked in
     let elements = c.in_ok-elements.elements in
@@ -21,10 +21,10 @@ returns c =
     let claims = c.in_ok-claims.claims.items in
     let ended = λ (ns : List ℕ) (ks : List Claim). with_pairs ++ flat_map individual_text (enumerate_from 0 ns) ++ flat_map claim_text (map claim_of ks) ++ codes "end\n" in
     IfOk-weaker c.end.result _ _
-    (λ v spelled. whole_text o asked c.well_formed-2.ensures c.bounded.ensures c.requires.consistent elements c.in_ok-elements.ensures (subst (λ n. n < 2 ^ 32) c.len.ensures c.len.type_inv) c.args.lines v.items
+    (λ v spelled. whole_text o asked c.well_formed-2.ensures c.bounded.ensures c.requires.consistent elements c.in_ok-elements.ensures (subst (λ n. n < 2 ^ 32) c.len.ensures c.len.type_inv) g.F.FormatType.format c.args.lines v.items
     (record {
       begun = c.in_ok-text.text;
-      prefix = c.in_ok-text.ensures ∙ ap (text_to_domain c.args.lines) c.len.ensures;
+      prefix = c.in_ok-text.ensures ∙ ap (text_to_domain g.F.FormatType.format c.args.lines) c.len.ensures;
       with_classes = c.add_class_rows.new.rows;
       classes = c.in_ok-add_class_rows.ensures;
       with_pairs = with_pairs;

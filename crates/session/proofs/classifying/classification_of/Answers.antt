@@ -18,4 +18,5 @@ returns-in-Ok-made-clause-classified g c =
       texts_are = is.texts;
       acceptable = is.acceptable;
       right = is.right;
+      written = is.written;
     }

@@ -11,8 +11,9 @@ pub returns-in-Ok-clause-read : goal.returns-in-Ok-clause-read
 returns-in-Ok-clause-read g c =
     let left = g.S.Source.left c.args.source.now in
     let most = c.args.limits.now.max_bytes in
-    let P : Opened → Type 0 = λ d. ReadsKnown left most d.ontology in
-    of_read P c.in-Ok.opened c.begun.result (opened_read left most c.in-Ok.opened c.in-Ok.ensures.read) c.begun.ensures.read
+    let version = c.args.limits.now.version in
+    let P : Opened → Type 0 = λ d. ReadsKnown version left most d.ontology in
+    of_read P c.in-Ok.opened c.begun.result (opened_read version left most c.in-Ok.opened c.in-Ok.ensures.read) c.begun.ensures.read
 
 pub returns-in-Ok-clause-taken : goal.returns-in-Ok-clause-taken
 returns-in-Ok-clause-taken g c =
@@ -26,7 +27,7 @@ returns-in-Ok-clause-axioms g c =
 
 pub returns-in-Ok-clause-opened : goal.returns-in-Ok-clause-opened
 returns-in-Ok-clause-opened g c =
-    let P : Opened → Type 0 = OpensKnown (g.S.Source.left c.args.source.now) c.args.limits.now.max_bytes in
+    let P : Opened → Type 0 = OpensKnown c.args.limits.now.version (g.S.Source.left c.args.source.now) c.args.limits.now.max_bytes in
     of_read P c.in-Ok.opened c.begun.result c.in-Ok.ensures.read c.begun.ensures.read
 
 pub returns-in-Ok-clause-bytes : goal.returns-in-Ok-clause-bytes
@@ -34,8 +35,13 @@ returns-in-Ok-clause-bytes g c =
     let P : Opened → Type 0 = λ d. g.S.Source.most c.read_opened.new.source + d.bytes ≡ g.S.Source.most c.args.source.now in
     of_read P c.in-Ok.opened c.begun.result c.in-Ok.ensures.bytes c.begun.ensures.read
 
+pub returns-in-Ok-clause-version : goal.returns-in-Ok-clause-version
+returns-in-Ok-clause-version g c =
+    let P : Opened → Type 0 = λ d. d.version ≡ c.args.limits.now.version in
+    of_read P c.in-Ok.opened c.begun.result c.in-Ok.ensures.version c.begun.ensures.read
+
 pub returns-in-Ok-clause-refused : goal.returns-in-Ok-clause-refused
-returns-in-Ok-clause-refused g c = for_memory _ _ c.begun.result c.begun.ensures.memory
+returns-in-Ok-clause-refused g c = for_memory _ _ _ c.begun.result c.begun.ensures.memory
 
 pub returns-in-Ok-clause-end : goal.returns-in-Ok-clause-end
 returns-in-Ok-clause-end g c = on_ok c.begun.result (IsAtEnd (g.S.Source.left c.read_opened.new.source)) c.in-Ok.ensures.end
