@@ -2,10 +2,13 @@
 use Rattle.std.proofs.Common.{◌≡◌, ℕ, zero, suc, ◌+◌, ◌-◌, ◌<◌, ◌≤◌, true, ltb, ◌&&◌, List, [], ◌∷◌, ◌++◌, length, Option, Some, None, refl, sym, ap, subst, ◌∙◌, append_assoc, arith}
 use Rattle.std.proofs.lemmas.Bool.{ltb-true, lt-ltb, le-ltb, and_parts, and_from}
 use Rattle.std.specs.List.{range_with_len}
+use Rattle.std.proofs.lemmas.List.{append-nil}
+use Rattle.std.proofs.lemmas.List.Concat.{flat_map-append}
 use Rattle.certificate.specs.Runs.{Run, numbers_in, numbers_of}
 use Rattle.certificate.specs.Held.{spread, held_in}
 use Rattle.certificate.specs.HeldReading.{HoldsRuns, HoldsElements}
 use Rattle.certificate.specs.Tests.{is_after, ascend}
+use Rattle.certificate.specs.Certificate.{Two}
 use Rattle.certificate.specs.Reading.{◌>>=◌}
 use Rattle.certificate.specs.ListedReading.{fits_run, next_run_at, runs_at, elements_at}
 use Rattle.certificate.proofs.Many.{Chain, IsReadSoFar, last_or, last_push, none_read, one_more_read, all_read, shorter}
@@ -42,25 +45,51 @@ spread_ends : (runs : List Run) → spread (ends_of runs) ≡ numbers_of runs
 spread_ends [] = refl
 spread_ends (run ∷ runs) = ap (λ (xs : List ℕ). numbers_in run ++ xs) (spread_ends runs)
 
-pub record AreEndsSoFar (d : ℕ) (bytes ends : List ℕ) (before : Option Run) (rest : List ℕ) : Type 0 where
+numbers_push : (runs : List Run) (run : Run) → numbers_of (runs ++ run ∷ []) ≡ numbers_of runs ++ numbers_in run
+numbers_push runs run = flat_map-append numbers_in runs (run ∷ []) ∙ ap (λ (xs : List ℕ). numbers_of runs ++ xs) (append-nil (numbers_in run))
+
+-- what is held of the runs so far is what `write` makes of them
+pub record AreRunsSoFar (write : List Run → List ℕ) (d : ℕ) (bytes held : List ℕ) (before : Option Run) (rest : List ℕ) : Type 0 where
   pub runs : List Run
   pub so_far : IsReadSoFar (next_run_at d) bytes runs rest
-  pub ends_are : ends ≡ ends_of runs
+  pub held_are : held ≡ write runs
   pub last : before ≡ last_or None runs
 
+no_runs : (write : List Run → List ℕ) (d : ℕ) (bytes held : List ℕ) → held ≡ write [] → AreRunsSoFar write d bytes held None bytes
+no_runs write d bytes held e = record { runs = []; so_far = none_read (next_run_at d) bytes; held_are = e; last = refl }
+
+next_run : (write : List Run → List ℕ) (one : Run → List ℕ) → ((runs : List Run) (run : Run) → write (runs ++ run ∷ []) ≡ write runs ++ one run) → (d : ℕ) (bytes held new : List ℕ) (before : Option Run) (rest : List ℕ) (run : Run) (mid : List ℕ)
+    → AreRunsSoFar write d bytes held before rest → next_run_at d before rest ≡ Some (run, mid) → new ≡ held ++ one run → AreRunsSoFar write d bytes new (Some run) mid
+next_run write one push d bytes held new before rest run mid h e n = record {
+  runs = h.runs ++ run ∷ [];
+  so_far = one_more_read (next_run_at d) bytes h.runs rest run mid h.so_far (subst (λ b. next_run_at d b rest ≡ Some (run, mid)) h.last e);
+  held_are = n ∙ ap (λ (xs : List ℕ). xs ++ one run) h.held_are ∙ sym (push h.runs run);
+  last = sym (last_push None h.runs run);
+}
+
+-- their ends
+abbrev pub AreEndsSoFar : ℕ → List ℕ → List ℕ → Option Run → List ℕ → Type 0
+AreEndsSoFar = AreRunsSoFar ends_of
+
 pub no_runs_yet : (d : ℕ) (bytes ends : List ℕ) → ends ≡ [] → AreEndsSoFar d bytes ends None bytes
-no_runs_yet d bytes ends e = record { runs = []; so_far = none_read (next_run_at d) bytes; ends_are = e; last = refl }
+no_runs_yet d bytes ends e = no_runs ends_of d bytes ends e
 
 pub one_more_run : (d : ℕ) (bytes ends one new : List ℕ) (before : Option Run) (rest : List ℕ) (run : Run) (mid : List ℕ) → AreEndsSoFar d bytes ends before rest → next_run_at d before rest ≡ Some (run, mid)
     → one ≡ ends ++ run.last ∷ [] → new ≡ one ++ run.first ∷ [] → AreEndsSoFar d bytes new (Some run) mid
-one_more_run d bytes ends one new before rest run mid h e n m = record {
-  runs = h.runs ++ run ∷ [];
-  so_far = one_more_read (next_run_at d) bytes h.runs rest run mid h.so_far (subst (λ b. next_run_at d b rest ≡ Some (run, mid)) h.last e);
-  ends_are =
-      m ∙ ap (λ (xs : List ℕ). xs ++ run.first ∷ []) (n ∙ ap (λ (xs : List ℕ). xs ++ run.last ∷ []) h.ends_are)
-      ∙ append_assoc (ends_of h.runs) (run.last ∷ []) (run.first ∷ []) ∙ sym (ends_push h.runs run);
-  last = sym (last_push None h.runs run);
-}
+one_more_run d bytes ends one new before rest run mid h e n m =
+    next_run ends_of (λ r. r.last ∷ r.first ∷ []) ends_push d bytes ends new before rest run mid h e
+    (m ∙ ap (λ (xs : List ℕ). xs ++ run.first ∷ []) n ∙ append_assoc ends (run.last ∷ []) (run.first ∷ []))
+
+-- their numbers
+abbrev pub AreNumbersSoFar : ℕ → List ℕ → List ℕ → Option Run → List ℕ → Type 0
+AreNumbersSoFar = AreRunsSoFar numbers_of
+
+pub no_numbers_yet : (d : ℕ) (bytes numbers : List ℕ) → numbers ≡ [] → AreNumbersSoFar d bytes numbers None bytes
+no_numbers_yet d bytes numbers e = no_runs numbers_of d bytes numbers e
+
+pub numbers_of_one_more : (d : ℕ) (bytes numbers new : List ℕ) (before : Option Run) (rest : List ℕ) (run : Run) (mid : List ℕ) → AreNumbersSoFar d bytes numbers before rest
+    → next_run_at d before rest ≡ Some (run, mid) → new ≡ numbers ++ numbers_in run → AreNumbersSoFar d bytes new (Some run) mid
+numbers_of_one_more d bytes numbers new before rest run mid h e n = next_run numbers_of numbers_in numbers_push d bytes numbers new before rest run mid h e n
 
 pub less_of_runs : (d : ℕ) (before : Option Run) (rest : List ℕ) (run : Run) (mid : List ℕ) → next_run_at d before rest ≡ Some (run, mid) → length mid < length rest
 less_of_runs d before rest run mid e = shorter EndsRun EndsLine (IsRunAfter d) run_text (next_run_at d) (each_run_reads d) before rest run mid e
@@ -108,16 +137,25 @@ held_ends d last (run ∷ runs) c =
     let l : run.first ≤ run.last = c.0.0.1.1 in
     rw (le-ltb run.last run.first l) refl
 
-pub all_runs : (d : ℕ) (bytes ends : List ℕ) (before : Option Run) (rest : List ℕ) → AreEndsSoFar d bytes ends before rest → next_run_at d before rest ≡ None → HoldsRuns d bytes ends rest
+-- .. are all, where no run comes next
+record AreAllRuns (d : ℕ) (bytes : List ℕ) (runs : List Run) (rest : List ℕ) : Type 0 where
+  read : elements_at Two d bytes ≡ Some (numbers_of runs, rest)
+  chain : Chain (IsRunAfter d) None runs
+
+no_run_left : (write : List Run → List ℕ) (d : ℕ) (bytes held : List ℕ) (before : Option Run) (rest : List ℕ) (h : AreRunsSoFar write d bytes held before rest) → next_run_at d before rest ≡ None → AreAllRuns d bytes h.runs rest
 unfolding elements_at runs_at
-all_runs d bytes ends before rest h e =
+no_run_left write d bytes held before rest h e =
     let read = all_read EndsRun EndsLine (IsRunAfter d) run_text (next_run_at d) (each_run_reads d) bytes h.runs rest h.so_far (subst (λ b. next_run_at d b rest ≡ None) h.last e) in
-    let chain = ((runs_reads d).takes bytes h.runs rest read).1 in
-    let numbers : spread ends ≡ numbers_of h.runs = ap spread h.ends_are ∙ spread_ends h.runs in
+    record { read = ap (λ o. o >>= λ x. Some (numbers_of x.0, x.1)) read; chain = ((runs_reads d).takes bytes h.runs rest read).1 }
+
+pub all_runs : (d : ℕ) (bytes ends : List ℕ) (before : Option Run) (rest : List ℕ) → AreEndsSoFar d bytes ends before rest → next_run_at d before rest ≡ None → HoldsRuns d bytes ends rest
+all_runs d bytes ends before rest h e =
+    let all = no_run_left ends_of d bytes ends before rest h e in
+    let numbers : spread ends ≡ numbers_of h.runs = ap spread h.held_are ∙ spread_ends h.runs in
     record {
-      read = ap (λ o. o >>= λ x. Some (numbers_of x.0, x.1)) read ∙ ap (λ (xs : List ℕ). Some (xs, rest)) (sym numbers);
-      held = subst (λ (xs : List ℕ). held_in xs ≡ spread xs) (sym h.ends_are) (held_ends d None h.runs chain);
-      ascend = subst (λ (xs : List ℕ). ascend d None xs ≡ true) (sym numbers) (runs_ascend d None h.runs chain);
+      read = all.read ∙ ap (λ (xs : List ℕ). Some (xs, rest)) (sym numbers);
+      held = subst (λ (xs : List ℕ). held_in xs ≡ spread xs) (sym h.held_are) (held_ends d None h.runs all.chain);
+      ascend = subst (λ (xs : List ℕ). ascend d None xs ≡ true) (sym numbers) (runs_ascend d None h.runs all.chain);
     }
 
 -- ---- what ascends is held as it is
@@ -146,3 +184,14 @@ held_runs d bytes ends rest h = record {
   read = h.read ∙ ap (λ (xs : List ℕ). Some (xs, rest)) (sym h.held);
   ascend = subst (λ (xs : List ℕ). ascend d None xs ≡ true) (sym h.held) h.ascend;
 }
+
+-- .. and as they are read
+pub all_numbers : (d : ℕ) (bytes numbers : List ℕ) (before : Option Run) (rest : List ℕ) → AreNumbersSoFar d bytes numbers before rest → next_run_at d before rest ≡ None → HoldsElements d bytes numbers rest
+all_numbers d bytes numbers before rest h e =
+    let all = no_run_left numbers_of d bytes numbers before rest h e in
+    let up : ascend d None numbers ≡ true = subst (λ (xs : List ℕ). ascend d None xs ≡ true) (sym h.held_are) (runs_ascend d None h.runs all.chain) in
+    let own : held_in numbers ≡ numbers = held_ascending d numbers up in
+    record {
+      read = all.read ∙ ap (λ (xs : List ℕ). Some (xs, rest)) (sym (own ∙ h.held_are));
+      ascend = subst (λ (xs : List ℕ). ascend d None xs ≡ true) (sym own) up;
+    }

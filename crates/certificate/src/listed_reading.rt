@@ -1,6 +1,6 @@
 //! Rows of a listed interpretation at the front of bytes.
 
-ghost use Rattle.std.specs.Prelude.{◌≡◌, ℕ, Some, option_map, IfOk};
+ghost use Rattle.std.specs.Prelude.{◌≡◌, ℕ, Some, option_map, IfOk, IfSome};
 ghost use Rattle.certificate.specs.Certificate.{One};
 ghost use Rattle.certificate.specs.Held.{held_class, held_pairs};
 ghost use Rattle.certificate.specs.HeldReading.{AreReadElements, HoldsElements, HoldsRuns};
@@ -12,7 +12,7 @@ use crate::fault::{ReadFault, stopped};
 use crate::fitting::{fits_claim, fits_read_class, fits_read_pairs};
 use crate::format::Format;
 use crate::listed::{Claim, ClassRow, PairRow};
-use crate::listed_runs::numbers_between;
+use crate::listed_runs::{numbers_between, push_run};
 use crate::number::{after, small_at};
 use crate::run::Run;
 use axioms::{ExprId, Ontology, PropId};
@@ -40,6 +40,7 @@ fn single_elements_at(alloc: Global, bytes: &[u8]) -> Result<(SmallVec<u32, 4>, 
 }
 
 // The end of a run that begins with that number.
+#[inline(always)]
 #[tactic(auto, unfolding(crate::specs::ListedReading::end_at))]
 fn end_at(first: u32, bytes: &[u8]) -> Option<(u32, &[u8])>
     ensures { option_map (λ x. (x.0, x.1.now)) result ≡ end_at first bytes.now }
@@ -54,6 +55,7 @@ fn end_at(first: u32, bytes: &[u8]) -> Option<(u32, &[u8])>
     Some((last, rest))
 }
 
+#[inline(always)]
 #[tactic(auto, unfolding(crate::specs::ListedReading::run_at))]
 fn run_at(bytes: &[u8]) -> Option<(Run, &[u8])>
     ensures { option_map (λ x. (run_of x.0, x.1.now)) result ≡ run_at bytes.now }
@@ -64,6 +66,7 @@ fn run_at(bytes: &[u8]) -> Option<(Run, &[u8])>
 }
 
 // Whether the run lies below the domain, and apart from the one before it.
+#[inline(always)]
 fn fits_run(domain: u32, before: Option<Run>, run: Run) -> bool
     ensures { result ≡ fits_run domain (option_map run_of before) (run_of run) }
 {
@@ -74,6 +77,7 @@ fn fits_run(domain: u32, before: Option<Run>, run: Run) -> bool
 }
 
 // The run that comes behind another, if one does.
+#[inline(always)]
 fn next_run_at(domain: u32, before: Option<Run>, bytes: &[u8]) -> Option<(Run, &[u8])>
     ensures { option_map (λ x. (run_of x.0, x.1.now)) result ≡ next_run_at domain (option_map run_of before) bytes.now }
 {
@@ -106,6 +110,30 @@ fn run_ends_at<'a>(
     Ok((ends, count, rest))
 }
 
+// Elements by runs, written out as they are read; none where at the end of some run they take more room than the ends so far.
+fn few_elements_at(
+    alloc: Global,
+    domain: u32,
+    bytes: &[u8],
+) -> Result<Option<(SmallVec<u32, 4>, &[u8])>, AllocError>
+    ensures { IfOk result (λ few. IfSome few (λ x. HoldsElements domain bytes.now x.0.items x.1.now)) }
+{
+    let mut elements = SmallVec::new(alloc);
+    let mut room: usize = 0;
+    let mut before = None;
+    let mut rest = bytes;
+    while let Some((run, others)) = next_run_at(domain, before, rest) {
+        room = room.saturating_add(2);
+        if room <= (run.last - run.first) as usize {
+            return Ok(None);
+        }
+        push_run(&mut elements, &mut room, run.first, run.last)?;
+        before = Some(run);
+        rest = others;
+    }
+    Ok(Some((elements, rest)))
+}
+
 // Elements by runs: the elements themselves where they take no more room than the ends of their runs, and else these.
 fn run_elements_at(
     alloc: Global,
@@ -114,6 +142,9 @@ fn run_elements_at(
 ) -> Result<(SmallVec<u32, 4>, &[u8]), AllocError>
     ensures { IfOk result (λ x. HoldsElements domain bytes.now x.0.items x.1.now) }
 {
+    if let Some(few) = few_elements_at(alloc, domain, bytes)? {
+        return Ok(few);
+    }
     let (ends, count, rest) = run_ends_at(alloc, domain, bytes)?;
     if count > ends.len() {
         return Ok((ends, rest));

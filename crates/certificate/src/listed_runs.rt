@@ -29,8 +29,9 @@ pub(crate) fn holds_runs(numbers: &[u32]) -> bool
     }
 }
 
-// Adds the numbers of the run, where so many are left. Room for all of them is asked for before the first.
-fn push_run(
+/// Adds the numbers of the run, where so many are left. Room for all of them is asked for before the first.
+#[inline(always)]
+pub(crate) fn push_run(
     elements: &mut SmallVec<u32, 4>,
     left: &mut usize,
     first: u32,
@@ -45,7 +46,9 @@ fn push_run(
         return Err(AllocError);
     }
     *left -= count;
-    elements.reserve(count)?;
+    if count > 1 {
+        elements.reserve(count)?;
+    }
     for number in first..end {
         elements.push(number)?;
     }

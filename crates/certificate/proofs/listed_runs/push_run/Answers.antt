@@ -3,12 +3,14 @@ use Rattle.std.specs.List.{range_with_len}
 use Rattle.std.proofs.lemmas.List.{append-nil}
 use Rattle.std.proofs.lemmas.List.FromFn.{length-range_with_len}
 use Rattle.certificate.proofs.RunReading.{range_more, no_range}
+use Rattle.certificate.proofs.listed_runs.push_run.Goals.{then-count-gt1+in_ok-reserve, else-count-gt1}
 use Rattle.certificate.proofs.listed_runs.push_run.Goals as goal
 
 pub loop-number-init : goal.loop-number-init
 loop-number-init c =
     let start = c.args.elements.now.items in
-    c.reserve.ensures.items ∙ sym (ap (λ (xs : List ℕ). start ++ xs) (no_range c.args.first c.args.first refl) ∙ append-nil start)
+    let none = sym (ap (λ (xs : List ℕ). start ++ xs) (no_range c.args.first c.args.first refl) ∙ append-nil start) in
+    elim c.if-count-gt1.branch [ then-count-gt1+in_ok-reserve w ↦ ap (λ e. e.items) w.elements-is ∙ w.reserve.ensures.items ∙ none | else-count-gt1 w ↦ ap (λ e. e.items) w.elements-is ∙ none ]
 
 pub loop-number-preserved : goal.loop-number-preserved
 loop-number-preserved c =
