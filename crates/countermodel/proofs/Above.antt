@@ -14,112 +14,118 @@ use Rattle.facts.specs.declared.contexts.Fact.TheVariants.{Edge}
 use Rattle.closure.specs.Closure.{Context}
 use Rattle.closure.specs.Denotations.{context_of}
 use Rattle.countermodel.specs.declared.pair.Pair.{Pair}
-use Rattle.countermodel.specs.Edges.{AddsPairs, IsAboveIn, IsGiven, IsGivenBy, IsSuper}
+use Rattle.countermodel.specs.Edges.{AddsPairs, IsAboveIn, IsGiven, IsGivenBy, IsSuper, IsWith}
 
 -- the pair q with a property of the list
 abbrev pub IsListedAbove : List PropId2 → Pair → Pair → Type 0
 IsListedAbove list p q = Contains list (Property q.property) × (q.source ≡ p.source) × (q.target ≡ p.target)
 
-abbrev pub with_property : Pair → PropId → Pair
-with_property p id = record { property = id; source = p.source; target = p.target }
-
 abbrev triple : PropId → ℕ → ℕ → Pair
 triple r x y = record { property = r; source = x; target = y }
 
-pub one_pair : (list : List PropId2) (k : ℕ) (d : PropId2) (id : PropId) (p : Pair) (old now : List Pair) → k < length list → get_or list k d ≡ Property id
-    → AddsPairs (IsListedAbove (take k list) p) old now → AddsPairs (IsListedAbove (take (k + 1) list) p) old (now ++ with_property p id ∷ [])
-one_pair list k d id p old now low is before q =
-    let new = with_property p id in
-    let more' = one_more_taken list k d (Property q.property) low in (
-      λ c. elim (Contains-push_cases now new q c) [
-        | inl h ↦ elim ((before q).0 h) [
-          | inl was ↦ inl was
-          | inr (there, s, t) ↦ inr (more'.1 (inl there), s, t)
-        ]
-        | inr e ↦ inr (more'.1 (inr (is ∙ ap (λ (w : Pair). Property w.property) e)), sym (ap (λ (w : Pair). w.source) e), sym (ap (λ (w : Pair). w.target) e))
+-- ---- the pair with one property
+
+pub not_with : (W : Pair → Type 0) (r : PropId2) (p : Pair) (old : List Pair) → ((id : PropId) → r ≡ Property id → ⊥) → AddsPairs (λ q. IsWith r p q × W q) old old
+not_with W r p old other q = (λ c. inl c, λ h. elim h [ inl was ↦ was | inr (is, w) ↦ absurd (other q.property is.0) ])
+
+same_triple : (r : PropId2) (id : PropId) (p q : Pair) → r ≡ Property id → IsWith r p q → q ≡ triple id p.source p.target
+same_triple r id p q e (is, s, t) =
+    let same : Property q.property ≡ Property id = sym is ∙ e in
+    let name : q.property ≡ id = cc in
+    ap (λ (i : PropId). triple i q.source q.target) name ∙ ap₂ (λ (x y : ℕ). triple id x y) s t
+
+pub is_with : (W : Pair → Type 0) (r : PropId2) (id : PropId) (p : Pair) (old : List Pair) → r ≡ Property id → W (triple id p.source p.target)
+    → AddsPairs (λ q. IsWith r p q × W q) old (old ++ triple id p.source p.target ∷ [])
+is_with W r id p old e w q =
+    let new = triple id p.source p.target in (
+      λ c. elim (Contains-push_cases old new q c) [
+        | inl h ↦ inl h
+        | inr same ↦ inr ((e ∙ ap (λ (u : Pair). Property u.property) same, sym (ap (λ (u : Pair). u.source) same), sym (ap (λ (u : Pair). u.target) same)), subst W same w)
       ],
       λ h. elim h [
-        | inl was ↦ Contains-append_left now (new ∷ []) q ((before q).1 (inl was))
-        | inr (there, s, t) ↦ elim (more'.0 there) [
-          | inl earlier ↦ Contains-append_left now (new ∷ []) q ((before q).1 (inr (earlier, s, t)))
-          | inr e ↦
-              let same : Property id ≡ Property q.property = sym is ∙ e in
-              let name : id ≡ q.property = cc in
-              let whole : new ≡ q = ap (λ (r : PropId). triple r p.source p.target) name ∙ ap₂ (λ (x y : ℕ). triple q.property x y) (sym s) (sym t) in
-              subst (Contains (now ++ new ∷ [])) whole (Contains-push now new)
-        ]
+        | inl was ↦ Contains-append_left old (new ∷ []) q was
+        | inr (is, _) ↦ subst (Contains (old ++ new ∷ [])) (sym (same_triple r id p q e is)) (Contains-push old new)
       ],
     )
 
-pub no_pair : (list : List PropId2) (k : ℕ) (d : PropId2) (p : Pair) (old now : List Pair) → k < length list → ((id : PropId) → get_or list k d ≡ Property id → ⊥)
-    → AddsPairs (IsListedAbove (take k list) p) old now → AddsPairs (IsListedAbove (take (k + 1) list) p) old now
-no_pair list k d p old now low other before q =
-    let more' = one_more_taken list k d (Property q.property) low in (
-      λ c. elim ((before q).0 c) [
-        | inl was ↦ inl was
-        | inr (there, s, t) ↦ inr (more'.1 (inl there), s, t)
-      ],
-      λ h. elim h [
-        | inl was ↦ (before q).1 (inl was)
-        | inr (there, s, t) ↦ elim (more'.0 there) [
-          | inl earlier ↦ (before q).1 (inr (earlier, s, t))
-          | inr e ↦ absurd (other q.property e)
-        ]
-      ],
-    )
+pub is_without : (W : Pair → Type 0) (r : PropId2) (id : PropId) (p : Pair) (old : List Pair) → r ≡ Property id → (W (triple id p.source p.target) → ⊥) → AddsPairs (λ q. IsWith r p q × W q) old old
+is_without W r id p old e never q = (λ c. inl c, λ h. elim h [ inl was ↦ was | inr (is, w) ↦ absurd (never (subst W (same_triple r id p q e is) w)) ])
 
-pub none_above : (list : List PropId2) (p : Pair) (old : List Pair) → AddsPairs (IsListedAbove (take 0 list) p) old old
-none_above list p old q = (λ c. inl c, λ h. elim h [ inl was ↦ was | inr (there, s, t) ↦ absurd (none_taken list (Property q.property) there) ])
+-- ---- those of a list of properties
 
-pub all_above : (k : Known) (list : List PropId2) (n : ℕ) (p : Pair) (old new : List Pair) → length list ≤ n → ((q : PropId2) → Contains list q ↔ IsSuper k (Property p.property) q)
-    → AddsPairs (IsListedAbove (take n list) p) old new → AddsPairs (IsAboveIn k p) old new
-all_above k list n p old new past exact adds q =
-    let all' = all_taken list n (Property q.property) past in
-    let says = exact (Property q.property) in (
-      λ c. elim ((adds q).0 c) [ inl was ↦ inl was | inr (there, s, t) ↦ inr (says.0 (all'.0 there), s, t) ],
-      λ h. elim h [ inl was ↦ (adds q).1 (inl was) | inr (super, s, t) ↦ (adds q).1 (inr (all'.1 (says.1 super), s, t)) ],
-    )
+module _ (W : Pair → Type 0) (list : List PropId2) (p : Pair) where
+  pub one_above : (k : ℕ) (d : PropId2) (old now new : List Pair) → k < length list → AddsPairs (λ q. IsWith (get_or list k d) p q × W q) now new
+      → AddsPairs (λ q. IsListedAbove (take k list) p q × W q) old now → AddsPairs (λ q. IsListedAbove (take (k + 1) list) p q × W q) old new
+  one_above k d old now new low adds before q =
+      let more' = one_more_taken list k d (Property q.property) low in (
+        λ c. elim ((adds q).0 c) [
+          | inl h ↦ elim ((before q).0 h) [
+            | inl was ↦ inl was
+            | inr h' ↦ inr ((more'.1 (inl h'.0.0), h'.0.1, h'.0.2), h'.1)
+          ]
+          | inr h ↦ inr ((more'.1 (inr h.0.0), h.0.1, h.0.2), h.1)
+        ],
+        λ h. elim h [
+          | inl was ↦ (adds q).1 (inl ((before q).1 (inl was)))
+          | inr h' ↦ elim (more'.0 h'.0.0) [
+            | inl earlier ↦ (adds q).1 (inl ((before q).1 (inr ((earlier, h'.0.1, h'.0.2), h'.1))))
+            | inr e ↦ (adds q).1 (inr ((e, h'.0.1, h'.0.2), h'.1))
+          ]
+        ],
+      )
+
+  pub none_above : (old : List Pair) → AddsPairs (λ q. IsListedAbove (take 0 list) p q × W q) old old
+  none_above old q = (λ c. inl c, λ h. elim h [ inl was ↦ was | inr h' ↦ absurd (none_taken list (Property q.property) h'.0.0) ])
+
+  pub all_above : (k : Known) (n : ℕ) (old new : List Pair) → length list ≤ n → ((q : PropId2) → Contains list q ↔ IsSuper k (Property p.property) q)
+      → AddsPairs (λ q. IsListedAbove (take n list) p q × W q) old new → AddsPairs (λ q. IsAboveIn k p q × W q) old new
+  all_above k n old new past exact adds q =
+      let all' = all_taken list n (Property q.property) past in
+      let says = exact (Property q.property) in (
+        λ c. elim ((adds q).0 c) [ inl was ↦ inl was | inr h ↦ inr ((says.0 (all'.0 h.0.0), h.0.1, h.0.2), h.1) ],
+        λ h. elim h [ inl was ↦ (adds q).1 (inl was) | inr h' ↦ (adds q).1 (inr ((all'.1 (says.1 h'.0.0), h'.0.1, h'.0.2), h'.1)) ],
+      )
 
 -- ---- facts
 
-module _ (k : Known) (elements : List Context) where
-  pub no_element : (fact : Fact) (old : List Pair) → ((p : Pair) → IsGivenBy k elements fact p → ⊥) → AddsPairs (IsGivenBy k elements fact) old old
-  no_element fact old never p = (λ c. inl c, λ h. elim h [ inl was ↦ was | inr by ↦ absurd (never p by) ])
+module _ (W : Pair → Type 0) (k : Known) (elements : List Context) where
+  pub no_element : (fact : Fact) (old : List Pair) → ((p : Pair) → IsGivenBy k elements fact p → ⊥) → AddsPairs (λ p. IsGivenBy k elements fact p × W p) old old
+  no_element fact old never p = (λ c. inl c, λ h. elim h [ inl was ↦ was | inr (by, _) ↦ absurd (never p by) ])
 
   pub of_edge : (x y : code.Context) (id : PropId) (source target : ℕ) (old new : List Pair) → AreDistinct elements
       → slice_get elements source ≡ Some (context_of x) → slice_get elements target ≡ Some (context_of y)
-      → AddsPairs (IsAboveIn k (triple id source target)) old new → AddsPairs (IsGivenBy k elements (Edge x (Property id) y)) old new
+      → AddsPairs (λ q. IsAboveIn k (triple id source target) q × W q) old new → AddsPairs (λ q. IsGivenBy k elements (Edge x (Property id) y) q × W q) old new
   of_edge x y id source target old new apart at_source at_target adds p = (
     λ c. elim ((adds p).0 c) [
       | inl was ↦ inl was
-      | inr (super, s, t) ↦ inr (ap (slice_get elements) s ∙ at_source, ap (slice_get elements) t ∙ at_target, super)
+      | inr ((super, s, t), w) ↦ inr ((ap (slice_get elements) s ∙ at_source, ap (slice_get elements) t ∙ at_target, super), w)
     ],
     λ h. elim h [
       | inl was ↦ (adds p).1 (inl was)
-      | inr (s, t, super) ↦ (adds p).1 (inr (super, apart p.source source (context_of x) s at_source, apart p.target target (context_of y) t at_target))
+      | inr ((s, t, super), w) ↦ (adds p).1 (inr ((super, apart p.source source (context_of x) s at_source, apart p.target target (context_of y) t at_target), w))
     ],
   )
 
-  pub none_given : (facts : List Fact) (p : Pair) → Contains [] p ↔ IsGiven k elements (take 0 facts) p
-  none_given facts p = (λ c. absurd (Contains-none p c), λ h. absurd (none_taken facts h.0 h.1))
+  pub none_given : (facts : List Fact) (p : Pair) → Contains [] p ↔ (IsGiven k elements (take 0 facts) p × W p)
+  none_given facts p = (λ c. absurd (Contains-none p c), λ h. absurd (none_taken facts h.0.0 h.0.1))
 
-  pub more_given : (facts : List Fact) (n : ℕ) (d : Fact) (old new : List Pair) → n < length facts → ((p : Pair) → Contains old p ↔ IsGiven k elements (take n facts) p)
-      → AddsPairs (IsGivenBy k elements (get_or facts n d)) old new → (p : Pair) → Contains new p ↔ IsGiven k elements (take (n + 1) facts) p
+  pub more_given : (facts : List Fact) (n : ℕ) (d : Fact) (old new : List Pair) → n < length facts → ((p : Pair) → Contains old p ↔ (IsGiven k elements (take n facts) p × W p))
+      → AddsPairs (λ p. IsGivenBy k elements (get_or facts n d) p × W p) old new → (p : Pair) → Contains new p ↔ (IsGiven k elements (take (n + 1) facts) p × W p)
   more_given facts n d old new low before adds p = (
     λ c. elim ((adds p).0 c) [
-      | inl was ↦ (let (fact, there, by) = (before p).0 was in (fact, (one_more_taken facts n d fact low).1 (inl there), by))
-      | inr by ↦ (get_or facts n d, (one_more_taken facts n d (get_or facts n d) low).1 (inr refl), by)
+      | inl was ↦ (let ((fact, there, by), w) = (before p).0 was in ((fact, (one_more_taken facts n d fact low).1 (inl there), by), w))
+      | inr (by, w) ↦ ((get_or facts n d, (one_more_taken facts n d (get_or facts n d) low).1 (inr refl), by), w)
     ],
     λ h.
-        let (fact, there, by) = h in
+        let ((fact, there, by), w) = h in
         elim ((one_more_taken facts n d fact low).0 there) [
-          | inl earlier ↦ (adds p).1 (inl ((before p).1 (fact, earlier, by)))
-          | inr e ↦ (adds p).1 (inr (subst (λ (f : Fact). IsGivenBy k elements f p) (sym e) by))
+          | inl earlier ↦ (adds p).1 (inl ((before p).1 ((fact, earlier, by), w)))
+          | inr e ↦ (adds p).1 (inr (subst (λ (f : Fact). IsGivenBy k elements f p) (sym e) by, w))
         ],
   )
 
-  pub all_given : (facts : List Fact) (n : ℕ) (p : Pair) → length facts ≤ n → IsGiven k elements (take n facts) p ↔ IsGiven k elements facts p
+  pub all_given : (facts : List Fact) (n : ℕ) (p : Pair) → length facts ≤ n → (IsGiven k elements (take n facts) p × W p) ↔ (IsGiven k elements facts p × W p)
   all_given facts n p past = (
-    λ h. (h.0, (all_taken facts n h.0 past).0 h.1, h.2),
-    λ h. (h.0, (all_taken facts n h.0 past).1 h.1, h.2),
+    λ h. ((h.0.0, (all_taken facts n h.0.0 past).0 h.0.1, h.0.2), h.1),
+    λ h. ((h.0.0, (all_taken facts n h.0.0 past).1 h.0.1, h.0.2), h.1),
   )

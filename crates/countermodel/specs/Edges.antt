@@ -11,6 +11,10 @@ use Rattle.closure.specs.Closure.{Context}
 use Rattle.closure.specs.Denotations.{context_of}
 use Rattle.countermodel.specs.declared.pair.Pair.{Pair}
 
+-- the pair q is p with that property in place of its own
+abbrev pub IsWith : PropId2 → Pair → Pair → Type 0
+IsWith r p q = (r ≡ Property q.property) × (q.source ≡ p.source) × (q.target ≡ p.target)
+
 -- q is at or above p
 abbrev pub IsSuper : Known → PropId2 → PropId2 → Type 0
 IsSuper k p q = Has k p × IsAtOrBelow k.forms p q

@@ -1,8 +1,9 @@
 -- Rows that grow pair by pair: a sink has all but the last.
 use Rattle.std.specs.Prelude.{◌≡◌, List, [], ◌∷◌, ◌++◌, map, Option, Some, None}
+use Rattle.std.specs.List.{AllPairs}
 use Rattle.certificate.specs.View.{pair_row_of}
 use Rattle.certificate.specs.declared.listed.PairRow.{PairRow}
-use Rattle.countermodel.specs.Pairs.{AddsPair, Row}
+use Rattle.countermodel.specs.Pairs.{AddsPair, AreGrouped, ComesBefore, Row}
 use Rattle.countermodel.specs.declared.pair.Pair.{Pair}
 
 -- the rows with the last one
@@ -20,3 +21,15 @@ abbrev pub AddsToLast : {S : Type 0} → (S → S → List PairRow → Type 0) �
 AddsToLast {S} adds p old last new row =
     (start : S) (rows : List PairRow) → adds start old rows → HaveLast rows last
     → (more : List PairRow) × adds start new more × AddsPair p (with_last rows last) (with_last more (Some row))
+
+-- the sink has the rows of these pairs but the last one
+pub record HasGrouped {S : Type 0} (adds : S → S → List PairRow → Type 0) (start now : S) (last : Option PairRow) (pairs : List Pair) : Type 0 where
+  pub rows : List PairRow
+  pub have : HaveLast rows last
+  pub added : adds start now rows
+  pub grouped : AreGrouped pairs (with_last rows last)
+
+-- .. with these pairs behind those that it had
+abbrev pub GroupsMore : {S : Type 0} → (S → S → List PairRow → Type 0) → List Pair → S → Option PairRow → S → Option PairRow → Type 0
+GroupsMore {S} adds pairs old last new row =
+    (start : S) (earlier : List Pair) → AllPairs ComesBefore (earlier ++ pairs) → HasGrouped adds start old last earlier → HasGrouped adds start new row (earlier ++ pairs)

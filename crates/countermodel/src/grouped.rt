@@ -1,10 +1,8 @@
 //! Pairs in rows.
 ghost use Rattle.certificate.specs.View.{pair_row_of};
-ghost use Rattle.countermodel.specs.LastRows.{AddsToLast};
-ghost use Rattle.countermodel.specs.Pairs.{AreGrouped, ComesBefore, row_with};
-ghost use Rattle.countermodel.specs.Sinks.{Adds};
-ghost use Rattle.std.specs.List.{AllPairs};
-ghost use Rattle.std.specs.Prelude.{◌↔◌, ◌≡◌, ◌∷◌, [], IfOk, IsTrue, OnOk, map};
+ghost use Rattle.countermodel.specs.LastRows.{AddsToLast, GroupsMore};
+ghost use Rattle.countermodel.specs.Pairs.{row_with};
+ghost use Rattle.std.specs.Prelude.{◌↔◌, ◌≡◌, ◌∷◌, [], IfOk, IsTrue};
 
 use crate::pair::Pair;
 use crate::sink::RowSink;
@@ -53,21 +51,19 @@ fn add_pair<S: RowSink<PairRow>>(
     row_of(alloc, pair)
 }
 
-/// Adds the rows of pairs that are in order.
+/// Adds the rows of pairs that are in order to those of pairs that come before them, of which the last is not in the sink yet: but the
+/// last one, which it gives.
 pub(crate) fn add_grouped<S: RowSink<PairRow>>(
     alloc: Global,
     pairs: &[Pair],
+    last: Option<PairRow>,
     rows: &mut S,
-) -> Result<(), Memory>
-    requires { AllPairs ComesBefore pairs.now }
-    ensures { OnOk result (Adds (λ rs. AreGrouped pairs.now (map pair_row_of rs)) (S.adds rows.old rows.new)) }
+) -> Result<Option<PairRow>, Memory>
+    ensures { IfOk result (GroupsMore S.adds pairs.now rows.old last rows.new) }
 {
-    let mut last = None;
+    let mut last = last;
     for pair in pairs {
         last = Some(add_pair(alloc, rows, last, *pair)?);
     }
-    match last {
-        None => Ok(()),
-        Some(row) => rows.add(row),
-    }
+    Ok(last)
 }

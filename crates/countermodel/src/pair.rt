@@ -1,8 +1,9 @@
 //! Pairs of elements.
 ghost use Rattle.countermodel.specs.Pairs.{ComesBefore};
+ghost use Rattle.countermodel.specs.Ranges.{IsWithin};
 ghost use Rattle.countermodel.specs.declared.pair.Pair.{Pair as Pair2};
 ghost use Rattle.std.specs.List.{AllPairs};
-ghost use Rattle.std.specs.Prelude.{◌↔◌, Contains};
+ghost use Rattle.std.specs.Prelude.{◌↔◌, Contains, IsTrue};
 
 use axioms::PropId;
 use number_sets::sort_ascending;
@@ -22,4 +23,39 @@ pub(crate) fn put_in_order(pairs: &mut Vec<Pair>)
     ensures same { (p : Pair2) → Contains pairs.new.items p ↔ Contains pairs.old.items p }
 {
     sort_ascending(pairs);
+}
+
+/// Whether the first comes before the second in the order of pairs.
+pub(crate) fn comes_before(first: Pair, second: Pair) -> bool
+    ensures { IsTrue result ↔ ComesBefore first second }
+{
+    if first.property != second.property {
+        return first.property.0 < second.property.0;
+    }
+    if first.source != second.source {
+        return first.source < second.source;
+    }
+    first.target < second.target
+}
+
+/// The pairs from one on, and before another where there is one, in the order of pairs.
+#[derive(Clone, Copy, Debug, PartialEq, Eq)]
+pub(crate) struct PairRange {
+    pub from: Pair,
+    pub end: Option<Pair>,
+}
+
+impl PairRange {
+    /// Whether the pair is in the range.
+    pub(crate) fn contains(&self, pair: Pair) -> bool
+        ensures { IsTrue result ↔ IsWithin self.now pair }
+    {
+        if comes_before(pair, self.from) {
+            return false;
+        }
+        match self.end {
+            None => true,
+            Some(end) => comes_before(pair, end),
+        }
+    }
 }

@@ -1,20 +1,76 @@
 //! Rows of pairs.
+ghost use Rattle.axioms.specs.WellFormedness.{AreDistinct};
 ghost use Rattle.certificate.specs.View.{pair_row_of};
 ghost use Rattle.exactness.specs.ListedInterpretation.{AreSatisfiableContexts};
 ghost use Rattle.engine.specs.Saturations.{IsSaturated};
+ghost use Rattle.countermodel.specs.Edges.{IsGiven};
 ghost use Rattle.countermodel.specs.PairRows.{ArePairRows};
+ghost use Rattle.countermodel.specs.Ranges.{AddsRange, HasRowsBelow, IsBelow};
 ghost use Rattle.countermodel.specs.Sinks.{Adds};
-ghost use Rattle.std.specs.Prelude.{IfOk, OnOk, map};
+ghost use Rattle.std.specs.Prelude.{IfOk, None, OnOk, map};
 
+use crate::cuts::cuts_of;
 use crate::edges::pairs_of;
 use crate::elements::Elements;
 use crate::grouped::add_grouped;
-use crate::pair::put_in_order;
+use crate::pair::{Pair, PairRange, comes_before, put_in_order};
 use crate::sink::RowSink;
-use axioms::{Memory, Ontology};
+use axioms::{Memory, Ontology, PropId};
 use certificate::PairRow;
 use engine::Saturation;
+use facts::StoredFact;
+use property_closure::PropertyClosure;
 use std::alloc::Global;
+
+/// Adds the rows of the pairs in the range to those of the pairs before it, but the last one, which it gives.
+fn add_range<S: RowSink<PairRow>>(
+    alloc: Global,
+    closure: &PropertyClosure,
+    elements: &Elements,
+    facts: &[StoredFact],
+    range: PairRange,
+    last: Option<PairRow>,
+    rows: &mut S,
+) -> Result<Option<PairRow>, Memory>
+    requires distinct { AreDistinct elements.now }
+    requires forward { IsBelow range.end range.from }
+    ensures { IfOk result (AddsRange S.adds (IsGiven closure.now elements.now facts.now) range rows.old last rows.new) }
+{
+    let mut pairs = pairs_of(alloc, &range, closure, elements, facts)?;
+    put_in_order(&mut pairs);
+    add_grouped(alloc, &pairs, last, rows)
+}
+
+/// Adds the rows of all pairs but the last one, which it gives. Pairs are made and put in order range by range, so that few of them
+/// are there at a time: the ranges end at the pairs of `cuts`.
+fn add_ranges<S: RowSink<PairRow>>(
+    alloc: Global,
+    closure: &PropertyClosure,
+    elements: &Elements,
+    facts: &[StoredFact],
+    cuts: &[Pair],
+    rows: &mut S,
+) -> Result<Option<PairRow>, Memory>
+    requires { AreDistinct elements.now }
+    ensures { IfOk result (HasRowsBelow S.adds (IsGiven closure.now elements.now facts.now) rows.old None rows.new) }
+{
+    let mut from = Pair {
+        property: PropId(0),
+        source: 0,
+        target: 0,
+    };
+    let mut last = None;
+    for cut in cuts {
+        if comes_before(from, *cut) {
+            let end = Some(*cut);
+            let range = PairRange { from, end };
+            last = add_range(alloc, closure, elements, facts, range, last, rows)?;
+            from = *cut;
+        }
+    }
+    let range = PairRange { from, end: None };
+    add_range(alloc, closure, elements, facts, range, last, rows)
+}
 
 /// Adds a row for each property and each element that it leads anywhere from, with the elements there, in order.
 ///
@@ -33,9 +89,13 @@ pub(crate) fn add_pair_rows<S: RowSink<PairRow>>(
     ensures { OnOk result (Adds (λ rs. ArePairRows ontology.now saturation.now.normal.asked elements.now (map pair_row_of rs)) (S.adds rows.old rows.new)) }
 {
     ontology.well_formed();
-    let mut pairs = pairs_of(alloc, saturation.closure(), elements, saturation.facts())?;
-    put_in_order(&mut pairs);
-    add_grouped(alloc, &pairs, rows)
+    let closure = saturation.closure();
+    let facts = saturation.facts();
+    let cuts = cuts_of(alloc, closure, elements, facts)?;
+    match add_ranges(alloc, closure, elements, facts, &cuts, rows)? {
+        None => Ok(()),
+        Some(row) => rows.add(row),
+    }
 }
 
 /// For each property and each element that it leads anywhere from the elements there, in order.

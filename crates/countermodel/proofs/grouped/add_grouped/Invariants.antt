@@ -1,6 +1,5 @@
-use Rattle.std.proofs.Common.{take}
-use Rattle.countermodel.proofs.GroupedRows.{HasGrouped}
+use Rattle.countermodel.proofs.GroupedRows.{GroupsSoFar}
 use Rattle.countermodel.proofs.grouped.add_grouped.Given as goal
 
 abbrev pub invariant-loop-pair : goal.invariant-loop-pair
-invariant-loop-pair g l = HasGrouped g.S.RowSink.adds l.fn.rows l.rows l.last (take l.pair-index l.pairs)
+invariant-loop-pair g l = GroupsSoFar g.S.RowSink.adds l.pairs l.pair-index l.fn.rows l.fn.last l.rows l.last

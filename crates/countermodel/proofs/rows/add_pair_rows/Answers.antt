@@ -1,29 +1,62 @@
-use Rattle.std.proofs.Common.{◌↔◌, List, Contains, map, subst}
+use Rattle.std.proofs.Common.{◌≡◌, ◌↔◌, List, Contains, None, map, sym, subst}
+use Rattle.std.proofs.lemmas.Result.{on_ok_weaker}
+use Rattle.axioms.specs.Ontology.{Ontology}
+use Rattle.axioms.specs.WellFormedness.{IsOntology}
 use Rattle.certificate.specs.View.{pair_row_of}
+use Rattle.certificate.specs.declared.listed.PairRow.{PairRow}
+use Rattle.closure.specs.Closure.{Context}
+use Rattle.engine.specs.Saturations.{IsSaturated, Saturated}
 use Rattle.facts.specs.declared.contexts.Fact.{Fact}
+use Rattle.inference.specs.PropertyClosures.{IsClosureOf}
+use Rattle.property_closure.specs.PropertyClosures.{Known}
 use Rattle.countermodel.specs.declared.pair.Pair.{Pair}
 use Rattle.countermodel.specs.Edges.{IsGiven}
+use Rattle.countermodel.specs.PairRows.{ArePairRows}
 use Rattle.countermodel.specs.Pairs.{AreGrouped}
+use Rattle.countermodel.specs.Ranges.{HasRowsBelow}
+use Rattle.countermodel.specs.Sinks.{Adds}
+use Rattle.countermodel.proofs.GroupedRows.{with_the_last, without_last}
 use Rattle.countermodel.proofs.ListedPairs.{are_rows, one_place}
-use Rattle.countermodel.proofs.Taken.{adds_weaker}
 use Rattle.countermodel.proofs.rows.add_pair_rows.Goals as goal
 
-pub pairs_of-requires : goal.pairs_of-requires
-pairs_of-requires g c = one_place c.args.elements.now c.requires.elements.ascend
+pub cuts_of-requires : goal.cuts_of-requires
+cuts_of-requires g c = one_place c.args.elements.now c.requires.elements.ascend
+
+pub add_ranges-requires : goal.add_ranges-requires
+add_ranges-requires g c = one_place c.args.elements.now c.requires.elements.ascend
+
+-- rows of the pairs that the facts give are those of the listed interpretation
+all_rows : (o : Ontology) (s : Saturated) → IsSaturated o s → (k : Known) → IsClosureOf s.state.problem.forms k → (elements : List Context) → IsOntology o
+    → (facts : List Fact) → facts ≡ s.state.facts → (pairs : List Pair) → ((p : Pair) → Contains pairs p ↔ (IsGiven k elements facts p × Unit {0}))
+    → (took : List PairRow → Type 0) → Adds (λ rs. AreGrouped pairs (map pair_row_of rs)) took → Adds (λ rs. ArePairRows o s.normal.asked elements (map pair_row_of rs)) took
+all_rows o s saturated k closed elements ontology facts same pairs are took a =
+    let given : (p : Pair) → Contains pairs p ↔ IsGiven k elements s.state.facts p = λ p. (
+      λ c. subst (λ (fs : List Fact). IsGiven k elements fs p) same ((are p).0 c).0,
+      λ h. (are p).1 (subst (λ (fs : List Fact). IsGiven k elements fs p) (sym same) h, tt),
+    ) in
+    record { rows = a.rows; are = are_rows o s saturated k closed elements ontology pairs (map pair_row_of a.rows) given a.are; added = a.added }
+
+pub returns-in-None : goal.returns-in-None
+returns-in-None g c =
+    let adds = g.S.RowSink.adds in
+    let start = c.args.rows.now in
+    let now = c.add_ranges.new.rows in
+    let k = c.closure-closure.result.now in
+    let elements = c.args.elements.now in
+    let h = subst (HasRowsBelow adds (IsGiven k elements c.facts-facts.result.now) start None now) c.in-None.is c.in_ok-add_ranges.ensures in
+    all_rows c.args.ontology.now c.args.saturation.now c.requires.saturated k c.closure-closure.ensures elements c.well_formed-2.ensures c.facts-facts.result.now c.facts-facts.ensures h.pairs h.are
+    (adds start now) (without_last adds start h.pairs now h.grouped)
 
 pub returns : goal.returns
 returns g c =
-    let o = c.args.ontology.now in
-    let s = c.args.saturation.now in
-    let k = c.closure.result.now in
+    let adds = g.S.RowSink.adds in
+    let start = c.args.rows.now in
+    let old = c.add_ranges.new.rows in
+    let new = c.add.new.self in
+    let k = c.closure-closure.result.now in
     let elements = c.args.elements.now in
-    let pairs = c.put_in_order.new.pairs.items in
-    let given = subst (λ (fs : List Fact). (p : Pair) → Contains c.in_ok-pairs.pairs.items p ↔ IsGiven k elements fs p) c.facts.ensures c.in_ok-pairs.ensures in
-    let are : (p : Pair) → Contains pairs p ↔ IsGiven k elements s.state.facts p = λ p.
-    let same = c.put_in_order.ensures.same p in
-    let says = given p in
-    (λ h. says.0 (same.0 h), λ h. same.1 (says.1 h)) in
-    adds_weaker c.add_grouped.result _ _ _
-    (λ rows grouped. are_rows o s c.requires.saturated k c.closure.ensures elements c.well_formed-2.ensures pairs (map pair_row_of rows) are
-    (subst (λ (ps : List Pair). AreGrouped ps (map pair_row_of rows)) c.deref.ensures.value grouped))
-    c.add_grouped.ensures
+    let h = subst (HasRowsBelow adds (IsGiven k elements c.facts-facts.result.now) start None old) c.in-Some.is c.in_ok-add_ranges.ensures in
+    on_ok_weaker c.add.result
+    (λ takes. all_rows c.args.ontology.now c.args.saturation.now c.requires.saturated k c.closure-closure.ensures elements c.well_formed-2.ensures c.facts-facts.result.now c.facts-facts.ensures h.pairs h.are
+    (adds start new) (with_the_last adds start h.pairs old new c.in-Some.row takes h.grouped))
+    c.add.ensures
