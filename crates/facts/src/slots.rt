@@ -80,7 +80,7 @@ fn leads_to(facts: &[StoredFact], number: u32, fact: Fact) -> bool
 {
     let place = number as usize - 1;
     if place < facts.len() {
-        return facts[place].get() == fact;
+        return facts[place].is(fact);
     }
     false
 }

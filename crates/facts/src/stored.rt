@@ -1,6 +1,6 @@
 //! Facts as they are kept.
 ghost use Rattle.facts.specs.StoredFacts.{context_from};
-ghost use Rattle.std.specs.Prelude.{◌≡◌};
+ghost use Rattle.std.specs.Prelude.{◌≡◌, ◌↔◌, IsTrue};
 
 use crate::contexts::{Context, Fact};
 use axioms::{ExprId, IndId};
@@ -127,6 +127,36 @@ impl StoredFact {
             Fact::Edge(context, property, target)
         } else {
             Fact::In(Class2::from_parts(self.is_partial, self.number), context)
+        }
+    }
+
+    /// Whether it is the fact.
+    #[inline(always)]
+    pub(crate) fn is(&self, fact: Fact) -> bool
+        ensures { IsTrue result ↔ (self.now ≡ fact) }
+    {
+        match fact {
+            Fact::In(class, context) => {
+                let (is_partial, number) = class.parts();
+                let (is_individual, context) = context_parts(context);
+                !self.is_edge
+                    && self.number == number
+                    && self.context == context
+                    && self.is_partial == is_partial
+                    && self.is_individual == is_individual
+            }
+            Fact::Edge(source, property, target) => {
+                let (is_partial, number) = property.parts();
+                let (is_individual, context) = context_parts(source);
+                let (leads_to_individual, target) = context_parts(target);
+                self.is_edge
+                    && self.number == number
+                    && self.context == context
+                    && self.target == target
+                    && self.is_partial == is_partial
+                    && self.is_individual == is_individual
+                    && self.leads_to_individual == leads_to_individual
+            }
         }
     }
 }
