@@ -22,13 +22,21 @@ use device::{Sink, write_all};
 use itoa::Buffer;
 use std::alloc::{AllocError, Global};
 
+// The digits of the number.
+fn push_digits(out: &mut Vec<u8>, number: u64) -> Result<(), AllocError>
+    ensures { OnOk result (out.new.items ≡ out.old.items ++ decimal number) }
+{
+    let mut buffer = Buffer::new();
+    out.extend_from_slice(buffer.format(number).as_bytes())
+}
+
 /// The word and then the number.
+#[inline(always)]
 pub(crate) fn push_number(out: &mut Vec<u8>, word: &[u8], number: u64) -> Result<(), AllocError>
     ensures { OnOk result (out.new.items ≡ out.old.items ++ text.lettered_number word.now number) }
 {
-    let mut buffer = Buffer::new();
     out.extend_from_slice(word)?;
-    out.extend_from_slice(buffer.format(number).as_bytes())
+    push_digits(out, number)
 }
 
 fn push_subject(out: &mut Vec<u8>, subject: Subject) -> Result<(), AllocError>
