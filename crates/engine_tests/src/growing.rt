@@ -5,7 +5,7 @@ mod individuals;
 
 ghost use Rattle.std.specs.Prelude.{◌≡◌, []};
 
-use crate::adding::{add, at_start};
+use crate::adding::add;
 use crate::lists::{Refusing, Scripted};
 use crate::problems::{
     ALL_GO_ON, Born, CLASSES_MADE_DISJOINT, ONE_ENDS, PROBLEMS, Problem, SUBCLASS_STATED_AGAIN,
@@ -207,18 +207,8 @@ fn in_any_order(
         && grows(alloc, seed, problem, facts, script, backwards) == Some(0)
 }
 
-/// How many facts of the problem may be there from the start: two for each context, and those of its forms.
-fn most_at_start(problem: &Problem) -> usize {
-    let contexts = problem.roots.len();
-    let mut most = contexts.saturating_mul(2);
-    for form in problem.forms {
-        most = most.saturating_add(at_start(*form, contexts));
-    }
-    most
-}
-
-/// Whether the script leads there whichever one push hands its item back: for each push until none does, of which there are at
-/// least as many as facts that are not there from the start.
+/// Whether the script leads there whichever one push hands its item back: for each push until none does, of which there are as many
+/// as facts.
 fn with_each_push_refused(
     alloc: Global,
     seed: RandomState,
@@ -236,10 +226,7 @@ fn with_each_push_refused(
             Refusing::new(alloc, push),
         ) {
             Some(1) => {}
-            Some(0) => {
-                let drawn = (problem.facts as usize).saturating_sub(most_at_start(problem));
-                return push as usize > drawn;
-            }
+            Some(0) => return push > problem.facts,
             _ => return false,
         }
     }

@@ -49,3 +49,5 @@ mod sets;
 mod steps;
 #[cfg(test)]
 mod stored_facts;
+#[cfg(test)]
+mod targets;

@@ -77,6 +77,25 @@ fn a_context_goes_on(rt: HostRuntime) -> Result<(), Fail> {
     Ok(())
 }
 
+/// Whether the list goes to a context that it is led to, and comes back, and is led to none of which nothing waits.
+fn is_led<W: WorkList>(list: &mut W, alloc: Global) -> Result<bool, Fail> {
+    push_all(list, &[(0, 1), (1, 2), (2, 1), (3, 3), (4, 3)])?;
+    let first = list.pop();
+    let is_led = list.lead_to(1);
+    let is_led_to_none = list.lead_to(4);
+    let rest = drain(list, alloc)?;
+    Ok(is_led && !is_led_to_none && are_facts(first, &rest, &[4, 2, 0, 3, 1]))
+}
+
+#[test]
+fn a_list_is_led_to_a_context(rt: HostRuntime) -> Result<(), Fail> {
+    let alloc = rt.alloc();
+    assert!(rt; is_led(&mut ByContext::new(alloc), alloc)?);
+    assert!(rt; !is_led(&mut Fifo::new(alloc), alloc)?);
+    assert!(rt; !is_led(&mut Lifo::new(alloc), alloc)?);
+    Ok(())
+}
+
 fn item(fact: u32) -> Item {
     Item { fact, context: 0 }
 }

@@ -1,7 +1,7 @@
 //! Documents whose facts a list of work leads to that hands one item back: they are those of one run.
 ghost use Rattle.std.specs.Prelude.{◌≡◌, []};
 
-use crate::adding::{add, at_start};
+use crate::adding::add;
 use crate::lists::Refusing;
 use axioms::Ontology;
 use facts::{Context, StoredFact};
@@ -108,19 +108,8 @@ fn ends<W: WorkList + Drop>(
     }
 }
 
-/// How many facts may be there from the start: two for each context, and those of the forms.
-fn most_at_start(forms: &FormList, contexts: usize) -> usize {
-    let mut most = contexts.saturating_mul(2);
-    for number in 0..forms.len() {
-        if let Some(form) = forms.get(number) {
-            most = most.saturating_add(at_start(form, contexts));
-        }
-    }
-    most
-}
-
-/// Whether these facts are led to whichever one push hands its item back: for each push until none does, of which there are at least
-/// as many as facts that are not there from the start.
+/// Whether these facts are led to whichever one push hands its item back: for each push until none does, of which there are as many
+/// as facts.
 fn with_each_push_refused(
     alloc: Global,
     seed: RandomState,
@@ -128,14 +117,11 @@ fn with_each_push_refused(
     contexts: &[Context],
     facts: &[StoredFact],
 ) -> bool {
-    let drawn = facts
-        .len()
-        .saturating_sub(most_at_start(forms, contexts.len()));
     for push in 1..200 {
         let list = Refusing::new(alloc, push);
         match ends(alloc, seed, forms, contexts, facts, list) {
             Some(1) => {}
-            Some(0) => return push > 1 && push as usize > drawn,
+            Some(0) => return push as usize > facts.len(),
             _ => return false,
         }
     }

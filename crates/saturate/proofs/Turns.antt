@@ -1,23 +1,22 @@
 -- A number that is queued, and one that is taken from the list.
-use Rattle.std.proofs.Common.{◌≡◌, ℕ, zero, suc, ◌+◌, ◌-◌, ◌<◌, ◌≤◌, inl, inr, ⊎_elim, Bool, true, false, true≢false, not, eqb, get_or, if◌then◌else◌, List, [], ◌∷◌, ◌++◌, length, take, drop, slice_get, Some, None, Contains, refl, sym, ap, ◌∙◌, subst, arith, length-append}
+use Rattle.std.proofs.Common.{◌≡◌, ℕ, ◌+◌, ◌<◌, ◌≤◌, inl, inr, ⊎_elim, Bool, true, false, true≢false, not, eqb, get_or, if◌then◌else◌, List, [], ◌∷◌, ◌++◌, length, take, drop, slice_get, Option, Some, None, IfSome, Contains, refl, sym, ap, ◌∙◌, subst, arith, length-append}
 use Rattle.std.proofs.lemmas.Bool.Decides.{eqb_tells, nat_tests}
 use Rattle.std.proofs.lemmas.Bool.{cases_lt}
 use Rattle.std.proofs.lemmas.Option.{slice_get_within, slice_get-get_or, get_or_from_slice_get, none-some}
 use Rattle.std.proofs.lemmas.Map.Keys.{IsDistinct-IsPermutation, IsDistinct-from_apart, apart_from_distinct}
-use Rattle.std.specs.List.{IsDistinct, range_with_len}
-use Rattle.std.proofs.lemmas.List.FromFn.{length-range_with_len}
+use Rattle.std.specs.List.{IsDistinct}
 use Rattle.std.proofs.lemmas.List.{nil_from_length, take-append-le, take-append-drop, take_all, length-take}
 use Rattle.std.proofs.lemmas.List.Sorted.{Contains-permutation, IsPermutation-append_left, IsPermutation-filter_both, IsPermutation-sym, length_permutation}
 use Rattle.std.specs.List.Sorted.{IsPermutation}
 use Rattle.std.proofs.lemmas.List.Elements.{Contains-append_left, Contains-push, Contains-push_cases}
 use Rattle.work_list.specs.declared.item.Item.{Item}
-use Rattle.work_list.specs.Bag.{is_item, often, Adds}
+use Rattle.work_list.specs.Bag.{is_item, often, Adds, HaveSameItems, Pops}
 use Rattle.saturate.specs.Flags.{asked, is_flagged, is_kept, kept}
 use Rattle.axioms.specs.WellFormedness.{AreDistinct}
 use Rattle.axioms.proofs.Growing.{AreDistinct-push}
 use Rattle.facts.specs.declared.contexts.Fact.{Fact}
 use Rattle.inference.specs.Derivations.{Keeps}
-use Rattle.saturate.specs.Turns.{context_number, item, AreAmong, IsBeside, IsQueue, HasTurn, IsServedOnce, NameTheirContexts}
+use Rattle.saturate.specs.Turns.{context_number, item, AreAmong, IsQueue, HasTurn, IsServedOnce, NameTheirContexts, StillAdds}
 use Rattle.inference.proofs.Lists.{one_value, Contains-from_slice_get, slice_get-from_Contains, slice_get_there, slice_get_push, slice_get_push_cases, slice_get_take, keeps_push}
 
 same_item : (n c : ℕ) → is_item (item n c) (item n c) ≡ true
@@ -37,27 +36,22 @@ adds_none : {old new : List Item} {x : Item} → Adds x old new → (y : Item) �
 adds_none {old} {x = x} s y e = omega (arith, s.each y ∙ ap (λ t. often old y + (if t then 1 else 0)) e)
 
 -- the next number waits
-pub queued_more : {old new : List Item} {start end queued served c : ℕ} {taken : List ℕ} → IsQueue old start end queued taken served → Adds (item queued c) old new → IsQueue new start end (queued + 1) taken served
-queued_more {old} {new} {start} {end} {queued} {served} {c} {taken} q s = record {
+pub queued_more : {old new : List Item} {queued served c : ℕ} {taken : List ℕ} → IsQueue old queued taken served → Adds (item queued c) old new → IsQueue new (queued + 1) taken served
+queued_more {old} {new} {queued} {served} {c} {taken} q s = record {
   contexts = q.contexts ++ c ∷ [];
   long = omega (arith, length-append q.contexts (c ∷ []), q.long);
   each = λ n d at. ⊎_elim
-      (λ before. ⊎_elim
-      (λ w. inl w)
-      (λ w. let same : often new (item n d) ≡ often old (item n d) = others n d (omega (arith, slice_get_within q.contexts n d before, q.long)) in
-      inr (⊎_elim (λ v. inl (same ∙ v.0, v.1)) (λ v. inr (same ∙ v.0, v.1)) w))
-      (q.each n d before))
+      (λ before.
+      let same : often new (item n d) ≡ often old (item n d) = others n d (omega (arith, slice_get_within q.contexts n d before, q.long)) in
+      ⊎_elim (λ v. inl (same ∙ v.0, v.1)) (λ v. inr (same ∙ v.0, v.1)) (q.each n d before))
       (λ here.
       let last : n ≡ queued = here.0 ∙ q.long in
       let one : often new (item n d) ≡ often old (item n d) + 1 = adds_one s (item n d) (subst (λ (m : ℕ). is_item (item n d) (item m c) ≡ true) last (subst (λ (b : ℕ). is_item (item n d) (item n b) ≡ true) (sym here.1) (same_item n d))) in
-      inr (inl (omega (arith, one, none n d last), λ t. omega (arith, q.within n t, last))))
+      inl (omega (arith, one, none n d last), λ t. omega (arith, q.within n t, last)))
       (slice_get_push_cases q.contexts c n d at);
-  beside = λ n w. (λ d. others n d (omega (arith, w.1, q.last)) ∙ (q.beside n w).0 d, (q.beside n w).1);
   known = λ x lt. known x lt (is_item x (item queued c)) refl;
   within = λ n t. omega (arith, q.within n t);
   distinct = q.distinct;
-  order = q.order;
-  last = omega (arith, q.last);
   tally = omega (arith, q.tally, s.total);
   low = q.low;
 }
@@ -74,78 +68,33 @@ queued_more {old} {new} {start} {end} {queued} {served} {c} {taken} q s = record
         rw (w.0, w.1, ← q.long) (slice_get_push q.contexts c)
     known x lt false e = keeps_push q.contexts c x.fact x.context (q.known x (omega (arith, lt, adds_none s x e)))
 
-slice_get_front : {X : Type 0} (xs ys : List X) (n : ℕ) → n < length xs → slice_get (xs ++ ys) n ≡ slice_get xs n
-slice_get_front [] ys n l = absurd (omega arith)
-slice_get_front (x ∷ xs) ys zero l = refl
-slice_get_front (x ∷ xs) ys (suc n) l = slice_get_front xs ys n (omega arith)
-
--- those up to a size wait beside the list, where none did
-pub lined_up : {waiting : List Item} {start end queued served : ℕ} {taken : List ℕ} (size : ℕ) → IsQueue waiting start end queued taken served → start ≡ end → queued ≤ size → IsQueue waiting queued size size taken served
-lined_up {waiting} {start} {end} {queued} {served} {taken} size q none low = record {
-  contexts = q.contexts ++ more;
-  long = omega (arith, length-append q.contexts more, length-range_with_len 0 (size - queued), q.long, low);
-  each = λ n c at. ⊎_elim
-      (λ old. ⊎_elim
-      (λ w. absurd (omega (arith, w.0, w.1, none)))
-      (λ w. inr w)
-      (q.each n c (sym (slice_get_front q.contexts more n (omega (arith, old, q.long))) ∙ at)))
-      (λ new. inl (new, omega (arith, slice_get_within (q.contexts ++ more) n c at, length-append q.contexts more, length-range_with_len 0 (size - queued), q.long, low)))
-      (cases_lt n queued);
-  beside = λ n w. (λ c. not_there n c w.0, λ t. omega (arith, q.within n t, w.0));
-  known = λ x lt. let old = q.known x lt in slice_get_front q.contexts more x.fact (slice_get_within q.contexts x.fact x.context old) ∙ old;
-  within = λ n t. omega (arith, q.within n t, low);
-  distinct = q.distinct;
-  order = low;
-  last = omega arith;
-  tally = omega (arith, q.tally, none, low);
-  low = q.low;
-}
-  where
-    more : List ℕ
-    more = range_with_len 0 (size - queued)
-
-    not_there : (n c : ℕ) → queued ≤ n → often waiting (item n c) ≡ 0
-    not_there n c high = ⊎_elim (λ w. omega (arith, w.1)) (λ w. absurd (omega (arith, slice_get_within q.contexts n c (q.known (item n c) (omega (arith, w.1))), q.long, high))) (eqb_tells (often waiting (item n c)) 0)
-
 -- one that waits in the list is taken
-module _ {old new : List Item} {start end queued served : ℕ} {taken : List ℕ} {x : Item} (q : IsQueue old start end queued taken served) (s : Adds x new old) where
+module _ {old new : List Item} {queued served : ℕ} {taken : List ℕ} {x : Item} (q : IsQueue old queued taken served) (s : Adds x new old) where
   waits : slice_get q.contexts x.fact ≡ Some x.context
   waits = q.known x (omega (arith, adds_one s x (same_item x.fact x.context)))
-
-  listed : IsBeside start end x.fact → ⊥
-  listed w = omega (arith, (q.beside x.fact w).0 x.context, adds_one s x (same_item x.fact x.context))
 
   pub fresh : (x.fact < queued) × (Contains taken x.fact → ⊥)
   fresh = (
     omega (arith, slice_get_within q.contexts x.fact x.context waits, q.long),
-    ⊎_elim (λ w. absurd (listed w)) (λ v. ⊎_elim (λ w. w.1) (λ w. absurd (omega (arith, w.0, adds_one s x (same_item x.fact x.context)))) v) (q.each x.fact x.context waits),
+    ⊎_elim (λ w. w.1) (λ w. absurd (omega (arith, w.0, adds_one s x (same_item x.fact x.context)))) (q.each x.fact x.context waits),
   )
 
-  pub taken_one : length taken ≡ served → IsQueue new start end queued (taken ++ x.fact ∷ []) served
+  pub taken_one : length taken ≡ served → IsQueue new queued (taken ++ x.fact ∷ []) served
   taken_one all = record {
     contexts = q.contexts;
     long = q.long;
     each = λ n c at. ⊎_elim
-        (λ w. inr (inr (here n c at w.1, subst (λ (m : ℕ). Contains (taken ++ x.fact ∷ []) m) (sym w.1) (Contains-push taken x.fact))))
+        (λ w. inr (here n c at w.1, subst (λ (m : ℕ). Contains (taken ++ x.fact ∷ []) m) (sym w.1) (Contains-push taken x.fact)))
         (λ w.
         let same : often old (item n c) ≡ often new (item n c) = adds_none s (item n c) (other_item (item n c) x w.1) in
         ⊎_elim
-        (λ v. inl v)
-        (λ u. inr (⊎_elim
         (λ v. inl (sym same ∙ v.0, λ t. ⊎_elim v.1 (λ e. w.1 (sym e)) (Contains-push_cases taken x.fact n t)))
         (λ v. inr (sym same ∙ v.0, Contains-append_left taken (x.fact ∷ []) n v.1))
-        u))
         (q.each n c at))
         (eqb_tells n x.fact);
-    beside = λ n w. (
-      λ c. omega (arith, s.each (item n c), (q.beside n w).0 c),
-      λ t. ⊎_elim (q.beside n w).1 (λ e. listed (subst (λ (m : ℕ). IsBeside start end m) (sym e) w)) (Contains-push_cases taken x.fact n t),
-    );
     known = λ y lt. q.known y (omega (arith, s.each y, lt));
     within = λ n t. ⊎_elim (λ before. q.within n before) (λ e. omega (arith, fresh.0, e)) (Contains-push_cases taken x.fact n t);
     distinct = AreDistinct-push taken x.fact q.distinct fresh.1;
-    order = q.order;
-    last = q.last;
     tally = omega (arith, q.tally, s.total, length-append taken (x.fact ∷ []));
     low = omega (arith, all, length-append taken (x.fact ∷ []));
   }
@@ -154,40 +103,7 @@ module _ {old new : List Item} {start end queued served : ℕ} {taken : List ℕ
       here n c at e =
           let same : x.context ≡ c = one_value _ _ _ waits (subst (λ (m : ℕ). slice_get q.contexts m ≡ Some c) e at) in
           let one : often old (item n c) ≡ often new (item n c) + 1 = adds_one s (item n c) (subst (λ (m : ℕ). is_item (item n c) (item m x.context) ≡ true) e (subst (λ (b : ℕ). is_item (item n c) (item n b) ≡ true) (sym same) (same_item n c))) in
-          ⊎_elim (λ w. omega (arith, (q.beside n w).0 c, one)) (λ v. ⊎_elim (λ w. omega (arith, w.0, one)) (λ w. omega (arith, w.0, one)) v) (q.each n c at)
-
--- the last that waits beside the list is taken
-pub taken_beside : {waiting : List Item} {start end queued served : ℕ} {taken : List ℕ} → IsQueue waiting start end queued taken served → start < end → length taken ≡ served → IsQueue waiting start (end - 1) queued (taken ++ (end - 1) ∷ []) served
-taken_beside {waiting} {start} {end} {queued} {served} {taken} q some all = record {
-  contexts = q.contexts;
-  long = q.long;
-  each = λ n c at. ⊎_elim
-      (λ w. inr (inr (subst (λ (m : ℕ). often waiting (item m c) ≡ 0) (sym w.1) (first.0 c), subst (λ (m : ℕ). Contains (taken ++ (end - 1) ∷ []) m) (sym w.1) (Contains-push taken (end - 1)))))
-      (λ w. ⊎_elim
-      (λ v. inl (v.0, before n v.1 w.1))
-      (λ u. inr (⊎_elim
-      (λ v. inl (v.0, λ t. ⊎_elim v.1 (λ e. w.1 (sym e)) (Contains-push_cases taken (end - 1) n t)))
-      (λ v. inr (v.0, Contains-append_left taken ((end - 1) ∷ []) n v.1))
-      u))
-      (q.each n c at))
-      (eqb_tells n (end - 1));
-  beside = λ n w.
-      let still = q.beside n (w.0, omega (arith, w.1)) in
-      (still.0, λ t. ⊎_elim still.1 (λ e. omega (arith, e, w.1)) (Contains-push_cases taken (end - 1) n t));
-  known = q.known;
-  within = λ n t. ⊎_elim (λ old. q.within n old) (λ e. omega (arith, some, q.last, e)) (Contains-push_cases taken (end - 1) n t);
-  distinct = AreDistinct-push taken (end - 1) q.distinct first.1;
-  order = omega (arith, some);
-  last = omega (arith, q.last);
-  tally = omega (arith, q.tally, some, length-append taken ((end - 1) ∷ []));
-  low = omega (arith, all, length-append taken ((end - 1) ∷ []));
-}
-  where
-    first : ((c : ℕ) → often waiting (item (end - 1) c) ≡ 0) × (Contains taken (end - 1) → ⊥)
-    first = q.beside (end - 1) (omega (arith, some), omega (arith, some))
-
-    before : (n : ℕ) → n < end → (n ≡ end - 1 → ⊥) → n < end - 1
-    before n low apart = ⊎_elim (λ w. w) (λ w. absurd (apart (omega (arith, w, low)))) (cases_lt n (end - 1))
+          ⊎_elim (λ w. omega (arith, w.0, one)) (λ w. omega (arith, w.0, one)) (q.each n c at)
 
 -- in an empty list there is no item
 nothing : (waiting : List Item) → length waiting ≡ 0 → (x : Item) → often waiting x ≡ 0
@@ -195,33 +111,33 @@ nothing [] none x = refl
 nothing (y ∷ ys) none x = absurd (omega (arith, none))
 
 -- nothing waits, so all were taken
-pub all_taken : {waiting : List Item} {start end queued served : ℕ} {taken : List ℕ} → IsQueue waiting start end queued taken served → length waiting ≡ 0 → end ≤ start → (n : ℕ) → n < queued → Contains taken n
-all_taken {waiting = waiting} q empty none n low =
+pub all_taken : {waiting : List Item} {queued served : ℕ} {taken : List ℕ} → IsQueue waiting queued taken served → length waiting ≡ 0 → (n : ℕ) → n < queued → Contains taken n
+all_taken {waiting = waiting} q empty n low =
     let c = slice_get_there q.contexts n (omega (arith, low, q.long)) in
-    ⊎_elim (λ w. absurd (omega (arith, w.0, w.1, none))) (λ v. ⊎_elim (λ w. absurd (omega (arith, w.0, nothing waiting empty (item n c.0)))) (λ w. w.1) v) (q.each n c.0 c.1)
+    ⊎_elim (λ w. absurd (omega (arith, w.0, nothing waiting empty (item n c.0)))) (λ w. w.1) (q.each n c.0 c.1)
 
 -- where no number is in hand, those that were taken are those that were served
-pub idle : {waiting : List Item} {start end queued served : ℕ} {taken : List ℕ} → IsQueue waiting start end queued taken served → slice_get taken served ≡ None → length taken ≡ served
+pub idle : {waiting : List Item} {queued served : ℕ} {taken : List ℕ} → IsQueue waiting queued taken served → slice_get taken served ≡ None → length taken ≡ served
 idle {served = served} {taken = taken} q none = ⊎_elim
     (λ w. sym w.1)
     (λ w. let there = slice_get_there taken served (omega (arith, q.low, w.1)) in absurd (none-some there.0 (sym none ∙ there.1)))
     (eqb_tells served (length taken))
 
-pub in_hand : {waiting : List Item} {start end queued served : ℕ} {taken : List ℕ} → IsQueue waiting start end queued taken served → (n : ℕ) → slice_get taken served ≡ Some n → (n < queued) × (length (take served taken) < queued)
+pub in_hand : {waiting : List Item} {queued served : ℕ} {taken : List ℕ} → IsQueue waiting queued taken served → (n : ℕ) → slice_get taken served ≡ Some n → (n < queued) × (length (take served taken) < queued)
 in_hand {queued = queued} {served = served} {taken = taken} q n at =
     let low : served < length taken = slice_get_within taken served n at in
     (q.within n (Contains-from_slice_get taken served n at), simp length-take (omega (arith, q.tally)))
 
-pub nobody_waits : {waiting : List Item} {start end queued served : ℕ} {taken : List ℕ} → IsQueue waiting start end queued taken served → length waiting ≡ 0 → start ≡ end → slice_get taken served ≡ None → HasTurn queued (take served taken) (slice_get taken served)
-nobody_waits {queued = queued} {served = served} {taken = taken} q empty beside none =
+pub nobody_waits : {waiting : List Item} {queued served : ℕ} {taken : List ℕ} → IsQueue waiting queued taken served → length waiting ≡ 0 → slice_get taken served ≡ None → HasTurn queued (take served taken) (slice_get taken served)
+nobody_waits {queued = queued} {served = served} {taken = taken} q empty none =
     let long : length taken ≤ served = omega (arith, idle q none) in
     let whole : take served taken ≡ taken = take_all served taken long in
     record {
       some = λ n e. absurd (none-some n (sym none ∙ e));
-      none = λ _. (ap length whole ∙ omega (arith, q.tally, empty, beside), λ n low. rw whole (all_taken q empty (omega (arith, beside)) n low));
+      none = λ _. (ap length whole ∙ omega (arith, q.tally, empty), λ n low. rw whole (all_taken q empty n low));
     }
 
-pub just_taken : {waiting : List Item} {start end queued served : ℕ} (taken : List ℕ) (x : ℕ) → IsQueue waiting start end queued (taken ++ x ∷ []) served → length taken ≡ served → HasTurn queued (take served taken) (slice_get (taken ++ x ∷ []) served)
+pub just_taken : {waiting : List Item} {queued served : ℕ} (taken : List ℕ) (x : ℕ) → IsQueue waiting queued (taken ++ x ∷ []) served → length taken ≡ served → HasTurn queued (take served taken) (slice_get (taken ++ x ∷ []) served)
 just_taken {queued = queued} {served = served} taken x q all =
     let at : slice_get (taken ++ x ∷ []) served ≡ Some x = rw (← all) (slice_get_push taken x) in
     let short : served ≤ length taken = omega (arith, all) in
@@ -230,28 +146,25 @@ just_taken {queued = queued} {served = served} taken x q all =
       none = λ e. absurd (none-some x (sym e ∙ at));
     }
 
--- a number waits beside the list, or in it, so not all that were queued were served
-pub one_waits_beside : {waiting : List Item} {start end queued served : ℕ} {taken : List ℕ} → IsQueue waiting start end queued taken served → start < end → length (take served taken) < queued
-one_waits_beside {served = served} {taken = taken} q low = simp length-take (omega (arith, q.tally, low))
-
-pub one_waits : {waiting : List Item} {start end queued served : ℕ} {taken : List ℕ} → IsQueue waiting start end queued taken served → (length waiting ≡ 0 → ⊥) → length (take served taken) < queued
+-- a number waits, so not all that were queued were served
+pub one_waits : {waiting : List Item} {queued served : ℕ} {taken : List ℕ} → IsQueue waiting queued taken served → (length waiting ≡ 0 → ⊥) → length (take served taken) < queued
 one_waits {waiting = waiting} {served = served} {taken = taken} q some = simp length-take (⊎_elim (λ w. absurd (some w.1)) (λ w. omega (arith, q.tally, w.1)) (eqb_tells (length waiting) 0))
 
 -- what was served was queued
-pub few_served : {waiting : List Item} {start end queued served : ℕ} {taken : List ℕ} → IsQueue waiting start end queued taken served → length (take served taken) ≤ queued
+pub few_served : {waiting : List Item} {queued served : ℕ} {taken : List ℕ} → IsQueue waiting queued taken served → length (take served taken) ≤ queued
 few_served {queued = queued} {served = served} {taken = taken} q = simp length-take (omega (arith, q.tally))
 
 -- as many were served as were queued, so nothing waits
-pub all_served : {waiting : List Item} {start end queued served : ℕ} {taken : List ℕ} → IsQueue waiting start end queued taken served → queued ≤ length (take served taken) → (n : ℕ) → n < queued → Contains (take served taken) n
+pub all_served : {waiting : List Item} {queued served : ℕ} {taken : List ℕ} → IsQueue waiting queued taken served → queued ≤ length (take served taken) → (n : ℕ) → n < queued → Contains (take served taken) n
 all_served {waiting = waiting} {queued = queued} {served = served} {taken = taken} q most n low =
     let few : length (take served taken) ≤ served = simp length-take (omega arith) in
     let long : length taken ≤ served = omega (arith, q.tally, few) in
     let whole : take served taken ≡ taken = take_all served taken long in
     let none : length waiting ≡ 0 = omega (arith, q.tally, q.low, few) in
-    rw whole (all_taken q none (omega (arith, q.tally, q.low, few)) n low)
+    rw whole (all_taken q none n low)
 
 -- so the list of work is empty
-pub none_waits : {waiting : List Item} {start end queued served : ℕ} {taken : List ℕ} → IsQueue waiting start end queued taken served → queued ≤ length (take served taken) → waiting ≡ []
+pub none_waits : {waiting : List Item} {queued served : ℕ} {taken : List ℕ} → IsQueue waiting queued taken served → queued ≤ length (take served taken) → waiting ≡ []
 none_waits {waiting = waiting} {served = served} {taken = taken} q most =
     let few : length (take served taken) ≤ served = simp length-take (omega arith) in
     nil_from_length waiting (omega (arith, most, q.tally, q.low, few))
@@ -278,7 +191,7 @@ distinct_moved xs ys p distinct m n x a b =
     (cases_lt m n)
 
 -- so no number was served twice, and the one in hand was not served
-pub served_once : {waiting : List Item} {start end queued served : ℕ} {taken : List ℕ} → IsQueue waiting start end queued taken served → IsServedOnce (record { queued = queued; waiting = waiting; served = take served taken; hand = slice_get taken served })
+pub served_once : {waiting : List Item} {queued served : ℕ} {taken : List ℕ} → IsQueue waiting queued taken served → IsServedOnce (record { queued = queued; waiting = waiting; served = take served taken; hand = slice_get taken served })
 served_once {served = served} {taken = taken} q = record {
   distinct = λ i j x a b. q.distinct i j x (slice_get_take served taken i x a).1 (slice_get_take served taken j x b).1;
   fresh = λ n at c.
@@ -288,23 +201,17 @@ served_once {served = served} {taken = taken} q = record {
 }
 
 -- the numbers that were taken change places
-pub moved : {waiting : List Item} {start end queued served : ℕ} {taken : List ℕ} (moves : List ℕ) (served_now : ℕ) → IsQueue waiting start end queued taken served → IsPermutation taken moves → served_now ≤ length moves → IsQueue waiting start end queued moves served_now
+pub moved : {waiting : List Item} {queued served : ℕ} {taken : List ℕ} (moves : List ℕ) (served_now : ℕ) → IsQueue waiting queued taken served → IsPermutation taken moves → served_now ≤ length moves → IsQueue waiting queued moves served_now
 moved {taken = taken} moves served_now q p low = record {
   contexts = q.contexts;
   long = q.long;
   each = λ n c at. ⊎_elim
-      (λ w. inl w)
-      (λ v. inr (⊎_elim
       (λ w. inl (w.0, λ t. w.1 (Contains-permutation moves taken n (IsPermutation-sym taken moves p) t)))
       (λ w. inr (w.0, Contains-permutation taken moves n p w.1))
-      v))
       (q.each n c at);
-  beside = λ n w. ((q.beside n w).0, λ t. (q.beside n w).1 (Contains-permutation moves taken n (IsPermutation-sym taken moves p) t));
   known = q.known;
   within = λ n t. q.within n (Contains-permutation moves taken n (IsPermutation-sym taken moves p) t);
   distinct = distinct_moved taken moves p q.distinct;
-  order = q.order;
-  last = q.last;
   tally = omega (arith, q.tally, length_permutation taken moves p);
   low = low;
 }
@@ -321,7 +228,7 @@ parted flags served taken =
     subst (λ (xs : List ℕ). IsPermutation xs (kept flags front ++ asked flags front ++ drop served taken)) all
     (IsPermutation-append_left (drop served taken) front (kept flags front ++ asked flags front) (IsPermutation-filter_both (is_kept flags) (is_flagged flags) (λ x. not_not (is_flagged flags x)) front))
 
-pub turned_back : {waiting : List Item} {start end queued served : ℕ} {taken : List ℕ} (flags : List Bool) → IsQueue waiting start end queued taken served → IsQueue waiting start end queued (kept flags (take served taken) ++ asked flags (take served taken) ++ drop served taken) (length (kept flags (take served taken)))
+pub turned_back : {waiting : List Item} {queued served : ℕ} {taken : List ℕ} (flags : List Bool) → IsQueue waiting queued taken served → IsQueue waiting queued (kept flags (take served taken) ++ asked flags (take served taken) ++ drop served taken) (length (kept flags (take served taken)))
 turned_back {served = served} {taken = taken} flags q =
     let front : List ℕ = take served taken in
     moved _ (length (kept flags front)) q (parted flags served taken) (omega (arith, length-append (kept flags front ++ asked flags front) (drop served taken), length-append (kept flags front) (asked flags front)))
@@ -358,3 +265,25 @@ among_one_less old new x s y lt = omega (arith, s.each y, lt)
 
 pub none_named : (facts : List Fact) (waiting : List Item) → waiting ≡ [] → NameTheirContexts facts waiting
 none_named facts waiting none x lt = absurd (omega (arith, lt, nothing waiting (ap length none) x))
+
+-- ---- an item comes before another
+
+pub still : {old new : List Item} (x : Item) → HaveSameItems old new → StillAdds x old x new
+still x same all adds = record { each = λ y. omega (arith, adds.each y, same.each y); total = omega (arith, adds.total, same.total) }
+
+-- one waits again, and another is popped
+swapped : {old led back new : List Item} (x y : Item) → HaveSameItems old led → Adds x led back → Adds y new back → StillAdds x old y new
+swapped x y same put popped all adds = record {
+  each = λ z. omega (arith, adds.each z, same.each z, put.each z, popped.each z);
+  total = omega (arith, adds.total, same.total, put.total, popped.total);
+}
+
+pub swapped_for : (other : Option Item) {old led back : List Item} (new : List Item) (x : Item) → HaveSameItems old led → Adds x led back → Pops other back new → IfSome other (λ y. StillAdds x old y new)
+swapped_for None new x same put popped = tt
+swapped_for (Some y) new x same put popped = swapped x y same put popped
+
+-- the number of an item that waited is that of a fact
+pub names_fact : (facts : List Fact) {waiting rest : List Item} {x : Item} → NameTheirContexts facts waiting → Adds x rest waiting → x.fact < length facts
+names_fact facts {x = x} named adds =
+    let w = named x (omega (arith, adds_one adds x (same_item x.fact x.context))) in
+    slice_get_within facts x.fact w.0 w.1

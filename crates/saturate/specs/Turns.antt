@@ -1,5 +1,5 @@
 -- Numbers that have their turns.
-use Rattle.std.specs.Prelude.{◌≡◌, ℕ, ◌+◌, ◌-◌, ◌<◌, ◌≤◌, ◌⊎◌, List, [], ◌∷◌, ◌++◌, length, slice_get, Option, Some, None}
+use Rattle.std.specs.Prelude.{◌≡◌, ℕ, ◌+◌, ◌<◌, ◌≤◌, ◌⊎◌, List, [], ◌∷◌, ◌++◌, length, slice_get, Option, Some, None}
 use Rattle.std.specs.List.{Contains}
 use Rattle.axioms.specs.WellFormedness.{AreDistinct}
 use Rattle.facts.specs.declared.contexts.Context.{Context}
@@ -18,6 +18,11 @@ number_of_context (Individual i) = i.0
 abbrev pub context_number : Fact → ℕ
 context_number (In a x) = number_of_context x
 context_number (Edge x r y) = number_of_context x
+
+-- the number of the context that a fact leads to, if it is an edge
+abbrev pub target_number : Fact → Option ℕ
+target_number (In a x) = None
+target_number (Edge x r y) = Some (number_of_context y)
 
 -- so many numbers were queued; what waits in the list of work; the numbers that were served, in order; and the one in hand, that has its
 -- turn next
@@ -49,22 +54,19 @@ pub record HasOneMore (context : ℕ) (old new : Queued) : Type 0 where
   pub served : new.served ≡ old.served
   pub hand : new.hand ≡ old.hand
 
--- the number waits beside the list, where those from start on and before end do
-abbrev pub IsBeside : ℕ → ℕ → ℕ → Type 0
-IsBeside start end n = (start ≤ n) × (n < end)
+-- whatever has the items of old and one more x has those of new and one more y
+abbrev pub StillAdds : Item → List Item → Item → List Item → Type 0
+StillAdds x old y new = (all : List Item) → Adds x old all → Adds y new all
 
--- each number either waits beside the list, or is in the list, once, or was taken
-pub record IsQueue (waiting : List Item) (start end queued : ℕ) (taken : List ℕ) (served : ℕ) : Type 0 where
+-- each number either is in the list, once, or was taken
+pub record IsQueue (waiting : List Item) (queued : ℕ) (taken : List ℕ) (served : ℕ) : Type 0 where
   pub contexts : List ℕ
   pub long : length contexts ≡ queued
-  pub each : (n c : ℕ) → slice_get contexts n ≡ Some c → IsBeside start end n ⊎ (((often waiting (item n c) ≡ 1) × (Contains taken n → ⊥)) ⊎ ((often waiting (item n c) ≡ 0) × Contains taken n))
-  pub beside : (n : ℕ) → IsBeside start end n → ((c : ℕ) → often waiting (item n c) ≡ 0) × (Contains taken n → ⊥)
+  pub each : (n c : ℕ) → slice_get contexts n ≡ Some c → ((often waiting (item n c) ≡ 1) × (Contains taken n → ⊥)) ⊎ ((often waiting (item n c) ≡ 0) × Contains taken n)
   pub known : (x : Item) → 0 < often waiting x → slice_get contexts x.fact ≡ Some x.context
   pub within : (n : ℕ) → Contains taken n → n < queued
   pub distinct : AreDistinct taken
-  pub order : start ≤ end
-  pub last : end ≤ queued
-  pub tally : length waiting + length taken + (end - start) ≡ queued
+  pub tally : length waiting + length taken ≡ queued
   pub low : served ≤ length taken
 
 -- it is the turn of the number, if there is one that was not served

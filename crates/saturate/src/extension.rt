@@ -155,7 +155,6 @@ fn begun_again<W: WorkList>(
         facts.truncate(before);
         return Err(Memory);
     };
-    queue.line_up(facts.as_slice());
     queue.expect(more);
     Ok(())
 }

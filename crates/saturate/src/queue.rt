@@ -1,23 +1,22 @@
 //! Whose turn it is.
 ghost use Rattle.std.specs.Prelude.{◌≡◌, ◌<◌, ◌≤◌, ◌^◌, ◌+◌, ◌++◌, [], ℕ, None, Some, length, take, Contains, OnOk, OnErr, IfOk};
 ghost use Rattle.saturate.specs.Flags.{asked, is_flagged, kept};
-ghost use Rattle.saturate.specs.Turns.{context_number, option_list, AreAmong, HasOneMore, HasTurn, IsServedOnce, IsWithoutHand, IsWithoutLast, NameTheirContexts};
+ghost use Rattle.saturate.specs.Turns.{option_list, AreAmong, HasOneMore, HasTurn, IsServedOnce, IsWithoutHand, IsWithoutLast, NameTheirContexts};
 
+use crate::order::{Begun, context_of, next};
 use axioms::Memory;
-use facts::{Context, Fact, StoredFact};
+use facts::StoredFact;
 use std::alloc::Global;
 use std::marker::Model;
 use work_list::{Item, WorkList};
 
-/// Numbers from 0 on, each of which has one turn: some wait in a list of work, some beside it, and some were taken,
-/// of which the first are served and the next is in hand.
+/// Numbers from 0 on, each of which has one turn: some wait in a list of work, and some were taken, of which the first are served and
+/// the next is in hand.
 #[derive(Drop)]
 pub(crate) struct Queue<W: WorkList> {
     list: W,
+    begun: Begun,
     queued: u32,
-    /// Those from here on and before the end wait beside the list, and take no memory there, until it is empty.
-    start: u32,
-    end: u32,
     taken: Vec<u32>,
     served: usize,
 }
@@ -30,19 +29,7 @@ impl<W: WorkList> Model for Queue<W> {
 
     ghost view = { λ q. record { queued = q.queued; waiting = W.pending q.list; served = take q.served q.taken.items; hand = slice_get q.taken.items q.served } };
 
-    ghost invariant = { λ q. IsQueue (W.pending q.list) q.start q.end q.queued q.taken.items q.served };
-}
-
-/// The number of a fact's context. An expression and an individual may have the same one, and their facts come together then.
-fn context_of(fact: &StoredFact) -> u32
-    ensures { result ≡ context_number fact.now }
-{
-    match fact.get() {
-        Fact::In(_, x) | Fact::Edge(x, _, _) => match x {
-            Context::Expr(id) => id.0,
-            Context::Individual(id) => id.0,
-        },
-    }
+    ghost invariant = { λ q. IsQueue (W.pending q.list) q.queued q.taken.items q.served };
 }
 
 /// Whether the number is flagged: past the end it is not.
@@ -133,9 +120,8 @@ impl<W: WorkList> Queue<W> {
     {
         Queue {
             list,
+            begun: Begun::new(alloc),
             queued: 0,
-            start: 0,
-            end: 0,
             taken: Vec::new(alloc),
             served: 0,
         }
@@ -152,9 +138,8 @@ impl<W: WorkList> Queue<W> {
         match copied(&self.taken) {
             Ok(taken) => Ok(Queue {
                 list,
+                begun: Begun::new(*taken.allocator()),
                 queued: self.queued,
-                start: self.start,
-                end: self.end,
                 taken,
                 served: self.served,
             }),
@@ -227,25 +212,10 @@ impl<W: WorkList> Queue<W> {
         Ok(())
     }
 
-    /// The numbers of facts that are not queued yet wait beside the list, unless others still do.
-    pub(crate) fn line_up(&mut self, facts: &[StoredFact])
-        requires few { length facts.now < 2 ^ 32 }
-        requires least { self.old.queued ≤ length facts.now }
-        ensures queued { self.new.queued ≤ length facts.now }
-        ensures waiting { self.new.waiting ≡ self.old.waiting }
-        ensures served { self.new.served ≡ self.old.served }
-        ensures hand { self.new.hand ≡ self.old.hand }
-    {
-        if self.start == self.end {
-            self.start = self.queued;
-            self.end = facts.len() as u32;
-            self.queued = self.end;
-        }
-    }
-
-    /// Takes a number that waits in hand, where the list is empty the last of those beside it.
-    fn take(&mut self) -> Result<(), Memory>
-        requires { self.old.hand ≡ None }
+    /// Takes a number that waits in hand.
+    fn take(&mut self, facts: &[StoredFact]) -> Result<(), Memory>
+        requires hand { self.old.hand ≡ None }
+        requires named { NameTheirContexts facts.now self.old.waiting }
         ensures queued { self.new.queued ≡ self.old.queued }
         ensures waiting { AreAmong self.new.waiting self.old.waiting }
         ensures served { self.new.served ≡ self.old.served }
@@ -254,14 +224,10 @@ impl<W: WorkList> Queue<W> {
         ensures some { OnErr result (length self.old.served < self.old.queued) }
     {
         if self.list.len() == 0 {
-            if self.start < self.end {
-                self.taken.push(self.end - 1)?;
-                self.end -= 1;
-            }
             return Ok(());
         }
         self.taken.reserve(1)?;
-        if let Some(item) = self.list.pop() {
+        if let Some(item) = next(&mut self.list, &mut self.begun, facts) {
             self.taken.push_reserved(item.fact);
         }
         Ok(())
@@ -310,7 +276,7 @@ impl<W: WorkList> Queue<W> {
             return Ok(Some(hand));
         }
         self.fill(facts)?;
-        self.take()?;
+        self.take(facts)?;
         Ok(self.hand())
     }
 

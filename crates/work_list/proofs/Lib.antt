@@ -1,1 +1,1 @@
-pub mod Stacks
+pub mod Waiting

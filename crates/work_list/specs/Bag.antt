@@ -1,5 +1,5 @@
 -- Lists of items whose order means nothing: how often each item is there, and how many there are.
-use Rattle.std.specs.Prelude.{◌≡◌, ℕ, ◌+◌, List, [], length, Bool, ◌&&◌, nat_eq, count_by, Option, Some, None, if◌then◌else◌}
+use Rattle.std.specs.Prelude.{◌≡◌, ℕ, ◌+◌, List, [], Contains, length, Bool, ◌&&◌, nat_eq, count_by, Option, Some, None, if◌then◌else◌}
 use Rattle.work_list.specs.declared.item.Item.{Item}
 
 -- two items are one: the same fact and context
@@ -24,3 +24,9 @@ Pops None old new = (old ≡ []) × (new ≡ [])
 pub record HaveSameItems (xs ys : List Item) : Type 0 where
   pub each : (x : Item) → often xs x ≡ often ys x
   pub total : length xs ≡ length ys
+
+-- an item of the context is in the list
+pub record HasItemOf (context : ℕ) (items : List Item) : Type 0 where
+  pub item : Item
+  pub there : Contains items item
+  pub is_of : item.context ≡ context

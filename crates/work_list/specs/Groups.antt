@@ -1,9 +1,10 @@
 -- Items that are popped context by context.
-use Rattle.std.specs.Prelude.{◌≡◌, ℕ, List, [], Contains, Option, Some, None, Result, Ok, Err}
+use Rattle.std.specs.Prelude.{◌≡◌, ℕ, Bool, true, false, List, [], Contains, Option, Some, None, Result, Ok, Err}
 use Rattle.work_list.specs.declared.item.Item.{Item}
-use Rattle.work_list.specs.Bag.{Adds}
+use Rattle.work_list.specs.Bag.{Adds, HasItemOf}
 
--- the items that wait, in no order that means anything, and the context of the one that was popped last
+-- the items that wait, in no order that means anything, and the context whose turn it is: that of the one that was popped last, or one
+-- that the list was led to since
 pub record Grouped : Type 0 where
   pub items : List Item
   pub last : Option ℕ
@@ -13,15 +14,11 @@ abbrev pub PushesInto : Item → Result Unit Item → (old new : List Item) → 
 PushesInto item (Ok _) old new = Adds item old new
 PushesInto item (Err back) old new = (back ≡ item) × (new ≡ old)
 
--- the item is of the context popped last, if any of the items is
+-- the item is of the context whose turn it is, if any of the items is
 abbrev pub StaysWith : Option ℕ → List Item → Item → Type 0
 StaysWith last items item = (other : Item) → Contains items other → last ≡ Some other.context → last ≡ Some item.context
 
--- where one of the items is of the context popped last, that stays the last
-abbrev pub StaysLast : (old new : Option ℕ) → List Item → Type 0
-StaysLast old new items = (other : Item) → Contains items other → old ≡ Some other.context → new ≡ old
-
--- new is old without the item, which is of the context popped last if any is, and whose context is now the last
+-- new is old without the item, which is of the context whose turn it was if any is, and whose context has its turn now
 pub record PopsNext (item : Item) (old new : Grouped) : Type 0 where
   pub items : Adds item new.items old.items
   pub together : StaysWith old.last old.items item
@@ -31,3 +28,8 @@ pub record PopsNext (item : Item) (old new : Grouped) : Type 0 where
 abbrev pub PopsTogether : Option Item → (old new : Grouped) → Type 0
 PopsTogether (Some item) old new = PopsNext item old new
 PopsTogether None old new = (old.items ≡ []) × (new ≡ old)
+
+-- it is the turn of the context, of which an item waits, or nothing changes; in either case the same items wait
+abbrev pub LeadsTo : ℕ → Bool → (old new : Grouped) → Type 0
+LeadsTo context true old new = (new.items ≡ old.items) × (new.last ≡ Some context) × HasItemOf context new.items
+LeadsTo context false old new = new ≡ old

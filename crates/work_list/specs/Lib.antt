@@ -1,4 +1,4 @@
 pub mod Bag
 pub mod Groups
 pub mod Order
-pub mod Stacks
+pub mod Waiting

@@ -1,31 +1,32 @@
 //! The items of one context together.
-ghost use Rattle.std.specs.Prelude.{◌≡◌, ◌++◌, ◌∷◌, [], None, Some, IfNone, IfSome, IsTrue, ◌↔◌, OnErr, OnOk, length};
+ghost use Rattle.std.specs.Prelude.{◌≡◌, ◌<◌, ◌⊎◌, ◌∷◌, [], ℕ, Contains, None, Some, IfNone, IfSome, IsTrue, ◌↔◌, OnErr, OnOk, length};
 ghost use Rattle.work_list.specs.Bag.{Adds};
-ghost use Rattle.work_list.specs.Groups.{PopsTogether, PushesInto, StaysLast};
-ghost use Rattle.work_list.specs.Stacks.{IsApart, items_in, items_of_last, waiting};
+ghost use Rattle.work_list.specs.Groups.{LeadsTo, PopsTogether, PushesInto};
+ghost use Rattle.work_list.specs.Waiting.{AllStand, AreStacked, grouped, items_in, list_at};
 
 use crate::groups::Groups;
 use crate::item::Item;
 use crate::list::WorkList;
-use number_sets::NumberList;
+use crate::room::make_room;
 use std::alloc::{AllocError, Global};
 use std::marker::Model;
 
-/// Pops an item of the context that it popped last, while it has any, and then goes on to the context that began to wait last. It is
-/// seen as its items, in no order that means anything, and the context popped last.
+/// Pops an item of the context whose turn it is, which is that of the item that it popped last or one that it was led to since, while
+/// that has any, and then goes on to the context that began to wait last, or had to wait for another. It is seen as its items, in no
+/// order that means anything, and the context whose turn it is.
 /// A push and a pop take constant time on the whole, however many items and contexts there are. A push hands the item back where
-/// memory is refused, where 2^32 - 1 other contexts wait, or where a `usize` cannot count the items. Memory goes by the contexts that
-/// wait, 20 bytes for each, and 4 more for each of its items where they were more than three, which are given back as contexts are
-/// popped; and by the largest number of a context, 4 bytes for each number up to it, which are kept. Where one of these lists is full,
-/// it makes room for half as many more.
+/// memory is refused, or where a `usize` cannot count the items. Memory goes by the largest number of a context, 16 bytes for each
+/// number up to it; by the items, 4 bytes for each of a context's where they were more than three since it last had none; and by the
+/// contexts that wait, 4 bytes for each, and as many for each that it was led away from. Where one of these lists is full, it makes
+/// room for half as many more.
 #[derive(Drop)]
 pub struct ByContext {
-    /// The facts of all other contexts.
+    /// The facts of each context.
     groups: Groups,
-    /// The context of the item that was popped last.
+    /// The contexts that wait, and maybe some that do not wait any more.
+    stack: Vec<u32>,
+    /// The context whose turn it is.
     last: Option<u32>,
-    /// The facts of that context.
-    current: NumberList,
     /// How many items wait.
     count: usize,
 }
@@ -33,16 +34,16 @@ pub struct ByContext {
 impl Model for ByContext {
     ghost use Rattle.std.specs.Prelude.{◌≡◌, length};
     ghost use Rattle.work_list.specs.Groups.{Grouped};
-    ghost use Rattle.work_list.specs.Stacks.{IsApart, waiting};
+    ghost use Rattle.work_list.specs.Waiting.{AreStacked, grouped, items_in};
 
     ghost Value = { Grouped };
 
-    ghost view = { λ b. record { items = waiting b.groups b.last b.current; last = b.last } };
+    ghost view = { λ b. grouped b.groups b.last };
 
-    ghost invariant = { λ b. IsApart b.groups b.last b.current × (b.count ≡ length (waiting b.groups b.last b.current)) };
+    ghost invariant = { λ b. AreStacked b.groups.lists.items b.stack.items b.last × (b.count ≡ length (items_in b.groups.lists.items)) };
 }
 
-/// Whether the context was popped last.
+/// Whether it is the turn of the context.
 fn is_last(last: Option<u32>, context: u32) -> bool
     ensures { IsTrue result ↔ (last ≡ Some context) }
 {
@@ -55,49 +56,78 @@ fn is_last(last: Option<u32>, context: u32) -> bool
 /// Adds an item to those that wait. Fails where memory is refused; then no item changes.
 fn push(
     groups: &mut Groups,
+    stack: &mut Vec<u32>,
     last: Option<u32>,
-    current: &mut NumberList,
     item: Item,
 ) -> Result<(), AllocError>
-    requires { IsApart groups.old last current.old }
-    ensures apart { IsApart groups.new last current.new }
-    ensures ok { OnOk result (Adds item (waiting groups.old last current.old) (waiting groups.new last current.new)) }
-    ensures err { OnErr result (waiting groups.new last current.new ≡ waiting groups.old last current.old) }
+    requires { AreStacked groups.old.lists.items stack.old.items last }
+    ensures stacked { AreStacked groups.new.lists.items stack.new.items last }
+    ensures ok { OnOk result (Adds item (items_in groups.old.lists.items) (items_in groups.new.lists.items)) }
+    ensures err { OnErr result (items_in groups.new.lists.items ≡ items_in groups.old.lists.items) }
 {
-    if is_last(last, item.context) {
-        return current.push(groups.alloc, item.fact);
+    if is_last(last, item.context) || groups.has(item.context) {
+        return groups.push(item);
     }
-    groups.push(item)
+    make_room(stack)?;
+    groups.push(item)?;
+    stack.push_reserved(item.context);
+    Ok(())
 }
 
-/// Goes on to the context on top of the stack, where none of the last one waits.
-fn turn(groups: &mut Groups, last: &mut Option<u32>, current: &mut NumberList)
-    requires { IsApart groups.old last.old current.old }
-    ensures apart { IsApart groups.new last.new current.new }
-    ensures items { waiting groups.new last.new current.new ≡ waiting groups.old last.old current.old }
-    ensures together { StaysLast last.old last.new (waiting groups.old last.old current.old) }
-    ensures ended { current.new ≡ [] → (items_in groups.new ≡ []) × (last.new ≡ last.old) }
+/// The context on top of the stack of which any item waits, without those on top of it.
+fn next(groups: &Groups, stack: &mut Vec<u32>) -> Option<u32>
+    requires { AllStand groups.now.lists.items stack.old.items }
+    ensures waits { IfSome result (λ context. 0 < length (list_at groups.now.lists.items context)) }
+    ensures stacked { AreStacked groups.now.lists.items stack.new.items result }
+    ensures none { IfNone result (items_in groups.now.lists.items ≡ []) }
 {
-    if current.len() > 0 {
-        return;
+    while let Some(context) = stack.pop() {
+        if groups.has(context) {
+            return Some(context);
+        }
     }
-    if let Some(group) = groups.pop() {
-        *last = Some(group.context);
-        *current = group.facts;
-    }
+    None
 }
 
-/// Takes an item of the context popped last, if there is one.
-fn take(last: Option<u32>, current: &mut NumberList) -> Option<Item>
-    requires { last ≡ None → current.old ≡ [] }
-    ensures items { IfSome result (λ item. items_of_last last current.old ≡ items_of_last last current.new ++ item ∷ []) }
+/// Takes an item of the context whose turn it is, if there is one.
+fn take(groups: &mut Groups, last: Option<u32>) -> Option<Item>
+    ensures some { IfSome result (λ item. Adds item (items_in groups.new.lists.items) (items_in groups.old.lists.items)) }
     ensures context { IfSome result (λ item. last ≡ Some item.context) }
-    ensures none { IfNone result (current.old ≡ []) }
-    ensures same { IfNone result (current.new ≡ current.old) }
+    ensures fewer { (c : ℕ) → 0 < length (list_at groups.new.lists.items c) → 0 < length (list_at groups.old.lists.items c) }
+    ensures none { IfNone result ((c : ℕ) → last ≡ Some c → list_at groups.old.lists.items c ≡ []) }
+    ensures same { IfNone result (groups.new.lists.items ≡ groups.old.lists.items) }
 {
-    let context = last?;
-    let fact = current.pop()?;
-    Some(Item { fact, context })
+    groups.pop(last?)
+}
+
+/// Takes an item of the context whose turn it is, or of the one that comes next, if there is one.
+fn pop(groups: &mut Groups, stack: &mut Vec<u32>, last: &mut Option<u32>) -> Option<Item>
+    requires { AreStacked groups.old.lists.items stack.old.items last.old }
+    ensures stacked { AreStacked groups.new.lists.items stack.new.items last.new }
+    ensures together { PopsTogether result (grouped groups.old last.old) (grouped groups.new last.new) }
+{
+    if let Some(item) = take(groups, *last) {
+        return Some(item);
+    }
+    let context = next(groups, stack)?;
+    *last = Some(context);
+    take(groups, *last)
+}
+
+/// Puts the context whose turn it is on the stack, if any of its items waits. Fails where memory is refused.
+fn set_aside(groups: &Groups, stack: &mut Vec<u32>, last: Option<u32>) -> Result<(), AllocError>
+    requires { AreStacked groups.now.lists.items stack.old.items last }
+    ensures ok { OnOk result (AllStand groups.now.lists.items stack.new.items) }
+    ensures err { OnErr result (stack.new.items ≡ stack.old.items) }
+{
+    let Some(context) = last else {
+        return Ok(());
+    };
+    if groups.has(context) {
+        make_room(stack)?;
+        stack.push_reserved(context);
+    }
+    Ok(())
 }
 
 impl ByContext {
@@ -107,8 +137,8 @@ impl ByContext {
     {
         ByContext {
             groups: Groups::new(alloc),
+            stack: Vec::new(alloc),
             last: None,
-            current: NumberList::new(),
             count: 0,
         }
     }
@@ -124,7 +154,7 @@ impl WorkList for ByContext {
         let Some(count) = self.count.checked_add(1) else {
             return Err(item);
         };
-        let Ok(()) = push(&mut self.groups, self.last, &mut self.current, item) else {
+        let Ok(()) = push(&mut self.groups, &mut self.stack, self.last, item) else {
             return Err(item);
         };
         self.count = count;
@@ -134,8 +164,7 @@ impl WorkList for ByContext {
     fn pop(&mut self) -> Option<Item>
         ensures together { PopsTogether result self.old self.new }
     {
-        turn(&mut self.groups, &mut self.last, &mut self.current);
-        let item = take(self.last, &mut self.current)?;
+        let item = pop(&mut self.groups, &mut self.stack, &mut self.last)?;
         self.count -= 1;
         Some(item)
     }
@@ -144,5 +173,18 @@ impl WorkList for ByContext {
         ensures { result ≡ length self.now.items }
     {
         self.count
+    }
+
+    fn lead_to(&mut self, context: u32) -> bool
+        ensures { LeadsTo context result self.old self.new }
+    {
+        if !self.groups.has(context) {
+            return false;
+        }
+        let Ok(()) = set_aside(&self.groups, &mut self.stack, self.last) else {
+            return false;
+        };
+        self.last = Some(context);
+        true
     }
 }

@@ -1,52 +1,29 @@
-//! Facts that wait in groups, one for each context.
-ghost use Rattle.std.specs.Prelude.{◌≡◌, ◌<◌, ◌++◌, ◌∷◌, [], IfNone, IfSome, OnErr, OnOk, length, slice_index_or, slice_set};
+//! Facts that wait, in a list for each context.
+ghost use Rattle.std.specs.Prelude.{◌≡◌, ◌<◌, ◌++◌, ◌∷◌, [], IfNone, IfOk, IfSome, IsTrue, OnErr, OnOk, ◌↔◌, false, length, option_to_list, slice_index_or, slice_set};
 ghost use Rattle.work_list.specs.Bag.{Adds};
-ghost use Rattle.work_list.specs.Stacks.{IsGrouped, IsSame, IsSameBut, items_in, items_of, place_at};
+ghost use Rattle.work_list.specs.Waiting.{IsSame, IsSameBut, item_of, items_in, list_at};
 
 use crate::item::Item;
-use crate::room::{make_room, shrink};
+use crate::room::make_room;
 use number_sets::NumberList;
 use std::alloc::{AllocError, Global};
 
-/// The facts of a context that wait.
-#[derive(Drop)]
-pub(crate) struct Group {
-    pub context: u32,
-    pub facts: NumberList,
-}
-
-/// Groups on a stack, each with some facts.
+/// The facts of each context, by its number.
 #[derive(Drop)]
 pub(crate) struct Groups {
     pub alloc: Global,
-    /// The context of each group.
-    pub contexts: Vec<u32>,
-    /// The facts of each group.
     pub lists: Vec<NumberList>,
-    /// For each context one more than the place of its group, or 0 where it has none, as past the end.
-    pub places: Vec<u32>,
 }
 
-/// One more than the place of the context, or 0.
-fn place_of(places: &[u32], context: u32) -> u32
-    ensures { result ≡ place_at places.now context }
+/// Makes room for the facts of the context.
+fn grow(lists: &mut Vec<NumberList>, context: u32) -> Result<(), AllocError>
+    ensures same { IsSame lists.old.items lists.new.items }
+    ensures items { items_in lists.new.items ≡ items_in lists.old.items }
+    ensures ok { OnOk result (context < length lists.new.items) }
 {
-    let context = context as usize;
-    if context < places.len() {
-        places[context]
-    } else {
-        0
-    }
-}
-
-/// Makes room for the place of the context.
-fn grow(places: &mut Vec<u32>, context: u32) -> Result<(), AllocError>
-    ensures same { IsSame places.old.items places.new.items }
-    ensures ok { OnOk result (context < length places.new.items) }
-{
-    while places.len() <= context as usize {
-        make_room(places)?;
-        places.push_reserved(0);
+    while lists.len() <= context as usize {
+        make_room(lists)?;
+        lists.push_reserved(NumberList::new());
     }
     Ok(())
 }
@@ -66,75 +43,67 @@ fn add(
     list.push(alloc, fact)
 }
 
+/// Takes the last fact out of one of the lists, if there is one.
+fn take(lists: &mut Vec<NumberList>, place: usize) -> Option<u32>
+    requires { place < length lists.old.items }
+    ensures same { lists.new.items ≡ slice_set lists.old.items place (slice_index_or lists.new.items place []) }
+    ensures last { slice_index_or lists.old.items place [] ≡ slice_index_or lists.new.items place [] ++ option_to_list result }
+    ensures none { IfNone result (slice_index_or lists.old.items place [] ≡ []) }
+{
+    let list = &mut lists[place];
+    list.pop()
+}
+
 impl Groups {
-    /// No groups.
+    /// No facts.
     pub(crate) fn new(alloc: Global) -> Groups
-        ensures grouped { IsGrouped result }
-        ensures items { items_in result ≡ [] }
+        ensures { result.lists.items ≡ [] }
     {
         Groups {
             alloc,
-            contexts: Vec::new(alloc),
             lists: Vec::new(alloc),
-            places: Vec::new(alloc),
         }
     }
 
-    /// A group on top, of a context that has none, with one fact. Fails where memory is refused or there are 2^32 - 1 groups.
-    fn begin(&mut self, item: Item) -> Result<(), AllocError>
-        requires grouped { IsGrouped self.old }
-        requires absent { place_at self.old.places.items item.context ≡ 0 }
-        ensures grouped { IsGrouped self.new }
-        ensures ok { OnOk result (items_in self.new ≡ items_in self.old ++ item ∷ []) }
-        ensures err { OnErr result (items_in self.new ≡ items_in self.old) }
-        ensures others { IsSameBut item.context self.old.places.items self.new.places.items }
+    /// Whether any fact of the context waits.
+    pub(crate) fn has(&self, context: u32) -> bool
+        ensures { IsTrue result ↔ 0 < length (list_at self.now.lists.items context) }
     {
-        make_room(&mut self.contexts)?;
-        make_room(&mut self.lists)?;
-        grow(&mut self.places, item.context)?;
-        let Ok(place) = u32::try_from(self.contexts.len() + 1) else {
-            return Err(AllocError);
-        };
-        let mut facts = NumberList::new();
-        facts.push(self.alloc, item.fact)?;
-        self.contexts.push_reserved(item.context);
-        self.lists.push_reserved(facts);
-        self.places[item.context as usize] = place;
-        Ok(())
+        let place = context as usize;
+        place < self.lists.len() && self.lists[place].len() > 0
     }
 
-    /// Adds an item to the group of its context. Fails where memory is refused or there are too many groups; then no item changes.
+    /// Adds an item. Fails where memory is refused; then no item changes.
     pub(crate) fn push(&mut self, item: Item) -> Result<(), AllocError>
-        requires { IsGrouped self.old }
-        ensures grouped { IsGrouped self.new }
-        ensures ok { OnOk result (Adds item (items_in self.old) (items_in self.new)) }
-        ensures err { OnErr result (items_in self.new ≡ items_in self.old) }
-        ensures others { IsSameBut item.context self.old.places.items self.new.places.items }
+        ensures ok { OnOk result (Adds item (items_in self.old.lists.items) (items_in self.new.lists.items)) }
+        ensures err { OnErr result (items_in self.new.lists.items ≡ items_in self.old.lists.items) }
+        ensures same { OnErr result (IsSame self.old.lists.items self.new.lists.items) }
+        ensures others { IsSameBut item.context self.old.lists.items self.new.lists.items }
     {
-        let place = place_of(&self.places, item.context);
-        if place == 0 {
-            return self.begin(item);
-        }
-        add(&mut self.lists, self.alloc, place as usize - 1, item.fact)?;
+        grow(&mut self.lists, item.context)?;
+        add(
+            &mut self.lists,
+            self.alloc,
+            item.context as usize,
+            item.fact,
+        )?;
         Ok(())
     }
 
-    /// Takes the group on top, if there is one.
-    pub(crate) fn pop(&mut self) -> Option<Group>
-        requires { IsGrouped self.old }
-        ensures grouped { IsGrouped self.new }
-        ensures items { IfSome result (λ g. items_in self.old ≡ items_in self.new ++ items_of g.context g.facts) }
-        ensures filled { IfSome result (λ g. 0 < length g.facts) }
-        ensures absent { IfSome result (λ g. place_at self.new.places.items g.context ≡ 0) }
-        ensures none { IfNone result (items_in self.old ≡ []) }
-        ensures same { IfNone result (items_in self.new ≡ items_in self.old) }
-        ensures places { IfNone result (IsSame self.old.places.items self.new.places.items) }
+    /// Takes out the item of the context that was added last, or gives none, exactly where the context has none.
+    pub(crate) fn pop(&mut self, context: u32) -> Option<Item>
+        ensures some { IfSome result (λ item. Adds item (items_in self.new.lists.items) (items_in self.old.lists.items)) }
+        ensures context { IfSome result (λ item. item.context ≡ context) }
+        ensures waited { IfSome result (λ _. 0 < length (list_at self.old.lists.items context)) }
+        ensures others { IsSameBut context self.old.lists.items self.new.lists.items }
+        ensures none { IfNone result (list_at self.old.lists.items context ≡ []) }
+        ensures same { IfNone result (self.new.lists.items ≡ self.old.lists.items) }
     {
-        let context = self.contexts.pop()?;
-        let facts = self.lists.pop()?;
-        self.places[context as usize] = 0;
-        shrink(&mut self.contexts);
-        shrink(&mut self.lists);
-        Some(Group { context, facts })
+        let place = context as usize;
+        if place >= self.lists.len() {
+            return None;
+        }
+        let fact = take(&mut self.lists, place)?;
+        Some(Item { fact, context })
     }
 }

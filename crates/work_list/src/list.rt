@@ -1,7 +1,7 @@
 //! The trait of lists of pending work.
-ghost use Rattle.std.specs.Prelude.{◌≡◌, [], List, length, OnOk, OnErr, IfOk, IfErr};
+ghost use Rattle.std.specs.Prelude.{◌≡◌, [], List, length, OnOk, OnErr, IfOk, IfErr, true};
 ghost use Rattle.work_list.specs.declared.item.Item.{Item as AnItem};
-ghost use Rattle.work_list.specs.Bag.{Adds, Pops, HaveSameItems};
+ghost use Rattle.work_list.specs.Bag.{Adds, HasItemOf, HaveSameItems, Pops};
 
 use crate::item::Item;
 use std::alloc::{AllocError, Global};
@@ -24,6 +24,16 @@ pub trait WorkList {
     /// How many items wait.
     fn len(&self) -> usize
         ensures { result ≡ length (pending self.now) };
+
+    /// Gives the context its turn, and answers `true`, where it has items and the list goes by contexts: items of the context are popped
+    /// next. The same items wait as before.
+    fn lead_to(&mut self, context: u32) -> bool
+        ensures same { HaveSameItems (pending self.old) (pending self.new) }
+        ensures waits { result ≡ true → HasItemOf context (pending self.new) }
+    {
+        let _ = context;
+        false
+    }
 }
 
 /// Takes out all items, in the order in which the list pops them: whatever was pushed is popped or still there.

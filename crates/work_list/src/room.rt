@@ -3,9 +3,6 @@ ghost use Rattle.std.specs.Prelude.{◌≡◌, ◌<◌, OnOk, vec_capacity, vec_
 
 use std::alloc::AllocError;
 
-/// How many there is room for at least, before any is given back.
-const LEAST_ROOM: usize = 1024;
-
 /// Makes room for one more, and for half as many as there are where there was none: twice as many would leave more unused.
 pub(crate) fn make_room<T>(list: &mut Vec<T>) -> Result<(), AllocError>
     ensures items { list.new.items ≡ list.old.items }
@@ -15,14 +12,4 @@ pub(crate) fn make_room<T>(list: &mut Vec<T>) -> Result<(), AllocError>
         return Ok(());
     }
     list.reserve_exact(list.len() / 2 + 1)
-}
-
-/// Gives back a quarter of the memory where less than half of it is used.
-pub(crate) fn shrink<T>(list: &mut Vec<T>)
-    ensures { list.new.items ≡ list.old.items }
-{
-    let room = list.capacity();
-    if room > LEAST_ROOM && list.len() < room / 2 {
-        list.shrink_to(room / 4 * 3);
-    }
 }

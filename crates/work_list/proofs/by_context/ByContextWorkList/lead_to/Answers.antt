@@ -1,0 +1,9 @@
+use Rattle.std.proofs.Common.{◌<◌, length, refl, rules}
+use Rattle.work_list.specs.Waiting.{list_at}
+use Rattle.work_list.proofs.Waiting.{has_item}
+use Rattle.work_list.proofs.by_context.ByContextWorkList.lead_to.Goals as goal
+
+pub returns : goal.returns
+returns c =
+    let some : 0 < length (list_at c.self.inside.groups.lists.items c.args.context) = search rules in
+    (rw (← c.self.view_is) refl, refl, has_item c.self.inside.groups.lists.items c.args.context some)
