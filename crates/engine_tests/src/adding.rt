@@ -13,6 +13,6 @@ pub(crate) fn add<W: WorkList>(
     roots: &[Context],
 ) -> Result<(), Memory> {
     let from = state.normal().len();
-    let all = state.normal().joined(forms)?;
+    let all = state.normal().joined(forms.copy()?)?;
     state.extend(&all, from, roots)
 }

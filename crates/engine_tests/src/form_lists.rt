@@ -84,7 +84,7 @@ fn grows_alone(first: &FormList) -> Result<bool, AllocError> {
 
 /// Whether the list and more forms are joined to these.
 fn are_joined(list: &FormList, more: &FormList, forms: &[Form]) -> Result<bool, AllocError> {
-    let joined = list.joined(more)?;
+    let joined = list.joined(more.copy()?)?;
     Ok(has(&joined, forms))
 }
 

@@ -186,13 +186,13 @@ impl FormList {
         push(&mut self.forms, self.alloc, StoredForm::new(form))
     }
 
-    /// These forms, and behind them those of the other list. Where one of the two has none and the other is shared already, the
-    /// result has its memory. Fails where memory is refused.
-    pub fn joined(&self, more: &FormList) -> Result<FormList, AllocError>
-        ensures { IfOk result (λ all. all ≡ self.now ++ more.now) }
+    /// These forms, and behind them those of the other list. Where one of the two has none, the result has the memory of the other,
+    /// this one's only where it is shared already. Fails where memory is refused.
+    pub fn joined(&self, more: FormList) -> Result<FormList, AllocError>
+        ensures { IfOk result (λ all. all ≡ self.now ++ more) }
     {
         if self.len() == 0 {
-            return more.copy();
+            return Ok(more);
         }
         if more.len() == 0 {
             return self.copy();

@@ -52,6 +52,24 @@ fn origin_at(origins: &[StoredOrigin], place: usize) -> Option<Origin>
     Some(origin.get())
 }
 
+// The origins of the first list, and then those of the second. Where the first has none, they stay where they are.
+fn joined(
+    alloc: Global,
+    first: &[StoredOrigin],
+    second: Vec<StoredOrigin>,
+) -> Result<Vec<StoredOrigin>, Memory>
+    ensures { IfOk result (λ all. all.items ≡ first.now ++ second.items) }
+{
+    if first.is_empty() {
+        return Ok(second);
+    }
+    let count = first.len().saturating_add(second.len());
+    let mut all = Vec::with_capacity(alloc, count)?;
+    all.extend_from_slice(first)?;
+    all.extend_from_slice(&second)?;
+    Ok(all)
+}
+
 impl Entries {
     // None.
     pub(crate) fn new(alloc: Global) -> Entries
@@ -91,14 +109,12 @@ impl Entries {
     }
 
     // These forms, and the others behind them.
-    pub(crate) fn joined(&self, alloc: Global, more: &Entries) -> Result<Entries, Memory>
-        ensures { IfOk result (λ e. e ≡ self.now ++ more.now) }
+    pub(crate) fn joined(&self, alloc: Global, more: Entries) -> Result<Entries, Memory>
+        ensures { IfOk result (λ e. e ≡ self.now ++ more) }
     {
-        let forms = self.forms.joined(&more.forms)?;
-        let count = self.origins.len().saturating_add(more.origins.len());
-        let mut origins = Vec::with_capacity(alloc, count)?;
-        origins.extend_from_slice(&self.origins)?;
-        origins.extend_from_slice(&more.origins)?;
+        let Entries { forms, origins } = more;
+        let forms = self.forms.joined(forms)?;
+        let origins = joined(alloc, &self.origins, origins)?;
         Ok(Entries { forms, origins })
     }
 

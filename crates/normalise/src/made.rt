@@ -88,13 +88,22 @@ impl Made {
     }
 
     // These forms, and the others behind them, with the fresh names of those.
-    pub(crate) fn joined(&self, alloc: Global, mut more: Made) -> Result<Made, Memory>
+    pub(crate) fn joined(&self, alloc: Global, more: Made) -> Result<Made, Memory>
         ensures entries { IfOk result (λ m. m.entries ≡ self.now.entries ++ more.entries) }
         ensures operands { IfOk result (λ m. m.operands ≡ more.operands) }
         ensures steps { IfOk result (λ m. m.steps ≡ more.steps) }
     {
-        more.entries = self.entries.joined(alloc, &more.entries)?;
-        Ok(more)
+        let Made {
+            entries,
+            operands,
+            steps,
+        } = more;
+        let entries = self.entries.joined(alloc, entries)?;
+        Ok(Made {
+            entries,
+            operands,
+            steps,
+        })
     }
 
     pub(crate) fn add(&mut self, form: Form, origin: Origin) -> Result<(), Memory>
