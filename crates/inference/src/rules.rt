@@ -143,6 +143,7 @@ impl Rules<'_> {
     }
 
     /// Adds what forms give from the facts, and carries `owl:Nothing` back.
+    #[inline(always)]
     pub(crate) fn draw(
         &self,
         facts: &mut KnownFacts,
