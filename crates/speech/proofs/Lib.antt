@@ -1,0 +1,7 @@
+pub mod Pieces
+pub mod Splitting
+pub mod Beginnings
+pub mod Coming
+pub mod Replying
+pub mod Behind
+pub mod Conversing

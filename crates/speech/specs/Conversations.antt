@@ -1,0 +1,203 @@
+-- Commands and what is told of them, one behind the other: what was read, what was done, and what was written.
+use Rattle.std.specs.Prelude.{◌≡◌, ◌+◌, ◌<◌, ◌≤◌, ◌⊎◌, ◌++◌, ◌∷◌, ℕ, List, [], Option, Some, None, codes, length, slice_get}
+use Rattle.std.specs.Io.KnownBytes.{IsAtEnd}
+use Rattle.std.specs.List.{Contains, flat_map}
+use Rattle.device.specs.Device.{HasFailed}
+use Rattle.program.specs.declared.status.Status.{Status}
+use Rattle.program.specs.declared.status.Status.TheVariants as statuses
+use Rattle.source_lines.specs.Sources.{SourceState, Gives, IsReadOn}
+use Rattle.speech.specs.Commands.{IsNoCommand, Spells, payload_size}
+use Rattle.speech.specs.Devices.{Device, FailsIn, Takes}
+use Rattle.speech.specs.Replies.{Told, reply_text, told, unknown_command}
+use Rattle.speech.specs.declared.command.Command.{Command}
+use Rattle.speech.specs.declared.conversation.Ending.{Ending}
+use Rattle.speech.specs.declared.conversation.Ending.TheVariants as endings
+use Rattle.speech.specs.declared.input_fault.InputFault.{InputFault}
+use Rattle.speech.specs.declared.input_fault.InputFault.TheVariants.{Size, LineFeed, Cut, Unread, Memory}
+use Rattle.speech.specs.declared.line.LineFault.TheVariants as lines
+use Rattle.speech.specs.declared.service.Service.{Ghosts}
+
+-- ---- what is read
+
+-- the bytes come next: they stood in what was read ahead, or the source gave them; the rest of what it gave is read ahead
+pub record Comes (old new : List ℕ) (before after : SourceState) (bytes : List ℕ) : Type 0 where
+  pub read : List ℕ
+  pub given : Gives before after read
+  pub in_order : old ++ read ≡ bytes ++ new
+  pub unfailed : after.failures ≡ before.failures
+
+-- the bytes with a line feed behind them
+abbrev pub ended : List ℕ → List ℕ
+ended bytes = bytes ++ 10 ∷ []
+
+-- the line comes next, with its line feed
+pub record ComesLine (old new : List ℕ) (before after : SourceState) (line : List ℕ) : Type 0 where
+  pub comes : Comes old new before after (ended line)
+  pub single : Contains line 10 → ⊥
+
+-- so many bytes come next, with a line feed
+pub record ComesPayload (size : ℕ) (old new : List ℕ) (before after : SourceState) (payload : List ℕ) : Type 0 where
+  pub comes : Comes old new before after (ended payload)
+  pub long : length payload ≡ size
+
+-- what follows a command: so many bytes, or nothing
+abbrev pub Follows : Option ℕ → (old new : List ℕ) → (before after : SourceState) → (payload : List ℕ) → Type 0
+Follows (Some size) old new before after payload = ComesPayload size old new before after payload
+Follows None old new before after payload = (payload ≡ []) × (new ≡ old) × (after ≡ before)
+
+-- ---- commands that are answered
+
+-- what a line is: a command that as many bytes may follow as there is room for; or none, and none follow it
+abbrev pub IsHeard : (room : ℕ) → (line : List ℕ) → Option Command → (payload : List ℕ) → Type 0
+IsHeard room line (Some command) payload = Spells line command × (length payload ≤ room)
+IsHeard room line None payload = IsNoCommand line lines.Unknown
+
+-- how many bytes follow what is asked for
+abbrev pub size_behind : Option Command → Option ℕ
+size_behind (Some command) = payload_size command
+size_behind None = None
+
+-- what is done, and what is told of it
+abbrev pub IsAnswered : {V : Type 0} → Ghosts V → (old : V) → Option Command → (payload : List ℕ) → Told → (new : V) → Type 0
+IsAnswered V old (Some command) payload reply new = V.steps old command payload reply new
+IsAnswered V old None payload reply new = (reply ≡ unknown_command) × (new ≡ old)
+
+-- a line, the command that it is, the bytes behind it, and what is told
+pub record Exchange : Type 0 where
+  pub line : List ℕ
+  pub command : Option Command
+  pub payload : List ℕ
+  pub reply : Told
+
+-- the bytes that follow a line, with their line feed, if some do
+abbrev pub text_behind : Option ℕ → (payload : List ℕ) → List ℕ
+text_behind None payload = []
+text_behind (Some size) payload = ended payload
+
+-- they are so many
+abbrev pub HasSize : Option ℕ → (payload : List ℕ) → Type 0
+HasSize None payload = payload ≡ []
+HasSize (Some size) payload = length payload ≡ size
+
+-- how an exchange is spelled by whom asks, and by whom answers
+abbrev pub text_asked : Exchange → List ℕ
+text_asked x = ended x.line ++ text_behind (size_behind x.command) x.payload
+
+abbrev pub text_told : Exchange → List ℕ
+text_told x = reply_text x.reply
+
+-- the line is answered as what it is
+pub record IsExchange {V : Type 0} (G : Ghosts V) (old : V) (x : Exchange) (new : V) : Type 0 where
+  pub single : Contains x.line 10 → ⊥
+  pub heard : IsHeard (G.room old) x.line x.command x.payload
+  pub sized : HasSize (size_behind x.command) x.payload
+  pub answered : IsAnswered G old x.command x.payload x.reply new
+
+-- one behind the other
+abbrev pub AreExchanges : {V : Type 0} → Ghosts V → (old : V) → List Exchange → (new : V) → Type 0
+AreExchanges G old [] new = new ≡ old
+AreExchanges {V} G old (x ∷ xs) new = (mid : V) × IsExchange G old x mid × AreExchanges G mid xs new
+
+-- ---- what is no command with its bytes
+
+-- a line begins as that of a command that bytes follow, and does not say how many; or there is no room for so many
+abbrev pub HasNoSize : (room : ℕ) → (line : List ℕ) → Type 0
+HasNoSize room line =
+    IsNoCommand line lines.Size ⊎ ((command : Command) × (size : ℕ) × Spells line command × (payload_size command ≡ Some size) × (room < size))
+
+-- a line is that of a command that so many bytes follow, for which there is room
+abbrev pub HasPayload : (room : ℕ) → (line : List ℕ) → (size : ℕ) → Type 0
+HasPayload room line size = (command : Command) × Spells line command × (payload_size command ≡ Some size) × (size ≤ room)
+
+-- so many bytes with a line feed behind them stand at the front
+abbrev pub HasEnded : (size : ℕ) → (bytes : List ℕ) → Type 0
+HasEnded size bytes = slice_get bytes size ≡ Some 10
+
+-- the source is at its end behind these bytes, all that is left
+pub record IsLast (old : List ℕ) (before after : SourceState) (bytes : List ℕ) : Type 0 where
+  pub comes : Comes old [] before after bytes
+  pub end : IsAtEnd after.left
+
+-- the source failed behind these bytes
+pub record IsCutOff (old : List ℕ) (before after : SourceState) (bytes : List ℕ) : Type 0 where
+  pub read : List ℕ
+  pub given : Gives before after read
+  pub in_order : old ++ read ≡ bytes
+  pub failed : HasFailed before.failures after.failures
+
+-- why the next line is not there
+abbrev pub LacksLine : InputFault → (old : List ℕ) → (before after : SourceState) → Type 0
+LacksLine Cut old before after = (bytes : List ℕ) × IsLast old before after bytes × (Contains bytes 10 → ⊥) × (bytes ≡ [] → ⊥)
+LacksLine Unread old before after = (bytes : List ℕ) × IsCutOff old before after bytes × (Contains bytes 10 → ⊥)
+LacksLine Memory old before after = IsReadOn before after
+LacksLine fault old before after = ⊥
+
+-- why so many bytes with a line feed are not there
+abbrev pub LacksPayload : InputFault → (size : ℕ) → (old : List ℕ) → (before after : SourceState) → Type 0
+LacksPayload LineFeed size old before after = (bytes : List ℕ) × (new : List ℕ) × Comes old new before after bytes × (size < length bytes) × (HasEnded size bytes → ⊥)
+LacksPayload Cut size old before after = (bytes : List ℕ) × IsLast old before after bytes × (length bytes ≤ size)
+LacksPayload Unread size old before after = (bytes : List ℕ) × IsCutOff old before after bytes × (HasEnded size bytes → ⊥)
+LacksPayload Memory size old before after = IsReadOn before after
+LacksPayload Size size old before after = ⊥
+
+-- a line is there, and not what has to follow it
+pub record LacksFollowing (room : ℕ) (fault : InputFault) (old : List ℕ) (before after : SourceState) : Type 0 where
+  pub line : List ℕ
+  pub mid : List ℕ
+  pub then : SourceState
+  pub comes : ComesLine old mid before then line
+  pub size : ℕ
+  pub asked : HasPayload room line size
+  pub lacks : LacksPayload fault size mid then after
+
+-- why no command comes next
+abbrev pub IsRefused : (room : ℕ) → InputFault → (old : List ℕ) → (before after : SourceState) → Type 0
+IsRefused room Size old before after = (line : List ℕ) × (new : List ℕ) × ComesLine old new before after line × HasNoSize room line
+IsRefused room Memory old before after = IsReadOn before after
+IsRefused room fault old before after = LacksLine fault old before after ⊎ LacksFollowing room fault old before after
+
+-- the status of the end of a conversation for that reason, and what is told of it
+abbrev pub status_of : InputFault → Status
+status_of Size = statuses.Usage
+status_of LineFeed = statuses.Usage
+status_of Cut = statuses.Usage
+status_of Unread = statuses.File
+status_of Memory = statuses.Memory
+
+abbrev pub fault_text : InputFault → List ℕ
+fault_text Size = codes "no size within the limit of bytes\n"
+fault_text LineFeed = codes "no line feed behind the bytes\n"
+fault_text Cut = codes "the input ends in a command\n"
+fault_text Unread = codes "cannot read the input\n"
+fault_text Memory = codes "out of memory\n"
+
+abbrev pub told_of : InputFault → Told
+told_of fault = told (status_of fault) (fault_text fault)
+
+-- ---- whole conversations
+
+-- what was asked and answered, and as how it was read
+pub record Exchanged {V : Type 0} (G : Ghosts V) (old new : V) (ahead : List ℕ) (before after : SourceState) (xs : List Exchange) : Type 0 where
+  pub run : AreExchanges G old xs new
+  pub read : Comes [] ahead before after (flat_map text_asked xs)
+
+-- the replies
+abbrev pub replies : List Exchange → List ℕ
+replies xs = flat_map text_told xs
+
+-- what came next is refused, once all before it was answered
+pub record IsRefusedBehind {V : Type 0} (G : Ghosts V) (old new : V) (before after : SourceState) (xs : List Exchange) (fault : InputFault) : Type 0 where
+  pub ahead : List ℕ
+  pub then : SourceState
+  pub exchanged : Exchanged G old new ahead before then xs
+  pub refused : IsRefused (G.room new) fault ahead then after
+
+-- what was asked was answered up to the end: all of it; or all before what is refused, which is told; or the sink failed in a reply
+abbrev pub IsConversation : {V : Type 0} → Ghosts V → (old new : V) → (before after : SourceState) → (sink sink' : Device) → Ending → Type 0
+IsConversation G old new before after sink sink' endings.End =
+    (xs : List Exchange) × Exchanged G old new [] before after xs × IsAtEnd after.left × Takes sink sink' (replies xs)
+IsConversation G old new before after sink sink' (endings.Refused fault) =
+    (xs : List Exchange) × IsRefusedBehind G old new before after xs fault × Takes sink sink' (replies xs ++ reply_text (told_of fault))
+IsConversation G old new before after sink sink' endings.Unwritten =
+    ((xs : List Exchange) × (ahead : List ℕ) × Exchanged G old new ahead before after xs × FailsIn sink sink' (replies xs))
+    ⊎ ((xs : List Exchange) × (fault : InputFault) × IsRefusedBehind G old new before after xs fault × FailsIn sink sink' (replies xs ++ reply_text (told_of fault)))

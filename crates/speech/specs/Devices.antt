@@ -1,0 +1,21 @@
+-- Sinks as far as they can be seen.
+use Rattle.std.specs.Prelude.{◌≡◌, ℕ, List, Option}
+use Rattle.std.specs.Io.KnownBytes.{Appends}
+use Rattle.device.specs.declared.device.Sink.{Ghosts}
+use Rattle.device.specs.Device.{AppendsPrefix, HasFailed}
+
+-- the bytes that a sink has taken, where these are known, and how many of its calls have failed
+abbrev pub Device : Type 0
+Device = Option (List ℕ) × ℕ
+
+-- what the words of its trait tell of a sink: the bytes that it has taken, and how many of its calls have failed
+abbrev pub seen : {S : Type 0} → Ghosts S → S → Device
+seen S sink = (S.taken sink, S.failures sink)
+
+-- the sink has taken the whole text, and no call of it failed
+abbrev pub Takes : (old new : Device) → List ℕ → Type 0
+Takes old new text = Appends old.0 new.0 text × (new.1 ≡ old.1)
+
+-- the sink failed, and has taken a prefix of the text
+abbrev pub FailsIn : (old new : Device) → List ℕ → Type 0
+FailsIn old new text = AppendsPrefix old.0 new.0 text × HasFailed old.1 new.1

@@ -1,0 +1,5 @@
+pub mod Devices
+pub mod Commands
+pub mod Replies
+pub mod Conversations
+pub mod Turns

@@ -1,0 +1,41 @@
+//! Commands.
+ghost use Rattle.speech.specs.Commands.{payload_size};
+ghost use Rattle.std.specs.Prelude.{◌≡◌};
+
+/// What is asked of a session. Names are IRIs without brackets.
+#[derive(Clone, Copy, Debug, PartialEq, Eq)]
+pub enum Command<'l> {
+    /// To add the statements of a text of so many bytes.
+    Add(u64),
+    /// To find out what follows.
+    Run,
+    /// The classes above a class.
+    Supers(&'l str),
+    /// The classes below a class.
+    Subs(&'l str),
+    /// The individuals of a class.
+    Instances(&'l str),
+    /// Why the first class is below the second, or why not.
+    Why(&'l str, &'l str),
+    /// Why an individual is in a class, or why not.
+    WhyIndividual(&'l str, &'l str),
+    /// The same of two classes as `Why`, as a graph.
+    Dot(&'l str, &'l str),
+    /// The names of the class expression of a text of so many bytes.
+    Query(u64),
+    /// How many facts there are, how many are served, and how many bytes.
+    Status,
+}
+
+impl<'l> Command<'l> {
+    /// How many bytes follow the line of the command, where some do.
+    pub fn payload_size(&self) -> Option<u64>
+        ensures { result ≡ payload_size self.now }
+    {
+        match self {
+            Command::Add(size) => Some(*size),
+            Command::Query(size) => Some(*size),
+            _ => None,
+        }
+    }
+}

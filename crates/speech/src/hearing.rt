@@ -1,0 +1,125 @@
+//! Commands as they are read from a source.
+ghost use Rattle.source_lines.specs.Sources.{source_state};
+ghost use Rattle.speech.specs.Conversations.{ComesPayload, Follows, LacksPayload};
+ghost use Rattle.speech.specs.Turns.{Hears, IsNextLine, LacksBehind, LacksSized};
+ghost use Rattle.std.specs.Prelude.{◌≤◌, IfErr, IfOk, length};
+
+use crate::command::Command;
+use crate::input_fault::{InputFault, input_fault};
+use crate::line::{LineFault, read_command};
+use device::Source;
+use source_lines::SourceLines;
+use std::alloc::Global;
+
+/// What a line asks for, if it is a command, and the bytes that followed it.
+#[derive(Drop)]
+pub(crate) struct Heard<'l> {
+    pub command: Option<Command<'l>>,
+    pub payload: Vec<u8>,
+}
+
+/// The next line, without its line feed; or that the source is at its end.
+pub(crate) fn next_line<S: Source>(
+    alloc: Global,
+    lines: &mut SourceLines,
+    source: &mut S,
+) -> Result<Option<Vec<u8>>, InputFault>
+    ensures { IsNextLine result lines.old.ahead lines.new.ahead (source_state S.Source source.old) (source_state S.Source source.new) }
+{
+    if let Err(fault) = lines.advance(source) {
+        return Err(input_fault(fault));
+    }
+    let Some(line) = lines.line().strip_suffix(b"\n") else {
+        return if lines.line().is_empty() {
+            Ok(None)
+        } else {
+            Err(InputFault::Cut)
+        };
+    };
+    match line.to_vec(alloc) {
+        Ok(line) => Ok(Some(line)),
+        Err(_) => Err(InputFault::Memory),
+    }
+}
+
+/// The next so many bytes, which have a line feed behind them.
+fn read_payload<S: Source>(
+    alloc: Global,
+    size: u64,
+    lines: &mut SourceLines,
+    source: &mut S,
+) -> Result<Vec<u8>, InputFault>
+    ensures read { IfOk result (λ v. ComesPayload size lines.old.ahead lines.new.ahead (source_state S.Source source.old) (source_state S.Source source.new) v.items) }
+    ensures lacks { IfErr result (λ fault. LacksPayload fault size lines.old.ahead (source_state S.Source source.old) (source_state S.Source source.new)) }
+{
+    let mut payload = Vec::new(alloc);
+    while payload.len() as u64 <= size {
+        if let Err(fault) = lines.advance(source) {
+            return Err(input_fault(fault));
+        }
+        if lines.line().is_empty() {
+            return Err(InputFault::Cut);
+        }
+        if let Err(_) = payload.extend_from_slice(lines.line()) {
+            return Err(InputFault::Memory);
+        }
+    }
+    let Some(front) = payload.strip_suffix(b"\n") else {
+        return Err(InputFault::LineFeed);
+    };
+    let len = front.len();
+    if len as u64 != size {
+        return Err(InputFault::LineFeed);
+    }
+    payload.truncate(len);
+    Ok(payload)
+}
+
+/// The bytes that follow a line, where so many do, and nothing else.
+fn read_behind<S: Source>(
+    alloc: Global,
+    room: u64,
+    size: Option<u64>,
+    lines: &mut SourceLines,
+    source: &mut S,
+) -> Result<Vec<u8>, InputFault>
+    ensures read { IfOk result (λ v. Follows size lines.old.ahead lines.new.ahead (source_state S.Source source.old) (source_state S.Source source.new) v.items) }
+    ensures within { IfOk result (λ v. length v.items ≤ room) }
+    ensures lacks { IfErr result (λ fault. LacksSized room size fault lines.old.ahead lines.new.ahead (source_state S.Source source.old) (source_state S.Source source.new)) }
+{
+    match size {
+        None => Ok(Vec::new(alloc)),
+        Some(size) if size <= room => read_payload(alloc, size, lines, source),
+        Some(_) => Err(InputFault::Size),
+    }
+}
+
+/// What the line asks for, with the bytes that follow it.
+pub(crate) fn hear<'l, S: Source>(
+    alloc: Global,
+    room: u64,
+    line: &'l [u8],
+    lines: &mut SourceLines,
+    source: &mut S,
+) -> Result<Heard<'l>, InputFault>
+    ensures heard { IfOk result (Hears room line.now lines.old.ahead lines.new.ahead (source_state S.Source source.old) (source_state S.Source source.new)) }
+    ensures lacks { IfErr result (λ fault. LacksBehind room line.now fault lines.old.ahead lines.new.ahead (source_state S.Source source.old) (source_state S.Source source.new)) }
+{
+    let command = match read_command(line) {
+        Ok(command) => command,
+        Err(LineFault::Size) => return Err(InputFault::Size),
+        Err(LineFault::Unknown) => {
+            return Ok(Heard {
+                command: None,
+                payload: Vec::new(alloc),
+            });
+        }
+    };
+    match read_behind(alloc, room, command.payload_size(), lines, source) {
+        Ok(payload) => Ok(Heard {
+            command: Some(command),
+            payload,
+        }),
+        Err(fault) => Err(fault),
+    }
+}

@@ -1,0 +1,21 @@
+//! The language that an editor speaks with a session: commands, replies, and a conversation of them.
+#![tactic(auto)]
+
+mod command;
+mod commands;
+mod conversation;
+mod hearing;
+mod input_fault;
+mod line;
+mod reply;
+mod service;
+mod sizes;
+mod words;
+
+pub use command::Command;
+pub use commands::{MOST_LINE, command_of};
+pub use conversation::{Ending, converse};
+pub use input_fault::InputFault;
+pub use line::{LineFault, read_command};
+pub use reply::{Reply, write_pieces, write_reply};
+pub use service::Service;

@@ -1,0 +1,73 @@
+//! Replies.
+ghost use Rattle.speech.specs.Devices.{FailsIn, Takes, seen};
+ghost use Rattle.speech.specs.Replies.{done_text, refused_text, reply_text, told};
+ghost use Rattle.std.specs.List.{flat_map};
+ghost use Rattle.std.specs.Prelude.{OnErr, OnOk};
+
+use device::{Failed, Sink, write_all};
+use itoa::Buffer;
+use program::Status;
+
+/// What is replied to a command: the status with which a command of the program ends there, and what it prints.
+#[derive(Debug, Drop)]
+pub struct Reply {
+    pub status: Status,
+    pub text: Vec<u8>,
+}
+
+/// Writes the pieces, one behind the other.
+pub fn write_pieces<W: Sink>(sink: &mut W, pieces: &[&[u8]]) -> Result<(), Failed>
+    ensures whole { OnOk result (Takes (seen W.Sink sink.old) (seen W.Sink sink.new) (flat_map (λ p. p.now) pieces.entry.now)) }
+    ensures begun { OnErr result (FailsIn (seen W.Sink sink.old) (seen W.Sink sink.new) (flat_map (λ p. p.now) pieces.entry.now)) }
+{
+    for piece in pieces {
+        if let Err(fault) = write_all(sink, *piece) {
+            return Err(fault);
+        }
+    }
+    Ok(())
+}
+
+/// Writes that a command was done, and its answer behind that.
+fn write_done<W: Sink>(sink: &mut W, text: &[u8]) -> Result<(), Failed>
+    ensures whole { OnOk result (Takes (seen W.Sink sink.old) (seen W.Sink sink.new) (done_text text.now)) }
+    ensures begun { OnErr result (FailsIn (seen W.Sink sink.old) (seen W.Sink sink.new) (done_text text.now)) }
+{
+    let mut size = Buffer::new();
+    let pieces = [
+        b"ok ".as_slice(),
+        size.format(text.len()).as_bytes(),
+        b"\n".as_slice(),
+        text,
+    ];
+    write_pieces(sink, &pieces)
+}
+
+/// Writes that a command was not done, and behind that why.
+fn write_refused<W: Sink>(sink: &mut W, status: Status, text: &[u8]) -> Result<(), Failed>
+    ensures whole { OnOk result (Takes (seen W.Sink sink.old) (seen W.Sink sink.new) (refused_text status text.now)) }
+    ensures begun { OnErr result (FailsIn (seen W.Sink sink.old) (seen W.Sink sink.new) (refused_text status text.now)) }
+{
+    let mut number = Buffer::new();
+    let mut size = Buffer::new();
+    let pieces = [
+        b"no ".as_slice(),
+        number.format(status.code()).as_bytes(),
+        b" ".as_slice(),
+        size.format(text.len()).as_bytes(),
+        b"\n".as_slice(),
+        text,
+    ];
+    write_pieces(sink, &pieces)
+}
+
+/// Writes a reply of this status and this text.
+pub fn write_reply<W: Sink>(sink: &mut W, status: Status, text: &[u8]) -> Result<(), Failed>
+    ensures whole { OnOk result (Takes (seen W.Sink sink.old) (seen W.Sink sink.new) (reply_text (told status text.now))) }
+    ensures begun { OnErr result (FailsIn (seen W.Sink sink.old) (seen W.Sink sink.new) (reply_text (told status text.now))) }
+{
+    match status {
+        Status::Done => write_done(sink, text),
+        _ => write_refused(sink, status, text),
+    }
+}
