@@ -4,7 +4,7 @@ use Rattle.std.specs.Prelude.{false, true, ◌==◌, if◌then◌else◌}
 use Rattle.std.proofs.lemmas.Option.{same_Some}
 use Rattle.clap.specs.Words.{Row, Text}
 use Rattle.command_line.specs.declared.tasks.Command.{Command}
-use Rattle.command_line.specs.declared.tasks.Command.TheVariants.{Check, Classify, Convert, Explain, Instances, Query}
+use Rattle.command_line.specs.declared.tasks.Command.TheVariants.{Check, Classify, Convert, Explain, Instances, Query, Session}
 use Rattle.command_line.specs.declared.tasks.LineFault.{LineFault}
 use Rattle.command_line.specs.declared.tasks.LineFault.TheVariants.{Line, Memory}
 use Rattle.command_line.specs.declared.tasks.Task.{Task}
@@ -19,6 +19,7 @@ letter_of (Convert conversion) = 111
 letter_of (Instances document class) = 110
 letter_of (Explain question) = 120
 letter_of (Query document expression) = 117
+letter_of (Session document) = 101
 
 letter_is : (name : Text) (rows : List Row) (command : Command) → IsCommand name rows command → get_or name 1 0 ≡ letter_of command
 letter_is name rows (Classify paths format) is = ap (λ (w : Text). get_or w 1 0) is.0
@@ -27,6 +28,7 @@ letter_is name rows (Convert conversion) is = ap (λ (w : Text). get_or w 1 0) i
 letter_is name rows (Instances document class) is = ap (λ (w : Text). get_or w 1 0) is.0
 letter_is name rows (Explain question) is = ap (λ (w : Text). get_or w 1 0) is.0
 letter_is name rows (Query document expression) is = ap (λ (w : Text). get_or w 1 0) is.0
+letter_is name rows (Session document) is = ap (λ (w : Text). get_or w 1 0) is.0
 
 -- commands of one name have one letter
 pub one_letter : (name : Text) (rows : List Row) (c d : Command) → IsCommand name rows c → IsCommand name rows d → letter_of c ≡ letter_of d
@@ -43,6 +45,7 @@ draws_is (Convert conversion) = refl
 draws_is (Instances document class) = refl
 draws_is (Explain question) = refl
 draws_is (Query document expression) = refl
+draws_is (Session document) = refl
 
 -- commands of one name draw facts, or do not
 one_draws : (name : Text) (rows : List Row) (c d : Command) → IsCommand name rows c → IsCommand name rows d → draws_facts c ≡ draws_facts d

@@ -14,7 +14,7 @@ use Rattle.command_line.specs.declared.tasks.Question.{Question}
 use Rattle.command_line.specs.declared.tasks.LineFault.{LineFault}
 use Rattle.command_line.specs.declared.tasks.LineFault.TheVariants.{Line, Memory}
 use Rattle.command_line.specs.declared.tasks.Command.{Command}
-use Rattle.command_line.specs.declared.tasks.Command.TheVariants.{Check, Classify, Convert, Explain, Instances, Query}
+use Rattle.command_line.specs.declared.tasks.Command.TheVariants.{Check, Classify, Convert, Explain, Instances, Query, Session}
 use Rattle.command_line.specs.declared.tasks.Task.{Task}
 use Rattle.program.specs.declared.limits.Limits.{Limits}
 use Rattle.program.specs.declared.limits.TheConstants.{MOST_BYTES, MOST_FACTS}
@@ -130,9 +130,13 @@ explain_app = with_limits (with_flags (with_names (new_app (codes "explain"))))
 abbrev pub query_app : App
 query_app = with_limits (with_rule (with_rule (new_app (codes "query")) (path (codes "DOC"))) (path (codes "EXPRESSION")))
 
+-- `session DOC [--max-facts N] [--max-bytes N] [--profile N]`
+abbrev pub session_app : App
+session_app = with_limits (with_rule (new_app (codes "session")) (path (codes "DOC")))
+
 -- the commands that ask about a document
 abbrev pub with_questions : App → App
-with_questions app = with_subcommand (with_subcommand (with_subcommand app instances_app.top) explain_app.top) query_app.top
+with_questions app = with_subcommand (with_subcommand (with_subcommand (with_subcommand app instances_app.top) explain_app.top) query_app.top) session_app.top
 
 -- the program, whose first word after its name is one of the commands
 abbrev pub elc_app : App
@@ -192,6 +196,7 @@ IsCommand name rows (Convert conversion) = (name ≡ codes "convert") × IsConve
 IsCommand name rows (Instances document class) = (name ≡ codes "instances") × (first_of (codes "DOC") rows ≡ Some document.now) × (first_of (codes "CLASS") rows ≡ Some class.now)
 IsCommand name rows (Explain question) = (name ≡ codes "explain") × IsQuestion rows question
 IsCommand name rows (Query document expression) = (name ≡ codes "query") × (first_of (codes "DOC") rows ≡ Some document.now) × (first_of (codes "EXPRESSION") rows ≡ Some expression.now)
+IsCommand name rows (Session document) = (name ≡ codes "session") × (first_of (codes "DOC") rows ≡ Some document.now)
 
 -- a check and a conversion draw no facts
 abbrev pub draws_facts : Command → Bool

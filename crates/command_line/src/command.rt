@@ -3,7 +3,7 @@ ghost use Rattle.std.specs.Fmt.{decimal};
 ghost use Rattle.std.specs.Prelude.{◌≡◌, IfOk, false};
 ghost use Rattle.clap.specs.Words.{app_of, rule_of, with_rule};
 ghost use Rattle.clap.specs.declared.builder.command.Command.TheViews.{out-Command as fields_of};
-ghost use Rattle.command_line.specs.CommandLine.{number, path, flag, max_facts, max_bytes, with_reading as app_with_reading, with_paths as app_with_paths, with_names as app_with_names, with_flags as app_with_flags, with_limits as app_with_limits, with_conversion as app_with_conversion, with_certificates as app_with_certificates, with_questions as app_with_questions, check_app, classify_app, convert_app, instances_app, explain_app, query_app, elc_app};
+ghost use Rattle.command_line.specs.CommandLine.{number, path, flag, max_facts, max_bytes, with_reading as app_with_reading, with_paths as app_with_paths, with_names as app_with_names, with_flags as app_with_flags, with_limits as app_with_limits, with_conversion as app_with_conversion, with_certificates as app_with_certificates, with_questions as app_with_questions, check_app, classify_app, convert_app, instances_app, explain_app, query_app, session_app, elc_app};
 
 use clap::{Arg, ArgAction, Command, value_parser};
 use program::{MOST_BYTES, MOST_BYTES_TEXT, MOST_FACTS, MOST_FACTS_TEXT};
@@ -19,6 +19,7 @@ const EXAMPLES: &str = "Examples:
   elc explain food.ofn http://example.org/Pizza http://example.org/Food
   elc explain food.ofn http://example.org/margherita http://example.org/Pizza --individual
   elc query food.ofn 'ObjectSomeValuesFrom(:contains :Nut)'
+  elc session food.ofn
 Names are written in full, without < and >; in an expression as in the document.";
 
 const CLASSIFY_ABOUT: &str = "Writes the taxonomy, the instances and a certificate of both";
@@ -34,6 +35,9 @@ const EXPLAIN_ABOUT: &str =
 
 const QUERY_ABOUT: &str =
     "Prints the classes above and below a class expression, and its individuals";
+
+const SESSION_ABOUT: &str =
+    "Keeps a document, and answers commands that it reads: add, run, query and others";
 
 const DOCUMENT_HELP: &str = "The file of the ontology, in functional-style syntax";
 
@@ -256,6 +260,15 @@ fn query_command<'a>(alloc: Global) -> Result<Command<'a>, AllocError>
     with_limits(alloc, command)
 }
 
+fn session_command<'a>(alloc: Global) -> Result<Command<'a>, AllocError>
+    ensures app { IfOk result (λ c. app_of c ≡ session_app) }
+    ensures local { IfOk result (λ c. (fields_of c).has_globals ≡ false) }
+{
+    let command = Command::new(alloc, "session").about(SESSION_ABOUT);
+    let command = with_path(alloc, command, "DOC", DOCUMENT_HELP)?;
+    with_limits(alloc, command)
+}
+
 /// The command with those that ask about a document.
 fn with_questions<'a>(alloc: Global, command: Command<'a>) -> Result<Command<'a>, AllocError>
     ensures app { IfOk result (λ c. app_of c ≡ app_with_questions (app_of command.entry)) }
@@ -263,7 +276,8 @@ fn with_questions<'a>(alloc: Global, command: Command<'a>) -> Result<Command<'a>
 {
     let command = command.subcommand(instances_command(alloc)?)?;
     let command = command.subcommand(explain_command(alloc)?)?;
-    command.subcommand(query_command(alloc)?)
+    let command = command.subcommand(query_command(alloc)?)?;
+    command.subcommand(session_command(alloc)?)
 }
 
 /// The program's command line.

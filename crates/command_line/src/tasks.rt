@@ -66,6 +66,10 @@ pub enum Command<'a> {
         document: &'a str,
         expression: &'a str,
     },
+    /// Keep the document, and answer commands that are read.
+    Session {
+        document: &'a str,
+    },
 }
 
 /// What the program is asked to do, and within which limits.

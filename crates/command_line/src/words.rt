@@ -138,6 +138,9 @@ fn named<'a>(name: &str, inner: &ArgMatches<'a>) -> Option<Command<'a>>
             document: word(inner, "DOC")?,
             expression: word(inner, "EXPRESSION")?,
         }),
+        "session" => Some(Command::Session {
+            document: word(inner, "DOC")?,
+        }),
         _ => None,
     }
 }

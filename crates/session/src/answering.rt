@@ -14,7 +14,7 @@ use crate::listed::lines_of_names;
 use crate::opening::{Finished, run_document};
 use crate::question_fault::QuestionFault;
 use crate::run_fault::question_fault;
-use crate::shown::shown;
+use crate::shown::shown_explanation;
 use answers::{Asked, explained, instances};
 use device::Source;
 use program::Limits;
@@ -61,7 +61,7 @@ fn why<'n>(
         Ok(None) => return Err(QuestionFault::UnknownName(first_unknown(ontology, asked, class))),
         Err(_) => return Err(QuestionFault::Memory),
     };
-    match shown(alloc, ontology, &explanation, form) {
+    match shown_explanation(alloc, ontology, &explanation, form) {
         Ok(text) => Ok(text),
         Err(_) => Err(QuestionFault::Memory),
     }

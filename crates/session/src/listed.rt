@@ -27,7 +27,7 @@ pub(crate) fn push_lines(out: &mut Vec<u8>, word: &[u8], names: &[&str]) -> Resu
 /// # Errors
 ///
 /// `Memory` where memory was refused.
-pub(crate) fn lines_of_names(alloc: Global, names: &[&str]) -> Result<Vec<u8>, Memory>
+pub fn lines_of_names(alloc: Global, names: &[&str]) -> Result<Vec<u8>, Memory>
     ensures { IfOk result (λ v. v.items ≡ name_lines [] (map (λ s. s.now) names.now)) }
 {
     let mut out = Vec::new(alloc);

@@ -25,7 +25,11 @@ use std::alloc::Global;
 use std::hash::RandomState;
 
 /// The lines of the classes above, of those below, and of the individuals.
-fn lines_of_answers(alloc: Global, answers: &Answers<'_>) -> Result<Vec<u8>, Memory>
+///
+/// # Errors
+///
+/// `Memory` where memory was refused.
+pub fn lines_of_answers(alloc: Global, answers: &Answers<'_>) -> Result<Vec<u8>, Memory>
     ensures { IfOk result (λ v. v.items ≡ query_lines (names_in answers.now)) }
 {
     let mut out = Vec::new(alloc);

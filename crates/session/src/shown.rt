@@ -71,7 +71,7 @@ fn as_graph(
 /// # Errors
 ///
 /// `Memory` where memory was refused.
-pub(crate) fn shown(
+pub fn shown_explanation(
     alloc: Global,
     ontology: &Ontology,
     explanation: &Explanation,

@@ -1,7 +1,8 @@
-use Rattle.std.proofs.Common.{Some, subst}
+use Rattle.std.proofs.Common.{Some, subst, sym}
 use Rattle.source_lines.specs.Sources.{source_state}
 use Rattle.speech.specs.Devices.{Takes, seen}
-use Rattle.speech.specs.Turns.{IsTurn}
+use Rattle.speech.specs.Turns.{IsRefusalTold, IsTurn}
+use Rattle.speech.specs.declared.input_fault.InputFault.{InputFault}
 use Rattle.speech.specs.declared.conversation.Ending.{Ending}
 use Rattle.speech.proofs.Conversing.{answered_more, at_first, ended_by, refused_by, some_taken, unwritten_by}
 use Rattle.speech.proofs.conversation.converse.Goals as goal
@@ -28,9 +29,10 @@ returns-in-Some-Refused g c =
     let e = seen g.O.Sink c.loop-fault.sink in
     let f = seen g.O.Sink c.turn.new.sink in
     let P : Ending → Type 0 = λ ending. IsTurn g.V.Service c.loop-fault.service c.turn.new.service c.loop-fault.lines.ahead c.turn.new.lines.ahead t r e f (Some ending) in
+    let R : InputFault → Type 0 = λ fault. IsRefusalTold fault f (seen g.O.Sink c.refuse.new.sink) c.refuse.result in
     refused_by g.V.Service c.args.service.now c.loop-fault.service c.turn.new.service c.loop-fault.lines.ahead c.turn.new.lines.ahead s t r
         (seen g.O.Sink c.args.sink.now) e f (seen g.O.Sink c.refuse.new.sink) c.in-Some-Refused.fault c.refuse.result
-        c.loop-fault.invariant (subst P c.in-Some-Refused.field-0-is c.in-Some-Refused.ensures) c.refuse.ensures
+        c.loop-fault.invariant (subst P c.in-Some-Refused.field-0-is c.in-Some-Refused.ensures) (subst R (sym c.in-Some-Refused.fault-is) c.refuse.ensures)
 
 pub returns-in-Some-End : goal.returns-in-Some-End
 returns-in-Some-End g c =
