@@ -136,11 +136,11 @@ session_app = with_limits (with_rule (new_app (codes "session")) (path (codes "D
 
 -- the commands that ask about a document
 abbrev pub with_questions : App → App
-with_questions app = with_subcommand (with_subcommand (with_subcommand (with_subcommand app instances_app.top) explain_app.top) query_app.top) session_app.top
+with_questions app = with_subcommand (with_subcommand (with_subcommand app instances_app.top) explain_app.top) query_app.top
 
 -- the program, whose first word after its name is one of the commands
 abbrev pub elc_app : App
-elc_app = with_questions (with_certificates (on_top (λ s. record s { subcommand_required = true }) (new_app (codes "elc"))))
+elc_app = with_subcommand (with_questions (with_certificates (on_top (λ s. record s { subcommand_required = true }) (new_app (codes "elc"))))) session_app.top
 
 -- ---- what the words ask for
 

@@ -276,8 +276,7 @@ fn with_questions<'a>(alloc: Global, command: Command<'a>) -> Result<Command<'a>
 {
     let command = command.subcommand(instances_command(alloc)?)?;
     let command = command.subcommand(explain_command(alloc)?)?;
-    let command = command.subcommand(query_command(alloc)?)?;
-    command.subcommand(session_command(alloc)?)
+    command.subcommand(query_command(alloc)?)
 }
 
 /// The program's command line.
@@ -290,5 +289,6 @@ pub(crate) fn elc_command<'a>(alloc: Global) -> Result<Command<'a>, AllocError>
         .after_help(EXAMPLES)
         .subcommand_required(true);
     let command = with_certificates(alloc, command)?;
-    with_questions(alloc, command)
+    let command = with_questions(alloc, command)?;
+    command.subcommand(session_command(alloc)?)
 }

@@ -1,4 +1,4 @@
-use Rattle.std.proofs.Common.{Some, subst, sym}
+use Rattle.std.proofs.Common.{Some, subst}
 use Rattle.source_lines.specs.Sources.{source_state}
 use Rattle.speech.specs.Devices.{Takes, seen}
 use Rattle.speech.specs.Turns.{IsRefusalTold, IsTurn}
@@ -32,7 +32,7 @@ returns-in-Some-Refused g c =
     let R : InputFault → Type 0 = λ fault. IsRefusalTold fault f (seen g.O.Sink c.refuse.new.sink) c.refuse.result in
     refused_by g.V.Service c.args.service.now c.loop-fault.service c.turn.new.service c.loop-fault.lines.ahead c.turn.new.lines.ahead s t r
         (seen g.O.Sink c.args.sink.now) e f (seen g.O.Sink c.refuse.new.sink) c.in-Some-Refused.fault c.refuse.result
-        c.loop-fault.invariant (subst P c.in-Some-Refused.field-0-is c.in-Some-Refused.ensures) (subst R (sym c.in-Some-Refused.fault-is) c.refuse.ensures)
+        c.loop-fault.invariant (subst P c.in-Some-Refused.field-0-is c.in-Some-Refused.ensures) (subst R c.in-Some-Refused.fault-is c.refuse.ensures)
 
 pub returns-in-Some-End : goal.returns-in-Some-End
 returns-in-Some-End g c =
