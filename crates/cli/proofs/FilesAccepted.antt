@@ -10,7 +10,7 @@ use Rattle.command_line.proofs.NoTask.{one_letter}
 use Rattle.command_line.proofs.Numbers.{one_number}
 use Rattle.command_line.specs.CommandLine.{AreLimits, ArePaths, IsCommand, IsTaskOf, IsVersion, Refuses, elc_app, version_number}
 use Rattle.command_line.specs.declared.tasks.Command.{Command}
-use Rattle.command_line.specs.declared.tasks.Command.TheVariants.{Check, Classify, Convert, Explain, Instances, Query}
+use Rattle.command_line.specs.declared.tasks.Command.TheVariants.{Check, Classify, Convert, Explain, Instances, Query, Session}
 use Rattle.command_line.specs.declared.tasks.FormatNumber.{FormatNumber}
 use Rattle.command_line.specs.declared.tasks.LineFault.{LineFault}
 use Rattle.command_line.specs.declared.tasks.LineFault.TheVariants as line
@@ -128,10 +128,15 @@ classify_run name rows paths number (Convert conversion) limits s content conten
 classify_run name rows paths number (Instances document class) limits s content content' old new status is is' run = let bad : 108 ≡ 110 = one_letter name rows (Classify paths number) (Instances document class) is is' in absurd (cc)
 classify_run name rows paths number (Explain question) limits s content content' old new status is is' run = let bad : 108 ≡ 120 = one_letter name rows (Classify paths number) (Explain question) is is' in absurd (cc)
 classify_run name rows paths number (Query document expression) limits s content content' old new status is is' run = let bad : 108 ≡ 117 = one_letter name rows (Classify paths number) (Query document expression) is is' in absurd (cc)
+classify_run name rows paths number (Session document) limits s content content' old new status is is' run = let bad : 108 ≡ 101 = one_letter name rows (Classify paths number) (Session document) is is' in absurd (cc)
 
--- the second letter of `check` comes before those of the other commands
+-- the second letter of `check` comes before those of most other commands
 before : (d : ℕ) → ◌≡◌ {A = ℕ} 104 (105 + d) → ⊥
 before d e = omega (arith, e)
+
+-- and behind that of `session`
+earlier : ◌≡◌ {A = ℕ} 104 101 → ⊥
+earlier e = omega (arith, e)
 
 -- what a run of a command says that the words of `check` ask for
 check_run : (name : Text) (rows : List Row) (paths : Paths) (command : Command) (limits : Limits) (s : Store) (content content' : Content) (old new : Output) (status : ℕ) → IsCommand name rows (Check paths) → IsCommand name rows command → IsCommandRun command limits s content content' old new status → (paths' : Paths) × AreSamePaths paths paths' × IsCheckRun paths' limits.version limits.max_bytes s content old new status
@@ -141,6 +146,7 @@ check_run name rows paths (Convert conversion) limits s content content' old new
 check_run name rows paths (Instances document class) limits s content content' old new status is is' run = absurd (before 5 (one_letter name rows (Check paths) (Instances document class) is is'))
 check_run name rows paths (Explain question) limits s content content' old new status is is' run = absurd (before 15 (one_letter name rows (Check paths) (Explain question) is is'))
 check_run name rows paths (Query document expression) limits s content content' old new status is is' run = absurd (before 12 (one_letter name rows (Check paths) (Query document expression) is is'))
+check_run name rows paths (Session document) limits s content content' old new status is is' run = absurd (earlier (one_letter name rows (Check paths) (Session document) is is'))
 
 same_version : (v w : Version) → version_number v ≡ version_number w → v ≡ w
 same_version One One e = refl

@@ -3,7 +3,7 @@ use Rattle.std.proofs.Common.{◌≡◌, ℕ, List, inl, inr, subst, Result, Ok,
 use Rattle.session.specs.Devices.{Device}
 use Rattle.cli.specs.Messages.{IsPrinted, IsTold, IsToldMessage}
 use Rattle.program.specs.declared.status.Status.{Status}
-use Rattle.cli.specs.declared.printing.Message.{Message}
+use Rattle.speech.specs.declared.messages.Message.{Message}
 
 -- a message of this kind is told
 pub told : {E : Type 0} (old new : Device) (message : Result Message E) (IsText : List ℕ → Type 0) (status : Status) (answered : ℕ) → IfOk message (λ m. IsText (string_bytes m.text) × (m.status ≡ status)) → IsToldMessage old new message answered → IsTold old new IsText status answered

@@ -4,6 +4,7 @@ pub mod Checks
 pub mod Conversions
 pub mod FileSinks
 pub mod Files
+pub mod Speaking
 pub mod Runs
 pub mod Theorems
 pub mod Starts

@@ -8,7 +8,8 @@ use Rattle.cert_check.specs.declared.verdict.Verdict.{Verdict}
 use Rattle.cert_check.specs.declared.verdict.Verdict.TheVariants.{Accepted, Rejected}
 use Rattle.classification.specs.declared.classification.Summary.{Summary}
 use Rattle.session.specs.Devices.{Device, Takes, FailsIn, seen}
-use Rattle.cli.specs.declared.printing.Message.{Message}
+use Rattle.speech.specs.Messages.{IsDocumentText, cannot_read}
+use Rattle.speech.specs.declared.messages.Message.{Message}
 use Rattle.cli.specs.declared.fault.CheckFault.{CheckFault}
 use Rattle.cli.specs.declared.fault.CheckFault.TheVariants as checking
 use Rattle.cli.specs.declared.fault.ClassifyFault.{ClassifyFault}
@@ -16,16 +17,12 @@ use Rattle.cli.specs.declared.fault.ClassifyFault.TheVariants as classifying
 use Rattle.command_line.specs.declared.tasks.LineFault.{LineFault}
 use Rattle.command_line.specs.declared.tasks.LineFault.TheVariants as line
 use Rattle.command_line.specs.declared.tasks.Paths.{Paths}
-use Rattle.profile.specs.declared.fault.DocumentFault.{DocumentFault}
 use Rattle.device.specs.declared.device.Sink.{Ghosts}
-use Rattle.profile.specs.Messages.{fault_text, status_of}
-use Rattle.profile.specs.declared.fault.DocumentFault.TheVariants.{TooLarge, Io, TooManyNames}
+use Rattle.profile.specs.Messages.{status_of}
 use Rattle.program.specs.Status.{code_of}
 use Rattle.program.specs.declared.limits.Limits.{Limits}
 use Rattle.program.specs.declared.status.Status.{Status}
 use Rattle.program.specs.declared.status.Status.TheVariants as statuses
-use Rattle.session.specs.declared.question_fault.QuestionFault.{QuestionFault}
-use Rattle.session.specs.declared.question_fault.QuestionFault.TheVariants as asking
 
 -- ---- what standard output and standard error show
 
@@ -103,18 +100,8 @@ summary_text s =
 
 -- ---- faults
 
-abbrev pub cannot_read : (path : List ℕ) → List ℕ
-cannot_read path = codes "cannot read " ++ (path ++ codes "\n")
-
 abbrev pub cannot_write : (path : List ℕ) → List ℕ
 cannot_write path = codes "cannot write " ++ (path ++ codes "\n")
-
--- the text is told of the fault of the document at the path: what is said of a limit or a file, or how the fault is printed
-abbrev pub IsDocumentText : (path : List ℕ) → (most : ℕ) → DocumentFault → List ℕ → Type 0
-IsDocumentText path most TooLarge text = text ≡ codes "limit: more than " ++ (decimal most ++ codes " bytes\n")
-IsDocumentText path most TooManyNames text = text ≡ codes "limit: more than 1000000 names\n"
-IsDocumentText path most Io text = text ≡ cannot_read path
-IsDocumentText path most fault text = text ≡ fault_text fault ++ codes "\n"
 
 -- the path of the sink of that number
 abbrev pub written_path : Paths → ℕ → List ℕ
@@ -155,26 +142,6 @@ abbrev pub IsCheckText : Paths → (max_bytes : ℕ) → CheckFault → List ℕ
 IsCheckText paths bytes (checking.Document fault) text = IsDocumentText paths.document.now bytes fault text
 IsCheckText paths bytes checking.Memory text = text ≡ out_of_memory
 IsCheckText paths bytes (checking.Io n) text = text ≡ cannot_read (read_path paths n)
-
-abbrev pub question_status : QuestionFault → Status
-question_status (asking.Document fault) = status_of fault
-question_status asking.Limit = statuses.Limit
-question_status (asking.UnknownName name) = statuses.Usage
-question_status (asking.Expression fault) = status_of fault
-question_status asking.Memory = statuses.Memory
-
--- the text is told of a question about the document at the path that is not answered; faults of an expression are told as those of a
--- document
-abbrev pub IsQuestionText : (path : List ℕ) → (max_bytes max_facts : ℕ) → QuestionFault → List ℕ → Type 0
-IsQuestionText path bytes facts (asking.Document fault) text = IsDocumentText path bytes fault text
-IsQuestionText path bytes facts asking.Limit text = text ≡ codes "limit: more than " ++ (decimal facts ++ codes " facts\n")
-IsQuestionText path bytes facts (asking.UnknownName name) text = text ≡ codes "unknown name <" ++ (name.now ++ codes ">\n")
-IsQuestionText path bytes facts (asking.Expression fault) text = IsDocumentText path bytes fault text
-IsQuestionText path bytes facts asking.Memory text = text ≡ out_of_memory
-
--- the message tells of the fault of a question about the document at the path, with its status
-abbrev pub IsQuestionMessage : (path : List ℕ) → Limits → QuestionFault → Message → Type 0
-IsQuestionMessage path limits fault m = IsQuestionText path limits.max_bytes limits.max_facts fault (string_bytes m.text) × (m.status ≡ question_status fault)
 
 abbrev pub line_status : LineFault → Status
 line_status (line.Line error) = statuses.Usage

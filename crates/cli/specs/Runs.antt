@@ -8,7 +8,7 @@ use Rattle.classification.specs.declared.classification.Summary.{Summary}
 use Rattle.clap.specs.Words.{Text}
 use Rattle.command_line.specs.CommandLine.{IsTaskOf, Refuses}
 use Rattle.command_line.specs.declared.tasks.Command.{Command}
-use Rattle.command_line.specs.declared.tasks.Command.TheVariants.{Check, Classify, Convert, Explain, Instances, Query}
+use Rattle.command_line.specs.declared.tasks.Command.TheVariants.{Check, Classify, Convert, Explain, Instances, Query, Session}
 use Rattle.command_line.specs.declared.tasks.Conversion.{Conversion}
 use Rattle.command_line.specs.declared.tasks.FormatNumber.{FormatNumber}
 use Rattle.command_line.specs.declared.tasks.FormatNumber.TheVariants as numbers
@@ -27,10 +27,12 @@ use Rattle.program.specs.Status.{code_of}
 use Rattle.std.specs.Fmt.{decimal}
 use Rattle.std.specs.Global.{Vec}
 use Rattle.cli.specs.Files.{AsksFile, ChecksFiles, ClassifiesFile, ConvertsFiles, Store, store}
-use Rattle.cli.specs.Messages.{Output, IsAnswered, IsDocumentText, IsPrinted, IsTold, cannot_read, cannot_write, out_of_memory, rejected_text, unconverted_text, verdict_text, verdict_status, outputs, summary_text, IsCheckText, check_status, IsClassifyText, classify_status, IsQuestionText, question_status, IsLineTold}
+use Rattle.cli.specs.Messages.{Output, IsAnswered, IsPrinted, IsTold, cannot_write, out_of_memory, rejected_text, unconverted_text, verdict_text, verdict_status, outputs, summary_text, IsCheckText, check_status, IsClassifyText, classify_status, IsLineTold}
+use Rattle.speech.specs.Messages.{IsDocumentText, IsQuestionText, cannot_read, question_status}
 use Rattle.cli.specs.Classifications.{IsFaultOf}
 use Rattle.session.specs.Classifications.{IsClassified}
 use Rattle.session.specs.WrittenTexts.{Texts}
+use Rattle.cli.specs.Speaking.{IsSessionRun}
 use Rattle.cli.specs.declared.fault.CheckFault.{CheckFault}
 use Rattle.cli.specs.declared.fault.ClassifyFault.{ClassifyFault}
 use Rattle.cli.specs.declared.fault.ClassifyFault.TheVariants.{Io}
@@ -246,6 +248,7 @@ IsCommandRun (Convert conversion) limits s content content' old new status = IsC
 IsCommandRun (Instances document class) limits s content content' old new status = IsInstancesRun document.now class.now limits s content old new status
 IsCommandRun (Explain question) limits s content content' old new status = IsExplainRun question limits s content old new status
 IsCommandRun (Query document expression) limits s content content' old new status = IsQueryRun document.now expression.now limits s content old new status
+IsCommandRun (Session document) limits s content content' old new status = IsSessionRun document.now limits s content old new status
 
 -- a run of the program: of the task that the words ask for; or the words are no task, which is told
 abbrev pub IsPerformed : List Text → Store → (content content' : Content) → (old new : Output) → (status : ℕ) → Type 0

@@ -7,13 +7,14 @@ ghost use Rattle.session.specs.Answers.{class_name};
 ghost use Rattle.std.specs.Prelude.{◌≡◌, [], ◌∷◌, IfErr, IfOk};
 
 use crate::opening::document_of;
-use crate::printing::{print_bytes, question_message, tell};
+use crate::printing::{print_bytes, tell};
 use answers::Asked;
 use command_line::{Command, Question};
 use device::Sink;
 use profile::Limits;
 use program::Status;
 use session::{Form, QuestionFault, explanation_text, instances_text, query_text};
+use speech::question_message;
 use std::alloc::Global;
 use std::hash::RandomState;
 use system_files::Files;

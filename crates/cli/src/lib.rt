@@ -12,6 +12,7 @@ mod formats;
 mod opening;
 mod printing;
 mod run;
+mod speaking;
 mod starting;
 
 pub use axioms::Ontology;

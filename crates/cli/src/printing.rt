@@ -1,29 +1,21 @@
 //! What the program prints, and its statuses.
-ghost use Rattle.session.specs.Devices.{FailsIn, Takes, seen};
-ghost use Rattle.cli.specs.Messages.{IsPrinted, IsToldMessage, IsDocumentText, IsClassifyMessage, IsCheckText, IsQuestionMessage, check_status, name_at, consistency as word_of, cannot_read, cannot_write, reason_text as text_of_reason, rejected_text, summary_text, unconverted_text, verdict_text, verdict_status, written_path as path_written, read_path as path_read, out_of_memory};
-ghost use Rattle.profile.specs.Messages.{status_of};
+ghost use Rattle.session.specs.Devices.{seen};
+ghost use Rattle.cli.specs.Messages.{IsPrinted, IsToldMessage, IsClassifyMessage, IsCheckText, check_status, name_at, consistency as word_of, cannot_write, reason_text as text_of_reason, rejected_text, summary_text, unconverted_text, verdict_text, verdict_status, written_path as path_written, read_path as path_read, out_of_memory};
 ghost use Rattle.std.specs.Fmt.{decimal};
 ghost use Rattle.std.specs.List.{flat_map};
-ghost use Rattle.std.specs.Prelude.{◌≡◌, ◌++◌, IfOk, OnOk, OnErr, Ok, codes, map, string_bytes};
+ghost use Rattle.std.specs.Prelude.{◌≡◌, ◌++◌, IfOk, codes, map, string_bytes};
 
 use crate::fault::{CheckFault, ClassifyFault};
 use axioms::Ontology;
 use cert_check::{Reason, Verdict};
 use classification::Summary;
 use command_line::Paths;
-use device::{Failed, Sink, write_all};
+use device::{Sink, write_all};
 use itoa::Buffer;
-use profile::{DocumentFault, Limits};
+use profile::Limits;
 use program::Status;
-use session::QuestionFault;
+use speech::{Message, document_message, message_of, unread_message, write_pieces};
 use std::alloc::{AllocError, Global};
-
-/// A text for standard output or standard error, and the status that goes with it.
-#[derive(Debug, Drop)]
-pub(crate) struct Message {
-    pub text: String,
-    pub status: Status,
-}
 
 /// Prints the bytes and gives the status; where the sink fails, that of a file.
 pub(crate) fn print_bytes<W: Sink>(sink: &mut W, bytes: &[u8], status: Status) -> u8
@@ -40,19 +32,6 @@ pub(crate) fn print<W: Sink>(sink: &mut W, text: &str, status: Status) -> u8
     ensures { IsPrinted (seen W.Sink sink.old) (seen W.Sink sink.new) text.now status result }
 {
     print_bytes(sink, text.as_bytes(), status)
-}
-
-/// Writes the pieces, one behind the other.
-fn write_pieces<W: Sink>(sink: &mut W, pieces: &[&[u8]]) -> Result<(), Failed>
-    ensures whole { OnOk result (Takes (seen W.Sink sink.old) (seen W.Sink sink.new) (flat_map (λ p. p.now) pieces.entry.now)) }
-    ensures begun { OnErr result (FailsIn (seen W.Sink sink.old) (seen W.Sink sink.new) (flat_map (λ p. p.now) pieces.entry.now)) }
-{
-    for piece in pieces {
-        if let Err(fault) = write_all(sink, *piece) {
-            return Err(fault);
-        }
-    }
-    Ok(())
 }
 
 /// Prints the pieces, one behind the other, and gives the status; where the sink fails, that of a file.
@@ -81,56 +60,11 @@ pub(crate) fn tell<E: Sink>(err: &mut E, message: Result<Message, AllocError>) -
     }
 }
 
-/// The message of this text, unless memory was refused for it.
-fn message_of(text: Result<String, AllocError>, status: Status) -> Result<Message, AllocError>
-    ensures { IfOk result (λ m. (text ≡ Ok m.text) × (m.status ≡ status)) }
-{
-    match text {
-        Ok(text) => Ok(Message { text, status }),
-        Err(error) => Err(error),
-    }
-}
-
-/// What to tell of a file that is not read.
-pub(crate) fn unread_message(alloc: Global, path: &str) -> Result<Message, AllocError>
-    ensures { IfOk result (λ m. (string_bytes m.text ≡ cannot_read path.now) × (m.status ≡ Status.File)) }
-{
-    message_of(format!(in alloc; "cannot read {path}\n"), Status::File)
-}
-
 /// What to tell of a file that is not written.
 pub(crate) fn unwritten_message(alloc: Global, path: &str) -> Result<Message, AllocError>
     ensures { IfOk result (λ m. (string_bytes m.text ≡ cannot_write path.now) × (m.status ≡ Status.File)) }
 {
     message_of(format!(in alloc; "cannot write {path}\n"), Status::File)
-}
-
-/// What to tell of a document that is not read.
-pub(crate) fn document_message(
-    alloc: Global,
-    fault: &DocumentFault,
-    path: &str,
-    limits: &Limits,
-) -> Result<Message, AllocError>
-    ensures { IfOk result (λ m. IsDocumentText path.now limits.now.max_bytes fault.now (string_bytes m.text) × (m.status ≡ status_of fault.now)) }
-{
-    let status = fault.status();
-    match fault {
-        DocumentFault::TooLarge => {
-            let most = limits.max_bytes;
-            message_of(format!(in alloc; "limit: more than {most} bytes\n"), status)
-        }
-        DocumentFault::TooManyNames => message_of(
-            String::from_str(alloc, "limit: more than 1000000 names\n"),
-            status,
-        ),
-        DocumentFault::Io => unread_message(alloc, path),
-        DocumentFault::NotUtf8 { .. }
-        | DocumentFault::Lex(_)
-        | DocumentFault::Parse(_)
-        | DocumentFault::Faults(_)
-        | DocumentFault::Memory => message_of(format!(in alloc; "{fault}\n"), status),
-    }
 }
 
 /// The path of the file that is written as that number: 1 is the taxonomy's.
@@ -199,38 +133,6 @@ pub(crate) fn check_message(
             Status::Memory,
         ),
         CheckFault::Io(number) => unread_message(alloc, read_path(paths, *number)),
-    }
-}
-
-/// What to tell where a question about the document at the path is not answered. Faults of an expression are told as those of
-/// a document.
-pub(crate) fn question_message(
-    alloc: Global,
-    fault: &QuestionFault<'_>,
-    path: &str,
-    limits: &Limits,
-) -> Result<Message, AllocError>
-    ensures { IfOk result (IsQuestionMessage path.now limits.now fault.now) }
-{
-    match fault {
-        QuestionFault::Document(fault) | QuestionFault::Expression(fault) => {
-            document_message(alloc, fault, path, limits)
-        }
-        QuestionFault::Limit => {
-            let most = limits.max_facts;
-            message_of(
-                format!(in alloc; "limit: more than {most} facts\n"),
-                Status::Limit,
-            )
-        }
-        QuestionFault::UnknownName(name) => message_of(
-            format!(in alloc; "unknown name <{name}>\n"),
-            Status::Usage,
-        ),
-        QuestionFault::Memory => message_of(
-            String::from_str(alloc, "out of memory\n"),
-            Status::Memory,
-        ),
     }
 }
 

@@ -14,10 +14,10 @@ use crate::fault::{CheckFault, ClassifyFault, ConversionFault};
 use crate::formats::format_of;
 use crate::opening::document_of;
 use crate::printing::{
-    check_message, classify_message, document_message, print_numbered, print_summary,
-    print_unconverted, print_verdict, tell, tell_out_of_memory, unread_message, unwritten_message,
-    usage_message,
+    check_message, classify_message, print_numbered, print_summary, print_unconverted,
+    print_verdict, tell, tell_out_of_memory, unwritten_message, usage_message,
 };
+use crate::speaking::perform_session;
 use axioms::{Memory, Ontology};
 use cert_check::{ConvertFault, Verdict};
 use certificate::Format;
@@ -26,6 +26,7 @@ use command_line::{Command, Conversion, FormatNumber, LineFault, Paths, task};
 use device::Sink;
 use profile::{DocumentFault, Limits};
 use program::Status;
+use speech::{document_message, unread_message};
 use std::alloc::Global;
 use std::hash::RandomState;
 use system_files::Files;
@@ -270,5 +271,8 @@ pub fn perform<F: Files, O: Sink, E: Sink>(
             document,
             expression,
         } => perform_query(alloc, document, expression, &limits, files, out, err, state),
+        Command::Session { document } => {
+            perform_session(alloc, document, &limits, files, out, err, state)
+        }
     }
 }

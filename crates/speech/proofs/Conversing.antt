@@ -5,7 +5,7 @@ use Rattle.std.proofs.KnownBytes.{Appends-nil, Appends-trans}
 use Rattle.std.proofs.lemmas.Grind.{flat_map-append}
 use Rattle.source_lines.specs.Sources.{SourceState}
 use Rattle.speech.specs.Conversations.{AreExchanges, Comes, Exchange, Exchanged, IsConversation, IsExchange, IsRefused, IsRefusedBehind, ended, replies, size_behind, text_asked, text_behind, text_told, told_of}
-use Rattle.speech.specs.Devices.{Device, FailsIn, Takes}
+use Rattle.session.specs.Devices.{Device, FailsIn, Takes}
 use Rattle.speech.specs.Replies.{reply_text}
 use Rattle.speech.specs.Turns.{Exchanges, IsRefusalTold, IsTurn}
 use Rattle.speech.specs.declared.conversation.Ending.{Ending}

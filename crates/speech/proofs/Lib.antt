@@ -5,3 +5,4 @@ pub mod Coming
 pub mod Replying
 pub mod Behind
 pub mod Conversing
+pub mod Calling

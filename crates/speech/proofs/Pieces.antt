@@ -1,12 +1,11 @@
 -- Pieces that are written one behind the other.
-use Rattle.std.proofs.Common.{◌≡◌, ◌∙◌, ℕ, ◌+◌, ◌<◌, List, [], ◌++◌, length, take, drop, sym, ap, subst, Option, get_or}
+use Rattle.std.proofs.Common.{◌≡◌, ◌∙◌, ℕ, ◌+◌, ◌<◌, List, [], ◌++◌, length, take, drop, sym, ap, subst, arith, Option, get_or}
 use Rattle.std.proofs.lemmas.Grind.{common_steps, flat_map-append}
 use Rattle.std.proofs.lemmas.List.{append-nil, at_drop_more, take-append-drop}
 use Rattle.std.specs.List.{flat_map}
 use Rattle.std.proofs.Math.Seq.{take-append_seam}
 use Rattle.std.specs.Io.KnownBytes.{Appends}
 use Rattle.std.proofs.KnownBytes.{Appends-trans}
-use Rattle.std.proofs.Common.{arith}
 use Rattle.device.specs.Device.{AppendsPrefix, HasFailed}
 -- some pieces, and a prefix of the next, are a prefix of all
 pub begun : (a b c : Option (List ℕ)) (front piece rest all : List ℕ) → all ≡ front ++ (piece ++ rest) → Appends a b front → AppendsPrefix b c piece → AppendsPrefix a c all
@@ -26,10 +25,3 @@ split f pieces i d within =
 -- a sink that had not failed by then fails in all
 pub failed : (old now new : ℕ) → now ≡ old → HasFailed now new → HasFailed old new
 failed old now new same fails = let P : ℕ → Type 0 = λ n. HasFailed n new in subst P same fails
-
--- texts that are equal piece by piece
-pub joined : {a a' r r' : List ℕ} → a ≡ a' → r ≡ r' → a ++ r ≡ a' ++ r'
-joined {a} {a'} {r} {r'} first rest = ap (λ x. x ++ r) first ∙ ap (λ x. a' ++ x) rest
-
-pub last : {a a' : List ℕ} → a ≡ a' → a ++ [] ≡ a'
-last {a} {a'} same = append-nil a ∙ same

@@ -1,5 +1,6 @@
-pub mod Devices
 pub mod Commands
 pub mod Replies
 pub mod Conversations
 pub mod Turns
+pub mod Messages
+pub mod Answers

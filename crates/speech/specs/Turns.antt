@@ -3,7 +3,7 @@ use Rattle.std.specs.Prelude.{◌≡◌, ◌<◌, ◌≤◌, ℕ, List, [], Opti
 use Rattle.std.specs.Io.KnownBytes.{IsAtEnd}
 use Rattle.source_lines.specs.Sources.{SourceState}
 use Rattle.speech.specs.Conversations.{Comes, ComesLine, Exchange, Follows, HasNoSize, HasPayload, IsAnswered, IsExchange, IsHeard, IsLast, IsRefused, LacksLine, LacksPayload, size_behind, status_of, text_asked, text_told, told_of}
-use Rattle.speech.specs.Devices.{Device, FailsIn, Takes}
+use Rattle.session.specs.Devices.{Device, FailsIn, Takes}
 use Rattle.program.specs.declared.status.Status.{Status}
 use Rattle.program.specs.declared.status.Status.TheVariants as statuses
 use Rattle.speech.specs.Replies.{Told, reply_text}

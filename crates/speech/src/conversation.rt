@@ -1,7 +1,7 @@
 //! A conversation: commands are read, and each is answered before the next one is read.
 ghost use Rattle.source_lines.specs.Sources.{source_state};
 ghost use Rattle.speech.specs.Conversations.{IsConversation};
-ghost use Rattle.speech.specs.Devices.{FailsIn, Takes, seen};
+ghost use Rattle.session.specs.Devices.{FailsIn, Takes, seen};
 ghost use Rattle.speech.specs.Turns.{IsRefusalTold, IsReplied, IsTurn, status_of_end};
 ghost use Rattle.std.specs.Prelude.{◌≡◌, ◌≤◌, OnErr, OnOk, length};
 

@@ -1,14 +1,17 @@
 //! The language that an editor speaks with a session: commands, replies, and a conversation of them.
 #![tactic(auto)]
 
+mod answering;
 mod command;
 mod commands;
 mod conversation;
 mod hearing;
 mod input_fault;
 mod line;
+mod messages;
 mod reply;
 mod service;
+mod session_service;
 mod sizes;
 mod words;
 
@@ -17,5 +20,9 @@ pub use commands::{MOST_LINE, command_of};
 pub use conversation::{Ending, converse};
 pub use input_fault::InputFault;
 pub use line::{LineFault, read_command};
+pub use messages::{
+    Message, document_message, message_of, question_message, unread_message,
+};
 pub use reply::{Reply, write_pieces, write_reply};
 pub use service::Service;
+pub use session_service::SessionService;

@@ -1,5 +1,5 @@
 //! Replies.
-ghost use Rattle.speech.specs.Devices.{FailsIn, Takes, seen};
+ghost use Rattle.session.specs.Devices.{FailsIn, Takes, seen};
 ghost use Rattle.speech.specs.Replies.{done_text, refused_text, reply_text, told};
 ghost use Rattle.std.specs.List.{flat_map};
 ghost use Rattle.std.specs.Prelude.{OnErr, OnOk};

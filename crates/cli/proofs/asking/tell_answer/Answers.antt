@@ -2,7 +2,8 @@ use Rattle.std.proofs.Common.{refl, sym, subst, Result, ℕ}
 use Rattle.std.specs.Global.{Vec}
 use Rattle.cli.proofs.Telling.{told}
 use Rattle.cli.specs.Runs.{IsQuestionTold}
-use Rattle.cli.specs.Messages.{IsQuestionText, Output, question_status}
+use Rattle.cli.specs.Messages.{Output}
+use Rattle.speech.specs.Messages.{IsQuestionText, question_status}
 use Rattle.session.specs.declared.question_fault.QuestionFault.{QuestionFault}
 use Rattle.cli.proofs.asking.tell_answer.Goals as goal
 

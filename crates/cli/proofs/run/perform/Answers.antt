@@ -43,6 +43,13 @@ returns-in-Query-clause-performed g c =
     let P : Command → Type 0 = λ command. Runs g.F.Files g.O.Sink g.E.Sink command task.limits (c.args.files.now, c.args.out.now, c.args.err.now) (c.args.files.now, call.new.out, call.new.err) call.result in
     inl (task, c.in-Ok.ensures.asked, subst P (sym c.in-Query.is) call.ensures)
 
+pub returns-in-Session-clause-performed : goal.returns-in-Session-clause-performed
+returns-in-Session-clause-performed g c =
+    let task = c.in-Ok.task in
+    let call = c.perform_session in
+    let P : Command → Type 0 = λ command. Runs g.F.Files g.O.Sink g.E.Sink command task.limits (c.args.files.now, c.args.out.now, c.args.err.now) (c.args.files.now, call.new.out, call.new.err) call.result in
+    inl (task, c.in-Ok.ensures.asked, subst P (sym c.in-Session.is) call.ensures)
+
 pub returns-in-Convert-clause-performed : goal.returns-in-Convert-clause-performed
 returns-in-Convert-clause-performed g c =
     let task = c.in-Ok.task in

@@ -1,7 +1,8 @@
 use Rattle.std.proofs.Common.{◌≡◌, Err, Result, refl, sym, subst}
 use Rattle.cli.proofs.Telling.{told}
 use Rattle.cli.specs.Runs.{IsConvertTold}
-use Rattle.cli.specs.Messages.{Output, cannot_read}
+use Rattle.cli.specs.Messages.{Output}
+use Rattle.speech.specs.Messages.{cannot_read}
 use Rattle.cli.specs.declared.fault.ConversionFault.{ConversionFault}
 use Rattle.program.specs.declared.status.Status.TheVariants as statuses
 use Rattle.cli.proofs.run.tell_converted.Goals as goal

@@ -1,6 +1,6 @@
 use Rattle.std.proofs.Common.{Some, subst}
 use Rattle.source_lines.specs.Sources.{source_state}
-use Rattle.speech.specs.Devices.{Takes, seen}
+use Rattle.session.specs.Devices.{Takes, seen}
 use Rattle.speech.specs.Turns.{IsRefusalTold, IsTurn}
 use Rattle.speech.specs.declared.input_fault.InputFault.{InputFault}
 use Rattle.speech.specs.declared.conversation.Ending.{Ending}

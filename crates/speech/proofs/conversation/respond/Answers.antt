@@ -1,5 +1,5 @@
 use Rattle.std.proofs.Common.{ap, refl, sym}
-use Rattle.speech.specs.Devices.{FailsIn, Takes, seen}
+use Rattle.session.specs.Devices.{FailsIn, Takes, seen}
 use Rattle.speech.specs.Replies.{out_of_memory, told}
 use Rattle.speech.proofs.Replying.{command_replied, on_err, on_ok, unknown_replied}
 use Rattle.speech.proofs.conversation.respond.Goals as goal

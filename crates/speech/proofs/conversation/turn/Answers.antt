@@ -1,6 +1,6 @@
 use Rattle.std.proofs.Common.{ℕ, List, refl, subst}
 use Rattle.source_lines.specs.Sources.{source_state}
-use Rattle.speech.specs.Devices.{FailsIn, Takes, seen}
+use Rattle.session.specs.Devices.{FailsIn, Takes, seen}
 use Rattle.speech.specs.Turns.{Hears, LacksBehind}
 use Rattle.speech.proofs.Behind.{exchange_of, refused_behind}
 use Rattle.speech.proofs.conversation.turn.Goals as goal

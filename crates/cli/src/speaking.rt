@@ -1,0 +1,67 @@
+//! A run that keeps a document, and answers commands.
+ghost use Rattle.cli.specs.Files.{BlamesFile};
+ghost use Rattle.cli.specs.Runs.{Runs};
+ghost use Rattle.cli.specs.Speaking.{IsOpenedAs};
+ghost use Rattle.profile.specs.Faults.{RefusesKnown};
+ghost use Rattle.std.specs.Prelude.{IfErr, IfOk};
+
+use crate::opening::document_of;
+use crate::printing::tell;
+use command_line::Command;
+use device::Sink;
+use profile::{DocumentFault, Limits};
+use session::Session;
+use speech::{SessionService, converse, document_message};
+use std::alloc::Global;
+use std::hash::RandomState;
+use system_files::Files;
+
+/// The file that commands are read from.
+pub const INPUT: &str = "/dev/stdin";
+
+/// A session over the document at the path.
+fn session_in<F: Files>(
+    alloc: Global,
+    path: &str,
+    limits: &Limits,
+    files: &F,
+    state: RandomState,
+) -> Result<Session, DocumentFault>
+    ensures opened { IfOk result (IsOpenedAs limits.now (F.content files.now path.now)) }
+    ensures refused { IfErr result (RefusesKnown limits.now.version (F.content files.now path.now) limits.now.max_bytes) }
+    ensures blames { IfErr result (BlamesFile F.reads_fail (F.is_known files.now) (F.content files.now path.now)) }
+{
+    match document_of(files, path) {
+        Ok(mut document) => Session::open(alloc, &mut document, limits, state),
+        Err(fault) => Err(fault),
+    }
+}
+
+/// Opens the document, and answers the commands that are read, until there are no more.
+pub(crate) fn perform_session<F: Files, O: Sink, E: Sink>(
+    alloc: Global,
+    path: &str,
+    limits: &Limits,
+    files: &F,
+    out: &mut O,
+    err: &mut E,
+    state: RandomState,
+) -> u8
+    ensures { Runs F.Files O.Sink E.Sink (Command.Session path.entry) limits.now
+        (files.now, out.old, err.old) (files.now, out.new, err.new) result }
+{
+    let session = match session_in(alloc, path, limits, files, state) {
+        Ok(session) => session,
+        Err(fault) => return tell(err, document_message(alloc, &fault, path, limits)),
+    };
+    let mut input = match document_of(files, INPUT) {
+        Ok(input) => input,
+        Err(fault) => return tell(err, document_message(alloc, &fault, INPUT, limits)),
+    };
+    let mut service = SessionService {
+        alloc,
+        session,
+        limits: *limits,
+    };
+    converse(alloc, &mut service, &mut input, out).status().code()
+}

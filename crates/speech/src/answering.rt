@@ -1,0 +1,139 @@
+//! What a session answers, as replies.
+ghost use Rattle.session.specs.Texts.{HasText};
+ghost use Rattle.speech.specs.Answers.{IsAskTold, IsDoneWith, IsExplainedTold, IsFaultTold, IsFoundTold, IsNamedTold, IsQueryTold, Tells, found, named, unfinished};
+ghost use Rattle.std.specs.Prelude.{◌≡◌, IfOk};
+
+use crate::messages::question_message;
+use crate::reply::Reply;
+use axioms::Ontology;
+use device::Memory;
+use profile::Limits;
+use program::Status;
+use session::{
+    Answers, AskFault, Explanation, Form, QueryFault, QuestionFault, lines_of_answers,
+    lines_of_names, shown_explanation,
+};
+use std::alloc::Global;
+
+/// The reply that a command is done, with its answer.
+pub(crate) fn done_reply(text: Vec<u8>) -> Reply
+    ensures status { result.status ≡ Status.Done }
+    ensures text { result.text ≡ text }
+{
+    Reply {
+        status: Status::Done,
+        text,
+    }
+}
+
+/// The same, where there was memory for the answer.
+fn done_with(text: Result<Vec<u8>, Memory>) -> Result<Reply, Memory>
+    ensures { Tells (IsDoneWith text) result }
+{
+    match text {
+        Ok(text) => Ok(done_reply(text)),
+        Err(_) => Err(Memory),
+    }
+}
+
+/// The reply that a question is not answered.
+pub(crate) fn fault_reply(
+    alloc: Global,
+    limits: &Limits,
+    fault: &QuestionFault<'_>,
+) -> Result<Reply, Memory>
+    ensures { Tells (IsFaultTold limits.now fault.now) result }
+{
+    match question_message(alloc, fault, "", limits) {
+        Ok(message) => Ok(Reply {
+            status: message.status,
+            text: message.text.into_bytes(),
+        }),
+        Err(_) => Err(Memory),
+    }
+}
+
+/// The reply where facts are pending.
+fn unfinished_reply(alloc: Global) -> Result<Reply, Memory>
+    ensures { Tells (λ t. t ≡ unfinished) result }
+{
+    match b"not run to its end\n".to_vec(alloc) {
+        Ok(text) => Ok(Reply {
+            status: Status::Usage,
+            text,
+        }),
+        Err(_) => Err(Memory),
+    }
+}
+
+/// The reply to a question about names that is not answered.
+fn ask_reply(alloc: Global, limits: &Limits, fault: AskFault<'_>) -> Result<Reply, Memory>
+    ensures { Tells (IsAskTold limits.now fault.entry) result }
+{
+    match fault {
+        AskFault::Unfinished => unfinished_reply(alloc),
+        AskFault::UnknownName(name) => {
+            fault_reply(alloc, limits, &QuestionFault::UnknownName(name))
+        }
+        AskFault::Memory => Err(Memory),
+    }
+}
+
+/// The reply to a query that is not answered.
+fn query_reply(alloc: Global, limits: &Limits, fault: QueryFault) -> Result<Reply, Memory>
+    ensures { Tells (IsQueryTold limits.now fault) result }
+{
+    match fault {
+        QueryFault::Unfinished => unfinished_reply(alloc),
+        QueryFault::Expression(fault) => {
+            fault_reply(alloc, limits, &QuestionFault::Expression(fault))
+        }
+        QueryFault::Limit => fault_reply(alloc, limits, &QuestionFault::Limit),
+        QueryFault::Memory => Err(Memory),
+    }
+}
+
+/// The reply with names, a line each.
+pub(crate) fn names_reply(
+    alloc: Global,
+    limits: &Limits,
+    names: Result<Vec<&str>, AskFault<'_>>,
+) -> Result<Reply, Memory>
+    ensures { Tells (IsNamedTold limits.now (named names.entry)) result }
+{
+    match names {
+        Ok(names) => done_with(lines_of_names(alloc, &names)),
+        Err(fault) => ask_reply(alloc, limits, fault),
+    }
+}
+
+/// The reply with why a subject is in a class, or why not.
+pub(crate) fn explained_reply(
+    alloc: Global,
+    limits: &Limits,
+    ontology: &Ontology,
+    form: Form,
+    explanation: Result<Explanation, AskFault<'_>>,
+) -> Result<Reply, Memory>
+    requires { IfOk explanation.entry (HasText ontology.now) }
+    ensures { Tells (IsExplainedTold limits.now ontology.now form explanation.entry) result }
+{
+    match explanation {
+        Ok(explanation) => done_with(shown_explanation(alloc, ontology, &explanation, form)),
+        Err(fault) => ask_reply(alloc, limits, fault),
+    }
+}
+
+/// The reply with the names of a class expression.
+pub(crate) fn found_reply(
+    alloc: Global,
+    limits: &Limits,
+    answers: Result<Answers<'_>, QueryFault>,
+) -> Result<Reply, Memory>
+    ensures { Tells (IsFoundTold limits.now (found answers.entry)) result }
+{
+    match answers {
+        Ok(answers) => done_with(lines_of_answers(alloc, &answers)),
+        Err(fault) => query_reply(alloc, limits, fault),
+    }
+}

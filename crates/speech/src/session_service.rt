@@ -1,0 +1,160 @@
+//! A session that answers commands.
+ghost use Rattle.answers.specs.declared.asked.Asked.TheVariants as subjects;
+ghost use Rattle.session.specs.Edits.{Add, Explain, Instances, Query, Resume, Subclasses, Superclasses};
+ghost use Rattle.session.specs.declared.form.Form.TheVariants.{Lines};
+ghost use Rattle.profile.specs.declared.fault.DocumentFault.TheVariants.{NotUtf8};
+ghost use Rattle.session.specs.declared.question_fault.QuestionFault.TheVariants as faults;
+ghost use Rattle.speech.specs.Answers.{IsCalled, IsFaultTold, IsTextCalled, Tells, done, run_text, status_text};
+ghost use Rattle.speech.specs.Replies.{told_by};
+ghost use Rattle.std.specs.Prelude.{◌≡◌};
+
+use crate::answering::{
+    done_reply, explained_reply, fault_reply, found_reply, names_reply,
+};
+use crate::command::Command;
+use crate::reply::Reply;
+use crate::service::Service;
+use device::Memory;
+use profile::{DocumentFault, Limits};
+use session::{Asked, Form, QuestionFault, Session, Stop};
+use std::alloc::Global;
+use std::str::from_utf8;
+
+/// A session that answers commands. Each `Run` goes on to at most as many facts as the limits have, and so does a query.
+#[derive(Drop)]
+pub struct SessionService {
+    pub alloc: Global,
+    pub session: Session,
+    pub limits: Limits,
+}
+
+impl SessionService {
+    /// Adds what the bytes state.
+    fn add(&mut self, payload: &[u8]) -> Result<Reply, Memory>
+        ensures step { IsTextCalled self.old.limits Add payload.now self.old.session (told_by result) self.new.session }
+        ensures limits { self.new.limits ≡ self.old.limits }
+    {
+        let text = match from_utf8(payload) {
+            Ok(text) => text,
+            Err(error) => return self.no_text(error.valid_up_to()),
+        };
+        match self.session.add(text) {
+            Ok(()) => Ok(done_reply(Vec::new(self.alloc))),
+            Err(fault) => {
+                fault_reply(self.alloc, &self.limits, &QuestionFault::Expression(fault))
+            }
+        }
+    }
+
+    /// The reply to bytes that are no text from that place on.
+    fn no_text(&self, at: usize) -> Result<Reply, Memory>
+        ensures { Tells (IsFaultTold self.now.limits (faults.Expression (NotUtf8 at))) result }
+    {
+        let fault = QuestionFault::Expression(DocumentFault::NotUtf8 { at });
+        fault_reply(self.alloc, &self.limits, &fault)
+    }
+
+    /// Finds out what follows.
+    fn run(&mut self) -> Result<Reply, Memory>
+        ensures step { IsCalled self.old.limits Lines (Resume self.old.limits.max_facts) self.old.session (told_by result) self.new.session }
+        ensures limits { self.new.limits ≡ self.old.limits }
+    {
+        match self.session.resume(self.limits.max_facts) {
+            Ok(()) => self.facts(),
+            Err(Stop::Limit) => fault_reply(self.alloc, &self.limits, &QuestionFault::Limit),
+            Err(Stop::Memory) => Err(Memory),
+        }
+    }
+
+    /// The reply with the number of facts.
+    fn facts(&self) -> Result<Reply, Memory>
+        ensures { Tells (λ t. t ≡ done (run_text self.now.session)) result }
+    {
+        let facts = self.session.facts();
+        match format!(in self.alloc; "facts {facts}\n") {
+            Ok(text) => Ok(done_reply(text.into_bytes())),
+            Err(_) => Err(Memory),
+        }
+    }
+
+    /// The reply with the numbers of facts, served ones and bytes.
+    fn status(&self) -> Result<Reply, Memory>
+        ensures { Tells (λ t. t ≡ done (status_text self.now.session)) result }
+    {
+        let facts = self.session.facts();
+        let served = self.session.served();
+        let bytes = self.session.bytes();
+        match format!(in self.alloc; "facts {facts} served {served} bytes {bytes}\n") {
+            Ok(text) => Ok(done_reply(text.into_bytes())),
+            Err(_) => Err(Memory),
+        }
+    }
+
+    fn supers(&self, class: &str) -> Result<Reply, Memory>
+        ensures { IsCalled self.now.limits Lines (Superclasses class.now) self.now.session (told_by result) self.now.session }
+    {
+        names_reply(self.alloc, &self.limits, self.session.superclasses(class))
+    }
+
+    fn subs(&self, class: &str) -> Result<Reply, Memory>
+        ensures { IsCalled self.now.limits Lines (Subclasses class.now) self.now.session (told_by result) self.now.session }
+    {
+        names_reply(self.alloc, &self.limits, self.session.subclasses(class))
+    }
+
+    fn instances(&self, class: &str) -> Result<Reply, Memory>
+        ensures { IsCalled self.now.limits Lines (Instances class.now) self.now.session (told_by result) self.now.session }
+    {
+        names_reply(self.alloc, &self.limits, self.session.instances(class))
+    }
+
+    /// Why the subject is in the class, or why not.
+    fn why(&self, asked: Asked<'_>, class: &str, form: Form) -> Result<Reply, Memory>
+        ensures { IsCalled self.now.limits form (Explain asked.entry class.now) self.now.session (told_by result) self.now.session }
+    {
+        let explanation = self.session.explain(asked, class);
+        let ontology = self.session.ontology();
+        explained_reply(self.alloc, &self.limits, ontology, form, explanation)
+    }
+
+    /// The names of the class expression that the bytes are.
+    fn query(&self, payload: &[u8]) -> Result<Reply, Memory>
+        ensures { IsTextCalled self.now.limits (λ text. Query text self.now.limits.max_facts) payload.now self.now.session (told_by result) self.now.session }
+    {
+        let text = match from_utf8(payload) {
+            Ok(text) => text,
+            Err(error) => return self.no_text(error.valid_up_to()),
+        };
+        found_reply(self.alloc, &self.limits, self.session.query(text, self.limits.max_facts))
+    }
+}
+
+impl Service for SessionService {
+    ghost use Rattle.speech.specs.Answers.{IsServed};
+    ghost use Rattle.std.specs.Prelude.{◌-◌};
+
+    ghost steps = { IsServed };
+
+    ghost room = { λ s. s.limits.max_bytes - s.session.bytes };
+
+    fn most_payload(&self) -> u64 {
+        self.limits.max_bytes.saturating_sub(self.session.bytes() as u64)
+    }
+
+    fn answer(&mut self, command: Command<'_>, payload: &[u8]) -> Result<Reply, Memory> {
+        match command {
+            Command::Add(_) => self.add(payload),
+            Command::Run => self.run(),
+            Command::Supers(class) => self.supers(class),
+            Command::Subs(class) => self.subs(class),
+            Command::Instances(class) => self.instances(class),
+            Command::Why(subject, class) => self.why(Asked::Class(subject), class, Form::Lines),
+            Command::WhyIndividual(subject, class) => {
+                self.why(Asked::Individual(subject), class, Form::Lines)
+            }
+            Command::Dot(subject, class) => self.why(Asked::Class(subject), class, Form::Graph),
+            Command::Query(_) => self.query(payload),
+            Command::Status => self.status(),
+        }
+    }
+}

@@ -1,0 +1,81 @@
+//! A whole conversation, worked out by hand.
+
+use crate::talking::talked;
+use speech::Ending;
+use std::test::Fail;
+
+/// What is asked.
+const ASKED: &str = "supers x:A
+run
+status
+supers x:A
+subs x:A
+instances x:A
+supers x:Q
+supers
+add 35
+SubClassOf(:B :C)
+SubClassOf(:C :D)
+subs x:D
+run
+subs x:D
+query 2
+:B
+add 13
+SubClassOf(:A
+query 29
+ObjectSomeValuesFrom(:loc :Q)
+";
+
+/// What is replied.
+const REPLIED: &str = "no 2 19
+not run to its end
+ok 8
+facts 8
+ok 26
+facts 8 served 8 bytes 42
+ok 50
+<http://www.w3.org/2002/07/owl#Thing>
+<x:A>
+<x:B>
+ok 46
+<http://www.w3.org/2002/07/owl#Nothing>
+<x:A>
+ok 0
+no 2 19
+unknown name <x:Q>
+no 2 16
+unknown command
+ok 0
+no 2 19
+not run to its end
+ok 9
+facts 17
+ok 64
+<http://www.w3.org/2002/07/owl#Nothing>
+<x:A>
+<x:B>
+<x:C>
+<x:D>
+ok 144
+super <http://www.w3.org/2002/07/owl#Thing>
+super <x:B>
+super <x:C>
+super <x:D>
+sub <http://www.w3.org/2002/07/owl#Nothing>
+sub <x:A>
+sub <x:B>
+no 3 14
+P2 at byte 13
+no 3 28
+F8 at byte 21
+F8 at byte 26
+";
+
+#[test]
+fn commands_are_answered(rt: HostRuntime) -> Result<(), Fail> {
+    let (replied, ending) = talked(&rt, ASKED.as_bytes())?;
+    assert_eq!(rt; replied.as_slice(), REPLIED.as_bytes());
+    assert_eq!(rt; ending, Ending::End);
+    Ok(())
+}
