@@ -63,5 +63,7 @@ pub(crate) fn perform_session<F: Files, O: Sink, E: Sink>(
         session,
         limits: *limits,
     };
-    converse(alloc, &mut service, &mut input, out).status().code()
+    converse(alloc, &mut service, &mut input, out)
+        .status()
+        .code()
 }

@@ -1,5 +1,5 @@
 -- Lines that begin with a word.
-use Rattle.std.proofs.Common.{◌≡◌, ◌∙◌, ◌++◌, ◌∷◌, ◌<◌, [], ℕ, List, Bool, true, false, length, get_or, IsTrue, ◌↔◌, ◌⊎◌, inl, inr, refl, sym, ap, arith}
+use Rattle.std.proofs.Common.{◌≡◌, ◌∙◌, ◌++◌, ◌∷◌, ◌<◌, [], ℕ, List, true, length, get_or, IsTrue, ◌↔◌, inl, inr, refl, sym, ap, arith}
 use Rattle.std.proofs.lemmas.Bool.{eqb-true, eq-eqb}
 use Rattle.std.proofs.lemmas.List.{append_cancel_left, append-nil, length-append}
 use Rattle.std.proofs.Math.Dec.{eqb}

@@ -1,8 +1,8 @@
 -- Lines and what follows them.
-use Rattle.std.proofs.Common.{◌≡◌, ◌∙◌, ◌++◌, [], ℕ, List, Option, Some, None, refl, sym, ap, subst, append-nil, inl, inr}
+use Rattle.std.proofs.Common.{◌≡◌, [], ℕ, List, Option, Some, None, sym, subst, inr}
 use Rattle.source_lines.specs.Sources.{SourceState}
 use Rattle.speech.specs.Commands.{Spells, payload_size}
-use Rattle.speech.specs.Conversations.{Comes, ComesLine, Follows, HasSize, IsExchange, IsRefused, ended, size_behind, text_behind}
+use Rattle.speech.specs.Conversations.{Comes, ComesLine, Follows, HasSize, IsRefused, ended, size_behind, text_behind}
 use Rattle.speech.specs.Turns.{Exchanges, Hears, IsReplied, LacksBehind, LacksSized}
 use Rattle.speech.specs.declared.command.Command.{Command}
 use Rattle.speech.specs.declared.hearing.Heard.{Heard}

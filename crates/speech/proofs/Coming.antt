@@ -1,5 +1,5 @@
 -- What comes from a source, piece by piece.
-use Rattle.std.proofs.Common.{◌≡◌, ◌∙◌, ◌+◌, ◌-◌, ◌<◌, ◌≤◌, ◌++◌, ◌∷◌, [], ℕ, List, Option, Some, None, Bool, true, false, length, get_or, take, refl, sym, ap, subst, append_assoc, append-nil, length-append, arith, ◌⊎◌, inl, inr}
+use Rattle.std.proofs.Common.{◌≡◌, ◌∙◌, ◌+◌, ◌-◌, ◌<◌, ◌≤◌, ◌++◌, ◌∷◌, [], ℕ, List, Some, Bool, true, false, length, get_or, take, refl, sym, ap, subst, append_assoc, append-nil, length-append, arith, ◌⊎◌, inl, inr}
 use Rattle.std.specs.Prelude.{slice_get}
 use Rattle.std.specs.List.{Contains}
 use Rattle.std.proofs.KnownBytes.{Consumes-nil, Consumes-trans}
@@ -15,7 +15,7 @@ use Rattle.source_lines.specs.Lines.{Advances, AtHand, IsNoLine, IsReady, IsWhol
 use Rattle.source_lines.specs.Sources.{Gives, IsReadOn, SourceState}
 use Rattle.source_lines.specs.declared.fault.StreamFault.{StreamFault}
 use Rattle.source_lines.specs.declared.fault.StreamFault.TheVariants.{Io, Memory}
-use Rattle.speech.specs.Conversations.{Comes, ComesPayload, HasEnded, IsCutOff, IsLast, LacksLine, LacksPayload}
+use Rattle.speech.specs.Conversations.{Comes, ComesPayload, HasEnded, IsLast, LacksLine, LacksPayload}
 use Rattle.speech.specs.Turns.{told_as}
 use Rattle.speech.specs.declared.input_fault.InputFault.TheVariants as faults
 
@@ -117,9 +117,11 @@ feed_by line k (inl w) e = feed_ends line k w e
 feed_by line k (inr none) e = absurd (none (contains_at line k 10 e))
 
 pub part_more : (size : ℕ) (payload line : List ℕ) → length payload ≤ size → IsWholeLine line ⊎ (Contains line 10 → ⊥) → IsPart size (payload ++ line)
-part_more size payload line low ready = record { last = λ e.
-    let long = feed_by line (size - length payload) ready (get_behind payload line size 10 low e) in
-    omega (arith, long, length-append payload line) }
+part_more size payload line low ready = record {
+  last = λ e.
+      let long = feed_by line (size - length payload) ready (get_behind payload line size 10 low e) in
+      omega (arith, long, length-append payload line);
+}
 
 -- the last byte is no line feed
 pub feedless : (size : ℕ) (payload : List ℕ) → IsPart size payload → ((front : List ℕ) → payload ≡ front ++ (10 ∷ []) → ⊥) → HasEnded size payload → ⊥
@@ -149,9 +151,10 @@ whole_or_none hand s (inr h) = inr h.0
 pub payload_more : (size : ℕ) (a : List ℕ) (old new : AtHand) (s t u : SourceState) (payload line items : List ℕ) → Comes a old.ahead s t payload → IsPart size payload → length payload ≤ size → Advances old new t u
     → line ≡ new.line → items ≡ payload ++ line → Comes a new.ahead s u items × IsPart size items
 payload_more size a old new s t u payload line items h part low k same is =
-    let all : items ≡ payload ++ new.line = is ∙ ap (λ l. payload ++ l) same in
-    (subst (λ (l : List ℕ). Comes a new.ahead s u l) (sym all) (comes_more a old.ahead new.ahead s t u payload new.line h (hand_comes old new t u k)),
-    subst (IsPart size) (sym all) (part_more size payload new.line low (whole_or_none new u k.ready)))
+    let all : items ≡ payload ++ new.line = is ∙ ap (λ l. payload ++ l) same in (
+      subst (λ (l : List ℕ). Comes a new.ahead s u l) (sym all) (comes_more a old.ahead new.ahead s t u payload new.line h (hand_comes old new t u k)),
+      subst (IsPart size) (sym all) (part_more size payload new.line low (whole_or_none new u k.ready)),
+    )
 
 -- what came is the payload with its line feed
 pub payload_is : (size : ℕ) (a b : List ℕ) (s t : SourceState) (payload front items : List ℕ) → Comes a b s t payload → payload ≡ front ++ (10 ∷ []) → items ≡ take (length front) payload → length front ≡ size
@@ -166,11 +169,16 @@ payload_is size a b s t payload front items h is kept long =
 -- no line, and then no payload
 pub lacks_payload : (fault : StreamFault) (size : ℕ) (a : List ℕ) (hand : AtHand) (s t u : SourceState) (payload : List ℕ) → Comes a hand.ahead s t payload → length payload ≤ size
     → IsNoLine fault hand t u → LacksPayload (told_as fault) size a s u
-lacks_payload Io size a hand s t u payload h low k =
-    (payload ++ (hand.ahead ++ k.read),
-    record { read = h.read ++ k.read; given = gives_more s t u h.read k.read h.given k.given; in_order = sym (append_assoc a h.read k.read) ∙ ap (λ l. l ++ k.read) h.in_order ∙ append_assoc payload hand.ahead k.read;
-        failed = subst (λ (n : ℕ). HasFailed n u.failures) h.unfailed k.failed },
-    λ e. k.none (contains_at (hand.ahead ++ k.read) (size - length payload) 10 (get_behind payload (hand.ahead ++ k.read) size 10 low e)))
+lacks_payload Io size a hand s t u payload h low k = (
+  payload ++ (hand.ahead ++ k.read),
+  record {
+    read = h.read ++ k.read;
+    given = gives_more s t u h.read k.read h.given k.given;
+    in_order = sym (append_assoc a h.read k.read) ∙ ap (λ l. l ++ k.read) h.in_order ∙ append_assoc payload hand.ahead k.read;
+    failed = subst (λ (n : ℕ). HasFailed n u.failures) h.unfailed k.failed;
+  },
+  λ e. k.none (contains_at (hand.ahead ++ k.read) (size - length payload) 10 (get_behind payload (hand.ahead ++ k.read) size 10 low e)),
+)
 lacks_payload Memory size a hand s t u payload h low k = reads_on a hand.ahead s t u payload h k
 
 -- the source ended

@@ -1,5 +1,5 @@
 -- A conversation, turn by turn.
-use Rattle.std.proofs.Common.{◌≡◌, ◌∙◌, ◌+◌, ◌<◌, ◌++◌, ◌∷◌, [], ℕ, List, Option, Some, length, inl, inr, refl, sym, ap, subst, append-nil, length-append, arith}
+use Rattle.std.proofs.Common.{◌≡◌, ◌∙◌, ◌+◌, ◌<◌, ◌++◌, ◌∷◌, [], ℕ, List, Some, length, inl, inr, refl, sym, ap, subst, append-nil, length-append, arith}
 use Rattle.std.specs.List.{flat_map}
 use Rattle.std.proofs.KnownBytes.{Appends-nil, Appends-trans}
 use Rattle.std.proofs.lemmas.Grind.{flat_map-append}
@@ -77,17 +77,25 @@ stays {V} G u v w a s t xs same h = let P : V → Type 0 = λ x. Exchanged G u x
 pub ended_by : {V : Type 0} (G : Ghosts V) (u v w : V) (a b : List ℕ) (s t r : SourceState) (d e f : Device)
     → HasAnswered G u v a s t d e → IsTurn G v w a b t r e f (Some endings.End) → IsConversation G u w s r d f endings.End
 ended_by {V} G u v w a b s t r d e f h (same, last, none) =
-    let P : Device → Type 0 = λ x. Takes d x (replies h.xs) in
-    (h.xs, record {
+    let P : Device → Type 0 = λ x. Takes d x (replies h.xs) in (
+      h.xs,
+      record {
         run = (stays G u v w a s t h.xs same.service h.exchanged).run;
         read = subst (λ (l : List ℕ). Comes [] [] s r l) (append-nil (flat_map text_asked h.xs)) (comes_more [] a [] s t r (flat_map text_asked h.xs) [] h.exchanged.read last.comes);
-      }, last.end, subst P (sym same.sink) h.taken)
+      },
+      last.end,
+      subst P (sym same.sink) h.taken,
+    )
 
 pub unwritten_by : {V : Type 0} (G : Ghosts V) (u v w : V) (a b : List ℕ) (s t r : SourceState) (d e f : Device)
     → HasAnswered G u v a s t d e → IsTurn G v w a b t r e f (Some endings.Unwritten) → IsConversation G u w s r d f endings.Unwritten
 unwritten_by {V} G u v w a b s t r d e f h k =
-    inl (h.xs ++ (k.exchange ∷ []), b, exchanged_more G u v w a b s t r h.xs k.exchange h.exchanged k.is k.read,
-        subst (FailsIn d f) (one_more text_told h.xs k.exchange) (fails_more d e f (replies h.xs) (text_told k.exchange) h.taken k.written))
+    inl (
+      h.xs ++ (k.exchange ∷ []),
+      b,
+      exchanged_more G u v w a b s t r h.xs k.exchange h.exchanged k.is k.read,
+      subst (FailsIn d f) (one_more text_told h.xs k.exchange) (fails_more d e f (replies h.xs) (text_told k.exchange) h.taken k.written),
+    )
 
 kept : (d e f : Device) (xs : List ℕ) → f ≡ e → Takes d e xs → Takes d f xs
 kept d e f xs same h = let P : Device → Type 0 = λ x. Takes d x xs in subst P (sym same) h

@@ -1,12 +1,13 @@
 -- Pieces that are written one behind the other.
-use Rattle.std.proofs.Common.{◌≡◌, ◌∙◌, ℕ, ◌+◌, ◌<◌, List, [], ◌++◌, length, take, drop, sym, ap, subst, arith, Option, get_or}
+use Rattle.std.proofs.Common.{◌≡◌, ◌∙◌, ℕ, ◌+◌, ◌<◌, List, ◌++◌, length, take, drop, sym, ap, subst, arith, Option, get_or}
 use Rattle.std.proofs.lemmas.Grind.{common_steps, flat_map-append}
-use Rattle.std.proofs.lemmas.List.{append-nil, at_drop_more, take-append-drop}
+use Rattle.std.proofs.lemmas.List.{at_drop_more, take-append-drop}
 use Rattle.std.specs.List.{flat_map}
 use Rattle.std.proofs.Math.Seq.{take-append_seam}
 use Rattle.std.specs.Io.KnownBytes.{Appends}
 use Rattle.std.proofs.KnownBytes.{Appends-trans}
 use Rattle.device.specs.Device.{AppendsPrefix, HasFailed}
+
 -- some pieces, and a prefix of the next, are a prefix of all
 pub begun : (a b c : Option (List ℕ)) (front piece rest all : List ℕ) → all ≡ front ++ (piece ++ rest) → Appends a b front → AppendsPrefix b c piece → AppendsPrefix a c all
 begun a b c front piece rest all is h k =

@@ -26,7 +26,7 @@ use Rattle.session.specs.declared.query_fault.QueryFault.TheVariants as querying
 use Rattle.session.specs.declared.question_fault.QuestionFault.{QuestionFault}
 use Rattle.session.specs.declared.question_fault.QuestionFault.TheVariants as faults
 use Rattle.speech.specs.Messages.{IsQuestionText, question_status}
-use Rattle.speech.specs.Replies.{Told, out_of_memory, told, told_by}
+use Rattle.speech.specs.Replies.{Told, out_of_memory, told}
 use Rattle.speech.specs.declared.command.Command as commands
 use Rattle.speech.specs.declared.command.Command.TheVariants as asked
 use Rattle.speech.specs.declared.reply.Reply as replies

@@ -1,5 +1,5 @@
 -- What is told of a command, and how that is spelled.
-use Rattle.std.specs.Prelude.{◌≡◌, ◌++◌, ℕ, List, Result, Ok, Err, codes, length}
+use Rattle.std.specs.Prelude.{◌++◌, ℕ, List, Result, Ok, Err, codes, length}
 use Rattle.std.specs.Fmt.{decimal}
 use Rattle.program.specs.Status.{code_of}
 use Rattle.program.specs.declared.status.Status.{Status}

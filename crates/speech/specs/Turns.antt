@@ -1,6 +1,5 @@
 -- One turn of a conversation.
 use Rattle.std.specs.Prelude.{◌≡◌, ◌<◌, ◌≤◌, ℕ, List, [], Option, Some, None, Result, Ok, Err}
-use Rattle.std.specs.Io.KnownBytes.{IsAtEnd}
 use Rattle.source_lines.specs.Sources.{SourceState}
 use Rattle.speech.specs.Conversations.{Comes, ComesLine, Exchange, Follows, HasNoSize, HasPayload, IsAnswered, IsExchange, IsHeard, IsLast, IsRefused, LacksLine, LacksPayload, size_behind, status_of, text_asked, text_told, told_of}
 use Rattle.session.specs.Devices.{Device, FailsIn, Takes}

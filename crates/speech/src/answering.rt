@@ -115,7 +115,7 @@ pub(crate) fn explained_reply(
     form: Form,
     explanation: Result<Explanation, AskFault<'_>>,
 ) -> Result<Reply, Memory>
-    requires { IfOk explanation.entry (HasText ontology.now) }
+    requires { IfOk explanation (HasText ontology.now) }
     ensures { Tells (IsExplainedTold limits.now ontology.now form explanation.entry) result }
 {
     match explanation {

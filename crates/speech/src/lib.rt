@@ -20,9 +20,7 @@ pub use commands::{MOST_LINE, command_of};
 pub use conversation::{Ending, converse};
 pub use input_fault::InputFault;
 pub use line::{LineFault, read_command};
-pub use messages::{
-    Message, document_message, message_of, question_message, unread_message,
-};
+pub use messages::{Message, document_message, message_of, question_message, unread_message};
 pub use reply::{Reply, write_pieces, write_reply};
 pub use service::Service;
 pub use session_service::SessionService;

@@ -8,9 +8,7 @@ ghost use Rattle.speech.specs.Answers.{IsCalled, IsFaultTold, IsTextCalled, Tell
 ghost use Rattle.speech.specs.Replies.{told_by};
 ghost use Rattle.std.specs.Prelude.{◌≡◌};
 
-use crate::answering::{
-    done_reply, explained_reply, fault_reply, found_reply, names_reply,
-};
+use crate::answering::{done_reply, explained_reply, fault_reply, found_reply, names_reply};
 use crate::command::Command;
 use crate::reply::Reply;
 use crate::service::Service;
@@ -125,7 +123,11 @@ impl SessionService {
             Ok(text) => text,
             Err(error) => return self.no_text(error.valid_up_to()),
         };
-        found_reply(self.alloc, &self.limits, self.session.query(text, self.limits.max_facts))
+        found_reply(
+            self.alloc,
+            &self.limits,
+            self.session.query(text, self.limits.max_facts),
+        )
     }
 }
 
@@ -138,7 +140,9 @@ impl Service for SessionService {
     ghost room = { λ s. s.limits.max_bytes - s.session.bytes };
 
     fn most_payload(&self) -> u64 {
-        self.limits.max_bytes.saturating_sub(self.session.bytes() as u64)
+        self.limits
+            .max_bytes
+            .saturating_sub(self.session.bytes() as u64)
     }
 
     fn answer(&mut self, command: Command<'_>, payload: &[u8]) -> Result<Reply, Memory> {

@@ -118,7 +118,12 @@ const ROWS: &[Row] = &[
 fn input_is_refused(rt: HostRuntime) -> Result<(), Fail> {
     for row in ROWS {
         let (replied, ending) = talked(&rt, row.asked.as_bytes())?;
-        assert_eq!(rt; replied.as_slice(), row.replied.as_bytes(), "{:?}", row.asked);
+        assert_eq!(rt;
+            replied.as_slice(),
+            row.replied.as_bytes(),
+            "{:?}",
+            row.asked
+        );
         assert_eq!(rt; ending, row.ending, "{:?}", row.asked);
     }
     Ok(())

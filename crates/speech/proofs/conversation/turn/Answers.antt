@@ -10,10 +10,11 @@ returns-in-Err-hear g c =
     let t = source_state g.S.Source c.next_line.new.source in
     let u = source_state g.S.Source c.hear.new.source in
     let P : ℕ → Type 0 = λ room. LacksBehind room c.deref.result.now c.in-Err-hear.fault c.next_line.new.lines.ahead c.hear.new.lines.ahead t u in
-    let Q : List ℕ → Type 0 = λ line. LacksBehind (g.V.Service.room c.args.service.now) line c.in-Err-hear.fault c.next_line.new.lines.ahead c.hear.new.lines.ahead t u in
-    (record { service = refl; sink = refl },
-    refused_behind (g.V.Service.room c.args.service.now) c.in-Ok-Some.line.items c.in-Err-hear.fault c.args.lines.now.ahead c.next_line.new.lines.ahead c.hear.new.lines.ahead
-        (source_state g.S.Source c.args.source.now) t u (rw c.in-Ok-Some.field-0-is at c.in-Ok-Some.ensures) (subst Q c.deref.ensures.value (subst P c.most_payload.ensures c.in-Err-hear.ensures.lacks)))
+    let Q : List ℕ → Type 0 = λ line. LacksBehind (g.V.Service.room c.args.service.now) line c.in-Err-hear.fault c.next_line.new.lines.ahead c.hear.new.lines.ahead t u in (
+      record { service = refl; sink = refl },
+      refused_behind (g.V.Service.room c.args.service.now) c.in-Ok-Some.line.items c.in-Err-hear.fault c.args.lines.now.ahead c.next_line.new.lines.ahead c.hear.new.lines.ahead
+          (source_state g.S.Source c.args.source.now) t u (rw c.in-Ok-Some.field-0-is at c.in-Ok-Some.ensures) (subst Q c.deref.ensures.value (subst P c.most_payload.ensures c.in-Err-hear.ensures.lacks)),
+    )
 
 pub returns-in-Ok-respond : goal.returns-in-Ok-respond
 returns-in-Ok-respond g c =
@@ -22,8 +23,8 @@ returns-in-Ok-respond g c =
     let P : ℕ → Type 0 = λ room. Hears room c.deref.result.now c.next_line.new.lines.ahead c.hear.new.lines.ahead t u c.in-Ok.heard in
     let Q : List ℕ → Type 0 = λ line. Hears (g.V.Service.room c.args.service.now) line c.next_line.new.lines.ahead c.hear.new.lines.ahead t u c.in-Ok.heard in
     exchange_of g.V.Service c.args.service.now c.respond.new.service c.in-Ok-Some.line.items c.in-Ok.heard c.args.lines.now.ahead c.next_line.new.lines.ahead c.hear.new.lines.ahead
-        (source_state g.S.Source c.args.source.now) t u (Takes (seen g.O.Sink c.args.sink.now) (seen g.O.Sink c.respond.new.sink))
-        (rw c.in-Ok-Some.field-0-is at c.in-Ok-Some.ensures) (subst Q c.deref.ensures.value (subst P c.most_payload.ensures c.in-Ok.ensures.heard)) c.in-Ok-respond.ensures.whole
+    (source_state g.S.Source c.args.source.now) t u (Takes (seen g.O.Sink c.args.sink.now) (seen g.O.Sink c.respond.new.sink))
+    (rw c.in-Ok-Some.field-0-is at c.in-Ok-Some.ensures) (subst Q c.deref.ensures.value (subst P c.most_payload.ensures c.in-Ok.ensures.heard)) c.in-Ok-respond.ensures.whole
 
 pub returns : goal.returns
 returns g c =
@@ -32,5 +33,5 @@ returns g c =
     let P : ℕ → Type 0 = λ room. Hears room c.deref.result.now c.next_line.new.lines.ahead c.hear.new.lines.ahead t u c.in-Ok.heard in
     let Q : List ℕ → Type 0 = λ line. Hears (g.V.Service.room c.args.service.now) line c.next_line.new.lines.ahead c.hear.new.lines.ahead t u c.in-Ok.heard in
     exchange_of g.V.Service c.args.service.now c.respond.new.service c.in-Ok-Some.line.items c.in-Ok.heard c.args.lines.now.ahead c.next_line.new.lines.ahead c.hear.new.lines.ahead
-        (source_state g.S.Source c.args.source.now) t u (FailsIn (seen g.O.Sink c.args.sink.now) (seen g.O.Sink c.respond.new.sink))
-        (rw c.in-Ok-Some.field-0-is at c.in-Ok-Some.ensures) (subst Q c.deref.ensures.value (subst P c.most_payload.ensures c.in-Ok.ensures.heard)) c.in-Err-respond.ensures.begun
+    (source_state g.S.Source c.args.source.now) t u (FailsIn (seen g.O.Sink c.args.sink.now) (seen g.O.Sink c.respond.new.sink))
+    (rw c.in-Ok-Some.field-0-is at c.in-Ok-Some.ensures) (subst Q c.deref.ensures.value (subst P c.most_payload.ensures c.in-Ok.ensures.heard)) c.in-Err-respond.ensures.begun

@@ -1,4 +1,4 @@
-use Rattle.std.proofs.Common.{◌≡◌, ◌∙◌, ◌∷◌, [], ℕ, sym, subst, arith}
+use Rattle.std.proofs.Common.{◌∙◌, ◌∷◌, [], sym, subst}
 use Rattle.std.proofs.lemmas.Bool.Decides.{Decides-eqb}
 use Rattle.std.proofs.lemmas.Slice.Eq.{strip_suffix_is}
 use Rattle.source_lines.specs.Sources.{source_state}
@@ -16,5 +16,5 @@ pub returns-else-is_empty : goal.returns-else-is_empty
 returns-else-is_empty g c =
     let none = rw c.in_default-strip_suffix.is at (strip_suffix_is Decides-eqb c.line.result.now (10 ∷ []) c.strip_suffix.result c.strip_suffix.ensures.cases) in
     cut_line c.args.lines.now c.advance.new.self (source_state g.S.Source c.args.source.now) (source_state g.S.Source c.advance.new.source) c.in_default.ensures.ok
-        (λ front e. none front (c.line.ensures ∙ e))
-        (λ e. some_bytes c.line-in_default-strip_suffix.result.now c.is_empty.result c.is_empty.ensures c.if-is_empty.false (c.line-in_default-strip_suffix.ensures ∙ e))
+    (λ front e. none front (c.line.ensures ∙ e))
+    (λ e. some_bytes c.line-in_default-strip_suffix.result.now c.is_empty.result c.is_empty.ensures c.if-is_empty.false (c.line-in_default-strip_suffix.ensures ∙ e))
