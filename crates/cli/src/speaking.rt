@@ -1,9 +1,9 @@
 //! A run that keeps a document, and answers commands.
 ghost use Rattle.cli.specs.Files.{BlamesFile};
 ghost use Rattle.cli.specs.Runs.{Runs};
-ghost use Rattle.cli.specs.Speaking.{IsOpenedAs};
-ghost use Rattle.profile.specs.Faults.{RefusesKnown};
-ghost use Rattle.std.specs.Prelude.{IfErr, IfOk};
+ghost use Rattle.profile.specs.Faults.{OpensKnown, RefusesKnown};
+ghost use Rattle.session.specs.Sessions.{as_read};
+ghost use Rattle.std.specs.Prelude.{◌≡◌, [], IfErr, IfOk};
 
 use crate::opening::document_of;
 use crate::printing::tell;
@@ -27,7 +27,9 @@ fn session_in<F: Files>(
     files: &F,
     state: RandomState,
 ) -> Result<Session, DocumentFault>
-    ensures opened { IfOk result (IsOpenedAs limits.now (F.content files.now path.now)) }
+    ensures opened { IfOk result (λ s. OpensKnown limits.now.version (F.content files.now path.now) limits.now.max_bytes (as_read s)) }
+    ensures limit { IfOk result (λ s. s.most_bytes ≡ limits.now.max_bytes) }
+    ensures unserved { IfOk result (λ s. s.saturation.state.served ≡ []) }
     ensures refused { IfErr result (RefusesKnown limits.now.version (F.content files.now path.now) limits.now.max_bytes) }
     ensures blames { IfErr result (BlamesFile F.reads_fail (F.is_known files.now) (F.content files.now path.now)) }
 {

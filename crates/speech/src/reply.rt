@@ -33,10 +33,10 @@ fn write_done<W: Sink>(sink: &mut W, text: &[u8]) -> Result<(), Failed>
     ensures whole { OnOk result (Takes (seen W.Sink sink.old) (seen W.Sink sink.new) (done_text text.now)) }
     ensures begun { OnErr result (FailsIn (seen W.Sink sink.old) (seen W.Sink sink.new) (done_text text.now)) }
 {
-    let mut size = Buffer::new();
+    let mut digits = Buffer::new();
     let pieces = [
         b"ok ".as_slice(),
-        size.format(text.len()).as_bytes(),
+        digits.format(text.len()).as_bytes(),
         b"\n".as_slice(),
         text,
     ];

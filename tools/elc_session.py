@@ -1,0 +1,145 @@
+#!/usr/bin/env python3
+"""A session of elc: one document that is kept, added to and asked, by a process that runs as long as it is wanted.
+
+usage: tools/elc_session.py ELC DOC [OPTION ..]
+
+ELC is a binary of elc, as crates/elc/out/elc. As a program this reads Python-like lines from standard input, each a method of `Session`
+and its words, as `supers http://example.org/Pizza`, and prints what is answered. An editor imports it:
+
+    from elc_session import Refused, Session
+
+    with Session("elc", "food.ofn") as session:
+        session.run()
+        session.add("SubClassOf(:Margherita :Pizza)")
+        session.run()
+        session.supers("http://example.org/Margherita")
+
+Each method writes one command and reads its reply. It raises `Refused` where the command is not done, which leaves the session as it
+was but for `run`, which is then as far as it came and may be called again; and `Ended` where the process has ended. docs/SESSION.md has
+the commands and what is replied.
+"""
+import subprocess, sys
+
+
+class Refused(Exception):
+    """A command was not done: the exit status of the program's command, and what it prints."""
+
+    def __init__(self, status, text):
+        super().__init__(f"{status}: {text.strip()}")
+        self.status, self.text = status, text
+
+
+class Ended(Exception):
+    """The process has ended."""
+
+
+class Session:
+    """A process that keeps the document at the path; further words are options, as "--max-facts", "1000"."""
+
+    def __init__(self, elc, document, *options):
+        self.process = subprocess.Popen([elc, "session", document, *options], stdin=subprocess.PIPE, stdout=subprocess.PIPE)
+
+    def __enter__(self):
+        return self
+
+    def __exit__(self, *error):
+        self.close()
+
+    def close(self):
+        """Ends the process, and gives its status."""
+        self.process.stdin.close()
+        self.process.stdout.close()
+        return self.process.wait()
+
+    def command(self, line, payload=None):
+        """Writes the line, and the bytes behind it where there are some, and gives the text of the reply."""
+        if "\n" in line:
+            raise ValueError("a command is one line")
+        text = line.encode() + b"\n"
+        if payload is not None:
+            text += payload + b"\n"
+        try:
+            self.process.stdin.write(text)
+            self.process.stdin.flush()
+        except BrokenPipeError:
+            raise Ended from None
+        return self.reply()
+
+    def reply(self):
+        """Reads one reply."""
+        head = self.process.stdout.readline().decode().split()
+        if not head:
+            raise Ended
+        size = int(head[-1])
+        text = self.process.stdout.read(size)
+        if len(text) < size:
+            raise Ended
+        if head[0] == "ok":
+            return text.decode()
+        raise Refused(int(head[1]), text.decode())
+
+    def sized(self, word, text):
+        payload = text.encode()
+        return self.command(f"{word} {len(payload)}", payload)
+
+    def names(self, line):
+        return [name[1:-1] for name in self.command(line).splitlines()]
+
+    def counts(self, line):
+        words = self.command(line).split()
+        return {word: int(number) for word, number in zip(words[::2], words[1::2])}
+
+    def add(self, text):
+        """Adds axioms and declarations, with the prefixes of the document. Nothing is run."""
+        self.sized("add", text)
+
+    def run(self):
+        """Finds out what follows, and gives the number of facts."""
+        return self.counts("run")["facts"]
+
+    def status(self):
+        """The numbers of facts, of those that are served, and of bytes."""
+        return self.counts("status")
+
+    def supers(self, iri):
+        """The classes above the class, in byte order."""
+        return self.names(f"supers {iri}")
+
+    def subs(self, iri):
+        """The classes below the class, in byte order."""
+        return self.names(f"subs {iri}")
+
+    def instances(self, iri):
+        """The individuals of the class, in byte order."""
+        return self.names(f"instances {iri}")
+
+    def why(self, below, above):
+        """Why the one class is below the other, or why not, as `elc explain` prints it."""
+        return self.command(f"why {below} {above}")
+
+    def why_individual(self, individual, iri):
+        """Why the individual is in the class, or why not."""
+        return self.command(f"why-individual {individual} {iri}")
+
+    def dot(self, below, above):
+        """The same as `why`, as a graph for Graphviz."""
+        return self.command(f"dot {below} {above}")
+
+    def query(self, expression):
+        """The classes above and below a class expression and its individuals, as lines of `elc query`."""
+        return self.sized("query", expression)
+
+
+def main(elc, document, *options):
+    with Session(elc, document, *options) as session:
+        for line in sys.stdin:
+            method, *words = line.split(maxsplit=2) or [""]
+            try:
+                answer = getattr(session, method.replace("-", "_"))(*words)
+                print("" if answer is None else answer)
+            except Refused as refused:
+                print(refused)
+
+
+if __name__ == "__main__":
+    main(*sys.argv[1:])
