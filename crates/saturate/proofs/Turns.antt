@@ -1,5 +1,5 @@
 -- A number that is queued, and one that is taken from the list.
-use Rattle.std.proofs.Common.{◌≡◌, ℕ, ◌+◌, ◌<◌, ◌≤◌, inl, inr, ⊎_elim, Bool, true, false, true≢false, not, eqb, get_or, if◌then◌else◌, List, [], ◌∷◌, ◌++◌, length, take, drop, slice_get, Option, Some, None, IfSome, Contains, refl, sym, ap, ◌∙◌, subst, arith, length-append}
+use Rattle.std.proofs.Common.{◌≡◌, ℕ, ◌+◌, ◌<◌, ◌≤◌, inl, inr, ⊎_elim, Bool, true, false, true≢false, not, eqb, get_or, if◌then◌else◌, List, [], ◌∷◌, ◌++◌, length, take, drop, slice_get, Option, Some, None, IfNone, IfSome, Contains, refl, sym, ap, ◌∙◌, subst, arith, length-append}
 use Rattle.std.proofs.lemmas.Bool.Decides.{eqb_tells, nat_tests}
 use Rattle.std.proofs.lemmas.Bool.{cases_lt}
 use Rattle.std.proofs.lemmas.Option.{slice_get_within, slice_get-get_or, get_or_from_slice_get, none-some}
@@ -281,6 +281,15 @@ swapped x y same put popped all adds = record {
 pub swapped_for : (other : Option Item) {old led back : List Item} (new : List Item) (x : Item) → HaveSameItems old led → Adds x led back → Pops other back new → IfSome other (λ y. StillAdds x old y new)
 swapped_for None new x same put popped = tt
 swapped_for (Some y) new x same put popped = swapped x y same put popped
+
+-- likewise where the same items waited before
+pub led_some : (other : Option Item) {old led : List Item} (new : List Item) (x : Item) → HaveSameItems old led → IfSome other (λ y. StillAdds x led y new) → IfSome other (λ y. StillAdds x old y new)
+led_some None new x same h = tt
+led_some (Some y) new x same h = λ all adds. h all (still x same all adds)
+
+pub led_none : (other : Option Item) {old led : List Item} (new : List Item) (x : Item) → HaveSameItems old led → IfNone other (StillAdds x led x new) → IfNone other (StillAdds x old x new)
+led_none None new x same h = λ all adds. h all (still x same all adds)
+led_none (Some y) new x same h = tt
 
 -- the number of an item that waited is that of a fact
 pub names_fact : (facts : List Fact) {waiting rest : List Item} {x : Item} → NameTheirContexts facts waiting → Adds x rest waiting → x.fact < length facts

@@ -1,10 +1,9 @@
 //! Which fact comes next: those of an edge's target before the edge.
 ghost use Rattle.saturate.specs.Turns.{NameTheirContexts, StillAdds, context_number, number_of_context, target_number};
-ghost use Rattle.std.specs.Prelude.{◌≡◌, ◌<◌, ◌≤◌, IfNone, IfSome, OnOk, length};
+ghost use Rattle.std.specs.Prelude.{◌≡◌, ◌<◌, IfNone, IfSome, length};
 ghost use Rattle.work_list.specs.Bag.{Pops};
 
 use facts::{Context, Fact, StoredFact};
-use std::alloc::{AllocError, Global};
 use work_list::{Item, WorkList};
 
 /// The number of a context. An expression and an individual may have the same one, and their facts come together then.
@@ -36,92 +35,41 @@ fn target_of(fact: &StoredFact) -> Option<u32>
     }
 }
 
-/// Of which contexts, by number, a fact has had its turn. It decides nothing but the order.
-#[derive(Drop)]
-pub(crate) struct Begun {
-    contexts: Vec<bool>,
-}
-
-impl Begun {
-    /// Of none.
-    pub(crate) fn new(alloc: Global) -> Begun {
-        Begun {
-            contexts: Vec::new(alloc),
-        }
-    }
-
-    /// Whether a fact of the context has.
-    fn has(&self, context: u32) -> bool {
-        let place = context as usize;
-        place < self.contexts.len() && self.contexts[place]
-    }
-
-    /// Makes room for so many contexts.
-    fn grow(&mut self, many: usize) -> Result<(), AllocError>
-        ensures { OnOk result (many ≤ length self.new.contexts.items) }
-    {
-        if self.contexts.len() < many {
-            self.contexts.resize(many, false)?;
-        }
-        Ok(())
-    }
-
-    /// A fact of the context has its turn. Where memory is refused it is as if none had.
-    fn add(&mut self, context: u32) {
-        let place = context as usize;
-        if self.grow(place + 1).is_ok() {
-            self.contexts[place] = true;
-        }
-    }
-}
-
-/// Pops an item, and notes whose turn it is.
-fn pop<W: WorkList>(list: &mut W, begun: &mut Begun) -> Option<Item>
-    ensures { Pops result (W.pending list.old) (W.pending list.new) }
+/// Puts back an item that was popped, and pops another. If there is none, this one does not wait.
+fn set_back<W: WorkList>(list: &mut W, item: Item) -> Option<Item>
+    ensures some { IfSome result (λ other. StillAdds item (W.pending list.old) other (W.pending list.new)) }
+    ensures none { IfNone result (StillAdds item (W.pending list.old) item (W.pending list.new)) }
 {
-    let item = list.pop()?;
-    begun.add(item.context);
-    Some(item)
+    let Ok(()) = list.push(item) else {
+        return None;
+    };
+    list.pop()
 }
 
-/// An item that comes before this one, which was popped and waits again: where this is an edge, and its target has not begun, the first
-/// of the target's. If there is none, this one does not wait.
-fn ahead<W: WorkList>(
-    list: &mut W,
-    begun: &mut Begun,
-    facts: &[StoredFact],
-    item: Item,
-) -> Option<Item>
+/// An item that comes before this one, which was popped and waits again: where this is an edge, and the list is led to its target, the
+/// first of the target's. If there is none, this one does not wait.
+#[inline(always)]
+fn ahead<W: WorkList>(list: &mut W, facts: &[StoredFact], item: Item) -> Option<Item>
     requires { item.fact < length facts.now }
     ensures some { IfSome result (λ other. StillAdds item (W.pending list.old) other (W.pending list.new)) }
     ensures none { IfNone result (StillAdds item (W.pending list.old) item (W.pending list.new)) }
 {
     let target = target_of(&facts[item.fact as usize])?;
-    if begun.has(target) {
-        return None;
-    }
     if !list.lead_to(target) {
         return None;
     }
-    let Ok(()) = list.push(item) else {
-        return None;
-    };
-    pop(list, begun)
+    set_back(list, item)
 }
 
-/// Pops the item whose turn it is. Where that is an edge to a context of which no item has had its turn, those of the target come
-/// first, if the list goes by contexts: so what is known of a target is complete, as far as it can be, when the edge meets it.
-pub(crate) fn next<W: WorkList>(
-    list: &mut W,
-    begun: &mut Begun,
-    facts: &[StoredFact],
-) -> Option<Item>
+/// Pops the item whose turn it is. Where that is an edge to a context that has not had its turn, the items of the target come first, if
+/// the list goes by contexts: so what is known of a target is complete, as far as it can be, when the edge meets it.
+pub(crate) fn next<W: WorkList>(list: &mut W, facts: &[StoredFact]) -> Option<Item>
     requires { NameTheirContexts facts.now (W.pending list.old) }
     ensures { Pops result (W.pending list.old) (W.pending list.new) }
 {
-    let mut item = pop(list, begun)?;
+    let mut item = list.pop()?;
     for _ in facts {
-        match ahead(list, begun, facts, item) {
+        match ahead(list, facts, item) {
             Some(other) => item = other,
             None => return Some(item),
         }

@@ -3,7 +3,7 @@ ghost use Rattle.std.specs.Prelude.{◌≡◌, ◌<◌, ◌≤◌, ◌^◌, ◌+
 ghost use Rattle.saturate.specs.Flags.{asked, is_flagged, kept};
 ghost use Rattle.saturate.specs.Turns.{option_list, AreAmong, HasOneMore, HasTurn, IsServedOnce, IsWithoutHand, IsWithoutLast, NameTheirContexts};
 
-use crate::order::{Begun, context_of, next};
+use crate::order::{context_of, next};
 use axioms::Memory;
 use facts::StoredFact;
 use std::alloc::Global;
@@ -15,7 +15,6 @@ use work_list::{Item, WorkList};
 #[derive(Drop)]
 pub(crate) struct Queue<W: WorkList> {
     list: W,
-    begun: Begun,
     queued: u32,
     taken: Vec<u32>,
     served: usize,
@@ -120,7 +119,6 @@ impl<W: WorkList> Queue<W> {
     {
         Queue {
             list,
-            begun: Begun::new(alloc),
             queued: 0,
             taken: Vec::new(alloc),
             served: 0,
@@ -138,7 +136,6 @@ impl<W: WorkList> Queue<W> {
         match copied(&self.taken) {
             Ok(taken) => Ok(Queue {
                 list,
-                begun: Begun::new(*taken.allocator()),
                 queued: self.queued,
                 taken,
                 served: self.served,
@@ -227,7 +224,7 @@ impl<W: WorkList> Queue<W> {
             return Ok(());
         }
         self.taken.reserve(1)?;
-        if let Some(item) = next(&mut self.list, &mut self.begun, facts) {
+        if let Some(item) = next(&mut self.list, facts) {
             self.taken.push_reserved(item.fact);
         }
         Ok(())

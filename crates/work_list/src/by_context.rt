@@ -4,6 +4,7 @@ ghost use Rattle.work_list.specs.Bag.{Adds};
 ghost use Rattle.work_list.specs.Groups.{LeadsTo, PopsTogether, PushesInto};
 ghost use Rattle.work_list.specs.Waiting.{AllStand, AreStacked, grouped, items_in, list_at};
 
+use crate::begun::Begun;
 use crate::groups::Groups;
 use crate::item::Item;
 use crate::list::WorkList;
@@ -12,11 +13,12 @@ use std::alloc::{AllocError, Global};
 use std::marker::Model;
 
 /// Pops an item of the context whose turn it is, which is that of the item that it popped last or one that it was led to since, while
-/// that has any, and then goes on to the context that began to wait last, or had to wait for another. It is seen as its items, in no
+/// that has any, and then goes on to the context that began to wait last, or had to wait for another. It is led to a context only before
+/// that has had its turn. It is seen as its items, in no
 /// order that means anything, and the context whose turn it is.
 /// A push and a pop take constant time on the whole, however many items and contexts there are. A push hands the item back where
 /// memory is refused, or where a `usize` cannot count the items. Memory goes by the largest number of a context, 16 bytes for each
-/// number up to it; by the items, 4 bytes for each of a context's where they were more than three since it last had none; and by the
+/// number up to it, and a byte for each up to the largest that had its turn; by the items, 4 bytes for each of a context's where they were more than three since it last had none; and by the
 /// contexts that wait, 4 bytes for each, and as many for each that it was led away from. Where one of these lists is full, it makes
 /// room for half as many more.
 #[derive(Drop)]
@@ -25,6 +27,8 @@ pub struct ByContext {
     groups: Groups,
     /// The contexts that wait, and maybe some that do not wait any more.
     stack: Vec<u32>,
+    /// The contexts that have had their turn.
+    begun: Begun,
     /// The context whose turn it is.
     last: Option<u32>,
     /// How many items wait.
@@ -44,6 +48,7 @@ impl Model for ByContext {
 }
 
 /// Whether it is the turn of the context.
+#[inline(always)]
 fn is_last(last: Option<u32>, context: u32) -> bool
     ensures { IsTrue result ↔ (last ≡ Some context) }
 {
@@ -54,6 +59,7 @@ fn is_last(last: Option<u32>, context: u32) -> bool
 }
 
 /// Adds an item to those that wait. Fails where memory is refused; then no item changes.
+#[inline(always)]
 fn push(
     groups: &mut Groups,
     stack: &mut Vec<u32>,
@@ -90,6 +96,7 @@ fn next(groups: &Groups, stack: &mut Vec<u32>) -> Option<u32>
 }
 
 /// Takes an item of the context whose turn it is, if there is one.
+#[inline(always)]
 fn take(groups: &mut Groups, last: Option<u32>) -> Option<Item>
     ensures some { IfSome result (λ item. Adds item (items_in groups.new.lists.items) (items_in groups.old.lists.items)) }
     ensures context { IfSome result (λ item. last ≡ Some item.context) }
@@ -101,7 +108,13 @@ fn take(groups: &mut Groups, last: Option<u32>) -> Option<Item>
 }
 
 /// Takes an item of the context whose turn it is, or of the one that comes next, if there is one.
-fn pop(groups: &mut Groups, stack: &mut Vec<u32>, last: &mut Option<u32>) -> Option<Item>
+#[inline(always)]
+fn pop(
+    groups: &mut Groups,
+    stack: &mut Vec<u32>,
+    begun: &mut Begun,
+    last: &mut Option<u32>,
+) -> Option<Item>
     requires { AreStacked groups.old.lists.items stack.old.items last.old }
     ensures stacked { AreStacked groups.new.lists.items stack.new.items last.new }
     ensures together { PopsTogether result (grouped groups.old last.old) (grouped groups.new last.new) }
@@ -110,6 +123,7 @@ fn pop(groups: &mut Groups, stack: &mut Vec<u32>, last: &mut Option<u32>) -> Opt
         return Some(item);
     }
     let context = next(groups, stack)?;
+    begun.add(context);
     *last = Some(context);
     take(groups, *last)
 }
@@ -138,15 +152,32 @@ impl ByContext {
         ByContext {
             groups: Groups::new(alloc),
             stack: Vec::new(alloc),
+            begun: Begun::new(alloc),
             last: None,
             count: 0,
         }
+    }
+
+    /// Gives the context its turn, and answers `true`, where it has items.
+    fn lead(&mut self, context: u32) -> bool
+        ensures { LeadsTo context result self.old self.new }
+    {
+        if !self.groups.has(context) {
+            return false;
+        }
+        let Ok(()) = set_aside(&self.groups, &mut self.stack, self.last) else {
+            return false;
+        };
+        self.begun.add(context);
+        self.last = Some(context);
+        true
     }
 }
 
 impl WorkList for ByContext {
     ghost pending = { λ b. b.items };
 
+    #[inline(always)]
     fn push(&mut self, item: Item) -> Result<(), Item>
         ensures items { PushesInto item result self.old.items self.new.items }
         ensures last { self.new.last ≡ self.old.last }
@@ -161,10 +192,16 @@ impl WorkList for ByContext {
         Ok(())
     }
 
+    #[inline(always)]
     fn pop(&mut self) -> Option<Item>
         ensures together { PopsTogether result self.old self.new }
     {
-        let item = pop(&mut self.groups, &mut self.stack, &mut self.last)?;
+        let item = pop(
+            &mut self.groups,
+            &mut self.stack,
+            &mut self.begun,
+            &mut self.last,
+        )?;
         self.count -= 1;
         Some(item)
     }
@@ -175,16 +212,13 @@ impl WorkList for ByContext {
         self.count
     }
 
+    #[inline(always)]
     fn lead_to(&mut self, context: u32) -> bool
         ensures { LeadsTo context result self.old self.new }
     {
-        if !self.groups.has(context) {
+        if self.begun.has(context) {
             return false;
         }
-        let Ok(()) = set_aside(&self.groups, &mut self.stack, self.last) else {
-            return false;
-        };
-        self.last = Some(context);
-        true
+        self.lead(context)
     }
 }

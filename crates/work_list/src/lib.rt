@@ -1,6 +1,7 @@
 //! Lists of pending work, which give their items back in any order.
 #![tactic(auto)]
 
+mod begun;
 mod by_context;
 mod fifo;
 mod groups;

@@ -1,7 +1,7 @@
 use Rattle.std.proofs.Common.{◌<◌, length, refl, rules}
 use Rattle.work_list.specs.Waiting.{list_at}
 use Rattle.work_list.proofs.Waiting.{has_item}
-use Rattle.work_list.proofs.by_context.ByContextWorkList.lead_to.Goals as goal
+use Rattle.work_list.proofs.by_context.ByContext.lead.Goals as goal
 
 pub returns : goal.returns
 returns c =
