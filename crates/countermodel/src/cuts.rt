@@ -9,7 +9,10 @@ use facts::StoredFact;
 use property_closure::PropertyClosure;
 use std::alloc::Global;
 
-// So many facts are looked at for where to cut, and fewer are not cut.
+// The pairs of fewer facts are not cut: a list of them all takes little room, and each range goes over all facts again.
+const MANY: usize = 1_000_000;
+
+// So many facts are looked at for where to cut.
 const SAMPLE: usize = 4096;
 
 // The pairs are cut into so many ranges.
@@ -49,7 +52,7 @@ pub(crate) fn cuts_of(
     requires { AreDistinct elements.now }
 {
     let mut cuts = Vec::new(alloc);
-    if facts.len() < SAMPLE {
+    if facts.len() < MANY {
         return Ok(cuts);
     }
     let mut pairs = some_pairs(alloc, closure, elements, facts)?;
