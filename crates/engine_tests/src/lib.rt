@@ -20,6 +20,8 @@ mod growing;
 #[cfg(test)]
 mod individuals;
 #[cfg(test)]
+mod intersections;
+#[cfg(test)]
 mod large;
 #[cfg(test)]
 mod listed_facts;

@@ -1,9 +1,11 @@
 -- Pairs in order of their keys, and where the pairs of each key start.
-use Rattle.std.proofs.Common.{◌≡◌, ℕ, ◌+◌, ◌-◌, ◌<◌, ◌≤◌, ⊎_elim, List, [], ◌∷◌, length, map, get_or, drop, Contains, refl, sym, ap, subst, ◌∙◌, Ordering, Less, Equal, Greater, false, arith, length-drop, length-take}
+use Rattle.std.proofs.Common.{◌≡◌, ℕ, ◌+◌, ◌-◌, ◌<◌, ◌≤◌, ⊎_elim, List, [], ◌∷◌, length, map, get_or, drop, Contains, refl, sym, ap, subst, ◌∙◌, true≢false, Ordering, Less, Equal, Greater, false, arith, length-drop, length-take}
 use Rattle.std.proofs.lemmas.Bool.{cases_lt}
 use Rattle.std.proofs.lemmas.List.{get_or_default, get_or-map, get_or-take, get_or-drop, get_or_past, length-map}
-use Rattle.std.proofs.lemmas.List.Sorted.{IsNonDecreasingBy-from_sort}
-use Rattle.std.specs.List.Sorted.{IsSorted, IsNonDecreasingBy}
+use Rattle.std.proofs.lemmas.Cmp.{nat_cmp_total}
+use Rattle.std.proofs.lemmas.List.Sorted.{IsNonDecreasingBy-from_sort, ranks_by, sorted_far}
+use Rattle.std.specs.Cmp.{nat_cmp_is, then_total, on_total}
+use Rattle.std.specs.List.Sorted.{IsSorted, IsNonDecreasing, IsNonDecreasingBy}
 use Rattle.std.specs.Ordering.{ordering_then, is_lt, nat_cmp}
 use Rattle.lemmas.proofs.Members.{Contains-none, Contains-first}
 use Rattle.indexes.specs.Lists.{list_at, key_at, IsWithin, AreLists, Divides, AreStarts, AreAllListed}
@@ -83,6 +85,18 @@ last_starts starts more pairs place last sorted end at was long same rest = reco
   all = λ m g. omega (arith, long, rising pairs sorted m last (omega (arith, at, g)) (omega (arith, at)));
 }
 
+-- equal numbers leave it to what comes second
+second_not_less : (a b c d : ℕ) → a ≡ b → is_lt (ordering_then (nat_cmp a b) (nat_cmp c d)) ≡ false → d ≤ c
+second_not_less a b c d same e =
+    let rest : is_lt (nat_cmp c d) ≡ false = subst (λ (o : Ordering). is_lt (ordering_then o (nat_cmp c d)) ≡ false) (sym (nat_cmp_is a b Equal same)) e in
+    ⊎_elim (λ lt. absurd (true≢false (ap is_lt (nat_cmp_is c d Less lt) ∙ rest))) (λ le. le) (cases_lt c d)
+
+-- the numbers of one key rise
+numbers_rise : (pairs : List (ℕ × ℕ)) → IsSorted (λ (p q : ℕ × ℕ). ordering_then (nat_cmp p.0 q.0) (nat_cmp p.1 q.1)) pairs
+    → (i j : ℕ) → i ≤ j → j < length pairs → key_at pairs i ≡ key_at pairs j → (get_or pairs i (0, 0)).1 ≤ (get_or pairs j (0, 0)).1
+numbers_rise pairs sorted i j le lt same =
+    second_not_less _ _ _ _ (sym same) (sorted_far _ (ranks_by (then_total (on_total (λ (p : ℕ × ℕ). p.0) nat_cmp_total) (on_total (λ (p : ℕ × ℕ). p.1) nat_cmp_total)) (λ (p : ℕ × ℕ). p)) pairs sorted i j (0, 0) le lt)
+
 pair_is : (p : ℕ × ℕ) (key n : ℕ) → p.0 ≡ key → p.1 ≡ n → p ≡ (key, n)
 pair_is (a, b) key n e f = ap (λ (x : ℕ). (x, b)) e ∙ ap (λ (y : ℕ). (key, y)) f
 
@@ -140,6 +154,33 @@ module _ (starts numbers : List ℕ) (pairs : List (ℕ × ℕ)) (are : AreStart
         i,
         omega (arith, l, length-take (to - from) (drop from numbers), length-drop from numbers, are.divides.within (key + 1) next, long),
         get_or-take (to - from) (drop from numbers) i n l ∙ get_or-drop from numbers i n ∙ ap (λ (j : ℕ). get_or numbers j n) back ∙ number_at m n there ∙ number_is,
+      )
+
+  -- the pair of a place of a list
+  pub pair_there : (key i : ℕ) → i < length (list_at starts numbers key) → (get_or starts key 0 + i < length pairs) × (key_at pairs (get_or starts key 0 + i) ≡ key)
+  pair_there key i low =
+      let from = get_or starts key 0 in
+      let to = get_or starts (key + 1) 0 in
+      let l : i < to - from = omega (arith, low, length-take (to - from) (drop from numbers)) in
+      let next : key + 1 < length starts = ⊎_elim (λ lt. lt) (λ ge. absurd (omega (arith, l, get_or_past starts (key + 1) 0 ge))) (cases_lt (key + 1) (length starts)) in
+      let there : from + i < length pairs = omega (arith, l, are.divides.within (key + 1) next) in
+      (there, omega (arith, are.divides.high key (from + i) (omega (arith, next)) (omega arith) there, are.divides.low (key + 1) (from + i) next (omega (arith, l))))
+
+  number_there : (key i d : ℕ) → i < length (list_at starts numbers key) → get_or (list_at starts numbers key) i d ≡ (get_or pairs (get_or starts key 0 + i) (0, 0)).1
+  number_there key i d low =
+      let from = get_or starts key 0 in
+      let to = get_or starts (key + 1) 0 in
+      get_or-take (to - from) (drop from numbers) i d (omega (arith, low, length-take (to - from) (drop from numbers))) ∙ get_or-drop from numbers i d ∙ number_at (from + i) d (pair_there key i low).0
+
+  pub lists_ascend : IsSorted (λ (p q : ℕ × ℕ). ordering_then (nat_cmp p.0 q.0) (nat_cmp p.1 q.1)) pairs → (key : ℕ) → IsNonDecreasing (list_at starts numbers key)
+  lists_ascend sorted key i j d le lt =
+      let from = get_or starts key 0 in
+      let low : i < length (list_at starts numbers key) = omega (arith, le, lt) in
+      omega (
+        arith,
+        number_there key i d low,
+        number_there key j d lt,
+        numbers_rise pairs sorted (from + i) (from + j) (omega (arith, le)) (pair_there key j lt).0 ((pair_there key i low).1 ∙ sym (pair_there key j lt).1),
       )
 
   pub lists_are : AreLists pairs starts numbers

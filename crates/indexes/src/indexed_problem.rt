@@ -1,5 +1,5 @@
 //! A problem whose forms are found by key.
-ghost use Rattle.std.specs.Prelude.{◌≡◌, ◌↔◌, ◌++◌, [], ℕ, Contains, IfOk, false, slice_get};
+ghost use Rattle.std.specs.Prelude.{◌≡◌, ◌↔◌, ◌⊎◌, ◌++◌, [], ℕ, Contains, IfOk, false, slice_get};
 ghost use Rattle.indexes.specs.declared.keys.Key.{Key as Key2};
 ghost use Rattle.indexes.specs.declared.keys.Key.TheVariants as keys;
 ghost use Rattle.indexes.specs.Keys.{class_key, property_key, individual_key, by_kind, by_alone, by_first, by_second, by_filler, by_chain, by_end, by_plain, by_linked_first, by_linked_second, by_denied};
@@ -8,6 +8,7 @@ ghost use Rattle.indexes.specs.FormsUnderKeys.{IsUnder};
 use crate::form_index::FormIndex;
 use crate::keys::Key;
 use crate::named::{key_of_class, key_of_property};
+use crate::overlap::common;
 use axioms::IndId;
 use facts::Context;
 use normal_forms::{Class2, Form, FormList, PropId2};
@@ -152,6 +153,18 @@ impl IndexedProblem {
         ensures { (n : ℕ) → Contains result.now n ↔ IsUnder by_second self.now.forms (class_key class) n }
     {
         self.index.second.of(key_of_class(class))
+    }
+
+    /// Intersections of that first class, or of that second class, with all that have both: none where those of one of the two classes end
+    /// before those of the other begin, else those of the class that fewer have.
+    pub fn intersections(&self, first: Class2, second: Class2) -> &[u32]
+        ensures all { (n : ℕ) → IsUnder by_first self.now.forms (class_key first) n → IsUnder by_second self.now.forms (class_key second) n → Contains result.now n }
+        ensures only { (n : ℕ) → Contains result.now n → IsUnder by_first self.now.forms (class_key first) n ⊎ IsUnder by_second self.now.forms (class_key second) n }
+    {
+        common(
+            self.index.first.of(key_of_class(first)),
+            self.index.second.of(key_of_class(second)),
+        )
     }
 
     /// The restrictions that need that class at the target of an edge.

@@ -1,5 +1,6 @@
 //! Lists of the numbers of forms, by keys of two kinds.
 ghost use Rattle.std.specs.Prelude.{◌≡◌, ◌≤◌, ◌↔◌, IfOk, length, true};
+ghost use Rattle.std.specs.List.Sorted.{IsNonDecreasing};
 ghost use Rattle.indexes.specs.FormIndex.{at_key, ListsForms, ListsNothing};
 ghost use Rattle.indexes.specs.Roles.{key_by};
 
@@ -56,9 +57,10 @@ impl KeyLists {
         self.wholes.is_empty() && self.partials.is_empty()
     }
 
-    /// The list of the key.
+    /// The list of the key, which ascends.
     pub(crate) fn of(&self, key: Key) -> &[u32]
-        ensures { result.now ≡ at_key self.now key }
+        ensures list { result.now ≡ at_key self.now key }
+        ensures ascending { IsNonDecreasing result.now }
     {
         match key {
             Key::Whole(number) => self.wholes.of(number),

@@ -12,6 +12,7 @@ mod keys;
 mod lists;
 mod membership;
 mod named;
+mod overlap;
 mod roles;
 mod roots;
 mod same_individuals;

@@ -1,6 +1,6 @@
 //! Lists of numbers by key, all in one piece.
 ghost use Rattle.std.specs.Prelude.{◌≡◌, ◌≤◌, ◌↔◌, ℕ, [], IfOk, length, map, true};
-ghost use Rattle.std.specs.List.Sorted.{IsNonDecreasingBy};
+ghost use Rattle.std.specs.List.Sorted.{IsNonDecreasing, IsNonDecreasingBy};
 ghost use Rattle.indexes.specs.Lists.{list_at, AreLists, AreStarts, AreAllListed, IsWithin};
 
 use std::alloc::{AllocError, Global};
@@ -13,6 +13,7 @@ pub(crate) struct Lists {
     pub numbers: Vec<u32>,
     ghost within: { IsWithin starts.items numbers.items },
     ghost listed: { AreAllListed starts.items numbers.items },
+    ghost ascending: { (key : ℕ) → IsNonDecreasing (list_at starts.items numbers.items key) },
 }
 
 fn numbers_of(alloc: Global, pairs: &[(u32, u32)]) -> Result<Vec<u32>, AllocError>
@@ -73,9 +74,10 @@ impl Lists {
         self.numbers.is_empty()
     }
 
-    /// The list of the key.
+    /// The list of the key, which ascends.
     pub(crate) fn of(&self, key: u32) -> &[u32]
-        ensures { result.now ≡ list_at self.now.starts.items self.now.numbers.items key }
+        ensures list { result.now ≡ list_at self.now.starts.items self.now.numbers.items key }
+        ensures ascending { IsNonDecreasing result.now }
     {
         let next = key as usize + 1;
         if next >= self.starts.len() {

@@ -1,19 +1,9 @@
 //! Whether a problem has a form.
-ghost use Rattle.std.specs.Prelude.{◌≡◌, ◌↔◌, ◌⊎◌, ℕ, Contains, IsTrue, Some, slice_get};
+ghost use Rattle.std.specs.Prelude.{◌≡◌, ◌↔◌, ℕ, Contains, IsTrue, Some, slice_get};
 
 use crate::indexed_problem::IndexedProblem;
+use crate::overlap::shorter;
 use normal_forms::{Form, PropId2};
-
-/// The shorter of two lists.
-fn shorter<'a>(first: &'a [u32], second: &'a [u32]) -> &'a [u32]
-    ensures { (result.now ≡ first.now) ⊎ (result.now ≡ second.now) }
-{
-    if second.len() < first.len() {
-        second
-    } else {
-        first
-    }
-}
 
 /// Whether the two are one.
 fn is_same(first: Form, second: Form) -> bool
@@ -52,7 +42,7 @@ fn like(problem: &IndexedProblem, form: Form) -> &[u32]
 {
     match form {
         Form::N1(a, _) | Form::N3(a, _, _) => problem.alone(a),
-        Form::N2(a, b, _) => shorter(problem.first(a), problem.second(b)),
+        Form::N2(a, b, _) => problem.intersections(a, b),
         Form::N4(_, a, _) => problem.with_filler(a),
         Form::N5(r, _) => problem.plain_from(PropId2::Property(r)),
         Form::N6(r, s, _) => shorter(problem.chains_from(r), problem.chains_to(s)),

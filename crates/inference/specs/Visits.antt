@@ -3,13 +3,12 @@ use Rattle.std.specs.Prelude.{◌≡◌, ℕ, ◌<◌, Bool, true, List, [], ◌
 use Rattle.std.specs.List.{Contains}
 use Rattle.indexes.specs.declared.keys.Key.{Key}
 use Rattle.normal_forms.specs.declared.forms.Form.{Form}
-use Rattle.normal_forms.specs.declared.forms.Class2.{Class2}
 use Rattle.normal_forms.specs.declared.forms.PropId2.{PropId2}
 use Rattle.normal_forms.specs.Properties.{IsAtOrBelow}
 use Rattle.facts.specs.declared.contexts.Fact.{Fact}
 use Rattle.facts.specs.declared.contexts.Fact.TheVariants.{In, Edge}
 use Rattle.facts.specs.Closure.{Problem, Concludes, Gives}
-use Rattle.indexes.specs.Keys.{by_chain, by_end, by_first, by_second, class_key, property_key}
+use Rattle.indexes.specs.Keys.{by_chain, by_end, property_key}
 use Rattle.indexes.specs.FormsUnderKeys.{IsUnder}
 use Rattle.property_closure.specs.PropertyClosures.{Known, Has}
 use Rattle.inference.specs.Completeness.{IsDrawnFrom, GoesOn}
@@ -74,10 +73,6 @@ AllChainsDrawn k older facts p = (r : PropId2) → IsAtOrBelow k.forms p r → C
 -- the numbers are at least those of the forms, but chains, that give something from these facts
 abbrev pub HaveAllVisited : Problem → List Fact → List ℕ → Type 0
 HaveAllVisited k older numbers = (n : ℕ) (form : Form) (f : Fact) → slice_get k.forms n ≡ Some form → by_chain form ≡ None → Concludes k form older f → Contains numbers n
-
--- the numbers are at least those of the intersections of the two classes
-abbrev pub HaveAllIntersections : List Form → Class2 → Class2 → List ℕ → Type 0
-HaveAllIntersections forms a b numbers = (n : ℕ) → IsUnder by_first forms (class_key a) n → IsUnder by_second forms (class_key b) n → Contains numbers n
 
 -- the form at the place goes on
 abbrev pub GoesOnAt : List Form → ℕ → Type 0

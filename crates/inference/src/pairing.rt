@@ -52,7 +52,7 @@ impl Rules<'_> {
         Ok(())
     }
 
-    /// Adds what two facts give, whichever is first.
+    /// Adds what two facts give, whichever is first. With itself a fact has one order.
     fn meet(&self, facts: &mut KnownFacts, m: u32, f: Fact, n: u32, g: Fact) -> Result<(), Stop>
         requires derived { IsDerived self.now.problem.now facts.old }
         requires first { slice_get facts.old.facts m ≡ Some f }
@@ -60,6 +60,9 @@ impl Rules<'_> {
         ensures { Draws self.now facts.old facts.new result (MeetEachOther self.now.problem.now f g facts.new) }
     {
         self.draw_pair(facts, m, f, n, g)?;
+        if m == n {
+            return Ok(());
+        }
         self.draw_pair(facts, n, g, m, f)?;
         Ok(())
     }

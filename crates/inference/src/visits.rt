@@ -10,7 +10,7 @@ ghost use Rattle.normal_forms.specs.declared.forms.PropId2.{PropId2 as PropId3};
 ghost use Rattle.indexes.specs.Keys.{by_chain, by_filler, class_key, property_key};
 ghost use Rattle.property_closure.specs.PropertyClosures.{Has};
 ghost use Rattle.inference.specs.PropertyClosures.{IsClosureOf};
-ghost use Rattle.inference.specs.Visits.{HaveAllIntersections, HaveAllVisited, IsNotCarried, NoneUnder, chained_pair, chained_property};
+ghost use Rattle.inference.specs.Visits.{HaveAllVisited, IsNotCarried, NoneUnder, chained_pair, chained_property};
 
 use crate::conclusions::NOTHING;
 use facts::{Context, Fact};
@@ -38,19 +38,6 @@ pub(crate) fn chained(older: &[Fact]) -> Option<PropId2>
     }
 }
 
-/// The intersections of two classes, by that of the two which fewer have.
-fn operands(problem: &IndexedProblem, first: Class2, second: Class2) -> &[u32]
-    ensures { HaveAllIntersections problem.now.forms first second result.now }
-{
-    let by_first = problem.first(first);
-    let by_second = problem.second(second);
-    if by_first.len() <= by_second.len() {
-        by_first
-    } else {
-        by_second
-    }
-}
-
 /// The forms that give something from one fact.
 fn visited_by_one(problem: &IndexedProblem, first: Fact) -> &[u32]
     ensures { (n : ℕ) (form : Form2) (f : Fact2) → slice_get problem.now.forms n ≡ Some form → FromOne problem.now form first f → Contains result.now n }
@@ -67,7 +54,7 @@ fn visited_by_two(problem: &IndexedProblem, first: Fact, second: Fact) -> &[u32]
     ensures { HaveAllVisited problem.now (first ∷ second ∷ []) result.now }
 {
     match (first, second) {
-        (Fact::In(a, _), Fact::In(b, _)) => operands(problem, a, b),
+        (Fact::In(a, _), Fact::In(b, _)) => problem.intersections(a, b),
         (Fact::Edge(..), Fact::In(filler, _)) => problem.with_filler(filler),
         _ => &[],
     }

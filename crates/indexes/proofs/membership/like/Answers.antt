@@ -3,10 +3,7 @@ use Rattle.indexes.specs.Keys.{by_kind, by_alone, by_first, by_second, by_filler
 use Rattle.indexes.proofs.membership.like.Goals as goal
 
 pub returns-in-N2 : goal.returns-in-N2
-returns-in-N2 c = λ n at. ⊎_elim
-    (λ is. subst (λ (list : List ℕ). Contains list n) (sym is) ((c.first.ensures n).1 (c.args.form, at, ap by_first c.in-N2.is)))
-    (λ is. subst (λ (list : List ℕ). Contains list n) (sym is) ((c.second.ensures n).1 (c.args.form, at, ap by_second c.in-N2.is)))
-    c.shorter.ensures
+returns-in-N2 c = λ n at. c.intersections.ensures.all n (c.args.form, at, ap by_first c.in-N2.is) (c.args.form, at, ap by_second c.in-N2.is)
 
 pub returns-in-N4 : goal.returns-in-N4
 returns-in-N4 c = λ n at. (c.with_filler.ensures n).1 (c.args.form, at, ap by_filler c.in-N4.is)
@@ -18,7 +15,7 @@ pub returns-in-N6 : goal.returns-in-N6
 returns-in-N6 c = λ n at. ⊎_elim
     (λ is. subst (λ (list : List ℕ). Contains list n) (sym is) ((c.chains_from.ensures n).1 (c.args.form, at, ap by_chain c.in-N6.is)))
     (λ is. subst (λ (list : List ℕ). Contains list n) (sym is) ((c.chains_to.ensures n).1 (c.args.form, at, ap by_end c.in-N6.is)))
-    c.shorter-in-N6.ensures
+    c.shorter.ensures
 
 pub returns-in-N7 : goal.returns-in-N7
 returns-in-N7 c = λ n at. (c.reflexive.ensures n).1 (c.args.form, at, ap by_kind c.in-N7.is)

@@ -1,7 +1,7 @@
 use Rattle.std.proofs.Common.{ℕ, map, ap, subst, ◌∙◌}
 use Rattle.std.proofs.lemmas.List.Sorted.{Contains-permutation, IsPermutation-sym}
 use Rattle.indexes.specs.Lists.{AreStarts}
-use Rattle.indexes.proofs.Dividing.{keys_rise, starts_within, lists_are, all_listed}
+use Rattle.indexes.proofs.Dividing.{keys_rise, starts_within, lists_are, lists_ascend, all_listed}
 use Rattle.indexes.proofs.lists.Lists.from_pairs.Goals as goal
 
 pub starts_of-requires-clause-sorted : goal.starts_of-requires-clause-sorted
@@ -15,6 +15,7 @@ invariant_of-result c =
     record {
       within = starts_within starts c.in_ok-numbers_of.field-0.items c.sort_unstable.new.self.items are numbers;
       listed = all_listed starts c.in_ok-numbers_of.field-0.items c.sort_unstable.new.self.items are numbers;
+      ascending = lists_ascend starts c.in_ok-numbers_of.field-0.items c.sort_unstable.new.self.items are numbers c.sort_unstable.ensures.sorted;
     }
 
 pub returns : goal.returns
