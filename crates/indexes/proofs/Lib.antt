@@ -1,8 +1,8 @@
 pub mod Tables
 pub mod Adding
 pub mod Parts
-pub mod Dividing
-pub mod Pairing
+pub mod Counting
+pub mod Filling
 pub mod Listing
 pub mod Paths
 pub mod Grouping

@@ -5,7 +5,8 @@ pub mod FactIndex
 pub mod Keys
 pub mod Roles
 pub mod FormsUnderKeys
-pub mod Pairs
+pub mod Counts
+pub mod KeyFillings
 pub mod Lists
 pub mod FormIndex
 pub mod Groups

@@ -1,6 +1,6 @@
 -- Lists of numbers by key, all in one piece.
-use Rattle.std.specs.Prelude.{◌≡◌, ℕ, ◌+◌, ◌-◌, ◌<◌, ◌≤◌, ◌↔◌, List, [], length, take, drop, slice_index, slice_index_or}
-use Rattle.std.specs.List.{Contains}
+use Rattle.std.specs.Prelude.{◌≡◌, ℕ, zero, suc, ◌+◌, ◌-◌, ◌<◌, ◌≤◌, ◌↔◌, List, [], length, take, drop, slice_index, slice_set}
+use Rattle.indexes.specs.declared.lists.Filling.{Filling}
 
 -- the list of a key: the numbers from where it starts up to where that of the next key does, and none where there is no next
 abbrev pub list_at : List ℕ → List ℕ → ℕ → List ℕ
@@ -14,21 +14,30 @@ IsWithin starts numbers = (key : ℕ) → key + 1 < length starts → (slice_ind
 abbrev pub AreAllListed : List ℕ → List ℕ → Type 0
 AreAllListed starts numbers = ((key : ℕ) → list_at starts numbers key ≡ []) → numbers ≡ []
 
--- the list of each key has exactly the numbers that are paired with it
-abbrev pub AreLists : List (ℕ × ℕ) → List ℕ → List ℕ → Type 0
-AreLists pairs starts numbers = (key n : ℕ) → Contains (list_at starts numbers key) n ↔ Contains pairs (key, n)
+-- how many the keys below have together
+abbrev pub before : (ℕ → ℕ) → ℕ → ℕ
+before count zero = 0
+before count (suc key) = before count key + count key
 
--- the key of the pair at a place
-abbrev pub key_at : List (ℕ × ℕ) → ℕ → ℕ
-key_at pairs place = (slice_index_or pairs place (0, 0)).0
+-- each list starts behind those of the keys below, where each has so many numbers
+pub record AreStarts (starts counts : List ℕ) : Type 0 where
+  pub at : (key : ℕ) → key < length starts → slice_index starts key ≡ before (slice_index counts) key
+  pub long : (key : ℕ) → key < length counts ↔ key + 1 < length starts
 
--- what stands for each key divides the pairs into those of the keys before it and the others
-pub record Divides (starts : List ℕ) (pairs : List (ℕ × ℕ)) : Type 0 where
-  pub within : (key : ℕ) → key < length starts → slice_index starts key ≤ length pairs
-  pub low : (key place : ℕ) → key < length starts → place < slice_index starts key → key_at pairs place < key
-  pub high : (key place : ℕ) → key < length starts → slice_index starts key ≤ place → place < length pairs → key ≤ key_at pairs place
+-- there is room for so many numbers of each key, and none is placed
+pub record IsRoomFor (counts : List ℕ) (filling : Filling) : Type 0 where
+  pub starts : AreStarts filling.starts.items counts
+  pub next : filling.next.items ≡ filling.starts.items
+  pub long : length filling.numbers.items ≡ before (slice_index counts) (length counts)
 
--- what stands for each key divides the pairs, and something stands for each key up to the one behind the greatest
-pub record AreStarts (starts : List ℕ) (pairs : List (ℕ × ℕ)) : Type 0 where
-  pub divides : Divides starts pairs
-  pub all : (place : ℕ) → place < length pairs → key_at pairs place + 1 < length starts
+-- a number of the key has a place where it goes
+pub record HasPlace (filling : Filling) (key : ℕ) : Type 0 where
+  pub there : key < length filling.next.items
+  pub room : slice_index filling.next.items key < length filling.numbers.items
+  pub few : length filling.numbers.items ≤ 4294967295
+
+-- the number goes there, and the next of the key behind it
+pub record Places (old new : Filling) (key number : ℕ) : Type 0 where
+  pub starts : new.starts.items ≡ old.starts.items
+  pub next : new.next.items ≡ slice_set old.next.items key (slice_index old.next.items key + 1)
+  pub numbers : new.numbers.items ≡ slice_set old.numbers.items (slice_index old.next.items key) number

@@ -2,6 +2,7 @@
 ghost use Rattle.std.specs.Prelude.{◌≡◌, ◌≤◌, IfOk, [], length};
 ghost use Rattle.indexes.specs.FormIndex.{IsFormIndex};
 
+use crate::form_counts::FormCounts;
 use crate::key_lists::KeyLists;
 use crate::roles::Role;
 use normal_forms::FormList;
@@ -61,23 +62,34 @@ impl FormIndex {
         }
     }
 
-    /// Lists all of the forms. Fails where memory is refused.
+    /// Lists all of the forms, which are counted first: the keys of a role that none has cost no more. Fails where memory is refused.
     pub(crate) fn of(alloc: Global, forms: &FormList) -> Result<Self, AllocError>
         requires { length forms.now ≤ u32.MAX }
         ensures { IfOk result (λ index. IsFormIndex forms.now index) }
     {
+        let counts = FormCounts::of(alloc, forms)?;
         Ok(FormIndex {
-            kinds: KeyLists::from_forms(alloc, Role::Kind, forms)?,
-            alone: KeyLists::from_forms(alloc, Role::Alone, forms)?,
-            first: KeyLists::from_forms(alloc, Role::First, forms)?,
-            second: KeyLists::from_forms(alloc, Role::Second, forms)?,
-            fillers: KeyLists::from_forms(alloc, Role::Filler, forms)?,
-            chains: KeyLists::from_forms(alloc, Role::Chain, forms)?,
-            ends: KeyLists::from_forms(alloc, Role::End, forms)?,
-            plain: KeyLists::from_forms(alloc, Role::Plain, forms)?,
-            linked_first: KeyLists::from_forms(alloc, Role::LinkedFirst, forms)?,
-            linked_second: KeyLists::from_forms(alloc, Role::LinkedSecond, forms)?,
-            denied: KeyLists::from_forms(alloc, Role::Denied, forms)?,
+            kinds: KeyLists::from_forms(alloc, Role::Kind, forms, &counts.kinds)?,
+            alone: KeyLists::from_forms(alloc, Role::Alone, forms, &counts.alone)?,
+            first: KeyLists::from_forms(alloc, Role::First, forms, &counts.first)?,
+            second: KeyLists::from_forms(alloc, Role::Second, forms, &counts.second)?,
+            fillers: KeyLists::from_forms(alloc, Role::Filler, forms, &counts.fillers)?,
+            chains: KeyLists::from_forms(alloc, Role::Chain, forms, &counts.chains)?,
+            ends: KeyLists::from_forms(alloc, Role::End, forms, &counts.ends)?,
+            plain: KeyLists::from_forms(alloc, Role::Plain, forms, &counts.plain)?,
+            linked_first: KeyLists::from_forms(
+                alloc,
+                Role::LinkedFirst,
+                forms,
+                &counts.linked_first,
+            )?,
+            linked_second: KeyLists::from_forms(
+                alloc,
+                Role::LinkedSecond,
+                forms,
+                &counts.linked_second,
+            )?,
+            denied: KeyLists::from_forms(alloc, Role::Denied, forms, &counts.denied)?,
         })
     }
 }

@@ -3,11 +3,12 @@
 #![tactic(auto)]
 
 mod by_context;
+mod form_counts;
 mod form_index;
 mod index;
 mod indexed_problem;
+mod key_counts;
 mod key_lists;
-mod key_pairs;
 mod keys;
 mod lists;
 mod membership;

@@ -1,7 +1,7 @@
 //! Lists of numbers by key, all in one piece.
-ghost use Rattle.std.specs.Prelude.{◌≡◌, ◌≤◌, ◌↔◌, ℕ, [], IfOk, length, map, true};
-ghost use Rattle.std.specs.List.Sorted.{IsNonDecreasing, IsNonDecreasingBy};
-ghost use Rattle.indexes.specs.Lists.{list_at, AreLists, AreStarts, AreAllListed, IsWithin};
+ghost use Rattle.std.specs.Prelude.{◌≡◌, ◌-◌, ◌≤◌, ◌↔◌, ℕ, [], IfOk, length, slice_index, true};
+ghost use Rattle.std.specs.List.Sorted.{IsNonDecreasing};
+ghost use Rattle.indexes.specs.Lists.{before, list_at, AreAllListed, AreStarts, HasPlace, IsRoomFor, IsWithin, Places};
 
 use std::alloc::{AllocError, Global};
 
@@ -16,32 +16,85 @@ pub(crate) struct Lists {
     ghost ascending: { (key : ℕ) → IsNonDecreasing (list_at starts.items numbers.items key) },
 }
 
-fn numbers_of(alloc: Global, pairs: &[(u32, u32)]) -> Result<Vec<u32>, AllocError>
-    ensures { IfOk result (λ numbers. numbers.items ≡ map (λ (p : ℕ × ℕ). p.1) pairs.now) }
-{
-    let mut numbers = Vec::with_capacity(alloc, pairs.len())?;
-    for pair in pairs {
-        numbers.push(pair.1)?;
-    }
-    Ok(numbers)
+/// Lists that are filled, of which it is known how many numbers each will have.
+#[derive(Drop)]
+pub(crate) struct Filling {
+    pub starts: Vec<u32>,
+    /// Where the next number of each key goes.
+    pub next: Vec<u32>,
+    pub numbers: Vec<u32>,
 }
 
-/// Where the numbers of each key start among the pairs, and behind the last key where they end.
-fn starts_of(alloc: Global, pairs: &[(u32, u32)]) -> Result<Vec<u32>, AllocError>
-    requires sorted { IsNonDecreasingBy (λ (p : ℕ × ℕ). p.0) pairs.now }
-    requires few { length pairs.now ≤ u32.MAX }
-    ensures { IfOk result (λ starts. AreStarts starts.items pairs.now) }
+/// Where the list of each key starts, and the last one ends, where each has so many numbers.
+fn starts_of(alloc: Global, counts: &[u32]) -> Result<Vec<u32>, AllocError>
+    requires { before (slice_index counts.now) (length counts.now) ≤ u32.MAX }
+    ensures { IfOk result (λ starts. AreStarts starts.items counts.now) }
 {
-    let Some(last) = pairs.last() else {
+    if counts.is_empty() {
         return Ok(Vec::new(alloc));
-    };
-    let end = last.0 as usize + 2;
-    let mut starts = Vec::with_capacity(alloc, end)?;
-    for (place, pair) in pairs.iter().enumerate() {
-        starts.resize(pair.0 as usize + 1, place as u32)?;
     }
-    starts.resize(end, pairs.len() as u32)?;
+    let mut starts = Vec::with_capacity(alloc, counts.len() + 1)?;
+    let mut end = 0;
+    for count in counts {
+        starts.push(end)?;
+        end += *count;
+    }
+    starts.push(end)?;
     Ok(starts)
+}
+
+/// The last of the numbers, and 0 where there is none.
+fn last_of(numbers: &[u32]) -> usize
+    ensures { result ≡ slice_index numbers.now (length numbers.now - 1) }
+{
+    match numbers.last() {
+        Some(last) => *last as usize,
+        None => 0,
+    }
+}
+
+impl Filling {
+    /// Room for so many numbers of each key. Fails where memory is refused.
+    pub(crate) fn new(alloc: Global, counts: &[u32]) -> Result<Self, AllocError>
+        requires { before (slice_index counts.now) (length counts.now) ≤ u32.MAX }
+        ensures { IfOk result (λ filling. IsRoomFor counts.now filling) }
+    {
+        let starts = starts_of(alloc, counts)?;
+        let mut next = Vec::with_capacity(alloc, starts.len())?;
+        next.extend_from_slice(&starts)?;
+        let numbers = vec![in alloc; 0; last_of(&starts)]?;
+        Ok(Filling {
+            starts,
+            next,
+            numbers,
+        })
+    }
+
+    /// Puts a number at the end of the list of the key.
+    pub(crate) fn place(&mut self, key: u32, number: u32)
+        requires { HasPlace self.old key }
+        ensures { Places self.old self.new key number }
+    {
+        let place = self.next[key as usize];
+        self.numbers[place as usize] = number;
+        self.next[key as usize] = place + 1;
+    }
+
+    /// The lists, when they are full.
+    pub(crate) fn filled(self) -> Lists
+        requires within { IsWithin self.starts.items self.numbers.items }
+        requires listed { AreAllListed self.starts.items self.numbers.items }
+        requires ascending { (key : ℕ) → IsNonDecreasing (list_at self.starts.items self.numbers.items key) }
+        ensures starts { result.starts.items ≡ self.starts.items }
+        ensures numbers { result.numbers.items ≡ self.numbers.items }
+    {
+        let Filling {
+            starts,
+            next: _,
+            numbers,
+        } = self;
+        Lists { starts, numbers }
+    }
 }
 
 impl Lists {
@@ -53,18 +106,6 @@ impl Lists {
             starts: Vec::new(alloc),
             numbers: Vec::new(alloc),
         }
-    }
-
-    /// The list of each key has the numbers that it is paired with. Fails where memory is refused.
-    pub(crate) fn from_pairs(alloc: Global, mut pairs: Vec<(u32, u32)>) -> Result<Self, AllocError>
-        requires { length pairs.items ≤ u32.MAX }
-        ensures { IfOk result (λ lists. AreLists pairs.items lists.starts.items lists.numbers.items) }
-    {
-        pairs.sort_unstable();
-        Ok(Lists {
-            starts: starts_of(alloc, &pairs)?,
-            numbers: numbers_of(alloc, &pairs)?,
-        })
     }
 
     /// Whether no list has a number.

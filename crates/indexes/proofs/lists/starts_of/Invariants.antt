@@ -1,5 +1,5 @@
-use Rattle.indexes.proofs.Dividing.{AreStartsTo}
+use Rattle.indexes.proofs.Counting.{AreStartsTo}
 use Rattle.indexes.proofs.lists.starts_of.Given as goal
 
-abbrev pub invariant-loop-place : goal.invariant-loop-place
-invariant-loop-place l = AreStartsTo l.starts.items l.pairs l.place
+abbrev pub invariant-loop-count : goal.invariant-loop-count
+invariant-loop-count l = AreStartsTo l.counts l.starts.items l.end l.count-index

@@ -1,0 +1,270 @@
+-- Forms counted by their keys, and the numbers of those with one.
+use Rattle.std.proofs.Common.{◌≡◌, ℕ, zero, suc, ◌+◌, ◌-◌, ◌==◌, ◌<◌, ◌≤◌, ◌⊎◌, inl, inr, ⊎_elim, Bool, true, false, cond, true≢false, List, [], ◌∷◌, ◌++◌, length, get_or, slice_get, slice_index, Option, Some, None, Contains, refl, sym, ap, subst, ◌∙◌, append-nil, add-one, le_of_eq, le_antisymm, length-append, arith}
+use Rattle.std.proofs.lemmas.Bool.{cases_lt}
+use Rattle.std.proofs.lemmas.Bool.Decides.{eqb_tells}
+use Rattle.std.proofs.lemmas.List.{get_or_append_left, get_or_past, get_or_push, length_push}
+use Rattle.std.proofs.lemmas.List.Elements.{Contains-push, Contains-push_cases, Contains-append_left, Contains-get_or}
+use Rattle.std.proofs.lemmas.List.Sorted.{IsNonDecreasingBy-push, IsNonDecreasingBy-short}
+use Rattle.std.proofs.lemmas.Option.{slice_get_within}
+use Rattle.std.specs.List.Sorted.{IsNonDecreasing}
+use Rattle.std.specs.Option.{option_and_then}
+use Rattle.normal_forms.specs.declared.forms.Form.{Form}
+use Rattle.lemmas.proofs.Members.{Contains-none}
+use Rattle.indexes.specs.declared.keys.Key.{Key}
+use Rattle.indexes.specs.declared.keys.Key.TheVariants.{Whole, Partial}
+use Rattle.indexes.specs.declared.form_counts.FormCounts.{FormCounts}
+use Rattle.indexes.specs.declared.key_counts.KeyCounts.{KeyCounts}
+use Rattle.indexes.specs.Keys.{by_kind, by_alone, by_first, by_second, by_filler, by_chain, by_end, by_plain, by_linked_first, by_linked_second, by_denied}
+use Rattle.indexes.specs.FormsUnderKeys.{IsUnder, is_key, numbers_under}
+use Rattle.indexes.specs.Lists.{before, AreStarts}
+use Rattle.indexes.specs.Counts.{count_at, Counts, CountsKey, AreCountsOf, CountsForm, AreFormCounts}
+
+-- ---- keys
+
+which_key : (k j : Key) → ((k ≡ j) × (is_key k (Some j) ≡ true)) ⊎ ((k ≡ j → ⊥) × (is_key k (Some j) ≡ false))
+which_key (Whole i) (Whole j) = ⊎_elim (λ w. inl (ap Whole w.1, w.0)) (λ w. inr (λ e. w.1 (cc), w.0)) (eqb_tells i j)
+which_key (Whole i) (Partial j) = inr (λ e. absurd (cc), refl)
+which_key (Partial i) (Whole j) = inr (λ e. absurd (cc), refl)
+which_key (Partial i) (Partial j) = ⊎_elim (λ w. inl (ap Partial w.1, w.0)) (λ w. inr (λ e. w.1 (cc), w.0)) (eqb_tells i j)
+
+that_key : (k : Key) (o : Option Key) → is_key k o ≡ true → o ≡ Some k
+that_key k None e = absurd (true≢false (sym e))
+that_key k (Some j) e = ⊎_elim (λ w. ap Some (sym w.0)) (λ w. absurd (true≢false (sym e ∙ w.1))) (which_key k j)
+
+is_that_key : (k : Key) (o : Option Key) → o ≡ Some k → is_key k o ≡ true
+is_that_key k o e = subst (λ (p : Option Key). is_key k p ≡ true) (sym e) (⊎_elim (λ w. w.1) (λ w. absurd (w.0 refl)) (which_key k k))
+
+pub other_key : (k j : Key) → (k ≡ j → ⊥) → is_key k (Some j) ≡ false
+other_key k j ne = ⊎_elim (λ w. absurd (ne w.0)) (λ w. w.1) (which_key k j)
+
+-- ---- the numbers of the forms with a key
+
+short_one : (b : Bool) (n : ℕ) → length (cond b (n ∷ []) []) ≤ 1
+short_one true n = omega arith
+short_one false n = omega arith
+
+module _ (key : Form → Option Key) (forms : List Form) where
+  pub numbers_more : (k : Key) (i : ℕ) (form : Form) → slice_get forms i ≡ Some form → numbers_under key forms k (i + 1) ≡ numbers_under key forms k i ++ cond (is_key k (key form)) (i ∷ []) []
+  numbers_more k i form at = ap (numbers_under key forms k) (add-one i) ∙ ap (λ (o : Option Form). numbers_under key forms k i ++ cond (is_key k (option_and_then key o)) (i ∷ []) []) at
+
+  pub numbers_few : (k : Key) (n : ℕ) → length (numbers_under key forms k n) ≤ n
+  numbers_few k zero = omega arith
+  numbers_few k (suc n) =
+      let b = is_key k (option_and_then key (slice_get forms n)) in
+      omega (arith, length-append (numbers_under key forms k n) (cond b (n ∷ []) []), short_one b n, numbers_few k n)
+
+  numbers_grow : (k : Key) (i n : ℕ) → i ≤ n → length (numbers_under key forms k i) ≤ length (numbers_under key forms k n)
+  numbers_grow k i zero le = let e : i ≡ 0 = omega (arith, le) in rw e (omega arith)
+  numbers_grow k i (suc n) le = ⊎_elim
+      (λ low. omega (arith, numbers_grow k i n (omega (arith, low)), length-append (numbers_under key forms k n) (cond (is_key k (option_and_then key (slice_get forms n))) (n ∷ []) [])))
+      (λ high. le_of_eq (ap (λ (m : ℕ). length (numbers_under key forms k m)) (le_antisymm le high)))
+      (cases_lt i (suc n))
+
+  pub numbers_with : (k : Key) (i : ℕ) (form : Form) → slice_get forms i ≡ Some form → key form ≡ Some k → numbers_under key forms k (i + 1) ≡ numbers_under key forms k i ++ i ∷ []
+  numbers_with k i form at has = numbers_more k i form at ∙ ap (λ (b : Bool). numbers_under key forms k i ++ cond b (i ∷ []) []) (is_that_key k (key form) has)
+
+  pub numbers_without : (k : Key) (i : ℕ) (form : Form) → slice_get forms i ≡ Some form → is_key k (key form) ≡ false → numbers_under key forms k (i + 1) ≡ numbers_under key forms k i
+  numbers_without k i form at not = numbers_more k i form at ∙ ap (λ (b : Bool). numbers_under key forms k i ++ cond b (i ∷ []) []) not ∙ append-nil (numbers_under key forms k i)
+
+  -- the next form has the key, so one number more is to come
+  pub numbers_to_come : (k : Key) (i : ℕ) (form : Form) → slice_get forms i ≡ Some form → key form ≡ Some k → i < length forms → length (numbers_under key forms k i) < length (numbers_under key forms k (length forms))
+  numbers_to_come k i form at has low =
+      omega (arith, ap length (numbers_with k i form at has), length-append (numbers_under key forms k i) (i ∷ []), numbers_grow k (i + 1) (length forms) (omega (arith, low)))
+
+  has_form : (k : Key) (o : Option Form) → is_key k (option_and_then key o) ≡ true → (form : Form) × (o ≡ Some form) × (key form ≡ Some k)
+  has_form k None e = absurd (true≢false (sym e))
+  has_form k (Some form) e = (form, refl, that_key k (key form) e)
+
+  from_last : (k : Key) (n m : ℕ) (b : Bool) → is_key k (option_and_then key (slice_get forms n)) ≡ b → Contains (numbers_under key forms k n ++ cond b (n ∷ []) []) m → Contains (numbers_under key forms k n) m ⊎ ((n ≡ m) × IsUnder key forms k n)
+  from_last k n m true e c = ⊎_elim (λ old. inl old) (λ same. inr (same, has_form k (slice_get forms n) e)) (Contains-push_cases (numbers_under key forms k n) n m c)
+  from_last k n m false e c = inl (subst (λ (list : List ℕ). Contains list m) (append-nil (numbers_under key forms k n)) c)
+
+  pub numbers_are_under : (k : Key) (n m : ℕ) → Contains (numbers_under key forms k n) m → (m < n) × IsUnder key forms k m
+  numbers_are_under k zero m c = absurd (Contains-none m c)
+  numbers_are_under k (suc n) m c = ⊎_elim
+      (λ old. let w = numbers_are_under k n m old in (omega (arith, w.0), w.1))
+      (λ new. (omega (arith, new.0), subst (λ (i : ℕ). IsUnder key forms k i) new.0 new.1))
+      (from_last k n m (is_key k (option_and_then key (slice_get forms n))) refl c)
+
+  into_last : (k : Key) (n : ℕ) → IsUnder key forms k n → Contains (numbers_under key forms k (suc n)) n
+  into_last k n w =
+      let has : is_key k (option_and_then key (slice_get forms n)) ≡ true = is_that_key k (option_and_then key (slice_get forms n)) (ap (option_and_then key) w.1 ∙ w.2) in
+      subst (λ (b : Bool). Contains (numbers_under key forms k n ++ cond b (n ∷ []) []) n) (sym has) (Contains-push (numbers_under key forms k n) n)
+
+  pub under_are_numbers : (k : Key) (n m : ℕ) → m < n → IsUnder key forms k m → Contains (numbers_under key forms k n) m
+  under_are_numbers k zero m low w = absurd (omega (arith, low))
+  under_are_numbers k (suc n) m low w = ⊎_elim
+      (λ l. Contains-append_left (numbers_under key forms k n) (cond (is_key k (option_and_then key (slice_get forms n))) (n ∷ []) []) m (under_are_numbers k n m l w))
+      (λ g. let e : m ≡ n = omega (arith, low, g) in subst (λ (i : ℕ). Contains (numbers_under key forms k (suc n)) i) (sym e) (into_last k n (subst (λ (i : ℕ). IsUnder key forms k i) e w)))
+      (cases_lt m n)
+
+  rise_more : (xs : List ℕ) (n : ℕ) (b : Bool) → ((m : ℕ) → Contains xs m → m < n) → IsNonDecreasing xs → IsNonDecreasing (xs ++ cond b (n ∷ []) [])
+  rise_more xs n true low rise = IsNonDecreasingBy-push (λ (x : ℕ). x) xs n rise (λ d some. omega (arith, low (get_or xs (length xs - 1) d) (Contains-get_or xs (length xs - 1) d (omega (arith, some)))))
+  rise_more xs n false low rise = subst IsNonDecreasing (sym (append-nil xs)) rise
+
+  pub numbers_rise : (k : Key) (n : ℕ) → IsNonDecreasing (numbers_under key forms k n)
+  numbers_rise k zero = IsNonDecreasingBy-short (λ (x : ℕ). x) [] (omega arith)
+  numbers_rise k (suc n) = rise_more (numbers_under key forms k n) n (is_key k (option_and_then key (slice_get forms n))) (λ m c. (numbers_are_under k n m c).0) (numbers_rise k n)
+
+-- ---- how many keys below have together
+
+pub before_rises : (f : ℕ → ℕ) (i n : ℕ) → i ≤ n → before f i ≤ before f n
+before_rises f i zero le = let e : i ≡ 0 = omega (arith, le) in rw e (omega arith)
+before_rises f i (suc n) le = ⊎_elim
+    (λ low. omega (arith, before_rises f i n (omega (arith, low))))
+    (λ high. le_of_eq (ap (before f) (le_antisymm le high)))
+    (cases_lt i (suc n))
+
+pub before_next : (f : ℕ → ℕ) (n : ℕ) → before f (n + 1) ≡ before f n + f n
+before_next f n = ap (before f) (add-one n)
+
+pub before_none : (f : ℕ → ℕ) → ((k : ℕ) → f k ≡ 0) → (n : ℕ) → before f n ≡ 0
+before_none f none zero = refl
+before_none f none (suc n) = omega (arith, none n, before_none f none n)
+
+module _ (old new : List ℕ) (key : ℕ) (counts : Counts old new key) where
+  before_key : (n : ℕ) → n ≤ key → before (slice_index new) n ≡ before (slice_index old) n
+  before_key zero le = refl
+  before_key (suc n) le = ⊎_elim
+      (λ w. omega (arith, w.1, before_key n (omega (arith, le))))
+      (λ w. absurd (omega (arith, w.0, le)))
+      (counts n)
+
+  pub one_more_before : (n : ℕ) → before (slice_index new) n ≤ before (slice_index old) n + 1
+  one_more_before zero = omega arith
+  one_more_before (suc n) = ⊎_elim
+      (λ w. omega (arith, w.1, one_more_before n))
+      (λ w. omega (arith, w.1, before_key n (omega (arith, w.0))))
+      (counts n)
+
+-- ---- one form more
+
+-- how many more a number counts that is that one, or another
+by_key : (k j i old new : ℕ) → (((k ≡ j → ⊥) × (new ≡ old)) ⊎ ((k ≡ j) × (new ≡ old + 1))) → new ≡ old + length (cond (k == j) (i ∷ []) [])
+by_key k j i old new w = ⊎_elim
+    (λ same. ⊎_elim
+    (λ u. absurd (u.0 same.1))
+    (λ u. rw same.0 u.1)
+    w)
+    (λ other. ⊎_elim
+    (λ u. rw other.0 (u.1 ∙ omega arith))
+    (λ u. absurd (other.1 u.0))
+    w)
+    (eqb_tells k j)
+
+-- how many more the key counts
+more_of : (old new : KeyCounts) (o : Option Key) (i : ℕ) → CountsKey old new o → (k : Key) → count_at new k ≡ count_at old k + length (cond (is_key k o) (i ∷ []) [])
+more_of old new None i w (Whole k) = ap (λ (list : List ℕ). slice_index list k) w.0 ∙ omega arith
+more_of old new None i w (Partial k) = ap (λ (list : List ℕ). slice_index list k) w.1 ∙ omega arith
+more_of old new (Some (Whole j)) i w (Whole k) = by_key k j i _ _ (w.0 k)
+more_of old new (Some (Whole j)) i w (Partial k) = ap (λ (list : List ℕ). slice_index list k) w.1 ∙ omega arith
+more_of old new (Some (Partial j)) i w (Whole k) = ap (λ (list : List ℕ). slice_index list k) w.0 ∙ omega arith
+more_of old new (Some (Partial j)) i w (Partial k) = by_key k j i _ _ (w.1 k)
+
+module _ (key : Form → Option Key) (forms : List Form) (i : ℕ) (form : Form) (at : slice_get forms i ≡ Some form) (old new : KeyCounts) (were : AreCountsOf key forms i old) where
+  wholes_few : (o : Option Key) → CountsKey old new o → (n : ℕ) → before (slice_index new.wholes.items) n ≤ i + 1
+  wholes_few None w n = omega (arith, were.wholes n, ap (λ (list : List ℕ). before (slice_index list) n) w.0)
+  wholes_few (Some (Whole j)) w n = omega (arith, were.wholes n, one_more_before old.wholes.items new.wholes.items j w.0 n)
+  wholes_few (Some (Partial j)) w n = omega (arith, were.wholes n, ap (λ (list : List ℕ). before (slice_index list) n) w.0)
+
+  partials_few : (o : Option Key) → CountsKey old new o → (n : ℕ) → before (slice_index new.partials.items) n ≤ i + 1
+  partials_few None w n = omega (arith, were.partials n, ap (λ (list : List ℕ). before (slice_index list) n) w.1)
+  partials_few (Some (Whole j)) w n = omega (arith, were.partials n, ap (λ (list : List ℕ). before (slice_index list) n) w.1)
+  partials_few (Some (Partial j)) w n = omega (arith, were.partials n, one_more_before old.partials.items new.partials.items j w.1 n)
+
+  pub counted_more : CountsKey old new (key form) → AreCountsOf key forms (i + 1) new
+  counted_more w = record {
+    exact = λ k. omega (
+      arith,
+      more_of old new (key form) i w k,
+      were.exact k,
+      ap length (numbers_more key forms k i form at),
+      length-append (numbers_under key forms k i) (cond (is_key k (key form)) (i ∷ []) []),
+    );
+    wholes = wholes_few (key form) w;
+    partials = partials_few (key form) w;
+  }
+
+uncounted : (counts : KeyCounts) → counts.wholes.items ≡ [] → counts.partials.items ≡ [] → (k : Key) → count_at counts k ≡ 0
+uncounted counts w p (Whole k) = ap (λ (list : List ℕ). slice_index list k) w
+uncounted counts w p (Partial k) = ap (λ (list : List ℕ). slice_index list k) p
+
+pub none_counted : (key : Form → Option Key) (forms : List Form) (counts : KeyCounts) → counts.wholes.items ≡ [] → counts.partials.items ≡ [] → AreCountsOf key forms 0 counts
+none_counted key forms counts w p = record {
+  exact = uncounted counts w p;
+  wholes = λ k. le_of_eq (ap (λ (list : List ℕ). before (slice_index list) k) w ∙ before_none (slice_index []) (λ j. refl) k);
+  partials = λ k. le_of_eq (ap (λ (list : List ℕ). before (slice_index list) k) p ∙ before_none (slice_index []) (λ j. refl) k);
+}
+
+pub form_counted : (forms : List Form) (i : ℕ) (form : Form) → slice_get forms i ≡ Some form → (old new : FormCounts) → AreFormCounts forms i old → CountsForm old new form → AreFormCounts forms (i + 1) new
+form_counted forms i form at old new were w = record {
+  kinds = counted_more by_kind forms i form at old.kinds new.kinds were.kinds w.kinds;
+  alone = counted_more by_alone forms i form at old.alone new.alone were.alone w.alone;
+  first = counted_more by_first forms i form at old.first new.first were.first w.first;
+  second = counted_more by_second forms i form at old.second new.second were.second w.second;
+  fillers = counted_more by_filler forms i form at old.fillers new.fillers were.fillers w.fillers;
+  chains = counted_more by_chain forms i form at old.chains new.chains were.chains w.chains;
+  ends = counted_more by_end forms i form at old.ends new.ends were.ends w.ends;
+  plain = counted_more by_plain forms i form at old.plain new.plain were.plain w.plain;
+  linked_first = counted_more by_linked_first forms i form at old.linked_first new.linked_first were.linked_first w.linked_first;
+  linked_second = counted_more by_linked_second forms i form at old.linked_second new.linked_second were.linked_second w.linked_second;
+  denied = counted_more by_denied forms i form at old.denied new.denied were.denied w.denied;
+}
+
+-- nothing is counted, so no form has the key
+pub none_under : (key : Form → Option Key) (forms : List Form) (counts : KeyCounts) → AreCountsOf key forms (length forms) counts → counts.wholes.items ≡ [] → counts.partials.items ≡ [] → (k : Key) (n : ℕ) → IsUnder key forms k n → ⊥
+none_under key forms counts are w p k n under =
+    let none : count_at counts k ≡ 0 = uncounted counts w p k in
+    let there = under_are_numbers key forms k (length forms) n (slice_get_within forms n under.0 under.1) under in
+    omega (arith, there.1, are.exact k, none)
+
+-- ---- where lists start
+
+-- the starts of the lists of the keys before that one, and the end of the last
+pub record AreStartsTo (counts starts : List ℕ) (end key : ℕ) : Type 0 where
+  pub long : length starts ≡ key
+  pub ends : end ≡ before (slice_index counts) key
+  pub at : (k : ℕ) → k < key → get_or starts k 0 ≡ before (slice_index counts) k
+
+pub no_starts : (counts starts : List ℕ) → starts ≡ [] → AreStartsTo counts starts 0 0
+no_starts counts starts e = record { long = ap length e; ends = refl; at = λ k lt. absurd (omega (arith, lt)) }
+
+module _ (counts starts : List ℕ) (end key : ℕ) (were : AreStartsTo counts starts end key) where
+  pub starts_more : AreStartsTo counts (starts ++ end ∷ []) (end + get_or counts key 0) (key + 1)
+  starts_more = record {
+    long = omega (arith, length_push starts end, were.long);
+    ends = ap (λ (n : ℕ). n + get_or counts key 0) were.ends ∙ ap (before (slice_index counts)) (sym (add-one key));
+    at = λ k lt. ⊎_elim
+        (λ low. get_or_append_left starts (end ∷ []) 0 k (omega (arith, low, were.long)) ∙ were.at k low)
+        (λ high. let e : k ≡ key = omega (arith, lt, high) in get_or_push starts end 0 k (were.long ∙ sym e) ∙ were.ends ∙ ap (before (slice_index counts)) (sym e))
+        (cases_lt k key);
+  }
+
+  pub end_is_few : (most : ℕ) → before (slice_index counts) (length counts) ≤ most → key < length counts → end + get_or counts key 0 ≤ most
+  end_is_few most few lt = omega (arith, starts_more.ends, before_rises (slice_index counts) (key + 1) (length counts) (omega (arith, lt)), few)
+
+  pub starts_all : key ≡ length counts → AreStarts (starts ++ end ∷ []) counts
+  starts_all all = record {
+    at = λ k lt. starts_more.at k (omega (arith, lt, starts_more.long));
+    long = λ k. (λ lt. omega (arith, lt, starts_more.long, all), λ lt. omega (arith, lt, starts_more.long, all));
+  }
+
+module _ (counts starts : List ℕ) (are : AreStarts starts counts) where
+  last_start : 0 < length starts → get_or starts (length starts - 1) 0 ≡ before (slice_index counts) (length counts)
+  last_start some =
+      let most : length starts ≤ length counts + 1 = ⊎_elim (λ lt. absurd (omega (arith, (are.long (length counts)).1 lt))) (λ le. le) (cases_lt (length counts + 1) (length starts)) in
+      let least : length counts + 1 ≤ length starts = ⊎_elim (λ lt. omega (arith, lt, (are.long (length counts - 1)).0 (omega (arith, lt)))) (λ le. omega (arith, le, some)) (cases_lt 0 (length counts)) in
+      let place : length starts - 1 ≡ length counts = omega (arith, most, least) in
+      are.at (length starts - 1) (omega (arith, some)) ∙ ap (before (slice_index counts)) place
+
+  no_start : length starts ≡ 0 → 0 ≡ before (slice_index counts) (length counts)
+  no_start none =
+      let few : length counts ≡ 0 = ⊎_elim (λ lt. absurd (omega (arith, none, (are.long 0).0 lt))) (λ le. omega (arith, le)) (cases_lt 0 (length counts)) in
+      ap (before (slice_index counts)) (sym few)
+
+  -- the last list ends behind all numbers
+  pub last_end : get_or starts (length starts - 1) 0 ≡ before (slice_index counts) (length counts)
+  last_end = ⊎_elim
+      last_start
+      (λ le. let none : length starts ≡ 0 = omega (arith, le) in get_or_past starts (length starts - 1) 0 (omega (arith, none)) ∙ no_start none)
+      (cases_lt 0 (length starts))

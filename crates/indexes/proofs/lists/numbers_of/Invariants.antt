@@ -1,5 +1,0 @@
-use Rattle.std.proofs.Common.{◌≡◌, ℕ, map, take}
-use Rattle.indexes.proofs.lists.numbers_of.Given as goal
-
-abbrev pub invariant-loop-pair : goal.invariant-loop-pair
-invariant-loop-pair l = l.numbers.items ≡ map (λ (p : ℕ × ℕ). p.1) (take l.pair-index l.pairs)
