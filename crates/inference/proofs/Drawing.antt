@@ -112,6 +112,13 @@ for_each_more {a = a} s P Q numbers i read low is before still here =
     each_more (λ n. (f : Fact) → slice_get a.facts n ≡ Some f → P f) (λ n. (f : Fact) → slice_get a.facts n ≡ Some f → Q f) numbers numbers i 0 refl low before
     (λ n all f at. still f (all f at)) (λ f at. subst Q (one_value _ read f is (s.facts _ f at)) here)
 
+-- and of the next that is not read, but is known by its number
+pub for_each_but : {k : Problem} {most : ℕ} {a b : Derived} → Grows k most a b → (P : Fact → Type 0) (numbers : List ℕ) (i : ℕ) → i < length numbers
+    → ForEach P a.facts (take i numbers) → ((f : Fact) → slice_get b.facts (get_or numbers i 0) ≡ Some f → P f) → ForEach P a.facts (take (i + 1) numbers)
+for_each_but {a = a} s P numbers i low before here =
+    each_more (λ n. (f : Fact) → slice_get a.facts n ≡ Some f → P f) (λ n. (f : Fact) → slice_get a.facts n ≡ Some f → P f) numbers numbers i 0 refl low before
+    (λ n all. all) (λ f at. here f (s.facts _ f at))
+
 pub for_each : (P : Fact → Type 0) (facts : List Fact) (numbers : List ℕ) (i : ℕ) → length numbers ≤ i → ForEach P facts (take i numbers) → ForEach P facts numbers
 for_each P facts numbers i = each (λ n. (f : Fact) → slice_get facts n ≡ Some f → P f) numbers numbers i refl
 

@@ -15,7 +15,7 @@ use Rattle.inference.specs.Derivations.{Derived}
 use Rattle.inference.specs.Completeness.{DrawnUpToRedundancy}
 
 -- two facts give something by a form, or owl:Nothing is carried back
-by_form_or_back : (k : Problem) (f g : Fact) → ((n : ℕ) (form : Form) (h : Fact) → slice_get k.forms n ≡ Some form → FromTwo k form f g h → ⊥) → ((h : Fact) → Carries f g h → ⊥) → GiveNothing k f g
+pub by_form_or_back : (k : Problem) (f g : Fact) → ((n : ℕ) (form : Form) (h : Fact) → slice_get k.forms n ≡ Some form → FromTwo k form f g h → ⊥) → ((h : Fact) → Carries f g h → ⊥) → GiveNothing k f g
 by_form_or_back k f g forms back _ _ h (in_thing c) = c
 by_form_or_back k f g forms back _ _ h (in_itself c) = c
 by_form_or_back k f g forms back _ _ h (by_form n form at gives) = forms n form h at gives

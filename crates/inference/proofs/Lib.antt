@@ -9,3 +9,4 @@ pub mod Visiting
 pub mod Edges
 pub mod Below
 pub mod Meeting
+pub mod Marking

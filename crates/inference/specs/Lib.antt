@@ -6,3 +6,5 @@ pub mod Meetings
 pub mod Entry
 pub mod Draws
 pub mod Sameness
+pub mod Marks
+pub mod Joins

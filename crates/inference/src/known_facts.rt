@@ -1,11 +1,16 @@
 //! The facts so far, and what gave them.
 ghost use Rattle.facts.specs.Births.{reason};
 ghost use Rattle.inference.specs.Derivations.{with_fact};
+ghost use Rattle.inference.specs.Marks.{AreMarks, IsMark};
+ghost use Rattle.inference.specs.Visits.{IsBy};
+ghost use Rattle.facts.specs.declared.contexts.Fact.{Fact as Fact2};
+ghost use Rattle.normal_forms.specs.declared.forms.PropId2.TheVariants as properties;
 ghost use Rattle.inference.specs.declared.known_facts.Stop.TheVariants as stops;
 ghost use Rattle.std.specs.Prelude.{◌≡◌, ◌↔◌, ◌<◌, ◌^◌, ◌++◌, ◌∷◌, Some, [], length, map, take, slice_get, Contains, Ok, IfOk, IfSome, IsNone, OnErr, false, true};
 
-use axioms::Memory;
+use axioms::{Memory, PropId};
 use facts::{Birth, Fact, FactTable, StoredFact};
+use normal_forms::PropId2;
 use std::alloc::Global;
 use std::hash::RandomState;
 use std::marker::Model;
@@ -32,16 +37,48 @@ impl From<Memory> for Stop {
 pub struct KnownFacts {
     facts: FactTable,
     births: Vec<Birth>,
+    /// A mark of each of the first facts, by which the property of an edge is told without a look at the edge.
+    marks: Vec<u16>,
 }
 
 impl Model for KnownFacts {
     ghost use Rattle.facts.specs.Births.{reason};
     ghost use Rattle.inference.specs.Derivations.{Derived};
+    ghost use Rattle.inference.specs.Marks.{AreMarks};
     ghost use Rattle.std.specs.Prelude.{map};
 
     ghost Value = { Derived };
 
     ghost view = { λ s. record { facts = s.facts; births = map reason s.births.items } };
+
+    ghost invariant = { λ s. AreMarks s.facts s.marks.items };
+}
+
+/// The mark of a fact of which it tells nothing.
+const UNMARKED: u16 = u16::MAX;
+
+/// The mark of a fact: the number of its property, where it is an edge and that is below the greatest mark.
+fn mark_of(fact: Fact) -> u16
+    ensures { IsMark result fact }
+{
+    match fact {
+        Fact::Edge(_, PropId2::Property(PropId(number)), _) if number < UNMARKED as u32 => {
+            number as u16
+        }
+        _ => UNMARKED,
+    }
+}
+
+/// Marks those of the facts that are not marked, where memory is to be had.
+fn mark_all(facts: &[StoredFact], marks: &mut Vec<u16>)
+    requires { AreMarks facts.now marks.old.items }
+    ensures { AreMarks facts.now marks.new.items }
+{
+    for place in marks.len()..facts.len() {
+        if marks.push(mark_of(facts[place].get())).is_err() {
+            return;
+        }
+    }
 }
 
 /// The same births, with room for as many more.
@@ -62,6 +99,7 @@ impl KnownFacts {
         KnownFacts {
             facts: FactTable::new(alloc, state),
             births: Vec::new(alloc),
+            marks: Vec::new(alloc),
         }
     }
 
@@ -75,7 +113,12 @@ impl KnownFacts {
     {
         let births = copied(&self.births)?;
         let facts = self.facts.copy()?;
-        Ok(KnownFacts { facts, births })
+        let marks = Vec::new(*self.marks.allocator());
+        Ok(KnownFacts {
+            facts,
+            births,
+            marks,
+        })
     }
 
     /// The facts, in order of birth.
@@ -115,7 +158,11 @@ impl KnownFacts {
         ensures facts { result.0.items ≡ self.facts }
         ensures births { map reason result.1.items ≡ self.births }
     {
-        let KnownFacts { facts, births } = self;
+        let KnownFacts {
+            facts,
+            births,
+            marks: _,
+        } = self;
         (facts.into_list(), births)
     }
 
@@ -142,6 +189,25 @@ impl KnownFacts {
         Ok(is_new)
     }
 
+    /// Marks the facts that are not marked, if marks are wanted and memory is to be had.
+    pub(crate) fn mark(&mut self, is_wanted: bool)
+        ensures { self.new ≡ self.old }
+    {
+        if is_wanted {
+            mark_all(self.facts.as_slice(), &mut self.marks);
+        }
+    }
+
+    /// The property of the edge of that number, where a mark tells it.
+    pub(crate) fn marked(&self, number: u32) -> Option<PropId>
+        ensures { IfSome result (λ p. (f : Fact2) × (slice_get self.now.facts number ≡ Some f) × IsBy (properties.Property p) f) }
+    {
+        match self.marks.get(number as usize) {
+            Some(mark) if *mark < UNMARKED => Some(PropId(*mark as u32)),
+            _ => None,
+        }
+    }
+
     /// Makes room for so many facts more of so many contexts at once, where memory is to be had; else room is made as they come.
     pub fn expect(&mut self, facts: usize, contexts: usize)
         ensures { self.new ≡ self.old }
@@ -158,5 +224,6 @@ impl KnownFacts {
     {
         self.facts.truncate(len);
         self.births.truncate(len);
+        self.marks.truncate(len);
     }
 }

@@ -2,6 +2,7 @@
 #![tactic(auto)]
 
 mod conclusions;
+mod joins;
 mod known_facts;
 mod pairing;
 mod properties;
@@ -10,6 +11,7 @@ mod sameness;
 mod second_premises;
 mod visits;
 
+pub use joins::Joins;
 pub use known_facts::{KnownFacts, Stop};
 pub use rules::Rules;
 pub use second_premises::is_second_premise;

@@ -1,10 +1,12 @@
 //! What two facts give, added to the facts.
 ghost use Rattle.std.specs.Prelude.{◌≡◌, [], ◌∷◌, false, Some, slice_get};
+ghost use Rattle.facts.specs.declared.contexts.Fact.{Fact as Fact2};
 ghost use Rattle.facts.specs.declared.contexts.Fact.TheVariants.{In};
 ghost use Rattle.inference.specs.Derivations.{IsDerived};
 ghost use Rattle.inference.specs.Draws.{Draws};
 ghost use Rattle.inference.specs.Completeness.{IsRedundantAsSecond, Drawn, IsDrawnIn, AreDrawnIn, MeetsOperands, MeetEachOther, AreMet, AreMetBefore, AreMetBehind};
 ghost use Rattle.inference.specs.Visits.{AreAll, AreWithin, GiveNothing, HasProperty, IsBy, IsClassFact, IsEdge};
+ghost use Rattle.inference.specs.Marks.{HasEndsOf, HasSecondsOf};
 ghost use Rattle.inference.specs.Meetings.{IsWithin, AllListedAreMet, HasServed};
 
 use crate::known_facts::{KnownFacts, Stop};
@@ -231,6 +233,74 @@ impl Rules<'_> {
         Ok(())
     }
 
+    /// Whether a chain may join the fact of that number behind an edge with these bits of seconds.
+    fn may_follow(&self, facts: &KnownFacts, seconds: u64, number: u32) -> bool
+        ensures { result ≡ false → (f g : Fact2) → HasSecondsOf self.now.problem.now.forms seconds f → slice_get facts.now.facts number ≡ Some g → GiveNothing self.now.problem.now f g }
+    {
+        match facts.marked(number) {
+            Some(property) => self.joins.ends(PropId2::Property(property)) & seconds != 0,
+            None => true,
+        }
+    }
+
+    /// Whether a chain may join the fact of that number before an edge with these bits of ends.
+    fn may_lead(&self, facts: &KnownFacts, ends: u64, number: u32) -> bool
+        ensures { result ≡ false → (f g : Fact2) → HasEndsOf self.now.problem.now.forms ends g → slice_get facts.now.facts number ≡ Some f → GiveNothing self.now.problem.now f g }
+    {
+        match facts.marked(number) {
+            Some(property) => self.joins.seconds(PropId2::Property(property)) & ends != 0,
+            None => true,
+        }
+    }
+
+    /// Adds what the edge with these bits of seconds gives as the first of two, with each of those of the other numbers.
+    fn join_before(
+        &self,
+        facts: &mut KnownFacts,
+        hand: u32,
+        edge: Fact,
+        seconds: u64,
+        numbers: &[u32],
+    ) -> Result<(), Stop>
+        requires derived { IsDerived self.now.problem.now facts.old }
+        requires hand { slice_get facts.old.facts hand ≡ Some edge }
+        requires seconds { HasSecondsOf self.now.problem.now.forms seconds edge }
+        requires numbers { AreAll IsEdge facts.old.facts numbers.now }
+        ensures { Draws self.now facts.old facts.new result (AreMetBefore self.now.problem.now edge facts.old.facts numbers.now facts.new) }
+    {
+        for number in numbers {
+            if self.may_follow(facts, seconds, *number) {
+                let partner = facts.get(*number);
+                self.draw_pair(facts, hand, edge, *number, partner)?;
+            }
+        }
+        Ok(())
+    }
+
+    /// Adds what the edge with these bits of ends gives as the second of two, with each of those of the other numbers.
+    fn join_behind(
+        &self,
+        facts: &mut KnownFacts,
+        hand: u32,
+        edge: Fact,
+        ends: u64,
+        numbers: &[u32],
+    ) -> Result<(), Stop>
+        requires derived { IsDerived self.now.problem.now facts.old }
+        requires hand { slice_get facts.old.facts hand ≡ Some edge }
+        requires ends { HasEndsOf self.now.problem.now.forms ends edge }
+        requires numbers { AreAll IsEdge facts.old.facts numbers.now }
+        ensures { Draws self.now facts.old facts.new result (AreMetBehind self.now.problem.now edge facts.old.facts numbers.now facts.new) }
+    {
+        for number in numbers {
+            if self.may_lead(facts, ends, *number) {
+                let partner = facts.get(*number);
+                self.draw_pair(facts, *number, partner, hand, edge)?;
+            }
+        }
+        Ok(())
+    }
+
     /// Adds what the edge gives as the first of two, with edges that have those numbers.
     fn lead_on(
         &self,
@@ -247,7 +317,8 @@ impl Rules<'_> {
         ensures { Draws self.now facts.old facts.new result (AreMetBefore self.now.problem.now edge facts.old.facts numbers.now facts.new) }
     {
         if begins_chain(self.problem, self.closure, property) {
-            self.meet_before(facts, hand, edge, numbers)?;
+            let seconds = self.joins.seconds(property);
+            self.join_before(facts, hand, edge, seconds, numbers)?;
         }
         Ok(())
     }
@@ -259,17 +330,20 @@ impl Rules<'_> {
         facts: &mut KnownFacts,
         hand: u32,
         edge: Fact,
+        property: PropId2,
         is_second: bool,
         numbers: &[u32],
     ) -> Result<(), Stop>
         requires derived { IsDerived self.now.problem.now facts.old }
         requires hand { slice_get facts.old.facts hand ≡ Some edge }
+        requires property { IsBy property edge }
         requires second { is_second ≡ false → IsRedundantAsSecond self.now.problem.now facts.old edge }
-        requires numbers { AreWithin facts.old.facts numbers.now }
+        requires numbers { AreAll IsEdge facts.old.facts numbers.now }
         ensures { Draws self.now facts.old facts.new result (AreMetBehind self.now.problem.now edge facts.old.facts numbers.now facts.new) }
     {
         if is_second {
-            self.meet_behind(facts, hand, edge, numbers)?;
+            let ends = self.joins.ends(property);
+            self.join_behind(facts, hand, edge, ends, numbers)?;
         }
         Ok(())
     }
@@ -297,7 +371,7 @@ impl Rules<'_> {
             Fact::Edge(x, property, y) => {
                 self.meet_before(facts, hand, fact, index.fillers_in(y))?;
                 self.lead_on(facts, hand, fact, property, index.second_premises_from(y))?;
-                self.lead_up(facts, hand, fact, is_second, index.edges_into(x))?;
+                self.lead_up(facts, hand, fact, property, is_second, index.edges_into(x))?;
             }
         }
         Ok(())

@@ -13,7 +13,8 @@ fn is_same(p: PropId2, q: PropId2) -> bool
     p == q
 }
 
-fn is_listed(list: &[PropId2], p: PropId2) -> bool
+/// Whether the list has the property.
+pub(crate) fn is_listed(list: &[PropId2], p: PropId2) -> bool
     ensures { IsTrue result ↔ Contains list.now p }
 {
     list.contains(&p)

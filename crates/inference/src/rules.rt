@@ -5,12 +5,14 @@ ghost use Rattle.facts.specs.Closure.{IsLoop};
 ghost use Rattle.inference.specs.Derivations.{IsDerived};
 ghost use Rattle.property_closure.specs.PropertyClosures.{Has};
 ghost use Rattle.inference.specs.PropertyClosures.{IsClosureOf, IsClosureOf-prop};
+ghost use Rattle.inference.specs.Joins.{AreJoins, AreJoins-prop};
 ghost use Rattle.inference.specs.Completeness.{AreAt, IsContextAt, AllDrawn, AreConcluded, DrawnAt, AreDrawnFrom, AreDrawn, IsDrawnFrom, IsEntered, IsInItself, Drawn};
 ghost use Rattle.inference.specs.Visits.{AllChainsDrawn};
 ghost use Rattle.inference.specs.Sameness.{AreGroupsOf, AreGroupsOf-prop};
 ghost use Rattle.inference.specs.Entry.{HasBegun, LoopIsDrawn, LoopsAreDrawn};
 
 use crate::conclusions::{THING, carried_back, conclusion, condition_of, loop_at};
+use crate::joins::Joins;
 use crate::known_facts::{KnownFacts, Stop};
 use crate::visits::{chained, visited};
 use facts::{Birth, Context, Fact};
@@ -24,11 +26,14 @@ pub struct Rules<'a> {
     pub problem: &'a IndexedProblem,
     pub closure: &'a PropertyClosure,
     pub groups: &'a Groups,
+    pub joins: &'a Joins,
     pub max_facts: u32,
     /// The closure is that of the forms.
     pub ghost closed: { IsClosureOf problem.now.forms closure.now } by { IsClosureOf-prop problem.now.forms closure.now },
     /// Individuals are one by the forms.
     pub ghost grouped: { AreGroupsOf problem.now.forms groups.now } by { AreGroupsOf-prop problem.now.forms groups.now },
+    /// Edges are joined by the chains of the forms.
+    pub ghost joined: { AreJoins problem.now.forms joins.now } by { AreJoins-prop problem.now.forms joins.now },
 }
 
 /// Where no fact may be added: whether the fact is there.
@@ -63,6 +68,7 @@ impl Rules<'_> {
             return found_at_limit(facts, &fact);
         }
         facts.put(fact, Birth::new(condition, older, form))?;
+        facts.mark(self.joins.are_any());
         Ok(())
     }
 

@@ -145,6 +145,7 @@ fn begun_again<W: WorkList>(
         problem,
         closure: ground.closure(),
         groups: ground.groups(),
+        joins: ground.joins(),
         max_facts: u32::MAX,
     };
     let Ok(()) = rules.begin_again(facts) else {

@@ -1,35 +1,40 @@
 //! What facts are drawn from.
 ghost use Rattle.inference.specs.PropertyClosures.{IsClosureOf};
 ghost use Rattle.inference.specs.Sameness.{AreGroupsOf};
+ghost use Rattle.inference.specs.Joins.{AreJoins};
 ghost use Rattle.std.specs.Prelude.{◌≡◌, ◌++◌, [], IfOk};
 
 use crate::counts::counted;
 use axioms::Memory;
 use facts::Context;
 use indexes::{Groups, IndexedProblem};
+use inference::Joins;
 use normal_forms::FormList;
 use property_closure::{PropertyClosure, close};
 use std::alloc::Global;
 use std::marker::Model;
 
-/// Normal forms and the contexts that are there from the start, with what the forms say of properties, and which individuals they make one.
+/// Normal forms and the contexts that are there from the start, with what the forms say of properties, which individuals they make one, and
+/// which edges their chains join.
 #[derive(Drop)]
 pub(crate) struct Ground {
     problem: IndexedProblem,
     closure: PropertyClosure,
     groups: Groups,
+    joins: Joins,
 }
 
 impl Model for Ground {
     ghost use Rattle.facts.specs.Closure.{Problem};
     ghost use Rattle.inference.specs.PropertyClosures.{IsClosureOf};
     ghost use Rattle.inference.specs.Sameness.{AreGroupsOf};
+    ghost use Rattle.inference.specs.Joins.{AreJoins};
 
     ghost Value = { Problem };
 
     ghost view = { λ g. g.problem };
 
-    ghost invariant = { λ g. IsClosureOf g.problem.forms g.closure × AreGroupsOf g.problem.forms g.groups };
+    ghost invariant = { λ g. IsClosureOf g.problem.forms g.closure × AreGroupsOf g.problem.forms g.groups × AreJoins g.problem.forms g.joins };
 }
 
 /// What the forms say of properties.
@@ -50,10 +55,12 @@ impl Ground {
         let groups = Groups::of(alloc, &none)?;
         let closure = closed(alloc, &none)?;
         let problem = IndexedProblem::empty(alloc);
+        let joins = Joins::of(alloc, &problem, &closure)?;
         Ok(Ground {
             problem,
             closure,
             groups,
+            joins,
         })
     }
 
@@ -70,10 +77,12 @@ impl Ground {
         let groups = Groups::of(alloc, forms)?;
         let closure = closed(alloc, forms)?;
         let problem = self.problem.grown(forms, roots)?;
+        let joins = Joins::of(alloc, &problem, &closure)?;
         Ok(Ground {
             problem,
             closure,
             groups,
+            joins,
         })
     }
 
@@ -96,5 +105,12 @@ impl Ground {
         ensures { AreGroupsOf self.now.forms result.now }
     {
         &self.groups
+    }
+
+    /// Which edges the chains join.
+    pub(crate) fn joins(&self) -> &Joins
+        ensures { AreJoins self.now.forms result.now }
+    {
+        &self.joins
     }
 }

@@ -276,6 +276,7 @@ impl<W: WorkList> State<W> {
             problem,
             closure,
             groups: self.ground.groups(),
+            joins: self.ground.joins(),
             max_facts,
         };
         rules.serve(&mut self.facts, &self.index, hand, fact, is_second)?;

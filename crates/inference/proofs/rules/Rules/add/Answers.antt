@@ -23,6 +23,6 @@ returns c =
     let birth = subst (IsBirth c.args.self.now.problem.now c.args.facts.now.facts c.args.fact) (sym c.new.ensures) c.requires.birth in
     let fresh = λ (yes : c.in_ok-put.field-0 ≡ true). c.in_ok-put.ensures.new cc in
     let known = λ (no : c.in_ok-put.field-0 ≡ false). c.in_ok-put.ensures.known cc in
-    draws
+    rw c.mark.ensures (draws
     (put c.args.self.now.problem.now c.args.self.now.max_facts c.args.facts.now _ c.args.fact _ c.in_ok-put.field-0 c.requires.derived birth (omega (arith, c.if-len-self.false, c.len.ensures.value)) fresh known)
-    (put_there c.args.facts.now _ c.args.fact _ c.in_ok-put.field-0 fresh known)
+    (put_there c.args.facts.now _ c.args.fact _ c.in_ok-put.field-0 fresh known))

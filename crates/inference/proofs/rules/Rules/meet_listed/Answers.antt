@@ -28,9 +28,8 @@ lead_up-requires-clause-second c = λ no.
 
 pub lead_up-requires-clause-numbers : goal.lead_up-requires-clause-numbers
 lead_up-requires-clause-numbers c =
-    numbers_within IsEdge c.lead_on.new.facts.facts c.edges_into-in-Edge.result.now
-    (all_still_there (grows_trans c.meet_before.ensures.grows c.lead_on.ensures.grows) IsEdge c.edges_into-in-Edge.result.now
-    (into_listed c.requires.index c.in-Edge.x c.edges_into-in-Edge.result.now c.edges_into-in-Edge.ensures))
+    all_still_there (grows_trans c.meet_before.ensures.grows c.lead_on.ensures.grows) IsEdge c.edges_into-in-Edge.result.now
+    (into_listed c.requires.index c.in-Edge.x c.edges_into-in-Edge.result.now c.edges_into-in-Edge.ensures)
 
 pub returns-in_ok-carry-in-In : goal.returns-in_ok-carry-in-In
 returns-in_ok-carry-in-In c =

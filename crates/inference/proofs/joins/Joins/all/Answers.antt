@@ -1,0 +1,27 @@
+use Rattle.std.proofs.Common.{ℕ}
+use Rattle.normal_forms.specs.declared.forms.PropId2.TheVariants.{Property}
+use Rattle.inference.specs.Marks.{HasEnds, HasSeconds}
+use Rattle.inference.proofs.Marking.{masks_more}
+use Rattle.inference.proofs.joins.Joins.all.Goals as goal
+
+pub loop-number-init : goal.loop-number-init
+loop-number-init c = record { are = c.none-joins.ensures.joins c.args.problem.now.forms; seconds = c.none-joins.ensures.seconds; ends = c.none-joins.ensures.ends }
+
+pub returns-then-not-is_known : goal.returns-then-not-is_known
+returns-then-not-is_known c = c.loop-number.invariant.are
+
+pub loop-number-preserved : goal.loop-number-preserved
+loop-number-preserved c =
+    let forms = c.args.problem.now.forms in
+    let i = c.loop-number.number in
+    let before = c.loop-number.invariant in
+    let seconds = masks_more (λ (n m : ℕ). HasSeconds forms m (Property (record { 0 = n }))) _ _ _ i c.in_ok-push.ensures.items before.seconds before.are.seconds c.seconds_of.ensures in
+    let ends = masks_more (λ (n m : ℕ). HasEnds forms m (Property (record { 0 = n }))) _ _ _ i c.in_ok-push-2.ensures.items before.ends before.are.ends c.ends_of.ensures in
+    record {
+      are = record { seconds = seconds.0; ends = ends.0 };
+      seconds = seconds.1;
+      ends = ends.1;
+    }
+
+pub returns : goal.returns
+returns c = c.loop-number.invariant.are

@@ -1,0 +1,39 @@
+use Rattle.std.proofs.Common.{[], ◌∷◌}
+use Rattle.facts.specs.declared.contexts.Fact.{Fact}
+use Rattle.inference.specs.Derivations.{Derived}
+use Rattle.inference.specs.Visits.{IsEdge}
+use Rattle.inference.specs.Completeness.{DrawnUpToRedundancy}
+use Rattle.inference.proofs.Growth.{grows_trans}
+use Rattle.inference.proofs.Drawing.{draws, for_each, for_each_but, for_each_more, next_there}
+use Rattle.inference.proofs.Giving.{nothing_missing}
+use Rattle.inference.proofs.Meeting.{numbers_within}
+use Rattle.inference.proofs.Redundancy.{all_drawn, up_to_redundancy_still}
+use Rattle.inference.proofs.rules.Rules.join_before.Goals as goal
+use Rattle.inference.proofs.rules.Rules.join_before.Goals.{then-may_follow+in_ok-draw_pair, else-may_follow}
+
+pub get-partner-requires : goal.get-partner-requires
+get-partner-requires c = next_there c.loop-number.invariant.grows c.args.numbers.now c.loop-number.number-index (numbers_within IsEdge c.args.facts.now.facts c.args.numbers.now c.requires.numbers) c.loop-number-test.true
+
+pub loop-number-preserved : goal.loop-number-preserved
+loop-number-preserved c =
+    let k = c.args.self.now.problem.now in
+    let f = c.args.edge in
+    let P = λ (d : Derived) (g : Fact). DrawnUpToRedundancy k (f ∷ g ∷ []) d in
+    let numbers = c.args.numbers.now in
+    let i = c.loop-number.number-index in
+    let before = c.loop-number.invariant in
+    elim c.if-may_follow.branch [
+      | then-may_follow+in_ok-draw_pair w ↦ rw w.facts-is (record {
+        grows = grows_trans before.grows w.draw_pair.ensures.grows;
+        met = for_each_more before.grows (P c.loop-number.facts) (P w.draw_pair.new.facts) numbers i _ c.loop-number-test.true w.get-partner.ensures before.met
+            (λ g d. up_to_redundancy_still w.draw_pair.ensures.grows (f ∷ g ∷ []) d) (all_drawn k _ _ w.in_ok-draw_pair.ensures.drawn);
+      })
+      | else-may_follow w ↦ rw w.facts-is (record {
+        grows = before.grows;
+        met = for_each_but before.grows (P c.loop-number.facts) numbers i c.loop-number-test.true before.met
+            (λ g at. nothing_missing k f g c.loop-number.facts (c.may_follow.ensures w.if-may_follow.false f g c.requires.seconds at));
+      })
+    ]
+
+pub returns : goal.returns
+returns c = draws c.loop-number.invariant.grows (for_each _ _ c.args.numbers.now c.loop-number.number-index c.loop-number-test.false c.loop-number.invariant.met)

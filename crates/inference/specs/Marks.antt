@@ -1,0 +1,60 @@
+-- Marks of facts, and masks of properties, by which it is told that no chain joins two edges.
+use Rattle.std.specs.Prelude.{◌≡◌, ℕ, ◌<◌, ◌%◌, List, slice_get, Some}
+use Rattle.std.specs.Int.{bit_at}
+use Rattle.normal_forms.specs.declared.forms.Form.{Form}
+use Rattle.normal_forms.specs.declared.forms.Form.TheVariants.{N6}
+use Rattle.normal_forms.specs.declared.forms.PropId2.{PropId2}
+use Rattle.normal_forms.specs.declared.forms.PropId2.TheVariants.{Property, Partial}
+use Rattle.normal_forms.specs.Properties.{IsAtOrBelow}
+use Rattle.facts.specs.declared.contexts.Fact.{Fact}
+use Rattle.facts.specs.declared.contexts.Fact.TheVariants.{In, Edge}
+use Rattle.indexes.specs.Keys.{by_chain, by_end, property_key}
+use Rattle.indexes.specs.FormsUnderKeys.{IsUnder}
+use Rattle.inference.specs.Visits.{IsBy}
+
+-- a mark below the greatest is the number of the property of an edge
+abbrev pub IsMark : ℕ → Fact → Type 0
+IsMark mark f = mark < 65535 → IsBy (Property (record { 0 = mark })) f
+
+-- each mark is that of the fact at its place
+abbrev pub AreMarks : List Fact → List ℕ → Type 0
+AreMarks facts marks = (n mark : ℕ) → slice_get marks n ≡ Some mark → (f : Fact) × (slice_get facts n ≡ Some f) × IsMark mark f
+
+-- which bit of a mask stands for a property: others may have the same
+abbrev pub bit_of : PropId2 → ℕ
+bit_of (Property p) = p.0 % 64
+bit_of (Partial n) = n % 64
+
+-- the mask has the bit of the property
+abbrev pub HasBit : ℕ → PropId2 → Type 0
+HasBit mask s = bit_at mask (bit_of s) ≡ 1
+
+-- it has the bit of the second property of the chain at the place, if there is one
+abbrev pub HasSecondAt : List Form → ℕ → ℕ → Type 0
+HasSecondAt forms mask n = (r s t : PropId2) → slice_get forms n ≡ Some (N6 r s t) → HasBit mask s
+
+-- it has the bits of the second properties of the chains that begin with r
+abbrev pub HasSecondsFrom : List Form → ℕ → PropId2 → Type 0
+HasSecondsFrom forms mask r = (n : ℕ) → IsUnder by_chain forms (property_key r) n → HasSecondAt forms mask n
+
+-- it has the bits of the second properties of the chains that begin with p, or a property above it
+abbrev pub HasSeconds : List Form → ℕ → PropId2 → Type 0
+HasSeconds forms mask p = (r : PropId2) → IsAtOrBelow forms p r → HasSecondsFrom forms mask r
+
+-- it has the bit of s, if a chain ends with it
+abbrev pub HasEnd : List Form → ℕ → PropId2 → Type 0
+HasEnd forms mask s = (n : ℕ) → IsUnder by_end forms (property_key s) n → HasBit mask s
+
+-- it has the bits of those of q and the properties above it with which a chain ends
+abbrev pub HasEnds : List Form → ℕ → PropId2 → Type 0
+HasEnds forms mask q = (s : PropId2) → IsAtOrBelow forms q s → HasEnd forms mask s
+
+-- the fact is an edge, and the mask has the bits of the second properties of the chains that its property may begin
+abbrev pub HasSecondsOf : List Form → ℕ → Fact → Type 0
+HasSecondsOf forms mask (In a x) = ⊥
+HasSecondsOf forms mask (Edge x p y) = HasSeconds forms mask p
+
+-- the fact is an edge, and the mask has the bits of the properties that its property may stand for at the end of a chain
+abbrev pub HasEndsOf : List Form → ℕ → Fact → Type 0
+HasEndsOf forms mask (In a x) = ⊥
+HasEndsOf forms mask (Edge x p y) = HasEnds forms mask p

@@ -1,0 +1,201 @@
+//! Which edges chains may join, told by the properties of the two.
+ghost use Rattle.std.specs.Prelude.{◌≡◌, ℕ, List, Contains, IfOk, length, slice_get, Some, None, true};
+ghost use Rattle.normal_forms.specs.declared.forms.Form.{Form as Form2};
+ghost use Rattle.normal_forms.specs.declared.forms.PropId2.TheVariants as the_properties;
+ghost use Rattle.property_closure.specs.PropertyClosures.{Has};
+ghost use Rattle.inference.specs.PropertyClosures.{IsClosureOf};
+ghost use Rattle.inference.specs.Marks.{HasBit, HasEnd, HasEnds, HasSecondAt, HasSeconds};
+ghost use Rattle.inference.specs.Joins.{AreJoins};
+
+use crate::properties::is_listed;
+use crate::visits::has_any;
+use axioms::{Memory, PropId};
+use indexes::IndexedProblem;
+use normal_forms::{Form, PropId2};
+use property_closure::PropertyClosure;
+use std::alloc::Global;
+
+/// For each property a mask of those that an edge may have that a chain joins behind one by it, and a mask of the properties that it counts
+/// as at the end of a chain. A chain joins two edges only where these have a bit in common.
+#[derive(Drop)]
+pub struct Joins {
+    pub(crate) seconds: Vec<u64>,
+    pub(crate) ends: Vec<u64>,
+}
+
+/// The bit that stands for the property, alone.
+fn bit(property: PropId2) -> u64
+    ensures { HasBit result property }
+{
+    let number = match property {
+        PropId2::Property(PropId(number)) => number,
+        PropId2::Partial(number) => number,
+    };
+    1 << (number % 64)
+}
+
+/// The bit of the second property of the form of that number, if it is a chain.
+fn second(problem: &IndexedProblem, number: u32) -> u64
+    ensures { HasSecondAt problem.now.forms result number }
+{
+    match problem.form(number) {
+        Some(Form::N6(_, second, _)) => bit(second),
+        _ => 0,
+    }
+}
+
+/// The bits of the second properties of those of the forms that are chains.
+fn seconds(problem: &IndexedProblem, numbers: &[u32]) -> u64
+    ensures { (n : ℕ) → Contains numbers.now n → HasSecondAt problem.now.forms result n }
+{
+    let mut mask = 0;
+    for number in numbers {
+        mask |= second(problem, *number);
+    }
+    mask
+}
+
+/// The bits of the second properties of chains that begin with the property, or one above it.
+fn seconds_of(problem: &IndexedProblem, closure: &PropertyClosure, property: PropId2) -> u64
+    requires closed { IsClosureOf problem.now.forms closure.now }
+    requires has { Has closure.now property }
+    ensures { HasSeconds problem.now.forms result property }
+{
+    let mut mask = 0;
+    for above in closure.supers(property) {
+        mask |= seconds(problem, problem.chains_from(*above));
+    }
+    mask
+}
+
+/// The bit of the property, if a chain ends with it.
+fn end(problem: &IndexedProblem, property: PropId2) -> u64
+    ensures { HasEnd problem.now.forms result property }
+{
+    if has_any(problem.chains_to(property)) {
+        bit(property)
+    } else {
+        0
+    }
+}
+
+/// The bits of those of the property and the ones above it with which a chain ends.
+fn ends_of(problem: &IndexedProblem, closure: &PropertyClosure, property: PropId2) -> u64
+    requires closed { IsClosureOf problem.now.forms closure.now }
+    requires has { Has closure.now property }
+    ensures { HasEnds problem.now.forms result property }
+{
+    let mut mask = 0;
+    for above in closure.supers(property) {
+        mask |= end(problem, *above);
+    }
+    mask
+}
+
+/// The mask at the place; all bits where there is none.
+fn mask_at(masks: &[u64], place: usize) -> u64
+    ensures there { (mask : ℕ) → slice_get masks.now place ≡ Some mask → result ≡ mask }
+    ensures none { slice_get masks.now place ≡ None → result ≡ u64.MAX }
+{
+    match masks.get(place) {
+        Some(mask) => *mask,
+        None => u64::MAX,
+    }
+}
+
+/// Whether the closure has the property.
+fn is_known(closure: &PropertyClosure, property: PropId2) -> bool
+    ensures { result ≡ true → Has closure.now property }
+{
+    is_listed(closure.supers(property), property)
+}
+
+/// Whether no mask has a bit.
+fn are_blank(masks: &[u64]) -> bool {
+    for mask in masks {
+        if *mask != 0 {
+            return false;
+        }
+    }
+    true
+}
+
+impl Joins {
+    /// No property has a mask.
+    fn none(alloc: Global) -> Joins
+        ensures joins { (forms : List Form2) → AreJoins forms result }
+        ensures seconds { length result.seconds.items ≡ 0 }
+        ensures ends { length result.ends.items ≡ 0 }
+    {
+        Joins {
+            seconds: Vec::new(alloc),
+            ends: Vec::new(alloc),
+        }
+    }
+
+    /// What the chains join, for the properties of which a mark may tell.
+    fn all(
+        alloc: Global,
+        problem: &IndexedProblem,
+        closure: &PropertyClosure,
+    ) -> Result<Joins, Memory>
+        requires { IsClosureOf problem.now.forms closure.now }
+        ensures { IfOk result (AreJoins problem.now.forms) }
+    {
+        let mut joins = Joins::none(alloc);
+        for number in 0..u16::MAX as u32 {
+            let property = PropId2::Property(PropId(number));
+            if !is_known(closure, property) {
+                return Ok(joins);
+            }
+            joins.seconds.push(seconds_of(problem, closure, property))?;
+            joins.ends.push(ends_of(problem, closure, property))?;
+        }
+        Ok(joins)
+    }
+
+    /// What the chains join, for the properties of which a mark may tell; for none where there is no chain.
+    ///
+    /// # Errors
+    ///
+    /// `Memory` where memory was refused.
+    pub fn of(
+        alloc: Global,
+        problem: &IndexedProblem,
+        closure: &PropertyClosure,
+    ) -> Result<Joins, Memory>
+        requires { IsClosureOf problem.now.forms closure.now }
+        ensures { IfOk result (AreJoins problem.now.forms) }
+    {
+        let joins = Joins::all(alloc, problem, closure)?;
+        if are_blank(&joins.seconds) {
+            return Ok(Joins::none(alloc));
+        }
+        Ok(joins)
+    }
+
+    /// Whether marks are of use: some property has a mask.
+    pub(crate) fn are_any(&self) -> bool {
+        !self.seconds.is_empty()
+    }
+
+    /// The bits of the properties that may stand behind an edge by the property in a chain; all where the property has no mask.
+    pub(crate) fn seconds(&self, property: PropId2) -> u64
+        ensures { (forms : List Form2) → AreJoins forms self.now → HasSeconds forms result property }
+    {
+        match property {
+            PropId2::Property(PropId(number)) => mask_at(&self.seconds, number as usize),
+            PropId2::Partial(_) => u64::MAX,
+        }
+    }
+
+    /// The bits of the properties that the property counts as at the end of a chain; all where it has no mask.
+    pub(crate) fn ends(&self, property: PropId2) -> u64
+        ensures { (forms : List Form2) → AreJoins forms self.now → HasEnds forms result property }
+    {
+        match property {
+            PropId2::Property(PropId(number)) => mask_at(&self.ends, number as usize),
+            PropId2::Partial(_) => u64::MAX,
+        }
+    }
+}
