@@ -1,5 +1,5 @@
 -- Marks of facts and masks of properties: that they stay right, and what they tell.
-use Rattle.std.proofs.Common.{◌≡◌, ℕ, Bool, true, false, eqb-true, not, nat_eq, ◌*◌, ◌^◌, ◌<◌, ◌%◌, ⊎_elim, List, [], ◌∷◌, ◌++◌, ◌+◌, length, slice_get, Some, None, Option, Contains, refl, sym, ap, subst, true≢false, ◌∙◌, arith}
+use Rattle.std.proofs.Common.{◌≡◌, ℕ, Bool, true, false, eqb-true, not, nat_eq, ◌*◌, ◌^◌, ◌<◌, ◌%◌, ⊎_elim, List, [], ◌∷◌, ◌++◌, ◌+◌, length, slice_get, Some, None, Option, refl, sym, ap, subst, true≢false, ◌∙◌, arith}
 use Rattle.std.proofs.lemmas.Nat.Bits.{bit_at_and, bit_at_or, bit_at-zero, bit_at_ones, bit_at-lt, bit_at-pow_same}
 use Rattle.std.proofs.Math.Pow.{pow-lt}
 use Rattle.std.proofs.lemmas.List.{length_push}
@@ -14,11 +14,9 @@ use Rattle.facts.specs.declared.contexts.Context.{Context}
 use Rattle.facts.specs.declared.contexts.Fact.{Fact}
 use Rattle.facts.specs.declared.contexts.Fact.TheVariants.{In, Edge}
 use Rattle.facts.specs.Closure.{Problem, FromTwo}
-use Rattle.indexes.specs.Keys.{by_chain, by_end, property_key}
-use Rattle.indexes.specs.FormsUnderKeys.{IsUnder}
 use Rattle.inference.specs.Derivations.{Keeps}
-use Rattle.inference.specs.Visits.{GiveNothing, IsBy}
-use Rattle.inference.specs.Marks.{IsMark, AreMarks, bit_of, HasBit, HasSecondAt, HasSecondsFrom, HasSeconds, HasEnd, HasEnds, HasSecondsOf, HasEndsOf}
+use Rattle.inference.specs.Visits.{GiveNothing, IsBy, IsEdge}
+use Rattle.inference.specs.Marks.{IsMark, AreMarks, bit_of, HasBit, HasSeconds, HasEnds, HasSecondsOf, HasEndsOf}
 use Rattle.inference.proofs.Giving.{by_form_or_back}
 use Rattle.inference.proofs.Lists.{slice_get_push_cases}
 
@@ -116,6 +114,14 @@ ends_by forms mask p (Edge x r y) has by = subst (HasEnds forms mask) (sym by) h
 from_not : (b : Bool) → not b ≡ false → b ≡ true
 from_not true e = refl
 from_not false e = absurd (true≢false e)
+
+pub edge_by_seconds : (forms : List Form) (mask : ℕ) (f : Fact) → HasSecondsOf forms mask f → IsEdge f
+edge_by_seconds forms mask (In a x) has = has
+edge_by_seconds forms mask (Edge x r y) has = tt
+
+pub edge_by_ends : (forms : List Form) (mask : ℕ) (f : Fact) → HasEndsOf forms mask f → IsEdge f
+edge_by_ends forms mask (In a x) has = has
+edge_by_ends forms mask (Edge x r y) has = tt
 
 blank : (x : ℕ) → not (nat_eq x 0) ≡ false → x ≡ 0
 blank x e = eqb-true x 0 (from_not (nat_eq x 0) e)

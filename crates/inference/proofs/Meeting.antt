@@ -1,5 +1,6 @@
 -- What a fact meets of those that the index lists.
-use Rattle.std.proofs.Common.{◌≡◌, ℕ, List, Contains, subst}
+use Rattle.std.proofs.Common.{◌≡◌, ◌<◌, ℕ, List, Contains, Some, get_or, length, slice_get, subst}
+use Rattle.std.proofs.lemmas.List.Elements.{Contains-get_or}
 use Rattle.std.proofs.lemmas.Option.{slice_get_within}
 use Rattle.normal_forms.specs.declared.forms.Class2.{Class2}
 use Rattle.normal_forms.specs.declared.forms.PropId2.{PropId2}
@@ -78,6 +79,10 @@ all_still_there s P numbers all n c = let o = all n c in (o.0, s.facts n o.0 o.1
 
 pub kind_of : (P : Fact → Type 0) (facts : List Fact) (numbers : List ℕ) → AreAll P facts numbers → ForEach P facts numbers
 kind_of P facts numbers all n c f at = let o = all n c in subst P (one_value _ o.0 f o.1 at) o.2
+
+-- what is read at a place of the numbers, where facts have grown, is of the kind
+pub kind_read : {k : Problem} {most : ℕ} {a b : Derived} → Grows k most a b → (P : Fact → Type 0) (numbers : List ℕ) (i : ℕ) (read : Fact) → AreAll P a.facts numbers → i < length numbers → slice_get b.facts (get_or numbers i 0) ≡ Some read → P read
+kind_read s P numbers i read all low at = let o = all _ (Contains-get_or numbers i 0 low) in subst P (one_value _ o.0 read (s.facts _ o.0 o.1) at) o.2
 
 pub numbers_within : (P : Fact → Type 0) (facts : List Fact) (numbers : List ℕ) → AreAll P facts numbers → AreWithin facts numbers
 numbers_within P facts numbers all n c = let o = all n c in slice_get_within facts n o.0 o.1

@@ -1,5 +1,6 @@
 -- A form that gives something from facts is listed for them.
-use Rattle.std.proofs.Common.{◌≡◌, ℕ, List, [], ◌∷◌, slice_get, Some, None, Contains, refl, sym, ap, ◌∙◌}
+use Rattle.std.proofs.Common.{◌≡◌, ℕ, List, [], ◌∷◌, slice_get, Some, None, Contains, refl, sym, ap, subst, ◌∙◌}
+use Rattle.std.proofs.lemmas.Option.{none-some, same_Some}
 use Rattle.axioms.specs.declared.ids.IndId.{IndId}
 use Rattle.normal_forms.specs.declared.forms.Form.{Form}
 use Rattle.normal_forms.specs.declared.forms.Form.TheVariants.{N1, N2, N3, N4, N5, N6, N7, N8, N9, N10, N11, N12}
@@ -12,8 +13,9 @@ use Rattle.normal_forms.specs.Properties.{IsAtOrBelow}
 use Rattle.facts.specs.Closure.{Problem, FromNone, FromOne, FromTwo, Concludes, IsLoop}
 use Rattle.indexes.specs.declared.keys.Key.TheVariants.{Whole}
 use Rattle.indexes.specs.Keys.{class_key, individual_key, by_kind, by_alone, by_first, by_second, by_filler, by_chain, by_denied}
-use Rattle.inference.specs.Visits.{chained_property, AllChainsDrawn}
-use Rattle.inference.specs.Completeness.{AreDrawn, AllDrawn, DrawnAt}
+use Rattle.inference.specs.Visits.{chained_property, AllChainsDrawn, IsBy, IsEdge}
+use Rattle.inference.specs.Completeness.{AreConcluded, AreDrawn, AllDrawn, DrawnAt}
+use Rattle.inference.proofs.Giving.{prefix}
 use Rattle.inference.proofs.Lists.{slice_get-from_Contains}
 
 pub kind_given : (form : Form) (f : Fact) → FromNone form f → by_kind form ≡ Some (Whole 0)
@@ -131,3 +133,14 @@ module _ (k : Problem) (older new : List Fact)
 -- the loops of the reflexive properties are all loops
 pub all_loops : (k : Problem) (x : Context) (new : List Fact) → ((n : ℕ) (form : Form) → slice_get k.forms n ≡ Some form → by_kind form ≡ Some (Whole 1) → DrawnAt (IsLoop x) k.forms new n) → AllDrawn (IsLoop x) k.forms new
 all_loops k x new drawn form there f w = let at = slice_get-from_Contains k.forms form there in drawn at.0 form at.1 (kind_loop x form f w) form at.1 f w
+
+-- of two edges the chains alone give something
+pub edges_drawn : (k : Problem) (f g : Fact) (p : PropId2) (facts : List Fact) → IsBy p f → IsEdge g → AllChainsDrawn k (f ∷ g ∷ []) facts p → AreConcluded k (f ∷ g ∷ []) facts
+edges_drawn k (In a x) g p facts by is chains = absurd by
+edges_drawn k (Edge x r y) (In b z) p facts by is chains = absurd is
+edges_drawn k (Edge x r y) (Edge z q v) p facts by is chains = record {
+  forms = all_given k (Edge x r y ∷ Edge z q v ∷ []) facts
+      (λ n form h at none gives. absurd (let b = prefix k form x y z v r q h gives in none-some _ (sym none ∙ b.2)))
+      (λ s same t low. chains t (subst (λ (u : PropId2). IsAtOrBelow k.forms u t) (sym (same_Some r s same) ∙ by) low));
+  back = λ h b. absurd b;
+}

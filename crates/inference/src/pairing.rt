@@ -54,6 +54,28 @@ impl Rules<'_> {
         Ok(())
     }
 
+    /// Adds what two edges give in this order.
+    fn draw_edges(
+        &self,
+        facts: &mut KnownFacts,
+        m: u32,
+        f: Fact,
+        n: u32,
+        g: Fact,
+    ) -> Result<(), Stop>
+        requires derived { IsDerived self.now.problem.now facts.old }
+        requires first { slice_get facts.old.facts m ≡ Some f }
+        requires second { slice_get facts.old.facts n ≡ Some g }
+        requires edge { IsEdge f }
+        requires other { IsEdge g }
+        ensures { Draws self.now facts.old facts.new result (Drawn self.now.problem.now (f ∷ g ∷ []) facts.new.facts) }
+    {
+        if let Fact::Edge(_, property, _) = f {
+            self.draw_chains(facts, property, &[m, n], &[f, g])?;
+        }
+        Ok(())
+    }
+
     /// Adds what two facts give, whichever is first. With itself a fact has one order.
     fn meet(&self, facts: &mut KnownFacts, m: u32, f: Fact, n: u32, g: Fact) -> Result<(), Stop>
         requires derived { IsDerived self.now.problem.now facts.old }
@@ -271,7 +293,7 @@ impl Rules<'_> {
         for number in numbers {
             if self.may_follow(facts, seconds, *number) {
                 let partner = facts.get(*number);
-                self.draw_pair(facts, hand, edge, *number, partner)?;
+                self.draw_edges(facts, hand, edge, *number, partner)?;
             }
         }
         Ok(())
@@ -295,7 +317,7 @@ impl Rules<'_> {
         for number in numbers {
             if self.may_lead(facts, ends, *number) {
                 let partner = facts.get(*number);
-                self.draw_pair(facts, *number, partner, hand, edge)?;
+                self.draw_edges(facts, *number, partner, hand, edge)?;
             }
         }
         Ok(())

@@ -112,7 +112,7 @@ impl Rules<'_> {
     }
 
     /// Adds what chains that begin with the property, or one above it, give from the facts.
-    fn draw_chains(
+    pub(crate) fn draw_chains(
         &self,
         facts: &mut KnownFacts,
         property: PropId2,
