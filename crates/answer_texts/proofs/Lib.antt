@@ -1,3 +1,4 @@
 pub mod More
 pub mod Expressions
 pub mod EachLine
+pub mod Reaching

@@ -6,7 +6,7 @@ use Rattle.axioms.specs.Ontology.{Ontology, Names, name_at}
 use Rattle.certificate.specs.Certificate.{Line}
 use Rattle.interpretation_spec.specs.NumberedInterpretation.{NumberedInterpretation, members_of}
 use Rattle.number_sets.specs.Members.{has}
-use Rattle.answer_texts.specs.Pairs.{pairs_of}
+use Rattle.answer_texts.specs.Pairs.{all_elements, pairs_of}
 use Rattle.answer_texts.specs.Proof.{numbered_text}
 
 -- a byte inside quotation marks: a quotation mark, a backslash and an ampersand have a meaning there
@@ -60,9 +60,12 @@ element_node names i refuting x =
 abbrev pub pair_edge : List ℕ → ℕ → ℕ → List ℕ
 pair_edge name x y = codes "  " ++ decimal x ++ codes " -> " ++ decimal y ++ codes " [label=\"" ++ escaped_name name ++ codes "\"];\n"
 
+abbrev pub graph_head : List ℕ
+graph_head = codes "digraph refutation {\n  node [shape=ellipse];\n"
+
+-- these elements and the pairs that begin at them, to the end
+abbrev pub drawn : Names → NumberedInterpretation → (elements : List ℕ) → ℕ → List ℕ
+drawn names i elements x = flat_map (element_node names i x) elements ++ pairs_of pair_edge names i elements ++ codes "}\n"
+
 abbrev pub refutation_graph : Names → NumberedInterpretation → ℕ → List ℕ
-refutation_graph names i x =
-    codes "digraph refutation {\n  node [shape=ellipse];\n"
-    ++ flat_map (element_node names i x) (range_with_len 0 i.size)
-    ++ pairs_of pair_edge names i
-    ++ codes "}\n"
+refutation_graph names i x = graph_head ++ drawn names i (all_elements i) x

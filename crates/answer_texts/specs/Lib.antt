@@ -3,3 +3,4 @@ pub mod Proof
 pub mod Pairs
 pub mod Refutation
 pub mod Graphs
+pub mod Reached

@@ -1,6 +1,7 @@
 //! The texts, in memory and written to a sink.
 ghost use Rattle.answer_texts.specs.Graphs as graphs;
 ghost use Rattle.answer_texts.specs.Proof as proof;
+ghost use Rattle.answer_texts.specs.Reached.{IsOfReached, reached_graph, reached_text};
 ghost use Rattle.answer_texts.specs.Refutation as refutation;
 ghost use Rattle.certificate.specs.Writability.{IsLineOf};
 ghost use Rattle.certificate.specs.View.{lines_of};
@@ -10,7 +11,8 @@ ghost use Rattle.std.specs.Io.KnownBytes.{Appends, Keeps};
 ghost use Rattle.std.specs.Prelude.{◌≡◌, ◌≤◌, All, IfOk, IsErrOf, OnOk};
 
 use crate::proof::push_lines;
-use crate::refutation::push_refutation;
+use crate::reach::reached;
+use crate::refutation::{push_reached, push_refutation};
 use crate::{graph_of_proof, graph_of_refutation};
 use axioms::{Memory, Ontology};
 use certificate::Line;
@@ -72,6 +74,27 @@ pub fn refutation_bytes(
 {
     let mut out = Vec::new(alloc);
     push_refutation(alloc, &mut out, ontology, interpretation, element)?;
+    Ok(out)
+}
+
+/// The text of a refutation that tells of its elements those alone that pairs lead to from the one that refutes, and how many
+/// others there are, in memory.
+///
+/// # Errors
+///
+/// `Memory` where memory was refused.
+pub fn reached_refutation_bytes(
+    alloc: Global,
+    ontology: &Ontology,
+    interpretation: &Interpretation,
+    element: usize,
+) -> Result<Vec<u8>, Memory>
+    requires { IsMadeFor ontology.now.names interpretation.now }
+    ensures { IfOk result (λ v. IsOfReached interpretation.now element (λ found. reached_text ontology.now.names interpretation.now found element) v.items) }
+{
+    let found = reached(alloc, ontology, interpretation, element)?;
+    let mut out = Vec::new(alloc);
+    push_reached(alloc, &mut out, ontology, interpretation, &found, element)?;
     Ok(out)
 }
 
@@ -159,9 +182,28 @@ pub fn refutation_graph_bytes(
     ensures { IfOk result (λ v. v.items ≡ graphs.refutation_graph ontology.now.names interpretation.now element) }
 {
     let mut out = Vec::new(alloc);
-    out.extend_from_slice(b"digraph refutation {\n  node [shape=ellipse];\n")?;
-    graph_of_refutation::push_graph(&mut out, ontology, interpretation, element)?;
-    out.extend_from_slice(b"}\n")?;
+    graph_of_refutation::push_graph(alloc, &mut out, ontology, interpretation, element)?;
+    Ok(out)
+}
+
+/// A refutation as a DOT document with those elements alone that pairs lead to from the one that refutes, and with how many others
+/// there are as its label, in memory.
+///
+/// # Errors
+///
+/// `Memory` where memory was refused.
+pub fn reached_refutation_graph_bytes(
+    alloc: Global,
+    ontology: &Ontology,
+    interpretation: &Interpretation,
+    element: usize,
+) -> Result<Vec<u8>, Memory>
+    requires { IsMadeFor ontology.now.names interpretation.now }
+    ensures { IfOk result (λ v. IsOfReached interpretation.now element (λ found. reached_graph ontology.now.names interpretation.now found element) v.items) }
+{
+    let found = reached(alloc, ontology, interpretation, element)?;
+    let mut out = Vec::new(alloc);
+    graph_of_refutation::push_reached(alloc, &mut out, ontology, interpretation, &found, element)?;
     Ok(out)
 }
 

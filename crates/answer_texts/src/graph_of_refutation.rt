@@ -1,6 +1,6 @@
 //! A refutation as a graph.
 ghost use Rattle.answer_texts.specs.Graphs as graphs;
-ghost use Rattle.answer_texts.specs.Pairs.{pairs_of};
+ghost use Rattle.answer_texts.specs.Reached.{others_label, reached_graph};
 ghost use Rattle.axioms.specs.Ontology.{name_at};
 ghost use Rattle.interpretation_spec.specs.NumberedInterpretation.{IsMadeFor};
 ghost use Rattle.std.specs.List.{enumerate_from, flat_map, range_with_len};
@@ -8,12 +8,13 @@ ghost use Rattle.std.specs.Prelude.{◌++◌, ◌-◌, ◌≡◌, OnOk, length, 
 ghost use Rattle.std.specs.String.{string_bytes};
 
 use crate::graph_of_proof::push_escaped;
-use crate::looking::{element_of, is_member};
+use crate::looking::{all_elements, element_of, elements_in, is_member};
 use crate::names::{name_of, push_number};
 use crate::pairs::{PairText, push_properties};
-use axioms::{ClassId, IndId, Ontology};
+use axioms::{ClassId, IndId, Memory, Ontology};
 use interpretation_spec::Interpretation;
-use std::alloc::AllocError;
+use number_sets::EpochSet;
+use std::alloc::{AllocError, Global};
 
 // Adds the name in angle brackets, as it stands inside quotation marks.
 fn push_label(out: &mut Vec<u8>, names: &[String], n: usize) -> Result<(), AllocError>
@@ -132,20 +133,20 @@ fn push_node(
     out.extend_from_slice(b"];\n")
 }
 
-// Adds the nodes of all elements.
+// Adds the nodes of the elements.
 fn push_nodes(
     out: &mut Vec<u8>,
     ontology: &Ontology,
     interpretation: &Interpretation,
+    elements: &[usize],
     refuting: usize,
 ) -> Result<(), AllocError>
     requires { IsMadeFor ontology.now.names interpretation.now }
     ensures { OnOk result
-        (out.new.items
-        ≡ out.old.items ++ flat_map (graphs.element_node ontology.now.names interpretation.now refuting) (range_with_len 0 interpretation.now.size)) }
+        (out.new.items ≡ out.old.items ++ flat_map (graphs.element_node ontology.now.names interpretation.now refuting) elements.now) }
 {
-    for element in 0..interpretation.size() {
-        push_node(out, ontology, interpretation, refuting, element)?;
+    for element in elements {
+        push_node(out, ontology, interpretation, refuting, *element)?;
     }
     Ok(())
 }
@@ -171,20 +172,63 @@ impl PairText for PairEdge {
     }
 }
 
-/// Adds the nodes and the edges.
+// Adds the nodes of the elements, the edges from them, and the end.
+fn push_drawn(
+    out: &mut Vec<u8>,
+    ontology: &Ontology,
+    interpretation: &Interpretation,
+    elements: &[usize],
+    refuting: usize,
+) -> Result<(), AllocError>
+    requires { IsMadeFor ontology.now.names interpretation.now }
+    ensures { OnOk result (out.new.items ≡ out.old.items ++ graphs.drawn ontology.now.names interpretation.now elements.now refuting) }
+{
+    push_nodes(out, ontology, interpretation, elements, refuting)?;
+    push_properties::<PairEdge>(out, ontology, interpretation, elements)?;
+    out.extend_from_slice(b"}\n")
+}
+
+/// Adds the whole graph.
 pub(crate) fn push_graph(
+    alloc: Global,
     out: &mut Vec<u8>,
     ontology: &Ontology,
     interpretation: &Interpretation,
     refuting: usize,
-) -> Result<(), AllocError>
+) -> Result<(), Memory>
     requires { IsMadeFor ontology.now.names interpretation.now }
-    ensures { OnOk result
-        (out.new.items
-        ≡ out.old.items
-        ++ (flat_map (graphs.element_node ontology.now.names interpretation.now refuting) (range_with_len 0 interpretation.now.size)
-        ++ pairs_of graphs.pair_edge ontology.now.names interpretation.now)) }
+    ensures { OnOk result (out.new.items ≡ out.old.items ++ graphs.refutation_graph ontology.now.names interpretation.now refuting) }
 {
-    push_nodes(out, ontology, interpretation, refuting)?;
-    push_properties::<PairEdge>(out, ontology, interpretation)
+    let elements = all_elements(alloc, interpretation)?;
+    out.extend_from_slice(b"digraph refutation {\n  node [shape=ellipse];\n")?;
+    push_drawn(out, ontology, interpretation, &elements, refuting)?;
+    Ok(())
+}
+
+// Adds how many others there are.
+fn push_others(out: &mut Vec<u8>, others: usize) -> Result<(), AllocError>
+    ensures { OnOk result (out.new.items ≡ out.old.items ++ others_label others) }
+{
+    push_number(out, b"  label=\"others ", others as u64)?;
+    out.extend_from_slice(b"\";\n")
+}
+
+/// Adds what the graph has of the elements in the set, and how many others there are.
+pub(crate) fn push_reached(
+    alloc: Global,
+    out: &mut Vec<u8>,
+    ontology: &Ontology,
+    interpretation: &Interpretation,
+    reached: &EpochSet,
+    refuting: usize,
+) -> Result<(), Memory>
+    requires { IsMadeFor ontology.now.names interpretation.now }
+    ensures { OnOk result (out.new.items ≡ out.old.items ++ reached_graph ontology.now.names interpretation.now reached.now refuting) }
+{
+    let elements = elements_in(alloc, interpretation, reached)?;
+    let others = interpretation.size() - elements.len();
+    out.extend_from_slice(b"digraph refutation {\n  node [shape=ellipse];\n")?;
+    push_others(out, others)?;
+    push_drawn(out, ontology, interpretation, &elements, refuting)?;
+    Ok(())
 }

@@ -9,9 +9,11 @@ mod looking;
 mod names;
 mod pairs;
 mod proof;
+mod reach;
 mod refutation;
 
 pub use answers::{
-    proof_bytes, proof_graph_bytes, refutation_bytes, refutation_graph_bytes, write_proof,
-    write_proof_graph, write_refutation, write_refutation_graph,
+    proof_bytes, proof_graph_bytes, reached_refutation_bytes, reached_refutation_graph_bytes,
+    refutation_bytes, refutation_graph_bytes, write_proof, write_proof_graph, write_refutation,
+    write_refutation_graph,
 };

@@ -42,39 +42,47 @@ fn push_targets<P: PairText>(
     Ok(())
 }
 
-// Adds the pairs of the property.
+// Adds the pairs of the property that begin at one of the elements.
 fn push_property<P: PairText>(
     out: &mut Vec<u8>,
     ontology: &Ontology,
     interpretation: &Interpretation,
+    elements: &[usize],
     property: PropId,
 ) -> Result<(), AllocError>
-    ensures { OnOk result (out.new.items ≡ out.old.items ++ property_pairs P.pair ontology.now.names interpretation.now property.0) }
+    ensures { OnOk result (out.new.items ≡ out.old.items ++ property_pairs P.pair ontology.now.names interpretation.now elements.now property.0) }
 {
-    for source in 0..interpretation.size() {
-        let targets = targets_of(interpretation, property, source);
+    for source in elements {
+        let targets = targets_of(interpretation, property, *source);
         push_targets::<P>(
             out,
             ontology.properties(),
             property.index(),
-            source,
+            *source,
             targets,
         )?;
     }
     Ok(())
 }
 
-/// Adds the pairs of all properties.
+/// Adds the pairs of all properties that begin at one of the elements.
 pub(crate) fn push_properties<P: PairText>(
     out: &mut Vec<u8>,
     ontology: &Ontology,
     interpretation: &Interpretation,
+    elements: &[usize],
 ) -> Result<(), AllocError>
-    ensures { OnOk result (out.new.items ≡ out.old.items ++ pairs_of P.pair ontology.now.names interpretation.now) }
+    ensures { OnOk result (out.new.items ≡ out.old.items ++ pairs_of P.pair ontology.now.names interpretation.now elements.now) }
 {
     ontology.bounded();
     for number in 0..ontology.properties().len() {
-        push_property::<P>(out, ontology, interpretation, PropId(number as u32))?;
+        push_property::<P>(
+            out,
+            ontology,
+            interpretation,
+            elements,
+            PropId(number as u32),
+        )?;
     }
     Ok(())
 }

@@ -1,31 +1,36 @@
 //! An interpretation and one of its elements, as people read them.
 ghost use Rattle.answer_texts.specs.Names.{spaced_numbers};
+ghost use Rattle.answer_texts.specs.Reached.{individual_in, reached_text};
 ghost use Rattle.answer_texts.specs.Refutation as text;
+ghost use Rattle.axioms.specs.Ontology.{name_at};
 ghost use Rattle.interpretation_spec.specs.NumberedInterpretation.{IsMadeFor};
 ghost use Rattle.std.specs.List.{enumerate_from, flat_map, range_with_len};
 ghost use Rattle.std.specs.Prelude.{◌++◌, ◌-◌, ◌<◌, ◌≡◌, ◌^◌, ◌≤◌, IfOk, OnOk, length};
 
-use crate::looking::{element_of, is_member};
+use crate::looking::{all_elements, element_of, elements_in, is_member};
 use crate::names::{push_name, push_number};
 use crate::pairs::{PairText, push_properties};
 use axioms::{ClassId, IndId, Memory, Ontology};
 use interpretation_spec::Interpretation;
+use number_sets::EpochSet;
 use std::alloc::{AllocError, Global};
 
+// Those of the elements that are in the class.
 fn elements_of(
     alloc: Global,
     interpretation: &Interpretation,
+    elements: &[usize],
     class: ClassId,
 ) -> Result<Vec<usize>, Memory>
-    ensures { IfOk result (λ v. v.items ≡ text.elements_of interpretation.now class.0) }
+    ensures { IfOk result (λ v. v.items ≡ text.elements_of interpretation.now elements.now class.0) }
 {
-    let mut elements = Vec::new(alloc);
-    for element in 0..interpretation.size() {
-        if is_member(interpretation, class, element) {
-            elements.push(element)?;
+    let mut members = Vec::new(alloc);
+    for element in elements {
+        if is_member(interpretation, class, *element) {
+            members.push(*element)?;
         }
     }
-    Ok(elements)
+    Ok(members)
 }
 
 // Adds the numbers, each behind a space.
@@ -38,43 +43,42 @@ fn push_elements(out: &mut Vec<u8>, elements: &[usize]) -> Result<(), AllocError
     Ok(())
 }
 
-// Adds the line of the class of that number, where it has elements.
+// Adds the line of the class of that number, where there are members.
 fn push_class(
     out: &mut Vec<u8>,
     ontology: &Ontology,
-    interpretation: &Interpretation,
     class: ClassId,
-    elements: &[usize],
+    members: &[usize],
 ) -> Result<(), AllocError>
-    requires { elements.now ≡ text.elements_of interpretation.now class.0 }
-    ensures { OnOk result (out.new.items ≡ out.old.items ++ text.class_text ontology.now.names interpretation.now class.0) }
+    ensures { OnOk result (out.new.items ≡ out.old.items ++ text.members_text (name_at ontology.now.names.classes class.0) members.now) }
 {
-    if elements.is_empty() {
+    if members.is_empty() {
         return Ok(());
     }
     out.extend_from_slice(b"class ")?;
     push_name(out, ontology.classes(), class.index())?;
-    push_elements(out, elements)?;
+    push_elements(out, members)?;
     out.extend_from_slice(b"\n")
 }
 
-// Adds the lines of all classes but owl:Thing.
+// Adds the lines of all classes but owl:Thing, with those of the elements that are in them.
 fn push_classes(
     alloc: Global,
     out: &mut Vec<u8>,
     ontology: &Ontology,
     interpretation: &Interpretation,
+    elements: &[usize],
 ) -> Result<(), Memory>
     ensures { OnOk result
         (out.new.items
-        ≡ out.old.items ++ flat_map (text.class_text ontology.now.names interpretation.now) (range_with_len 1 (length ontology.now.names.classes - 1))) }
+        ≡ out.old.items ++ flat_map (text.class_text ontology.now.names interpretation.now elements.now) (range_with_len 1 (length ontology.now.names.classes - 1))) }
 {
     ontology.well_formed();
     ontology.bounded();
     for number in 1..ontology.classes().len() {
         let class = ClassId(number as u32);
-        let elements = elements_of(alloc, interpretation, class)?;
-        push_class(out, ontology, interpretation, class, &elements)?;
+        let members = elements_of(alloc, interpretation, elements, class)?;
+        push_class(out, ontology, class, &members)?;
     }
     Ok(())
 }
@@ -133,6 +137,53 @@ fn push_individuals(
     Ok(())
 }
 
+// Adds a line for each individual whose element is in the set.
+fn push_individuals_in(
+    out: &mut Vec<u8>,
+    ontology: &Ontology,
+    interpretation: &Interpretation,
+    reached: &EpochSet,
+) -> Result<(), AllocError>
+    requires { IsMadeFor ontology.now.names interpretation.now }
+    ensures { OnOk result
+        (out.new.items
+        ≡ out.old.items ++ flat_map (individual_in ontology.now.names reached.now) (enumerate_from 0 interpretation.now.individuals)) }
+{
+    ontology.bounded();
+    for number in 0..ontology.individuals().len() {
+        let element = element_of(interpretation, IndId(number as u32));
+        if reached.contains(element) {
+            push_individual(out, ontology, number, element)?;
+        }
+    }
+    Ok(())
+}
+
+// Adds the answer, the size, and what is said of the elements by classes and pairs.
+fn push_rows(
+    alloc: Global,
+    out: &mut Vec<u8>,
+    ontology: &Ontology,
+    interpretation: &Interpretation,
+    elements: &[usize],
+) -> Result<(), Memory>
+    ensures { OnOk result (out.new.items ≡ out.old.items ++ text.rows_text ontology.now.names interpretation.now elements.now) }
+{
+    push_number(out, b"no\ndomain ", interpretation.size() as u64)?;
+    out.extend_from_slice(b"\n")?;
+    push_classes(alloc, out, ontology, interpretation, elements)?;
+    push_properties::<PairLine>(out, ontology, interpretation, elements)?;
+    Ok(())
+}
+
+// Adds the line of the element that refutes.
+fn push_element(out: &mut Vec<u8>, element: usize) -> Result<(), AllocError>
+    ensures { OnOk result (out.new.items ≡ out.old.items ++ text.element_text element) }
+{
+    push_number(out, b"element ", element as u64)?;
+    out.extend_from_slice(b"\n")
+}
+
 /// Adds the whole text.
 pub(crate) fn push_refutation(
     alloc: Global,
@@ -144,12 +195,31 @@ pub(crate) fn push_refutation(
     requires { IsMadeFor ontology.now.names interpretation.now }
     ensures { OnOk result (out.new.items ≡ out.old.items ++ text.refutation_text ontology.now.names interpretation.now element) }
 {
-    push_number(out, b"no\ndomain ", interpretation.size() as u64)?;
-    out.extend_from_slice(b"\n")?;
-    push_classes(alloc, out, ontology, interpretation)?;
-    push_properties::<PairLine>(out, ontology, interpretation)?;
+    let elements = all_elements(alloc, interpretation)?;
+    push_rows(alloc, out, ontology, interpretation, &elements)?;
     push_individuals(out, ontology, interpretation)?;
-    push_number(out, b"element ", element as u64)?;
+    push_element(out, element)?;
+    Ok(())
+}
+
+/// Adds what the text has of the elements in the set, and how many others there are.
+pub(crate) fn push_reached(
+    alloc: Global,
+    out: &mut Vec<u8>,
+    ontology: &Ontology,
+    interpretation: &Interpretation,
+    reached: &EpochSet,
+    element: usize,
+) -> Result<(), Memory>
+    requires { IsMadeFor ontology.now.names interpretation.now }
+    ensures { OnOk result (out.new.items ≡ out.old.items ++ reached_text ontology.now.names interpretation.now reached.now element) }
+{
+    let elements = elements_in(alloc, interpretation, reached)?;
+    let others = interpretation.size() - elements.len();
+    push_rows(alloc, out, ontology, interpretation, &elements)?;
+    push_individuals_in(out, ontology, interpretation, reached)?;
+    push_element(out, element)?;
+    push_number(out, b"others ", others as u64)?;
     out.extend_from_slice(b"\n")?;
     Ok(())
 }

@@ -9,8 +9,9 @@ ghost use Rattle.std.specs.Prelude.{[], ◌∷◌, ◌++◌, ◌≡◌, IfOk, No
 
 use crate::documents::{listed_in, ontology_of};
 use answer_texts::{
-    proof_bytes, proof_graph_bytes, refutation_bytes, refutation_graph_bytes, write_proof_graph,
-    write_refutation, write_refutation_graph,
+    proof_bytes, proof_graph_bytes, reached_refutation_bytes, reached_refutation_graph_bytes,
+    refutation_bytes, refutation_graph_bytes, write_proof_graph, write_refutation,
+    write_refutation_graph,
 };
 use axioms::{ExprId, Memory, Ontology};
 use certificate::{Certificate, Conclusion, Format, Line, Rule, Subject, read_certificate};
@@ -289,5 +290,71 @@ fn an_individual_is_written(rt: HostRuntime) -> Result<(), Fail> {
     let is_written = is_listed_written(rt.alloc(), &ontology, listed, text, graph);
     drop(ontology);
     assert!(rt; is_written?, "as text and as a graph");
+    Ok(())
+}
+
+/// The text and the graph of what is reached from the element.
+fn are_reached(
+    alloc: Global,
+    ontology: &Ontology,
+    interpretation: &Interpretation,
+    element: usize,
+    text: &[u8],
+    graph: &[u8],
+) -> Result<bool, Fail>
+    requires { IsMadeFor ontology.now.names interpretation.now }
+{
+    let reached = reached_refutation_bytes(alloc, ontology, interpretation, element)?;
+    let drawn = reached_refutation_graph_bytes(alloc, ontology, interpretation, element)?;
+    Ok(reached.as_slice() == text && drawn.as_slice() == graph)
+}
+
+/// Whether of the interpretation that the certificate lists what is reached from the element is written so.
+fn are_listed_reached(
+    alloc: Global,
+    ontology: &Ontology,
+    certificate: &[u8],
+    element: usize,
+    text: &[u8],
+    graph: &[u8],
+) -> Result<bool, Fail> {
+    match listed_in(alloc, ontology, certificate) {
+        Some(interpretation) => {
+            are_reached(alloc, ontology, &interpretation, element, text, graph)
+        }
+        None => Ok(false),
+    }
+}
+
+/// Two pairs behind one another, and an individual to which no pair leads.
+const FOUR_INDIVIDUALS: &str =
+    "Ontology(ObjectPropertyAssertion(<x:r> <x:a> <x:b>) ObjectPropertyAssertion(<x:s> <x:b> <x:c>) ClassAssertion(<x:A> <x:d>))";
+
+const FOUR_ELEMENTS: &[u8] =
+    b"elcert 1 consistent\ndomain 4\nclass e2 2 3\nsucc p0 0 1\nsucc p0 3 2\nsucc p1 1 2\nind i0 0\nind i1 1\nind i2 2\nind i3 3\nend\n";
+
+#[test]
+fn three_of_four_are_reached(rt: HostRuntime) -> Result<(), Fail> {
+    let ontology = ontology_of(&rt, FOUR_INDIVIDUALS)?;
+    let text =
+        b"no\ndomain 4\nclass <x:A> 2\npair <x:r> 0 1\npair <x:s> 1 2\nindividual <x:a> 0\nindividual <x:b> 1\nindividual <x:c> 2\nelement 0\nothers 1\n";
+    let graph =
+        b"digraph refutation {\n  node [shape=ellipse];\n  label=\"others 1\";\n  0 [label=\"0\\nindividual <x:a>\", peripheries=2];\n  1 [label=\"1\\nindividual <x:b>\"];\n  2 [label=\"2\\n<x:A>\\nindividual <x:c>\"];\n  0 -> 1 [label=\"<x:r>\"];\n  1 -> 2 [label=\"<x:s>\"];\n}\n";
+    let are_so = are_listed_reached(rt.alloc(), &ontology, FOUR_ELEMENTS, 0, text, graph);
+    drop(ontology);
+    assert!(rt; are_so?, "from the first");
+    Ok(())
+}
+
+#[test]
+fn two_of_four_are_reached(rt: HostRuntime) -> Result<(), Fail> {
+    let ontology = ontology_of(&rt, FOUR_INDIVIDUALS)?;
+    let text =
+        b"no\ndomain 4\nclass <x:A> 2 3\npair <x:r> 3 2\nindividual <x:c> 2\nindividual <x:d> 3\nelement 3\nothers 2\n";
+    let graph =
+        b"digraph refutation {\n  node [shape=ellipse];\n  label=\"others 2\";\n  2 [label=\"2\\n<x:A>\\nindividual <x:c>\"];\n  3 [label=\"3\\n<x:A>\\nindividual <x:d>\", peripheries=2];\n  3 -> 2 [label=\"<x:r>\"];\n}\n";
+    let are_so = are_listed_reached(rt.alloc(), &ontology, FOUR_ELEMENTS, 3, text, graph);
+    drop(ontology);
+    assert!(rt; are_so?, "from the last");
     Ok(())
 }

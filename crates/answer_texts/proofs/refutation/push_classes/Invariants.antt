@@ -4,4 +4,4 @@ use Rattle.answer_texts.specs.Refutation as text
 use Rattle.answer_texts.proofs.refutation.push_classes.Given as goal
 
 abbrev pub invariant-loop-number : goal.invariant-loop-number
-invariant-loop-number l = l.out.items ≡ l.fn.out.items ++ flat_map (text.class_text l.ontology.names l.interpretation) (range_with_len 1 (l.number - 1))
+invariant-loop-number l = l.out.items ≡ l.fn.out.items ++ flat_map (text.class_text l.ontology.names l.interpretation l.elements) (range_with_len 1 (l.number - 1))
