@@ -11,6 +11,9 @@ const SUBCLASS: &str = "Prefix(:=<x:>) Ontology(SubClassOf(:A :B))";
 const SAME_INDIVIDUALS: &str =
     "Prefix(:=<x:>) Ontology(SameIndividual(:a :b) ClassAssertion(:A :a) ClassAssertion(:B :b))";
 
+const FOUR_INDIVIDUALS: &str =
+    "Prefix(:=<x:>) Ontology(ObjectPropertyAssertion(:r :a :b) ObjectPropertyAssertion(:s :b :c) ClassAssertion(:A :d))";
+
 const INDIVIDUALS: &str =
     "Prefix(:=<x:>) Ontology(SubClassOf(:A :B) ClassAssertion(:A :a) ObjectPropertyAssertion(:r :a :b) ObjectPropertyDomain(:r :C) Declaration(NamedIndividual(:c)))";
 
@@ -189,6 +192,48 @@ const WHYS: &[Why] = &[
         wanted: Wanted::Text(
             "digraph refutation {\n  node [shape=ellipse];\n  0 [label=\"0\\n<x:B>\", peripheries=2];\n}\n",
         ),
+    },
+    Why {
+        case: "it does not follow, and all is reached",
+        document: SUBCLASS,
+        asked: Asked::Class("x:B"),
+        class: "x:A",
+        form: Form::Reached,
+        facts: 100,
+        version: Version::Two,
+        wanted: Wanted::Text("no\ndomain 1\nclass <x:B> 0\nelement 0\nothers 0\n"),
+    },
+    Why {
+        case: "it does not follow, by one of four",
+        document: FOUR_INDIVIDUALS,
+        asked: Asked::Individual("x:c"),
+        class: "x:A",
+        form: Form::Reached,
+        facts: 100,
+        version: Version::Two,
+        wanted: Wanted::Text("no\ndomain 4\nindividual <x:c> 2\nelement 2\nothers 3\n"),
+    },
+    Why {
+        case: "the same as a graph",
+        document: FOUR_INDIVIDUALS,
+        asked: Asked::Individual("x:c"),
+        class: "x:A",
+        form: Form::ReachedGraph,
+        facts: 100,
+        version: Version::Two,
+        wanted: Wanted::Text(
+            "digraph refutation {\n  node [shape=ellipse];\n  label=\"others 3\";\n  2 [label=\"2\\nindividual <x:c>\", peripheries=2];\n}\n",
+        ),
+    },
+    Why {
+        case: "it follows, and all lines are told",
+        document: FOUR_INDIVIDUALS,
+        asked: Asked::Individual("x:d"),
+        class: "x:A",
+        form: Form::Reached,
+        facts: 100,
+        version: Version::Two,
+        wanted: Wanted::Text("yes\n1. sub individual <x:d> <x:A> by K15 axiom 3\n"),
     },
     Why {
         case: "an individual and a class of one name",

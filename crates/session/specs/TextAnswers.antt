@@ -4,6 +4,7 @@ use Rattle.std.specs.List.{Contains, flat_map}
 use Rattle.answer_texts.specs.Graphs.{proof_graph, refutation_graph}
 use Rattle.answer_texts.specs.Names.{line_feed, name_text}
 use Rattle.answer_texts.specs.Proof.{proof_text}
+use Rattle.answer_texts.specs.Reached.{IsOfReached, reached_graph, reached_text}
 use Rattle.answer_texts.specs.Refutation.{refutation_text}
 use Rattle.axioms.specs.Expression.{Iri}
 use Rattle.axioms.specs.Ontology.{Ontology}
@@ -18,7 +19,7 @@ use Rattle.program.specs.declared.version.Version.{Version}
 use Rattle.session.specs.declared.question_fault.QuestionFault.{QuestionFault}
 use Rattle.session.specs.declared.question_fault.QuestionFault.TheVariants.{Document, Limit, UnknownName, Expression, Memory}
 use Rattle.session.specs.declared.form.Form.{Form}
-use Rattle.session.specs.declared.form.Form.TheVariants.{Lines, Graph}
+use Rattle.session.specs.declared.form.Form.TheVariants.{Lines, Graph, Reached, ReachedGraph}
 use Rattle.answers.specs.Explanations.{Explains, IsKnown}
 use Rattle.answers.specs.declared.asked.Asked.{Asked}
 use Rattle.answers.specs.declared.explanation.Explanation.{Explanation}
@@ -69,10 +70,24 @@ graph_text o (Yes lines) = proof_graph o (lines_of lines.items)
 graph_text o (No i x) = refutation_graph o.names i x
 graph_text o (Contradictory lines) = proof_graph o (lines_of lines.items)
 
--- an explanation in the form that is asked for: as lines, or as a graph
-abbrev pub shown_text : Ontology → Form → Explanation → List ℕ
-shown_text o Lines explanation = lines_text o explanation
-shown_text o Graph explanation = graph_text o explanation
+-- as lines, where a refutation has those of the elements alone that are reached from the one that refutes
+abbrev pub AreReachedLines : Ontology → Explanation → (text : List ℕ) → Type 0
+AreReachedLines o (Yes lines) text = text ≡ lines_text o (Yes lines)
+AreReachedLines o (No i x) text = IsOfReached i x (λ reached. reached_text o.names i reached x) text
+AreReachedLines o (Contradictory lines) text = text ≡ lines_text o (Contradictory lines)
+
+-- as a graph likewise
+abbrev pub IsReachedGraph : Ontology → Explanation → (text : List ℕ) → Type 0
+IsReachedGraph o (Yes lines) text = text ≡ graph_text o (Yes lines)
+IsReachedGraph o (No i x) text = IsOfReached i x (λ reached. reached_graph o.names i reached x) text
+IsReachedGraph o (Contradictory lines) text = text ≡ graph_text o (Contradictory lines)
+
+-- an explanation in the form that is asked for
+abbrev pub IsShown : Ontology → Form → Explanation → (text : List ℕ) → Type 0
+IsShown o Lines explanation text = text ≡ lines_text o explanation
+IsShown o Graph explanation text = text ≡ graph_text o explanation
+IsShown o Reached explanation text = AreReachedLines o explanation text
+IsShown o ReachedGraph explanation text = IsReachedGraph o explanation text
 
 -- the ontology has both names, and the text is that of an explanation that shows whether the subject is in the class
 pub record ShowsExplanation (o : Ontology) (asked : Asked) (class : Iri) (form : Form) (text : List ℕ) : Type 0 where
@@ -80,7 +95,7 @@ pub record ShowsExplanation (o : Ontology) (asked : Asked) (class : Iri) (form :
   pub known : Contains o.names.classes class
   pub explanation : Explanation
   pub explains : Explains o asked class explanation
-  pub shown : text ≡ shown_text o form explanation
+  pub shown : IsShown o form explanation text
 
 -- the document reads as an ontology whose closure has at most so many facts and which has both names, and the text is that of an
 -- explanation that shows whether the subject is in the class

@@ -7,4 +7,9 @@ pub enum Form {
     Lines,
     /// As a graph, in the DOT language of Graphviz.
     Graph,
+    /// As lines; of a refutation those of the elements alone that pairs lead to from the one that refutes, and how many others
+    /// there are.
+    Reached,
+    /// As a graph, and of a refutation the same.
+    ReachedGraph,
 }

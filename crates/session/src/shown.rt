@@ -2,12 +2,15 @@
 ghost use Rattle.certificate.specs.Writability.{IsLineOf};
 ghost use Rattle.certificate.specs.View.{lines_of};
 ghost use Rattle.answer_texts.specs.Proof.{proof_text};
-ghost use Rattle.session.specs.TextAnswers.{graph_text, lines_text, shown_text};
+ghost use Rattle.session.specs.TextAnswers.{IsReachedGraph, IsShown, AreReachedLines, graph_text, lines_text};
 ghost use Rattle.session.specs.Texts.{HasText};
 ghost use Rattle.std.specs.Prelude.{◌≡◌, ◌++◌, All, IfOk};
 
 use crate::form::Form;
-use answer_texts::{proof_bytes, proof_graph_bytes, refutation_bytes, refutation_graph_bytes};
+use answer_texts::{
+    proof_bytes, proof_graph_bytes, reached_refutation_bytes, reached_refutation_graph_bytes,
+    refutation_bytes, refutation_graph_bytes,
+};
 use answers::Explanation;
 use axioms::{Memory, Ontology};
 use certificate::Line;
@@ -66,6 +69,44 @@ fn as_graph(
     }
 }
 
+/// As lines, where a refutation has those of the reached elements alone.
+fn as_reached_lines(
+    alloc: Global,
+    ontology: &Ontology,
+    explanation: &Explanation,
+) -> Result<Vec<u8>, Memory>
+    requires { HasText ontology.now explanation.now }
+    ensures { IfOk result (λ v. AreReachedLines ontology.now explanation.now v.items) }
+{
+    match explanation {
+        Explanation::No(interpretation, element) => {
+            reached_refutation_bytes(alloc, ontology, interpretation, *element)
+        }
+        Explanation::Yes(_) | Explanation::Contradictory(_) => {
+            as_lines(alloc, ontology, explanation)
+        }
+    }
+}
+
+/// As a graph, where a refutation has the reached elements alone.
+fn as_reached_graph(
+    alloc: Global,
+    ontology: &Ontology,
+    explanation: &Explanation,
+) -> Result<Vec<u8>, Memory>
+    requires { HasText ontology.now explanation.now }
+    ensures { IfOk result (λ v. IsReachedGraph ontology.now explanation.now v.items) }
+{
+    match explanation {
+        Explanation::No(interpretation, element) => {
+            reached_refutation_graph_bytes(alloc, ontology, interpretation, *element)
+        }
+        Explanation::Yes(_) | Explanation::Contradictory(_) => {
+            as_graph(alloc, ontology, explanation)
+        }
+    }
+}
+
 /// The explanation in that form.
 ///
 /// # Errors
@@ -78,10 +119,12 @@ pub fn shown_explanation(
     form: Form,
 ) -> Result<Vec<u8>, Memory>
     requires { HasText ontology.now explanation.now }
-    ensures { IfOk result (λ v. v.items ≡ shown_text ontology.now form explanation.now) }
+    ensures { IfOk result (λ v. IsShown ontology.now form explanation.now v.items) }
 {
     match form {
         Form::Lines => as_lines(alloc, ontology, explanation),
         Form::Graph => as_graph(alloc, ontology, explanation),
+        Form::Reached => as_reached_lines(alloc, ontology, explanation),
+        Form::ReachedGraph => as_reached_graph(alloc, ontology, explanation),
     }
 }

@@ -15,7 +15,7 @@ use Rattle.program.specs.declared.status.Status.TheVariants as statuses
 use Rattle.session.specs.Edits.{Call, Reply, Add, Resume, Superclasses, Subclasses, Instances, Explain, Query, Added, Resumed, Named, Explained, Found, Written, IsCall}
 use Rattle.session.specs.Queries.{NamesFound, names_in}
 use Rattle.session.specs.Sessions.{Opened}
-use Rattle.session.specs.TextAnswers.{name_lines, query_lines, shown_text}
+use Rattle.session.specs.TextAnswers.{IsShown, name_lines, query_lines}
 use Rattle.session.specs.declared.fault.AskFault.{AskFault}
 use Rattle.session.specs.declared.fault.AskFault.TheVariants as asking
 use Rattle.session.specs.declared.form.Form.{Form}
@@ -75,7 +75,7 @@ IsNamedTold limits (Ok names) t = t ≡ done (name_lines [] names)
 IsNamedTold limits (Err fault) t = IsAskTold limits fault t
 
 abbrev pub IsExplainedTold : Limits → Ontology → Form → Result Explanation AskFault → Told → Type 0
-IsExplainedTold limits o form (Ok explanation) t = t ≡ done (shown_text o form explanation)
+IsExplainedTold limits o form (Ok explanation) t = IsShown o form explanation t.text × (t.status ≡ statuses.Done)
 IsExplainedTold limits o form (Err fault) t = IsAskTold limits fault t
 
 abbrev pub IsFoundTold : Limits → Result NamesFound QueryFault → Told → Type 0
