@@ -1,5 +1,5 @@
 -- Calls of a session, and what is told of them.
-use Rattle.std.proofs.Common.{◌≡◌, ◌∙◌, ◌⊎◌, ap, sym, ℕ, List, Result, Ok, Err, refl, subst, inl, inr, map, IfOk, IfErr, OnOk}
+use Rattle.std.proofs.Common.{◌≡◌, ◌∙◌, ◌⊎◌, [], ap, sym, ℕ, List, Result, Ok, Err, refl, subst, inl, inr, ⊎_elim, map, IfOk, IfErr, OnOk}
 use Rattle.std.specs.Borrow.{Bor}
 use Rattle.std.specs.Global.{Vec}
 use Rattle.std.specs.Str.{IsUtf8, IsValidUpTo}
@@ -13,7 +13,7 @@ use Rattle.program.specs.declared.limits.Limits.{Limits}
 use Rattle.program.specs.declared.status.Status.{Status}
 use Rattle.session.specs.Answers.{AreInstances, AreSubclasses, AreSuperclasses, HasClass, HasNames, IsClassRefusal, IsExplainRefusal}
 use Rattle.session.specs.Edits as edits
-use Rattle.session.specs.Edits.{Call, Explain, Explained, Found, Instances, IsCall, Named, Query, Subclasses, Superclasses}
+use Rattle.session.specs.Edits.{Call, Explain, Explained, Found, Instances, IsCall, Named, Query, Subclasses, Superclasses, added}
 use Rattle.session.specs.Queries.{IsQueryAnswer, IsQueryRefusal, names_in}
 use Rattle.session.specs.Sessions.{Opened}
 use Rattle.session.specs.declared.fault.AskFault.{AskFault}
@@ -30,9 +30,15 @@ pub told_or : {X : Type 0} (P : Told → Type 0) (r : Result Reply X) → Tells 
 told_or P (Ok reply) h = inl h
 told_or P (Err refused) h = inr refl
 
-pub called : {X : Type 0} (limits : Limits) (form : Form) (call : Call) (old new : Opened) (answer : edits.Reply) (r : Result Reply X) → IsCall old call answer new → Tells (IsAnswerTold limits form new answer) r
-    → IsCalled limits form call old (told_by r) new
-called limits form call old new answer r h tells = record { reply = answer; called = h; answer = told_or (IsAnswerTold limits form new answer) r tells }
+-- what is told of a call that adds nothing
+pub called : {X : Type 0} (limits : Limits) (form : Form) (call : Call) (old new : Opened) (answer : edits.Reply) (r : Result Reply X) → IsCall old call answer new → added call answer ≡ []
+    → Tells (IsAnswerTold limits form new answer) r → IsCalled limits form call old (told_by r) new
+called limits form call old new answer r h none tells = record { reply = answer; called = h; answer = ⊎_elim (λ t. inl t) (λ e. inr (none, e)) (told_or (IsAnswerTold limits form new answer) r tells) }
+
+-- and of one for whose reply there was memory
+pub called_ok : (limits : Limits) (form : Form) (call : Call) (old new : Opened) (answer : edits.Reply) (t : Told) → IsCall old call answer new → IsAnswerTold limits form new answer t
+    → IsCalled limits form call old t new
+called_ok limits form call old new answer t h tells = record { reply = answer; called = h; answer = inl tells }
 
 pub said : {X : Type 0} (P : Told → Type 0) (s : Opened) (r : Result Reply X) → Tells P r → IsSaid P s (told_by r) s
 said P s r tells = (refl, told_or P r tells)
@@ -66,7 +72,7 @@ query_call s text most (Err fault) exact refused = (refused, refl)
 pub explained : {X : Type 0} (limits : Limits) (form : Form) (s : Opened) (asked : Asked) (class : Iri) (o : Ontology) (answer : Result Explanation AskFault) (r : Result Reply X) → o ≡ s.ontology
     → IsCall s (Explain asked class) (Explained answer) s → Tells (IsExplainedTold limits o form answer) r → IsCalled limits form (Explain asked class) s (told_by r) s
 explained limits form s asked class o answer r same h tells =
-    called limits form (Explain asked class) s s (Explained answer) r h (subst (λ (p : Ontology). Tells (IsExplainedTold limits p form answer) r) same tells)
+    called limits form (Explain asked class) s s (Explained answer) r h refl (subst (λ (p : Ontology). Tells (IsExplainedTold limits p form answer) r) same tells)
 
 -- bytes that are no text
 pub no_text_said : {X : Type 0} (limits : Limits) (call : List ℕ → Call) (payload : List ℕ) (s : Opened) (at n : ℕ) (r : Result Reply X) → (IsUtf8 payload → ⊥) → IsValidUpTo payload n → at ≡ n
@@ -76,9 +82,14 @@ no_text_said limits call payload s at n r none valid same tells =
 
 -- bytes that are the text
 pub text_called : {X : Type 0} (limits : Limits) (call : List ℕ → Call) (payload text : List ℕ) (old new : Opened) (answer : edits.Reply) (r : Result Reply X) → text ≡ payload
-    → IsCall old (call text) answer new → Tells (IsAnswerTold limits Lines new answer) r → IsTextCalled limits call payload old (told_by r) new
-text_called limits call payload text old new answer r same h tells =
-    inl (called limits Lines (call payload) old new answer r (subst (λ (bytes : List ℕ). IsCall old (call bytes) answer new) same h) tells)
+    → IsCall old (call text) answer new → added (call payload) answer ≡ [] → Tells (IsAnswerTold limits Lines new answer) r → IsTextCalled limits call payload old (told_by r) new
+text_called limits call payload text old new answer r same h none tells =
+    inl (called limits Lines (call payload) old new answer r (subst (λ (bytes : List ℕ). IsCall old (call bytes) answer new) same h) none tells)
+
+pub text_added : (limits : Limits) (payload text : List ℕ) (old new : Opened) (made : Unit {0}) (t : Told) → text ≡ payload → IsCall old (edits.Add text) (edits.Added (Ok made)) new
+    → IsAnswerTold limits Lines new (edits.Added (Ok made)) t → IsTextCalled limits edits.Add payload old t new
+text_added limits payload text old new made t same h tells =
+    inl (called_ok limits Lines (edits.Add payload) old new (edits.Added (Ok made)) t (subst (λ (bytes : List ℕ). IsCall old (edits.Add bytes) (edits.Added (Ok made)) new) same h) tells)
 
 pub told_same : (s u : Status) (a b : List ℕ) → s ≡ u → a ≡ b → told s a ≡ told u b
 told_same s u a b same equal = ap (λ (x : Status). told x a) same ∙ ap (told u) equal

@@ -5,4 +5,5 @@ pub mod Coming
 pub mod Replying
 pub mod Behind
 pub mod Conversing
+pub mod Edits
 pub mod Calling

@@ -12,9 +12,9 @@ use Rattle.inference.specs.declared.known_facts.Stop.TheVariants as stops
 use Rattle.profile.specs.declared.fault.DocumentFault.TheVariants.{NotUtf8}
 use Rattle.program.specs.declared.limits.Limits.{Limits}
 use Rattle.program.specs.declared.status.Status.TheVariants as statuses
-use Rattle.session.specs.Edits.{Call, Reply, Add, Resume, Superclasses, Subclasses, Instances, Explain, Query, Added, Resumed, Named, Explained, Found, Written, IsCall}
+use Rattle.session.specs.Edits.{Call, Reply, Add, Resume, Superclasses, Subclasses, Instances, Explain, Query, Added, Resumed, Named, Explained, Found, Written, IsCall, added}
 use Rattle.session.specs.Queries.{NamesFound, names_in}
-use Rattle.session.specs.Sessions.{Opened}
+use Rattle.session.specs.Sessions.{IsSession, Opened}
 use Rattle.session.specs.TextAnswers.{IsShown, name_lines, query_lines}
 use Rattle.session.specs.declared.fault.AskFault.{AskFault}
 use Rattle.session.specs.declared.fault.AskFault.TheVariants as asking
@@ -113,11 +113,11 @@ IsAnswerTold limits form s (Written after answer) t = ⊥
 
 -- ---- what is done
 
--- the call is made of the session, and what it answers is told, or that there was no memory for the reply
+-- the call is made of the session, and what it answers is told; or, where it added nothing, that there was no memory for the reply
 pub record IsCalled (limits : Limits) (form : Form) (call : Call) (old : Opened) (t : Told) (new : Opened) : Type 0 where
   pub reply : Reply
   pub called : IsCall old call reply new
-  pub answer : IsAnswerTold limits form new reply t ⊎ (t ≡ out_of_memory)
+  pub answer : IsAnswerTold limits form new reply t ⊎ ((added call reply ≡ []) × (t ≡ out_of_memory))
 
 -- nothing is done, and this is told, or that there was no memory for it
 abbrev pub IsSaid : (Told → Type 0) → (old : Opened) → Told → (new : Opened) → Type 0
@@ -143,8 +143,10 @@ IsStep limits old (asked.Query size) payload t new = IsTextCalled limits (λ tex
 IsStep limits old asked.Status payload t new = IsSaid (λ t. t ≡ done (status_text old)) old t new
 
 -- the same of a session with its limits, which stay
-abbrev pub IsServed : (old : SessionService) → commands.Command → (payload : List ℕ) → Told → (new : SessionService) → Type 0
-IsServed old command payload t new = IsStep old.limits old.session command payload t new.session × (new.limits ≡ old.limits)
+pub record IsServed (old : SessionService) (command : commands.Command) (payload : List ℕ) (t : Told) (new : SessionService) : Type 0 where
+  pub step : IsStep old.limits old.session command payload t new.session
+  pub limits : new.limits ≡ old.limits
+  pub session : IsSession new.session
 
 -- what a session says as what answers commands
 abbrev pub session_service : Ghosts SessionService

@@ -4,3 +4,4 @@ pub mod Conversations
 pub mod Turns
 pub mod Messages
 pub mod Answers
+pub mod Editing

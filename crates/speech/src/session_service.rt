@@ -4,7 +4,7 @@ ghost use Rattle.session.specs.Edits.{Add, Explain, Instances, Query, Resume, Su
 ghost use Rattle.session.specs.declared.form.Form.TheVariants.{Lines};
 ghost use Rattle.profile.specs.declared.fault.DocumentFault.TheVariants.{NotUtf8};
 ghost use Rattle.session.specs.declared.question_fault.QuestionFault.TheVariants as faults;
-ghost use Rattle.speech.specs.Answers.{IsCalled, IsFaultTold, IsTextCalled, Tells, done, run_text, status_text};
+ghost use Rattle.speech.specs.Answers.{IsCalled, IsFaultTold, IsStep, IsTextCalled, Tells, done, run_text, status_text};
 ghost use Rattle.speech.specs.Replies.{told_by};
 ghost use Rattle.std.specs.Prelude.{◌≡◌};
 
@@ -129,6 +129,27 @@ impl SessionService {
             self.session.query(text, self.limits.max_facts),
         )
     }
+
+    /// Does what the command asks for, by one call of the session.
+    fn reply(&mut self, command: Command<'_>, payload: &[u8]) -> Result<Reply, Memory>
+        ensures step { IsStep self.old.limits self.old.session command.entry payload.now (told_by result) self.new.session }
+        ensures limits { self.new.limits ≡ self.old.limits }
+    {
+        match command {
+            Command::Add(_) => self.add(payload),
+            Command::Run => self.run(),
+            Command::Supers(class) => self.supers(class),
+            Command::Subs(class) => self.subs(class),
+            Command::Instances(class) => self.instances(class),
+            Command::Why(subject, class) => self.why(Asked::Class(subject), class, Form::Lines),
+            Command::WhyIndividual(subject, class) => {
+                self.why(Asked::Individual(subject), class, Form::Lines)
+            }
+            Command::Dot(subject, class) => self.why(Asked::Class(subject), class, Form::Graph),
+            Command::Query(_) => self.query(payload),
+            Command::Status => self.status(),
+        }
+    }
 }
 
 impl Service for SessionService {
@@ -146,19 +167,8 @@ impl Service for SessionService {
     }
 
     fn answer(&mut self, command: Command<'_>, payload: &[u8]) -> Result<Reply, Memory> {
-        match command {
-            Command::Add(_) => self.add(payload),
-            Command::Run => self.run(),
-            Command::Supers(class) => self.supers(class),
-            Command::Subs(class) => self.subs(class),
-            Command::Instances(class) => self.instances(class),
-            Command::Why(subject, class) => self.why(Asked::Class(subject), class, Form::Lines),
-            Command::WhyIndividual(subject, class) => {
-                self.why(Asked::Individual(subject), class, Form::Lines)
-            }
-            Command::Dot(subject, class) => self.why(Asked::Class(subject), class, Form::Graph),
-            Command::Query(_) => self.query(payload),
-            Command::Status => self.status(),
-        }
+        let reply = self.reply(command, payload);
+        self.session.well_formed();
+        reply
     }
 }

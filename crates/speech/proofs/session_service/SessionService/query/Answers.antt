@@ -1,3 +1,4 @@
+use Rattle.std.proofs.Common.{refl}
 use Rattle.session.specs.Edits.{Found, Query}
 use Rattle.speech.specs.Answers.{found}
 use Rattle.speech.proofs.Calling.{no_text_said, query_call, text_called}
@@ -13,4 +14,4 @@ returns c =
     let s = c.args.self.now.session in
     let most = c.args.self.now.limits.max_facts in
     text_called c.args.self.now.limits (λ text. Query text most) c.args.payload.now c.in-Ok.text.now s s (Found (found c.query.result)) c.found_reply.result
-    c.in-Ok.ensures.cases.0 (query_call s c.in-Ok.text.now most c.query.result c.query.ensures.exact c.query.ensures.refused) c.found_reply.ensures
+    c.in-Ok.ensures.cases.0 (query_call s c.in-Ok.text.now most c.query.result c.query.ensures.exact c.query.ensures.refused) refl c.found_reply.ensures

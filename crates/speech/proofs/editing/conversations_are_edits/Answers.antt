@@ -1,0 +1,5 @@
+use Rattle.speech.proofs.Edits.{calls_of, one_document}
+use Rattle.speech.proofs.editing.conversations_are_edits.Goals as goal
+
+pub returns : goal.returns
+returns c = record { calls = calls_of; document = one_document }
