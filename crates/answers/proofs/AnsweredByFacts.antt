@@ -21,6 +21,7 @@ use Rattle.classification.specs.Lists.{SomeFact}
 use Rattle.answers.specs.Questions.{Answers, AreAnswers, FollowsFor, IsEvery, PutsExpression, PutsIndividual, expression_asked, names_asked}
 use Rattle.answers.specs.Entailment.{LiesBelow, BelongsTo}
 use Rattle.answers.specs.Explanations.{IsClassNamed}
+use Rattle.answers.specs.Neighbours.{AreMarksOf}
 use Rattle.answers.specs.Names.{AreThose, HasMark, IsMarked}
 use Rattle.answers.specs.declared.question.Question.{Question}
 use Rattle.answers.specs.declared.question.Question.TheVariants.{Above, Below, Members}
@@ -113,6 +114,19 @@ module _ (o : Ontology) (w : IsOntology o) (s : Saturated) (h : IsSaturated o s)
   answer_follows (Above e) root n low = above_answers e root n low
   answer_follows (Below e) root n low = below_answers e root n low
   answer_follows (Members e) root n low = member_answers e root n low
+
+  -- the marks that answer are those of what follows, of a question about classes
+  pub marks_follow : (q : Question) → IsRoot o asked (Expression (expression_asked q)) → names_asked o q ≡ o.names.classes → (size : ℕ) → size ≡ length o.names.classes → (marks : List Bool)
+      → AreAnswers o s q size marks → AreMarksOf o.names.classes (FollowsFor o q) marks
+  marks_follow q root classes size long marks are =
+      let here = subst (λ (n : ℕ). AreAnswers o s q n marks) (long ∙ sym (ap length classes)) are in
+      subst (λ (names : List Iri). AreMarksOf names (FollowsFor o q) marks) classes (record {
+        long = here.long;
+        exact = λ n low.
+            let mark = here.exact n low in
+            let follows = answer_follows q root n low in
+            (λ m. follows.0 (mark.0 m), λ f. mark.1 (follows.1 f));
+      })
 
   -- the names that are marked are those that follow
   those_follow : (q : Question) → IsRoot o asked (Expression (expression_asked q)) → (marks : List Bool) (answer : List Iri)

@@ -12,3 +12,12 @@ pub mod Ending
 pub mod Explaining
 pub mod Knowing
 pub mod Leading
+pub mod MarkedFacts
+pub mod Below
+pub mod Listing
+pub mod Nearing
+pub mod Neighbouring
+pub mod Nearby
+pub mod Grouping
+pub mod ListedBelow
+pub mod NamedSides

@@ -1,5 +1,5 @@
 -- Names by their marks, and in byte order.
-use Rattle.std.proofs.Common.{◌≡◌, ◌↔◌, ℕ, ◌+◌, ◌<◌, ⊎_elim, Bool, true, false, List, [], ◌∷◌, ◌++◌, length, map, slice_get, get_or, Some, Contains, Bor, refl, sym, ap, ◌∙◌, subst, arith, below_more}
+use Rattle.std.proofs.Common.{◌≡◌, ◌↔◌, ℕ, ◌+◌, ◌<◌, ⊎_elim, All, Bool, true, false, List, [], ◌∷◌, ◌++◌, length, map, slice_get, get_or, Some, Contains, Bor, take, refl, sym, ap, ap₂, ◌∙◌, subst, arith, below_more}
 use Rattle.std.specs.Cmp.Lexicographic.{slice_cmp}
 use Rattle.std.specs.List.Sorted.{IsPermutation, IsSorted}
 use Rattle.std.specs.declared.cmp.Ordering.{Ordering}
@@ -15,13 +15,15 @@ use Rattle.std.proofs.lemmas.Map.Keys.{IsDistinct-from_apart, IsDistinct-IsPermu
 use Rattle.std.proofs.lemmas.Map.Text.{is_eq-slice_cmp}
 use Rattle.std.proofs.lemmas.Slice.Eq.{bytes_eq-Decides}
 use Rattle.std.specs.Option.{unwrap_or}
-use Rattle.std.proofs.lemmas.Option.{none-some, same_Some, slice_get_within, slice_get-get_or}
+use Rattle.std.proofs.lemmas.Option.{none-some, same_Some, slice_get_within, slice_get-get_or, unwrap_or-slice_get}
+use Rattle.std.proofs.lemmas.List.Elements.{All-contains}
+use Rattle.lemmas.proofs.Mapped.{slice_get_map, slice_get_map_from}
 use Rattle.lemmas.proofs.Members.{Contains-from_slice_get, slice_get-from_Contains}
-use Rattle.lemmas.proofs.Places.{slice_get_push, slice_get_push_cases, keeps_push}
+use Rattle.lemmas.proofs.Places.{slice_get_push, slice_get_push_cases, keeps_push, take_push}
 use Rattle.axioms.specs.Expression.{Iri}
 use Rattle.axioms.specs.Ontology.{name_at}
 use Rattle.axioms.specs.WellFormedness.{AreDistinct}
-use Rattle.answers.specs.Names.{AreInByteOrder, AreMarkedBelow, AreThose, HasMark, IsMarked}
+use Rattle.answers.specs.Names.{AreInByteOrder, AreMarkedBelow, AreNamesOf, AreThose, HasMark, HasNumber, IsMarked}
 
 -- ---- the same names by another property
 
@@ -32,7 +34,7 @@ those_same names answer P Q same are = record {
   all = λ name there q. are.all name there ((same name there).1 q);
 }
 
-name_is : (names : List Iri) (n : ℕ) (name : Iri) → slice_get names n ≡ Some name → name_at names n ≡ name
+pub name_is : (names : List Iri) (n : ℕ) (name : Iri) → slice_get names n ≡ Some name → name_at names n ≡ name
 name_is names n name at = ap (λ x. unwrap_or x []) at
 
 -- a name has a mark where what its number answers holds
@@ -50,33 +52,33 @@ pub none_marked : (names : List Iri) (marks : List Bool) → AreMarkedBelow 0 na
 none_marked names marks = record {
   distinct = λ m n x h. absurd (none-some x h);
   each = λ m name h. absurd (none-some name h);
-  all = λ n name low. absurd (omega arith);
+  all = λ n name at is. (let low : n < 0 = is.0 in absurd (omega arith));
 }
 
 module _ (k : ℕ) (names : List Iri) (marks : List Bool) (found : List Iri) (was : AreMarkedBelow k names marks found) where
   pub not_marked : (IsMarked marks k → ⊥) → AreMarkedBelow (k + 1) names marks found
   not_marked other = record {
     distinct = was.distinct;
-    each = λ m name h. (let (n, low, at, mark) = was.each m name h in (n, omega arith, at, mark));
-    all = λ n name low. below_more (λ n. (x : Iri) → slice_get names n ≡ Some x → IsMarked marks n → (m : ℕ) × (slice_get found m ≡ Some x)) k
-        (λ n low x. was.all n x low) (λ x at mark. absurd (other mark)) n low name;
+    each = λ m name h. (let (n, at, (low, mark)) = was.each m name h in (n, at, (omega arith, mark)));
+    all = λ n name at (low, mark). below_more (λ n. (x : Iri) → slice_get names n ≡ Some x → IsMarked marks n → (m : ℕ) × (slice_get found m ≡ Some x)) k
+        (λ n low x at mark. was.all n x at (low, mark)) (λ x at mark. absurd (other mark)) n low name at mark;
   }
 
   pub one_marked : (name : Iri) → AreDistinct names → slice_get names k ≡ Some name → IsMarked marks k → AreMarkedBelow (k + 1) names marks (found ++ name ∷ [])
   one_marked name apart here mark = record {
     distinct = distinct;
     each = λ m x h. ⊎_elim
-        (λ old. (let (n, low, at, is) = was.each m x old in (n, omega arith, at, is)))
-        (λ new. (k, omega arith, subst (λ y. slice_get names k ≡ Some y) new.1 here, mark))
+        (λ old. (let (n, at, (low, is)) = was.each m x old in (n, at, (omega arith, is))))
+        (λ new. (k, subst (λ y. slice_get names k ≡ Some y) new.1 here, (omega arith, mark)))
         (slice_get_push_cases found name m x h);
-    all = λ n y low. below_more (λ n. (x : Iri) → slice_get names n ≡ Some x → IsMarked marks n → (m : ℕ) × (slice_get (found ++ name ∷ []) m ≡ Some x)) k
-        (λ n low x at is. (let (m, old) = was.all n x low at is in (m, keeps_push found name m x old)))
-        (λ x at is. (length found, subst (λ y. slice_get (found ++ name ∷ []) (length found) ≡ Some y) (same_Some name x (sym here ∙ at)) (slice_get_push found name))) n low y;
+    all = λ n y at (low, mark). below_more (λ n. (x : Iri) → slice_get names n ≡ Some x → IsMarked marks n → (m : ℕ) × (slice_get (found ++ name ∷ []) m ≡ Some x)) k
+        (λ n low x at is. (let (m, old) = was.all n x at (low, is) in (m, keeps_push found name m x old)))
+        (λ x at is. (length found, subst (λ y. slice_get (found ++ name ∷ []) (length found) ≡ Some y) (same_Some name x (sym here ∙ at)) (slice_get_push found name))) n low y at mark;
   }
     where
       fresh : (m : ℕ) → slice_get found m ≡ Some name → ⊥
       fresh m old =
-          let (n, low, at, _) = was.each m name old in
+          let (n, at, (low, _)) = was.each m name old in
           let same : n ≡ k = apart n k name at here in
           absurd (omega arith)
 
@@ -125,7 +127,7 @@ only_less a b up differ = go (slice_cmp nat_cmp a b) (slice_cmp nat_cmp b a) (na
     go Equal t e h l = absurd (cc)
     go Greater t e h l = absurd (cc)
 
-module _ (names : List Iri) (marks : List Bool) (xs ys : List (Bor Iri)) (was : AreMarkedBelow (length names) names marks (map (λ s. s.now) xs)) (moved : IsPermutation xs ys) (up : IsSorted text_cmp ys) where
+module _ (names : List Iri) (P : ℕ → Type 0) (xs ys : List (Bor Iri)) (was : AreNamesOf names P (map (λ s. s.now) xs)) (moved : IsPermutation xs ys) (up : IsSorted text_cmp ys) where
   abbrev found : List Iri
   found = map (λ (s : Bor Iri). s.now) xs
 
@@ -149,17 +151,47 @@ module _ (names : List Iri) (marks : List Bool) (xs ys : List (Bor Iri)) (was : 
   ordered i j d low high = only_less (get_or answer i d) (get_or answer j d) (far i j d low high)
       (apart_from_distinct bytes_eq answer i j d (IsDistinct-IsPermutation bytes_eq flips found answer same_names (apart found was.distinct)) low high)
 
-  pub in_order : AreThose names (HasMark names marks) answer
+  pub in_order : AreThose names (HasNumber names P) answer
   in_order = record {
     ordered = ordered;
     each = λ name there.
         let (m, at) = slice_get-from_Contains found name (Contains-permutation answer found name (IsPermutation-sym found answer same_names) there) in
-        let (n, low, here, mark) = was.each m name at in
-        (Contains-from_slice_get names n name here, (n, here, mark));
+        let (n, here, is) = was.each m name at in
+        (Contains-from_slice_get names n name here, (n, here, is));
     all = λ name there is.
-        let (m, at) = was.all is.0 name (slice_get_within names is.0 name is.1) is.1 is.2 in
+        let (m, at) = was.all is.0 name is.1 is.2 in
         Contains-permutation found answer name same_names (Contains-from_slice_get found m name at);
   }
+
+-- all that are marked
+pub all_marked : (names : List Iri) (marks : List Bool) (xs : List Iri) → AreMarkedBelow (length names) names marks xs → AreNamesOf names (IsMarked marks) xs
+all_marked names marks xs are = record {
+  distinct = are.distinct;
+  each = λ m name h. (let (n, at, (low, mark)) = are.each m name h in (n, at, mark));
+  all = λ n name at mark. are.all n name at (slice_get_within names n name at, mark);
+}
+
+-- those of numbers of which none stands twice
+pub numbered : (names : List Iri) (numbers : List ℕ) → AreDistinct names → AreDistinct numbers → All (λ n. n < length names) numbers → AreNamesOf names (Contains numbers) (map (name_at names) numbers)
+numbered names numbers apart once within = record {
+  distinct = λ m n name h l.
+      let (i, at, is) = from_map m name h in
+      let (j, there, same) = from_map n name l in
+      let one : i ≡ j = apart i j name (here m i name at is) (here n j name there same) in
+      once m n i at (subst (λ k. slice_get numbers n ≡ Some k) (sym one) there);
+  each = λ m name h. (let (n, at, is) = from_map m name h in (n, here m n name at is, Contains-from_slice_get numbers m n at));
+  all = λ n name at there.
+      let (m, is) = slice_get-from_Contains numbers n there in
+      (m, slice_get_map (name_at names) numbers m n is ∙ ap (λ x. Some x) (name_is names n name at));
+}
+  where
+    from_map : (m : ℕ) (name : Iri) → slice_get (map (name_at names) numbers) m ≡ Some name → (n : ℕ) × (slice_get numbers m ≡ Some n) × (name_at names n ≡ name)
+    from_map m name h = slice_get_map_from (name_at names) numbers m name h
+
+    here : (m n : ℕ) (name : Iri) → slice_get numbers m ≡ Some n → name_at names n ≡ name → slice_get names n ≡ Some name
+    here m n name at is =
+        let low : n < length names = All-contains (λ n. n < length names) numbers n within (Contains-from_slice_get numbers m n at) in
+        slice_get-get_or names n [] low ∙ ap (λ x. Some x) (sym (unwrap_or-slice_get names n []) ∙ is)
 
 -- ---- the loop over the names
 
@@ -175,3 +207,10 @@ marked_at marks k d low is = slice_get-get_or marks k d low ∙ ap (λ t. Some t
 
 pub unmarked_at : (marks : List Bool) (k : ℕ) (d : Bool) → k < length marks → get_or marks k d ≡ false → IsMarked marks k → ⊥
 unmarked_at marks k d low is mark = false≢true (same_Some false true (sym (slice_get-get_or marks k d low ∙ ap (λ t. Some t) is) ∙ mark))
+
+-- one name more, of the next number
+pub named_more : (names : List Iri) (numbers : List ℕ) (k n : ℕ) (old new : List (Bor Iri)) (s : Bor Iri) → slice_get numbers k ≡ Some n → new ≡ old ++ s ∷ [] → s.now ≡ name_at names n
+    → map (λ s. s.now) old ≡ map (name_at names) (take k numbers) → map (λ s. s.now) new ≡ map (name_at names) (take (k + 1) numbers)
+named_more names numbers k n old new s at is here before =
+    ap (map (λ (s : Bor Iri). s.now)) is ∙ map-append (λ (s : Bor Iri). s.now) old (s ∷ []) ∙ ap₂ (λ (xs : List Iri) (x : Iri). xs ++ x ∷ []) before here
+    ∙ sym (ap (map (name_at names)) (take_push numbers k n at) ∙ map-append (name_at names) (take k numbers) (n ∷ []))

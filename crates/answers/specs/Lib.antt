@@ -3,3 +3,4 @@ pub mod Entailment
 pub mod Questions
 pub mod Explanations
 pub mod Findings
+pub mod Neighbours

@@ -1,5 +1,7 @@
 -- Names that have a property, in byte order.
-use Rattle.std.specs.Prelude.{◌≡◌, ◌<◌, ℕ, List, Bool, true, slice_get, Some}
+use Rattle.std.specs.Prelude.{◌≡◌, ◌<◌, ℕ, List, Bool, true, map, slice_get, Some}
+use Rattle.std.specs.Borrow.{Bor}
+use Rattle.std.specs.Global.{Vec}
 use Rattle.std.specs.Cmp.Lexicographic.{slice_cmp}
 use Rattle.std.specs.List.{AllPairs, Contains}
 use Rattle.std.specs.Ordering.{is_lt, nat_cmp}
@@ -16,17 +18,29 @@ pub record AreThose (names : List Iri) (P : Iri → Type 0) (answer : List Iri) 
   pub each : (name : Iri) → Contains answer name → Contains names name × P name
   pub all : (name : Iri) → Contains names name → P name → Contains answer name
 
+-- names in groups, as calls give them
+abbrev pub groups_in : List (Vec (Bor (List ℕ))) → List (List Iri)
+groups_in groups = map (λ group. map (λ name. name.now) group.items) groups
+
 -- ---- by number
 
 abbrev pub IsMarked : List Bool → ℕ → Type 0
 IsMarked marks n = slice_get marks n ≡ Some true
 
--- the names that are marked, among the first k; no two of them equal
-pub record AreMarkedBelow (k : ℕ) (names : List Iri) (marks : List Bool) (found : List Iri) : Type 0 where
+-- the name has a number for which it holds
+abbrev pub HasNumber : List Iri → (ℕ → Type 0) → Iri → Type 0
+HasNumber names P name = (n : ℕ) × (slice_get names n ≡ Some name) × P n
+
+-- the names of exactly the numbers for which it holds; no two of them equal
+pub record AreNamesOf (names : List Iri) (P : ℕ → Type 0) (found : List Iri) : Type 0 where
   pub distinct : AreDistinct found
-  pub each : (m : ℕ) (name : Iri) → slice_get found m ≡ Some name → (n : ℕ) × (n < k) × (slice_get names n ≡ Some name) × IsMarked marks n
-  pub all : (n : ℕ) (name : Iri) → n < k → slice_get names n ≡ Some name → IsMarked marks n → (m : ℕ) × (slice_get found m ≡ Some name)
+  pub each : (m : ℕ) (name : Iri) → slice_get found m ≡ Some name → HasNumber names P name
+  pub all : (n : ℕ) (name : Iri) → slice_get names n ≡ Some name → P n → (m : ℕ) × (slice_get found m ≡ Some name)
+
+-- the names that are marked, among the first k
+abbrev pub AreMarkedBelow : (k : ℕ) → List Iri → List Bool → (found : List Iri) → Type 0
+AreMarkedBelow k names marks found = AreNamesOf names (λ n. (n < k) × IsMarked marks n) found
 
 -- the name has a number that is marked
 abbrev pub HasMark : List Iri → List Bool → Iri → Type 0
-HasMark names marks name = (n : ℕ) × (slice_get names n ≡ Some name) × IsMarked marks n
+HasMark names marks name = HasNumber names (IsMarked marks) name

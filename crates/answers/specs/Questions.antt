@@ -49,9 +49,13 @@ Answers o (Above e) fact n = (f : ℕ) × IsClassAt o n f × PutsExpression fact
 Answers o (Below e) fact n = (f : ℕ) × IsClassAt o n f × (PutsExpression fact f e.0 ⊎ PutsExpression fact f nothing)
 Answers o (Members e) fact n = PutsIndividual fact n e.0
 
+-- the number is the only one that is given, or none is
+abbrev pub IsOnly : (ℕ → Type 0) → Option ℕ → Type 0
+IsOnly gives found = (n : ℕ) → gives n ↔ (found ≡ Some n)
+
 -- the number is the one that the fact answers with, or it answers with none
 abbrev pub IsAnswer : Ontology → Question → Fact → Option ℕ → Type 0
-IsAnswer o question fact answer = (n : ℕ) → Answers o question fact n ↔ (answer ≡ Some n)
+IsAnswer o question fact answer = IsOnly (Answers o question fact) answer
 
 -- every name is an answer: there is no finite interpretation of the axioms, or the expression has no element in any
 abbrev pub IsEvery : Ontology → Saturated → Question → Type 0
@@ -59,10 +63,10 @@ IsEvery o s (Above e) = (IsConsistent o s.normal.asked → ⊥) ⊎ SomeFact s.s
 IsEvery o s (Below e) = IsConsistent o s.normal.asked → ⊥
 IsEvery o s (Members e) = IsConsistent o s.normal.asked → ⊥
 
--- so many marks: on all numbers, or on those that some fact answers with
-pub record AreMarks (o : Ontology) (question : Question) (facts : List Fact) (every : Bool) (size : ℕ) (marks : List Bool) : Type 0 where
+-- so many marks: on all numbers, or on those that some fact gives
+pub record AreMarks (gives : Fact → ℕ → Type 0) (facts : List Fact) (every : Bool) (size : ℕ) (marks : List Bool) : Type 0 where
   pub long : length marks ≡ size
-  pub exact : (n : ℕ) → n < size → IsMarked marks n ↔ ((every ≡ true) ⊎ SomeFact facts (λ fact. Answers o question fact n))
+  pub exact : (n : ℕ) → n < size → IsMarked marks n ↔ ((every ≡ true) ⊎ SomeFact facts (λ fact. gives fact n))
 
 -- so many marks, on the numbers that answer the question
 pub record AreAnswers (o : Ontology) (s : Saturated) (question : Question) (size : ℕ) (marks : List Bool) : Type 0 where

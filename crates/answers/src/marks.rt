@@ -1,5 +1,5 @@
 //! Marks on the numbers that facts answer with.
-ghost use Rattle.answers.specs.Questions.{AreAnswers, AreMarks, IsAnswer, IsEvery, PutsExpression, PutsIndividual};
+ghost use Rattle.answers.specs.Questions.{Answers, AreAnswers, AreMarks, IsAnswer, IsEvery, PutsExpression, PutsIndividual};
 ghost use Rattle.answers.specs.Names.{IsMarked};
 ghost use Rattle.answers.specs.declared.question.Question.TheVariants as asked;
 ghost use Rattle.axioms.specs.Ontology.{nothing};
@@ -87,7 +87,7 @@ fn answer(ontology: &Ontology, question: Question, fact: &StoredFact) -> Option<
 }
 
 /// Marks the number, if it is one of those that have marks.
-fn mark(marks: &mut [bool], n: Option<usize>)
+pub(crate) fn mark(marks: &mut [bool], n: Option<usize>)
     ensures long { length marks.new ≡ length marks.old }
     ensures exact { (m : ℕ) → m < length marks.old → IsMarked marks.new m ↔ (IsMarked marks.old m ⊎ (n ≡ Some m)) }
 {
@@ -96,6 +96,44 @@ fn mark(marks: &mut [bool], n: Option<usize>)
             marks[n] = true;
         }
     }
+}
+
+/// Marks on the numbers that have one in both lists.
+pub(crate) fn both(alloc: Global, marks: &[bool], others: &[bool]) -> Result<Vec<bool>, Memory>
+    requires { length others.now ≡ length marks.now }
+    ensures long { IfOk result (λ v. length v.items ≡ length marks.now) }
+    ensures exact { IfOk result (λ v. (n : ℕ) → n < length marks.now → IsMarked v.items n ↔ (IsMarked marks.now n × IsMarked others.now n)) }
+{
+    let mut left = Vec::new(alloc);
+    for n in 0..marks.len() {
+        left.push(marks[n] && others[n])?;
+    }
+    Ok(left)
+}
+
+/// Marks on the numbers that have one in the first list and none in the second.
+pub(crate) fn apart(alloc: Global, marks: &[bool], others: &[bool]) -> Result<Vec<bool>, Memory>
+    requires { length others.now ≡ length marks.now }
+    ensures long { IfOk result (λ v. length v.items ≡ length marks.now) }
+    ensures exact { IfOk result (λ v. (n : ℕ) → n < length marks.now → IsMarked v.items n ↔ (IsMarked marks.now n × (IsMarked others.now n → ⊥))) }
+{
+    let mut left = Vec::new(alloc);
+    for n in 0..marks.len() {
+        left.push(marks[n] && !others[n])?;
+    }
+    Ok(left)
+}
+
+/// Whether there is a mark.
+pub(crate) fn has_mark(marks: &[bool]) -> bool
+    ensures { IsTrue result ↔ ((n : ℕ) × IsMarked marks.now n) }
+{
+    for mark in marks {
+        if *mark {
+            return true;
+        }
+    }
+    false
 }
 
 /// So many marks: on each number, or on those that a fact answers with.
@@ -107,7 +145,7 @@ fn marked_by(
     every: bool,
     size: usize,
 ) -> Result<Vec<bool>, Memory>
-    ensures { IfOk result (λ v. AreMarks ontology.now question facts.now every size v.items) }
+    ensures { IfOk result (λ v. AreMarks (Answers ontology.now question) facts.now every size v.items) }
 {
     let mut marks = vec![in alloc; every; size]?;
     for fact in facts {

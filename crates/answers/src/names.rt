@@ -1,7 +1,8 @@
 //! Names in byte order.
-ghost use Rattle.answers.specs.Names.{AreMarkedBelow, AreThose, HasMark};
+ghost use Rattle.answers.specs.Names.{AreMarkedBelow, AreThose, HasMark, HasNumber};
+ghost use Rattle.axioms.specs.Ontology.{name_at};
 ghost use Rattle.axioms.specs.WellFormedness.{AreDistinct};
-ghost use Rattle.std.specs.Prelude.{◌≡◌, IfOk, length, map, string_bytes};
+ghost use Rattle.std.specs.Prelude.{◌≡◌, ◌<◌, All, Contains, IfOk, length, map, string_bytes};
 
 use axioms::Memory;
 use std::alloc::Global;
@@ -40,4 +41,37 @@ pub fn names_in_order<'a>(
     let mut found = marked(alloc, names, marks)?;
     found.sort()?;
     Ok(found)
+}
+
+/// The names of those numbers, as they come.
+fn named<'a>(alloc: Global, names: &'a [String], numbers: &[u32]) -> Result<Vec<&'a str>, Memory>
+    requires within { All (λ n. n < length names.now) numbers.now }
+    ensures { IfOk result (λ v. map (λ s. s.now) v.items ≡ map (name_at (map string_bytes names.now)) numbers.now) }
+{
+    let mut found = Vec::new(alloc);
+    for n in numbers {
+        found.push(names[*n as usize].as_str())?;
+    }
+    Ok(found)
+}
+
+/// The names of those numbers, in byte order.
+///
+/// # Errors
+///
+/// `Memory` where memory was refused.
+pub(crate) fn names_of<'a>(
+    alloc: Global,
+    names: &'a [String],
+    numbers: &[u32],
+) -> Result<Vec<&'a str>, Memory>
+    requires distinct { AreDistinct (map string_bytes names.now) }
+    requires once { AreDistinct numbers.now }
+    requires within { All (λ n. n < length names.now) numbers.now }
+    ensures { IfOk result
+        (λ v. AreThose (map string_bytes names.now) (HasNumber (map string_bytes names.now) (Contains numbers.now)) (map (λ s. s.now) v.items)) }
+{
+    let mut named = named(alloc, names, numbers)?;
+    named.sort()?;
+    Ok(named)
 }

@@ -1,0 +1,22 @@
+use Rattle.std.proofs.Common.{Bool, List, refl, sym, subst}
+use Rattle.lemmas.proofs.Members.{Contains-from_slice_get}
+use Rattle.answers.specs.Neighbours.{AreMarksOf, IsNearer}
+use Rattle.answers.specs.declared.nearest.Side.TheVariants.{Below}
+use Rattle.answers.proofs.Deriving.{class_root}
+use Rattle.answers.proofs.neighbours.children.Goals as goal
+
+pub strict_marks-requires-clause-root : goal.strict_marks-requires-clause-root
+strict_marks-requires-clause-root c = class_root c.args.ontology.now c.args.saturation.now.normal.asked c.args.class.now c.in-Some.class.0 c.in-Some.ensures
+
+pub groups_below-requires-clause-below : goal.groups_below-requires-clause-below
+groups_below-requires-clause-below c =
+    let o = c.args.ontology.now in
+    (c.args.class.now, subst (λ (ms : List Bool). AreMarksOf o.names.classes (IsNearer o Below c.args.class.now) ms) (sym c.deref.ensures.value) (c.in_ok-marks.ensures c.args.class.now c.in-Some.ensures))
+
+pub returns-clause-known : goal.returns-clause-known
+returns-clause-known c = (λ _. Contains-from_slice_get c.args.ontology.now.names.classes c.in-Some.ensures.0 c.args.class.now c.in-Some.ensures.2, λ _. refl)
+
+pub returns-clause-exact : goal.returns-clause-exact
+returns-clause-exact c =
+    let o = c.args.ontology.now in
+    c.in_ok-groups.ensures c.args.class.now (subst (λ (ms : List Bool). AreMarksOf o.names.classes (IsNearer o Below c.args.class.now) ms) (sym c.deref.ensures.value) (c.in_ok-marks.ensures c.args.class.now c.in-Some.ensures))
