@@ -44,7 +44,7 @@ use Rattle.session.specs.TextAnswers as asking
 use Rattle.session.specs.TextAnswers.{AnswersInstances, AnswersExplanation, AnswersQuery}
 use Rattle.session.specs.declared.question_fault.QuestionFault.{QuestionFault}
 use Rattle.session.specs.declared.form.Form.{Form}
-use Rattle.session.specs.declared.form.Form.TheVariants.{Graph, Lines}
+use Rattle.session.specs.declared.form.Form.TheVariants.{Graph, Lines, Reached, ReachedGraph}
 use Rattle.answers.specs.declared.asked.Asked.{Asked}
 use Rattle.answers.specs.declared.asked.Asked.TheVariants.{Class, Individual}
 use Rattle.session.specs.Answers.{class_name, subject_name}
@@ -216,7 +216,7 @@ asked_by q = if q.individual then Individual q.subject else Class q.subject
 
 -- in which form a question is answered
 abbrev pub form_of : Question → Form
-form_of q = if q.dot then Graph else Lines
+form_of q = if q.reached then (if q.dot then ReachedGraph else Reached) else (if q.dot then Graph else Lines)
 
 -- the text says why the subject of the question is in the class, or is not, by a document
 abbrev pub ExplainsFor : Limits → (document : Option (List ℕ)) → Question → (text : List ℕ) → Type 0

@@ -87,7 +87,13 @@ fn asked<'a>(question: &Question<'a>) -> Asked<'a>
 fn form_of(question: &Question<'_>) -> Form
     ensures { result ≡ form_in question.now }
 {
-    if question.dot {
+    if question.reached {
+        if question.dot {
+            Form::ReachedGraph
+        } else {
+            Form::Reached
+        }
+    } else if question.dot {
         Form::Graph
     } else {
         Form::Lines

@@ -118,11 +118,11 @@ instances_app = with_limits (with_rule (with_rule (new_app (codes "instances")) 
 abbrev pub with_names : App → App
 with_names app = with_rule (with_rule (with_rule app (path (codes "DOC"))) (path (codes "SUB"))) (path (codes "SUPER"))
 
--- `[--individual] [--dot]`
+-- `[--individual] [--dot] [--reached]`
 abbrev pub with_flags : App → App
-with_flags app = with_rule (with_rule app (flag (codes "individual"))) (flag (codes "dot"))
+with_flags app = with_rule (with_rule (with_rule app (flag (codes "individual"))) (flag (codes "dot"))) (flag (codes "reached"))
 
--- `explain DOC SUB SUPER [--individual] [--dot] [--max-facts N] [--max-bytes N] [--profile N]`
+-- `explain DOC SUB SUPER [--individual] [--dot] [--reached] [--max-facts N] [--max-bytes N] [--profile N]`
 abbrev pub explain_app : App
 explain_app = with_limits (with_flags (with_names (new_app (codes "explain"))))
 
@@ -187,6 +187,7 @@ pub record IsQuestion (rows : List Row) (question : Question) : Type 0 where
   pub class : first_of (codes "SUPER") rows ≡ Some question.class.now
   pub individual : IsFlag (codes "individual") rows question.individual
   pub dot : IsFlag (codes "dot") rows question.dot
+  pub reached : IsFlag (codes "reached") rows question.reached
 
 -- the command is what its name and its matches say
 abbrev pub IsCommand : Text → List Row → Command → Type 0

@@ -62,6 +62,9 @@ const INDIVIDUAL_HELP: &str = "SUB is an individual";
 
 const DOT_HELP: &str = "Prints a graph for the program dot";
 
+const REACHED_HELP: &str =
+    "Prints of a counterexample what pairs lead to from its element, and how many others there are";
+
 const MAX_FACTS_HELP: &str = "The most facts to draw from the document, from 1 up to the default";
 
 const MAX_BYTES_HELP: &str = "The most bytes to read of the document, from 1 up to the default";
@@ -231,13 +234,14 @@ fn with_flag<'a>(
     )
 }
 
-/// The command with the two flags of a question.
+/// The command with the flags of a question.
 fn with_flags<'a>(alloc: Global, command: Command<'a>) -> Result<Command<'a>, AllocError>
     ensures app { IfOk result (λ c. app_of c ≡ app_with_flags (app_of command.entry)) }
     ensures local { (fields_of command.entry).has_globals ≡ false → IfOk result (λ c. (fields_of c).has_globals ≡ false) }
 {
     let command = with_flag(alloc, command, "individual", INDIVIDUAL_HELP)?;
-    with_flag(alloc, command, "dot", DOT_HELP)
+    let command = with_flag(alloc, command, "dot", DOT_HELP)?;
+    with_flag(alloc, command, "reached", REACHED_HELP)
 }
 
 fn explain_command<'a>(alloc: Global) -> Result<Command<'a>, AllocError>

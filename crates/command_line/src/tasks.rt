@@ -23,6 +23,8 @@ pub struct Question<'a> {
     pub individual: bool,
     /// Whether the answer is wanted as a graph.
     pub dot: bool,
+    /// Whether of a counterexample those elements alone are wanted that are reached from the one that refutes.
+    pub reached: bool,
 }
 
 /// The number of the format that a certificate is written in.

@@ -50,6 +50,7 @@ fn question<'a>(inner: &ArgMatches<'a>) -> Option<Question<'a>>
         class: word(inner, "SUPER")?,
         individual: flag(inner, "individual")?,
         dot: flag(inner, "dot")?,
+        reached: flag(inner, "reached")?,
     })
 }
 

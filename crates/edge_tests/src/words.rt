@@ -245,7 +245,7 @@ fn query_with_and_without_options(rt: HostRuntime) -> Result<(), Fail> {
 }
 
 /// The task of a question about two names of a document, within the limits.
-fn asked(individual: bool, dot: bool, limits: Limits) -> Task<'static> {
+fn asked(individual: bool, dot: bool, reached: bool, limits: Limits) -> Task<'static> {
     Task {
         command: Command::Explain(Question {
             document: "a.ofn",
@@ -253,21 +253,35 @@ fn asked(individual: bool, dot: bool, limits: Limits) -> Task<'static> {
             class: "x:B",
             individual,
             dot,
+            reached,
         }),
         limits,
     }
 }
 
-/// Words of `explain`, whether they ask of an individual, and whether for a graph.
-const EXPLAIN: &[(&[&str], bool, bool)] = &[
-    (&["elc", "explain", "a.ofn", "x:A", "x:B"], false, false),
+/// Words of `explain`, whether they ask of an individual, whether for a graph, and whether for what is reached.
+const EXPLAIN: &[(&[&str], bool, bool, bool)] = &[
+    (
+        &["elc", "explain", "a.ofn", "x:A", "x:B"],
+        false,
+        false,
+        false,
+    ),
     (
         &["elc", "explain", "--individual", "a.ofn", "x:A", "x:B"],
         true,
         false,
+        false,
     ),
     (
         &["elc", "explain", "a.ofn", "x:A", "--dot", "x:B"],
+        false,
+        true,
+        false,
+    ),
+    (
+        &["elc", "explain", "a.ofn", "--reached", "x:A", "x:B"],
+        false,
         false,
         true,
     ),
@@ -279,8 +293,10 @@ const EXPLAIN: &[(&[&str], bool, bool)] = &[
             "x:A",
             "x:B",
             "--dot",
+            "--reached",
             "--individual",
         ],
+        true,
         true,
         true,
     ),
@@ -290,8 +306,9 @@ const EXPLAIN: &[(&[&str], bool, bool)] = &[
 fn explain_with_and_without_flags(rt: HostRuntime) -> Result<(), Fail> {
     let defaults = Limits::new(268_435_456, 100_000_000, Version::Two).ok_or("limits")?;
     for row in EXPLAIN {
-        let (words, individual, dot) = *row;
-        assert!(rt; task(rt.alloc(), words)? == asked(individual, dot, defaults));
+        let (words, individual, dot, reached) = *row;
+        let wanted = asked(individual, dot, reached, defaults);
+        assert!(rt; task(rt.alloc(), words)? == wanted);
     }
     Ok(())
 }
@@ -312,7 +329,7 @@ const EXPLAIN_WITHIN: &[&str] = &[
 #[test]
 fn explain_with_limits(rt: HostRuntime) -> Result<(), Fail> {
     let given = Limits::new(1000, 9, Version::One).ok_or("limits")?;
-    assert!(rt; task(rt.alloc(), EXPLAIN_WITHIN)? == asked(false, false, given));
+    assert!(rt; task(rt.alloc(), EXPLAIN_WITHIN)? == asked(false, false, false, given));
     Ok(())
 }
 

@@ -16,6 +16,9 @@ const REFLEXIVE: &str =
 const CONTRADICTION: &str =
     "Prefix(:=<x:>) Ontology(Declaration(Class(:A)) SubClassOf(owl:Thing owl:Nothing))";
 
+const FOUR_INDIVIDUALS: &str =
+    "Prefix(:=<x:>) Ontology(ObjectPropertyAssertion(:r :a :b) ObjectPropertyAssertion(:s :b :c) ClassAssertion(:A :d))";
+
 const CHAIN: &str =
     "Prefix(:=<x:>) Ontology(SubClassOf(:E ObjectSomeValuesFrom(:loc :W)) SubClassOf(:W ObjectSomeValuesFrom(:part :H)) SubObjectPropertyOf(ObjectPropertyChain(:loc :part) :loc) EquivalentClasses(:D ObjectSomeValuesFrom(:loc :H)))";
 
@@ -148,6 +151,51 @@ const REASONS: &[Row] = &[
         words: &["elc", "explain", "doc", "x:B", "x:A", "--dot"],
         status: 0,
         text: "digraph refutation {\n  node [shape=ellipse];\n  0 [label=\"0\\n<x:B>\", peripheries=2];\n}\n",
+    },
+    Row {
+        case: "it does not follow, by what is reached in two steps",
+        document: FOUR_INDIVIDUALS,
+        words: &[
+            "elc",
+            "explain",
+            "doc",
+            "x:a",
+            "x:A",
+            "--individual",
+            "--reached",
+        ],
+        status: 0,
+        text: "no\ndomain 4\npair <x:r> 0 1\npair <x:s> 1 2\nindividual <x:a> 0\nindividual <x:b> 1\nindividual <x:c> 2\nelement 0\nothers 1\n",
+    },
+    Row {
+        case: "the same by all elements",
+        document: FOUR_INDIVIDUALS,
+        words: &["elc", "explain", "doc", "x:a", "x:A", "--individual"],
+        status: 0,
+        text: "no\ndomain 4\nclass <x:A> 3\npair <x:r> 0 1\npair <x:s> 1 2\nindividual <x:a> 0\nindividual <x:b> 1\nindividual <x:c> 2\nindividual <x:d> 3\nelement 0\n",
+    },
+    Row {
+        case: "it does not follow, by what is reached as a graph",
+        document: FOUR_INDIVIDUALS,
+        words: &[
+            "elc",
+            "explain",
+            "doc",
+            "x:b",
+            "x:A",
+            "--individual",
+            "--dot",
+            "--reached",
+        ],
+        status: 0,
+        text: "digraph refutation {\n  node [shape=ellipse];\n  label=\"others 2\";\n  1 [label=\"1\\nindividual <x:b>\", peripheries=2];\n  2 [label=\"2\\nindividual <x:c>\"];\n  1 -> 2 [label=\"<x:s>\"];\n}\n",
+    },
+    Row {
+        case: "it follows, whatever is reached",
+        document: SUBCLASS,
+        words: &["elc", "explain", "doc", "x:A", "x:B", "--reached"],
+        status: 0,
+        text: "yes\n1. sub <x:A> <x:A> by K1\n2. sub <x:A> <x:B> by K4 axiom 1 from 1\n",
     },
     Row {
         case: "an individual",
