@@ -113,17 +113,17 @@ class Session:
         """The individuals of the class, in byte order."""
         return self.names(f"instances {iri}")
 
-    def why(self, below, above):
+    def why(self, below, above, reached=False):
         """Why the one class is below the other, or why not, as `elc explain` prints it."""
-        return self.command(f"why {below} {above}")
+        return self.command(f"why {below} {above}" + " reached" * reached)
 
-    def why_individual(self, individual, iri):
+    def why_individual(self, individual, iri, reached=False):
         """Why the individual is in the class, or why not."""
-        return self.command(f"why-individual {individual} {iri}")
+        return self.command(f"why-individual {individual} {iri}" + " reached" * reached)
 
-    def dot(self, below, above):
+    def dot(self, below, above, reached=False):
         """The same as `why`, as a graph for Graphviz."""
-        return self.command(f"dot {below} {above}")
+        return self.command(f"dot {below} {above}" + " reached" * reached)
 
     def query(self, expression):
         """The classes above and below a class expression and its individuals, as lines of `elc query`."""

@@ -21,10 +21,14 @@ pub one_word : (line : List ℕ) → IsSplitOnceResult 32 line None → split_wo
 one_word line h = slice_split_none (λ b. eqb b 32) line (no_space line (split_parts 32 line None h (lit< tt)))
 
 -- else the first word stands before the first space
-pub first_word : (line : List ℕ) (x : Bor (List ℕ) × Bor (List ℕ)) → IsSplitOnceResult 32 line (Some x) → split_words line ≡ x.0.now ∷ split_words x.1.now
+first_word : (line : List ℕ) (x : Bor (List ℕ) × Bor (List ℕ)) → IsSplitOnceResult 32 line (Some x) → split_words line ≡ x.0.now ∷ split_words x.1.now
 first_word line x h =
     let parts = split_parts 32 line (Some x) h (lit< tt) in
     ap split_words parts.0 ∙ slice_split_at (λ b. eqb b 32) x.0.now 32 x.1.now (no_space x.0.now parts.1) refl
+
+-- and the others behind it
+pub next_word : (line : List ℕ) (x : Bor (List ℕ) × Bor (List ℕ)) (words : List (List ℕ)) → IsSplitOnceResult 32 line (Some x) → split_words x.1.now ≡ words → split_words line ≡ x.0.now ∷ words
+next_word line x words h e = first_word line x h ∙ ap (λ w. x.0.now ∷ w) e
 
 some_part : (parts : List (List ℕ)) (n : ℕ) → length parts ≡ n + 1 → (word : List ℕ) × (rest : List (List ℕ)) × (parts ≡ word ∷ rest)
 some_part [] n e = absurd (omega (arith, e))
@@ -33,9 +37,9 @@ some_part (word ∷ rest) n e = (word, rest, refl)
 some_word : (line : List ℕ) → (word : List ℕ) × (rest : List (List ℕ)) × (split_words line ≡ word ∷ rest)
 some_word line = some_part (split_words line) _ (length-slice_split (λ b. eqb b 32) line)
 
--- and there is another word behind it
-pub four_words : (line : List ℕ) (x : Bor (List ℕ) × Bor (List ℕ)) → IsSplitOnceResult 32 line (Some x)
+-- of which there is one
+pub two_words : (line : List ℕ) (x : Bor (List ℕ) × Bor (List ℕ)) → IsSplitOnceResult 32 line (Some x)
     → (word : List ℕ) × (next : List ℕ) × (rest : List (List ℕ)) × (split_words line ≡ word ∷ next ∷ rest)
-four_words line x h =
+two_words line x h =
     let more = some_word x.1.now in
-    (x.0.now, more.0, more.1, first_word line x h ∙ ap (λ w. x.0.now ∷ w) more.2)
+    (x.0.now, more.0, more.1, next_word line x (more.0 ∷ more.1) h more.2)

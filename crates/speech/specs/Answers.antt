@@ -19,7 +19,7 @@ use Rattle.session.specs.TextAnswers.{IsShown, name_lines, query_lines}
 use Rattle.session.specs.declared.fault.AskFault.{AskFault}
 use Rattle.session.specs.declared.fault.AskFault.TheVariants as asking
 use Rattle.session.specs.declared.form.Form.{Form}
-use Rattle.session.specs.declared.form.Form.TheVariants.{Graph, Lines}
+use Rattle.session.specs.declared.form.Form.TheVariants.{Graph, Lines, Reached, ReachedGraph}
 use Rattle.session.specs.declared.querying.Answers.{Answers}
 use Rattle.session.specs.declared.query_fault.QueryFault.{QueryFault}
 use Rattle.session.specs.declared.query_fault.QueryFault.TheVariants as querying
@@ -139,6 +139,9 @@ IsStep limits old (asked.Instances class) payload t new = IsCalled limits Lines 
 IsStep limits old (asked.Why subject class) payload t new = IsCalled limits Lines (Explain (subjects.Class subject) class.now) old t new
 IsStep limits old (asked.WhyIndividual subject class) payload t new = IsCalled limits Lines (Explain (subjects.Individual subject) class.now) old t new
 IsStep limits old (asked.Dot subject class) payload t new = IsCalled limits Graph (Explain (subjects.Class subject) class.now) old t new
+IsStep limits old (asked.WhyReached subject class) payload t new = IsCalled limits Reached (Explain (subjects.Class subject) class.now) old t new
+IsStep limits old (asked.WhyIndividualReached subject class) payload t new = IsCalled limits Reached (Explain (subjects.Individual subject) class.now) old t new
+IsStep limits old (asked.DotReached subject class) payload t new = IsCalled limits ReachedGraph (Explain (subjects.Class subject) class.now) old t new
 IsStep limits old (asked.Query size) payload t new = IsTextCalled limits (λ text. Query text limits.max_facts) payload old t new
 IsStep limits old asked.Status payload t new = IsSaid (λ t. t ≡ done (status_text old)) old t new
 

@@ -4,11 +4,11 @@ use Rattle.std.specs.Fmt.{decimal}
 use Rattle.std.specs.List.{slice_split}
 use Rattle.std.specs.Str.{IsUtf8}
 use Rattle.speech.specs.declared.command.Command.{Command}
-use Rattle.speech.specs.declared.command.Command.TheVariants.{Add, Run, Supers, Subs, Instances, Why, WhyIndividual, Dot, Query, Status}
+use Rattle.speech.specs.declared.command.Command.TheVariants.{Add, Run, Supers, Subs, Instances, Why, WhyIndividual, Dot, WhyReached, WhyIndividualReached, DotReached, Query, Status}
 use Rattle.speech.specs.declared.line.LineFault.{LineFault}
 use Rattle.speech.specs.declared.line.LineFault.TheVariants as faults
 use Rattle.speech.specs.declared.words.Words.{Words}
-use Rattle.speech.specs.declared.words.Words.TheVariants.{One, Two, Three, More}
+use Rattle.speech.specs.declared.words.Words.TheVariants.{One, Two, Three, Four, More}
 
 -- the words of a line, which stand between its spaces
 abbrev pub split_words : List ℕ → List (List ℕ)
@@ -24,6 +24,9 @@ words_of (Instances class) = codes "instances" ∷ class.now ∷ []
 words_of (Why subject class) = codes "why" ∷ subject.now ∷ class.now ∷ []
 words_of (WhyIndividual subject class) = codes "why-individual" ∷ subject.now ∷ class.now ∷ []
 words_of (Dot subject class) = codes "dot" ∷ subject.now ∷ class.now ∷ []
+words_of (WhyReached subject class) = codes "why" ∷ subject.now ∷ class.now ∷ codes "reached" ∷ []
+words_of (WhyIndividualReached subject class) = codes "why-individual" ∷ subject.now ∷ class.now ∷ codes "reached" ∷ []
+words_of (DotReached subject class) = codes "dot" ∷ subject.now ∷ class.now ∷ codes "reached" ∷ []
 words_of (Query size) = codes "query" ∷ decimal size ∷ []
 words_of Status = codes "status" ∷ []
 
@@ -73,7 +76,8 @@ abbrev pub AreWords : Words → List (List ℕ) → Type 0
 AreWords (One a) words = words ≡ a.now ∷ []
 AreWords (Two a b) words = words ≡ a.now ∷ b.now ∷ []
 AreWords (Three a b c) words = words ≡ a.now ∷ b.now ∷ c.now ∷ []
-AreWords More words = (a b c d : List ℕ) × (rest : List (List ℕ)) × (words ≡ a ∷ b ∷ c ∷ d ∷ rest)
+AreWords (Four a b c d) words = words ≡ a.now ∷ b.now ∷ c.now ∷ d.now ∷ []
+AreWords More words = (a b c d e : List ℕ) × (rest : List (List ℕ)) × (words ≡ a ∷ b ∷ c ∷ d ∷ e ∷ rest)
 
 -- the command that has the words, or that there is none
 abbrev pub IsCommandOf : List (List ℕ) → Option Command → Type 0

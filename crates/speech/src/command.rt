@@ -21,6 +21,12 @@ pub enum Command<'l> {
     WhyIndividual(&'l str, &'l str),
     /// The same of two classes as `Why`, as a graph.
     Dot(&'l str, &'l str),
+    /// The same as `Why`, where a refutation has the elements alone that are reached.
+    WhyReached(&'l str, &'l str),
+    /// The same as `WhyIndividual`, where a refutation has the elements alone that are reached.
+    WhyIndividualReached(&'l str, &'l str),
+    /// The same as `Dot`, where a refutation has the elements alone that are reached.
+    DotReached(&'l str, &'l str),
     /// The names of the class expression of a text of so many bytes.
     Query(u64),
     /// How many facts there are, how many are served, and how many bytes.

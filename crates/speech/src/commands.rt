@@ -58,6 +58,28 @@ fn command_with_words<'l>(verb: &str, subject: &'l str, class: &'l str) -> Optio
     }
 }
 
+/// The command of four words, of which the last asks for what is reached.
+fn command_of_reached<'l>(
+    verb: &str,
+    subject: &'l str,
+    class: &'l str,
+    last: &str,
+) -> Option<Command<'l>>
+    ensures { IsCommandOf (verb.now ∷ subject.now ∷ class.now ∷ last.now ∷ []) result }
+{
+    if last != "reached" {
+        None
+    } else if verb == "why" {
+        Some(Command::WhyReached(subject, class))
+    } else if verb == "why-individual" {
+        Some(Command::WhyIndividualReached(subject, class))
+    } else if verb == "dot" {
+        Some(Command::DotReached(subject, class))
+    } else {
+        None
+    }
+}
+
 /// The command that the line is, without its line feed.
 pub fn command_of(line: &str) -> Option<Command<'_>>
     ensures some { IfSome result (Spells line.now) }
@@ -70,6 +92,7 @@ pub fn command_of(line: &str) -> Option<Command<'_>>
         Words::One(verb) => command_alone(verb),
         Words::Two(verb, word) => command_with_word(verb, word),
         Words::Three(verb, subject, class) => command_with_words(verb, subject, class),
+        Words::Four(verb, subject, class, last) => command_of_reached(verb, subject, class, last),
         Words::More => None,
     }
 }

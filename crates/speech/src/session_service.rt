@@ -146,6 +146,15 @@ impl SessionService {
                 self.why(Asked::Individual(subject), class, Form::Lines)
             }
             Command::Dot(subject, class) => self.why(Asked::Class(subject), class, Form::Graph),
+            Command::WhyReached(subject, class) => {
+                self.why(Asked::Class(subject), class, Form::Reached)
+            }
+            Command::WhyIndividualReached(subject, class) => {
+                self.why(Asked::Individual(subject), class, Form::Reached)
+            }
+            Command::DotReached(subject, class) => {
+                self.why(Asked::Class(subject), class, Form::ReachedGraph)
+            }
             Command::Query(_) => self.query(payload),
             Command::Status => self.status(),
         }

@@ -7,6 +7,7 @@ pub(crate) enum Words<'l> {
     One(&'l str),
     Two(&'l str, &'l str),
     Three(&'l str, &'l str, &'l str),
+    Four(&'l str, &'l str, &'l str, &'l str),
     More,
 }
 
@@ -20,8 +21,11 @@ pub(crate) fn words_in(line: &str) -> Words<'_>
     let Some((second, others)) = others.split_once(' ') else {
         return Words::Two(first, others);
     };
+    let Some((third, others)) = others.split_once(' ') else {
+        return Words::Three(first, second, others);
+    };
     match others.split_once(' ') {
         Some(_) => Words::More,
-        None => Words::Three(first, second, others),
+        None => Words::Four(first, second, third, others),
     }
 }

@@ -13,6 +13,8 @@ subs x:A
 instances x:A
 supers x:Q
 supers
+why x:B x:A reached
+why x:B x:A all
 add 35
 SubClassOf(:B :C)
 SubClassOf(:C :D)
@@ -44,6 +46,14 @@ ok 46
 ok 0
 no 2 19
 unknown name <x:Q>
+no 2 16
+unknown command
+ok 45
+no
+domain 1
+class <x:B> 0
+element 0
+others 0
 no 2 16
 unknown command
 ok 0
