@@ -18,7 +18,7 @@ use Rattle.program.specs.declared.version.Version.{Version}
 use Rattle.shapes.specs.Faults.{axiom_faults, document_faults}
 use Rattle.session.proofs.AnyVersion.{document_states, texts_state}
 use Rattle.session.specs.Additions.{IsAddition}
-use Rattle.session.specs.Edits.{Call, Add, Resume, Superclasses, Subclasses, Instances, Explain, Query, Write, Reply, Added, Resumed, Named, Explained, Found, Written, IsCall, AreCalls, IsSessionOver, IsOneDocument, AreStatedBy, accepted, added, bytes_of, EditsAreOneDocument, AcceptedAlikeEndAlike, FinishedIsClosureOfAccepted}
+use Rattle.session.specs.Edits.{Call, Add, Resume, Superclasses, Subclasses, Equivalents, Parents, Children, Instances, Explain, Query, Write, Reply, Added, Resumed, Named, Grouped, Explained, Found, Written, IsCall, AreCalls, IsSessionOver, IsOneDocument, AreStatedBy, accepted, added, bytes_of, EditsAreOneDocument, AcceptedAlikeEndAlike, FinishedIsClosureOfAccepted}
 use Rattle.session.specs.Sessions.{IsSession, KeepsText, Opened}
 
 -- ---- texts one behind the other
@@ -108,6 +108,12 @@ one_call version bytes texts old (Superclasses class) (Named (Ok names)) new h i
 one_call version bytes texts old (Superclasses class) (Named (Err fault)) new h is session = stays version bytes texts old new h is.1
 one_call version bytes texts old (Subclasses class) (Named (Ok names)) new h is session = stays version bytes texts old new h is.2
 one_call version bytes texts old (Subclasses class) (Named (Err fault)) new h is session = stays version bytes texts old new h is.1
+one_call version bytes texts old (Equivalents class) (Named (Ok names)) new h is session = stays version bytes texts old new h is.2
+one_call version bytes texts old (Equivalents class) (Named (Err fault)) new h is session = stays version bytes texts old new h is.1
+one_call version bytes texts old (Parents class) (Grouped (Ok groups)) new h is session = stays version bytes texts old new h is.2
+one_call version bytes texts old (Parents class) (Grouped (Err fault)) new h is session = stays version bytes texts old new h is.1
+one_call version bytes texts old (Children class) (Grouped (Ok groups)) new h is session = stays version bytes texts old new h is.2
+one_call version bytes texts old (Children class) (Grouped (Err fault)) new h is session = stays version bytes texts old new h is.1
 one_call version bytes texts old (Instances class) (Named (Ok names)) new h is session = stays version bytes texts old new h is.2
 one_call version bytes texts old (Instances class) (Named (Err fault)) new h is session = stays version bytes texts old new h is.1
 one_call version bytes texts old (Explain asked class) (Explained (Ok explanation)) new h is session = stays version bytes texts old new h is.2

@@ -15,6 +15,7 @@ use Rattle.engine.specs.Saturations.{IsFinished}
 use Rattle.answers.specs.Explanations.{IsKnown}
 use Rattle.answers.specs.Entailment.{BelongsTo, LiesBelow}
 use Rattle.answers.specs.Names.{AreThose}
+use Rattle.answers.specs.Neighbours.{AreGroups, AreSame, LiesDirectlyBelow}
 use Rattle.answers.specs.declared.asked.Asked.{Asked}
 use Rattle.answers.specs.declared.asked.Asked.TheVariants as subjects
 use Rattle.session.specs.Sessions.{Opened}
@@ -45,6 +46,18 @@ AreSuperclasses o class names = AreThose o.names.classes (LiesBelow o class) nam
 -- these are the named classes that lie below the class, each once and in byte order
 abbrev pub AreSubclasses : Ontology → (class : Iri) → (names : List Iri) → Type 0
 AreSubclasses o class names = AreThose o.names.classes (λ name. LiesBelow o name class) names
+
+-- these are the named classes that are the same as the class, each once and in byte order
+abbrev pub AreEquivalents : Ontology → (class : Iri) → (names : List Iri) → Type 0
+AreEquivalents o class names = AreThose o.names.classes (AreSame o class) names
+
+-- these are the named classes that lie directly above the class, in groups of those that are the same
+abbrev pub AreParents : Ontology → (class : Iri) → (groups : List (List Iri)) → Type 0
+AreParents o class groups = AreGroups o (LiesDirectlyBelow o class) groups
+
+-- these are the named classes that lie directly below the class, in groups of those that are the same
+abbrev pub AreChildren : Ontology → (class : Iri) → (groups : List (List Iri)) → Type 0
+AreChildren o class groups = AreGroups o (λ name. LiesDirectlyBelow o name class) groups
 
 -- these are the individuals that belong to the class, each once and in byte order
 abbrev pub AreInstances : Ontology → (class : Iri) → (names : List Iri) → Type 0

@@ -24,7 +24,7 @@ use Rattle.profile.specs.Statements.{statements}
 use Rattle.profile.specs.declared.fault.DocumentFault.{DocumentFault}
 use Rattle.program.specs.declared.version.Version.{Version}
 use Rattle.session.specs.Additions.{IsAddition, IsRefusedAddition}
-use Rattle.session.specs.Answers.{AreInstances, AreSubclasses, AreSuperclasses, HasClass, HasNames, IsClassRefusal, IsExplainRefusal, IsMade, IsWritten}
+use Rattle.session.specs.Answers.{AreChildren, AreEquivalents, AreInstances, AreParents, AreSubclasses, AreSuperclasses, HasClass, HasNames, IsClassRefusal, IsExplainRefusal, IsMade, IsWritten}
 use Rattle.session.specs.Classifications.{IsClassified}
 use Rattle.session.specs.Queries.{IsQueryAnswer, IsQueryRefusal, NamesFound}
 use Rattle.session.specs.Sessions.{IsOpen, IsSession, KeepsText, Opened, as_read}
@@ -42,6 +42,9 @@ pub data Call : Type 0 where
   Resume : (max_facts : ℕ) → Call
   Superclasses : (class : Iri) → Call
   Subclasses : (class : Iri) → Call
+  Equivalents : (class : Iri) → Call
+  Parents : (class : Iri) → Call
+  Children : (class : Iri) → Call
   Instances : (class : Iri) → Call
   Explain : (asked : Asked) (class : Iri) → Call
   Query : (text : List ℕ) (max_facts : ℕ) → Call
@@ -52,6 +55,7 @@ pub data Reply : Type 0 where
   Added : Result (Unit {0}) DocumentFault → Reply
   Resumed : Result (Unit {0}) Stop → Reply
   Named : Result (List Iri) AskFault → Reply
+  Grouped : Result (List (List Iri)) AskFault → Reply
   Explained : Result Explanation AskFault → Reply
   Found : Result NamesFound QueryFault → Reply
   Written : (after : Sinks) → Result Summary TextFault → Reply
@@ -66,6 +70,12 @@ IsCall old (Superclasses class) (Named (Ok names)) new = HasClass old class × A
 IsCall old (Superclasses class) (Named (Err fault)) new = IsClassRefusal old class fault × (new ≡ old)
 IsCall old (Subclasses class) (Named (Ok names)) new = HasClass old class × AreSubclasses old.ontology class names × (new ≡ old)
 IsCall old (Subclasses class) (Named (Err fault)) new = IsClassRefusal old class fault × (new ≡ old)
+IsCall old (Equivalents class) (Named (Ok names)) new = HasClass old class × AreEquivalents old.ontology class names × (new ≡ old)
+IsCall old (Equivalents class) (Named (Err fault)) new = IsClassRefusal old class fault × (new ≡ old)
+IsCall old (Parents class) (Grouped (Ok groups)) new = HasClass old class × AreParents old.ontology class groups × (new ≡ old)
+IsCall old (Parents class) (Grouped (Err fault)) new = IsClassRefusal old class fault × (new ≡ old)
+IsCall old (Children class) (Grouped (Ok groups)) new = HasClass old class × AreChildren old.ontology class groups × (new ≡ old)
+IsCall old (Children class) (Grouped (Err fault)) new = IsClassRefusal old class fault × (new ≡ old)
 IsCall old (Instances class) (Named (Ok names)) new = HasClass old class × AreInstances old.ontology class names × (new ≡ old)
 IsCall old (Instances class) (Named (Err fault)) new = IsClassRefusal old class fault × (new ≡ old)
 IsCall old (Explain asked class) (Explained (Ok explanation)) new = HasNames old asked class × Explains old.ontology asked class explanation × (new ≡ old)

@@ -1,5 +1,5 @@
 -- What a text answers about a document, and what a fault says where there is none.
-use Rattle.std.specs.Prelude.{◌≡◌, ◌⊎◌, ◌++◌, ℕ, List, [], Option, Result, Ok, Err, codes}
+use Rattle.std.specs.Prelude.{◌≡◌, ◌⊎◌, ◌++◌, ◌∷◌, ℕ, List, [], Option, Result, Ok, Err, codes}
 use Rattle.std.specs.List.{Contains, flat_map}
 use Rattle.answer_texts.specs.Graphs.{proof_graph, refutation_graph}
 use Rattle.answer_texts.specs.Names.{line_feed, name_text}
@@ -42,6 +42,19 @@ pub record IsReadAs (version : Version) (most_bytes : ℕ) (document : Option (L
 -- a line for each name, behind the word
 abbrev pub name_lines : (word : List ℕ) → List Iri → List ℕ
 name_lines word names = flat_map (λ name. word ++ name_text name ++ line_feed) names
+
+-- a name behind another
+abbrev pub later_name : Iri → List ℕ
+later_name name = codes " = " ++ name_text name
+
+-- the names of a group, one behind the other
+abbrev pub group_text : List Iri → List ℕ
+group_text [] = []
+group_text (name ∷ names) = name_text name ++ flat_map later_name names
+
+-- a line for each group
+abbrev pub group_lines : List (List Iri) → List ℕ
+group_lines groups = flat_map (λ group. group_text group ++ line_feed) groups
 
 -- the ontology has the class, and the lines are of exactly the individuals that belong to it in every finite interpretation of the
 -- axioms, each once and in byte order
