@@ -85,6 +85,9 @@ class Session:
     def names(self, line):
         return [name[1:-1] for name in self.command(line).splitlines()]
 
+    def groups(self, line):
+        return [[name[1:-1] for name in group.split(" = ")] for group in self.command(line).splitlines()]
+
     def counts(self, line):
         words = self.command(line).split()
         return {word: int(number) for word, number in zip(words[::2], words[1::2])}
@@ -108,6 +111,18 @@ class Session:
     def subs(self, iri):
         """The classes below the class, in byte order."""
         return self.names(f"subs {iri}")
+
+    def equivalents(self, iri):
+        """The classes that are the same as the class, the class among them, in byte order."""
+        return self.names(f"equivalents {iri}")
+
+    def parents(self, iri):
+        """The classes directly above the class, in groups of those that are the same."""
+        return self.groups(f"parents {iri}")
+
+    def children(self, iri):
+        """The classes directly below the class, in groups of those that are the same."""
+        return self.groups(f"children {iri}")
 
     def instances(self, iri):
         """The individuals of the class, in byte order."""

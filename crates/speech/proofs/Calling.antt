@@ -4,6 +4,7 @@ use Rattle.std.specs.Borrow.{Bor}
 use Rattle.std.specs.Global.{Vec}
 use Rattle.std.specs.Str.{IsUtf8, IsValidUpTo}
 use Rattle.answers.specs.Explanations.{Explains}
+use Rattle.answers.specs.Names.{groups_in}
 use Rattle.answers.specs.declared.asked.Asked.{Asked}
 use Rattle.answers.specs.declared.explanation.Explanation.{Explanation}
 use Rattle.axioms.specs.Expression.{Iri}
@@ -11,9 +12,9 @@ use Rattle.axioms.specs.Ontology.{Ontology}
 use Rattle.profile.specs.declared.fault.DocumentFault.TheVariants.{NotUtf8}
 use Rattle.program.specs.declared.limits.Limits.{Limits}
 use Rattle.program.specs.declared.status.Status.{Status}
-use Rattle.session.specs.Answers.{AreInstances, AreSubclasses, AreSuperclasses, HasClass, HasNames, IsClassRefusal, IsExplainRefusal}
+use Rattle.session.specs.Answers.{AreChildren, AreEquivalents, AreInstances, AreParents, AreSubclasses, AreSuperclasses, HasClass, HasNames, IsClassRefusal, IsExplainRefusal}
 use Rattle.session.specs.Edits as edits
-use Rattle.session.specs.Edits.{Call, Explain, Explained, Found, Instances, IsCall, Named, Query, Subclasses, Superclasses, added}
+use Rattle.session.specs.Edits.{Call, Children, Equivalents, Explain, Explained, Found, Grouped, Instances, IsCall, Named, Parents, Query, Subclasses, Superclasses, added}
 use Rattle.session.specs.Queries.{IsQueryAnswer, IsQueryRefusal, names_in}
 use Rattle.session.specs.Sessions.{Opened}
 use Rattle.session.specs.declared.fault.AskFault.{AskFault}
@@ -22,7 +23,7 @@ use Rattle.session.specs.declared.form.Form.TheVariants.{Lines}
 use Rattle.session.specs.declared.query_fault.QueryFault.{QueryFault}
 use Rattle.session.specs.declared.querying.Answers.{Answers}
 use Rattle.session.specs.declared.question_fault.QuestionFault.TheVariants as faults
-use Rattle.speech.specs.Answers.{IsAnswerTold, IsCalled, IsExplainedTold, IsFaultTold, IsSaid, IsTextCalled, Tells, found, named}
+use Rattle.speech.specs.Answers.{IsAnswerTold, IsCalled, IsExplainedTold, IsFaultTold, IsSaid, IsTextCalled, Tells, found, grouped, named}
 use Rattle.speech.specs.Replies.{Told, out_of_memory, told, told_by}
 use Rattle.speech.specs.declared.reply.Reply.{Reply}
 
@@ -52,6 +53,21 @@ pub sub_call : (s : Opened) (class : Iri) (r : Result (Vec (Bor (List ℕ))) Ask
     → IfErr r (IsClassRefusal s class) → IsCall s (Subclasses class) (Named (named r)) s
 sub_call s class (Ok v) exact asked refused = (asked, exact, refl)
 sub_call s class (Err fault) exact asked refused = (refused, refl)
+
+pub equivalents_call : (s : Opened) (class : Iri) (r : Result (Vec (Bor (List ℕ))) AskFault) → IfOk r (λ v. AreEquivalents s.ontology class (map (λ n. n.now) v.items)) → OnOk r (HasClass s class)
+    → IfErr r (IsClassRefusal s class) → IsCall s (Equivalents class) (Named (named r)) s
+equivalents_call s class (Ok v) exact asked refused = (asked, exact, refl)
+equivalents_call s class (Err fault) exact asked refused = (refused, refl)
+
+pub parents_call : (s : Opened) (class : Iri) (r : Result (Vec (Vec (Bor (List ℕ)))) AskFault) → IfOk r (λ v. AreParents s.ontology class (groups_in v.items)) → OnOk r (HasClass s class)
+    → IfErr r (IsClassRefusal s class) → IsCall s (Parents class) (Grouped (grouped r)) s
+parents_call s class (Ok v) exact asked refused = (asked, exact, refl)
+parents_call s class (Err fault) exact asked refused = (refused, refl)
+
+pub children_call : (s : Opened) (class : Iri) (r : Result (Vec (Vec (Bor (List ℕ)))) AskFault) → IfOk r (λ v. AreChildren s.ontology class (groups_in v.items)) → OnOk r (HasClass s class)
+    → IfErr r (IsClassRefusal s class) → IsCall s (Children class) (Grouped (grouped r)) s
+children_call s class (Ok v) exact asked refused = (asked, exact, refl)
+children_call s class (Err fault) exact asked refused = (refused, refl)
 
 pub instances_call : (s : Opened) (class : Iri) (r : Result (Vec (Bor (List ℕ))) AskFault) → IfOk r (λ v. AreInstances s.ontology class (map (λ n. n.now) v.items)) → OnOk r (HasClass s class)
     → IfErr r (IsClassRefusal s class) → IsCall s (Instances class) (Named (named r)) s

@@ -10,7 +10,7 @@ use Rattle.profile.specs.declared.fault.DocumentFault.{DocumentFault}
 use Rattle.profile.specs.declared.fault.DocumentFault.TheVariants as reading
 use Rattle.session.proofs.Calls.{edits_are_one_document}
 use Rattle.session.specs.Edits as calls
-use Rattle.session.specs.Edits.{Call, Reply, Add, Added, Resumed, Named, Explained, Found, Written, AreCalls, IsCall, IsOneDocument, IsSessionOver, accepted, added}
+use Rattle.session.specs.Edits.{Call, Reply, Add, Added, Resumed, Named, Grouped, Explained, Found, Written, AreCalls, IsCall, IsOneDocument, IsSessionOver, accepted, added}
 use Rattle.session.specs.Sessions.{IsSession, Opened}
 use Rattle.session.specs.declared.form.Form.TheVariants.{Lines}
 use Rattle.session.specs.declared.question_fault.QuestionFault.TheVariants as faults
@@ -55,6 +55,7 @@ add_tells limits size payload old new t (Added (Err fault)) h (inl tells) = sym 
 add_tells limits size payload old new t (Added (Err fault)) h (inr (none, is)) = sym (refused limits size payload fault t (inr is))
 add_tells limits size payload old new t (Resumed answer) h told = absurd h
 add_tells limits size payload old new t (Named answer) h told = absurd h
+add_tells limits size payload old new t (Grouped answer) h told = absurd h
 add_tells limits size payload old new t (Explained answer) h told = absurd h
 add_tells limits size payload old new t (Found answer) h told = absurd h
 add_tells limits size payload old new t (Written after answer) h told = absurd h
@@ -66,10 +67,16 @@ does limits old new (asked.Add size) payload t (inr (at, none, valid, said)) = S
 does limits old new asked.Run payload t h = Calls (calls.Resume limits.max_facts) h.reply h.called refl
 does limits old new (asked.Supers class) payload t h = Calls (calls.Superclasses class.now) h.reply h.called refl
 does limits old new (asked.Subs class) payload t h = Calls (calls.Subclasses class.now) h.reply h.called refl
+does limits old new (asked.Equivalents class) payload t h = Calls (calls.Equivalents class.now) h.reply h.called refl
+does limits old new (asked.Parents class) payload t h = Calls (calls.Parents class.now) h.reply h.called refl
+does limits old new (asked.Children class) payload t h = Calls (calls.Children class.now) h.reply h.called refl
 does limits old new (asked.Instances class) payload t h = Calls (calls.Instances class.now) h.reply h.called refl
 does limits old new (asked.Why subject class) payload t h = Calls (calls.Explain (subjects.Class subject) class.now) h.reply h.called refl
 does limits old new (asked.WhyIndividual subject class) payload t h = Calls (calls.Explain (subjects.Individual subject) class.now) h.reply h.called refl
 does limits old new (asked.Dot subject class) payload t h = Calls (calls.Explain (subjects.Class subject) class.now) h.reply h.called refl
+does limits old new (asked.WhyReached subject class) payload t h = Calls (calls.Explain (subjects.Class subject) class.now) h.reply h.called refl
+does limits old new (asked.WhyIndividualReached subject class) payload t h = Calls (calls.Explain (subjects.Individual subject) class.now) h.reply h.called refl
+does limits old new (asked.DotReached subject class) payload t h = Calls (calls.Explain (subjects.Class subject) class.now) h.reply h.called refl
 does limits old new (asked.Query size) payload t (inl h) = Calls (calls.Query payload limits.max_facts) h.reply h.called refl
 does limits old new (asked.Query size) payload t (inr (at, none, valid, said)) = Stays said.0 refl
 does limits old new asked.Status payload t (same, told) = Stays same refl

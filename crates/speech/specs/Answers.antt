@@ -4,6 +4,7 @@ use Rattle.std.specs.Fmt.{decimal}
 use Rattle.std.specs.Str.{IsUtf8, IsValidUpTo}
 use Rattle.std.specs.Global.{Vec}
 use Rattle.std.specs.Borrow.{Bor}
+use Rattle.answers.specs.Names.{groups_in}
 use Rattle.answers.specs.declared.asked.Asked.TheVariants as subjects
 use Rattle.answers.specs.declared.explanation.Explanation.{Explanation}
 use Rattle.axioms.specs.Expression.{Iri}
@@ -12,10 +13,10 @@ use Rattle.inference.specs.declared.known_facts.Stop.TheVariants as stops
 use Rattle.profile.specs.declared.fault.DocumentFault.TheVariants.{NotUtf8}
 use Rattle.program.specs.declared.limits.Limits.{Limits}
 use Rattle.program.specs.declared.status.Status.TheVariants as statuses
-use Rattle.session.specs.Edits.{Call, Reply, Add, Resume, Superclasses, Subclasses, Instances, Explain, Query, Added, Resumed, Named, Explained, Found, Written, IsCall, added}
+use Rattle.session.specs.Edits.{Call, Reply, Add, Resume, Superclasses, Subclasses, Equivalents, Parents, Children, Instances, Explain, Query, Added, Resumed, Named, Grouped, Explained, Found, Written, IsCall, added}
 use Rattle.session.specs.Queries.{NamesFound, names_in}
 use Rattle.session.specs.Sessions.{IsSession, Opened}
-use Rattle.session.specs.TextAnswers.{IsShown, name_lines, query_lines}
+use Rattle.session.specs.TextAnswers.{IsShown, group_lines, name_lines, query_lines}
 use Rattle.session.specs.declared.fault.AskFault.{AskFault}
 use Rattle.session.specs.declared.fault.AskFault.TheVariants as asking
 use Rattle.session.specs.declared.form.Form.{Form}
@@ -69,10 +70,14 @@ IsQueryTold limits (querying.Expression fault) t = IsFaultTold limits (faults.Ex
 IsQueryTold limits querying.Limit t = IsFaultTold limits faults.Limit t
 IsQueryTold limits querying.Memory t = t ≡ out_of_memory
 
--- what is told of names, of an explanation and of the names of a class expression, or where there are none
+-- what is told of names, of groups of names, of an explanation and of the names of a class expression, or where there are none
 abbrev pub IsNamedTold : Limits → Result (List Iri) AskFault → Told → Type 0
 IsNamedTold limits (Ok names) t = t ≡ done (name_lines [] names)
 IsNamedTold limits (Err fault) t = IsAskTold limits fault t
+
+abbrev pub IsGroupedTold : Limits → Result (List (List Iri)) AskFault → Told → Type 0
+IsGroupedTold limits (Ok groups) t = t ≡ done (group_lines groups)
+IsGroupedTold limits (Err fault) t = IsAskTold limits fault t
 
 abbrev pub IsExplainedTold : Limits → Ontology → Form → Result Explanation AskFault → Told → Type 0
 IsExplainedTold limits o form (Ok explanation) t = IsShown o form explanation t.text × (t.status ≡ statuses.Done)
@@ -86,6 +91,10 @@ IsFoundTold limits (Err fault) t = IsQueryTold limits fault t
 abbrev pub named : Result (Vec (Bor (List ℕ))) AskFault → Result (List Iri) AskFault
 named (Ok names) = Ok (map (λ name. name.now) names.items)
 named (Err fault) = Err fault
+
+abbrev pub grouped : Result (Vec (Vec (Bor (List ℕ)))) AskFault → Result (List (List Iri)) AskFault
+grouped (Ok groups) = Ok (groups_in groups.items)
+grouped (Err fault) = Err fault
 
 abbrev pub found : Result Answers QueryFault → Result NamesFound QueryFault
 found (Ok answers) = Ok (names_in answers)
@@ -107,6 +116,7 @@ IsAnswerTold limits form s (Resumed (Ok _)) t = t ≡ done (run_text s)
 IsAnswerTold limits form s (Resumed (Err stops.Limit)) t = IsFaultTold limits faults.Limit t
 IsAnswerTold limits form s (Resumed (Err stops.Memory)) t = t ≡ out_of_memory
 IsAnswerTold limits form s (Named answer) t = IsNamedTold limits answer t
+IsAnswerTold limits form s (Grouped answer) t = IsGroupedTold limits answer t
 IsAnswerTold limits form s (Explained answer) t = IsExplainedTold limits s.ontology form answer t
 IsAnswerTold limits form s (Found answer) t = IsFoundTold limits answer t
 IsAnswerTold limits form s (Written after answer) t = ⊥
@@ -135,6 +145,9 @@ IsStep limits old (asked.Add size) payload t new = IsTextCalled limits Add paylo
 IsStep limits old asked.Run payload t new = IsCalled limits Lines (Resume limits.max_facts) old t new
 IsStep limits old (asked.Supers class) payload t new = IsCalled limits Lines (Superclasses class.now) old t new
 IsStep limits old (asked.Subs class) payload t new = IsCalled limits Lines (Subclasses class.now) old t new
+IsStep limits old (asked.Equivalents class) payload t new = IsCalled limits Lines (Equivalents class.now) old t new
+IsStep limits old (asked.Parents class) payload t new = IsCalled limits Lines (Parents class.now) old t new
+IsStep limits old (asked.Children class) payload t new = IsCalled limits Lines (Children class.now) old t new
 IsStep limits old (asked.Instances class) payload t new = IsCalled limits Lines (Instances class.now) old t new
 IsStep limits old (asked.Why subject class) payload t new = IsCalled limits Lines (Explain (subjects.Class subject) class.now) old t new
 IsStep limits old (asked.WhyIndividual subject class) payload t new = IsCalled limits Lines (Explain (subjects.Individual subject) class.now) old t new

@@ -4,7 +4,7 @@ use Rattle.std.specs.Fmt.{decimal}
 use Rattle.std.specs.List.{slice_split}
 use Rattle.std.specs.Str.{IsUtf8}
 use Rattle.speech.specs.declared.command.Command.{Command}
-use Rattle.speech.specs.declared.command.Command.TheVariants.{Add, Run, Supers, Subs, Instances, Why, WhyIndividual, Dot, WhyReached, WhyIndividualReached, DotReached, Query, Status}
+use Rattle.speech.specs.declared.command.Command.TheVariants.{Add, Run, Supers, Subs, Equivalents, Parents, Children, Instances, Why, WhyIndividual, Dot, WhyReached, WhyIndividualReached, DotReached, Query, Status}
 use Rattle.speech.specs.declared.line.LineFault.{LineFault}
 use Rattle.speech.specs.declared.line.LineFault.TheVariants as faults
 use Rattle.speech.specs.declared.words.Words.{Words}
@@ -20,6 +20,9 @@ words_of (Add size) = codes "add" ∷ decimal size ∷ []
 words_of Run = codes "run" ∷ []
 words_of (Supers class) = codes "supers" ∷ class.now ∷ []
 words_of (Subs class) = codes "subs" ∷ class.now ∷ []
+words_of (Equivalents class) = codes "equivalents" ∷ class.now ∷ []
+words_of (Parents class) = codes "parents" ∷ class.now ∷ []
+words_of (Children class) = codes "children" ∷ class.now ∷ []
 words_of (Instances class) = codes "instances" ∷ class.now ∷ []
 words_of (Why subject class) = codes "why" ∷ subject.now ∷ class.now ∷ []
 words_of (WhyIndividual subject class) = codes "why-individual" ∷ subject.now ∷ class.now ∷ []

@@ -1,6 +1,6 @@
 //! What a session answers, as replies.
 ghost use Rattle.session.specs.Texts.{HasText};
-ghost use Rattle.speech.specs.Answers.{IsAskTold, IsDoneWith, IsExplainedTold, IsFaultTold, IsFoundTold, IsNamedTold, IsQueryTold, Tells, found, named, unfinished};
+ghost use Rattle.speech.specs.Answers.{IsAskTold, IsDoneWith, IsExplainedTold, IsFaultTold, IsFoundTold, IsGroupedTold, IsNamedTold, IsQueryTold, Tells, found, grouped, named, unfinished};
 ghost use Rattle.std.specs.Prelude.{◌≡◌, IfOk};
 
 use crate::messages::question_message;
@@ -11,7 +11,7 @@ use profile::Limits;
 use program::Status;
 use session::{
     Answers, AskFault, Explanation, Form, QueryFault, QuestionFault, lines_of_answers,
-    lines_of_names, shown_explanation,
+    lines_of_groups, lines_of_names, shown_explanation,
 };
 use std::alloc::Global;
 
@@ -103,6 +103,20 @@ pub(crate) fn names_reply(
 {
     match names {
         Ok(names) => done_with(lines_of_names(alloc, &names)),
+        Err(fault) => ask_reply(alloc, limits, fault),
+    }
+}
+
+/// The reply with groups of names, a line each.
+pub(crate) fn groups_reply(
+    alloc: Global,
+    limits: &Limits,
+    groups: Result<Vec<Vec<&str>>, AskFault<'_>>,
+) -> Result<Reply, Memory>
+    ensures { Tells (IsGroupedTold limits.now (grouped groups.entry)) result }
+{
+    match groups {
+        Ok(groups) => done_with(lines_of_groups(alloc, &groups)),
         Err(fault) => ask_reply(alloc, limits, fault),
     }
 }

@@ -13,6 +13,12 @@ pub enum Command<'l> {
     Supers(&'l str),
     /// The classes below a class.
     Subs(&'l str),
+    /// The classes that are the same as a class.
+    Equivalents(&'l str),
+    /// The classes directly above a class.
+    Parents(&'l str),
+    /// The classes directly below a class.
+    Children(&'l str),
     /// The individuals of a class.
     Instances(&'l str),
     /// Why the first class is below the second, or why not.

@@ -36,6 +36,12 @@ fn command_with_word<'l>(verb: &str, word: &'l str) -> Option<Command<'l>>
         Some(Command::Supers(word))
     } else if verb == "subs" {
         Some(Command::Subs(word))
+    } else if verb == "equivalents" {
+        Some(Command::Equivalents(word))
+    } else if verb == "parents" {
+        Some(Command::Parents(word))
+    } else if verb == "children" {
+        Some(Command::Children(word))
     } else if verb == "instances" {
         Some(Command::Instances(word))
     } else {

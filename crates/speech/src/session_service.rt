@@ -1,6 +1,6 @@
 //! A session that answers commands.
 ghost use Rattle.answers.specs.declared.asked.Asked.TheVariants as subjects;
-ghost use Rattle.session.specs.Edits.{Add, Explain, Instances, Query, Resume, Subclasses, Superclasses};
+ghost use Rattle.session.specs.Edits.{Add, Children, Equivalents, Explain, Instances, Parents, Query, Resume, Subclasses, Superclasses};
 ghost use Rattle.session.specs.declared.form.Form.TheVariants.{Lines};
 ghost use Rattle.profile.specs.declared.fault.DocumentFault.TheVariants.{NotUtf8};
 ghost use Rattle.session.specs.declared.question_fault.QuestionFault.TheVariants as faults;
@@ -8,7 +8,9 @@ ghost use Rattle.speech.specs.Answers.{IsCalled, IsFaultTold, IsStep, IsTextCall
 ghost use Rattle.speech.specs.Replies.{told_by};
 ghost use Rattle.std.specs.Prelude.{◌≡◌};
 
-use crate::answering::{done_reply, explained_reply, fault_reply, found_reply, names_reply};
+use crate::answering::{
+    done_reply, explained_reply, fault_reply, found_reply, groups_reply, names_reply,
+};
 use crate::command::Command;
 use crate::reply::Reply;
 use crate::service::Service;
@@ -100,6 +102,24 @@ impl SessionService {
         names_reply(self.alloc, &self.limits, self.session.subclasses(class))
     }
 
+    fn equivalents(&self, class: &str) -> Result<Reply, Memory>
+        ensures { IsCalled self.now.limits Lines (Equivalents class.now) self.now.session (told_by result) self.now.session }
+    {
+        names_reply(self.alloc, &self.limits, self.session.equivalents(class))
+    }
+
+    fn parents(&self, class: &str) -> Result<Reply, Memory>
+        ensures { IsCalled self.now.limits Lines (Parents class.now) self.now.session (told_by result) self.now.session }
+    {
+        groups_reply(self.alloc, &self.limits, self.session.parents(class))
+    }
+
+    fn children(&self, class: &str) -> Result<Reply, Memory>
+        ensures { IsCalled self.now.limits Lines (Children class.now) self.now.session (told_by result) self.now.session }
+    {
+        groups_reply(self.alloc, &self.limits, self.session.children(class))
+    }
+
     fn instances(&self, class: &str) -> Result<Reply, Memory>
         ensures { IsCalled self.now.limits Lines (Instances class.now) self.now.session (told_by result) self.now.session }
     {
@@ -140,6 +160,9 @@ impl SessionService {
             Command::Run => self.run(),
             Command::Supers(class) => self.supers(class),
             Command::Subs(class) => self.subs(class),
+            Command::Equivalents(class) => self.equivalents(class),
+            Command::Parents(class) => self.parents(class),
+            Command::Children(class) => self.children(class),
             Command::Instances(class) => self.instances(class),
             Command::Why(subject, class) => self.why(Asked::Class(subject), class, Form::Lines),
             Command::WhyIndividual(subject, class) => {

@@ -82,10 +82,90 @@ F8 at byte 21
 F8 at byte 26
 ";
 
+/// What is asked about classes that are next to one another: of a document in which A and B are the same and lie below C and D, these
+/// below E, and F has no element; and of one in which F has one.
+const ASKED_NEXT: &str = "add 116
+SubClassOf(:B :A) SubClassOf(:B :C) SubClassOf(:B :D) SubClassOf(:C :E) SubClassOf(:D :E) SubClassOf(:F owl:Nothing)
+run
+equivalents x:A
+parents x:A
+parents x:C
+children x:C
+children x:E
+children x:B
+parents x:F
+equivalents x:F
+children http://www.w3.org/2002/07/owl#Thing
+parents http://www.w3.org/2002/07/owl#Thing
+parents x:Q
+add 21
+ClassAssertion(:F :a)
+children x:C
+run
+equivalents x:C
+parents x:A
+children x:C
+";
+
+/// What is replied.
+const REPLIED_NEXT: &str = "ok 0
+ok 9
+facts 26
+ok 12
+<x:A>
+<x:B>
+ok 12
+<x:C>
+<x:D>
+ok 6
+<x:E>
+ok 14
+<x:A> = <x:B>
+ok 12
+<x:C>
+<x:D>
+ok 48
+<http://www.w3.org/2002/07/owl#Nothing> = <x:F>
+ok 14
+<x:A> = <x:B>
+ok 46
+<http://www.w3.org/2002/07/owl#Nothing>
+<x:F>
+ok 6
+<x:E>
+ok 0
+no 2 19
+unknown name <x:Q>
+ok 0
+no 2 19
+not run to its end
+ok 9
+facts 29
+ok 114
+<http://www.w3.org/2002/07/owl#Nothing>
+<http://www.w3.org/2002/07/owl#Thing>
+<x:A>
+<x:B>
+<x:C>
+<x:D>
+<x:E>
+<x:F>
+ok 0
+ok 0
+";
+
 #[test]
 fn commands_are_answered(rt: HostRuntime) -> Result<(), Fail> {
     let (replied, ending) = talked(&rt, ASKED.as_bytes())?;
     assert_eq!(rt; replied.as_slice(), REPLIED.as_bytes());
+    assert_eq!(rt; ending, Ending::End);
+    Ok(())
+}
+
+#[test]
+fn next_classes_are_told(rt: HostRuntime) -> Result<(), Fail> {
+    let (replied, ending) = talked(&rt, ASKED_NEXT.as_bytes())?;
+    assert_eq!(rt; replied.as_slice(), REPLIED_NEXT.as_bytes());
     assert_eq!(rt; ending, Ending::End);
     Ok(())
 }
