@@ -20,6 +20,7 @@ pub(crate) const THING: Class2 = Class2::Expr(ExprId::THING);
 pub(crate) const NOTHING: Class2 = Class2::Expr(ExprId::NOTHING);
 
 /// The condition that the form stands in.
+#[inline(always)]
 pub(crate) fn condition_of(form: &Form) -> u8
     ensures { result ≡ condition form.now }
 {
@@ -72,6 +73,7 @@ fn from_one(closure: &PropertyClosure, form: &Form, first: Fact) -> Option<Fact>
 }
 
 /// What the form gives from two facts, in this order.
+#[inline(always)]
 fn from_two(closure: &PropertyClosure, form: &Form, first: Fact, second: Fact) -> Option<Fact>
     ensures { (k : Problem) (f : Fact2) → IsClosureOf k.forms closure.now → (result ≡ Some f) ↔ FromTwo k form.now first second f }
 {
@@ -156,6 +158,7 @@ pub(crate) fn at_linked_target(form: &Form, fact: Fact) -> Option<Fact>
 }
 
 /// What the form gives from the facts, in their order.
+#[inline(always)]
 pub(crate) fn conclusion(closure: &PropertyClosure, form: &Form, older: &[Fact]) -> Option<Fact>
     ensures { (k : Problem) (f : Fact2) → IsClosureOf k.forms closure.now → (result ≡ Some f) ↔ Concludes k form.now older.now f }
 {

@@ -7,6 +7,7 @@ use normal_forms::PropId2;
 use property_closure::PropertyClosure;
 
 /// Whether the two are one.
+#[inline(always)]
 fn is_same(p: PropId2, q: PropId2) -> bool
     ensures { IsTrue result ↔ (p ≡ q) }
 {
@@ -21,6 +22,7 @@ pub(crate) fn is_listed(list: &[PropId2], p: PropId2) -> bool
 }
 
 /// Whether p is q or lies below it, by the forms that the closure is of.
+#[inline(always)]
 pub(crate) fn is_below(closure: &PropertyClosure, p: PropId2, q: PropId2) -> bool
     ensures { (forms : List Form) → closure.now.forms ≡ property_forms forms → IsTrue result ↔ IsAtOrBelow forms p q }
 {

@@ -73,6 +73,7 @@ impl Rules<'_> {
     }
 
     /// Adds what the form of that number gives from the facts, whose numbers are given too.
+    #[inline(always)]
     pub(crate) fn draw_form(
         &self,
         facts: &mut KnownFacts,
@@ -94,6 +95,7 @@ impl Rules<'_> {
     }
 
     /// Adds what the listed forms give from the facts.
+    #[inline(always)]
     fn draw_listed(
         &self,
         facts: &mut KnownFacts,
@@ -112,6 +114,7 @@ impl Rules<'_> {
     }
 
     /// Adds what chains that begin with the property, or one above it, give from the facts.
+    #[inline(always)]
     pub(crate) fn draw_chains(
         &self,
         facts: &mut KnownFacts,
@@ -131,6 +134,7 @@ impl Rules<'_> {
     }
 
     /// Adds what all forms give from the facts, visiting those that are listed for them.
+    #[inline(always)]
     fn draw_forms(
         &self,
         facts: &mut KnownFacts,
