@@ -1,3 +1,4 @@
+pub mod Among
 pub mod Deciding
 pub mod Existing
 pub mod Following

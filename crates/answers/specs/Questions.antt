@@ -8,6 +8,7 @@ use Rattle.exactness.specs.ListedInterpretation.{IsConsistent}
 use Rattle.facts.specs.declared.contexts.Context.TheVariants as contexts
 use Rattle.facts.specs.declared.contexts.Fact.{Fact}
 use Rattle.facts.specs.declared.contexts.Fact.TheVariants.{In}
+use Rattle.indexes.specs.FactIndex.{IsIn}
 use Rattle.interpretation_spec.specs.Interpretation.{IsBelow, IsMember}
 use Rattle.normal_forms.specs.declared.forms.Class2.TheVariants.{Expr}
 use Rattle.answers.specs.Names.{IsMarked}
@@ -48,6 +49,12 @@ abbrev pub Answers : Ontology → Question → Fact → ℕ → Type 0
 Answers o (Above e) fact n = (f : ℕ) × IsClassAt o n f × PutsExpression fact e.0 f
 Answers o (Below e) fact n = (f : ℕ) × IsClassAt o n f × (PutsExpression fact f e.0 ⊎ PutsExpression fact f nothing)
 Answers o (Members e) fact n = PutsIndividual fact n e.0
+
+-- such facts alone may answer it: those that put a class into the expression that is asked about, or any
+abbrev pub MayAnswer : Question → Fact → Type 0
+MayAnswer (Above e) fact = IsIn (contexts.Expr e) fact
+MayAnswer (Below e) fact = Unit {0}
+MayAnswer (Members e) fact = Unit {0}
 
 -- the number is the only one that is given, or none is
 abbrev pub IsOnly : (ℕ → Type 0) → Option ℕ → Type 0

@@ -1,11 +1,12 @@
 //! Marks on the numbers that facts answer with.
-ghost use Rattle.answers.specs.Questions.{Answers, AreAnswers, AreMarks, IsAnswer, IsEvery, PutsExpression, PutsIndividual};
+ghost use Rattle.answers.specs.Questions.{Answers, AreAnswers, AreMarks, IsAnswer, IsEvery, MayAnswer, PutsExpression, PutsIndividual};
 ghost use Rattle.answers.specs.Names.{IsMarked};
 ghost use Rattle.answers.specs.declared.question.Question.TheVariants as asked;
 ghost use Rattle.axioms.specs.Ontology.{nothing};
 ghost use Rattle.classification.specs.Lists.{SomeFact};
 ghost use Rattle.engine.specs.Saturations.{IsSaturated};
-ghost use Rattle.std.specs.Prelude.{◌<◌, ◌↔◌, ◌≡◌, ◌⊎◌, IfOk, IsTrue, MatchOption, Some, length, ℕ};
+ghost use Rattle.saturate.specs.ServedFacts.{AreNumbersOf};
+ghost use Rattle.std.specs.Prelude.{◌<◌, ◌↔◌, ◌≡◌, ◌⊎◌, IfOk, IfSome, IsTrue, MatchOption, Some, length, ℕ};
 
 use crate::question::Question;
 use axioms::{ExprId, IndId, Memory, Ontology};
@@ -154,26 +155,45 @@ fn marked_by(
     Ok(marks)
 }
 
-/// Whether the fact puts the expression in `owl:Nothing`.
-fn is_below_nothing(expression: ExprId, fact: &StoredFact) -> bool
-    ensures { IsTrue result ↔ PutsExpression fact.now expression.0 nothing }
+/// So many marks: on each number, or on those that the facts of these numbers answer with, among which are all that may.
+fn marked_among(
+    alloc: Global,
+    ontology: &Ontology,
+    facts: &[StoredFact],
+    numbers: &[u32],
+    question: Question,
+    every: bool,
+    size: usize,
+) -> Result<Vec<bool>, Memory>
+    requires { AreNumbersOf (MayAnswer question) facts.now numbers.now }
+    ensures { IfOk result (λ v. AreMarks (Answers ontology.now question) facts.now every size v.items) }
 {
-    match expression_pair(fact) {
-        Some((below, above)) => below == expression && above == ExprId::NOTHING,
-        None => false,
+    let mut marks = vec![in alloc; every; size]?;
+    for number in numbers {
+        let fact = &facts[*number as usize];
+        mark(&mut marks, answer(ontology, question, fact));
+    }
+    Ok(marks)
+}
+
+/// The numbers of the facts that may answer the question, where they are found without going over all facts.
+fn asked_facts(saturation: &Saturation, question: Question) -> Option<&[u32]>
+    ensures { IfSome result (λ numbers. AreNumbersOf (MayAnswer question) saturation.now.state.facts numbers.now) }
+{
+    match question {
+        Question::Above(expression) => saturation.classes_in(Context::Expr(expression)),
+        Question::Below(_) | Question::Members(_) => None,
     }
 }
 
 /// Whether the expression has no element in any interpretation: a fact puts it in `owl:Nothing`.
-fn is_empty(facts: &[StoredFact], expression: ExprId) -> bool
-    ensures { IsTrue result ↔ SomeFact facts.now (λ fact. PutsExpression fact expression.0 nothing) }
+fn is_empty(saturation: &Saturation, expression: ExprId) -> bool
+    ensures { IsTrue result ↔ SomeFact saturation.now.state.facts (λ fact. PutsExpression fact expression.0 nothing) }
 {
-    for fact in facts {
-        if is_below_nothing(expression, fact) {
-            return true;
-        }
-    }
-    false
+    let nothing = Class2::Expr(ExprId::NOTHING);
+    saturation
+        .find(Fact::In(nothing, Context::Expr(expression)))
+        .is_some()
 }
 
 /// Whether every name is an answer, since there is no interpretation or the expression has no element in any.
@@ -185,7 +205,7 @@ fn is_every(ontology: &Ontology, saturation: &Saturation, question: Question) ->
         return true;
     }
     match question {
-        Question::Above(expression) => is_empty(saturation.facts(), expression),
+        Question::Above(expression) => is_empty(saturation, expression),
         Question::Below(_) | Question::Members(_) => false,
     }
 }
@@ -206,5 +226,9 @@ pub(crate) fn marks_of(
     ensures { IfOk result (λ v. AreAnswers ontology.now saturation.now question size v.items) }
 {
     let every = is_every(ontology, saturation, question);
-    marked_by(alloc, ontology, saturation.facts(), question, every, size)
+    let facts = saturation.facts();
+    match asked_facts(saturation, question) {
+        Some(numbers) => marked_among(alloc, ontology, facts, numbers, question, every, size),
+        None => marked_by(alloc, ontology, facts, question, every, size),
+    }
 }

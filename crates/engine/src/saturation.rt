@@ -6,13 +6,15 @@ ghost use Rattle.facts.specs.Births.{reason};
 ghost use Rattle.normalise.specs.Entries.{form_in};
 ghost use Rattle.normalise.specs.Growth.{IsNormalFor};
 ghost use Rattle.normalise.specs.Problem.{prefixes_of};
+ghost use Rattle.indexes.specs.FactIndex.{IsIn};
 ghost use Rattle.inference.specs.PropertyClosures.{IsClosureOf};
+ghost use Rattle.saturate.specs.ServedFacts.{AreNumbersOf};
 ghost use Rattle.saturate.specs.State.{GaveFact};
 ghost use Rattle.inference.specs.declared.known_facts.Stop.TheVariants as stops;
-ghost use Rattle.std.specs.Prelude.{◌≡◌, ◌≤◌, ◌↔◌, true, false, Err, IfNone, IfOk, IfSome, IsTrue, Some, [], length, map, slice_get};
+ghost use Rattle.std.specs.Prelude.{◌≡◌, ◌≤◌, ◌↔◌, true, false, Err, IfNone, IfOk, IfSome, IsTrue, Some, [], Contains, length, map, slice_get};
 
 use axioms::{Memory, Ontology};
-use facts::{Birth, FactId, StoredFact};
+use facts::{Birth, Context, Fact, FactId, StoredFact};
 use normalise::{Normal, normalise, roots};
 use property_closure::PropertyClosure;
 use saturate::{Progress, State, Stop};
@@ -99,6 +101,29 @@ impl Saturation {
             normal,
             state: state.release(),
         }
+    }
+
+    /// Whether it was not released: then it may be added to, and facts are found without going over all.
+    pub fn can_grow(&self) -> bool
+        ensures { result ≡ self.now.can_grow }
+    {
+        self.state.can_grow()
+    }
+
+    /// The number of the fact, if it is there. Where it was released, it goes over all facts.
+    pub fn find(&self, fact: Fact) -> Option<FactId>
+        ensures there { IfSome result (λ n. slice_get self.now.state.facts n.0 ≡ Some fact) }
+        ensures none { IfNone result (Contains self.now.state.facts fact → ⊥) }
+    {
+        self.state.find(fact)
+    }
+
+    /// The numbers of the facts that put a class into the context, where all are served and it was not released. Needs no memory.
+    pub fn classes_in(&self, context: Context) -> Option<&[u32]>
+        ensures some { IfSome result (λ numbers. AreNumbersOf (IsIn context) self.now.state.facts numbers.now) }
+        ensures none { IfNone result (self.now.can_grow ≡ true → IsFinished self.now → ⊥) }
+    {
+        self.state.classes_in(context)
     }
 
     /// How many of the facts are served.

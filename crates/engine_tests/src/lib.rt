@@ -16,6 +16,8 @@ mod form_lists;
 #[cfg(test)]
 mod forms;
 #[cfg(test)]
+mod found;
+#[cfg(test)]
 mod growing;
 #[cfg(test)]
 mod individuals;

@@ -135,7 +135,7 @@ pub fn lines_of(
     ensures needed { IfOk result (λ found. IfSome found (λ v. EachIsNeeded ontology.now saturation.now.normal.asked (lines_of v.items))) }
 {
     let wanted = Fact::In(Class2::Expr(class), subject);
-    let Some(goal) = number_of(saturation.facts(), wanted) else {
+    let Some(goal) = number_of(saturation, wanted) else {
         return Ok(None);
     };
     let mut derivation = Derivation::new(alloc, LineList::new(alloc));

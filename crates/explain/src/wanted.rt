@@ -5,7 +5,8 @@ ghost use Rattle.facts.specs.declared.contexts.Fact.{Fact as Fact2};
 ghost use Rattle.std.specs.Prelude.{◌↔◌, ◌≡◌, Contains, IfOk, IsTrue, Some, length, slice_get, ℕ};
 
 use axioms::{ExprId, Memory, Ontology};
-use facts::{Context, Fact, StoredFact};
+use engine::Saturation;
+use facts::{Context, Fact, FactId, StoredFact};
 use normal_forms::Class2;
 use std::alloc::Global;
 
@@ -108,21 +109,10 @@ pub(crate) fn first_contradiction(ontology: &Ontology, facts: &[StoredFact]) -> 
     None
 }
 
-// Whether the two are one.
-fn is_same(fact: Fact, wanted: Fact) -> bool
-    ensures { IsTrue result ↔ (fact ≡ wanted) }
-{
-    fact == wanted
-}
-
 /// The number of the fact, counted from 1, if it is there.
-pub(crate) fn number_of(facts: &[StoredFact], wanted: Fact) -> Option<usize>
-    ensures { FindsGoal (λ f. f ≡ wanted) facts.now result }
+pub(crate) fn number_of(saturation: &Saturation, wanted: Fact) -> Option<usize>
+    ensures { FindsGoal (λ f. f ≡ wanted) saturation.now.state.facts result }
 {
-    for place in 0..facts.len() {
-        if is_same(facts[place].get(), wanted) {
-            return Some(place + 1);
-        }
-    }
-    None
+    let FactId(number) = saturation.find(wanted)?;
+    Some(number as usize + 1)
 }

@@ -167,7 +167,7 @@ impl KnownFacts {
     }
 
     /// The number of the fact, if it is there.
-    pub(crate) fn find(&self, fact: Fact) -> Option<u32>
+    pub fn find(&self, fact: Fact) -> Option<u32>
         ensures there { IfSome result (λ number. slice_get self.now.facts number ≡ Some fact) }
         ensures none { IsNone result → Contains self.now.facts fact → ⊥ }
     {

@@ -1,5 +1,5 @@
 //! What is kept of a state that has run to its end.
-ghost use Rattle.std.specs.Prelude.{◌≡◌, ◌<◌, ◌≤◌, IfNone, IfSome, Some, length, slice_get};
+ghost use Rattle.std.specs.Prelude.{◌≡◌, ◌<◌, ◌≤◌, ◌↔◌, Contains, IfNone, IfSome, IsTrue, Some, length, slice_get};
 ghost use Rattle.facts.specs.Births.{reason};
 ghost use Rattle.inference.specs.PropertyClosures.{IsClosureOf};
 ghost use Rattle.saturate.specs.Run.{HasRun, IsState};
@@ -7,7 +7,7 @@ ghost use Rattle.saturate.specs.State.{GaveFact};
 ghost use Rattle.inference.specs.Completeness.{IsClosure};
 
 use crate::ground::Ground;
-use facts::{Birth, FactId, StoredFact};
+use facts::{Birth, Fact, FactId, StoredFact};
 use inference::Stop;
 use property_closure::PropertyClosure;
 use std::marker::Model;
@@ -32,6 +32,13 @@ impl Model for Kept {
     ghost view = { λ k. served_all k.ground k.facts.items (map reason k.births.items) };
 
     ghost invariant = { λ k. IsKept (served_all k.ground k.facts.items (map reason k.births.items)) };
+}
+
+/// Whether it is the fact.
+fn is(fact: &StoredFact, wanted: Fact) -> bool
+    ensures { IsTrue result ↔ (fact.now ≡ wanted) }
+{
+    fact.get() == wanted
 }
 
 impl Kept {
@@ -68,6 +75,19 @@ impl Kept {
             return None;
         }
         Some(self.birth(number))
+    }
+
+    /// The number of the fact, if it is there. It goes over all facts.
+    pub(crate) fn find(&self, fact: Fact) -> Option<FactId>
+        ensures there { IfSome result (λ n. slice_get self.now.facts n.0 ≡ Some fact) }
+        ensures none { IfNone result (Contains self.now.facts fact → ⊥) }
+    {
+        for number in 0..self.facts.len() {
+            if is(&self.facts[number], fact) {
+                return Some(FactId(number as u32));
+            }
+        }
+        None
     }
 
     /// How many facts are served: all.

@@ -1,6 +1,7 @@
 //! The served facts that speak of a context, by number.
 ghost use Rattle.indexes.specs.FactIndex.{IsFrom, IsIn, IsInto};
-ghost use Rattle.saturate.specs.ServedFacts.{AreExactly};
+ghost use Rattle.saturate.specs.ServedFacts.{AreExactly, AreNumbersOf};
+ghost use Rattle.std.specs.Prelude.{◌≡◌, IfNone, IfSome, length};
 
 use crate::state::State;
 use facts::Context;
@@ -12,6 +13,19 @@ impl<W: WorkList> State<W> {
         ensures { AreExactly (IsIn context) self.now result.now }
     {
         self.queue.without_hand(self.index.classes_in(context))
+    }
+
+    /// The facts that put a class into the context, in the order in which they were served, where all facts are.
+    pub(crate) fn all_classes_in(&self, context: Context) -> Option<&[u32]>
+        ensures some { IfSome result (λ numbers. AreNumbersOf (IsIn context) self.now.facts numbers.now) }
+        ensures none { IfNone result (length self.now.served ≡ length self.now.facts → ⊥) }
+    {
+        self.well_formed();
+        if self.served() == self.facts().len() {
+            Some(self.classes_in(context))
+        } else {
+            None
+        }
     }
 
     /// The served edges from the context, in the order in which they were served. Needs no memory.

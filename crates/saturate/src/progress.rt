@@ -1,16 +1,18 @@
 //! A saturation under way, or ended.
-ghost use Rattle.std.specs.Prelude.{◌≡◌, ◌≤◌, [], IfNone, IfOk, IfSome, OnErr, OnOk, Some, drop, false, length, slice_get, take, true};
+ghost use Rattle.std.specs.Prelude.{◌≡◌, ◌≤◌, [], IfNone, IfOk, IfSome, OnErr, OnOk, Some, Contains, drop, false, length, slice_get, take, true};
 ghost use Rattle.facts.specs.Births.{reason};
+ghost use Rattle.indexes.specs.FactIndex.{IsIn};
 ghost use Rattle.inference.specs.PropertyClosures.{IsClosureOf};
 ghost use Rattle.saturate.specs.Growth.{HasGrown, KeepsServed};
 ghost use Rattle.saturate.specs.Run.{HasRun, IsState};
+ghost use Rattle.saturate.specs.ServedFacts.{AreNumbersOf};
 ghost use Rattle.saturate.specs.State.{GaveFact};
 ghost use Rattle.inference.specs.Completeness.{IsClosure};
 
 use crate::kept::Kept;
 use crate::state::State;
 use axioms::Memory;
-use facts::{Birth, Context, FactId, StoredFact};
+use facts::{Birth, Context, Fact, FactId, StoredFact};
 use inference::Stop;
 use normal_forms::FormList;
 use property_closure::PropertyClosure;
@@ -84,6 +86,38 @@ impl<W: WorkList> Progress<W> {
         match &self.stage {
             Stage::Growing(state) => state.born(fact),
             Stage::Kept(kept) => kept.born(fact),
+        }
+    }
+
+    /// Whether it may grow. Then what finds facts is there.
+    pub fn can_grow(&self) -> bool
+        ensures { result ≡ self.now.can_grow }
+    {
+        match &self.stage {
+            Stage::Growing(_) => true,
+            Stage::Kept(_) => false,
+        }
+    }
+
+    /// The number of the fact, if it is there. Where it may not grow, it goes over all facts.
+    pub fn find(&self, fact: Fact) -> Option<FactId>
+        ensures there { IfSome result (λ n. slice_get self.now.seen.facts n.0 ≡ Some fact) }
+        ensures none { IfNone result (Contains self.now.seen.facts fact → ⊥) }
+    {
+        match &self.stage {
+            Stage::Growing(state) => state.find(fact),
+            Stage::Kept(kept) => kept.find(fact),
+        }
+    }
+
+    /// The numbers of the facts that put a class into the context, where it may grow and all facts are served. Needs no memory.
+    pub fn classes_in(&self, context: Context) -> Option<&[u32]>
+        ensures some { IfSome result (λ numbers. AreNumbersOf (IsIn context) self.now.seen.facts numbers.now) }
+        ensures none { IfNone result (self.now.can_grow ≡ true → length self.now.seen.served ≡ length self.now.seen.facts → ⊥) }
+    {
+        match &self.stage {
+            Stage::Growing(state) => state.all_classes_in(context),
+            Stage::Kept(_) => None,
         }
     }
 

@@ -1,5 +1,5 @@
 //! The state of a saturation.
-ghost use Rattle.std.specs.Prelude.{OnErr, ◌≡◌, ◌↔◌, ◌<◌, ◌≤◌, ◌+◌, Ok, Err, Some, true, false, [], drop, length, slice_get, take, IfOk, OnOk, IfSome, IfNone};
+ghost use Rattle.std.specs.Prelude.{OnErr, ◌≡◌, ◌↔◌, ◌<◌, ◌≤◌, ◌+◌, ◌^◌, Ok, Err, Some, true, false, [], Contains, drop, length, slice_get, take, IfOk, OnOk, IfSome, IfNone};
 ghost use Rattle.facts.specs.Births.{reason};
 ghost use Rattle.inference.specs.Derivations.{HasMoreFactsThan};
 ghost use Rattle.saturate.specs.State.{Extends, GaveFact, nothing_seen};
@@ -13,7 +13,7 @@ use crate::ground::Ground;
 use crate::kept::Kept;
 use crate::queue::Queue;
 use axioms::Memory;
-use facts::{Birth, Context, FactId, StoredFact};
+use facts::{Birth, Context, Fact, FactId, StoredFact};
 use indexes::Index;
 use inference::{KnownFacts, Rules, Stop, is_filler, is_second_premise};
 use normal_forms::FormList;
@@ -198,6 +198,15 @@ impl<W: WorkList> State<W> {
         Some(self.facts.birth(number))
     }
 
+    /// The number of the fact, if it is there.
+    pub fn find(&self, fact: Fact) -> Option<FactId>
+        ensures there { IfSome result (λ n. slice_get self.now.facts n.0 ≡ Some fact) }
+        ensures none { IfNone result (Contains self.now.facts fact → ⊥) }
+    {
+        let number = self.facts.find(fact)?;
+        Some(FactId(number))
+    }
+
     /// How many facts are served.
     pub fn served(&self) -> usize
         ensures { result ≡ length self.now.served }
@@ -206,12 +215,14 @@ impl<W: WorkList> State<W> {
     }
 
     /// At any time it is a state: each fact is there once, born of older ones, and what served facts give is there or redundant; and
-    /// where all are served, they are the closure.
+    /// where all are served, they are the closure. 32 bits count them.
     pub fn well_formed(&self)
         ensures state { IsState self.now }
+        ensures few { length self.now.facts < 2 ^ 32 }
         ensures closure { length self.now.served ≡ length self.now.facts → IsClosure self.now.problem self.now.facts }
     {
         self.queue.all_served();
+        self.facts.len();
     }
 
     /// What is kept where all facts are served.

@@ -1,27 +1,21 @@
-use Rattle.std.proofs.Common.{◌≡◌, Some, sym, subst, ◌∙◌, All}
-use Rattle.axioms.specs.View.{at_number}
+use Rattle.std.proofs.Common.{◌≡◌, Some, sym, subst, ◌∙◌}
 use Rattle.cert_check.specs.Derivation.{HasLine, IsDerivation}
 use Rattle.certificate.specs.Certificate.{Sub}
 use Rattle.closure.specs.Denotations.{context_of}
 use Rattle.exactness.specs.Derivability.{subject_of}
 use Rattle.explain.specs.Marks.{IsShown, IsWantedFact}
 use Rattle.explain.proofs.Saying.{has_line, no_fact, root_wanted}
-use Rattle.facts.specs.declared.contexts.Fact.TheVariants as facts
-use Rattle.normal_forms.specs.declared.forms.Class2.TheVariants as classes
 use Rattle.normalise.specs.Problem.{prefixes_of}
 use Rattle.explain.proofs.derivations.lines_of.Goals as goal
 
 pub returns-in_default-clause-shown : goal.returns-in_default-clause-shown
-returns-in_default-clause-shown c =
-    let x = c.args.subject in
-    let e = c.args.class in
-    no_fact c.args.ontology.now c.args.saturation.now x e c.requires.saturated (subst (All (λ f. f ≡ facts.In (classes.Expr e) x → ⊥)) c.facts.ensures c.in_default.ensures)
+returns-in_default-clause-shown c = no_fact c.args.ontology.now c.args.saturation.now c.args.subject c.args.class c.requires.saturated c.in_default.ensures
 
 pub add_goal-requires-clause-wanted : goal.add_goal-requires-clause-wanted
 add_goal-requires-clause-wanted c =
     let (f, at, is) = c.in-Some.ensures in
     let wanted = root_wanted c.args.ontology.now c.args.saturation.now.normal.asked c.args.subject c.args.class c.requires.subject c.requires.class in
-    (f, subst (λ fs. at_number fs c.in-Some.goal ≡ Some f) c.facts.ensures at, subst (IsWantedFact c.args.ontology.now c.args.saturation.now.normal.asked) (sym is) wanted)
+    (f, at, subst (IsWantedFact c.args.ontology.now c.args.saturation.now.normal.asked) (sym is) wanted)
 
 pub returns-clause-derivation : goal.returns-clause-derivation
 returns-clause-derivation c = subst (IsDerivation c.args.ontology.now) (sym (c.into_lines.ensures ∙ c.into_sink.ensures)) c.in_ok-add_goal.ensures.derivation
@@ -33,6 +27,5 @@ returns-clause-shown c =
     let (f, at, is) = c.in-Some.ensures in
     let b = prefixes_of c.args.saturation.now.normal in
     let lines = c.add_goal.new.derivation in
-    let here = subst (λ fs. at_number fs c.in-Some.goal ≡ Some f) c.facts.ensures at in
-    let shown = subst (IsShown b lines) is (c.in_ok-add_goal.ensures.shown f here) in
+    let shown = subst (IsShown b lines) is (c.in_ok-add_goal.ensures.shown f at) in
     subst (λ ls. HasLine ls (Sub (subject_of (context_of x)) e.0)) (sym (c.into_lines.ensures ∙ c.into_sink.ensures)) (has_line b lines e x shown)

@@ -1,4 +1,4 @@
-use Rattle.std.proofs.Common.{◌≡◌, List, ap, ◌∙◌}
+use Rattle.std.proofs.Common.{◌≡◌, ◌<◌, ◌^◌, List, length, ap, ◌∙◌}
 use Rattle.facts.specs.declared.contexts.Fact.{Fact}
 use Rattle.facts.specs.Closure.{Problem}
 use Rattle.facts.specs.Births.{Reason}
@@ -9,8 +9,8 @@ use Rattle.saturate.proofs.state.State.kept.Goals as goal
 
 -- what is kept of a state whose facts are the closure, each born of older ones
 kept_of : (s : Seen) (k : Problem) (facts : List Fact) (births : List Reason) → k ≡ s.problem → facts ≡ s.facts → births ≡ s.births →
-    AreBorn s → IsClosure s.problem s.facts → IsKept (served_all k facts births)
-kept_of s k facts births problem_is facts_are births_are born all = rw problem_is (rw facts_are (rw births_are (record { born = born; all = all })))
+    AreBorn s → IsClosure s.problem s.facts → length s.facts < 2 ^ 32 → IsKept (served_all k facts births)
+kept_of s k facts births problem_is facts_are births_are born all few = rw problem_is (rw facts_are (rw births_are (record { born = born; all = all; few = few })))
 
 pub invariant_of-result : goal.invariant_of-result
 invariant_of-result g c = kept_of c.args.self c.self.inside.ground _ _
@@ -19,3 +19,4 @@ invariant_of-result g c = kept_of c.args.self c.self.inside.ground _ _
     (c.into_lists-facts.ensures.births ∙ ap (λ (s : Seen). s.births) c.self.view_is)
     c.well_formed-2.ensures.state.born
     (c.well_formed-2.ensures.closure c.requires)
+    c.well_formed-2.ensures.few

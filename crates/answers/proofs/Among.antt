@@ -1,0 +1,69 @@
+-- Marks on the numbers that some of the facts give, which are known by theirs.
+use Rattle.std.proofs.Common.{◌≡◌, ◌↔◌, ℕ, ◌+◌, ◌<◌, ◌≤◌, ◌⊎◌, inl, inr, ⊎_elim, Bool, true, List, length, slice_get, Option, Some, Contains, refl, sym, ◌∙◌, subst, arith, below_more}
+use Rattle.std.proofs.lemmas.Option.{same_Some, slice_get_within}
+use Rattle.lemmas.proofs.Members.{slice_get-from_Contains}
+use Rattle.axioms.specs.Ontology.{Ontology}
+use Rattle.facts.specs.declared.contexts.Context.TheVariants as contexts
+use Rattle.facts.specs.declared.contexts.Fact.{Fact}
+use Rattle.indexes.specs.FactIndex.{IsIn}
+use Rattle.classification.specs.Lists.{SomeFact}
+use Rattle.answers.specs.Questions.{Answers, AreMarks, IsOnly, MayAnswer}
+use Rattle.answers.specs.Names.{IsMarked}
+use Rattle.answers.specs.declared.question.Question.{Question}
+use Rattle.answers.specs.declared.question.Question.TheVariants.{Above, Below, Members}
+
+module _ (gives : Fact → ℕ → Type 0) (facts : List Fact) (numbers : List ℕ) where
+  -- one of the first i numbers is that of a fact that gives n
+  abbrev GivenBefore : ℕ → ℕ → Type 0
+  GivenBefore i n = (k : ℕ) × (m : ℕ) × (f : Fact) × (k < i) × (slice_get numbers k ≡ Some m) × (slice_get facts m ≡ Some f) × gives f n
+
+  -- so many marks: on all numbers, or on those that these facts give
+  pub record AreMarksBefore (every : Bool) (size i : ℕ) (marks : List Bool) : Type 0 where
+    pub long : length marks ≡ size
+    pub exact : (n : ℕ) → n < size → IsMarked marks n ↔ ((every ≡ true) ⊎ GivenBefore i n)
+
+  module _ (i m : ℕ) (f : Fact) (at : slice_get numbers i ≡ Some m) (is : slice_get facts m ≡ Some f) where
+    same : (m' : ℕ) (f' : Fact) → slice_get numbers i ≡ Some m' → slice_get facts m' ≡ Some f' → f' ≡ f
+    same m' f' at' is' = same_Some f' f (sym is' ∙ subst (λ n. slice_get facts n ≡ Some f) (same_Some m m' (sym at ∙ at')) is)
+
+    given_more : (n : ℕ) → GivenBefore (i + 1) n ↔ (GivenBefore i n ⊎ gives f n)
+    given_more n = (
+      λ (k, m', f', low, at', is', g).
+          below_more (λ j. slice_get numbers j ≡ Some m' → GivenBefore i n ⊎ gives f n) i
+          (λ j l a. inl (j, m', f', l, a, is', g))
+          (λ a. inr (subst (λ h. gives h n) (same m' f' a is') g)) k low at',
+      λ h. ⊎_elim (λ (k, m', f', low, at', is', g). (k, m', f', omega (arith, low), at', is', g)) (λ g. (i, m, f, omega arith, at, is, g)) h,
+    )
+
+    pub marks_more : (every : Bool) (size : ℕ) (old new : List Bool) (answer : Option ℕ) → AreMarksBefore every size i old → IsOnly (gives f) answer → length new ≡ length old
+        → ((q : ℕ) → q < length old → IsMarked new q ↔ (IsMarked old q ⊎ (answer ≡ Some q))) → AreMarksBefore every size (i + 1) new
+    marks_more every size old new answer before only long adds = record { long = long ∙ before.long; exact = each }
+      where
+        each : (n : ℕ) → n < size → IsMarked new n ↔ ((every ≡ true) ⊎ GivenBefore (i + 1) n)
+        each n low =
+            let more = given_more n in
+            let was = before.exact n low in
+            let step = adds n (subst (λ k. n < k) (sym before.long) low) in (
+              λ mark. ⊎_elim (λ old. ⊎_elim (λ t. inl t) (λ v. inr (more.1 (inl v))) (was.0 old)) (λ e. inr (more.1 (inr ((only n).1 e)))) (step.0 mark),
+              λ h. step.1 (⊎_elim (λ t. inl (was.1 (inl t))) (λ v. ⊎_elim (λ u. inl (was.1 (inr u))) (λ p. inr ((only n).0 p)) (more.0 v)) h),
+            )
+
+  -- where the numbers are those of all facts that give any, these are the marks by all facts
+  pub marks_of_all : (every : Bool) (size i : ℕ) (marks : List Bool) → AreMarksBefore every size i marks → length numbers ≤ i → ((n m : ℕ) (f : Fact) → slice_get facts m ≡ Some f → gives f n → Contains numbers m) → AreMarks gives facts every size marks
+  marks_of_all every size i marks before end all = record { long = before.long; exact = each }
+    where
+      each : (n : ℕ) → n < size → IsMarked marks n ↔ ((every ≡ true) ⊎ SomeFact facts (λ f. gives f n))
+      each n low =
+          let was = before.exact n low in (
+            λ mark. ⊎_elim (λ t. inl t) (λ (k, m, f, l, at, is, g). inr (m, f, is, g)) (was.0 mark),
+            λ h. was.1 (⊎_elim (λ t. inl t) (λ (m, f, is, g).
+                let there = slice_get-from_Contains numbers m (all n m f is g) in
+                inr (there.0, m, f, omega (arith, slice_get_within numbers there.0 m there.1, end), there.1, is, g)) h),
+          )
+
+-- ---- which facts may answer
+
+pub may_answer : (o : Ontology) (q : Question) (f : Fact) (n : ℕ) → Answers o q f n → MayAnswer q f
+may_answer o (Above e) f n (h, class, puts) = subst (IsIn (contexts.Expr e)) (sym puts) refl
+may_answer o (Below e) f n given = tt
+may_answer o (Members e) f n given = tt

@@ -1,0 +1,8 @@
+use Rattle.std.proofs.Common.{List, sym, subst}
+use Rattle.facts.specs.declared.contexts.Fact.{Fact}
+use Rattle.answers.specs.Questions.{MayAnswer}
+use Rattle.saturate.specs.ServedFacts.{AreNumbersOf}
+use Rattle.answers.proofs.marks.marks_of.Goals as goal
+
+pub marked_among-requires : goal.marked_among-requires
+marked_among-requires c = subst (λ (fs : List Fact). AreNumbersOf (MayAnswer c.args.question) fs c.in-Some.numbers.now) (sym c.facts-facts.ensures) c.in-Some.ensures
