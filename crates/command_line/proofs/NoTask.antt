@@ -8,7 +8,7 @@ use Rattle.command_line.specs.declared.tasks.Command.TheVariants.{Check, Classif
 use Rattle.command_line.specs.declared.tasks.LineFault.{LineFault}
 use Rattle.command_line.specs.declared.tasks.LineFault.TheVariants.{Line, Memory}
 use Rattle.command_line.specs.declared.tasks.Task.{Task}
-use Rattle.command_line.specs.CommandLine.{AreLimits, IsCommand, IsLimitOfFacts, IsTask, IsTaskOf, NamesTask, Refuses, draws_facts}
+use Rattle.command_line.specs.CommandLine.{AreLimits, IsCommand, IsLimitOfFacts, IsTask, IsTaskOf, IsTelling, NamesTask, Refuses, draws_facts, tells_progress}
 use Rattle.program.specs.declared.limits.Limits.{Limits}
 
 -- the second letter of the command's name: no two commands have the same
@@ -50,6 +50,32 @@ draws_is (Session document) = refl
 -- commands of one name draw facts, or do not
 one_draws : (name : Text) (rows : List Row) (c d : Command) → IsCommand name rows c → IsCommand name rows d → draws_facts c ≡ draws_facts d
 one_draws name rows c d h k = draws_is c ∙ ap letter_draws (one_letter name rows c d h k) ∙ sym (draws_is d)
+
+-- whether a command whose name has that second letter can be asked to tell its progress
+abbrev letter_tells : ℕ → Bool
+letter_tells letter = if letter == 108 then true else if letter == 104 then true else if letter == 101 then true else false
+
+tells_is : (command : Command) → tells_progress command ≡ letter_tells (letter_of command)
+tells_is (Classify paths format) = refl
+tells_is (Check paths) = refl
+tells_is (Convert conversion) = refl
+tells_is (Instances document class) = refl
+tells_is (Explain question) = refl
+tells_is (Query document expression) = refl
+tells_is (Session document) = refl
+
+-- of commands of one name all can, or none
+one_tells : (name : Text) (rows : List Row) (c d : Command) → IsCommand name rows c → IsCommand name rows d → tells_progress c ≡ tells_progress d
+one_tells name rows c d h k = tells_is c ∙ ap letter_tells (one_letter name rows c d h k) ∙ sym (tells_is d)
+
+-- where the command of the name has no word that says whether progress is told there is no task
+pub no_telling : (name : Text) (rows : List Row) (entered : Option (Text × List Row)) (command : Command) → entered ≡ Some (name, rows) → IsCommand name rows command → ((told : Bool) → IsTelling (tells_progress command) rows told → ⊥) → (task : Task) → NamesTask entered task → ⊥
+no_telling name rows entered command here is none task h =
+    let same : (h.name, h.rows) ≡ (name, rows) = same_Some _ _ (sym h.found ∙ here) in
+    let P : Text × List Row → Type 0 = λ p. IsTask p.0 p.1 task in
+    let asked : IsTask name rows task = subst P same h.is in
+    let Q : Bool → Type 0 = λ tells. IsTelling tells rows task.progress in
+    none task.progress (subst Q (one_tells name rows task.command command asked.command is) asked.progress)
 
 -- where the command of the name has no limits there is no task
 pub no_limits : (name : Text) (rows : List Row) (entered : Option (Text × List Row)) (command : Command) → entered ≡ Some (name, rows) → IsCommand name rows command → ((limits : Limits) → AreLimits rows command limits → ⊥) → (task : Task) → NamesTask entered task → ⊥

@@ -85,18 +85,22 @@ with_limits app = with_reading (with_rule app max_facts)
 abbrev pub flag : Text → Rule
 flag id = record (new_rule id) { long = Some id; action = Some SetTrue }
 
+-- `[--progress]`
+abbrev pub with_progress : App → App
+with_progress app = with_rule app (flag (codes "progress"))
+
 -- `DOC TAX INST CERT`
 abbrev pub with_paths : App → App
 with_paths app =
     with_rule (with_rule (with_rule (with_rule app (path (codes "DOC"))) (path (codes "TAX"))) (path (codes "INST"))) (path (codes "CERT"))
 
--- `classify DOC TAX INST CERT [--format N] [--max-facts N] [--max-bytes N] [--profile N]`
+-- `classify DOC TAX INST CERT [--format N] [--progress] [--max-facts N] [--max-bytes N] [--profile N]`
 abbrev pub classify_app : App
-classify_app = with_limits (with_rule (with_paths (new_app (codes "classify"))) format)
+classify_app = with_limits (with_progress (with_rule (with_paths (new_app (codes "classify"))) format))
 
--- `check DOC TAX INST CERT [--max-bytes N] [--profile N]`
+-- `check DOC TAX INST CERT [--progress] [--max-bytes N] [--profile N]`
 abbrev pub check_app : App
-check_app = with_reading (with_paths (new_app (codes "check")))
+check_app = with_reading (with_progress (with_paths (new_app (codes "check"))))
 
 -- `DOC CERT OUT [--format N]`
 abbrev pub with_conversion : App → App
@@ -130,9 +134,9 @@ explain_app = with_limits (with_flags (with_names (new_app (codes "explain"))))
 abbrev pub query_app : App
 query_app = with_limits (with_rule (with_rule (new_app (codes "query")) (path (codes "DOC"))) (path (codes "EXPRESSION")))
 
--- `session DOC [--max-facts N] [--max-bytes N] [--profile N]`
+-- `session DOC [--progress] [--max-facts N] [--max-bytes N] [--profile N]`
 abbrev pub session_app : App
-session_app = with_limits (with_rule (new_app (codes "session")) (path (codes "DOC")))
+session_app = with_limits (with_progress (with_rule (new_app (codes "session")) (path (codes "DOC"))))
 
 -- the commands that ask about a document
 abbrev pub with_questions : App → App
@@ -220,10 +224,23 @@ pub record AreLimits (rows : List Row) (command : Command) (limits : Limits) : T
   pub facts : IsLimitOfFacts (draws_facts command) rows limits.max_facts
   pub version : IsVersion rows limits.version
 
+-- whether a command can be asked to tell its progress
+abbrev pub tells_progress : Command → Bool
+tells_progress (Classify paths format) = true
+tells_progress (Check paths) = true
+tells_progress (Session document) = true
+tells_progress command = false
+
+-- whether progress is told: where the flag stands. A command that has no such flag tells none
+abbrev pub IsTelling : (tells : Bool) → List Row → Bool → Type 0
+IsTelling false rows told = told ≡ false
+IsTelling true rows told = IsFlag (codes "progress") rows told
+
 -- the task is what a command's name and its matches say
 pub record IsTask (name : Text) (rows : List Row) (task : Task) : Type 0 where
   pub command : IsCommand name rows task.command
   pub limits : AreLimits rows task.command task.limits
+  pub progress : IsTelling (tells_progress task.command) rows task.progress
 
 -- there is a command, and the task is what it says
 pub record NamesTask (entered : Option (Text × List Row)) (task : Task) : Type 0 where

@@ -3,7 +3,7 @@ ghost use Rattle.std.specs.Fmt.{decimal};
 ghost use Rattle.std.specs.Prelude.{◌≡◌, IfOk, false};
 ghost use Rattle.clap.specs.Words.{app_of, rule_of, with_rule};
 ghost use Rattle.clap.specs.declared.builder.command.Command.TheViews.{out-Command as fields_of};
-ghost use Rattle.command_line.specs.CommandLine.{number, path, flag, max_facts, max_bytes, with_reading as app_with_reading, with_paths as app_with_paths, with_names as app_with_names, with_flags as app_with_flags, with_limits as app_with_limits, with_conversion as app_with_conversion, with_certificates as app_with_certificates, with_questions as app_with_questions, check_app, classify_app, convert_app, instances_app, explain_app, query_app, session_app, elc_app};
+ghost use Rattle.command_line.specs.CommandLine.{number, path, flag, max_facts, max_bytes, with_reading as app_with_reading, with_paths as app_with_paths, with_names as app_with_names, with_flags as app_with_flags, with_progress as app_with_progress, with_limits as app_with_limits, with_conversion as app_with_conversion, with_certificates as app_with_certificates, with_questions as app_with_questions, check_app, classify_app, convert_app, instances_app, explain_app, query_app, session_app, elc_app};
 
 use clap::{Arg, ArgAction, Command, value_parser};
 use program::{MOST_BYTES, MOST_BYTES_TEXT, MOST_FACTS, MOST_FACTS_TEXT};
@@ -70,6 +70,8 @@ const MAX_FACTS_HELP: &str = "The most facts to draw from the document, from 1 u
 const MAX_BYTES_HELP: &str = "The most bytes to read of the document, from 1 up to the default";
 
 const FORMAT_HELP: &str = "The format that the certificate is written in, 1 or 2";
+
+const PROGRESS_HELP: &str = "Tells on standard error what is being done, and how far it is";
 
 const PROFILE_HELP: &str = "The version of the profile that the document is read in, 1 or 2";
 
@@ -149,12 +151,21 @@ fn with_limits<'a>(alloc: Global, command: Command<'a>) -> Result<Command<'a>, A
     with_reading(alloc, command.arg(max_facts_option(alloc))?)
 }
 
+/// The command with the flag that asks for progress.
+fn with_progress<'a>(alloc: Global, command: Command<'a>) -> Result<Command<'a>, AllocError>
+    ensures app { IfOk result (λ c. app_of c ≡ app_with_progress (app_of command.entry)) }
+    ensures local { (fields_of command.entry).has_globals ≡ false → IfOk result (λ c. (fields_of c).has_globals ≡ false) }
+{
+    with_flag(alloc, command, "progress", PROGRESS_HELP)
+}
+
 fn classify_command<'a>(alloc: Global) -> Result<Command<'a>, AllocError>
     ensures app { IfOk result (λ c. app_of c ≡ classify_app) }
     ensures local { IfOk result (λ c. (fields_of c).has_globals ≡ false) }
 {
     let command = Command::new(alloc, "classify").about(CLASSIFY_ABOUT);
     let command = with_paths(alloc, command)?.arg(one_or_two(alloc, "format", FORMAT_HELP))?;
+    let command = with_progress(alloc, command)?;
     with_limits(alloc, command)
 }
 
@@ -164,6 +175,7 @@ fn check_command<'a>(alloc: Global) -> Result<Command<'a>, AllocError>
 {
     let command = Command::new(alloc, "check").about(CHECK_ABOUT);
     let command = with_paths(alloc, command)?;
+    let command = with_progress(alloc, command)?;
     with_reading(alloc, command)
 }
 
@@ -270,6 +282,7 @@ fn session_command<'a>(alloc: Global) -> Result<Command<'a>, AllocError>
 {
     let command = Command::new(alloc, "session").about(SESSION_ABOUT);
     let command = with_path(alloc, command, "DOC", DOCUMENT_HELP)?;
+    let command = with_progress(alloc, command)?;
     with_limits(alloc, command)
 }
 

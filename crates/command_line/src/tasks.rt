@@ -74,12 +74,14 @@ pub enum Command<'a> {
     },
 }
 
-/// What the program is asked to do, and within which limits.
+/// What the program is asked to do, within which limits, and whether it tells its progress.
 #[derive(Clone, Copy, Debug, PartialEq, Eq)]
 pub struct Task<'a> {
     pub command: Command<'a>,
     /// A check and a conversion draw no facts, and have the greatest limit of them.
     pub limits: Limits,
+    /// Only a classification, a check and a session tell it.
+    pub progress: bool,
 }
 
 /// Why the words are no task.

@@ -1,7 +1,7 @@
 //! Reads the program's words.
 ghost use Rattle.std.specs.Prelude.{◌≡◌, ℕ, IfOk, IfErr, map, option_map, true};
 ghost use Rattle.clap.specs.Words.{subcommand_rows_of, rows_of, found_of, first_of, takes};
-ghost use Rattle.command_line.specs.CommandLine.{AreLimits, ArePaths, IsCommand, IsConversion, IsFlag, IsFormat, IsNumber, IsQuestion, IsTaskOf, IsVersion, NamesTask, Finds, Refuses, draws_facts as draws};
+ghost use Rattle.command_line.specs.CommandLine.{AreLimits, ArePaths, IsCommand, IsConversion, IsFlag, IsFormat, IsNumber, IsQuestion, IsTaskOf, IsTelling, IsVersion, NamesTask, Finds, Refuses, draws_facts as draws, tells_progress as tells};
 
 use crate::command::elc_command;
 use crate::tasks::{Command, Conversion, FormatNumber, LineFault, Paths, Question, Task};
@@ -119,6 +119,27 @@ fn limits(inner: &ArgMatches<'_>, command: &Command<'_>) -> Option<Limits>
     Limits::new(max_bytes, max_facts, version)
 }
 
+/// Whether the command can be asked to tell its progress.
+fn tells_progress(command: &Command<'_>) -> bool
+    ensures { result ≡ tells command.now }
+{
+    match command {
+        Command::Classify { .. } | Command::Check(_) | Command::Session { .. } => true,
+        _ => false,
+    }
+}
+
+/// Whether the command tells its progress.
+fn progress(inner: &ArgMatches<'_>, command: &Command<'_>) -> Option<bool>
+    ensures { Finds (IsTelling (tells command.now) (rows_of (found_of inner.now))) result }
+{
+    if tells_progress(command) {
+        flag(inner, "progress")
+    } else {
+        Some(false)
+    }
+}
+
 /// The command of that name.
 fn named<'a>(name: &str, inner: &ArgMatches<'a>) -> Option<Command<'a>>
     ensures { Finds (IsCommand name.now (rows_of (found_of inner.now))) result }
@@ -153,7 +174,12 @@ fn entered<'a>(matches: &ArgMatches<'a>) -> Option<Task<'a>>
     let (name, inner) = matches.subcommand()?;
     let command = named(name, inner)?;
     let limits = limits(inner, &command)?;
-    Some(Task { command, limits })
+    let progress = progress(inner, &command)?;
+    Some(Task {
+        command,
+        limits,
+        progress,
+    })
 }
 
 /// The task that the program's words ask for, the first word being the program's name.

@@ -63,6 +63,7 @@ fn classify_with_and_without_options(rt: HostRuntime) -> Result<(), Fail> {
                 format,
             },
             limits,
+            progress: false,
         };
         assert!(rt; task(rt.alloc(), words)? == wanted);
     }
@@ -103,6 +104,7 @@ fn check_with_and_without_its_option(rt: HostRuntime) -> Result<(), Fail> {
         let wanted = Task {
             command: Command::Check(PATHS),
             limits,
+            progress: false,
         };
         assert!(rt; task(rt.alloc(), words)? == wanted);
     }
@@ -150,6 +152,7 @@ fn convert_with_and_without_options(rt: HostRuntime) -> Result<(), Fail> {
                 format,
             }),
             limits,
+            progress: false,
         };
         assert!(rt; task(rt.alloc(), words)? == wanted);
     }
@@ -193,6 +196,7 @@ fn instances_with_and_without_options(rt: HostRuntime) -> Result<(), Fail> {
                 class: "x:A",
             },
             limits,
+            progress: false,
         };
         assert!(rt; task(rt.alloc(), words)? == wanted);
     }
@@ -238,6 +242,7 @@ fn query_with_and_without_options(rt: HostRuntime) -> Result<(), Fail> {
                 expression: EXPRESSION,
             },
             limits,
+            progress: false,
         };
         assert!(rt; task(rt.alloc(), words)? == wanted);
     }
@@ -256,6 +261,7 @@ fn asked(individual: bool, dot: bool, reached: bool, limits: Limits) -> Task<'st
             reached,
         }),
         limits,
+        progress: false,
     }
 }
 
@@ -518,6 +524,45 @@ fn what_is_told_of_wrong_words(rt: HostRuntime) -> Result<(), Fail> {
         let (line, part) = *row;
         let text = told(rt.alloc(), line)?;
         assert!(rt; text.as_str().contains(part), "{line}: {text}");
+    }
+    Ok(())
+}
+
+/// Words, and whether they ask for progress.
+const PROGRESS: &[(&[&str], bool)] = &[
+    (
+        &[
+            "elc",
+            "classify",
+            "--progress",
+            "a.ofn",
+            "a.tax",
+            "a.inst",
+            "a.cert",
+        ],
+        true,
+    ),
+    (
+        &[
+            "elc",
+            "check",
+            "a.ofn",
+            "a.tax",
+            "a.inst",
+            "a.cert",
+            "--progress",
+        ],
+        true,
+    ),
+    (&["elc", "session", "a.ofn", "--progress"], true),
+    (&["elc", "session", "a.ofn"], false),
+];
+
+#[test]
+fn progress_where_its_flag_stands(rt: HostRuntime) -> Result<(), Fail> {
+    for row in PROGRESS {
+        let (words, progress) = *row;
+        assert!(rt; task(rt.alloc(), words)?.progress == progress);
     }
     Ok(())
 }
