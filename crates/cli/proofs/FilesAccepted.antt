@@ -1,5 +1,5 @@
 -- What a run of `classify` leaves in files is accepted by a run of `check`.
-use Rattle.std.proofs.Common.{◌≡◌, ◌∙◌, ℕ, List, Bool, Option, Result, Ok, Err, Some, true, refl, sym, ap, subst, inl, inr, arith, ◌+◌}
+use Rattle.std.proofs.Common.{◌≡◌, ◌∙◌, ℕ, List, Bool, Option, Result, Ok, Err, Some, true, false, codes, refl, sym, ap, subst, inl, inr, arith, ◌+◌}
 use Rattle.lemmas.proofs.Choices.{one_value}
 use Rattle.cert_check.specs.declared.verdict.Verdict.{Verdict}
 use Rattle.cert_check.specs.declared.verdict.Verdict.TheVariants.{Accepted}
@@ -8,7 +8,7 @@ use Rattle.certificate.specs.declared.format.Format.{Format}
 use Rattle.clap.specs.Words.{Row, Text, takes}
 use Rattle.command_line.proofs.NoTask.{one_letter}
 use Rattle.command_line.proofs.Numbers.{one_number}
-use Rattle.command_line.specs.CommandLine.{AreLimits, ArePaths, IsCommand, IsTaskOf, IsVersion, Refuses, elc_app, version_number}
+use Rattle.command_line.specs.CommandLine.{AreLimits, ArePaths, IsCommand, IsTaskOf, IsFlag, IsTelling, IsVersion, Refuses, elc_app, tells_progress, version_number}
 use Rattle.command_line.specs.declared.tasks.Command.{Command}
 use Rattle.command_line.specs.declared.tasks.Command.TheVariants.{Check, Classify, Convert, Explain, Instances, Query, Session}
 use Rattle.command_line.specs.declared.tasks.FormatNumber.{FormatNumber}
@@ -23,6 +23,8 @@ use Rattle.cli.specs.Checks.{IsChecked, IsCheckFault}
 use Rattle.session.specs.Devices.{Device}
 use Rattle.cli.specs.Runs.{AreApart, HoldTexts, IsCheckRun, IsCheckTold, IsCheckedFiles, IsClassifyAnswer, IsClassifyRun, IsClassifyTold, IsCommandRun, IsPerformed, format_of}
 use Rattle.cli.specs.Files.{Store}
+use Rattle.cli.proofs.Telling.{nothing_told}
+use Rattle.session.specs.Progress.{IsProgress}
 use Rattle.cli.specs.Messages.{Output, IsAnswered, IsLineTold, IsPrinted, IsTold, classify_status, out_of_memory, verdict_status, verdict_text}
 use Rattle.cli.specs.Theorems.{AreSamePaths, IsAcceptedRun, IsDocumentApart, WrittenFilesAreAccepted}
 use Rattle.session.specs.Classifications.{IsClassified}
@@ -139,8 +141,8 @@ earlier : ◌≡◌ {A = ℕ} 104 101 → ⊥
 earlier e = omega (arith, e)
 
 -- what a run of a command says that the words of `check` ask for
-check_run : (name : Text) (rows : List Row) (paths : Paths) (command : Command) (limits : Limits) (s : Store) (content content' : Content) (old new : Output) (status : ℕ) → IsCommand name rows (Check paths) → IsCommand name rows command → IsCommandRun command limits s content content' old new status → (paths' : Paths) × AreSamePaths paths paths' × IsCheckRun paths' limits.version limits.max_bytes s content old new status
-check_run name rows paths (Check paths') limits s content content' old new status is is' run = (paths', same_paths rows paths paths' is.1 is'.1, run)
+check_run : (name : Text) (rows : List Row) (paths : Paths) (command : Command) (limits : Limits) (s : Store) (content content' : Content) (old new : Output) (status : ℕ) → IsCommand name rows (Check paths) → IsCommand name rows command → IsCommandRun command limits s content content' old new status → (paths' : Paths) × AreSamePaths paths paths' × IsCheckRun paths' limits.version limits.max_bytes s content old new status × (tells_progress command ≡ true)
+check_run name rows paths (Check paths') limits s content content' old new status is is' run = (paths', same_paths rows paths paths' is.1 is'.1, run, refl)
 check_run name rows paths (Classify paths' number') limits s content content' old new status is is' run = absurd (before 3 (one_letter name rows (Check paths) (Classify paths' number') is is'))
 check_run name rows paths (Convert conversion) limits s content content' old new status is is' run = absurd (before 6 (one_letter name rows (Check paths) (Convert conversion) is is'))
 check_run name rows paths (Instances document class) limits s content content' old new status is is' run = absurd (before 5 (one_letter name rows (Check paths) (Instances document class) is is'))
@@ -158,16 +160,24 @@ same_version Two One e = let bad : 2 ≡ 1 = e in absurd (cc)
 one_version : (rows : List Row) (v w : Version) → IsVersion rows v → IsVersion rows w → v ≡ w
 one_version rows v w h k = same_version v w (one_number _ _ _ _ h k)
 
+-- a flag stands or does not
+one_flag : (id : Text) (rows : List Row) (a b : Bool) → IsFlag id rows a → IsFlag id rows b → a ≡ b
+one_flag id rows true true h k = refl
+one_flag id rows false false h k = refl
+one_flag id rows true false h k = let bad : codes "true" ≡ codes "false" = one_value _ _ _ h k in cc
+one_flag id rows false true h k = let bad : codes "false" ≡ codes "true" = one_value _ _ _ h k in cc
+
 -- the words name one command and its matches, of whatever task is asked about them
 record IsNamed (name : Text) (rows : List Row) (command : Command) (task : Task) : Type 0 where
   is : IsCommand name rows command
   limits : AreLimits rows command task.limits
+  progress : IsTelling (tells_progress command) rows task.progress
 
 named : (words : List Text) (task other : Task) (command : Command) (of : IsTaskOf words other) → IsTaskOf words task → task.command ≡ command → IsNamed of.name of.rows command task
 named words task other command of is same =
     let P : Text × List Row → Type 0 = λ p. IsNamed p.0 p.1 command task in
     let Q : Command → Type 0 = λ k. IsNamed is.name is.rows k task in
-    subst P (one_value _ _ _ is.found of.found) (subst Q same (record { is = is.is.command; limits = is.is.limits }))
+    subst P (one_value _ _ _ is.found of.found) (subst Q same (record { is = is.is.command; limits = is.is.limits; progress = is.is.progress }))
 
 -- ---- two runs of the program
 
@@ -182,22 +192,24 @@ record IsClassifiedBy (paths : Paths) (s : Store) (content content' : Content) (
   format : Format
   limits : Limits
   same : AreSamePaths paths paths'
-  run : IsClassifyRun paths' format limits s content content' old new (code_of statuses.Done)
+  begun : Output
+  run : IsClassifyRun paths' format limits s content content' begun new (code_of statuses.Done)
 
 classified : (words : List Text) (task : Task) (paths : Paths) (number : FormatNumber) (s : Store) (content content' : Content) (old new : Output) → IsTaskOf words task → task.command ≡ Classify paths number → IsPerformed words s content content' old new (code_of statuses.Done) → IsClassifiedBy paths s content content' old new
 classified words task paths number s content content' old new of is (inl run) =
-    let made = classify_run _ _ paths number run.0.command run.0.limits s content content' old new (code_of statuses.Done) (named words task run.0 (Classify paths number) run.1 of is).is run.1.is.command run.2 in
-    record { paths' = made.0; format = made.1; limits = run.0.limits; same = made.2; run = made.3 }
+    let made = classify_run _ _ paths number run.0.command run.0.limits s content content' run.2.begun new (code_of statuses.Done) (named words task run.0 (Classify paths number) run.1 of is).is run.1.is.command run.2.holds in
+    record { paths' = made.0; format = made.1; limits = run.0.limits; same = made.2; begun = run.2.begun; run = made.3 }
 classified words task paths number s content content' old new of is (inr run) = absurd (line_not_done run.0 old.err new.err run.3)
 
 -- the run of a check that the words ask for
-checked : (words : List Text) (task other : Task) (paths : Paths) (s : Store) (content content' : Content) (old new : Output) (status : ℕ) → IsTaskOf words task → task.command ≡ Check paths → IsTaskOf words other → IsCommandRun other.command other.limits s content content' old new status → (paths' : Paths) × AreSamePaths paths paths' × IsCheckRun paths' task.limits.version task.limits.max_bytes s content old new status
+checked : (words : List Text) (task other : Task) (paths : Paths) (s : Store) (content content' : Content) (old new : Output) (status : ℕ) → IsTaskOf words task → task.command ≡ Check paths → IsTaskOf words other → IsCommandRun other.command other.limits s content content' old new status → (paths' : Paths) × AreSamePaths paths paths' × IsCheckRun paths' task.limits.version task.limits.max_bytes s content old new status × (other.progress ≡ task.progress)
 checked words task other paths s content content' old new status of is of' run =
     let here = named words task other (Check paths) of' of is in
     let made = check_run _ _ paths other.command other.limits s content content' old new status here.is of'.is.command run in
     let P : ℕ → Type 0 = λ most. IsCheckRun made.0 other.limits.version most s content old new status in
     let Q : Version → Type 0 = λ version. IsCheckRun made.0 version task.limits.max_bytes s content old new status in
-    (made.0, made.1, subst Q (one_version _ _ _ of'.is.limits.version here.limits.version) (subst P (one_number _ _ _ _ of'.is.limits.bytes.number here.limits.bytes.number) made.2))
+    let R : Bool → Type 0 = λ tells. IsTelling tells of'.rows other.progress in
+    (made.0, made.1, subst Q (one_version _ _ _ of'.is.limits.version here.limits.version) (subst P (one_number _ _ _ _ of'.is.limits.bytes.number here.limits.bytes.number) made.2), one_flag (codes "progress") of'.rows other.progress task.progress (subst R made.3 of'.is.progress) here.progress)
 
 -- words that clap takes are refused only for want of memory
 refused_check : (words : List Text) (task : Task) (paths : Paths) (version : Version) (most : ℕ) (fault : LineFault) (document : List ℕ) (old new : Output) (status : ℕ) → IsTaskOf words task → takes elc_app words ≡ true → Refuses words fault → new.out ≡ old.out → IsLineTold fault old.err new.err status → IsAcceptedRun version most document old new status
@@ -230,8 +242,16 @@ both p q r s a b d = record {
 pub files_are_accepted : WrittenFilesAreAccepted
 files_are_accepted words words' task task' paths paths' number s s' content content' content'' old new old' new' status document of is of' is' taken same apart document_apart known holds first (inl second) =
     let c = classified words task paths number s content content' old new of is first in
-    let k = checked words' task' second.0 paths' s' content' content'' old' new' status of' is' second.1 second.2 in
+    let behind = second.2 in
+    let begun = behind.begun in
+    let k = checked words' task' second.0 paths' s' content' content'' begun new' status of' is' second.1 behind.holds in
+    let Q : Bool → Type 0 = λ told. IsProgress told old'.err begun.err in
     let P : List ℕ → Type 0 = λ path. content path ≡ Some document in
-    runs_accepted c.paths' k.0 c.format c.limits task'.limits.version task'.limits.max_bytes s s' content content' old new old' new' status document known (both paths paths' c.paths' k.0 same c.same k.1) (apart_too paths c.paths' c.same apart) (document_apart_too paths c.paths' c.same document_apart) (subst P c.same.document holds) c.run k.2
+    record {
+      begun = begun;
+      unprinted = behind.unprinted;
+      progress = subst Q k.3 behind.progress;
+      holds = runs_accepted c.paths' k.0 c.format c.limits task'.limits.version task'.limits.max_bytes s s' content content' c.begun new begun new' status document known (both paths paths' c.paths' k.0 same c.same k.1) (apart_too paths c.paths' c.same apart) (document_apart_too paths c.paths' c.same document_apart) (subst P c.same.document holds) c.run k.2;
+    }
 files_are_accepted words words' task task' paths paths' number s s' content content' content'' old new old' new' status document of is of' is' taken same apart document_apart known holds first (inr second) =
-    refused_check words' task' paths' task'.limits.version task'.limits.max_bytes second.0 document old' new' status of' taken second.1 second.2 second.3
+    nothing_told task'.progress old' _ (refused_check words' task' paths' task'.limits.version task'.limits.max_bytes second.0 document old' new' status of' taken second.1 second.2 second.3)

@@ -1,7 +1,8 @@
 -- From a message that was told to what is said on the two outputs.
-use Rattle.std.proofs.Common.{◌≡◌, ℕ, List, inl, inr, subst, Result, Ok, Err, IfOk, string_bytes}
+use Rattle.std.proofs.Common.{◌≡◌, ℕ, List, Bool, inl, inr, refl, subst, Result, Ok, Err, IfOk, string_bytes}
 use Rattle.session.specs.Devices.{Device}
-use Rattle.cli.specs.Messages.{IsPrinted, IsTold, IsToldMessage}
+use Rattle.session.proofs.Told.{untold}
+use Rattle.cli.specs.Messages.{BehindProgress, Output, IsPrinted, IsTold, IsToldMessage}
 use Rattle.program.specs.declared.status.Status.{Status}
 use Rattle.speech.specs.declared.messages.Message.{Message}
 
@@ -18,3 +19,7 @@ told_status old new (Ok m) status answered is said =
     let P : Status → Type 0 = λ s. IsPrinted old new (string_bytes m.text) s answered in
     inl (string_bytes m.text, tt, subst P is said)
 told_status old new (Err e) status answered is said = inr said
+
+-- what holds from the start holds behind progress of which nothing is told
+pub nothing_told : (told : Bool) (old : Output) (Holds : Output → Type 0) → Holds old → BehindProgress told old Holds
+nothing_told told old Holds holds = record { begun = old; unprinted = refl; progress = untold told old.err; holds = holds }

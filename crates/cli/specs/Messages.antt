@@ -8,6 +8,7 @@ use Rattle.cert_check.specs.declared.verdict.Verdict.{Verdict}
 use Rattle.cert_check.specs.declared.verdict.Verdict.TheVariants.{Accepted, Rejected}
 use Rattle.classification.specs.declared.classification.Summary.{Summary}
 use Rattle.session.specs.Devices.{Device, Takes, FailsIn, seen}
+use Rattle.session.specs.Progress.{IsProgress}
 use Rattle.speech.specs.Messages.{IsDocumentText, cannot_read}
 use Rattle.speech.specs.declared.messages.Message.{Message}
 use Rattle.cli.specs.declared.fault.CheckFault.{CheckFault}
@@ -55,6 +56,13 @@ IsAnswered old new text status answered = IsPrinted old.out new.out text status 
 abbrev pub IsTold : (old new : Device) → (List ℕ → Type 0) → (status : Status) → (answered : ℕ) → Type 0
 IsTold old new IsText status answered =
     ((text : List ℕ) × IsText text × IsPrinted old new text status answered) ⊎ IsPrinted old new out_of_memory statuses.Memory answered
+
+-- where progress is told, lines of it go to standard error first; where it is not, nothing goes anywhere; and from there on this holds
+pub record BehindProgress (told : Bool) (old : Output) (Holds : Output → Type 0) : Type 0 where
+  pub begun : Output
+  pub unprinted : begun.out ≡ old.out
+  pub progress : IsProgress told old.err begun.err
+  pub holds : Holds begun
 
 -- ---- verdicts
 

@@ -27,7 +27,7 @@ use Rattle.program.specs.Status.{code_of}
 use Rattle.std.specs.Fmt.{decimal}
 use Rattle.std.specs.Global.{Vec}
 use Rattle.cli.specs.Files.{AsksFile, ChecksFiles, ClassifiesFile, ConvertsFiles, Store, store}
-use Rattle.cli.specs.Messages.{Output, IsAnswered, IsPrinted, IsTold, cannot_write, out_of_memory, rejected_text, unconverted_text, verdict_text, verdict_status, outputs, summary_text, IsCheckText, check_status, IsClassifyText, classify_status, IsLineTold}
+use Rattle.cli.specs.Messages.{BehindProgress, Output, IsAnswered, IsPrinted, IsTold, cannot_write, out_of_memory, rejected_text, unconverted_text, verdict_text, verdict_status, outputs, summary_text, IsCheckText, check_status, IsClassifyText, classify_status, IsLineTold}
 use Rattle.speech.specs.Messages.{IsDocumentText, IsQuestionText, cannot_read, question_status}
 use Rattle.cli.specs.Classifications.{IsFaultOf}
 use Rattle.session.specs.Classifications.{IsClassified}
@@ -250,10 +250,10 @@ IsCommandRun (Explain question) limits s content content' old new status = IsExp
 IsCommandRun (Query document expression) limits s content content' old new status = IsQueryRun document.now expression.now limits s content old new status
 IsCommandRun (Session document) limits s content content' old new status = IsSessionRun document.now limits s content old new status
 
--- a run of the program: of the task that the words ask for; or the words are no task, which is told
+-- a run of the program: of the task that the words ask for, behind its progress; or the words are no task, which is told
 abbrev pub IsPerformed : List Text → Store → (content content' : Content) → (old new : Output) → (status : ℕ) → Type 0
 IsPerformed words s content content' old new status =
-    ((task : Task) × IsTaskOf words task × IsCommandRun task.command task.limits s content content' old new status)
+    ((task : Task) × IsTaskOf words task × BehindProgress task.progress old (λ begun. IsCommandRun task.command task.limits s content content' begun new status))
     ⊎ ((fault : LineFault) × Refuses words fault × (new.out ≡ old.out) × IsLineTold fault old.err new.err status)
 
 -- a classification and a conversion write files
@@ -272,6 +272,12 @@ AskForNoFiles words = (task : Task) → IsTaskOf words task → writes_files tas
 abbrev pub Runs : {F In Out O E : Type 0} → files.Ghosts F In Out → sinks.Ghosts O → sinks.Ghosts E → Command → Limits → (old new : F × O × E) → (status : ℕ) → Type 0
 Runs F O E command limits old new status =
     IsCommandRun command limits (store F old.0 new.0) (F.content old.0) (F.content new.0) (outputs O E old.1 old.2) (outputs O E new.1 new.2) status
+
+-- a run of a command behind its progress
+abbrev pub RunsTelling : {F In Out O E : Type 0} → files.Ghosts F In Out → sinks.Ghosts O → sinks.Ghosts E → (told : Bool) → Command → Limits → (old new : F × O × E) → (status : ℕ) → Type 0
+RunsTelling F O E told command limits old new status =
+    BehindProgress told (outputs O E old.1 old.2)
+    (λ begun. IsCommandRun command limits (store F old.0 new.0) (F.content old.0) (F.content new.0) begun (outputs O E new.1 new.2) status)
 
 -- a run of the program
 abbrev pub Performs : {F In Out O E : Type 0} → files.Ghosts F In Out → sinks.Ghosts O → sinks.Ghosts E → List Text → (old new : F × O × E) → (status : ℕ) → Type 0

@@ -16,7 +16,7 @@ use Rattle.command_line.specs.declared.tasks.Command.TheVariants.{Check, Classif
 use Rattle.command_line.specs.declared.tasks.Task.{Task}
 use Rattle.cli.specs.Files.{Store}
 use Rattle.cli.specs.Runs.{AreApart, IsPerformed}
-use Rattle.cli.specs.Messages.{Output, IsAnswered, IsCheckText, IsTold, check_status}
+use Rattle.cli.specs.Messages.{BehindProgress, Output, IsAnswered, IsCheckText, IsTold, check_status}
 use Rattle.cli.specs.Classifications.{IsClassification}
 use Rattle.session.specs.Classifications.{IsClassified}
 use Rattle.session.specs.WrittenTexts.{Texts, AreWritten, Sinks}
@@ -131,11 +131,11 @@ IsAcceptedRun version most document old new status =
     ⊎ ((paths : Paths) × (fault : CheckFault) × IsStop version most document fault × (new.out ≡ old.out) × IsTold old.err new.err (IsCheckText paths most fault) (check_status fault) status)
 
 -- after a run of `classify` with status 0, over files whose content is known, a run of `check` on the same four paths prints
--- `accepted`. The words of both are taken by clap's function of the program's commands
+-- `accepted`, behind its progress. The words of both are taken by clap's function of the program's commands
 abbrev pub WrittenFilesAreAccepted : Type 0
 WrittenFilesAreAccepted =
     (written checked : List Text) (task task' : Task) (paths paths' : Paths) (format : FormatNumber) (s s' : Store) (content content' content'' : Content) (old new old' new' : Output) (status : ℕ) (document : List ℕ) →
     IsTaskOf written task → task.command ≡ Classify paths format → IsTaskOf checked task' → task'.command ≡ Check paths' → takes elc_app checked ≡ true →
     AreSamePaths paths paths' → AreApart paths → IsDocumentApart paths → s.is_known ≡ true → content paths.document.now ≡ Some document →
     IsPerformed written s content content' old new (code_of statuses.Done) → IsPerformed checked s' content' content'' old' new' status →
-    IsAcceptedRun task'.limits.version task'.limits.max_bytes document old' new' status
+    BehindProgress task'.progress old' (λ begun. IsAcceptedRun task'.limits.version task'.limits.max_bytes document begun new' status)

@@ -7,16 +7,19 @@ ghost use Rattle.cli.specs.Files.{AreTextsThere, BlamesText, ChecksFiles, IsText
 ghost use Rattle.cli.specs.Runs.{IsCheckedFiles};
 ghost use Rattle.cli.specs.declared.fault.CheckFault.TheVariants as faults;
 ghost use Rattle.profile.specs.declared.fault.DocumentFault.TheVariants as document_faults;
+ghost use Rattle.session.specs.Devices.{seen};
+ghost use Rattle.session.specs.Progress.{IsProgress};
 ghost use Rattle.std.specs.Prelude.{◌+◌, ◌<◌, IfErr, IfOk, IsErrOf, OnOk};
 ghost use Rattle.system_files.specs.Contents.{IsThere};
 
 use crate::fault::CheckFault;
-use crate::opening::ontology_of;
+use crate::opening::ontology_telling;
 use axioms::Ontology;
 use cert_check::{StreamFault, Verdict, check_from};
 use command_line::Paths;
-use device::{ReadFault, Source, read_all};
+use device::{ReadFault, Sink, Source, read_all};
 use profile::{Limits, read_document};
+use session::{Stage, tell_stage};
 use std::alloc::Global;
 use std::hash::RandomState;
 use system_files::{Files, OpenFault};
@@ -159,17 +162,20 @@ fn judged_in<F: Files>(
     }
 }
 
-/// The verdict on the texts in the three files, which are read in their order.
-fn files_judged<F: Files>(
+/// The verdict on the texts in the three files, which are read in their order. It is told what was read.
+fn files_judged<F: Files, E: Sink>(
     alloc: Global,
     ontology: &Ontology,
+    told: bool,
     files: &F,
+    err: &mut E,
     paths: &Paths<'_>,
 ) -> Result<Verdict, CheckFault>
     ensures judged { IfOk result (AreTextsJudged ontology.now (F.content files.now paths.now.taxonomy.now)
         (F.content files.now paths.now.instances.now) (F.content files.now paths.now.certificate.now)) }
     ensures there { OnOk result (AreTextsThere (F.is_known files.now) (F.content files.now) paths.now) }
     ensures fault { IfErr result (BlamesText F.reads_fail (F.is_known files.now) (F.content files.now) paths.now) }
+    ensures progress { IsProgress told (seen E.Sink err.old) (seen E.Sink err.new) }
 {
     let taxonomy = match file_bytes(alloc, files, paths.taxonomy, 2) {
         Ok(taxonomy) => taxonomy,
@@ -179,6 +185,11 @@ fn files_judged<F: Files>(
         Ok(instances) => instances,
         Err(fault) => return Err(fault),
     };
+    let read = Stage::TextsRead {
+        taxonomy: taxonomy.len(),
+        instances: instances.len(),
+    };
+    tell_stage(err, told, &read);
     judged_in(
         alloc,
         ontology,
@@ -189,23 +200,27 @@ fn files_judged<F: Files>(
     )
 }
 
-/// The ontology of the document in a file, and the verdict on its texts in three more.
-pub(crate) fn checked_files<F: Files>(
+/// The ontology of the document in a file, and the verdict on its texts in three more. Where progress is told, `err` is told how far
+/// it is.
+pub(crate) fn checked_files<F: Files, E: Sink>(
     alloc: Global,
     paths: &Paths<'_>,
     limits: &Limits,
+    told: bool,
     files: &F,
+    err: &mut E,
     state: RandomState,
 ) -> Result<(Ontology, Verdict), CheckFault>
     ensures checked { IsCheckedFiles paths.now limits.now.version limits.now.max_bytes (F.content files.now) result }
     ensures blames { ChecksFiles F.reads_fail (F.is_known files.now) (F.content files.now) paths.now result }
+    ensures progress { IsProgress told (seen E.Sink err.old) (seen E.Sink err.new) }
 {
-    let ontology = match ontology_of(alloc, files, paths.document, limits, state) {
+    let ontology = match ontology_telling(alloc, files, paths.document, limits, told, err, state) {
         Ok(ontology) => ontology,
         Err(fault) => return Err(CheckFault::Document(fault)),
     };
     ontology.well_formed();
-    match files_judged(alloc, &ontology, files, paths) {
+    match files_judged(alloc, &ontology, told, files, err, paths) {
         Ok(verdict) => Ok((ontology, verdict)),
         Err(fault) => Err(fault),
     }

@@ -1,6 +1,8 @@
 //! Classification of a document.
 ghost use Rattle.source_lines.specs.Sources.{source_state};
 ghost use Rattle.cli.specs.Classifications.{Classifies, IsDocumentRead};
+ghost use Rattle.session.specs.Devices.{seen};
+ghost use Rattle.session.specs.Progress.{IsProgress};
 ghost use Rattle.session.specs.WrittenTexts.{KeepPaths};
 ghost use Rattle.cli.specs.declared.fault.ClassifyFault.TheVariants as faults;
 ghost use Rattle.profile.specs.declared.fault.DocumentFault.TheVariants as document_faults;
@@ -9,9 +11,9 @@ ghost use Rattle.std.specs.Prelude.{◌+◌, ◌<◌, IsErrOf};
 use crate::fault::ClassifyFault;
 use certificate::Format;
 use classification::Summary;
-use device::{Sink, Source};
+use device::{BufferSink, Sink, Source};
 use profile::Limits;
-use session::{RunFault, classification_of, write_texts};
+use session::{RunFault, Stage, classification_of, tell_stage, write_texts};
 use std::alloc::Global;
 use std::hash::RandomState;
 
@@ -36,14 +38,62 @@ pub fn classify_document<S: Source, T: Sink, I: Sink, C: Sink>(
     ensures read { IsDocumentRead result (source_state S.Source source.old) (source_state S.Source source.new) }
     ensures paths { KeepPaths T.Sink I.Sink C.Sink (taxonomy.old, instances.old, certificate.old) (taxonomy.new, instances.new, certificate.new) }
 {
-    let made = match classification_of(alloc, source, limits, format, state) {
+    let mut nowhere = BufferSink::new(alloc);
+    classify_telling(
+        alloc,
+        source,
+        taxonomy,
+        instances,
+        certificate,
+        limits,
+        format,
+        false,
+        &mut nowhere,
+        state,
+    )
+}
+
+/// The same, and where progress is told, the sink is told how far it is.
+pub(crate) fn classify_telling<S: Source, T: Sink, I: Sink, C: Sink, W: Sink>(
+    alloc: Global,
+    source: &mut S,
+    taxonomy: &mut T,
+    instances: &mut I,
+    certificate: &mut C,
+    limits: &Limits,
+    format: Format,
+    told: bool,
+    sink: &mut W,
+    state: RandomState,
+) -> Result<Summary, ClassifyFault>
+    ensures answered { Classifies T.Sink I.Sink C.Sink limits.now format (S.left source.old)
+        (taxonomy.old, instances.old, certificate.old) (taxonomy.new, instances.new, certificate.new) result }
+    ensures beyond { IsErrOf result (faults.Document document_faults.TooLarge) → S.most source.new + limits.now.max_bytes < S.most source.old }
+    ensures read { IsDocumentRead result (source_state S.Source source.old) (source_state S.Source source.new) }
+    ensures paths { KeepPaths T.Sink I.Sink C.Sink (taxonomy.old, instances.old, certificate.old) (taxonomy.new, instances.new, certificate.new) }
+    // Where progress is told, the sink takes lines of stages; where it is not, nothing.
+    ensures progress { IsProgress told (seen W.Sink sink.old) (seen W.Sink sink.new) }
+{
+    let made = match classification_of(alloc, source, limits, format, told, sink, state) {
         Ok(made) => made,
         Err(RunFault::Document(fault)) => return Err(ClassifyFault::Document(fault)),
         Err(RunFault::Limit) => return Err(ClassifyFault::Limit),
         Err(RunFault::Memory) => return Err(ClassifyFault::Memory),
     };
     match write_texts(&made, taxonomy, instances, certificate) {
-        Ok(()) => Ok(made.summary),
+        Ok(()) => {
+            let taxonomy = made.taxonomy.len();
+            let certificate = made.certificate.len();
+            tell_stage(
+                sink,
+                told,
+                &Stage::Written {
+                    taxonomy,
+                    certificate,
+                },
+            );
+            Ok(made.summary)
+        }
         Err(number) => Err(ClassifyFault::Io(number)),
     }
 }

@@ -14,7 +14,8 @@ use device::{Sink, write_all};
 use itoa::Buffer;
 use profile::Limits;
 use program::Status;
-use speech::{Message, document_message, message_of, unread_message, write_pieces};
+use session::write_pieces;
+use speech::{Message, document_message, message_of, unread_message};
 use std::alloc::{AllocError, Global};
 
 /// Prints the bytes and gives the status; where the sink fails, that of a file.

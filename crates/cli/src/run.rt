@@ -1,14 +1,15 @@
 //! A whole run of the program.
 ghost use Rattle.session.specs.Devices.{seen};
+ghost use Rattle.session.specs.Progress.{IsProgress};
 ghost use Rattle.cli.specs.Files.{store};
-ghost use Rattle.cli.specs.Runs.{AskForNoFiles, IsCheckTold, IsClassifyMade, IsClassifyTold, IsConvertTold, IsUnconvertedTold, Performs, Runs};
+ghost use Rattle.cli.specs.Runs.{AskForNoFiles, IsCheckTold, IsClassifyMade, IsClassifyTold, IsConvertTold, IsUnconvertedTold, Performs, Runs, RunsTelling};
 ghost use Rattle.cli.specs.Messages.{IsLineTold, outputs};
 ghost use Rattle.cli.specs.FileSinks.{HasFresh, HaveNotFailed};
 ghost use Rattle.std.specs.Prelude.{◌≡◌, ℕ, List, IfOk, map};
 
 use crate::asking::{perform_explain, perform_instances, perform_query};
 use crate::checking::checked_files;
-use crate::classifying::classify_document;
+use crate::classifying::classify_telling;
 use crate::converting::converted_file;
 use crate::fault::{CheckFault, ClassifyFault, ConversionFault};
 use crate::formats::format_of;
@@ -58,16 +59,20 @@ fn sinks_of<F: Files>(files: &mut F, paths: &Paths<'_>) -> Result<TextSinks<F::O
     })
 }
 
-/// Classifies the document, and writes its texts into their files, the certificate in the format.
-fn classified_files<F: Files>(
+/// Classifies the document, and writes its texts into their files, the certificate in the format. Where progress is told, `err` is
+/// told how far it is.
+fn classified_files<F: Files, E: Sink>(
     alloc: Global,
     paths: &Paths<'_>,
     format: Format,
     limits: &Limits,
+    told: bool,
     files: &mut F,
+    err: &mut E,
     state: RandomState,
 ) -> Result<Summary, ClassifyFault>
-    ensures { IsClassifyMade paths.now format limits.now (store F.Files files.old files.new) (F.content files.old) (F.content files.new) result }
+    ensures made { IsClassifyMade paths.now format limits.now (store F.Files files.old files.new) (F.content files.old) (F.content files.new) result }
+    ensures progress { IsProgress told (seen E.Sink err.old) (seen E.Sink err.new) }
 {
     let mut document = match document_of(files, paths.document) {
         Ok(document) => document,
@@ -76,7 +81,7 @@ fn classified_files<F: Files>(
     let Ok(mut sinks) = sinks_of(files, paths) else {
         return Err(ClassifyFault::Document(DocumentFault::Memory));
     };
-    let classified = classify_document(
+    let classified = classify_telling(
         alloc,
         &mut document,
         &mut sinks.taxonomy,
@@ -84,6 +89,8 @@ fn classified_files<F: Files>(
         &mut sinks.certificate,
         limits,
         format,
+        told,
+        err,
         state,
     );
     files.close(sinks.taxonomy);
@@ -115,14 +122,16 @@ fn perform_classify<F: Files, O: Sink, E: Sink>(
     paths: &Paths<'_>,
     number: FormatNumber,
     limits: &Limits,
+    told: bool,
     files: &mut F,
     out: &mut O,
     err: &mut E,
     state: RandomState,
 ) -> u8
-    ensures { Runs F.Files O.Sink E.Sink (Command.Classify paths.now number) limits.now (files.old, out.old, err.old) (files.new, out.new, err.new) result }
+    ensures { RunsTelling F.Files O.Sink E.Sink told (Command.Classify paths.now number) limits.now (files.old, out.old, err.old) (files.new, out.new, err.new) result }
 {
-    let answer = classified_files(alloc, paths, format_of(number), limits, files, state);
+    let format = format_of(number);
+    let answer = classified_files(alloc, paths, format, limits, told, files, err, state);
     tell_classified(alloc, answer, paths, limits, out, err)
 }
 
@@ -149,14 +158,15 @@ fn perform_check<F: Files, O: Sink, E: Sink>(
     alloc: Global,
     paths: &Paths<'_>,
     limits: &Limits,
+    told: bool,
     files: &F,
     out: &mut O,
     err: &mut E,
     state: RandomState,
 ) -> u8
-    ensures { Runs F.Files O.Sink E.Sink (Command.Check paths.now) limits.now (files.now, out.old, err.old) (files.now, out.new, err.new) result }
+    ensures { RunsTelling F.Files O.Sink E.Sink told (Command.Check paths.now) limits.now (files.now, out.old, err.old) (files.now, out.new, err.new) result }
 {
-    let answer = checked_files(alloc, paths, limits, files, state);
+    let answer = checked_files(alloc, paths, limits, told, files, err, state);
     tell_checked(alloc, answer, paths, limits, out, err)
 }
 
@@ -253,11 +263,14 @@ pub fn perform<F: Files, O: Sink, E: Sink>(
         Err(fault) => return refuse(alloc, &fault, err),
     };
     let limits = task.limits;
+    let told = task.progress;
     match task.command {
         Command::Classify { paths, format } => {
-            perform_classify(alloc, &paths, format, &limits, files, out, err, state)
+            perform_classify(alloc, &paths, format, &limits, told, files, out, err, state)
         }
-        Command::Check(paths) => perform_check(alloc, &paths, &limits, files, out, err, state),
+        Command::Check(paths) => {
+            perform_check(alloc, &paths, &limits, told, files, out, err, state)
+        }
         Command::Convert(conversion) => {
             perform_convert(alloc, &conversion, &limits, files, out, err, state)
         }
@@ -272,7 +285,7 @@ pub fn perform<F: Files, O: Sink, E: Sink>(
             expression,
         } => perform_query(alloc, document, expression, &limits, files, out, err, state),
         Command::Session { document } => {
-            perform_session(alloc, document, &limits, files, out, err, state)
+            perform_session(alloc, document, &limits, told, files, out, err, state)
         }
     }
 }

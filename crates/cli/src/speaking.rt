@@ -1,7 +1,9 @@
 //! A run that keeps a document, and answers commands.
 ghost use Rattle.cli.specs.Files.{BlamesFile};
-ghost use Rattle.cli.specs.Runs.{Runs};
+ghost use Rattle.cli.specs.Runs.{RunsTelling};
 ghost use Rattle.profile.specs.Faults.{OpensKnown, RefusesKnown};
+ghost use Rattle.session.specs.Devices.{seen};
+ghost use Rattle.session.specs.Progress.{IsProgress};
 ghost use Rattle.session.specs.Sessions.{as_read};
 ghost use Rattle.std.specs.Prelude.{◌≡◌, [], IfErr, IfOk};
 
@@ -10,7 +12,7 @@ use crate::printing::tell;
 use command_line::Command;
 use device::Sink;
 use profile::{DocumentFault, Limits};
-use session::Session;
+use session::{Session, Stage, tell_stage};
 use speech::{SessionService, converse, document_message};
 use std::alloc::Global;
 use std::hash::RandomState;
@@ -39,23 +41,34 @@ fn session_in<F: Files>(
     }
 }
 
+/// Tells what was read, where progress is told.
+fn tell_opened<E: Sink>(session: &Session, told: bool, err: &mut E)
+    ensures { IsProgress told (seen E.Sink err.old) (seen E.Sink err.new) }
+{
+    let bytes = session.bytes();
+    let axioms = session.ontology().axioms().len();
+    tell_stage(err, told, &Stage::Read { bytes, axioms });
+}
+
 /// Opens the document, and answers the commands that are read, until there are no more.
 pub(crate) fn perform_session<F: Files, O: Sink, E: Sink>(
     alloc: Global,
     path: &str,
     limits: &Limits,
+    told: bool,
     files: &F,
     out: &mut O,
     err: &mut E,
     state: RandomState,
 ) -> u8
-    ensures { Runs F.Files O.Sink E.Sink (Command.Session path.entry) limits.now
+    ensures { RunsTelling F.Files O.Sink E.Sink told (Command.Session path.entry) limits.now
         (files.now, out.old, err.old) (files.now, out.new, err.new) result }
 {
     let session = match session_in(alloc, path, limits, files, state) {
         Ok(session) => session,
         Err(fault) => return tell(err, document_message(alloc, &fault, path, limits)),
     };
+    tell_opened(&session, told, err);
     let mut input = match document_of(files, INPUT) {
         Ok(input) => input,
         Err(fault) => return tell(err, document_message(alloc, &fault, INPUT, limits)),

@@ -6,6 +6,7 @@ mod failing;
 mod forged;
 mod formats;
 mod hierarchies;
+mod progress;
 mod refusals;
 mod refused;
 mod starting;

@@ -8,3 +8,5 @@ pub mod Asking
 pub mod AnyVersion
 pub mod Calls
 pub mod SameTexts
+pub mod Pieces
+pub mod Told

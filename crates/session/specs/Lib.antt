@@ -1,4 +1,5 @@
 pub mod Devices
+pub mod Progress
 pub mod WrittenTexts
 pub mod Sessions
 pub mod Additions

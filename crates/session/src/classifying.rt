@@ -1,33 +1,61 @@
 //! The texts of a document.
 ghost use Rattle.profile.specs.declared.fault.DocumentFault.TheVariants as reading;
 ghost use Rattle.session.specs.Classifications.{IsClassified};
+ghost use Rattle.session.specs.Devices.{seen};
+ghost use Rattle.session.specs.Progress.{IsProgress};
 ghost use Rattle.source_lines.specs.Sources.{source_state};
 ghost use Rattle.session.specs.Run.{IsRunFault, IsRunRead};
 ghost use Rattle.session.specs.WrittenTexts.{texts_of};
 ghost use Rattle.session.specs.declared.run_fault.RunFault.TheVariants as run_faults;
 ghost use Rattle.std.specs.Prelude.{◌+◌, ◌<◌, IfErr, IfOk, IsErrOf};
 
-use crate::opening::run_document;
+use crate::opening::run_telling;
+use crate::progress::{Stage, tell_stage};
 use crate::run_fault::RunFault;
 use certificate::Format;
 use classification::{Classification, classified};
-use device::Source;
+use device::{Sink, Source};
 use profile::Limits;
 use std::alloc::Global;
 use std::hash::RandomState;
 
+/// How many line feeds the text has.
+fn line_feeds(text: &[u8]) -> usize {
+    let mut lines: usize = 0;
+    for byte in text {
+        if *byte == b'\n' {
+            lines = lines.saturating_add(1);
+        }
+    }
+    lines
+}
+
+/// Tells that the texts are made, where progress is told.
+fn tell_made<W: Sink>(made: &Classification, told: bool, sink: &mut W)
+    ensures { IsProgress told (seen W.Sink sink.old) (seen W.Sink sink.new) }
+{
+    if !told {
+        return;
+    }
+    let lines = line_feeds(&made.certificate);
+    let bytes = made.certificate.len();
+    tell_stage(sink, told, &Stage::Made { lines, bytes });
+}
+
 /// The taxonomy, the instances and the certificate, which is in the format, of the document that the source gives, in memory, and its
-/// counts. Nothing else of it is kept.
+/// counts. Nothing else of it is kept. Where progress is told, the sink is told how far it is.
 ///
 /// # Errors
 ///
 /// `Document` where the document is not read as an ontology; `Limit` where its closure has more facts than the limit; `Memory` where
 /// memory was refused.
-pub fn classification_of<S: Source>(
+pub fn classification_of<S: Source, W: Sink>(
     alloc: Global,
     source: &mut S,
     limits: &Limits,
     format: Format,
+    told: bool,
+    sink: &mut W,
     state: RandomState,
 ) -> Result<Classification, RunFault>
     // The texts and the counts are those of the document, or the fault says why there are none; and what was read of the document.
@@ -36,15 +64,20 @@ pub fn classification_of<S: Source>(
     // Of a source that does not tell its bytes, too: it gave more than the limit.
     ensures beyond { IsErrOf result (run_faults.Document reading.TooLarge) → S.most source.new + limits.now.max_bytes < S.most source.old }
     ensures read { IsRunRead result (source_state S.Source source.old) (source_state S.Source source.new) }
+    // Where progress is told, the sink takes lines of stages; where it is not, nothing.
+    ensures progress { IsProgress told (seen W.Sink sink.old) (seen W.Sink sink.new) }
 {
-    let finished = match run_document(alloc, source, limits, state) {
+    let finished = match run_telling(alloc, source, limits, told, sink, state) {
         Ok(finished) => finished,
         Err(fault) => return Err(fault),
     };
     let made = classified(alloc, &finished.ontology, &finished.saturation, format);
     drop(finished);
     match made {
-        Ok(made) => Ok(made),
+        Ok(made) => {
+            tell_made(&made, told, sink);
+            Ok(made)
+        }
         Err(_) => Err(RunFault::Memory),
     }
 }

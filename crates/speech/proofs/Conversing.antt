@@ -13,7 +13,7 @@ use Rattle.speech.specs.declared.conversation.Ending.TheVariants as endings
 use Rattle.speech.specs.declared.input_fault.InputFault.{InputFault}
 use Rattle.speech.specs.declared.service.Service.{Ghosts}
 use Rattle.speech.proofs.Coming.{comes_more, comes_none}
-use Rattle.speech.proofs.Pieces.{begun, failed}
+use Rattle.session.proofs.Pieces.{begun, failed}
 
 -- what was asked by then is answered
 pub record HasAnswered {V : Type 0} (G : Ghosts V) (old new : V) (ahead : List ℕ) (before after : SourceState) (sink sink' : Device) : Type 0 where

@@ -1,4 +1,3 @@
-pub mod Pieces
 pub mod Splitting
 pub mod Beginnings
 pub mod Coming

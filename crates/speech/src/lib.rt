@@ -23,6 +23,6 @@ pub use editing::conversations_are_edits;
 pub use input_fault::InputFault;
 pub use line::{LineFault, read_command};
 pub use messages::{Message, document_message, message_of, question_message, unread_message};
-pub use reply::{Reply, write_pieces, write_reply};
+pub use reply::{Reply, write_reply};
 pub use service::Service;
 pub use session_service::SessionService;

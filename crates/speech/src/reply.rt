@@ -1,31 +1,18 @@
 //! Replies.
 ghost use Rattle.session.specs.Devices.{FailsIn, Takes, seen};
 ghost use Rattle.speech.specs.Replies.{done_text, refused_text, reply_text, told};
-ghost use Rattle.std.specs.List.{flat_map};
 ghost use Rattle.std.specs.Prelude.{OnErr, OnOk};
 
-use device::{Failed, Sink, write_all};
+use device::{Failed, Sink};
 use itoa::Buffer;
 use program::Status;
+use session::write_pieces;
 
 /// What is replied to a command: the status with which a command of the program ends there, and what it prints.
 #[derive(Debug, Drop)]
 pub struct Reply {
     pub status: Status,
     pub text: Vec<u8>,
-}
-
-/// Writes the pieces, one behind the other.
-pub fn write_pieces<W: Sink>(sink: &mut W, pieces: &[&[u8]]) -> Result<(), Failed>
-    ensures whole { OnOk result (Takes (seen W.Sink sink.old) (seen W.Sink sink.new) (flat_map (λ p. p.now) pieces.entry.now)) }
-    ensures begun { OnErr result (FailsIn (seen W.Sink sink.old) (seen W.Sink sink.new) (flat_map (λ p. p.now) pieces.entry.now)) }
-{
-    for piece in pieces {
-        if let Err(fault) = write_all(sink, *piece) {
-            return Err(fault);
-        }
-    }
-    Ok(())
 }
 
 /// Writes that a command was done, and its answer behind that.

@@ -8,8 +8,8 @@ use Rattle.cli.specs.Files.{Store}
 use Rattle.session.specs.WrittenTexts.{Sinks}
 use Rattle.cli.proofs.run.classified_files.Goals as goal
 
-pub returns-in-Err : goal.returns-in-Err
-returns-in-Err g c =
+pub returns-in-Err-clause-made : goal.returns-in-Err-clause-made
+returns-in-Err-clause-made g c =
     let known = g.F.Files.is_known c.args.files.now in
     record {
       answered = (unopened_is_refused c.args.limits.now.version known _ c.args.limits.now.max_bytes c.in-Err.fault c.in-Err.ensures.fault, λ path. stays known _ _ refl);
@@ -17,8 +17,8 @@ returns-in-Err g c =
       others = λ path no_taxonomy no_instances no_certificate. refl;
     }
 
-pub returns-in_default : goal.returns-in_default
-returns-in_default g c =
+pub returns-in_default-clause-made : goal.returns-in_default-clause-made
+returns-in_default-clause-made g c =
     let known = g.F.Files.is_known c.args.files.now in
     record {
       answered = (refused_memory _ _ _, λ path. stays known _ _ (c.sinks_of.ensures.kept path));
@@ -26,8 +26,8 @@ returns-in_default g c =
       others = λ path no_taxonomy no_instances no_certificate. c.sinks_of.ensures.kept path;
     }
 
-pub returns : goal.returns
-returns g c =
+pub returns-clause-made : goal.returns-clause-made
+returns-clause-made g c =
     let paths = c.args.paths.now in
     let limits = c.args.limits.now in
     let format = c.args.format in
@@ -38,7 +38,7 @@ returns g c =
     let made = c.in-Ok-sinks_of.sinks in
     let fresh = c.in-Ok-sinks_of.ensures.fresh in
     let working = c.in-Ok-sinks_of.ensures.working in
-    let call = c.classify_document-classified in
+    let call = c.classify_telling-classified in
     let after = call.new in
     let kept = call.ensures.paths in
     let before = c.in-Ok.document in

@@ -1,5 +1,7 @@
 use Rattle.std.proofs.Common.{◌≡◌, ◌∙◌, true, false, ap, inl, subst, sym}
-use Rattle.cli.specs.Runs.{Runs, writes_files}
+use Rattle.cli.specs.Messages.{outputs}
+use Rattle.cli.specs.Runs.{Runs, RunsTelling, writes_files}
+use Rattle.cli.proofs.Telling.{nothing_told}
 use Rattle.command_line.specs.declared.tasks.Command.{Command}
 use Rattle.cli.proofs.run.perform.Goals as goal
 
@@ -7,7 +9,7 @@ pub returns-in-Classify-clause-performed : goal.returns-in-Classify-clause-perfo
 returns-in-Classify-clause-performed g c =
     let task = c.in-Ok.task in
     let call = c.perform_classify in
-    let P : Command → Type 0 = λ command. Runs g.F.Files g.O.Sink g.E.Sink command task.limits (c.args.files.now, c.args.out.now, c.args.err.now) (call.new.files, call.new.out, call.new.err) call.result in
+    let P : Command → Type 0 = λ command. RunsTelling g.F.Files g.O.Sink g.E.Sink task.progress command task.limits (c.args.files.now, c.args.out.now, c.args.err.now) (call.new.files, call.new.out, call.new.err) call.result in
     inl (task, c.in-Ok.ensures.asked, subst P (sym c.in-Classify.is) call.ensures)
 
 pub returns-in-Classify-clause-untouched : goal.returns-in-Classify-clause-untouched
@@ -19,7 +21,7 @@ pub returns-in-Check-clause-performed : goal.returns-in-Check-clause-performed
 returns-in-Check-clause-performed g c =
     let task = c.in-Ok.task in
     let call = c.perform_check in
-    let P : Command → Type 0 = λ command. Runs g.F.Files g.O.Sink g.E.Sink command task.limits (c.args.files.now, c.args.out.now, c.args.err.now) (c.args.files.now, call.new.out, call.new.err) call.result in
+    let P : Command → Type 0 = λ command. RunsTelling g.F.Files g.O.Sink g.E.Sink task.progress command task.limits (c.args.files.now, c.args.out.now, c.args.err.now) (c.args.files.now, call.new.out, call.new.err) call.result in
     inl (task, c.in-Ok.ensures.asked, subst P (sym c.in-Check.is) call.ensures)
 
 pub returns-in-Instances-clause-performed : goal.returns-in-Instances-clause-performed
@@ -27,27 +29,30 @@ returns-in-Instances-clause-performed g c =
     let task = c.in-Ok.task in
     let call = c.perform_instances in
     let P : Command → Type 0 = λ command. Runs g.F.Files g.O.Sink g.E.Sink command task.limits (c.args.files.now, c.args.out.now, c.args.err.now) (c.args.files.now, call.new.out, call.new.err) call.result in
-    inl (task, c.in-Ok.ensures.asked, subst P (sym c.in-Instances.is) call.ensures)
+    let old = outputs g.O.Sink g.E.Sink c.args.out.now c.args.err.now in
+    inl (task, c.in-Ok.ensures.asked, nothing_told task.progress old _ (subst P (sym c.in-Instances.is) call.ensures))
 
 pub returns-in-Explain-clause-performed : goal.returns-in-Explain-clause-performed
 returns-in-Explain-clause-performed g c =
     let task = c.in-Ok.task in
     let call = c.perform_explain in
     let P : Command → Type 0 = λ command. Runs g.F.Files g.O.Sink g.E.Sink command task.limits (c.args.files.now, c.args.out.now, c.args.err.now) (c.args.files.now, call.new.out, call.new.err) call.result in
-    inl (task, c.in-Ok.ensures.asked, subst P (sym c.in-Explain.is) call.ensures)
+    let old = outputs g.O.Sink g.E.Sink c.args.out.now c.args.err.now in
+    inl (task, c.in-Ok.ensures.asked, nothing_told task.progress old _ (subst P (sym c.in-Explain.is) call.ensures))
 
 pub returns-in-Query-clause-performed : goal.returns-in-Query-clause-performed
 returns-in-Query-clause-performed g c =
     let task = c.in-Ok.task in
     let call = c.perform_query in
     let P : Command → Type 0 = λ command. Runs g.F.Files g.O.Sink g.E.Sink command task.limits (c.args.files.now, c.args.out.now, c.args.err.now) (c.args.files.now, call.new.out, call.new.err) call.result in
-    inl (task, c.in-Ok.ensures.asked, subst P (sym c.in-Query.is) call.ensures)
+    let old = outputs g.O.Sink g.E.Sink c.args.out.now c.args.err.now in
+    inl (task, c.in-Ok.ensures.asked, nothing_told task.progress old _ (subst P (sym c.in-Query.is) call.ensures))
 
 pub returns-in-Session-clause-performed : goal.returns-in-Session-clause-performed
 returns-in-Session-clause-performed g c =
     let task = c.in-Ok.task in
     let call = c.perform_session in
-    let P : Command → Type 0 = λ command. Runs g.F.Files g.O.Sink g.E.Sink command task.limits (c.args.files.now, c.args.out.now, c.args.err.now) (c.args.files.now, call.new.out, call.new.err) call.result in
+    let P : Command → Type 0 = λ command. RunsTelling g.F.Files g.O.Sink g.E.Sink task.progress command task.limits (c.args.files.now, c.args.out.now, c.args.err.now) (c.args.files.now, call.new.out, call.new.err) call.result in
     inl (task, c.in-Ok.ensures.asked, subst P (sym c.in-Session.is) call.ensures)
 
 pub returns-in-Convert-clause-performed : goal.returns-in-Convert-clause-performed
@@ -55,7 +60,8 @@ returns-in-Convert-clause-performed g c =
     let task = c.in-Ok.task in
     let call = c.perform_convert in
     let P : Command → Type 0 = λ command. Runs g.F.Files g.O.Sink g.E.Sink command task.limits (c.args.files.now, c.args.out.now, c.args.err.now) (call.new.files, call.new.out, call.new.err) call.result in
-    inl (task, c.in-Ok.ensures.asked, subst P (sym c.in-Convert.is) call.ensures)
+    let old = outputs g.O.Sink g.E.Sink c.args.out.now c.args.err.now in
+    inl (task, c.in-Ok.ensures.asked, nothing_told task.progress old _ (subst P (sym c.in-Convert.is) call.ensures))
 
 pub returns-in-Convert-clause-untouched : goal.returns-in-Convert-clause-untouched
 returns-in-Convert-clause-untouched g c none =

@@ -1,9 +1,9 @@
-use Rattle.std.proofs.Common.{◌≡◌, ◌∙◌, ap, inl, inr, refl}
+use Rattle.std.proofs.Common.{◌∙◌, ap, inl, inr, refl}
 use Rattle.program.specs.Status.{code_of}
 use Rattle.source_lines.specs.Sources.{source_state}
 use Rattle.speech.specs.Messages.{IsDocumentText}
 use Rattle.profile.specs.Messages.{status_of}
-use Rattle.cli.proofs.Telling.{told}
+use Rattle.cli.proofs.Telling.{nothing_told, told}
 use Rattle.cli.specs.Messages.{outputs}
 use Rattle.cli.specs.Speaking.{input_path}
 use Rattle.cli.proofs.speaking.perform_session.Goals as goal
@@ -14,40 +14,50 @@ returns-in-Err g c =
     let fault = c.in-Err.fault in
     let old = outputs g.O.Sink g.E.Sink c.args.out.now c.args.err.now in
     let new = outputs g.O.Sink g.E.Sink c.args.out.now c.tell.new.err in
-    inr (inl (record {
+    nothing_told c.args.told old _ (inr (inl (record {
       fault = fault;
       refused = c.in-Err.ensures.refused;
       blames = c.in-Err.ensures.blames;
       unprinted = refl;
       told = told old.err new.err c.document_message.result (IsDocumentText c.args.path.now limits.max_bytes fault) (status_of fault) c.tell.result c.document_message.ensures c.tell.ensures;
-    }))
+    })))
 
 pub returns-in-Err-document_of : goal.returns-in-Err-document_of
 returns-in-Err-document_of g c =
     let limits = c.args.limits.now in
     let fault = c.in-Err-document_of.fault in
-    let old = outputs g.O.Sink g.E.Sink c.args.out.now c.args.err.now in
+    let old = outputs g.O.Sink g.E.Sink c.args.out.now c.tell_opened.new.err in
     let new = outputs g.O.Sink g.E.Sink c.args.out.now c.tell-in-Err-document_of.new.err in
-    inr (inr (record {
-      fault = fault;
-      unopened = c.in-Err-document_of.ensures.fault;
+    record {
+      begun = old;
       unprinted = refl;
-      told = told old.err new.err c.document_message-in-Err-document_of.result (IsDocumentText input_path limits.max_bytes fault) (status_of fault) c.tell-in-Err-document_of.result
-          c.document_message-in-Err-document_of.ensures c.tell-in-Err-document_of.ensures;
-    }))
+      progress = c.tell_opened.ensures;
+      holds = inr (inr (record {
+        fault = fault;
+        unopened = c.in-Err-document_of.ensures.fault;
+        unprinted = refl;
+        told = told old.err new.err c.document_message-in-Err-document_of.result (IsDocumentText input_path limits.max_bytes fault) (status_of fault) c.tell-in-Err-document_of.result
+            c.document_message-in-Err-document_of.ensures c.tell-in-Err-document_of.ensures;
+      }));
+    }
 
 pub returns : goal.returns
 returns g c =
-    inl (record {
-      service = record { alloc = c.args.alloc; session = c.in-Ok.session; limits = c.args.limits.now };
-      last = c.converse.new.service;
-      opened = record { read = c.in-Ok.ensures.opened; limit = c.in-Ok.ensures.limit; unserved = c.in-Ok.ensures.unserved };
-      limits_are = refl;
-      before = source_state g.F.In.Source c.in-Ok-document_of.input;
-      after = source_state g.F.In.Source c.converse.new.source;
-      left = c.in-Ok-document_of.ensures.left;
-      ending = c.converse.result;
-      spoken = c.converse.ensures;
-      status_is = c.code.ensures ∙ ap code_of c.status.ensures;
-      quiet = refl;
-    })
+    record {
+      begun = outputs g.O.Sink g.E.Sink c.args.out.now c.tell_opened.new.err;
+      unprinted = refl;
+      progress = c.tell_opened.ensures;
+      holds = inl (record {
+        service = record { alloc = c.args.alloc; session = c.in-Ok.session; limits = c.args.limits.now };
+        last = c.converse.new.service;
+        opened = record { read = c.in-Ok.ensures.opened; limit = c.in-Ok.ensures.limit; unserved = c.in-Ok.ensures.unserved };
+        limits_are = refl;
+        before = source_state g.F.In.Source c.in-Ok-document_of.input;
+        after = source_state g.F.In.Source c.converse.new.source;
+        left = c.in-Ok-document_of.ensures.left;
+        ending = c.converse.result;
+        spoken = c.converse.ensures;
+        status_is = c.code.ensures ∙ ap code_of c.status.ensures;
+        quiet = refl;
+      });
+    }

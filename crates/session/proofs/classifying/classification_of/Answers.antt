@@ -1,4 +1,5 @@
 use Rattle.std.proofs.Common.{◌≡◌, ◌≤◌, length, arith}
+use Rattle.session.proofs.Told.{progress_behind}
 use Rattle.session.proofs.classifying.classification_of.Goals as goal
 
 pub returns-in-Ok-made-clause-classified : goal.returns-in-Ok-made-clause-classified
@@ -20,3 +21,6 @@ returns-in-Ok-made-clause-classified g c =
       right = is.right;
       written = is.written;
     }
+
+pub returns-in-Ok-made-clause-progress : goal.returns-in-Ok-made-clause-progress
+returns-in-Ok-made-clause-progress g c = progress_behind c.args.told _ _ _ c.run_telling.ensures.progress c.tell_made.ensures

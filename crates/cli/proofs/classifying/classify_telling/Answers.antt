@@ -1,9 +1,10 @@
 use Rattle.std.proofs.Common.{refl, subst}
 use Rattle.session.proofs.Outcomes.{within_three}
+use Rattle.session.proofs.Told.{progress_behind}
 use Rattle.session.specs.Run.{IsRunFault}
 use Rattle.session.specs.WrittenTexts.{texts_of}
 use Rattle.session.specs.declared.run_fault.RunFault.{RunFault}
-use Rattle.cli.proofs.classifying.classify_document.Goals as goal
+use Rattle.cli.proofs.classifying.classify_telling.Goals as goal
 
 pub returns-in-Err-Limit-clause-answered : goal.returns-in-Err-Limit-clause-answered
 returns-in-Err-Limit-clause-answered g c =
@@ -27,3 +28,6 @@ returns-clause-answered g c =
     let until = c.in-Err.ensures.written in
     let within = within_three c.in-Err.number _ _ _ until in
     ((within.0, within.1, (made.summary, texts_of made, is)), (made.summary, texts_of made, is, until))
+
+pub returns-in-Ok-write_texts-clause-progress : goal.returns-in-Ok-write_texts-clause-progress
+returns-in-Ok-write_texts-clause-progress g c = progress_behind c.args.told _ _ _ c.classification_of.ensures.progress c.tell_stage.ensures.progress

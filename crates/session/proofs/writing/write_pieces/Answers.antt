@@ -1,7 +1,7 @@
 use Rattle.std.proofs.Common.{◌+◌, take, drop}
 use Rattle.std.specs.List.{flat_map}
-use Rattle.speech.proofs.Pieces.{begun, split, failed}
-use Rattle.speech.proofs.reply.write_pieces.Goals as goal
+use Rattle.session.proofs.Pieces.{begun, split, failed}
+use Rattle.session.proofs.writing.write_pieces.Goals as goal
 
 pub returns-in-Err-clause-begun : goal.returns-in-Err-clause-begun
 returns-in-Err-clause-begun g c =

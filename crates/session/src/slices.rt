@@ -1,0 +1,75 @@
+//! Runs in slices of facts.
+ghost use Rattle.engine.specs.Saturations.{IsFinished, IsSound, Saturates};
+ghost use Rattle.inference.specs.declared.known_facts.Stop.TheVariants as stops;
+ghost use Rattle.axioms.specs.Ontology.{Ontology as Ontology2};
+ghost use Rattle.session.specs.Devices.{seen};
+ghost use Rattle.session.specs.Progress.{IsProgress};
+ghost use Rattle.std.specs.Prelude.{◌≡◌, ◌≤◌, ◌↔◌, Err, IsTrue, OnOk, length};
+
+use crate::progress::{Stage, tell_stage};
+use device::Sink;
+use engine::{Saturation, Stop};
+
+/// How many facts more may be drawn before it is told again how many there are.
+const SLICE: u32 = 250_000;
+
+/// Up to how many facts a run goes at first that has so many: where progress is told, to the end of the first slice.
+fn first_end(told: bool, facts: usize, max_facts: u32) -> u32
+    ensures { result ≤ max_facts }
+{
+    if !told {
+        return max_facts;
+    }
+    match u32::try_from(facts) {
+        Ok(facts) => max_facts.min(facts.saturating_add(SLICE)),
+        Err(_) => max_facts,
+    }
+}
+
+/// Tells how many facts there are, and how many are pending.
+fn tell_drawn<W: Sink>(saturation: &Saturation, told: bool, sink: &mut W)
+    ensures { IsProgress told (seen W.Sink sink.old) (seen W.Sink sink.new) }
+{
+    let facts = saturation.facts().len();
+    let pending = facts.saturating_sub(saturation.served());
+    tell_stage(sink, told, &Stage::Drawn { facts, pending });
+}
+
+/// Whether a run stopped at a limit of facts.
+fn is_at_limit(ended: &Result<(), Stop>) -> bool
+    ensures { IsTrue result ↔ (ended.now ≡ Err stops.Limit) }
+{
+    match ended {
+        Err(Stop::Limit) => true,
+        _ => false,
+    }
+}
+
+/// Serves all facts that are pending, and those that come of them, as long as there are at most `max_facts`. Where progress is told,
+/// that is done in slices of facts, behind each of which it is told how far it is.
+///
+/// # Errors
+///
+/// Those of `Saturation::resume`. That a slice ends is no limit.
+pub(crate) fn resume_slices<W: Sink>(
+    saturation: &mut Saturation,
+    max_facts: u32,
+    told: bool,
+    sink: &mut W,
+) -> Result<(), Stop>
+    ensures normal { saturation.new.normal ≡ saturation.old.normal }
+    ensures finished { OnOk result (IsFinished saturation.new) }
+    ensures within { OnOk result (length saturation.new.state.facts ≤ max_facts) }
+    ensures saturates { (o : Ontology2) → IsSound o saturation.old → Saturates o max_facts saturation.new result }
+    ensures progress { IsProgress told (seen W.Sink sink.old) (seen W.Sink sink.new) }
+{
+    let mut end = first_end(told, saturation.facts().len(), max_facts);
+    loop {
+        let ended = saturation.resume(end);
+        tell_drawn(saturation, told, sink);
+        if end == max_facts || !is_at_limit(&ended) {
+            return ended;
+        }
+        end = max_facts.min(end.saturating_add(SLICE));
+    }
+}
