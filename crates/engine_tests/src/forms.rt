@@ -1,7 +1,7 @@
-//! The order of properties, and which forms are of properties.
+//! The order of properties, and the parts of classes and properties.
 
-use axioms::{ExprId, IndId, PropId};
-use normal_forms::{Class2, Form, PropId2};
+use axioms::{ExprId, PropId};
+use normal_forms::{Class2, PropId2};
 use std::test::Fail;
 
 const ASCENDING: &[PropId2] = &[
@@ -22,30 +22,6 @@ fn properties_come_before_prefixes(rt: HostRuntime) -> Result<(), Fail> {
 }
 
 const CLASS: Class2 = Class2::Expr(ExprId(2));
-
-const CHAIN: PropId2 = PropId2::Partial(0);
-
-/// Forms, and whether each is of properties alone.
-const FORMS: &[(Form, bool)] = &[
-    (Form::N1(CLASS, Class2::Partial(0)), false),
-    (Form::N4(PropId(0), CLASS, CLASS), false),
-    (Form::N5(PropId(0), PropId(1)), true),
-    (Form::N6(PropId2::Property(PropId(0)), CHAIN, CHAIN), true),
-    (Form::N7(PropId(0)), true),
-    (Form::N9(IndId(0), PropId(0), IndId(0)), false),
-    (Form::N10(IndId(0), IndId(1)), false),
-    (Form::N11(IndId(0), IndId(1)), false),
-    (Form::N12(IndId(0), PropId(0), IndId(1)), false),
-];
-
-#[test]
-fn forms_of_properties(rt: HostRuntime) -> Result<(), Fail> {
-    for row in FORMS {
-        let (form, of_properties) = *row;
-        assert!(rt; form.is_of_properties() == of_properties);
-    }
-    Ok(())
-}
 
 #[test]
 fn parts_of_classes_and_properties(rt: HostRuntime) -> Result<(), Fail> {

@@ -1,6 +1,6 @@
 //! Normal forms over numbers.
-ghost use Rattle.normal_forms.specs.Properties.{ComesBefore, is_property_form};
-ghost use Rattle.std.specs.Prelude.{◌↔◌, ◌≡◌, IsTrue};
+ghost use Rattle.normal_forms.specs.Properties.{ComesBefore};
+ghost use Rattle.std.specs.Prelude.{◌↔◌, IsTrue};
 
 use axioms::{ExprId, IndId, PropId};
 
@@ -55,15 +55,6 @@ pub enum Form {
     N11(IndId, IndId),
     /// Not a r b.
     N12(IndId, PropId, IndId),
-}
-
-impl Form {
-    /// Whether it is of properties alone: N5, N6 or N7.
-    pub fn is_of_properties(&self) -> bool
-        ensures { result ≡ is_property_form self.now }
-    {
-        matches!(self, Form::N5(..) | Form::N6(..) | Form::N7(..))
-    }
 }
 
 /// What gave a form: an axiom, by its number from 1 in document order, or an expression that occurs.

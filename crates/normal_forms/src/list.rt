@@ -168,11 +168,12 @@ impl FormList {
     pub fn property_forms(&self) -> Result<Vec<Form>, AllocError>
         ensures { IfOk result (λ v. v.items ≡ property_forms self.now) }
     {
+        let forms = self.as_slice();
         let mut kept = Vec::new(self.alloc);
-        for number in 0..self.len() {
-            let form = self.at(number);
+        for number in 0..forms.len() {
+            let form = &forms[number];
             if form.is_of_properties() {
-                kept.push(form)?;
+                kept.push(form.get())?;
             }
         }
         Ok(kept)
