@@ -12,6 +12,8 @@ mod classified_individuals;
 #[cfg(test)]
 mod extended;
 #[cfg(test)]
+mod fillers;
+#[cfg(test)]
 mod form_lists;
 #[cfg(test)]
 mod forms;

@@ -5,19 +5,19 @@ use Rattle.std.proofs.lemmas.Bool.Decides.{eqb_tells}
 use Rattle.std.proofs.lemmas.List.{get_or_append_left, get_or_past, get_or_push, length_push}
 use Rattle.std.proofs.lemmas.List.Elements.{Contains-push, Contains-push_cases, Contains-append_left, Contains-get_or}
 use Rattle.std.proofs.lemmas.List.Sorted.{IsNonDecreasingBy-push, IsNonDecreasingBy-short}
-use Rattle.std.proofs.lemmas.Option.{slice_get_within}
 use Rattle.std.specs.List.Sorted.{IsNonDecreasing}
 use Rattle.std.specs.Option.{option_and_then}
 use Rattle.normal_forms.specs.declared.forms.Form.{Form}
 use Rattle.lemmas.proofs.Members.{Contains-none}
 use Rattle.indexes.specs.declared.keys.Key.{Key}
 use Rattle.indexes.specs.declared.keys.Key.TheVariants.{Whole, Partial}
-use Rattle.indexes.specs.declared.form_counts.FormCounts.{FormCounts}
+use Rattle.indexes.specs.declared.roles.ByRole.{ByRole}
 use Rattle.indexes.specs.declared.key_counts.KeyCounts.{KeyCounts}
-use Rattle.indexes.specs.Keys.{by_kind, by_alone, by_first, by_second, by_filler, by_chain, by_end, by_plain, by_linked_first, by_linked_second, by_denied}
+use Rattle.indexes.specs.Roles.{ForEach}
+use Rattle.indexes.proofs.ByRoles.{for_each, for_other}
 use Rattle.indexes.specs.FormsUnderKeys.{IsUnder, is_key, numbers_under}
 use Rattle.indexes.specs.Lists.{before, AreStarts}
-use Rattle.indexes.specs.Counts.{count_at, Counts, CountsKey, AreCountsOf, CountsForm, AreFormCounts}
+use Rattle.indexes.specs.Counts.{count_at, Counts, CountsKey, AreCountsOf, AreFew, CountsForm, AreFormCounts}
 
 -- ---- keys
 
@@ -196,27 +196,19 @@ none_counted key forms counts w p = record {
   partials = λ k. le_of_eq (ap (λ (list : List ℕ). before (slice_index list) k) p ∙ before_none (slice_index []) (λ j. refl) k);
 }
 
-pub form_counted : (forms : List Form) (i : ℕ) (form : Form) → slice_get forms i ≡ Some form → (old new : FormCounts) → AreFormCounts forms i old → CountsForm old new form → AreFormCounts forms (i + 1) new
-form_counted forms i form at old new were w = record {
-  kinds = counted_more by_kind forms i form at old.kinds new.kinds were.kinds w.kinds;
-  alone = counted_more by_alone forms i form at old.alone new.alone were.alone w.alone;
-  first = counted_more by_first forms i form at old.first new.first were.first w.first;
-  second = counted_more by_second forms i form at old.second new.second were.second w.second;
-  fillers = counted_more by_filler forms i form at old.fillers new.fillers were.fillers w.fillers;
-  chains = counted_more by_chain forms i form at old.chains new.chains were.chains w.chains;
-  ends = counted_more by_end forms i form at old.ends new.ends were.ends w.ends;
-  plain = counted_more by_plain forms i form at old.plain new.plain were.plain w.plain;
-  linked_first = counted_more by_linked_first forms i form at old.linked_first new.linked_first were.linked_first w.linked_first;
-  linked_second = counted_more by_linked_second forms i form at old.linked_second new.linked_second were.linked_second w.linked_second;
-  denied = counted_more by_denied forms i form at old.denied new.denied were.denied w.denied;
-}
+pub form_counted : (forms : List Form) (i : ℕ) (form : Form) → slice_get forms i ≡ Some form → (old new : ByRole KeyCounts) → AreFormCounts forms i old → CountsForm old new form → AreFormCounts forms (i + 1) new
+form_counted forms i form at old new were more =
+    for_other (λ key counts. AreCountsOf key forms i counts) (λ key before after. CountsKey before after (key form)) (λ key counts. AreCountsOf key forms (i + 1) counts) old new
+    (λ key before after was w. counted_more key forms i form at before after was w) were more
 
--- nothing is counted, so no form has the key
-pub none_under : (key : Form → Option Key) (forms : List Form) (counts : KeyCounts) → AreCountsOf key forms (length forms) counts → counts.wholes.items ≡ [] → counts.partials.items ≡ [] → (k : Key) (n : ℕ) → IsUnder key forms k n → ⊥
-none_under key forms counts are w p k n under =
-    let none : count_at counts k ≡ 0 = uncounted counts w p k in
-    let there = under_are_numbers key forms k (length forms) n (slice_get_within forms n under.0 under.1) under in
-    omega (arith, there.1, are.exact k, none)
+-- no kind of key has more than all forms
+pub few_counted : (forms : List Form) (counts : ByRole KeyCounts) → length forms ≤ 4294967295 → AreFormCounts forms (length forms) counts → ForEach (λ key by. AreFew by) counts
+few_counted forms counts few are = for_each (λ key by. AreCountsOf key forms (length forms) by) (λ key by. AreFew by) counts
+    (λ key by was. record {
+      wholes = omega (arith, was.wholes (length by.wholes.items), few);
+      partials = omega (arith, was.partials (length by.partials.items), few);
+    })
+    are
 
 -- ---- where lists start
 

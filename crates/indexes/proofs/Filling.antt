@@ -11,9 +11,12 @@ use Rattle.indexes.specs.declared.keys.Key.TheVariants.{Whole, Partial}
 use Rattle.indexes.specs.declared.key_counts.KeyCounts.{KeyCounts}
 use Rattle.indexes.specs.declared.key_lists.KeyFilling.{KeyFilling}
 use Rattle.indexes.specs.FormsUnderKeys.{is_key, numbers_under}
-use Rattle.indexes.specs.Counts.{AreCountsOf}
-use Rattle.indexes.specs.KeyFillings.{HasPlaceUnder, PlacesUnder}
-use Rattle.indexes.proofs.Counting.{before_next, before_none, before_rises, numbers_to_come, numbers_with, numbers_without, other_key}
+use Rattle.indexes.specs.Counts.{AreCountsOf, AreFormCounts}
+use Rattle.indexes.specs.KeyFillings.{AreFull, HasPlaces, HasPlaceUnder, IsRoomUnder, PlacesForm, PlacesUnder}
+use Rattle.indexes.specs.Roles.{ForEach, ForEachTwo}
+use Rattle.indexes.specs.declared.roles.ByRole.{ByRole}
+use Rattle.indexes.proofs.ByRoles.{for_each, for_other}
+use Rattle.indexes.proofs.Counting.{before_next, before_none, before_rises, numbers_rise, numbers_to_come, numbers_with, numbers_without, other_key}
 
 no_length : (xs : List ℕ) → length xs ≡ 0 → xs ≡ []
 no_length [] e = refl
@@ -227,15 +230,42 @@ module _ (key : Form → Option Key) (forms : List Form) (i : ℕ) (form : Form)
         (λ j ne. stays_without (Some (Partial k)) e (Partial j) (other_key (Partial j) (Partial k) (λ s. ne (cc))));
   }
 
-pub none_filled : (key : Form → Option Key) (forms : List Form) (counts : KeyCounts) (f : KeyFilling) → length forms ≤ 4294967295 → AreCountsOf key forms (length forms) counts
-    → IsRoomFor counts.wholes.items f.wholes → IsRoomFor counts.partials.items f.partials → AreFilled key forms 0 f
-none_filled key forms counts f few are w p = record {
-  wholes = nothing_filled counts.wholes.items f.wholes (λ k. numbers_under key forms (Whole k) (length forms)) w (omega (arith, are.wholes (length counts.wholes.items), few)) (λ k. are.exact (Whole k));
-  partials = nothing_filled counts.partials.items f.partials (λ k. numbers_under key forms (Partial k) (length forms)) p (omega (arith, are.partials (length counts.partials.items), few)) (λ k. are.exact (Partial k));
-}
+-- ---- by each of the keys
+
+-- the numbers of the first so many forms stand there, by each key that they have
+abbrev pub AreAllFilled : List Form → ℕ → ByRole KeyFilling → Type 0
+AreAllFilled forms n filling = ForEach (λ key by. AreFilled key forms n by) filling
+
+pub none_filled : (forms : List Form) (counts : ByRole KeyCounts) (filling : ByRole KeyFilling) → length forms ≤ 4294967295 → AreFormCounts forms (length forms) counts
+    → ForEachTwo (λ key by room. IsRoomUnder by room) counts filling → AreAllFilled forms 0 filling
+none_filled forms counts filling few are room =
+    for_other (λ key by. AreCountsOf key forms (length forms) by) (λ key by f. IsRoomUnder by f) (λ key f. AreFilled key forms 0 f) counts filling
+    (λ key by f was w. record {
+      wholes = nothing_filled by.wholes.items f.wholes (λ k. numbers_under key forms (Whole k) (length forms)) w.wholes (omega (arith, was.wholes (length by.wholes.items), few)) (λ k. was.exact (Whole k));
+      partials = nothing_filled by.partials.items f.partials (λ k. numbers_under key forms (Partial k) (length forms)) w.partials (omega (arith, was.partials (length by.partials.items), few)) (λ k. was.exact (Partial k));
+    })
+    are room
+
+module _ (forms : List Form) (i : ℕ) (form : Form) (at : slice_get forms i ≡ Some form) (low : i < length forms) where
+  pub has_places : (filling : ByRole KeyFilling) → AreAllFilled forms i filling → HasPlaces filling form
+  has_places filling were = for_each (λ key f. AreFilled key forms i f) (λ key f. HasPlaceUnder f (key form)) filling
+      (λ key f was. has_place_under key forms i form at low f f was (key form) refl) were
+
+  pub form_filled : (old new : ByRole KeyFilling) → AreAllFilled forms i old → PlacesForm old new form i → AreAllFilled forms (i + 1) new
+  form_filled old new were places = for_other (λ key f. AreFilled key forms i f) (λ key f g. PlacesUnder f g (key form) i) (λ key g. AreFilled key forms (i + 1) g) old new
+      (λ key f g was w. filled_under key forms i form at low f g was (key form) refl w) were places
 
 -- all forms are placed
-pub all_filled : (key : Form → Option Key) (forms : List Form) (n end : ℕ) (f : KeyFilling) → n ≤ end → end ≤ n → end ≡ length forms → AreFilled key forms n f → AreFilled key forms (length forms) f
-all_filled key forms n end f low high all were =
+pub all_filled : (forms : List Form) (n end : ℕ) (filling : ByRole KeyFilling) → n ≤ end → end ≤ n → end ≡ length forms → AreAllFilled forms n filling → AreAllFilled forms (length forms) filling
+all_filled forms n end filling low high all were =
     let same : n ≡ length forms = omega (arith, low, high, all) in
-    subst (λ (m : ℕ). AreFilled key forms m f) same were
+    subst (λ (m : ℕ). AreAllFilled forms m filling) same were
+
+-- so the lists are full
+pub all_full : (forms : List Form) (filling : ByRole KeyFilling) → AreAllFilled forms (length forms) filling → ForEach (λ key by. AreFull by) filling
+all_full forms filling are = for_each (λ key f. AreFilled key forms (length forms) f) (λ key f. AreFull f) filling
+    (λ key f was. record {
+      wholes = record { within = full_within _ f.wholes was.wholes; listed = full_listed _ f.wholes was.wholes; ascending = full_ascends _ f.wholes was.wholes (λ k. numbers_rise key forms (Whole k) (length forms)) };
+      partials = record { within = full_within _ f.partials was.partials; listed = full_listed _ f.partials was.partials; ascending = full_ascends _ f.partials was.partials (λ k. numbers_rise key forms (Partial k) (length forms)) };
+    })
+    are

@@ -1,6 +1,7 @@
 pub mod Tables
 pub mod Adding
 pub mod Parts
+pub mod ByRoles
 pub mod Counting
 pub mod Filling
 pub mod Listing

@@ -1,5 +1,6 @@
 -- Lists of forms by key.
-use Rattle.std.proofs.Common.{◌≡◌, ◌↔◌, ℕ, List, [], ◌∷◌, length, Option, Contains, refl, sym, ap₂, subst, ◌∙◌}
+use Rattle.std.proofs.Common.{◌≡◌, ◌↔◌, ◌+◌, ◌-◌, ◌≤◌, ℕ, List, [], ◌∷◌, length, get_or, take, drop, Option, Contains, refl, sym, ap, ap₂, subst, ◌∙◌, arith}
+use Rattle.std.proofs.lemmas.List.{get_or_past}
 use Rattle.std.proofs.lemmas.Option.{slice_get_within}
 use Rattle.lemmas.proofs.Members.{Contains-none, Contains-first}
 use Rattle.normal_forms.specs.declared.forms.Form.{Form}
@@ -8,10 +9,14 @@ use Rattle.indexes.specs.declared.keys.Key.TheVariants.{Whole, Partial}
 use Rattle.indexes.specs.declared.key_lists.KeyLists.{KeyLists}
 use Rattle.indexes.specs.declared.key_lists.KeyFilling.{KeyFilling}
 use Rattle.indexes.specs.FormsUnderKeys.{IsUnder, numbers_under}
-use Rattle.indexes.specs.FormIndex.{at_key, ListsForms, ListsNothing}
+use Rattle.indexes.specs.FormIndex.{at_key, IsFormIndex, ListsForms, ListsNothing}
+use Rattle.indexes.specs.KeyFillings.{AreListsOf}
+use Rattle.indexes.specs.Roles.{ForEachTwo}
+use Rattle.indexes.specs.declared.roles.ByRole.{ByRole}
 use Rattle.indexes.specs.Lists.{list_at}
 use Rattle.indexes.proofs.Counting.{numbers_are_under, under_are_numbers}
-use Rattle.indexes.proofs.Filling.{AreFilled, lists_are}
+use Rattle.indexes.proofs.ByRoles.{for_other}
+use Rattle.indexes.proofs.Filling.{AreAllFilled, AreFilled, lists_are}
 
 -- the lists of the numbers of forms
 pub lists_of_numbers : (key : Form → Option Key) (forms : List Form) (lists : KeyLists) → ((k : Key) → at_key lists k ≡ numbers_under key forms k (length forms)) → ListsForms key forms lists
@@ -21,19 +26,15 @@ lists_of_numbers key forms lists are k n = (
 )
 
 -- the lists that are full
-pub lists_filled : (key : Form → Option Key) (forms : List Form) (f : KeyFilling) (lists : KeyLists) → AreFilled key forms (length forms) f
-    → lists.wholes.starts.items ≡ f.wholes.starts.items → lists.wholes.numbers.items ≡ f.wholes.numbers.items
-    → lists.partials.starts.items ≡ f.partials.starts.items → lists.partials.numbers.items ≡ f.partials.numbers.items
+pub lists_filled : (key : Form → Option Key) (forms : List Form) (f : KeyFilling) (lists : KeyLists) → AreFilled key forms (length forms) f → AreListsOf f lists
     → (k : Key) → at_key lists k ≡ numbers_under key forms k (length forms)
-lists_filled key forms f lists are ws wn ps pn (Whole k) = ap₂ (λ (starts numbers : List ℕ). list_at starts numbers k) ws wn ∙ lists_are _ f.wholes are.wholes k
-lists_filled key forms f lists are ws wn ps pn (Partial k) = ap₂ (λ (starts numbers : List ℕ). list_at starts numbers k) ps pn ∙ lists_are _ f.partials are.partials k
+lists_filled key forms f lists are of (Whole k) = ap₂ (λ (starts numbers : List ℕ). list_at starts numbers k) of.wholes.starts of.wholes.numbers ∙ lists_are _ f.wholes are.wholes k
+lists_filled key forms f lists are of (Partial k) = ap₂ (λ (starts numbers : List ℕ). list_at starts numbers k) of.partials.starts of.partials.numbers ∙ lists_are _ f.partials are.partials k
 
--- where no form has a key, lists of nothing list the forms
-pub nothing_to_list : (key : Form → Option Key) (forms : List Form) (lists : KeyLists) → ((k : Key) (n : ℕ) → IsUnder key forms k n → ⊥) → ListsNothing lists → ListsForms key forms lists
-nothing_to_list key forms lists none nothing k n = (
-  λ c. absurd (Contains-none n (subst (λ (list : List ℕ). Contains list n) (nothing k) c)),
-  λ w. absurd (none k n w),
-)
+-- .. by each of the keys
+pub all_listed : (forms : List Form) (filling : ByRole KeyFilling) (index : ByRole KeyLists) → AreAllFilled forms (length forms) filling → ForEachTwo (λ key by lists. AreListsOf by lists) filling index → IsFormIndex forms index
+all_listed forms filling index are of = for_other (λ key f. AreFilled key forms (length forms) f) (λ key f lists. AreListsOf f lists) (λ key lists. ListsForms key forms lists) filling index
+    (λ key f lists full w. lists_of_numbers key forms lists (lists_filled key forms f lists full w)) are of
 
 without : (list : List ℕ) → ((n : ℕ) → Contains list n → ⊥) → list ≡ []
 without [] none = refl
@@ -45,3 +46,10 @@ unlisted key forms lists are = (
   λ nothing k n w. Contains-none n (subst (λ (list : List ℕ). Contains list n) (nothing k) ((are k n).1 w)),
   λ none k. without (at_key lists k) (λ n c. none k n ((are k n).0 c)),
 )
+
+-- from the last start on no key has a list
+pub past_the_end : (starts numbers : List ℕ) (key : ℕ) → length starts ≤ key + 1 → list_at starts numbers key ≡ []
+past_the_end starts numbers key ge =
+    let none : get_or starts (key + 1) 0 ≡ 0 = get_or_past starts (key + 1) 0 ge in
+    let few : get_or starts (key + 1) 0 - get_or starts key 0 ≡ 0 = omega (arith, none) in
+    ap (λ (n : ℕ). take n (drop (get_or starts key 0) numbers)) few

@@ -1,5 +1,6 @@
 -- Lists of numbers by key, all in one piece.
 use Rattle.std.specs.Prelude.{◌≡◌, ℕ, zero, suc, ◌+◌, ◌-◌, ◌<◌, ◌≤◌, ◌↔◌, List, [], length, take, drop, slice_index, slice_set}
+use Rattle.std.specs.List.Sorted.{IsNonDecreasing}
 use Rattle.indexes.specs.declared.lists.Filling.{Filling}
 
 -- the list of a key: the numbers from where it starts up to where that of the next key does, and none where there is no next
@@ -41,3 +42,9 @@ pub record Places (old new : Filling) (key number : ℕ) : Type 0 where
   pub starts : new.starts.items ≡ old.starts.items
   pub next : new.next.items ≡ slice_set old.next.items key (slice_index old.next.items key + 1)
   pub numbers : new.numbers.items ≡ slice_set old.numbers.items (slice_index old.next.items key) number
+
+-- the lists are full: they stand one behind the other up to the end, and each ascends
+pub record IsFull (filling : Filling) : Type 0 where
+  pub within : IsWithin filling.starts.items filling.numbers.items
+  pub listed : AreAllListed filling.starts.items filling.numbers.items
+  pub ascending : (key : ℕ) → IsNonDecreasing (list_at filling.starts.items filling.numbers.items key)

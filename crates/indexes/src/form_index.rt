@@ -1,95 +1,116 @@
 //! Lists of forms by key.
-ghost use Rattle.std.specs.Prelude.{◌≡◌, ◌≤◌, IfOk, [], length};
+ghost use Rattle.std.specs.Prelude.{◌≤◌, IfOk, [], length};
+ghost use Rattle.indexes.specs.Counts.{AreFew};
 ghost use Rattle.indexes.specs.FormIndex.{IsFormIndex};
+ghost use Rattle.indexes.specs.KeyFillings.{AreFull, AreListsOf, HasPlaces, IsRoomUnder, PlacesForm};
+ghost use Rattle.indexes.specs.Roles.{ForEach, ForEachTwo};
 
-use crate::form_counts::FormCounts;
-use crate::key_lists::KeyLists;
-use crate::roles::Role;
-use normal_forms::FormList;
+use crate::form_counts::counted;
+use crate::key_counts::KeyCounts;
+use crate::key_lists::{KeyFilling, KeyLists};
+use crate::keys::Key;
+use crate::named::{key_of_class, key_of_property};
+use crate::roles::ByRole;
+use normal_forms::{Form, FormList};
 use std::alloc::{AllocError, Global};
 
-/// The numbers of forms, by key.
-pub(crate) struct FormIndex {
-    pub kinds: KeyLists,
-    pub alone: KeyLists,
-    pub first: KeyLists,
-    pub second: KeyLists,
-    pub fillers: KeyLists,
-    pub chains: KeyLists,
-    pub ends: KeyLists,
-    pub plain: KeyLists,
-    pub linked_first: KeyLists,
-    pub linked_second: KeyLists,
-    pub denied: KeyLists,
-}
-
-// A value is let go by one call, where each way out would else let each field go.
-impl Drop for FormIndex {
-    fn drop(self) {
-        let FormIndex {
-            kinds: _,
-            alone: _,
-            first: _,
-            second: _,
-            fillers: _,
-            chains: _,
-            ends: _,
-            plain: _,
-            linked_first: _,
-            linked_second: _,
-            denied: _,
-        } = self;
+/// Lists nothing.
+pub(crate) fn nothing_listed(alloc: Global) -> ByRole<KeyLists>
+    ensures { IsFormIndex [] result }
+{
+    ByRole {
+        kinds: KeyLists::new(alloc),
+        alone: KeyLists::new(alloc),
+        first: KeyLists::new(alloc),
+        second: KeyLists::new(alloc),
+        fillers: KeyLists::new(alloc),
+        chains: KeyLists::new(alloc),
+        ends: KeyLists::new(alloc),
+        plain: KeyLists::new(alloc),
+        linked_first: KeyLists::new(alloc),
+        linked_second: KeyLists::new(alloc),
+        denied: KeyLists::new(alloc),
     }
 }
 
-impl FormIndex {
-    /// Lists nothing.
-    pub(crate) fn new(alloc: Global) -> Self
-        ensures { IsFormIndex [] result }
-    {
-        FormIndex {
-            kinds: KeyLists::new(alloc),
-            alone: KeyLists::new(alloc),
-            first: KeyLists::new(alloc),
-            second: KeyLists::new(alloc),
-            fillers: KeyLists::new(alloc),
-            chains: KeyLists::new(alloc),
-            ends: KeyLists::new(alloc),
-            plain: KeyLists::new(alloc),
-            linked_first: KeyLists::new(alloc),
-            linked_second: KeyLists::new(alloc),
-            denied: KeyLists::new(alloc),
+/// Room for so many numbers of each key. Fails where memory is refused.
+fn room_for(alloc: Global, counts: &ByRole<KeyCounts>) -> Result<ByRole<KeyFilling>, AllocError>
+    requires { ForEach (λ _ by. AreFew by) counts.now }
+    ensures { IfOk result (λ filling. ForEachTwo (λ _ by room. IsRoomUnder by room) counts.now filling) }
+{
+    Ok(ByRole {
+        kinds: KeyFilling::new(alloc, &counts.kinds)?,
+        alone: KeyFilling::new(alloc, &counts.alone)?,
+        first: KeyFilling::new(alloc, &counts.first)?,
+        second: KeyFilling::new(alloc, &counts.second)?,
+        fillers: KeyFilling::new(alloc, &counts.fillers)?,
+        chains: KeyFilling::new(alloc, &counts.chains)?,
+        ends: KeyFilling::new(alloc, &counts.ends)?,
+        plain: KeyFilling::new(alloc, &counts.plain)?,
+        linked_first: KeyFilling::new(alloc, &counts.linked_first)?,
+        linked_second: KeyFilling::new(alloc, &counts.linked_second)?,
+        denied: KeyFilling::new(alloc, &counts.denied)?,
+    })
+}
+
+/// Puts the number of a form at the end of the list of each key that the form has.
+#[inline(always)]
+fn place(filling: &mut ByRole<KeyFilling>, form: Form, number: u32)
+    requires { HasPlaces filling.old form }
+    ensures { PlacesForm filling.old filling.new form number }
+{
+    match form {
+        Form::N1(a, _) | Form::N3(a, _, _) => filling.alone.place(key_of_class(a), number),
+        Form::N2(a, b, _) => {
+            filling.first.place(key_of_class(a), number);
+            filling.second.place(key_of_class(b), number);
         }
+        Form::N4(_, a, _) => filling.fillers.place(key_of_class(a), number),
+        Form::N5(r, _) => filling.plain.place(Key::Whole(r.0), number),
+        Form::N6(r, s, _) => {
+            filling.chains.place(key_of_property(r), number);
+            filling.ends.place(key_of_property(s), number);
+        }
+        Form::N7(_) => filling.kinds.place(Key::Whole(1), number),
+        Form::N8(..) | Form::N9(..) => filling.kinds.place(Key::Whole(0), number),
+        Form::N10(a, b) => {
+            filling.linked_first.place(Key::Whole(a.0), number);
+            filling.linked_second.place(Key::Whole(b.0), number);
+        }
+        Form::N11(..) => filling.kinds.place(Key::Whole(2), number),
+        Form::N12(a, _, _) => filling.denied.place(Key::Whole(a.0), number),
     }
+}
 
-    /// Lists all of the forms, which are counted first: the keys of a role that none has cost no more. Fails where memory is refused.
-    pub(crate) fn of(alloc: Global, forms: &FormList) -> Result<Self, AllocError>
-        requires { length forms.now ≤ u32.MAX }
-        ensures { IfOk result (λ index. IsFormIndex forms.now index) }
-    {
-        let counts = FormCounts::of(alloc, forms)?;
-        Ok(FormIndex {
-            kinds: KeyLists::from_forms(alloc, Role::Kind, forms, &counts.kinds)?,
-            alone: KeyLists::from_forms(alloc, Role::Alone, forms, &counts.alone)?,
-            first: KeyLists::from_forms(alloc, Role::First, forms, &counts.first)?,
-            second: KeyLists::from_forms(alloc, Role::Second, forms, &counts.second)?,
-            fillers: KeyLists::from_forms(alloc, Role::Filler, forms, &counts.fillers)?,
-            chains: KeyLists::from_forms(alloc, Role::Chain, forms, &counts.chains)?,
-            ends: KeyLists::from_forms(alloc, Role::End, forms, &counts.ends)?,
-            plain: KeyLists::from_forms(alloc, Role::Plain, forms, &counts.plain)?,
-            linked_first: KeyLists::from_forms(
-                alloc,
-                Role::LinkedFirst,
-                forms,
-                &counts.linked_first,
-            )?,
-            linked_second: KeyLists::from_forms(
-                alloc,
-                Role::LinkedSecond,
-                forms,
-                &counts.linked_second,
-            )?,
-            denied: KeyLists::from_forms(alloc, Role::Denied, forms, &counts.denied)?,
-        })
+/// The lists, when they are full.
+fn filled(filling: ByRole<KeyFilling>) -> ByRole<KeyLists>
+    requires { ForEach (λ _ by. AreFull by) filling }
+    ensures { ForEachTwo (λ _ by lists. AreListsOf by lists) filling result }
+{
+    ByRole {
+        kinds: filling.kinds.filled(),
+        alone: filling.alone.filled(),
+        first: filling.first.filled(),
+        second: filling.second.filled(),
+        fillers: filling.fillers.filled(),
+        chains: filling.chains.filled(),
+        ends: filling.ends.filled(),
+        plain: filling.plain.filled(),
+        linked_first: filling.linked_first.filled(),
+        linked_second: filling.linked_second.filled(),
+        denied: filling.denied.filled(),
     }
+}
+
+/// Lists all of the forms by each key that they have: it goes over them twice, and counts them first. Fails where memory is refused.
+pub(crate) fn listed(alloc: Global, forms: &FormList) -> Result<ByRole<KeyLists>, AllocError>
+    requires { length forms.now ≤ u32.MAX }
+    ensures { IfOk result (λ index. IsFormIndex forms.now index) }
+{
+    let counts = counted(alloc, forms)?;
+    let mut filling = room_for(alloc, &counts)?;
+    for number in 0..forms.len() {
+        place(&mut filling, forms.at(number), number as u32);
+    }
+    Ok(filled(filling))
 }

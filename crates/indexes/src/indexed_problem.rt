@@ -1,14 +1,18 @@
 //! A problem whose forms are found by key.
-ghost use Rattle.std.specs.Prelude.{◌≡◌, ◌↔◌, ◌⊎◌, ◌++◌, [], ℕ, Contains, IfOk, false, slice_get};
+ghost use Rattle.std.specs.Prelude.{◌≡◌, ◌<◌, ◌↔◌, ◌⊎◌, ◌++◌, [], ℕ, Contains, IfOk, false, slice_get};
+ghost use Rattle.axioms.specs.declared.ids.ExprId.{ExprId as ExprId2};
+ghost use Rattle.normal_forms.specs.declared.forms.Class2.TheVariants as classes;
 ghost use Rattle.indexes.specs.declared.keys.Key.{Key as Key2};
 ghost use Rattle.indexes.specs.declared.keys.Key.TheVariants as keys;
 ghost use Rattle.indexes.specs.Keys.{class_key, property_key, individual_key, by_kind, by_alone, by_first, by_second, by_filler, by_chain, by_end, by_plain, by_linked_first, by_linked_second, by_denied};
 ghost use Rattle.indexes.specs.FormsUnderKeys.{IsUnder};
 
-use crate::form_index::FormIndex;
+use crate::form_index::{listed, nothing_listed};
+use crate::key_lists::KeyLists;
 use crate::keys::Key;
 use crate::named::{key_of_class, key_of_property};
 use crate::overlap::common;
+use crate::roles::ByRole;
 use axioms::IndId;
 use facts::Context;
 use normal_forms::{Class2, Form, FormList, PropId2};
@@ -20,7 +24,7 @@ pub struct IndexedProblem {
     alloc: Global,
     forms: FormList,
     roots: Vec<Context>,
-    index: FormIndex,
+    index: ByRole<KeyLists>,
 }
 
 // A value is let go by one call, where each way out would else let each field go.
@@ -66,7 +70,7 @@ impl IndexedProblem {
             alloc,
             forms: FormList::new(alloc),
             roots: Vec::new(alloc),
-            index: FormIndex::new(alloc),
+            index: nothing_listed(alloc),
         }
     }
 
@@ -89,7 +93,7 @@ impl IndexedProblem {
         if forms.len() > u32::MAX as usize {
             return Err(AllocError);
         }
-        let index = FormIndex::of(alloc, &forms)?;
+        let index = listed(alloc, &forms)?;
         Ok(IndexedProblem {
             alloc,
             forms,
@@ -172,6 +176,13 @@ impl IndexedProblem {
         ensures { (n : ℕ) → Contains result.now n ↔ IsUnder by_filler self.now.forms (class_key class) n }
     {
         self.index.fillers.of(key_of_class(class))
+    }
+
+    /// A number above that of each expression that is a filler.
+    pub fn fillers_end(&self) -> usize
+        ensures { (e : ExprId2) (n : ℕ) → IsUnder by_filler self.now.forms (class_key (classes.Expr e)) n → e.0 < result }
+    {
+        self.index.fillers.wholes.end()
     }
 
     /// The chains that begin with that property.

@@ -1,5 +1,5 @@
 //! How many numbers keys of two kinds have.
-ghost use Rattle.std.specs.Prelude.{◌≡◌, ◌≤◌, ◌<◌, ℕ, [], IsTrue, OnOk, length, slice_index};
+ghost use Rattle.std.specs.Prelude.{◌≡◌, ◌≤◌, ◌<◌, ℕ, [], Some, OnOk, length, slice_index};
 ghost use Rattle.indexes.specs.Counts.{Counts, CountsKey};
 
 use crate::keys::Key;
@@ -13,6 +13,7 @@ pub(crate) struct KeyCounts {
 }
 
 /// Makes room for the count of a key. Fails where memory is refused.
+#[inline(always)]
 fn reach(counts: &mut Vec<u32>, key: usize) -> Result<(), AllocError>
     requires { key ≤ u32.MAX }
     ensures same { OnOk result ((k : ℕ) → slice_index counts.new.items k ≡ slice_index counts.old.items k) }
@@ -25,6 +26,7 @@ fn reach(counts: &mut Vec<u32>, key: usize) -> Result<(), AllocError>
 }
 
 /// Counts one number more of a key. Fails where memory is refused, and where the key has 2^32 - 1.
+#[inline(always)]
 fn count(counts: &mut Vec<u32>, key: u32) -> Result<(), AllocError>
     ensures { OnOk result (Counts counts.old.items counts.new.items key) }
 {
@@ -48,24 +50,14 @@ impl KeyCounts {
         }
     }
 
-    /// Counts one number more of the key, if there is one. Fails where memory is refused, and where the key has 2^32 - 1.
+    /// Counts one number more of the key. Fails where memory is refused, and where the key has 2^32 - 1.
     #[inline(always)]
-    pub(crate) fn add(&mut self, key: Option<Key>) -> Result<(), AllocError>
-        ensures { OnOk result (CountsKey self.old self.new key) }
+    pub(crate) fn add(&mut self, key: Key) -> Result<(), AllocError>
+        ensures { OnOk result (CountsKey self.old self.new (Some key)) }
     {
         match key {
-            Some(Key::Whole(key)) => count(&mut self.wholes, key)?,
-            Some(Key::Partial(key)) => count(&mut self.partials, key)?,
-            None => {}
+            Key::Whole(key) => count(&mut self.wholes, key),
+            Key::Partial(key) => count(&mut self.partials, key),
         }
-        Ok(())
-    }
-
-    /// Whether nothing is counted.
-    pub(crate) fn is_empty(&self) -> bool
-        ensures wholes { IsTrue result → self.now.wholes.items ≡ [] }
-        ensures partials { IsTrue result → self.now.partials.items ≡ [] }
-    {
-        self.wholes.is_empty() && self.partials.is_empty()
     }
 }

@@ -1,16 +1,13 @@
 //! Lists of the numbers of forms, by keys of two kinds.
-ghost use Rattle.std.specs.Prelude.{◌≡◌, ◌≤◌, ◌↔◌, IfOk, length, true};
+ghost use Rattle.std.specs.Prelude.{◌≡◌, ◌↔◌, IfOk, Some, true};
 ghost use Rattle.std.specs.List.Sorted.{IsNonDecreasing};
-ghost use Rattle.indexes.specs.FormIndex.{at_key, ListsForms, ListsNothing};
-ghost use Rattle.indexes.specs.Counts.{AreCountsOf};
-ghost use Rattle.indexes.specs.KeyFillings.{HasPlaceUnder, PlacesUnder};
-ghost use Rattle.indexes.specs.Roles.{key_by};
+ghost use Rattle.indexes.specs.FormIndex.{at_key, ListsNothing};
+ghost use Rattle.indexes.specs.Counts.{AreFew};
+ghost use Rattle.indexes.specs.KeyFillings.{AreFull, AreListsOf, HasPlaceUnder, IsRoomUnder, PlacesUnder};
 
 use crate::key_counts::KeyCounts;
 use crate::keys::Key;
 use crate::lists::{Filling, Lists};
-use crate::roles::{Role, key_of};
-use normal_forms::FormList;
 use std::alloc::{AllocError, Global};
 
 /// A list for each key.
@@ -31,21 +28,44 @@ impl Drop for KeyLists {
 
 /// Lists of both kinds that are filled.
 #[derive(Drop)]
-struct KeyFilling {
-    wholes: Filling,
-    partials: Filling,
+pub(crate) struct KeyFilling {
+    pub wholes: Filling,
+    pub partials: Filling,
 }
 
 impl KeyFilling {
-    /// Puts a number at the end of the list of the key, if there is one.
-    fn place(&mut self, key: Option<Key>, number: u32)
-        requires { HasPlaceUnder self.old key }
-        ensures { PlacesUnder self.old self.new key number }
+    /// Room for so many numbers of each key. Fails where memory is refused.
+    pub(crate) fn new(alloc: Global, counts: &KeyCounts) -> Result<Self, AllocError>
+        requires { AreFew counts.now }
+        ensures { IfOk result (λ filling. IsRoomUnder counts.now filling) }
+    {
+        Ok(KeyFilling {
+            wholes: Filling::new(alloc, &counts.wholes)?,
+            partials: Filling::new(alloc, &counts.partials)?,
+        })
+    }
+
+    /// Puts a number at the end of the list of the key.
+    #[inline(always)]
+    pub(crate) fn place(&mut self, key: Key, number: u32)
+        requires { HasPlaceUnder self.old (Some key) }
+        ensures { PlacesUnder self.old self.new (Some key) number }
     {
         match key {
-            Some(Key::Whole(key)) => self.wholes.place(key, number),
-            Some(Key::Partial(key)) => self.partials.place(key, number),
-            None => {}
+            Key::Whole(key) => self.wholes.place(key, number),
+            Key::Partial(key) => self.partials.place(key, number),
+        }
+    }
+
+    /// The lists, when they are full.
+    pub(crate) fn filled(self) -> KeyLists
+        requires { AreFull self }
+        ensures { AreListsOf self result }
+    {
+        let KeyFilling { wholes, partials } = self;
+        KeyLists {
+            wholes: wholes.filled(),
+            partials: partials.filled(),
         }
     }
 }
@@ -59,34 +79,6 @@ impl KeyLists {
             wholes: Lists::new(alloc),
             partials: Lists::new(alloc),
         }
-    }
-
-    /// Lists the forms by the key that each has in that role, of which it is known how many have each. Fails where memory is refused.
-    pub fn from_forms(
-        alloc: Global,
-        role: Role,
-        forms: &FormList,
-        counts: &KeyCounts,
-    ) -> Result<Self, AllocError>
-        requires few { length forms.now ≤ u32.MAX }
-        requires counts { AreCountsOf (key_by role) forms.now (length forms.now) counts.now }
-        ensures { IfOk result (λ lists. ListsForms (key_by role) forms.now lists) }
-    {
-        if counts.is_empty() {
-            return Ok(KeyLists::new(alloc));
-        }
-        let mut filling = KeyFilling {
-            wholes: Filling::new(alloc, &counts.wholes)?,
-            partials: Filling::new(alloc, &counts.partials)?,
-        };
-        for number in 0..forms.len() {
-            filling.place(key_of(role, &forms.at(number)), number as u32);
-        }
-        let KeyFilling { wholes, partials } = filling;
-        Ok(KeyLists {
-            wholes: wholes.filled(),
-            partials: partials.filled(),
-        })
     }
 
     /// Whether no list has a number.

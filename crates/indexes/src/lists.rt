@@ -71,6 +71,7 @@ impl Filling {
     }
 
     /// Puts a number at the end of the list of the key.
+    #[inline(always)]
     pub(crate) fn place(&mut self, key: u32, number: u32)
         requires { HasPlace self.old key }
         ensures { Places self.old self.new key number }
@@ -113,6 +114,13 @@ impl Lists {
         ensures { (result ≡ true) ↔ ((key : ℕ) → list_at self.now.starts.items self.now.numbers.items key ≡ []) }
     {
         self.numbers.is_empty()
+    }
+
+    /// A number from which on no key has a list with a number.
+    pub(crate) fn end(&self) -> usize
+        ensures { (key : ℕ) → result ≤ key → list_at self.now.starts.items self.now.numbers.items key ≡ [] }
+    {
+        self.starts.len().saturating_sub(1)
     }
 
     /// The list of the key, which ascends.

@@ -1,11 +1,7 @@
-use Rattle.std.proofs.Common.{◌≡◌, ◌↔◌, List, ℕ, [], Contains, Bool, true, false, not, refl, ap, subst, arith}
+use Rattle.std.proofs.Common.{◌≡◌, ◌↔◌, ℕ, Bool, true, false, not, refl, subst, arith}
 use Rattle.facts.specs.Closure.{Problem}
-use Rattle.normal_forms.specs.declared.forms.Form.{Form}
-use Rattle.lemmas.proofs.Members.{Contains-none}
-use Rattle.indexes.specs.FormIndex.{at_key, ListsForms, ListsNothing}
 use Rattle.indexes.specs.Keys.{by_linked_first}
 use Rattle.indexes.specs.FormsUnderKeys.{IsUnder}
-use Rattle.indexes.specs.declared.key_lists.KeyLists.{KeyLists}
 use Rattle.indexes.specs.declared.keys.Key.{Key}
 use Rattle.indexes.proofs.Listing.{unlisted}
 use Rattle.indexes.proofs.indexed_problem.IndexedProblem.has_links.Goals as goal

@@ -1,6 +1,6 @@
 use Rattle.indexes.specs.Keys.{by_kind, by_alone, by_first, by_second, by_filler, by_chain, by_end, by_plain, by_linked_first, by_linked_second, by_denied}
 use Rattle.indexes.proofs.Counting.{none_counted}
-use Rattle.indexes.proofs.form_counts.FormCounts.new.Goals as goal
+use Rattle.indexes.proofs.form_counts.nothing_counted.Goals as goal
 
 pub returns : goal.returns
 returns c = λ forms. record {

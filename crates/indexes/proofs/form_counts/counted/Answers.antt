@@ -1,12 +1,12 @@
 use Rattle.std.proofs.Common.{◌≡◌, length, sym, arith}
 use Rattle.indexes.proofs.Counting.{form_counted}
-use Rattle.indexes.proofs.form_counts.FormCounts.of.Goals as goal
+use Rattle.indexes.proofs.form_counts.counted.Goals as goal
 
 pub loop-number-init : goal.loop-number-init
-loop-number-init c = c.new-counts.ensures c.args.forms.now
+loop-number-init c = c.nothing_counted-counts.ensures c.args.forms.now
 
 pub loop-number-preserved : goal.loop-number-preserved
-loop-number-preserved c = form_counted c.args.forms.now c.loop-number.number c.at.result c.at.ensures c.loop-number.counts c.add.new.self c.loop-number.invariant c.in_ok-add.ensures
+loop-number-preserved c = form_counted c.args.forms.now c.loop-number.number c.at.result c.at.ensures c.loop-number.counts c.count.new.counts c.loop-number.invariant c.in_ok-count.ensures
 
 pub returns : goal.returns
 returns c =
