@@ -81,21 +81,6 @@ prefix k (N10 _ _) x y z v p q h w = absurd w
 prefix k (N11 _ _) x y z v p q h w = absurd w
 prefix k (N12 _ _ _) x y z v p q h w = absurd w
 
--- from a class and an edge, in this order, none
-no_edge_behind : (k : Problem) (form : Form) (a : Class2) (x y z : Context) (r : PropId2) (h : Fact) → FromTwo k form (In a x) (Edge y r z) h → ⊥
-no_edge_behind k (N1 _ _) a x y z r h w = w
-no_edge_behind k (N2 _ _ _) a x y z r h w = w
-no_edge_behind k (N3 _ _ _) a x y z r h w = w
-no_edge_behind k (N4 _ _ _) a x y z r h w = w
-no_edge_behind k (N5 _ _) a x y z r h w = w
-no_edge_behind k (N6 _ _ _) a x y z r h w = w
-no_edge_behind k (N7 _) a x y z r h w = w
-no_edge_behind k (N8 _ _) a x y z r h w = w
-no_edge_behind k (N9 _ _ _) a x y z r h w = w
-no_edge_behind k (N10 _ _) a x y z r h w = w
-no_edge_behind k (N11 _ _) a x y z r h w = w
-no_edge_behind k (N12 _ _ _) a x y z r h w = w
-
 -- ---- pairs of facts that give nothing
 
 pub no_first : (k : Problem) (a b : Class2) (x y : Context) → NoneUnder by_first k.forms (class_key a) → GiveNothing k (In a x) (In b y)
@@ -104,14 +89,11 @@ no_first k a b x y none = by_form_or_back k (In a x) (In b y) (λ n form h at w.
 pub no_second : (k : Problem) (a b : Class2) (x y : Context) → NoneUnder by_second k.forms (class_key b) → GiveNothing k (In a x) (In b y)
 no_second k a b x y none = by_form_or_back k (In a x) (In b y) (λ n form h at w. none n (form, at, second_operand k form a b x y h w)) (λ h c. c)
 
-pub no_filler : (k : Problem) (x y z : Context) (r : PropId2) (c : Class2) → (c ≡ nothing → ⊥) → NoneUnder by_filler k.forms (class_key c) → GiveNothing k (Edge x r y) (In c z)
+no_filler : (k : Problem) (x y z : Context) (r : PropId2) (c : Class2) → (c ≡ nothing → ⊥) → NoneUnder by_filler k.forms (class_key c) → GiveNothing k (Edge x r y) (In c z)
 no_filler k x y z r c other none = by_form_or_back k (Edge x r y) (In c z) (λ n form h at w. none n (form, at, filler k form x y z r c h w)) (λ h b. other b.0)
 
-pub no_chain : (k : Problem) (x y z v : Context) (p q : PropId2) → ((r : PropId2) → IsAtOrBelow k.forms p r → NoneUnder by_chain k.forms (property_key r)) → GiveNothing k (Edge x p y) (Edge z q v)
+no_chain : (k : Problem) (x y z v : Context) (p q : PropId2) → ((r : PropId2) → IsAtOrBelow k.forms p r → NoneUnder by_chain k.forms (property_key r)) → GiveNothing k (Edge x p y) (Edge z q v)
 no_chain k x y z v p q none = by_form_or_back k (Edge x p y) (Edge z q v) (λ n form h at w. let b = prefix k form x y z v p q h w in none b.0 b.1 n (form, at, b.2)) (λ h b. b)
-
-pub no_order : (k : Problem) (a : Class2) (x y z : Context) (r : PropId2) → GiveNothing k (In a x) (Edge y r z)
-no_order k a x y z r = by_form_or_back k (In a x) (Edge y r z) (λ n form h at w. no_edge_behind k form a x y z r h w) (λ h c. c)
 
 pub uncarried : (k : Problem) (c : Class2) (z : Context) → (c ≡ nothing → ⊥) → NoneUnder by_filler k.forms (class_key c) → IsNotCarried k (In c z)
 uncarried k c z other none (In b y) is = absurd is

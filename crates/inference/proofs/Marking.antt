@@ -9,14 +9,17 @@ use Rattle.normal_forms.specs.declared.forms.Form.{Form}
 use Rattle.normal_forms.specs.declared.forms.Form.TheVariants.{N1, N2, N3, N4, N5, N6, N7, N8, N9, N10, N11, N12}
 use Rattle.normal_forms.specs.declared.forms.PropId2.{PropId2}
 use Rattle.normal_forms.specs.declared.forms.PropId2.TheVariants.{Property, Partial}
+use Rattle.axioms.specs.declared.ids.PropId.{PropId}
+use Rattle.normal_forms.specs.declared.forms.Class2.{Class2}
 use Rattle.normal_forms.specs.Properties.{IsAtOrBelow}
+use Rattle.normal_forms.specs.Properties as properties
 use Rattle.facts.specs.declared.contexts.Context.{Context}
 use Rattle.facts.specs.declared.contexts.Fact.{Fact}
 use Rattle.facts.specs.declared.contexts.Fact.TheVariants.{In, Edge}
 use Rattle.facts.specs.Closure.{Problem, FromTwo}
 use Rattle.inference.specs.Derivations.{Keeps}
 use Rattle.inference.specs.Visits.{GiveNothing, IsBy, IsEdge}
-use Rattle.inference.specs.Marks.{IsMark, AreMarks, bit_of, HasBit, HasSeconds, HasEnds, HasSecondsOf, HasEndsOf}
+use Rattle.inference.specs.Marks.{IsMark, AreMarks, bit_of, HasBit, HasSeconds, HasEnds, HasAbove, HasFilled, HasSecondsOf, HasEndsOf, HasAboveOf, HasFilledOf}
 use Rattle.inference.proofs.Giving.{by_form_or_back}
 use Rattle.inference.proofs.Lists.{slice_get_push_cases}
 
@@ -132,3 +135,43 @@ cannot_follow k seconds ends f g none = not_joined k seconds ends f g (λ s here
 
 pub cannot_lead : (k : Problem) (seconds ends : ℕ) (f g : Fact) → not (nat_eq (bit_and seconds ends) 0) ≡ false → HasSecondsOf k.forms seconds f → HasEndsOf k.forms ends g → GiveNothing k f g
 cannot_lead k seconds ends f g none = not_joined k seconds ends f g (λ s here there. apart seconds ends s (blank _ none) here there)
+
+-- ---- classes for which an edge carries nothing
+
+carried : (k : Problem) (form : Form) (x y z : Context) (p : PropId2) (c : Class2) (h : Fact) → FromTwo k form (Edge x p y) (In c z) h
+    → (r : PropId) × (b : Class2) × (form ≡ N4 r c b) × IsAtOrBelow k.forms p (Property r)
+carried k (N1 _ _) x y z p c h w = absurd w
+carried k (N2 _ _ _) x y z p c h w = absurd w
+carried k (N3 _ _ _) x y z p c h w = absurd w
+carried k (N4 r a b) x y z p c h w = (r, b, ap (λ (d : Class2). N4 r d b) (sym w.1), w.0)
+carried k (N5 _ _) x y z p c h w = absurd w
+carried k (N6 _ _ _) x y z p c h w = absurd w
+carried k (N7 _) x y z p c h w = absurd w
+carried k (N8 _ _) x y z p c h w = absurd w
+carried k (N9 _ _ _) x y z p c h w = absurd w
+carried k (N10 _ _) x y z p c h w = absurd w
+carried k (N11 _ _) x y z p c h w = absurd w
+carried k (N12 _ _ _) x y z p c h w = absurd w
+
+not_carried : (k : Problem) (above filled : ℕ) (f g : Fact) → ((s : PropId2) → HasBit above s → HasBit filled s → ⊥) → HasAboveOf k.forms above f → HasFilledOf k.forms filled g → GiveNothing k f g
+not_carried k above filled (In a x) g never has may = absurd has
+not_carried k above filled (Edge x p y) (Edge z q v) never has may = absurd may
+not_carried k above filled (Edge x p y) (In c z) never has may = by_form_or_back k (Edge x p y) (In c z)
+    (λ n form h at w.
+    let j = carried k form x y z p c h w in
+    let restriction : slice_get k.forms n ≡ Some (N4 j.0 c j.1) = at ∙ ap Some j.2 in
+    never (Property j.0)
+    (has (Property j.0) j.3)
+    (may.restrictions n (N4 j.0 c j.1, restriction, refl) j.0 c j.1 restriction))
+    (λ h b. never p (has p properties.same) (may.all b.0 p))
+
+pub above_by : (forms : List Form) (mask : ℕ) (p : PropId2) (f : Fact) → HasAbove forms mask p → IsBy p f → HasAboveOf forms mask f
+above_by forms mask p (In a x) has by = absurd by
+above_by forms mask p (Edge x r y) has by = subst (HasAbove forms mask) (sym by) has
+
+pub all_filled : (forms : List Form) (c : Class2) → HasFilled forms 18446744073709551615 c
+all_filled forms c = record { restrictions = λ n under r a b at. all_bits (Property r); all = λ e p. all_bits p }
+
+-- what two masks have no bit in common for gives nothing
+pub cannot_carry : (k : Problem) (above filled : ℕ) (f g : Fact) → not (nat_eq (bit_and above filled) 0) ≡ false → HasAboveOf k.forms above f → HasFilledOf k.forms filled g → GiveNothing k f g
+cannot_carry k above filled f g none = not_carried k above filled f g (λ s here there. apart above filled s (blank _ none) here there)

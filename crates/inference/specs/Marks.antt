@@ -1,14 +1,17 @@
--- Marks of facts, and masks of properties, by which it is told that no chain joins two edges.
+-- Marks of facts, and masks of properties, by which it is told that no chain joins two edges, and that an edge carries nothing for a class.
 use Rattle.std.specs.Prelude.{◌≡◌, ℕ, ◌<◌, ◌%◌, List, slice_get, Some}
 use Rattle.std.specs.Int.{bit_at}
 use Rattle.normal_forms.specs.declared.forms.Form.{Form}
-use Rattle.normal_forms.specs.declared.forms.Form.TheVariants.{N6}
+use Rattle.axioms.specs.declared.ids.PropId.{PropId}
+use Rattle.normal_forms.specs.declared.forms.Class2.{Class2}
+use Rattle.normal_forms.specs.declared.forms.Form.TheVariants.{N4, N6}
 use Rattle.normal_forms.specs.declared.forms.PropId2.{PropId2}
 use Rattle.normal_forms.specs.declared.forms.PropId2.TheVariants.{Property, Partial}
 use Rattle.normal_forms.specs.Properties.{IsAtOrBelow}
 use Rattle.facts.specs.declared.contexts.Fact.{Fact}
 use Rattle.facts.specs.declared.contexts.Fact.TheVariants.{In, Edge}
-use Rattle.indexes.specs.Keys.{by_chain, by_end, property_key}
+use Rattle.facts.specs.Closure.{nothing}
+use Rattle.indexes.specs.Keys.{by_chain, by_end, by_filler, class_key, property_key}
 use Rattle.indexes.specs.FormsUnderKeys.{IsUnder}
 use Rattle.inference.specs.Visits.{IsBy}
 
@@ -58,3 +61,26 @@ HasSecondsOf forms mask (Edge x p y) = HasSeconds forms mask p
 abbrev pub HasEndsOf : List Form → ℕ → Fact → Type 0
 HasEndsOf forms mask (In a x) = ⊥
 HasEndsOf forms mask (Edge x p y) = HasEnds forms mask p
+
+-- it has the bits of p and of the properties above it
+abbrev pub HasAbove : List Form → ℕ → PropId2 → Type 0
+HasAbove forms mask p = (r : PropId2) → IsAtOrBelow forms p r → HasBit mask r
+
+-- it has the bit of the property of the restriction at the place, if there is one
+abbrev pub HasFilledAt : List Form → ℕ → ℕ → Type 0
+HasFilledAt forms mask n = (r : PropId) (a b : Class2) → slice_get forms n ≡ Some (N4 r a b) → HasBit mask (Property r)
+
+-- it has the bits of the properties of the restrictions that the class fills, and all bits where each edge carries the class
+pub record HasFilled (forms : List Form) (mask : ℕ) (c : Class2) : Type 0 where
+  pub restrictions : (n : ℕ) → IsUnder by_filler forms (class_key c) n → HasFilledAt forms mask n
+  pub all : c ≡ nothing → (p : PropId2) → HasBit mask p
+
+-- the fact is an edge, and the mask has the bits of its property and of those above it
+abbrev pub HasAboveOf : List Form → ℕ → Fact → Type 0
+HasAboveOf forms mask (In a x) = ⊥
+HasAboveOf forms mask (Edge x p y) = HasAbove forms mask p
+
+-- the fact puts a class into a context, and the mask has the bits of the properties of the restrictions that the class fills
+abbrev pub HasFilledOf : List Form → ℕ → Fact → Type 0
+HasFilledOf forms mask (In a x) = HasFilled forms mask a
+HasFilledOf forms mask (Edge x p y) = ⊥

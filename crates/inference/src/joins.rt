@@ -1,26 +1,33 @@
-//! Which edges chains may join, told by the properties of the two.
-ghost use Rattle.std.specs.Prelude.{◌≡◌, ℕ, List, Contains, IfOk, length, slice_get, Some, None, true};
+//! Which edges chains may join, told by the properties of the two, and for which classes an edge may carry something to its source.
+ghost use Rattle.std.specs.Prelude.{◌≡◌, ◌↔◌, ℕ, List, Contains, IfOk, IsTrue, length, slice_get, Some, None, true};
+ghost use Rattle.facts.specs.Closure.{nothing};
 ghost use Rattle.normal_forms.specs.declared.forms.Form.{Form as Form2};
 ghost use Rattle.normal_forms.specs.declared.forms.PropId2.TheVariants as the_properties;
+ghost use Rattle.normal_forms.specs.declared.forms.Class2.TheVariants as the_classes;
 ghost use Rattle.property_closure.specs.PropertyClosures.{Has};
 ghost use Rattle.inference.specs.PropertyClosures.{IsClosureOf};
-ghost use Rattle.inference.specs.Marks.{HasBit, HasEnd, HasEnds, HasSecondAt, HasSeconds};
+ghost use Rattle.inference.specs.Marks.{HasAbove, HasBit, HasEnd, HasEnds, HasFilled, HasFilledAt, HasSecondAt, HasSeconds};
 ghost use Rattle.inference.specs.Joins.{AreJoins};
 
+use crate::conclusions::NOTHING;
 use crate::properties::is_listed;
 use crate::visits::has_any;
-use axioms::{Memory, PropId};
+use axioms::{ExprId, Memory, PropId};
 use indexes::IndexedProblem;
-use normal_forms::{Form, PropId2};
+use normal_forms::{Class2, Form, PropId2};
 use property_closure::PropertyClosure;
 use std::alloc::Global;
 
-/// For each property a mask of those that an edge may have that a chain joins behind one by it, and a mask of the properties that it counts
-/// as at the end of a chain. A chain joins two edges only where these have a bit in common.
+/// For each property a mask of those that an edge may have that a chain joins behind one by it, a mask of the properties that it counts
+/// as at the end of a chain, and a mask of the properties at or above it; and for each expression a mask of the properties of the
+/// restrictions that it fills. A chain joins two edges only where the first two have a bit in common, and an edge carries something to
+/// its source for a class at its target only where the last two have.
 #[derive(Drop)]
 pub struct Joins {
     pub(crate) seconds: Vec<u64>,
     pub(crate) ends: Vec<u64>,
+    pub(crate) above: Vec<u64>,
+    pub(crate) filled: Vec<u64>,
 }
 
 /// The bit that stands for the property, alone.
@@ -92,6 +99,71 @@ fn ends_of(problem: &IndexedProblem, closure: &PropertyClosure, property: PropId
     mask
 }
 
+/// The bits of the property and of those above it.
+fn above_of(problem: &IndexedProblem, closure: &PropertyClosure, property: PropId2) -> u64
+    requires closed { IsClosureOf problem.now.forms closure.now }
+    requires has { Has closure.now property }
+    ensures { HasAbove problem.now.forms result property }
+{
+    let mut mask = 0;
+    for above in closure.supers(property) {
+        mask |= bit(*above);
+    }
+    mask
+}
+
+/// The bit of the property of the form of that number, if it is a restriction.
+fn restriction(problem: &IndexedProblem, number: u32) -> u64
+    ensures { HasFilledAt problem.now.forms result number }
+{
+    match problem.form(number) {
+        Some(Form::N4(property, ..)) => bit(PropId2::Property(property)),
+        _ => 0,
+    }
+}
+
+/// The bits of the properties of those of the forms that are restrictions.
+fn restrictions(problem: &IndexedProblem, numbers: &[u32]) -> u64
+    ensures { (n : ℕ) → Contains numbers.now n → HasFilledAt problem.now.forms result n }
+{
+    let mut mask = 0;
+    for number in numbers {
+        mask |= restriction(problem, *number);
+    }
+    mask
+}
+
+/// Whether the class is `owl:Nothing`.
+fn is_nothing(class: Class2) -> bool
+    ensures { IsTrue result ↔ (class ≡ nothing) }
+{
+    class == NOTHING
+}
+
+/// The bits of the properties of the restrictions that the class fills; all for `owl:Nothing`, which each edge carries.
+fn filled_by(problem: &IndexedProblem, class: Class2) -> u64
+    ensures { HasFilled problem.now.forms result class }
+{
+    if is_nothing(class) {
+        u64::MAX
+    } else {
+        restrictions(problem, problem.with_filler(class))
+    }
+}
+
+/// The masks of the expressions up to the last that fills a restriction.
+fn all_filled(alloc: Global, problem: &IndexedProblem) -> Result<Vec<u64>, Memory>
+    ensures { IfOk result (λ masks. (n mask : ℕ) → slice_get masks.items n ≡ Some mask → HasFilled problem.now.forms mask (the_classes.Expr (record { 0 = n }))) }
+{
+    let end = problem.fillers_end().min(u32::MAX as usize);
+    let mut masks = Vec::with_capacity(alloc, end)?;
+    for number in 0..end {
+        let class = Class2::Expr(ExprId(number as u32));
+        masks.push(filled_by(problem, class))?;
+    }
+    Ok(masks)
+}
+
 /// The mask at the place; all bits where there is none.
 fn mask_at(masks: &[u64], place: usize) -> u64
     ensures there { (mask : ℕ) → slice_get masks.now place ≡ Some mask → result ≡ mask }
@@ -126,14 +198,17 @@ impl Joins {
         ensures joins { (forms : List Form2) → AreJoins forms result }
         ensures seconds { length result.seconds.items ≡ 0 }
         ensures ends { length result.ends.items ≡ 0 }
+        ensures above { length result.above.items ≡ 0 }
     {
         Joins {
             seconds: Vec::new(alloc),
             ends: Vec::new(alloc),
+            above: Vec::new(alloc),
+            filled: Vec::new(alloc),
         }
     }
 
-    /// What the chains join, for the properties of which a mark may tell.
+    /// What the chains join and what edges carry, for the properties of which a mark may tell.
     fn all(
         alloc: Global,
         problem: &IndexedProblem,
@@ -143,6 +218,7 @@ impl Joins {
         ensures { IfOk result (AreJoins problem.now.forms) }
     {
         let mut joins = Joins::none(alloc);
+        joins.filled = all_filled(alloc, problem)?;
         for number in 0..u16::MAX as u32 {
             let property = PropId2::Property(PropId(number));
             if !is_known(closure, property) {
@@ -150,11 +226,13 @@ impl Joins {
             }
             joins.seconds.push(seconds_of(problem, closure, property))?;
             joins.ends.push(ends_of(problem, closure, property))?;
+            joins.above.push(above_of(problem, closure, property))?;
         }
         Ok(joins)
     }
 
-    /// What the chains join, for the properties of which a mark may tell; for none where there is no chain.
+    /// What the chains join, and what edges carry, for the properties of which a mark may tell; with no masks of what chains join where
+    /// there is no chain.
     ///
     /// # Errors
     ///
@@ -167,14 +245,15 @@ impl Joins {
         requires { IsClosureOf problem.now.forms closure.now }
         ensures { IfOk result (AreJoins problem.now.forms) }
     {
-        let joins = Joins::all(alloc, problem, closure)?;
+        let mut joins = Joins::all(alloc, problem, closure)?;
         if are_blank(&joins.seconds) {
-            return Ok(Joins::none(alloc));
+            joins.seconds.clear();
+            joins.ends.clear();
         }
         Ok(joins)
     }
 
-    /// Whether marks are of use: some property has a mask.
+    /// Whether marks are of use: there are masks of what chains join.
     pub(crate) fn are_any(&self) -> bool {
         !self.seconds.is_empty()
     }
@@ -196,6 +275,25 @@ impl Joins {
         match property {
             PropId2::Property(PropId(number)) => mask_at(&self.ends, number as usize),
             PropId2::Partial(_) => u64::MAX,
+        }
+    }
+    /// The bits of the property and of those above it; all where it has no mask.
+    pub(crate) fn above(&self, property: PropId2) -> u64
+        ensures { (forms : List Form2) → AreJoins forms self.now → HasAbove forms result property }
+    {
+        match property {
+            PropId2::Property(PropId(number)) => mask_at(&self.above, number as usize),
+            PropId2::Partial(_) => u64::MAX,
+        }
+    }
+
+    /// The bits of the properties of the restrictions that the class fills; all for `owl:Nothing`, and where it has no mask.
+    pub(crate) fn filled(&self, class: Class2) -> u64
+        ensures { (forms : List Form2) → AreJoins forms self.now → HasFilled forms result class }
+    {
+        match class {
+            Class2::Expr(ExprId(number)) => mask_at(&self.filled, number as usize),
+            Class2::Partial(_) => u64::MAX,
         }
     }
 }

@@ -1,12 +1,12 @@
 //! What two facts give, added to the facts.
-ghost use Rattle.std.specs.Prelude.{◌≡◌, [], ◌∷◌, false, Some, slice_get};
+ghost use Rattle.std.specs.Prelude.{◌≡◌, ◌<◌, [], ◌∷◌, false, Some, length, slice_get};
 ghost use Rattle.facts.specs.declared.contexts.Fact.{Fact as Fact2};
 ghost use Rattle.facts.specs.declared.contexts.Fact.TheVariants.{In};
 ghost use Rattle.inference.specs.Derivations.{IsDerived};
 ghost use Rattle.inference.specs.Draws.{Draws};
 ghost use Rattle.inference.specs.Completeness.{IsRedundantAsSecond, Drawn, IsDrawnIn, AreDrawnIn, MeetsOperands, MeetEachOther, AreMet, AreMetBefore, AreMetBehind};
-ghost use Rattle.inference.specs.Visits.{AreAll, AreWithin, GiveNothing, HasProperty, IsBy, IsClassFact, IsEdge};
-ghost use Rattle.inference.specs.Marks.{HasEndsOf, HasSecondsOf};
+ghost use Rattle.inference.specs.Visits.{AreAll, AreWithin, GiveNothing, IsBy, IsClassFact, IsEdge};
+ghost use Rattle.inference.specs.Marks.{HasAboveOf, HasEndsOf, HasFilledOf, HasSecondsOf};
 ghost use Rattle.inference.specs.Meetings.{IsWithin, AllListedAreMet, HasServed};
 
 use crate::known_facts::{KnownFacts, Stop};
@@ -17,24 +17,30 @@ use indexes::Index;
 use normal_forms::{Class2, PropId2};
 
 impl Rules<'_> {
-    /// Whether the two facts may give something in this order, by what is listed for their classes and properties.
+    /// Whether the two facts may give something in this order: two classes give nothing where no intersection is listed for one of them.
     fn may_give(&self, first: Fact, second: Fact) -> bool
-        requires { HasProperty self.now.closure.now first }
         ensures { result ≡ false → GiveNothing self.now.problem.now first second }
     {
         match (first, second) {
             (Fact::In(a, _), Fact::In(b, _)) => {
                 has_any(self.problem.first(a)) && has_any(self.problem.second(b))
             }
-            (Fact::Edge(..), Fact::In(class, _)) => is_carried(self.problem, class),
-            (Fact::Edge(_, property, _), Fact::Edge(..)) => {
-                begins_chain(self.problem, self.closure, property)
-            }
-            _ => false,
+            _ => true,
         }
     }
 
     /// Adds what two facts give in this order.
+    fn draw_two(&self, facts: &mut KnownFacts, m: u32, f: Fact, n: u32, g: Fact) -> Result<(), Stop>
+        requires derived { IsDerived self.now.problem.now facts.old }
+        requires first { slice_get facts.old.facts m ≡ Some f }
+        requires second { slice_get facts.old.facts n ≡ Some g }
+        ensures { Draws self.now facts.old facts.new result (Drawn self.now.problem.now (f ∷ g ∷ []) facts.new.facts) }
+    {
+        self.draw(facts, &[m, n], &[f, g])?;
+        Ok(())
+    }
+
+    /// Adds what two facts give in this order, if they may give anything.
     fn draw_pair(
         &self,
         facts: &mut KnownFacts,
@@ -49,7 +55,7 @@ impl Rules<'_> {
         ensures { Draws self.now facts.old facts.new result (Drawn self.now.problem.now (f ∷ g ∷ []) facts.new.facts) }
     {
         if self.may_give(f, g) {
-            self.draw(facts, &[m, n], &[f, g])?;
+            self.draw_two(facts, m, f, n, g)?;
         }
         Ok(())
     }
@@ -195,42 +201,84 @@ impl Rules<'_> {
         Ok(())
     }
 
-    /// Adds what the fact of that number gives as the first of two, with each of those of the other numbers.
+    /// Whether an edge with these bits of properties may carry something to its source for the fact, where that puts a class into its target.
+    fn may_fill(&self, above: u64, fact: Fact) -> bool
+        ensures { result ≡ false → (f : Fact2) → HasAboveOf self.now.problem.now.forms above f → GiveNothing self.now.problem.now f fact }
+    {
+        match fact {
+            Fact::In(class, _) => above & self.joins.filled(class) != 0,
+            Fact::Edge(..) => true,
+        }
+    }
+
+    /// Whether the fact may carry something to its source for a class that fills restrictions on these bits of properties.
+    fn may_bear(&self, filled: u64, fact: Fact) -> bool
+        ensures { result ≡ false → (g : Fact2) → HasFilledOf self.now.problem.now.forms filled g → GiveNothing self.now.problem.now fact g }
+    {
+        match fact {
+            Fact::In(..) => true,
+            Fact::Edge(_, property, _) => self.joins.above(property) & filled != 0,
+        }
+    }
+
+    /// Whether the fact of that number may carry something to its source for a class that fills restrictions on these bits of properties.
+    /// It is read only where no mark tells its property.
+    fn may_carry(&self, facts: &KnownFacts, filled: u64, number: u32) -> bool
+        requires { number < length facts.now.facts }
+        ensures { result ≡ false → (f g : Fact2) → HasFilledOf self.now.problem.now.forms filled g → slice_get facts.now.facts number ≡ Some f → GiveNothing self.now.problem.now f g }
+    {
+        match facts.marked(number) {
+            Some(property) => self.joins.above(PropId2::Property(property)) & filled != 0,
+            None => self.may_bear(filled, facts.get(number)),
+        }
+    }
+
+    /// Adds what the edge with these bits of properties gives as the first of two, with each of those of the other numbers, which put
+    /// classes into contexts.
     fn meet_before(
         &self,
         facts: &mut KnownFacts,
         hand: u32,
-        fact: Fact,
+        edge: Fact,
+        above: u64,
         numbers: &[u32],
     ) -> Result<(), Stop>
         requires derived { IsDerived self.now.problem.now facts.old }
-        requires hand { slice_get facts.old.facts hand ≡ Some fact }
+        requires hand { slice_get facts.old.facts hand ≡ Some edge }
+        requires above { HasAboveOf self.now.problem.now.forms above edge }
         requires numbers { AreWithin facts.old.facts numbers.now }
-        ensures { Draws self.now facts.old facts.new result (AreMetBefore self.now.problem.now fact facts.old.facts numbers.now facts.new) }
+        ensures { Draws self.now facts.old facts.new result (AreMetBefore self.now.problem.now edge facts.old.facts numbers.now facts.new) }
     {
         for number in numbers {
             let partner = facts.get(*number);
-            self.draw_pair(facts, hand, fact, *number, partner)?;
+            if self.may_fill(above, partner) {
+                self.draw_two(facts, hand, edge, *number, partner)?;
+            }
         }
         Ok(())
     }
 
-    /// Adds what the fact of that number gives as the second of two, with each of those of the other numbers.
+    /// Adds what the fact gives as the second of two, with each of those of the other numbers, where it puts a class into a context that
+    /// fills restrictions on these bits of properties.
     fn meet_behind(
         &self,
         facts: &mut KnownFacts,
         hand: u32,
         fact: Fact,
+        filled: u64,
         numbers: &[u32],
     ) -> Result<(), Stop>
         requires derived { IsDerived self.now.problem.now facts.old }
         requires hand { slice_get facts.old.facts hand ≡ Some fact }
+        requires filled { HasFilledOf self.now.problem.now.forms filled fact }
         requires numbers { AreWithin facts.old.facts numbers.now }
         ensures { Draws self.now facts.old facts.new result (AreMetBehind self.now.problem.now fact facts.old.facts numbers.now facts.new) }
     {
         for number in numbers {
-            let partner = facts.get(*number);
-            self.draw_pair(facts, *number, partner, hand, fact)?;
+            if self.may_carry(facts, filled, *number) {
+                let partner = facts.get(*number);
+                self.draw_two(facts, *number, partner, hand, fact)?;
+            }
         }
         Ok(())
     }
@@ -250,7 +298,8 @@ impl Rules<'_> {
         ensures { Draws self.now facts.old facts.new result (AreMetBehind self.now.problem.now (In class context) facts.old.facts numbers.now facts.new) }
     {
         if is_carried(self.problem, class) {
-            self.meet_behind(facts, hand, Fact::In(class, context), numbers)?;
+            let filled = self.joins.filled(class);
+            self.meet_behind(facts, hand, Fact::In(class, context), filled, numbers)?;
         }
         Ok(())
     }
@@ -391,7 +440,8 @@ impl Rules<'_> {
                 self.carry(facts, hand, class, x, index.edges_into(x))?;
             }
             Fact::Edge(x, property, y) => {
-                self.meet_before(facts, hand, fact, index.fillers_in(y))?;
+                let above = self.joins.above(property);
+                self.meet_before(facts, hand, fact, above, index.fillers_in(y))?;
                 self.lead_on(facts, hand, fact, property, index.second_premises_from(y))?;
                 self.lead_up(facts, hand, fact, property, is_second, index.edges_into(x))?;
             }

@@ -7,4 +7,5 @@ invariant-loop-number l = record {
   are : AreJoins l.problem.forms l.joins;
   seconds : length l.joins.seconds.items ≡ l.number;
   ends : length l.joins.ends.items ≡ l.number;
+  above : length l.joins.above.items ≡ l.number;
 }

@@ -8,6 +8,9 @@ use Rattle.inference.proofs.rules.Rules.carry.Goals as goal
 pub meet_behind-requires-clause-numbers : goal.meet_behind-requires-clause-numbers
 meet_behind-requires-clause-numbers c = numbers_within IsEdge c.args.facts.now.facts c.args.numbers.now c.requires.numbers
 
+pub meet_behind-requires-clause-filled : goal.meet_behind-requires-clause-filled
+meet_behind-requires-clause-filled c = c.filled-filled.ensures c.args.self.now.problem.now.forms c.args.self.now.joined
+
 pub returns-else-is_carried : goal.returns-else-is_carried
 returns-else-is_carried c = draws (grows_same c.requires.derived) (λ n there g at.
     not_carried c.args.self.now.problem.now c.args.class c.args.context g c.args.facts.now (c.is_carried.ensures.nothing c.if-is_carried.false) (c.is_carried.ensures.filler c.if-is_carried.false)

@@ -13,6 +13,9 @@ meet_classes-requires-clause-numbers c = classes_listed c.requires.index c.in-In
 pub carry-requires-clause-numbers : goal.carry-requires-clause-numbers
 carry-requires-clause-numbers c = all_still_there c.meet_classes.ensures.grows IsEdge c.edges_into.result.now (into_listed c.requires.index c.in-In.x c.edges_into.result.now c.edges_into.ensures)
 
+pub meet_before-requires-clause-above : goal.meet_before-requires-clause-above
+meet_before-requires-clause-above c = c.above-above.ensures c.args.self.now.problem.now.forms c.args.self.now.joined
+
 pub meet_before-requires-clause-numbers : goal.meet_before-requires-clause-numbers
 meet_before-requires-clause-numbers c =
     numbers_within IsClassFact c.args.facts.now.facts c.fillers_in.result.now

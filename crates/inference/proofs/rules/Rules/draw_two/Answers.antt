@@ -1,0 +1,7 @@
+use Rattle.std.proofs.Common.{[], ◌∷◌}
+use Rattle.inference.proofs.Drawing.{drawn, draws}
+use Rattle.inference.proofs.rules.Rules.draw_two.Goals as goal
+
+pub returns : goal.returns
+returns c =
+    draws c.draw.ensures.grows (drawn c.args.self.now.problem.now (c.args.f ∷ c.args.g ∷ []) c.draw.new.facts.facts c.in_ok-draw.ensures.drawn (λ x none. absurd none) (λ h e. absurd (cc)) (λ e. absurd (cc)))
