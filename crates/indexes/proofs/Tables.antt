@@ -1,10 +1,10 @@
 -- Lists by number, as they grow.
-use Rattle.std.proofs.Common.{◌≡◌, ℕ, zero, suc, ◌+◌, ◌<◌, ◌≤◌, inl, inr, ⊎_elim, List, [], ◌∷◌, ◌++◌, length, get_or, set, Contains, refl, sym, ap, ◌∙◌, subst, arith}
+use Rattle.std.proofs.Common.{◌≡◌, ℕ, zero, suc, ◌+◌, ◌<◌, ◌≤◌, true, false, not, ne_eqb, eq-eqb, inl, inr, ⊎_elim, List, [], ◌∷◌, ◌++◌, length, get_or, set, Contains, refl, sym, ap, ◌∙◌, subst, arith}
 use Rattle.std.proofs.lemmas.Bool.{cases_eq}
 use Rattle.std.proofs.lemmas.List.{get_or_past, get_or_append_left, get_or-set_same, get_or-set_other, length_push}
 use Rattle.std.proofs.lemmas.List.Elements.{Contains-append_left, Contains-push, Contains-push_cases}
 use Rattle.std.proofs.Math.Seq.{get_or-append_seam}
-use Rattle.indexes.specs.Tables.{at, by_key, list_of, Adds, IsSame, IsTable, PutsLast}
+use Rattle.indexes.specs.Tables.{at, by_key, is_other, list_of, without, Adds, IsSame, IsTable, PutsLast, Removes}
 
 pub same_longer : (t : List (List ℕ)) → IsSame t (t ++ [] ∷ [])
 same_longer [] zero = refl
@@ -152,3 +152,32 @@ put_adds old mid new key number same puts k n = ⊎_elim
           v),
     ))
     (put_last old mid new key number same puts k)
+
+-- ---- a number that is taken out
+
+pub removes_set : (numbers : List ℕ) (lists : List (List ℕ)) (key place number : ℕ) → IsTable numbers lists → get_or numbers key 0 ≡ place + 1 →
+    Removes (by_key numbers lists) (by_key numbers (set lists place (without number (at lists place)))) key number
+removes_set numbers lists key place number table is k = elim (cases_eq k key) [
+  | inl e ↦
+      let stands : get_or numbers k 0 ≡ place + 1 = ap (λ i. get_or numbers i 0) e ∙ is in
+      inr (
+        e,
+        at_by_key numbers (set lists place (without number (at lists place))) k
+            ∙ list_of_next (set lists place (without number (at lists place))) (get_or numbers k 0) place stands
+            ∙ get_or-set_same lists place (without number (at lists place)) [] (omega (arith, table.within key, is))
+            ∙ sym (ap (without number) (at_by_key numbers lists k ∙ list_of_next lists (get_or numbers k 0) place stands)),
+      )
+  | inr ne ↦ inl (
+    ne,
+    at_by_key numbers (set lists place (without number (at lists place))) k
+        ∙ list_of_set lists place (without number (at lists place)) (get_or numbers k 0)
+        (λ same. absurd (omega (arith, same, table.apart k key ne (same ∙ sym is))))
+        ∙ sym (at_by_key numbers lists k),
+  )
+]
+
+pub other : (number n : ℕ) → (n ≡ number → ⊥) → is_other number n ≡ true
+other number n ne = ap not (ne_eqb n number ne)
+
+pub not_other : (number n : ℕ) → n ≡ number → is_other number n ≡ false
+not_other number n e = ap not (eq-eqb n number e)

@@ -3,7 +3,7 @@ use Rattle.std.specs.Prelude.{◌≡◌, ℕ, ◌⊎◌, ◌↔◌, List, [], �
 use Rattle.std.specs.List.{Contains}
 use Rattle.facts.specs.declared.contexts.Context.{Context}
 use Rattle.facts.specs.declared.contexts.Context.TheVariants.{Expr, Individual}
-use Rattle.indexes.specs.Tables.{at}
+use Rattle.indexes.specs.Tables.{at, without}
 use Rattle.indexes.specs.declared.by_context.ByContext.{ByContext}
 use Rattle.indexes.specs.declared.index.Index.{Index}
 
@@ -26,6 +26,10 @@ EndsAt old new x number = (y : Context) → (at_context new y ≡ at_context old
 -- each list is what it was, but that of the context: there the number is put at the end, whether it was the last or not
 abbrev pub PutsLastAt : ByContext → ByContext → Context → ℕ → Type 0
 PutsLastAt old new x number = (y : Context) → ((y ≡ x → ⊥) × (at_context new y ≡ at_context old y)) ⊎ ((y ≡ x) × (at_context new y ≡ at_context old y ++ number ∷ []))
+
+-- each list is what it was, but that of the context: there the number is taken out
+abbrev pub RemovesAt : ByContext → ByContext → Context → ℕ → Type 0
+RemovesAt old new x number = (y : Context) → ((y ≡ x → ⊥) × (at_context new y ≡ at_context old y)) ⊎ ((y ≡ x) × (at_context new y ≡ without number (at_context old y)))
 
 abbrev pub IsSameAt : ByContext → ByContext → Type 0
 IsSameAt old new = (y : Context) → at_context new y ≡ at_context old y

@@ -6,6 +6,7 @@ use Rattle.facts.specs.declared.contexts.Fact.{Fact}
 use Rattle.facts.specs.declared.contexts.Fact.TheVariants.{In, Edge}
 use Rattle.indexes.specs.declared.by_context.ByContext.{ByContext}
 use Rattle.indexes.specs.declared.index.Index.{Index}
+use Rattle.indexes.specs.Tables.{without}
 use Rattle.indexes.specs.Contexts.{at_context, IsLast}
 use Rattle.indexes.specs.Parts.{ArePartOf}
 
@@ -52,6 +53,17 @@ pub record Lists (index : Index) (number : ℕ) (fact : Fact) (is_second is_fill
   pub into : (x : Context) → IsInto x fact → Contains (at_context index.into x) number
   pub second_premises : (x : Context) → IsSecondFrom is_second x fact → Contains (at_context index.second_premises x) number
   pub fillers : (x : Context) → IsFillerIn is_filler x fact → Contains (at_context index.fillers x) number
+
+-- the number is taken out of the lists of the contexts that the fact speaks of; the other lists stay
+abbrev pub RemovesIn : (Context → Fact → Type 0) → ByContext → ByContext → ℕ → Fact → Type 0
+RemovesIn has old new number fact = (x : Context) → (¬ has x fact × (at_context new x ≡ at_context old x)) ⊎ (has x fact × (at_context new x ≡ without number (at_context old x)))
+
+pub record Removes (old new : Index) (number : ℕ) (fact : Fact) : Type 0 where
+  pub classes : RemovesIn IsIn old.classes new.classes number fact
+  pub from : RemovesIn IsFrom old.from new.from number fact
+  pub into : RemovesIn IsInto old.into new.into number fact
+  pub second_premises : RemovesIn IsFrom old.second_premises new.second_premises number fact
+  pub fillers : RemovesIn IsIn old.fillers new.fillers number fact
 
 -- exactly the facts of these numbers are listed: those of the first list are, and none but those of the second, in its order
 pub record ListsIn (has : Context → Fact → Type 0) (facts : List Fact) (whole most : List ℕ) (table : ByContext) : Type 0 where

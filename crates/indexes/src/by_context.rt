@@ -1,6 +1,6 @@
 //! Lists of numbers by context.
 ghost use Rattle.std.specs.Prelude.{◌≡◌, [], OnOk, OnErr, false, true};
-ghost use Rattle.indexes.specs.Contexts.{at_context, AddsAt, EndsAt, IsLast, IsSameAt, PutsLastAt};
+ghost use Rattle.indexes.specs.Contexts.{at_context, AddsAt, EndsAt, IsLast, IsSameAt, PutsLastAt, RemovesAt};
 
 use crate::table::Table;
 use facts::Context;
@@ -67,5 +67,15 @@ impl ByContext {
             return Ok(());
         }
         self.put(context, number)
+    }
+
+    /// Takes the number out of the list of a context, wherever it stands there. It takes no memory.
+    pub fn remove(&mut self, context: Context, number: u32)
+        ensures { RemovesAt self.old self.new context number }
+    {
+        match context {
+            Context::Expr(e) => self.expressions.remove(e.0 as usize, number),
+            Context::Individual(a) => self.individuals.remove(a.0 as usize, number),
+        }
     }
 }

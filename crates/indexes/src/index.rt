@@ -1,7 +1,7 @@
 //! The index.
 ghost use Rattle.std.specs.Prelude.{◌≡◌, OnOk};
 ghost use Rattle.indexes.specs.Contexts.{at_context, IsEmptyIndex};
-ghost use Rattle.indexes.specs.FactIndex.{MayList, Lists};
+ghost use Rattle.indexes.specs.FactIndex.{MayList, Lists, Removes};
 
 use crate::by_context::ByContext;
 use facts::{Context, Fact};
@@ -116,5 +116,22 @@ impl Index {
             }
         }
         Ok(())
+    }
+
+    /// Takes the number of a fact out of the lists of the fact's contexts, wherever it stands there. It takes no memory.
+    pub fn remove(&mut self, number: u32, fact: Fact)
+        ensures { Removes self.old self.new number fact }
+    {
+        match fact {
+            Fact::In(_, x) => {
+                self.classes.remove(x, number);
+                self.fillers.remove(x, number);
+            }
+            Fact::Edge(x, _, y) => {
+                self.from.remove(x, number);
+                self.into.remove(y, number);
+                self.second_premises.remove(x, number);
+            }
+        }
     }
 }

@@ -1,6 +1,6 @@
 //! Lists of numbers by the number of a key.
-ghost use Rattle.std.specs.Prelude.{◌≡◌, ◌+◌, ◌<◌, [], ◌∷◌, ◌++◌, length, slice_set, OnOk, OnErr, IfOk};
-ghost use Rattle.indexes.specs.Tables.{at, by_key, list_of, Adds, IsSame, IsTable, PutsLast};
+ghost use Rattle.std.specs.Prelude.{◌≡◌, ◌+◌, ◌<◌, ◌≤◌, [], ◌∷◌, ◌++◌, length, slice_set, take, OnOk, OnErr, IfOk};
+ghost use Rattle.indexes.specs.Tables.{at, by_key, list_of, without, Adds, IsSame, IsTable, PutsLast, Removes};
 
 use number_sets::NumberList;
 use std::alloc::{AllocError, Global};
@@ -102,6 +102,58 @@ fn put(
     push(alloc, lists, place - 1, number)
 }
 
+/// Moves the other numbers to the front, in their order, and tells how many there are.
+fn gather_others(list: &mut NumberList, number: u32) -> usize
+    ensures others { take result list.new ≡ without number list.old }
+{
+    let mut others = 0;
+    for place in 0..list.len() {
+        let other = list.as_slice()[place];
+        if other != number {
+            list.set(others, other);
+            others += 1;
+        }
+    }
+    others
+}
+
+/// Takes numbers out at the end, until there are at most so many.
+fn shorten(list: &mut NumberList, length: usize)
+    ensures { list.new ≡ take length list.old }
+{
+    while list.len() > length {
+        let _ = list.pop();
+    }
+}
+
+/// Takes the number out of the list, wherever it stands.
+fn remove(list: &mut NumberList, number: u32)
+    ensures { list.new ≡ without number list.old }
+{
+    let others = gather_others(list, number);
+    shorten(list, others);
+}
+
+/// Takes the number out of the list that stands at the place.
+fn remove_at(lists: &mut Vec<NumberList>, place: usize, number: u32)
+    requires { place < length lists.old.items }
+    ensures { lists.new.items ≡ slice_set lists.old.items place (without number (at lists.old.items place)) }
+{
+    remove(&mut lists[place], number);
+}
+
+/// Takes the number out of the list of a key.
+fn take_out(keys: &[u32], lists: &mut Vec<NumberList>, key: usize, number: u32)
+    requires table { IsTable keys.now lists.old.items }
+    ensures table { IsTable keys.now lists.new.items }
+    ensures removes { Removes (by_key keys.now lists.old.items) (by_key keys.now lists.new.items) key number }
+{
+    if key >= keys.len() || keys[key] == 0 {
+        return;
+    }
+    remove_at(lists, keys[key] as usize - 1, number);
+}
+
 impl Table {
     /// No list has a number.
     pub fn new(alloc: Global) -> Table
@@ -171,5 +223,12 @@ impl Table {
         }
         self.put(key, number)?;
         Ok(())
+    }
+
+    /// Takes the number out of the list of the key, wherever it stands there. It takes no memory.
+    pub fn remove(&mut self, key: usize, number: u32)
+        ensures { Removes self.old self.new key number }
+    {
+        take_out(&self.keys, &mut self.lists, key, number);
     }
 }

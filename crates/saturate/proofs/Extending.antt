@@ -47,7 +47,7 @@ front (x ∷ xs) [] keeps = absurd (none-some x (keeps 0 x refl))
 front (x ∷ xs) (y ∷ ys) keeps = ap₂ (λ z zs. z ∷ zs) (same_Some y x (keeps 0 x refl)) (front xs ys (λ n z e. keeps (suc n) z e))
 
 -- a form is new, or it was there at some place
-new_or_there : (forms added : List Form) (form : Form) → Contains (forms ++ added) form → IsNew forms (forms ++ added) form ⊎ ((m : ℕ) × (slice_get forms m ≡ Some form))
+pub new_or_there : (forms added : List Form) (form : Form) → Contains (forms ++ added) form → IsNew forms (forms ++ added) form ⊎ ((m : ℕ) × (slice_get forms m ≡ Some form))
 new_or_there forms added form there = ⊎_elim
     (λ before. inr (slice_get-from_Contains forms form before))
     (λ not_before. inl (there, not_before))
@@ -277,7 +277,7 @@ module _ (k : Problem) (forms : List Form) (roots : List Context) where
   ends_more p (N12 _ _ _) low = low
 
   -- what is redundant by a form is redundant by each that is equal to it
-  redundant_more : (d : Derived) (g h : Fact) (m n : ℕ) (form : Form) → slice_get k.forms m ≡ Some form → slice_get (k.forms ++ forms) n ≡ Some form
+  pub redundant_more : (d : Derived) (g h : Fact) (m n : ℕ) (form : Form) → slice_get k.forms m ≡ Some form → slice_get (k.forms ++ forms) n ≡ Some form
       → AreRedundant k d (g ∷ h ∷ []) (Some m) → AreRedundant (with_more k forms roots) d (g ∷ h ∷ []) (Some n)
   redundant_more d g h m n form before at w = (
     w.0,

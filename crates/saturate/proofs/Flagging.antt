@@ -54,6 +54,12 @@ keeps_served before now facts flags served flagged n = (
   λ w. is_kept_of (is_kept flags) served n w.0 (⊎_elim (λ yes_flag. absurd (w.1 ((flagged n w.0).yes yes_flag))) (λ no_flag. ap not no_flag) (by_flag (is_flagged flags n))),
 )
 
+-- so it is where the flags are read again
+pub keeps_served_then : (before now : List Form) (facts : List Fact) (flags read : List Bool) (served still : List ℕ) → read ≡ flags → still ≡ kept read served
+    → ((n : ℕ) → Contains served n → IsFlagged (IsAskedAnew before now) facts flags n) → KeepsServed before now facts served still
+keeps_served_then before now facts flags read served still same is flagged =
+    subst (λ (ns : List ℕ). KeepsServed before now facts served ns) (sym (is ∙ ap (λ (fs : List Bool). kept fs served) same)) (keeps_served before now facts flags served flagged)
+
 -- ---- a number more
 
 pub kept_one : (flags : List Bool) (w : List ℕ) (n : ℕ) → is_flagged flags n ≡ false → w ++ kept flags (n ∷ []) ≡ w ++ n ∷ []

@@ -11,3 +11,5 @@ pub mod Flagging
 pub mod Runs
 pub mod EqualForms
 pub mod NewForms
+pub mod Staying
+pub mod Removing

@@ -1,12 +1,13 @@
 -- Numbers that are flagged.
-use Rattle.std.specs.Prelude.{◌≡◌, ℕ, Bool, true, false, not, List, [], ◌∷◌, ◌++◌, slice_index_or}
-use Rattle.std.specs.List.{filter}
+use Rattle.std.specs.Prelude.{◌≡◌, ℕ, Bool, true, false, not, List, [], ◌∷◌, ◌++◌, slice_index_or, Option, Some}
+use Rattle.std.specs.List.{Contains, filter}
 use Rattle.facts.specs.declared.contexts.Fact.{Fact}
 use Rattle.facts.specs.Closure.{Problem}
 use Rattle.indexes.specs.declared.index.Index.{Index}
 use Rattle.inference.specs.Derivations.{Derived}
 use Rattle.saturate.specs.Requests.{IsSuchAt}
 use Rattle.saturate.specs.IndexedFacts.{ListsFacts}
+use Rattle.saturate.specs.Turns.{option_list}
 
 -- whether the number is flagged: past the end it is not
 abbrev pub is_flagged : List Bool → ℕ → Bool
@@ -31,3 +32,12 @@ pub record IsFlagged (P : Fact → Type 0) (facts : List Fact) (flags : List Boo
 -- an index that lists the facts of some numbers, and then that one too, unless it is flagged
 abbrev pub ListsUnlessFlagged : Problem → Derived → List Bool → ℕ → Index → Index → Type 0
 ListsUnlessFlagged k d flags n old new = (w : List ℕ) → ListsFacts k d w w old → ListsFacts k d (w ++ kept flags (n ∷ [])) (w ++ kept flags (n ∷ [])) new
+
+-- an index that lists the facts of some numbers, and then those of them that are not flagged
+abbrev pub ListsThoseKept : Derived → List Bool → Index → Index → Type 0
+ListsThoseKept d flags old new = (k : Problem) (w m : List ℕ) → ListsFacts k d w m old → ListsFacts k d (kept flags w) (kept flags m) new
+
+-- an index that lists the facts of those numbers that are not flagged, and none but those of the numbers and the one in hand, and then none but those that it
+-- lists
+abbrev pub ListsServedStill : Derived → List Bool → Option ℕ → Index → Index → Type 0
+ListsServedStill d flags hand old new = (k : Problem) (served : List ℕ) → ((n : ℕ) → hand ≡ Some n → ¬ Contains served n) → ListsFacts k d (kept flags served) (served ++ option_list hand) old → ListsFacts k d (kept flags served) (kept flags served) new

@@ -1,7 +1,8 @@
 -- How a state grows by forms and roots.
-use Rattle.std.specs.Prelude.{◌≡◌, ◌↔◌, ℕ, List, ◌++◌}
+use Rattle.std.specs.Prelude.{◌≡◌, ◌↔◌, ◌≤◌, ℕ, false, List, ◌++◌, drop, slice_get, Some}
 use Rattle.std.specs.List.{Contains}
 use Rattle.normal_forms.specs.declared.forms.Form.{Form}
+use Rattle.normal_forms.specs.Properties.{is_property_form}
 use Rattle.facts.specs.declared.contexts.Context.{Context}
 use Rattle.facts.specs.declared.contexts.Fact.{Fact}
 use Rattle.facts.specs.Closure.{Problem}
@@ -12,6 +13,14 @@ use Rattle.saturate.specs.State.{Seen}
 -- the forms and roots, and then those that are added
 abbrev pub with_more : Problem → List Form → List Context → Problem
 with_more k forms roots = record { forms = k.forms ++ forms; roots = k.roots ++ roots }
+
+-- the second problem is the first with the forms from that number on, and with more roots
+abbrev pub IsGrownFrom : ℕ → Problem → Problem → Type 0
+IsGrownFrom from k j = (roots : List Context) × (j ≡ with_more k (drop from j.forms) roots)
+
+-- none of the forms from that number on is of properties alone
+abbrev pub LeaveProperties : ℕ → List Form → Type 0
+LeaveProperties from forms = (n : ℕ) (form : Form) → from ≤ n → slice_get forms n ≡ Some form → is_property_form form ≡ false
 
 -- forms and roots are added; facts and what gave them are kept
 pub record HasGrown (forms : List Form) (roots : List Context) (old new : Seen) : Type 0 where

@@ -1,19 +1,23 @@
 //! Facts and their turns after forms and roots were added.
-ghost use Rattle.saturate.specs.IndexedFacts.{ListsFacts};
+ghost use Rattle.saturate.specs.IndexedFacts.{ListsFacts, ListsServed};
 ghost use Rattle.inference.specs.Derivations.{IsDerived};
-ghost use Rattle.saturate.specs.Flags.{IsFlagged, ListsUnlessFlagged, kept};
-ghost use Rattle.saturate.specs.Growth.{KeepsServed};
+ghost use Rattle.normal_forms.specs.Properties.{is_property_form};
+ghost use Rattle.saturate.specs.Flags.{IsFlagged, ListsServedStill, ListsThoseKept, ListsUnlessFlagged, kept};
+ghost use Rattle.saturate.specs.Growth.{IsGrownFrom, KeepsServed, LeaveProperties};
 ghost use Rattle.saturate.specs.Requests.{IsAsked, IsAskedAnew};
+ghost use Rattle.saturate.specs.Turns.{option_list};
 ghost use Rattle.inference.specs.Entry.{HasBegun};
-ghost use Rattle.std.specs.Prelude.{◌≡◌, ◌<◌, ◌≤◌, ℕ, Contains, IfOk, OnErr, OnOk, length, take};
+ghost use Rattle.std.specs.Prelude.{◌≡◌, ◌<◌, ◌≤◌, ◌++◌, ℕ, Contains, IfOk, OnErr, OnOk, Some, length, take, true};
 
 use crate::additions::asks_for;
 use crate::ground::Ground;
 use crate::new_forms::new_forms;
 use crate::queue::{Queue, has_flag};
 use axioms::Memory;
+use facts::Fact;
 use indexes::{Index, IndexedProblem};
 use inference::{KnownFacts, Rules, is_filler, is_second_premise};
+use normal_forms::{Form, FormList};
 use std::alloc::Global;
 use work_list::WorkList;
 
@@ -25,7 +29,8 @@ fn flagged(
     facts: &KnownFacts,
 ) -> Result<Vec<bool>, Memory>
     requires { IsDerived ground.now facts.now }
-    ensures { IfOk result (λ flags. (n : ℕ) → n < length facts.now.facts → IsFlagged (IsAsked ground.now.forms added.now.forms) facts.now.facts flags.items n) }
+    ensures few { IfOk result (λ flags. length flags.items ≤ length facts.now.facts) }
+    ensures flags { IfOk result (λ flags. (n : ℕ) → n < length facts.now.facts → IsFlagged (IsAsked ground.now.forms added.now.forms) facts.now.facts flags.items n) }
 {
     let closure = ground.closure();
     let mut flags = Vec::new(alloc);
@@ -47,7 +52,8 @@ fn flags_of(
     requires earlier { take from ground.now.forms ≡ earlier.now.forms }
     requires derived { IsDerived ground.now facts.now }
     requires served { (n : ℕ) → Contains served.now n → n < length facts.now.facts }
-    ensures { IfOk result (λ flags. (n : ℕ) → Contains served.now n → IsFlagged (IsAskedAnew earlier.now.forms ground.now.forms) facts.now.facts flags.items n) }
+    ensures few { IfOk result (λ flags. length flags.items ≤ length facts.now.facts) }
+    ensures flags { IfOk result (λ flags. (n : ℕ) → Contains served.now n → IsFlagged (IsAskedAnew earlier.now.forms ground.now.forms) facts.now.facts flags.items n) }
 {
     if served.is_empty() {
         return Ok(Vec::new(alloc));
@@ -160,6 +166,139 @@ fn begun_again<W: WorkList>(
     Ok(())
 }
 
+/// Lists anew the facts that are served still, adds what is there at once, and makes the facts that are flagged wait again. Changes
+/// nothing where memory is refused.
+fn listed_anew<W: WorkList>(
+    alloc: Global,
+    ground: &Ground,
+    facts: &mut KnownFacts,
+    queue: &mut Queue<W>,
+    index: &mut Index,
+    flags: &[bool],
+) -> Result<(), Memory>
+    requires derived { IsDerived ground.now facts.old }
+    requires served { (n : ℕ) → Contains queue.old.served n → n < length facts.old.facts }
+    requires queued { queue.old.queued ≤ length facts.old.facts }
+    ensures begun { OnOk result (HasBegun ground.now u32.MAX facts.old facts.new) }
+    ensures queued { queue.new.queued ≤ length facts.new.facts }
+    ensures waiting { queue.new.waiting ≡ queue.old.waiting }
+    ensures served { OnOk result (queue.new.served ≡ kept flags.now queue.old.served) }
+    ensures index { OnOk result (ListsFacts ground.now facts.new queue.new.served queue.new.served index.new) }
+    ensures facts { OnErr result (facts.new ≡ facts.old) }
+    ensures queue { OnErr result (queue.new ≡ queue.old) }
+    ensures same { OnErr result (index.new ≡ index.old) }
+{
+    let again = indexed(alloc, ground, facts, queue.numbers(), flags)?;
+    match begun_again(alloc, ground, facts, queue, flags) {
+        Ok(()) => {
+            *index = again;
+            Ok(())
+        }
+        Err(error) => {
+            drop(again);
+            Err(error)
+        }
+    }
+}
+
+/// Whether the form is of properties alone.
+fn is_of_properties(form: Form) -> bool
+    ensures { result ≡ is_property_form form }
+{
+    matches!(form, Form::N5(..) | Form::N6(..) | Form::N7(..))
+}
+
+/// Whether none of the forms from that number on is of properties alone.
+fn leave_properties(forms: &FormList, from: usize) -> bool
+    ensures { result ≡ true → LeaveProperties from forms.now }
+{
+    for number in from..forms.len() {
+        if is_of_properties(forms.at(number)) {
+            return false;
+        }
+    }
+    true
+}
+
+/// How many numbers stand in the lists of the contexts of a fact. It decides nothing.
+fn listed_beside(index: &Index, fact: Fact) -> usize {
+    match fact {
+        Fact::In(_, x) => index.classes_in(x).len(),
+        Fact::Edge(x, _, y) => {
+            let from = index.edges_from(x).len();
+            from.saturating_add(index.edges_into(y).len())
+        }
+    }
+}
+
+/// How many numbers are looked at where the facts that are flagged are taken out. It decides nothing.
+fn looked_at(index: &Index, facts: &KnownFacts, flags: &[bool]) -> usize {
+    let mut numbers: usize = 0;
+    for place in 0..facts.len() as u32 {
+        if has_flag(flags, place) {
+            numbers = numbers.saturating_add(listed_beside(index, facts.get(place)));
+        }
+    }
+    numbers
+}
+
+/// How many numbers may be looked at for each fact that is served: to list it anew takes longer.
+const LOOKS_FOR_A_FACT: usize = 4;
+
+/// Takes the facts that are flagged out of the index.
+fn remove_flagged(index: &mut Index, facts: &KnownFacts, flags: &[bool])
+    requires { length flags.now ≤ length facts.now.facts }
+    ensures { ListsThoseKept facts.now flags.now index.old index.new }
+{
+    for place in 0..facts.len() as u32 {
+        if has_flag(flags, place) {
+            index.remove(place, facts.get(place));
+        }
+    }
+}
+
+/// Takes the facts that are flagged and the one in hand out of the index.
+fn remove_pending(index: &mut Index, facts: &KnownFacts, flags: &[bool], hand: Option<u32>)
+    requires flags { length flags.now ≤ length facts.now.facts }
+    requires hand { (n : ℕ) → hand ≡ Some n → n < length facts.now.facts }
+    ensures { ListsServedStill facts.now flags.now hand index.old index.new }
+{
+    remove_flagged(index, facts, flags);
+    if let Some(hand) = hand {
+        index.remove(hand, facts.get(hand));
+    }
+}
+
+/// Takes the facts that are not served still out of the index, adds what is there at once, and makes the facts that are flagged wait
+/// again. Changes nothing where memory is refused.
+fn listed_still<W: WorkList>(
+    alloc: Global,
+    ground: &Ground,
+    facts: &mut KnownFacts,
+    queue: &mut Queue<W>,
+    index: &mut Index,
+    flags: &[bool],
+) -> Result<(), Memory>
+    requires derived { IsDerived ground.now facts.old }
+    requires served { (n : ℕ) → Contains queue.old.served n → n < length facts.old.facts }
+    requires queued { queue.old.queued ≤ length facts.old.facts }
+    requires flags { length flags.now ≤ length facts.old.facts }
+    requires listed { ListsFacts ground.now facts.old (kept flags.now queue.old.served) (queue.old.served ++ option_list queue.old.hand) index.old }
+    ensures begun { OnOk result (HasBegun ground.now u32.MAX facts.old facts.new) }
+    ensures queued { queue.new.queued ≤ length facts.new.facts }
+    ensures waiting { queue.new.waiting ≡ queue.old.waiting }
+    ensures served { OnOk result (queue.new.served ≡ kept flags.now queue.old.served) }
+    ensures index { OnOk result (ListsFacts ground.now facts.new queue.new.served queue.new.served index.new) }
+    ensures facts { OnErr result (facts.new ≡ facts.old) }
+    ensures queue { OnErr result (queue.new ≡ queue.old) }
+    ensures same { OnErr result (index.new ≡ index.old) }
+{
+    let hand = queue.hand();
+    begun_again(alloc, ground, facts, queue, flags)?;
+    remove_pending(index, facts, flags, hand);
+    Ok(())
+}
+
 /// Goes on from more roots, and more forms, from that number on. Changes nothing where memory is refused.
 pub(crate) fn restart<W: WorkList>(
     alloc: Global,
@@ -184,15 +323,40 @@ pub(crate) fn restart<W: WorkList>(
     ensures same { OnErr result (index.new ≡ index.old) }
 {
     let flags = flags_of(alloc, earlier, ground, from, facts, queue.numbers())?;
-    let again = indexed(alloc, ground, facts, queue.numbers(), &flags)?;
-    match begun_again(alloc, ground, facts, queue, &flags) {
-        Ok(()) => {
-            *index = again;
-            Ok(())
-        }
-        Err(error) => {
-            drop(again);
-            Err(error)
-        }
+    listed_anew(alloc, ground, facts, queue, index, &flags)
+}
+
+/// Goes on as `restart` does, where the index lists the served facts. Where no added form is one of properties, and few numbers stand
+/// beside those of facts that are pending again, it is not made anew.
+pub(crate) fn carry_on<W: WorkList>(
+    alloc: Global,
+    earlier: &IndexedProblem,
+    ground: &Ground,
+    from: usize,
+    facts: &mut KnownFacts,
+    queue: &mut Queue<W>,
+    index: &mut Index,
+) -> Result<(), Memory>
+    requires earlier { take from ground.now.forms ≡ earlier.now.forms }
+    requires grown { IsGrownFrom from earlier.now ground.now }
+    requires derived { IsDerived ground.now facts.old }
+    requires served { (n : ℕ) → Contains queue.old.served n → n < length facts.old.facts }
+    requires queued { queue.old.queued ≤ length facts.old.facts }
+    requires listed { ListsServed earlier.now facts.old queue.old index.old }
+    ensures begun { OnOk result (HasBegun ground.now u32.MAX facts.old facts.new) }
+    ensures queued { queue.new.queued ≤ length facts.new.facts }
+    ensures waiting { queue.new.waiting ≡ queue.old.waiting }
+    ensures served { OnOk result (KeepsServed earlier.now.forms ground.now.forms facts.old.facts queue.old.served queue.new.served) }
+    ensures index { OnOk result (ListsFacts ground.now facts.new queue.new.served queue.new.served index.new) }
+    ensures facts { OnErr result (facts.new ≡ facts.old) }
+    ensures queue { OnErr result (queue.new ≡ queue.old) }
+    ensures same { OnErr result (index.new ≡ index.old) }
+{
+    let flags = flags_of(alloc, earlier, ground, from, facts, queue.numbers())?;
+    let few = queue.served().saturating_mul(LOOKS_FOR_A_FACT);
+    let leaves = leave_properties(ground.problem().forms(), from);
+    if leaves && looked_at(index, facts, &flags) < few {
+        return listed_still(alloc, ground, facts, queue, index, &flags);
     }
+    listed_anew(alloc, ground, facts, queue, index, &flags)
 }

@@ -231,7 +231,7 @@ impl<W: WorkList> Queue<W> {
     }
 
     /// The number in hand, if there is one.
-    fn hand(&self) -> Option<u32>
+    pub(crate) fn hand(&self) -> Option<u32>
         ensures value { result ≡ self.now.hand }
         ensures some { (n : ℕ) → result ≡ Some n → (n < self.now.queued) × (length self.now.served < self.now.queued) }
         ensures once { IsServedOnce self.now }

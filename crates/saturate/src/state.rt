@@ -8,7 +8,7 @@ ghost use Rattle.saturate.specs.Run.{HasRun, IsLeft, IsState, IsStep};
 ghost use Rattle.inference.specs.PropertyClosures.{IsClosureOf};
 ghost use Rattle.inference.specs.Completeness.{IsClosure};
 
-use crate::extension::restart;
+use crate::extension::{carry_on, restart};
 use crate::ground::Ground;
 use crate::kept::Kept;
 use crate::queue::Queue;
@@ -96,7 +96,7 @@ impl<W: WorkList> State<W> {
     {
         self.well_formed();
         let ground = self.ground.grown(self.alloc, all, roots)?;
-        match restart(
+        match carry_on(
             self.alloc,
             self.ground.problem(),
             &ground,

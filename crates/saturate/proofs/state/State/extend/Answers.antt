@@ -1,4 +1,5 @@
-use Rattle.std.proofs.Common.{◌≡◌, drop}
+use Rattle.std.proofs.Common.{◌≡◌, List, ap, sym, ◌∙◌, drop}
+use Rattle.normal_forms.specs.declared.forms.Form.{Form}
 use Rattle.saturate.specs.Growth.{with_more}
 use Rattle.saturate.proofs.Extending.{derived_then, extended, listed_again, parted}
 use Rattle.saturate.proofs.Turns.{named_still}
@@ -9,17 +10,26 @@ use Rattle.saturate.proofs.state.State.extend.Goals.{After-problem}
 grown : (g : _) (c : After-problem g) → c.in_ok-ground.ground ≡ with_more c.self.inside.ground (drop c.args.from c.args.all.now) c.args.roots.now
 grown g c = parted c.self.inside.ground c.in_ok-ground.ground c.args.all.now c.args.roots.now c.args.from (rw (← c.self.view_is) at c.requires) c.in_ok-ground.ensures.forms c.in_ok-ground.ensures.roots
 
-pub restart-requires-clause-earlier : goal.restart-requires-clause-earlier
-restart-requires-clause-earlier g c = rw (c.problem.ensures, c.in_ok-ground.ensures.forms) (rw (← c.self.view_is) at c.requires)
+pub carry_on-requires-clause-earlier : goal.carry_on-requires-clause-earlier
+carry_on-requires-clause-earlier g c = rw (c.problem.ensures, c.in_ok-ground.ensures.forms) (rw (← c.self.view_is) at c.requires)
 
-pub restart-requires-clause-derived : goal.restart-requires-clause-derived
-restart-requires-clause-derived g c = derived_then c.self.inside.ground (drop c.args.from c.args.all.now) c.args.roots.now (grown g (goal.at.restart-requires-clause-derived g c).After-problem) c.self.invariant.0.derived
+pub carry_on-requires-clause-derived : goal.carry_on-requires-clause-derived
+carry_on-requires-clause-derived g c = derived_then c.self.inside.ground (drop c.args.from c.args.all.now) c.args.roots.now (grown g (goal.at.carry_on-requires-clause-derived g c).After-problem) c.self.invariant.0.derived
+
+pub carry_on-requires-clause-grown : goal.carry_on-requires-clause-grown
+carry_on-requires-clause-grown g c = (
+  c.args.roots.now,
+  rw c.problem.ensures (grown g (goal.at.carry_on-requires-clause-grown g c).After-problem ∙ ap (λ (fs : List Form). with_more c.self.inside.ground (drop c.args.from fs) c.args.roots.now) (sym c.in_ok-ground.ensures.forms)),
+)
+
+pub carry_on-requires-clause-listed : goal.carry_on-requires-clause-listed
+carry_on-requires-clause-listed g c = rw c.problem.ensures c.self.invariant.1
 
 pub invariant_of-self : goal.invariant_of-self
 invariant_of-self g c = (
-  extended c.self.inside.ground (drop c.args.from c.args.all.now) c.args.roots.now (grown g (goal.at.invariant_of-self g c).After-problem) c.self.invariant.0 c.in-Ok.ensures.begun c.restart.ensures.queued (rw c.problem.ensures at c.in-Ok.ensures.served),
-  listed_again c.restart.new.queue c.in-Ok.ensures.index,
-  rw c.restart.ensures.waiting (named_still c.self.inside.facts.facts c.restart.new.facts.facts c.self.inside.queue.waiting c.in-Ok.ensures.begun.grows.facts c.self.invariant.2),
+  extended c.self.inside.ground (drop c.args.from c.args.all.now) c.args.roots.now (grown g (goal.at.invariant_of-self g c).After-problem) c.self.invariant.0 c.in-Ok.ensures.begun c.carry_on.ensures.queued (rw c.problem.ensures at c.in-Ok.ensures.served),
+  listed_again c.carry_on.new.queue c.in-Ok.ensures.index,
+  rw c.carry_on.ensures.waiting (named_still c.self.inside.facts.facts c.carry_on.new.facts.facts c.self.inside.queue.waiting c.in-Ok.ensures.begun.grows.facts c.self.invariant.2),
 )
 
 pub returns-in-Ok-clause-grown : goal.returns-in-Ok-clause-grown

@@ -1,0 +1,159 @@
+-- What the index lists is right still where no form that is added is of properties.
+use Rattle.std.proofs.Common.{◌≡◌, ℕ, zero, suc, ◌+◌, inl, inr, ⊎_elim, true, false, true≢false, List, [], ◌∷◌, ◌++◌, drop, slice_get, Some, None, Contains, refl, sym, ap, ◌∙◌, subst, arith}
+use Rattle.std.proofs.lemmas.List.Elements.{Contains-append_cases}
+use Rattle.normal_forms.specs.declared.forms.Form.{Form}
+use Rattle.normal_forms.specs.declared.forms.Form.TheVariants.{N1, N2, N3, N4, N5, N6, N7, N8, N9, N10, N11, N12}
+use Rattle.normal_forms.specs.declared.forms.PropId2.{PropId2}
+use Rattle.normal_forms.specs.declared.forms.PropId2.TheVariants.{Property}
+use Rattle.normal_forms.specs.declared.forms.Class2.{Class2}
+use Rattle.normal_forms.specs.Properties.{IsAtOrBelow, same, step, is_property_form}
+use Rattle.facts.specs.declared.contexts.Context.{Context}
+use Rattle.facts.specs.declared.contexts.Fact.{Fact}
+use Rattle.facts.specs.declared.contexts.Fact.TheVariants.{In, Edge}
+use Rattle.facts.specs.Closure.{Problem, FromTwo, in_thing, in_itself, by_form, unsatisfiable, loop}
+use Rattle.indexes.specs.declared.index.Index.{Index}
+use Rattle.indexes.specs.FactIndex.{IsFrom, IsIn}
+use Rattle.indexes.proofs.Parts.{part_same}
+use Rattle.inference.specs.Derivations.{Derived}
+use Rattle.inference.specs.Completeness.{IsRedundantAsSecond}
+use Rattle.inference.specs.Visits.{IsNotCarried}
+use Rattle.inference.proofs.Lists.{Contains-from_slice_get, slice_get-from_Contains}
+use Rattle.saturate.specs.Requests.{Asks, IsAskedAnew}
+use Rattle.saturate.specs.Growth.{with_more, KeepsServed, LeaveProperties}
+use Rattle.saturate.specs.IndexedFacts.{ListsFacts}
+use Rattle.saturate.proofs.Extending.{new_or_there, redundant_more}
+use Rattle.saturate.proofs.Listing.{fewer}
+
+module _ (k : Problem) (forms : List Form) (roots : List Context) (leave : (form : Form) → Contains forms form → is_property_form form ≡ false) where
+  -- no path is new
+  below_still : (p q : PropId2) → IsAtOrBelow (k.forms ++ forms) p q → IsAtOrBelow k.forms p q
+  below_still p _ same = same
+  below_still p _ (step s t h c) = ⊎_elim
+      (λ before. step s t (below_still p (Property s) h) before)
+      (λ new. absurd (true≢false (leave (N5 s t) new)))
+      (Contains-append_cases k.forms forms (N5 s t) c)
+
+  two_still : (form : Form) (g h f : Fact) → FromTwo (with_more k forms roots) form g h f → FromTwo k form g h f
+  two_still (N2 a b c) (In d x) (In e y) f w = w
+  two_still (N2 a b c) (In d x) (Edge _ _ _) f w = absurd w
+  two_still (N2 a b c) (Edge _ _ _) h f w = absurd w
+  two_still (N4 r a b) (Edge x q y) (In c z) f w = (below_still q (Property r) w.0, w.1, w.2, w.3)
+  two_still (N4 r a b) (Edge x q y) (Edge _ _ _) f w = absurd w
+  two_still (N4 r a b) (In _ _) h f w = absurd w
+  two_still (N6 r s t) (Edge x p y) (Edge z q i) f w = (below_still p r w.0, below_still q s w.1, w.2, w.3)
+  two_still (N6 r s t) (Edge x p y) (In _ _) f w = absurd w
+  two_still (N6 r s t) (In _ _) h f w = absurd w
+  two_still (N1 _ _) g h f w = absurd w
+  two_still (N3 _ _ _) g h f w = absurd w
+  two_still (N5 _ _) g h f w = absurd w
+  two_still (N7 _) g h f w = absurd w
+  two_still (N8 _ _) g h f w = absurd w
+  two_still (N9 _ _ _) g h f w = absurd w
+  two_still (N10 _ _) g h f w = absurd w
+  two_still (N11 _ _) g h f w = absurd w
+  two_still (N12 _ _ _) g h f w = absurd w
+
+  -- a form that gives something from two facts of which the second is an edge is a chain
+  chain : (form : Form) (g f : Fact) (z : Context) (q : PropId2) (v : Context) → FromTwo (with_more k forms roots) form g (Edge z q v) f → is_property_form form ≡ true
+  chain (N6 _ _ _) g f z q v w = refl
+  chain (N5 _ _) g f z q v w = refl
+  chain (N7 _) g f z q v w = refl
+  chain (N1 _ _) g f z q v w = absurd w
+  chain (N2 _ _ _) (In _ _) f z q v w = absurd w
+  chain (N2 _ _ _) (Edge _ _ _) f z q v w = absurd w
+  chain (N3 _ _ _) g f z q v w = absurd w
+  chain (N4 _ _ _) (In _ _) f z q v w = absurd w
+  chain (N4 _ _ _) (Edge _ _ _) f z q v w = absurd w
+  chain (N8 _ _) g f z q v w = absurd w
+  chain (N9 _ _ _) g f z q v w = absurd w
+  chain (N10 _ _) g f z q v w = absurd w
+  chain (N11 _ _) g f z q v w = absurd w
+  chain (N12 _ _ _) g f z q v w = absurd w
+
+  -- a form that gives something from an edge and a class asks for the class
+  restriction : (form : Form) (x : Context) (q : PropId2) (y : Context) (c : Class2) (z : Context) (f : Fact) → FromTwo (with_more k forms roots) form (Edge x q y) (In c z) f → Asks (k.forms ++ forms) form (In c z)
+  restriction (N4 r a b) x q y c z f w = w.1
+  restriction (N1 _ _) x q y c z f w = absurd w
+  restriction (N2 _ _ _) x q y c z f w = absurd w
+  restriction (N3 _ _ _) x q y c z f w = absurd w
+  restriction (N5 _ _) x q y c z f w = absurd w
+  restriction (N6 _ _ _) x q y c z f w = absurd w
+  restriction (N7 _) x q y c z f w = absurd w
+  restriction (N8 _ _) x q y c z f w = absurd w
+  restriction (N9 _ _ _) x q y c z f w = absurd w
+  restriction (N10 _ _) x q y c z f w = absurd w
+  restriction (N11 _ _) x q y c z f w = absurd w
+  restriction (N12 _ _ _) x q y c z f w = absurd w
+
+  redundant_edge : (d : Derived) (z : Context) (q : PropId2) (v : Context) → IsRedundantAsSecond k d (Edge z q v) → IsRedundantAsSecond (with_more k forms roots) d (Edge z q v)
+  redundant_edge d z q v redundant f _ _ _ (in_thing c) = absurd c
+  redundant_edge d z q v redundant f _ _ _ (in_itself c) = absurd c
+  redundant_edge d z q v redundant f h _ _ (by_form n form at gives) = ⊎_elim
+      (λ before.
+      let m = slice_get-from_Contains k.forms form before in
+      redundant_more k forms roots d f (Edge z q v) m.0 n form m.1 at (redundant f h _ (Some m.0) (by_form m.0 form m.1 (two_still form f (Edge z q v) h gives))))
+      (λ new. absurd (true≢false (sym (chain form f h z q v gives) ∙ leave form new)))
+      (Contains-append_cases k.forms forms form (Contains-from_slice_get (k.forms ++ forms) n form at))
+  redundant_edge d z q v redundant f h _ _ (unsatisfiable b) = absurd (redundant f h _ None (unsatisfiable b))
+  redundant_edge d z q v redundant f _ _ _ (loop u m form at l c) = absurd c
+
+  uncarried : (c : Class2) (z : Context) → ¬ IsAskedAnew k.forms (k.forms ++ forms) (In c z) → IsNotCarried k (In c z) → IsNotCarried (with_more k forms roots) (In c z)
+  uncarried c z unasked not (In _ _) edge _ _ h gives = absurd edge
+  uncarried c z unasked not (Edge x q y) edge _ _ _ (in_thing a) = absurd a
+  uncarried c z unasked not (Edge x q y) edge _ _ _ (in_itself a) = absurd a
+  uncarried c z unasked not (Edge x q y) edge _ _ h (by_form n form at gives) = ⊎_elim
+      (λ new. unasked (form, new, restriction form x q y c z h gives))
+      (λ before. not (Edge x q y) edge _ (Some before.0) h (by_form before.0 form before.1 (two_still form (Edge x q y) (In c z) h gives)))
+      (new_or_there k.forms forms form (Contains-from_slice_get (k.forms ++ forms) n form at))
+  uncarried c z unasked not (Edge x q y) edge _ _ h (unsatisfiable b) = not (Edge x q y) edge _ None h (unsatisfiable b)
+  uncarried c z unasked not (Edge x q y) edge _ _ _ (loop u m form at l a) = absurd a
+
+  redundant_from : (d : Derived) (x : Context) (f : Fact) → IsFrom x f → IsRedundantAsSecond k d f → IsRedundantAsSecond (with_more k forms roots) d f
+  redundant_from d x (In _ _) h redundant = absurd h
+  redundant_from d x (Edge z q v) h redundant = redundant_edge d z q v redundant
+
+  uncarried_in : (x : Context) (f : Fact) → IsIn x f → ¬ IsAskedAnew k.forms (k.forms ++ forms) f → IsNotCarried k f → IsNotCarried (with_more k forms roots) f
+  uncarried_in x (In c z) h unasked not = uncarried c z unasked not
+  uncarried_in x (Edge _ _ _) h unasked not = absurd h
+
+  -- of the facts that are listed those that no new form asks for are listed by all forms
+  listed_by_more : {d : Derived} {w m : List ℕ} {index : Index} (now : List ℕ) → KeepsServed k.forms (k.forms ++ forms) d.facts w now → ListsFacts k d w m index → ListsFacts (with_more k forms roots) d now m index
+  listed_by_more {d} {w} {m} {index} now keeps s = record {
+    by_context = (fewer now m s (λ n c. ((keeps n).0 c).0) (part_same m)).by_context;
+    second_premises = record {
+      all = λ x n f c at h. ⊎_elim
+          (λ here. inl here)
+          (λ redundant. inr (redundant_from d x f h redundant))
+          (s.second_premises.all x n f ((keeps n).0 c).0 at h);
+      only = s.second_premises.only;
+    };
+    fillers = record {
+      all = λ x n f c at h. ⊎_elim
+          (λ here. inl here)
+          (λ not. inr (uncarried_in x f h (λ asked. ((keeps n).0 c).1 (f, at, asked)) not))
+          (s.fillers.all x n f ((keeps n).0 c).0 at h);
+      only = s.fillers.only;
+    };
+  }
+
+slice_get_drop : {X : Type 0} (n : ℕ) (xs : List X) (i : ℕ) → slice_get (drop n xs) i ≡ slice_get xs (n + i)
+slice_get_drop zero xs i = ap (slice_get xs) (place i)
+  where
+    place : (j : ℕ) → j ≡ 0 + j
+    place j = omega arith
+slice_get_drop (suc n) [] i = refl
+slice_get_drop (suc n) (x ∷ xs) i = slice_get_drop n xs i ∙ ap (slice_get (x ∷ xs)) (place n i)
+  where
+    place : (m j : ℕ) → suc (m + j) ≡ suc m + j
+    place m j = omega arith
+
+-- the forms that are added are those from that number on
+added : (from : ℕ) (all : List Form) → LeaveProperties from all → (form : Form) → Contains (drop from all) form → is_property_form form ≡ false
+added from all leave form there =
+    let at = slice_get-from_Contains (drop from all) form there in
+    leave (from + at.0) form (omega arith) (sym (slice_get_drop from all at.0) ∙ at.1)
+
+pub listed_then : {k j : Problem} {d : Derived} {w m : List ℕ} {index : Index} (from : ℕ) (roots : List Context) → j ≡ with_more k (drop from j.forms) roots → LeaveProperties from j.forms → (now : List ℕ) → KeepsServed k.forms j.forms d.facts w now → ListsFacts k d w m index → ListsFacts j d now m index
+listed_then {k} {j} {d} {w} {m} {index} from roots is leave now keeps s =
+    subst (λ (i : Problem). ListsFacts i d now m index) (sym is)
+    (listed_by_more k (drop from j.forms) roots (added from j.forms leave) now (subst (λ (fs : List Form). KeepsServed k.forms fs d.facts w now) (ap (λ (i : Problem). i.forms) is) keeps) s)
