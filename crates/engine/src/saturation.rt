@@ -6,7 +6,7 @@ ghost use Rattle.facts.specs.Births.{reason};
 ghost use Rattle.normalise.specs.Entries.{form_in};
 ghost use Rattle.normalise.specs.Growth.{IsNormalFor};
 ghost use Rattle.normalise.specs.Problem.{prefixes_of};
-ghost use Rattle.indexes.specs.FactIndex.{IsIn};
+ghost use Rattle.indexes.specs.FactIndex.{IsFrom, IsIn};
 ghost use Rattle.inference.specs.PropertyClosures.{IsClosureOf};
 ghost use Rattle.saturate.specs.ServedFacts.{AreNumbersOf};
 ghost use Rattle.saturate.specs.State.{GaveFact};
@@ -124,6 +124,14 @@ impl Saturation {
         ensures none { IfNone result (self.now.can_grow ≡ true → IsFinished self.now → ⊥) }
     {
         self.state.classes_in(context)
+    }
+
+    /// The numbers of the edges from the context, where all facts are served and it was not released. Needs no memory.
+    pub fn edges_from(&self, context: Context) -> Option<&[u32]>
+        ensures some { IfSome result (λ numbers. AreNumbersOf (IsFrom context) self.now.state.facts numbers.now) }
+        ensures none { IfNone result (self.now.can_grow ≡ true → IsFinished self.now → ⊥) }
+    {
+        self.state.edges_from(context)
     }
 
     /// How many of the facts are served.

@@ -90,3 +90,48 @@ fn facts_are_found_and_listed(rt: HostRuntime) -> Result<(), Fail> {
     assert!(rt; are_found);
     Ok(())
 }
+
+/// Of A there is one edge, which leads to B.
+const WITH_EDGE: &str = "Ontology(SubClassOf(<x:A> ObjectSomeValuesFrom(<x:r> <x:B>)))";
+
+/// Whether the fact of that number is an edge from A.
+fn is_from_a(saturation: &Saturation, number: u32) -> bool {
+    match saturation.facts().get(number as usize) {
+        Some(fact) => matches!(fact.get(), Fact::Edge(source, _, _) if source == A),
+        None => false,
+    }
+}
+
+/// Whether one fact is listed as an edge from A, and is one.
+fn has_one_edge(saturation: &Saturation) -> bool {
+    match saturation.edges_from(A) {
+        Some(numbers) => numbers.len() == 1 && is_from_a(saturation, numbers[0]),
+        None => false,
+    }
+}
+
+/// Whether the edge is listed once all facts are served, and no list is there before and after the release.
+fn is_edge_listed(alloc: Global, state: RandomState, ontology: &Ontology) -> bool {
+    let Ok(mut saturation) = Saturation::start(alloc, state, ontology) else {
+        return false;
+    };
+    let is_unlisted = saturation.edges_from(A).is_none();
+    let has_run = saturation.resume(u32::MAX) == Ok(());
+    let is_listed = is_unlisted && has_run && has_one_edge(&saturation);
+    if saturation.is_finished() {
+        let released = saturation.release();
+        return is_listed && released.edges_from(A).is_none();
+    }
+    drop(saturation);
+    false
+}
+
+#[test]
+fn edges_are_listed(rt: HostRuntime) -> Result<(), Fail> {
+    let state = RandomState::new(&rt)?;
+    let ontology = read_bytes(rt.alloc(), WITH_EDGE.as_bytes(), Version::One, state)?;
+    let is_listed = is_edge_listed(rt.alloc(), state, &ontology);
+    drop(ontology);
+    assert!(rt; is_listed);
+    Ok(())
+}

@@ -35,6 +35,19 @@ impl<W: WorkList> State<W> {
         self.queue.without_hand(self.index.edges_from(context))
     }
 
+    /// The edges from the context, in the order in which they were served, where all facts are.
+    pub(crate) fn all_edges_from(&self, context: Context) -> Option<&[u32]>
+        ensures some { IfSome result (λ numbers. AreNumbersOf (IsFrom context) self.now.facts numbers.now) }
+        ensures none { IfNone result (length self.now.served ≡ length self.now.facts → ⊥) }
+    {
+        self.well_formed();
+        if self.served() == self.facts().len() {
+            Some(self.edges_from(context))
+        } else {
+            None
+        }
+    }
+
     /// The served edges into the context, in the order in which they were served. Needs no memory.
     pub fn edges_into(&self, context: Context) -> &[u32]
         ensures { AreExactly (IsInto context) self.now result.now }

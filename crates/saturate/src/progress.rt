@@ -1,7 +1,7 @@
 //! A saturation under way, or ended.
 ghost use Rattle.std.specs.Prelude.{◌≡◌, ◌≤◌, [], IfNone, IfOk, IfSome, OnErr, OnOk, Some, Contains, drop, false, length, slice_get, take, true};
 ghost use Rattle.facts.specs.Births.{reason};
-ghost use Rattle.indexes.specs.FactIndex.{IsIn};
+ghost use Rattle.indexes.specs.FactIndex.{IsFrom, IsIn};
 ghost use Rattle.inference.specs.PropertyClosures.{IsClosureOf};
 ghost use Rattle.saturate.specs.Growth.{HasGrown, KeepsServed};
 ghost use Rattle.saturate.specs.Run.{HasRun, IsState};
@@ -117,6 +117,17 @@ impl<W: WorkList> Progress<W> {
     {
         match &self.stage {
             Stage::Growing(state) => state.all_classes_in(context),
+            Stage::Kept(_) => None,
+        }
+    }
+
+    /// The numbers of the edges from the context, where it may grow and all facts are served. Needs no memory.
+    pub fn edges_from(&self, context: Context) -> Option<&[u32]>
+        ensures some { IfSome result (λ numbers. AreNumbersOf (IsFrom context) self.now.seen.facts numbers.now) }
+        ensures none { IfNone result (self.now.can_grow ≡ true → length self.now.seen.served ≡ length self.now.seen.facts → ⊥) }
+    {
+        match &self.stage {
+            Stage::Growing(state) => state.all_edges_from(context),
             Stage::Kept(_) => None,
         }
     }
