@@ -56,4 +56,6 @@ mod steps;
 #[cfg(test)]
 mod stored_facts;
 #[cfg(test)]
+mod taken_out;
+#[cfg(test)]
 mod targets;

@@ -83,3 +83,23 @@ fn each_key_has_its_list(rt: HostRuntime) -> Result<(), Fail> {
     assert!(rt; keeps_lists(rt.alloc(), 100)?, "with more room");
     Ok(())
 }
+
+/// Whether the list of key 3 is this one, once that number was taken out of it.
+fn leaves(alloc: Global, number: u32, left: &[u32]) -> Result<bool, AllocError> {
+    let mut table = Table::new(alloc);
+    add_all(&mut table, 0, 0)?;
+    table.add(3, 4)?;
+    table.remove(3, number);
+    Ok(table.of(3) == left && table.of(0) == [2].as_slice())
+}
+
+#[test]
+fn numbers_are_taken_out(rt: HostRuntime) -> Result<(), Fail> {
+    assert!(rt; leaves(rt.alloc(), 1, &[4, 8, 16, 4])?, "the first");
+    assert!(rt; leaves(rt.alloc(), 4, &[1, 8, 16])?, "twice in the list");
+    assert!(rt;
+        leaves(rt.alloc(), 2, &[1, 4, 8, 16, 4])?,
+        "in another list alone"
+    );
+    Ok(())
+}
