@@ -10,13 +10,13 @@ ghost use Rattle.std.specs.Prelude.{[], ◌∷◌, ◌++◌, ◌≡◌, IfOk, No
 use crate::documents::{listed_in, ontology_of};
 use answer_texts::{
     proof_bytes, proof_graph_bytes, reached_refutation_bytes, reached_refutation_graph_bytes,
-    refutation_bytes, refutation_graph_bytes, write_proof_graph, write_refutation,
+    refutation_bytes, refutation_graph_bytes, write_proof, write_proof_graph, write_refutation,
     write_refutation_graph,
 };
 use axioms::{ExprId, Memory, Ontology};
 use certificate::{Certificate, Conclusion, Format, Line, Rule, Subject, read_certificate};
 use device::BufferSink;
-use explain::{trimmed, write_proof};
+use explain::trimmed;
 use interpretation_spec::Interpretation;
 use std::alloc::Global;
 use std::random::RandomSource;
