@@ -1,4 +1,5 @@
 pub mod More
 pub mod Expressions
+pub mod Forms
 pub mod EachLine
 pub mod Reaching

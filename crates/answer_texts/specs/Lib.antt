@@ -1,4 +1,5 @@
 pub mod Names
+pub mod Axioms
 pub mod Proof
 pub mod Pairs
 pub mod Refutation

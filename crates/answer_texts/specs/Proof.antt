@@ -20,9 +20,9 @@ conclusion_text o (Edge x r y) = codes "edge " ++ subject_text o x ++ codes " " 
 conclusion_text o (Same a b) = codes "same " ++ subject_text o (Individual a) ++ codes " " ++ subject_text o (Individual b)
 
 -- as axiom 1
-abbrev pub axiom_text : Option ℕ → List ℕ
-axiom_text None = []
-axiom_text (Some n) = codes " axiom " ++ decimal n
+abbrev pub citation_text : Option ℕ → List ℕ
+citation_text None = []
+citation_text (Some n) = codes " axiom " ++ decimal n
 
 -- as from 1, 2
 abbrev pub premises_text : List ℕ → List ℕ
@@ -33,7 +33,7 @@ premises_text (n ∷ ns) = codes " from " ++ decimal n ++ flat_map (λ m. codes 
 abbrev pub numbered_text : Ontology → ℕ × Line → List ℕ
 numbered_text o (n, line) =
     decimal n ++ codes ". " ++ conclusion_text o line.conclusion ++ codes " by K" ++ decimal (rule_number line.rule)
-    ++ axiom_text line.axiom' ++ premises_text line.premises
+    ++ citation_text line.axiom' ++ premises_text line.premises
 
 abbrev pub line_text : Ontology → ℕ × Line → List ℕ
 line_text o line = numbered_text o line ++ line_feed

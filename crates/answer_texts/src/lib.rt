@@ -2,6 +2,7 @@
 #![tactic(auto)]
 
 mod answers;
+mod axiom;
 mod expression;
 mod graph_of_proof;
 mod graph_of_refutation;
@@ -17,3 +18,4 @@ pub use answers::{
     refutation_bytes, refutation_graph_bytes, write_proof, write_proof_graph, write_refutation,
     write_refutation_graph,
 };
+pub use axiom::axiom_bytes;

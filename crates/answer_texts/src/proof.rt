@@ -57,8 +57,8 @@ fn push_conclusion(
     }
 }
 
-fn push_axiom(out: &mut Vec<u8>, number: Option<usize>) -> Result<(), AllocError>
-    ensures { OnOk result (out.new.items ≡ out.old.items ++ text.axiom_text number) }
+fn push_citation(out: &mut Vec<u8>, number: Option<usize>) -> Result<(), AllocError>
+    ensures { OnOk result (out.new.items ≡ out.old.items ++ text.citation_text number) }
 {
     match number {
         None => Ok(()),
@@ -102,7 +102,7 @@ pub(crate) fn push_numbered(
     out.extend_from_slice(b". ")?;
     push_conclusion(out, ontology, line.conclusion)?;
     push_number(out, b" by K", line.rule.number())?;
-    push_axiom(out, line.axiom)?;
+    push_citation(out, line.axiom)?;
     push_premises(out, &line.premises)
 }
 
