@@ -1,7 +1,9 @@
 -- Marks on the numbers that some of the facts give, which are known by theirs.
-use Rattle.std.proofs.Common.{◌≡◌, ◌↔◌, ℕ, ◌+◌, ◌<◌, ◌≤◌, ◌⊎◌, inl, inr, ⊎_elim, Bool, true, List, length, slice_get, Option, Some, Contains, refl, sym, ◌∙◌, subst, arith, below_more}
+use Rattle.std.proofs.Common.{◌≡◌, ◌↔◌, ℕ, ◌+◌, ◌<◌, ◌≤◌, ◌⊎◌, inl, inr, ⊎_elim, Bool, true, List, length, slice_get, Option, Some, Contains, [], ◌∷◌, ◌++◌, ap, refl, sym, ◌∙◌, subst, arith, below_more}
 use Rattle.std.proofs.lemmas.Option.{same_Some, slice_get_within}
+use Rattle.std.proofs.lemmas.List.{length-append}
 use Rattle.lemmas.proofs.Members.{slice_get-from_Contains}
+use Rattle.lemmas.proofs.Places.{keeps_push, slice_get_push, slice_get_push_cases}
 use Rattle.axioms.specs.Ontology.{Ontology}
 use Rattle.facts.specs.declared.contexts.Context.TheVariants as contexts
 use Rattle.facts.specs.declared.contexts.Fact.{Fact}
@@ -67,3 +69,33 @@ pub may_answer : (o : Ontology) (q : Question) (f : Fact) (n : ℕ) → Answers 
 may_answer o (Above e) f n (h, class, puts) = subst (IsIn (contexts.Expr e)) (sym puts) refl
 may_answer o (Below e) f n given = tt
 may_answer o (Members e) f n given = tt
+
+-- ---- classes, each of which is looked for
+
+-- so many marks; of the marked numbers on those for which it holds
+pub record AreFoundBefore (marks : List Bool) (P : ℕ → Type 0) (k : ℕ) (found : List Bool) : Type 0 where
+  pub long : length found ≡ k
+  pub exact : (n : ℕ) → n < k → IsMarked marks n → IsMarked found n ↔ P n
+
+module _ (marks : List Bool) (P : ℕ → Type 0) where
+  pub none_found : (found : List Bool) → found ≡ [] → AreFoundBefore marks P 0 found
+  none_found found none = record { long = ap length none; exact = λ n low. absurd (omega (arith, low)) }
+
+  pub one_more_found : (k : ℕ) (old new : List Bool) (x : Bool) → AreFoundBefore marks P k old → new ≡ old ++ x ∷ [] → (IsMarked marks k → (x ≡ true) ↔ P k) → AreFoundBefore marks P (k + 1) new
+  one_more_found k old new x was grown tells = record {
+    long = ap length grown ∙ length-append old (x ∷ []) ∙ ap (λ (n : ℕ). n + 1) was.long;
+    exact = λ n low mark. below_more (λ (m : ℕ). IsMarked marks m → IsMarked new m ↔ P m) k
+        (λ m less there. (let is = was.exact m less there in (
+          λ h. ⊎_elim (λ before. is.0 before) (λ (e, _). absurd (omega (arith, e, less, was.long))) (slice_get_push_cases old x m true (subst (λ (l : List Bool). slice_get l m ≡ Some true) grown h)),
+          λ p. subst (λ (l : List Bool). slice_get l m ≡ Some true) (sym grown) (keeps_push old x m true (is.1 p)),
+        )))
+        (λ there. (
+          λ h. ⊎_elim
+              (λ before. absurd (omega (arith, slice_get_within old k true before, was.long)))
+              (λ (_, e). (tells there).0 e)
+              (slice_get_push_cases old x k true (subst (λ (l : List Bool). slice_get l k ≡ Some true) grown h)),
+          λ p. subst (λ (l : List Bool). slice_get l k ≡ Some true) (sym grown)
+              (subst (λ (n : ℕ). slice_get (old ++ x ∷ []) n ≡ Some true) was.long (subst (λ (b : Bool). slice_get (old ++ x ∷ []) (length old) ≡ Some b) ((tells there).1 p) (slice_get_push old x))),
+        ))
+        n low mark;
+  }

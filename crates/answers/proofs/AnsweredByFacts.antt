@@ -1,5 +1,6 @@
 -- What the facts of a saturation answer is what follows.
-use Rattle.std.proofs.Common.{◌≡◌, ◌↔◌, ℕ, ◌<◌, ◌⊎◌, inl, inr, ⊎_elim, Bool, List, length, slice_get, Some, refl, sym, ap, ◌∙◌, subst}
+use Rattle.std.proofs.Common.{◌≡◌, ◌↔◌, ℕ, ◌<◌, ◌⊎◌, inl, inr, ⊎_elim, Bool, true, List, length, slice_get, Some, refl, sym, ap, ◌∙◌, subst}
+use Rattle.std.proofs.lemmas.Option.{slice_get_within}
 use Rattle.lemmas.proofs.Members.{Contains-from_slice_get, slice_get-from_Contains}
 use Rattle.axioms.specs.Expression.{ClassExpression, Iri, Named}
 use Rattle.axioms.specs.Ontology.{Ontology, IsClassAt, nothing, name_at, individual_name, expression, axiom_trees}
@@ -21,7 +22,7 @@ use Rattle.classification.specs.Lists.{SomeFact}
 use Rattle.answers.specs.Questions.{Answers, AreAnswers, FollowsFor, IsEvery, PutsExpression, PutsIndividual, expression_asked, names_asked}
 use Rattle.answers.specs.Entailment.{LiesBelow, BelongsTo}
 use Rattle.answers.specs.Explanations.{IsClassNamed}
-use Rattle.answers.specs.Neighbours.{AreMarksOf}
+use Rattle.answers.specs.Neighbours.{AreMarksAmong, AreMarksOf}
 use Rattle.answers.specs.Names.{AreThose, HasMark, IsMarked}
 use Rattle.answers.specs.declared.question.Question.{Question}
 use Rattle.answers.specs.declared.question.Question.TheVariants.{Above, Below, Members}
@@ -127,6 +128,17 @@ module _ (o : Ontology) (w : IsOntology o) (s : Saturated) (h : IsSaturated o s)
             let follows = answer_follows q root n low in
             (λ m. follows.0 (mark.0 m), λ f. mark.1 (follows.1 f));
       })
+
+  -- the same of marked classes
+  pub among_follow : (e : ExprId) → IsRoot o asked (Expression e.0) → (marks found : List Bool) → length marks ≡ length o.names.classes → length found ≡ length marks
+      → ((n : ℕ) → IsMarked marks n → IsMarked found n ↔ (IsEvery o s (Below e) ⊎ SomeFact s.state.facts (λ fact. Answers o (Below e) fact n))) → AreMarksAmong marks o.names.classes (FollowsFor o (Below e)) found
+  among_follow e root marks found long same exact = record {
+    long = same ∙ long;
+    exact = λ n there.
+        let mark = exact n there in
+        let follows = answer_follows (Below e) root n (subst (λ (k : ℕ). n < k) long (slice_get_within marks n true there)) in
+        (λ m. follows.0 (mark.0 m), λ f. mark.1 (follows.1 f));
+  }
 
   -- the names that are marked are those that follow
   those_follow : (q : Question) → IsRoot o asked (Expression (expression_asked q)) → (marks : List Bool) (answer : List Iri)

@@ -17,7 +17,7 @@ use Rattle.lemmas.proofs.Places.{slice_get_take, take_push, take_slice_get}
 use Rattle.axioms.specs.Expression.{Iri}
 use Rattle.axioms.specs.Ontology.{Ontology}
 use Rattle.axioms.specs.WellFormedness.{AreDistinct}
-use Rattle.taxonomy.specs.Relation.{is_below, is_listed}
+use Rattle.taxonomy.specs.Relation.{is_listed}
 use Rattle.answers.specs.Names.{AreInByteOrder, AreThose, HasNumber}
 use Rattle.answers.specs.Neighbours.{AreGroups, AreSame, IsClosed, TellsGroup, first_of}
 use Rattle.answers.proofs.Naming.{name_is, those_same}
@@ -221,7 +221,7 @@ all_groups o names k end known groups are =
 
 -- the names of the numbers that the lists tell are those of the classes that are the same
 pub group_is : (o : Ontology) (lists : List (List ℕ)) (name : Iri) (n : ℕ) → slice_get o.names.classes n ≡ Some name → TellsGroup o lists name → (same : List ℕ)
-    → ((d : ℕ) → Contains same d ↔ ((is_listed lists n d ≡ true) × (is_below lists d n ≡ true))) → (names : List Iri) → names ≡ o.names.classes → (shown : List ℕ) → shown ≡ same → (answer : List Iri)
+    → ((d : ℕ) → Contains same d ↔ ((is_listed lists n d ≡ true) × (is_listed lists d n ≡ true))) → (names : List Iri) → names ≡ o.names.classes → (shown : List ℕ) → shown ≡ same → (answer : List Iri)
     → AreThose names (HasNumber names (Contains shown)) answer → AreThose o.names.classes (AreSame o name) answer
 group_is o lists name n at tells same exact names is shown alike answer those =
     let classes = o.names.classes in

@@ -22,3 +22,4 @@ pub mod Nearby
 pub mod Grouping
 pub mod ListedBelow
 pub mod NamedSides
+pub mod NearestNames

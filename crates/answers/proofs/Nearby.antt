@@ -1,24 +1,31 @@
 -- The nearest of marked classes, by the lists of classes above them.
-use Rattle.std.proofs.Common.{◌≡◌, ◌↔◌, ℕ, ◌<◌, All, Bool, true, false, List, [], length, slice_get, get_or, Some, Contains, inl, inr, ⊎_elim, refl, sym, ap, ◌∙◌, subst, subst₂}
-use Rattle.std.proofs.lemmas.Bool.{cases_Bool, false≢true, or_cases, or_right}
+use Rattle.std.proofs.Common.{◌≡◌, ◌↔◌, ℕ, ◌<◌, All, Bool, true, false, List, [], length, slice_get, get_or, Some, Contains, inl, inr, refl, sym, ap, ◌∙◌, subst, subst₂}
+use Rattle.std.proofs.lemmas.Bool.{cases_Bool, false≢true}
 use Rattle.std.proofs.lemmas.Option.{slice_get-get_or, slice_get_within}
 use Rattle.lemmas.proofs.Members.{Contains-from_slice_get, slice_get-from_Contains}
-use Rattle.axioms.specs.Expression.{Iri, owl_nothing}
-use Rattle.axioms.specs.Ontology.{Ontology, Class, name_at}
+use Rattle.axioms.specs.Expression.{Iri}
+use Rattle.axioms.specs.Ontology.{Ontology, name_at}
 use Rattle.axioms.specs.WellFormedness.{IsOntology}
 use Rattle.classification.specs.Lists.{AreListsBy}
 use Rattle.facts.specs.declared.contexts.Fact.{Fact}
-use Rattle.taxonomy.specs.Relation.{is_below, is_listed}
-use Rattle.taxonomy.specs.Texts.{nothing_class}
+use Rattle.taxonomy.specs.Relation.{is_listed}
 use Rattle.answers.specs.Entailment.{LiesBelow}
 use Rattle.answers.specs.Names.{AreThose, HasMark, IsMarked}
 use Rattle.answers.specs.Neighbours.{AreGroups, AreSame, AreSatisfiable, IsClosed, IsFarther, IsNearer, IsNearest, LiesStrictlyBelow, PutsMarked, TellsGroup, farther}
-use Rattle.answers.specs.Questions.{AreMarks}
 use Rattle.answers.specs.declared.nearest.Side.{Side}
 use Rattle.answers.specs.declared.nearest.Side.TheVariants.{Above, Below}
 use Rattle.answers.proofs.Below.{same_back, strictly_same_left, strictly_same_right}
+use Rattle.answers.proofs.Listing.{listed_within}
 use Rattle.answers.proofs.Naming.{name_is}
 use Rattle.answers.proofs.Neighbouring.{groups_same}
+
+-- the names of the nearest of the marked classes, as groups are made of them by the lists
+pub record AreNearest (o : Ontology) (marks : List Bool) (lists : List (List ℕ)) (side : Side) (names : List Iri) : Type 0 where
+  pub known : All (Contains o.names.classes) names
+  pub closed : IsClosed o names
+  pub within : (c d : ℕ) → is_listed lists c d ≡ true → d < length lists
+  pub tells : All (TellsGroup o lists) names
+  pub groups : (groups : List (List Iri)) → AreGroups o (Contains names) groups → AreGroups o (IsNearest o (HasMark o.names.classes marks) side) groups
 
 module _ (o : Ontology) (w : IsOntology o) (facts : List Fact) (marks : List Bool) (long : length marks ≡ length o.names.classes) (satisfiable : AreSatisfiable o marks)
     (lists : List (List ℕ)) (are : AreListsBy (PutsMarked o marks) (length o.names.classes) facts lists)
@@ -40,67 +47,46 @@ module _ (o : Ontology) (w : IsOntology o) (facts : List Fact) (marks : List Boo
 
   -- ---- by the lists
 
-  pub within : (c d : ℕ) → is_listed lists c d ≡ true → d < length lists
-  within c d listed =
-      let (n, fact, at, puts) = (are.each c d).0 listed in
-      subst (λ (k : ℕ). d < k) (sym are.long) (w.nodes puts.1.1.0 (Class d) puts.1.4)
+  within : (c d : ℕ) → is_listed lists c d ≡ true → d < length lists
+  within c d listed = subst (λ (k : ℕ). d < k) (sym are.long) (listed_within o w marks facts lists are c d listed)
 
   marked_list : (c d : ℕ) → is_listed lists c d ≡ true → IsMarked marks c
   marked_list c d listed = (let (n, fact, at, puts) = (are.each c d).0 listed in puts.0)
 
-  bottom : 1 < length classes
-  bottom = slice_get_within classes 1 owl_nothing w.nothing_name
-
-  below_is : (n d : ℕ) → IsMarked marks n → d < length classes → (is_below lists n d ≡ true) ↔ LiesBelow o (name n) (name d)
-  below_is n d mark low = (
-    λ t. ⊎_elim
-        (λ k. absurd (satisfiable.satisfiable n mark (subst (LiesBelow o (name n)) (name_is classes 1 owl_nothing w.nothing_name) ((listed_below n nothing_class mark bottom).0 k))))
-        (λ k. (listed_below n d mark low).0 k)
-        (or_cases (is_listed lists n nothing_class) (is_listed lists n d) t),
-    λ h. or_right (is_listed lists n nothing_class) (is_listed lists n d) ((listed_below n d mark low).1 h),
-  )
-
-  marked_below : (d n : ℕ) → is_below lists d n ≡ true → IsMarked marks d
-  marked_below d n t = ⊎_elim (λ k. marked_list d nothing_class k) (λ k. marked_list d n k) (or_cases (is_listed lists d nothing_class) (is_listed lists d n) t)
-
-  not_below : (n d : ℕ) → IsMarked marks n → d < length classes → (is_below lists n d ≡ false) ↔ (LiesBelow o (name n) (name d) → ⊥)
-  not_below n d mark low = (
-    λ f h. false≢true (sym f ∙ (below_is n d mark low).1 h),
-    λ other. elim (cases_Bool (is_below lists n d)) [ inl t ↦ absurd (other ((below_is n d mark low).0 t)) | inr f ↦ f ],
+  not_listed : (n d : ℕ) → IsMarked marks n → d < length classes → (is_listed lists n d ≡ false) ↔ (LiesBelow o (name n) (name d) → ⊥)
+  not_listed n d mark low = (
+    λ f h. false≢true (sym f ∙ (listed_below n d mark low).1 h),
+    λ other. elim (cases_Bool (is_listed lists n d)) [ inl t ↦ absurd (other ((listed_below n d mark low).0 t)) | inr f ↦ f ],
   )
 
   tells_at : (n : ℕ) → IsMarked marks n → TellsGroup o lists (name n)
   tells_at n mark m d at =
       let same : m ≡ n = w.distinct_classes m n (name n) at (at_name n (low_of n mark)) in
-      let P : ℕ → Type 0 = λ k. ((is_listed lists k d ≡ true) × (is_below lists d k ≡ true)) ↔ ((d < length classes) × AreSame o (name n) (name d)) in
+      let P : ℕ → Type 0 = λ k. ((is_listed lists k d ≡ true) × (is_listed lists d k ≡ true)) ↔ ((d < length classes) × AreSame o (name n) (name d)) in
       subst P (sym same) (
         λ h.
             let low = subst (λ (k : ℕ). d < k) are.long (within n d h.0) in
-            (low, ((listed_below n d mark low).0 h.0, (below_is d n (marked_below d n h.1) (low_of n mark)).0 h.1)),
-        λ h. ((listed_below n d mark h.0).1 h.1.0, (below_is d n (satisfiable.closed n d mark h.0 h.1) (low_of n mark)).1 h.1.1),
+            (low, ((listed_below n d mark low).0 h.0, (listed_below d n (marked_list d n h.1) (low_of n mark)).0 h.1)),
+        λ h. ((listed_below n d mark h.0).1 h.1.0, (listed_below d n (satisfiable.closed n d mark h.0 h.1) (low_of n mark)).1 h.1.1),
       )
 
   -- ---- the nearest
 
-  module _ (side : Side) (far near : List Bool) (far_are : AreMarks (IsFarther o lists marks side) facts false (length marks) far)
+  module _ (side : Side) (far near : List Bool) (far_are : (n : ℕ) → n < length marks → IsMarked far n ↔ IsFarther lists marks side n)
       (near_are : (n : ℕ) → n < length marks → IsMarked near n ↔ (IsMarked marks n × (IsMarked far n → ⊥))) (near_long : length near ≡ length marks) where
     low_near : (n : ℕ) → IsMarked near n → n < length marks
     low_near n mark = subst (λ (k : ℕ). n < k) near_long (slice_get_within near n true mark)
 
     is_far : (n low high : ℕ) → IsMarked marks low → IsMarked marks high → LiesStrictlyBelow o (name low) (name high) → n ≡ farther side low high → n < length marks → IsMarked far n
     is_far n low high mark mark' strictly is n_low =
-        let (i, fact, at, puts) = (are.each low high).0 ((listed_below low high mark (low_of high mark')).1 strictly.0) in
-        (far_are.exact n n_low).1 (inr (i, fact, at, (low, high, puts, mark', (not_below high low mark' (low_of low mark)).1 strictly.1, is)))
+        (far_are n n_low).1 (low, high, ((listed_below low high mark (low_of high mark')).1 strictly.0, mark', (not_listed high low mark' (low_of low mark)).1 strictly.1, is))
 
     far_is : (n : ℕ) → n < length marks → IsMarked far n
         → (low : ℕ) × (high : ℕ) × IsMarked marks low × IsMarked marks high × LiesStrictlyBelow o (name low) (name high) × (n ≡ farther side low high)
-    far_is n n_low mark = ⊎_elim
-        (λ f. absurd (false≢true f))
-        (λ v.
-        let (i, fact, at, (low, high, puts, mark', not, is)) = v in
-        let listed = (are.each low high).1 (i, fact, at, puts) in
-        (low, high, puts.0, mark', ((listed_below low high puts.0 (low_of high mark')).0 listed, (not_below high low mark' (low_of low puts.0)).0 not), is))
-        ((far_are.exact n n_low).0 mark)
+    far_is n n_low mark =
+        let (low, high, (listed, mark', not, is)) = (far_are n n_low).0 mark in
+        let here = marked_list low high listed in
+        (low, high, here, mark', ((listed_below low high here (low_of high mark')).0 listed, (not_listed high low mark' (low_of low here)).0 not), is)
 
     number_of : (x : Iri) → HasMark classes marks x → (n : ℕ) × IsMarked marks n × (name n ≡ x)
     number_of x (n, at, mark) = (n, mark, name_is classes n x at)
@@ -155,10 +141,10 @@ module _ (o : Ontology) (w : IsOntology o) (facts : List Fact) (marks : List Boo
             those.all x known (n, at, (nearest_at n low).1 (subst (IsNearest o (HasMark classes marks) side) (sym (name_is classes n x at)) h)),
       )
 
-      pub known_names : All (Contains classes) names
+      known_names : All (Contains classes) names
       known_names = λ k d low. (those.each (get_or names k d) (Contains-from_slice_get names k (get_or names k d) (slice_get-get_or names k d low))).0
 
-      pub closed_names : IsClosed o names
+      closed_names : IsClosed o names
       closed_names x y there known same =
           let h = (nearest_is x (those.each x there).0).0 there in
           let (n, at, mark) = h.has in
@@ -170,12 +156,16 @@ module _ (o : Ontology) (w : IsOntology o) (facts : List Fact) (marks : List Boo
             next = λ z known_z marked nearer. h.next z known_z marked (nearer_same side z x y same nearer);
           })
 
-      pub tells_names : All (TellsGroup o lists) names
+      tells_names : All (TellsGroup o lists) names
       tells_names = λ k d low.
           let x = get_or names k d in
           let there = Contains-from_slice_get names k x (slice_get-get_or names k d low) in
           let (n, at, mark) = (those.each x there).1 in
           subst (TellsGroup o lists) (name_is classes n x at) (tells_at n ((near_are n (low_near n mark)).0 mark).0)
 
-      pub nearest_groups : (groups : List (List Iri)) → AreGroups o (Contains names) groups → AreGroups o (IsNearest o (HasMark classes marks) side) groups
+      nearest_groups : (groups : List (List Iri)) → AreGroups o (Contains names) groups → AreGroups o (IsNearest o (HasMark classes marks) side) groups
       nearest_groups groups is = groups_same o (Contains names) (IsNearest o (HasMark classes marks) side) nearest_is groups is
+
+      -- what the names are that are not far
+      pub near_names : AreNearest o marks lists side names
+      near_names = record { known = known_names; closed = closed_names; within = within; tells = tells_names; groups = nearest_groups }

@@ -7,7 +7,7 @@ use Rattle.axioms.specs.Expression.{Iri, owl_nothing}
 use Rattle.axioms.specs.Ontology.{Ontology, name_at}
 use Rattle.answers.specs.Entailment.{LiesBelow}
 use Rattle.answers.specs.Names.{AreThose, HasMark, IsMarked}
-use Rattle.answers.specs.Neighbours.{AreGroups, AreMarksOf, AreOneGroup, AreSame, AreSatisfiable, IsNearer, IsNearest, LiesDirectlyBelow, LiesStrictlyBelow}
+use Rattle.answers.specs.Neighbours.{AreGroups, AreMarksAmong, AreMarksOf, AreOneGroup, AreSame, AreSatisfiable, IsNearer, IsNearest, LiesDirectlyBelow, LiesStrictlyBelow}
 use Rattle.answers.specs.declared.nearest.Side.TheVariants.{Above, Below}
 use Rattle.answers.proofs.Below.{below_all, nothing_below, strictly_same_left, strictly_same_right}
 use Rattle.answers.proofs.Naming.{mark_tells, marked_at, name_is, unmarked_at}
@@ -20,6 +20,10 @@ decided marks n low = elim (cases_Bool (get_or marks n false)) [
   | inr is ↦ inr (unmarked_at marks n false low is)
 ]
 
+-- marks on exactly those that have the property are that among any
+pub among_all : (names : List Iri) (P : Iri → Type 0) (marks : List Bool) → length marks ≡ length names → (others : List Bool) → AreMarksOf names P others → AreMarksAmong marks names P others
+among_all names P marks long others are = record { long = are.long; exact = λ n there. are.exact n (subst (λ (k : ℕ). n < k) long (slice_get_within marks n true there)) }
+
 module _ (names : List Iri) (P Q : Iri → Type 0) where
   pub marks_same : ((name : Iri) → P name ↔ Q name) → (marks : List Bool) → AreMarksOf names P marks → AreMarksOf names Q marks
   marks_same same marks are = record {
@@ -27,14 +31,21 @@ module _ (names : List Iri) (P Q : Iri → Type 0) where
     exact = λ n low. (λ mark. (same (name_at names n)).0 ((are.exact n low).0 mark), λ q. (are.exact n low).1 ((same (name_at names n)).1 q));
   }
 
-  module _ (marks others left : List Bool) (are : AreMarksOf names P marks) (others_are : AreMarksOf names Q others) (long : length left ≡ length marks) where
+  module _ (marks : List Bool) where
+    pub among_same : ((name : Iri) → P name ↔ Q name) → (others : List Bool) → AreMarksAmong marks names P others → AreMarksAmong marks names Q others
+    among_same same others are = record {
+      long = are.long;
+      exact = λ n there. (λ mark. (same (name_at names n)).0 ((are.exact n there).0 mark), λ q. (are.exact n there).1 ((same (name_at names n)).1 q));
+    }
+
+  module _ (marks others left : List Bool) (are : AreMarksOf names P marks) (others_are : AreMarksAmong marks names Q others) (long : length left ≡ length marks) where
     pub marks_both : ((n : ℕ) → n < length marks → IsMarked left n ↔ (IsMarked marks n × IsMarked others n)) → AreMarksOf names (λ name. P name × Q name) left
     marks_both exact = record {
       long = long ∙ are.long;
       exact = λ n low.
           let is = exact n (subst (λ (k : ℕ). n < k) (sym are.long) low) in (
-            λ mark. (let (a, b) = is.0 mark in ((are.exact n low).0 a, (others_are.exact n low).0 b)),
-            λ h. is.1 ((are.exact n low).1 h.0, (others_are.exact n low).1 h.1),
+            λ mark. (let (a, b) = is.0 mark in ((are.exact n low).0 a, (others_are.exact n a).0 b)),
+            λ h. (let there = (are.exact n low).1 h.0 in is.1 (there, (others_are.exact n there).1 h.1)),
           );
     }
 
@@ -43,8 +54,8 @@ module _ (names : List Iri) (P Q : Iri → Type 0) where
       long = long ∙ are.long;
       exact = λ n low.
           let is = exact n (subst (λ (k : ℕ). n < k) (sym are.long) low) in (
-            λ mark. (let (a, b) = is.0 mark in ((are.exact n low).0 a, λ q. b ((others_are.exact n low).1 q))),
-            λ h. is.1 ((are.exact n low).1 h.0, λ other. h.1 ((others_are.exact n low).0 other)),
+            λ mark. (let (a, b) = is.0 mark in ((are.exact n low).0 a, λ q. b ((others_are.exact n a).1 q))),
+            λ h. (let there = (are.exact n low).1 h.0 in is.1 (there, λ other. h.1 ((others_are.exact n there).0 other))),
           );
     }
 
@@ -139,11 +150,11 @@ module _ (o : Ontology) (marks : List Bool) (class : Iri) where
           groups are_groups
 
       -- where there are none, all are without elements
-      module _ (none : (k : ℕ) → IsMarked left k → ⊥) (empty : List Bool) (empty_are : AreMarksOf classes (λ name. LiesBelow o name owl_nothing) empty) where
+      module _ (none : (k : ℕ) → IsMarked left k → ⊥) (empty : List Bool) (empty_are : AreMarksAmong marks classes (λ name. LiesBelow o name owl_nothing) empty) where
         without : (n : ℕ) → n < length classes → LiesStrictlyBelow o (name_at classes n) class → LiesBelow o (name_at classes n) owl_nothing
         without n low strictly = elim (decided empty n (subst (λ (k : ℕ). n < k) (sym empty_are.long) low)) [
-          | inl mark ↦ (empty_are.exact n low).0 mark
-          | inr other ↦ absurd (none n ((are.exact n low).1 (strictly, λ is. other ((empty_are.exact n low).1 is))))
+          | inl mark ↦ (empty_are.exact n ((below.exact n low).1 strictly)).0 mark
+          | inr other ↦ absurd (none n ((are.exact n low).1 (strictly, λ is. other ((empty_are.exact n ((below.exact n low).1 strictly)).1 is))))
         ]
 
         pub one_group_below : AreOneGroup o marks

@@ -9,7 +9,7 @@ use Rattle.axioms.specs.Expression.{Iri, owl_nothing}
 use Rattle.axioms.specs.Ontology.{Ontology, name_at}
 use Rattle.classification.specs.Lists.{PutsBelow}
 use Rattle.facts.specs.declared.contexts.Fact.{Fact}
-use Rattle.taxonomy.specs.Relation.{is_below, is_listed, lies_below}
+use Rattle.taxonomy.specs.Relation.{is_listed}
 
 -- each of the two classes lies below the other
 abbrev pub AreSame : Ontology → Iri → Iri → Type 0
@@ -42,24 +42,31 @@ pub record AreMarksOf (names : List Iri) (P : Iri → Type 0) (marks : List Bool
   pub long : length marks ≡ length names
   pub exact : (n : ℕ) → n < length names → IsMarked marks n ↔ P (name_at names n)
 
--- the rows say what is below what by the lists
-pub record IsRelationOf (lists : List (List ℕ)) (rows : List (List Bool)) : Type 0 where
-  pub long : length rows ≡ length lists
-  pub each : (c d : ℕ) → c < length rows → d < length rows → lies_below rows c d ≡ is_below lists c d
+-- the others are on exactly those of the marked names that have the property; of names without a mark it says nothing
+pub record AreMarksAmong (marks : List Bool) (names : List Iri) (P : Iri → Type 0) (others : List Bool) : Type 0 where
+  pub long : length others ≡ length names
+  pub exact : (n : ℕ) → IsMarked marks n → IsMarked others n ↔ P (name_at names n)
 
 -- the fact puts a class that is marked below another one
 abbrev pub PutsMarked : Ontology → List Bool → Fact → ℕ → ℕ → Type 0
 PutsMarked o marks fact c d = IsMarked marks c × PutsBelow o fact c d
+
+-- a fact of one of these numbers puts a class below that of number d
+abbrev pub PutsOneBelow : Ontology → List Fact → (numbers : List ℕ) → ℕ → Type 0
+PutsOneBelow o facts numbers d = (n : ℕ) × (fact : Fact) × (c : ℕ) × Contains numbers n × (slice_get facts n ≡ Some fact) × PutsBelow o fact c d
 
 -- of two classes that are below one another the one that is farther from what lies on that side of it
 abbrev pub farther : Side → (low high : ℕ) → ℕ
 farther Above low high = high
 farther Below low high = low
 
--- it is the farther one of two marked classes of which the fact puts the one strictly below the other
-abbrev pub IsFarther : Ontology → (lists : List (List ℕ)) → (marks : List Bool) → Side → Fact → ℕ → Type 0
-IsFarther o lists marks side fact n =
-    (low : ℕ) × (high : ℕ) × PutsMarked o marks fact low high × IsMarked marks high × (is_below lists high low ≡ false) × (n ≡ farther side low high)
+-- it is the farther one of a class and of one in its list that is marked and has not the class in its own
+abbrev pub IsFartherOf : (lists : List (List ℕ)) → (marks : List Bool) → Side → (low high : ℕ) → ℕ → Type 0
+IsFartherOf lists marks side low high n = (is_listed lists low high ≡ true) × IsMarked marks high × (is_listed lists high low ≡ false) × (n ≡ farther side low high)
+
+-- it is the farther one of two such
+abbrev pub IsFarther : (lists : List (List ℕ)) → (marks : List Bool) → Side → ℕ → Type 0
+IsFarther lists marks side n = (low : ℕ) × (high : ℕ) × IsFartherOf lists marks side low high n
 
 -- a class that is the same as one of the names is one of them
 abbrev pub IsClosed : Ontology → List Iri → Type 0
@@ -69,7 +76,7 @@ IsClosed o names = (name other : Iri) → Contains names name → Contains o.nam
 abbrev pub TellsGroup : Ontology → (lists : List (List ℕ)) → Iri → Type 0
 TellsGroup o lists name =
     (n d : ℕ) → slice_get o.names.classes n ≡ Some name →
-    ((is_listed lists n d ≡ true) × (is_below lists d n ≡ true)) ↔ ((d < length o.names.classes) × AreSame o name (name_at o.names.classes d))
+    ((is_listed lists n d ≡ true) × (is_listed lists d n ≡ true)) ↔ ((d < length o.names.classes) × AreSame o name (name_at o.names.classes d))
 
 -- the one is strictly nearer than the other to what lies on that side of both
 abbrev pub IsNearer : Ontology → Side → Iri → Iri → Type 0

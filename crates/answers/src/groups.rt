@@ -3,23 +3,21 @@ ghost use Rattle.answers.specs.Names.{AreInByteOrder, AreThose, groups_in};
 ghost use Rattle.answers.specs.Neighbours.{AreGroups, AreSame, IsClosed, TellsGroup, first_of};
 ghost use Rattle.axioms.specs.WellFormedness.{AreDistinct};
 ghost use Rattle.std.specs.Prelude.{◌<◌, ◌↔◌, ◌≡◌, All, Contains, IfOk, IsTrue, length, map, true, ℕ};
-ghost use Rattle.taxonomy.specs.Relation.{is_below, is_listed};
+ghost use Rattle.taxonomy.specs.Relation.{is_listed};
 
-use crate::lists_above::ListsAbove;
+use crate::lists_above::has;
 use crate::names::names_of;
 use axioms::{Kind, Memory, Ontology};
-use number_sets::sort_ascending;
+use number_sets::{PackedLists, sort_ascending};
 use std::alloc::Global;
 
-/// The classes of a class's list that are below it, too.
-fn mutual(alloc: Global, above: &ListsAbove, class: usize) -> Result<Vec<u32>, Memory>
-    requires class { class < length above.now }
-    requires within { (d : ℕ) → is_listed above.now class d ≡ true → d < length above.now }
-    ensures { IfOk result (λ v. (d : ℕ) → Contains v.items d ↔ ((is_listed above.now class d ≡ true) × (is_below above.now d class ≡ true))) }
+/// The classes of a class's list that have it in theirs, too.
+fn mutual(alloc: Global, lists: &PackedLists, class: usize) -> Result<Vec<u32>, Memory>
+    ensures { IfOk result (λ v. (d : ℕ) → Contains v.items d ↔ ((is_listed lists.now class d ≡ true) × (is_listed lists.now d class ≡ true))) }
 {
     let mut found = Vec::new(alloc);
-    for other in above.at(class) {
-        if above.is_below(*other as usize, class) {
+    for other in lists.at(class) {
+        if has(lists, *other as usize, class) {
             found.push(*other)?;
         }
     }
@@ -27,13 +25,11 @@ fn mutual(alloc: Global, above: &ListsAbove, class: usize) -> Result<Vec<u32>, M
 }
 
 /// The same, each once.
-fn mutual_once(alloc: Global, above: &ListsAbove, class: usize) -> Result<Vec<u32>, Memory>
-    requires class { class < length above.now }
-    requires within { (d : ℕ) → is_listed above.now class d ≡ true → d < length above.now }
+fn mutual_once(alloc: Global, lists: &PackedLists, class: usize) -> Result<Vec<u32>, Memory>
     ensures once { IfOk result (λ v. AreDistinct v.items) }
-    ensures exact { IfOk result (λ v. (d : ℕ) → Contains v.items d ↔ ((is_listed above.now class d ≡ true) × (is_below above.now d class ≡ true))) }
+    ensures exact { IfOk result (λ v. (d : ℕ) → Contains v.items d ↔ ((is_listed lists.now class d ≡ true) × (is_listed lists.now d class ≡ true))) }
 {
-    let mut found = mutual(alloc, above, class)?;
+    let mut found = mutual(alloc, lists, class)?;
     sort_ascending(&mut found);
     Ok(found)
 }
@@ -42,20 +38,20 @@ fn mutual_once(alloc: Global, above: &ListsAbove, class: usize) -> Result<Vec<u3
 fn group_of<'a>(
     alloc: Global,
     ontology: &'a Ontology,
-    above: &ListsAbove,
+    lists: &PackedLists,
     name: &str,
 ) -> Result<Vec<&'a str>, Memory>
     requires known { Contains ontology.now.names.classes name.now }
-    requires long { length above.now ≡ length ontology.now.names.classes }
-    requires within { (c d : ℕ) → is_listed above.now c d ≡ true → d < length above.now }
-    requires tells { TellsGroup ontology.now above.now name.now }
+    requires long { length lists.now ≡ length ontology.now.names.classes }
+    requires within { (c d : ℕ) → is_listed lists.now c d ≡ true → d < length lists.now }
+    requires tells { TellsGroup ontology.now lists.now name.now }
     ensures { IfOk result (λ v. AreThose ontology.now.names.classes (AreSame ontology.now name.now) (map (λ s. s.now) v.items)) }
 {
     ontology.well_formed();
     let Some(class) = ontology.number_of(Kind::Class, name) else {
         unreachable!()
     };
-    let same = mutual_once(alloc, above, class as usize)?;
+    let same = mutual_once(alloc, lists, class as usize)?;
     names_of(alloc, ontology.classes(), &same)
 }
 
@@ -71,20 +67,20 @@ fn leads(group: &[&str], name: &str) -> bool
 pub(crate) fn groups_of<'a>(
     alloc: Global,
     ontology: &'a Ontology,
-    above: &ListsAbove,
+    lists: &PackedLists,
     names: &[&'a str],
 ) -> Result<Vec<Vec<&'a str>>, Memory>
     requires ordered { AreInByteOrder (map (λ s. s.now) names.now) }
     requires known { All (Contains ontology.now.names.classes) (map (λ s. s.now) names.now) }
     requires closed { IsClosed ontology.now (map (λ s. s.now) names.now) }
-    requires long { length above.now ≡ length ontology.now.names.classes }
-    requires within { (c d : ℕ) → is_listed above.now c d ≡ true → d < length above.now }
-    requires tells { All (TellsGroup ontology.now above.now) (map (λ s. s.now) names.now) }
+    requires long { length lists.now ≡ length ontology.now.names.classes }
+    requires within { (c d : ℕ) → is_listed lists.now c d ≡ true → d < length lists.now }
+    requires tells { All (TellsGroup ontology.now lists.now) (map (λ s. s.now) names.now) }
     ensures { IfOk result (λ v. AreGroups ontology.now (Contains (map (λ s. s.now) names.now)) (groups_in v.items)) }
 {
     let mut groups = Vec::new(alloc);
     for name in names {
-        let group = group_of(alloc, ontology, above, name)?;
+        let group = group_of(alloc, ontology, lists, name)?;
         if leads(&group, name) {
             groups.push(group)?;
         }

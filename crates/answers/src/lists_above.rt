@@ -1,42 +1,20 @@
-//! The superclasses of some classes.
-ghost use Rattle.answers.specs.Neighbours.{PutsMarked};
-ghost use Rattle.classification.specs.Lists.{Adds, AreListsBy};
-ghost use Rattle.number_sets.specs.Pieces.{list_at};
-ghost use Rattle.std.specs.Prelude.{◌<◌, ◌≡◌, IfOk, IfSome, MatchOption, OnOk, length, ℕ};
-ghost use Rattle.taxonomy.specs.Relation.{is_below};
+//! The superclasses of some classes, as lists.
+ghost use Rattle.answers.specs.Neighbours.{PutsMarked, PutsOneBelow};
+ghost use Rattle.classification.specs.Lists.{Adds, AreListsBy, PutsBelow, SomeFact};
+ghost use Rattle.std.specs.Prelude.{◌<◌, ◌≡◌, ◌↔◌, Contains, IfOk, IfSome, MatchOption, OnOk, length, ℕ};
+ghost use Rattle.taxonomy.specs.Relation.{is_listed};
 
 use axioms::{ClassId, Memory, Ontology};
 use classification::class_pair;
-use facts::StoredFact;
+use engine::Saturation;
+use facts::{Context, StoredFact};
 use number_sets::{OpenLists, PackedLists};
 use std::alloc::Global;
-use std::marker::Model;
-use taxonomy::Relation;
 
-/// For each class, by number, the list of classes above it, which is empty for some; and a relation that finds one in a list.
-#[derive(Drop)]
-pub(crate) struct ListsAbove {
-    lists: PackedLists,
-    relation: Relation,
-}
-
-impl Model for ListsAbove {
-    ghost use Rattle.answers.specs.Neighbours.{IsRelationOf};
-    ghost use Rattle.std.specs.Prelude.{List, ℕ};
-
-    ghost Value = { List (List ℕ) };
-
-    ghost view = { λ l. l.lists };
-
-    ghost invariant = { λ l. IsRelationOf l.lists l.relation };
-}
+// ---- by all facts
 
 /// The marked class that the fact is about, and the class that it puts above it; `None` where it does not.
-pub(crate) fn marked_pair(
-    ontology: &Ontology,
-    marks: &[bool],
-    fact: &StoredFact,
-) -> Option<(ClassId, ClassId)>
+fn marked_pair(ontology: &Ontology, marks: &[bool], fact: &StoredFact) -> Option<(ClassId, ClassId)>
     requires { length marks.now ≡ length ontology.now.names.classes }
     ensures pair { MatchOption result ((c d : ℕ) → PutsMarked ontology.now marks.now fact.now c d → ⊥)
         (λ p. PutsMarked ontology.now marks.now fact.now p.0.0 p.1.0) }
@@ -85,35 +63,120 @@ fn marked_lists(
     Ok(lists.packed(alloc)?)
 }
 
-impl ListsAbove {
-    /// The classes above each class that is marked, by the facts.
-    pub(crate) fn of(
-        alloc: Global,
-        ontology: &Ontology,
-        facts: &[StoredFact],
-        marks: &[bool],
-    ) -> Result<ListsAbove, Memory>
-        requires { length marks.now ≡ length ontology.now.names.classes }
-        ensures { IfOk result (λ lists. AreListsBy (PutsMarked ontology.now marks.now) (length ontology.now.names.classes) facts.now lists) }
-    {
-        let lists = marked_lists(alloc, ontology, facts, marks)?;
-        let relation = Relation::of_superclasses(alloc, &lists)?;
-        Ok(ListsAbove { lists, relation })
-    }
+// ---- by the facts of some contexts
 
-    /// The classes in the list of that class.
-    pub(crate) fn at(&self, class: usize) -> &[u32]
-        ensures { result.now ≡ list_at self.now class }
-    {
-        self.lists.at(class)
+/// The classes that the facts of these numbers put above one.
+fn classes_by(
+    alloc: Global,
+    ontology: &Ontology,
+    facts: &[StoredFact],
+    numbers: &[u32],
+) -> Result<Vec<u32>, Memory>
+    requires { (n : ℕ) → Contains numbers.now n → n < length facts.now }
+    ensures { IfOk result (λ v. (d : ℕ) → Contains v.items d ↔ PutsOneBelow ontology.now facts.now numbers.now d) }
+{
+    let mut found = Vec::new(alloc);
+    for number in numbers {
+        if let Some((_, above)) = class_pair(ontology, &facts[*number as usize]) {
+            found.push(above.0)?;
+        }
     }
+    Ok(found)
+}
 
-    /// Whether the one class is below the other by the lists.
-    pub(crate) fn is_below(&self, class: usize, above: usize) -> bool
-        requires class { class < length self.now }
-        requires above { above < length self.now }
-        ensures { result ≡ is_below self.now class above }
-    {
-        self.relation.lies_below(class, above)
+/// The classes that facts put above the class; `None` where those of its context are not listed.
+fn classes_above(
+    alloc: Global,
+    ontology: &Ontology,
+    saturation: &Saturation,
+    class: usize,
+) -> Result<Option<Vec<u32>>, Memory>
+    requires { class < length ontology.now.names.classes }
+    ensures { IfOk result (λ found. IfSome found (λ v. (d : ℕ) → Contains v.items d ↔ SomeFact saturation.now.state.facts (λ fact. PutsBelow ontology.now fact class d))) }
+{
+    ontology.well_formed();
+    ontology.bounded();
+    let Some(expression) = ontology.class_expr(ClassId(class as u32)) else {
+        return Ok(None);
+    };
+    let Some(numbers) = saturation.classes_in(Context::Expr(expression)) else {
+        return Ok(None);
+    };
+    let found = classes_by(alloc, ontology, saturation.facts(), numbers)?;
+    Ok(Some(found))
+}
+
+/// The same where the class is marked, and else no class.
+fn list_of(
+    alloc: Global,
+    ontology: &Ontology,
+    saturation: &Saturation,
+    marks: &[bool],
+    class: usize,
+) -> Result<Option<Vec<u32>>, Memory>
+    requires class { class < length marks.now }
+    requires long { length marks.now ≡ length ontology.now.names.classes }
+    ensures { IfOk result (λ found. IfSome found (λ v. (d : ℕ) → Contains v.items d ↔ SomeFact saturation.now.state.facts (λ fact. PutsMarked ontology.now marks.now fact class d))) }
+{
+    if marks[class] {
+        classes_above(alloc, ontology, saturation, class)
+    } else {
+        Ok(Some(Vec::new(alloc)))
     }
+}
+
+/// For each class the list of the classes that a fact puts above it, where it is marked; `None` where the facts of some context are
+/// not listed.
+fn lists_by_context(
+    alloc: Global,
+    ontology: &Ontology,
+    saturation: &Saturation,
+    marks: &[bool],
+) -> Result<Option<PackedLists>, Memory>
+    requires { length marks.now ≡ length ontology.now.names.classes }
+    ensures { IfOk result (λ found. IfSome found
+        (AreListsBy (PutsMarked ontology.now marks.now) (length ontology.now.names.classes) saturation.now.state.facts)) }
+{
+    let mut lists = PackedLists::new(alloc);
+    for class in 0..marks.len() {
+        let Some(list) = list_of(alloc, ontology, saturation, marks, class)? else {
+            return Ok(None);
+        };
+        lists.push_list(&list)?;
+    }
+    Ok(Some(lists))
+}
+
+// ---- either way
+
+/// For each class the list of the classes that a fact puts above it, where it is marked: at the cost of what is found, or of all facts
+/// where those of a context are not listed.
+///
+/// # Errors
+///
+/// `Memory` where memory was refused.
+pub(crate) fn lists_above(
+    alloc: Global,
+    ontology: &Ontology,
+    saturation: &Saturation,
+    marks: &[bool],
+) -> Result<PackedLists, Memory>
+    requires { length marks.now ≡ length ontology.now.names.classes }
+    ensures { IfOk result
+        (AreListsBy (PutsMarked ontology.now marks.now) (length ontology.now.names.classes) saturation.now.state.facts) }
+{
+    match lists_by_context(alloc, ontology, saturation, marks)? {
+        Some(lists) => Ok(lists),
+        None => marked_lists(alloc, ontology, saturation.facts(), marks),
+    }
+}
+
+/// Whether the other class is in the list of the class.
+pub(crate) fn has(lists: &PackedLists, class: usize, above: usize) -> bool
+    ensures { result ≡ is_listed lists.now class above }
+{
+    lists
+        .at(class)
+        .iter()
+        .any(|number| *number as usize == above)
 }

@@ -6,10 +6,10 @@ ghost use Rattle.axioms.specs.Ontology.{nothing};
 ghost use Rattle.classification.specs.Lists.{SomeFact};
 ghost use Rattle.engine.specs.Saturations.{IsSaturated};
 ghost use Rattle.saturate.specs.ServedFacts.{AreNumbersOf};
-ghost use Rattle.std.specs.Prelude.{◌<◌, ◌↔◌, ◌≡◌, ◌⊎◌, IfOk, IfSome, IsTrue, MatchOption, Some, length, ℕ};
+ghost use Rattle.std.specs.Prelude.{◌<◌, ◌↔◌, ◌≡◌, ◌⊎◌, IfOk, IfSome, IsTrue, MatchOption, Some, length, true, ℕ};
 
 use crate::question::Question;
-use axioms::{ExprId, IndId, Memory, Ontology};
+use axioms::{ClassId, ExprId, IndId, Memory, Ontology};
 use classification::is_consistent;
 use engine::Saturation;
 use facts::{Context, Fact, StoredFact};
@@ -186,14 +186,19 @@ fn asked_facts(saturation: &Saturation, question: Question) -> Option<&[u32]>
     }
 }
 
+/// Whether a fact puts the expression in the other one.
+fn is_put(saturation: &Saturation, expression: ExprId, above: ExprId) -> bool
+    ensures { IsTrue result ↔ SomeFact saturation.now.state.facts (λ fact. PutsExpression fact expression.0 above.0) }
+{
+    let wanted = Fact::In(Class2::Expr(above), Context::Expr(expression));
+    saturation.find(wanted).is_some()
+}
+
 /// Whether the expression has no element in any interpretation: a fact puts it in `owl:Nothing`.
 fn is_empty(saturation: &Saturation, expression: ExprId) -> bool
     ensures { IsTrue result ↔ SomeFact saturation.now.state.facts (λ fact. PutsExpression fact expression.0 nothing) }
 {
-    let nothing = Class2::Expr(ExprId::NOTHING);
-    saturation
-        .find(Fact::In(nothing, Context::Expr(expression)))
-        .is_some()
+    is_put(saturation, expression, ExprId::NOTHING)
 }
 
 /// Whether every name is an answer, since there is no interpretation or the expression has no element in any.
@@ -231,4 +236,66 @@ pub(crate) fn marks_of(
         Some(numbers) => marked_among(alloc, ontology, facts, numbers, question, every, size),
         None => marked_by(alloc, ontology, facts, question, every, size),
     }
+}
+
+/// Whether a fact puts the class below the expression or below `owl:Nothing`, or it is every class that is an answer.
+fn is_below(
+    ontology: &Ontology,
+    saturation: &Saturation,
+    expression: ExprId,
+    every: bool,
+    class: usize,
+) -> bool
+    requires { class < length ontology.now.names.classes }
+    ensures { IsTrue result ↔ ((every ≡ true) ⊎ SomeFact saturation.now.state.facts (λ fact. Answers ontology.now (asked.Below expression) fact class)) }
+{
+    ontology.well_formed();
+    ontology.bounded();
+    let Some(below) = ontology.class_expr(ClassId(class as u32)) else {
+        unreachable!()
+    };
+    every || is_put(saturation, below, expression) || is_empty(saturation, below)
+}
+
+/// Marks on those of the marked classes that a fact puts below the expression or below `owl:Nothing`, or on each of them.
+fn found_below(
+    alloc: Global,
+    ontology: &Ontology,
+    saturation: &Saturation,
+    marks: &[bool],
+    expression: ExprId,
+    every: bool,
+) -> Result<Vec<bool>, Memory>
+    requires { length marks.now ≡ length ontology.now.names.classes }
+    ensures long { IfOk result (λ v. length v.items ≡ length marks.now) }
+    ensures exact { IfOk result (λ v. (n : ℕ) → IsMarked marks.now n →
+        IsMarked v.items n ↔ ((every ≡ true) ⊎ SomeFact saturation.now.state.facts (λ fact. Answers ontology.now (asked.Below expression) fact n))) }
+{
+    let mut found = Vec::new(alloc);
+    for n in 0..marks.len() {
+        found.push(marks[n] && is_below(ontology, saturation, expression, every, n))?;
+    }
+    Ok(found)
+}
+
+/// Marks on those of the marked classes that answer which classes lie below the expression, each of which is looked for.
+///
+/// # Errors
+///
+/// `Memory` where memory was refused.
+pub(crate) fn marks_found(
+    alloc: Global,
+    ontology: &Ontology,
+    saturation: &Saturation,
+    marks: &[bool],
+    expression: ExprId,
+) -> Result<Vec<bool>, Memory>
+    requires saturated { IsSaturated ontology.now saturation.now }
+    requires long { length marks.now ≡ length ontology.now.names.classes }
+    ensures long { IfOk result (λ v. length v.items ≡ length marks.now) }
+    ensures exact { IfOk result (λ v. (n : ℕ) → IsMarked marks.now n →
+        IsMarked v.items n ↔ (IsEvery ontology.now saturation.now (asked.Below expression) ⊎ SomeFact saturation.now.state.facts (λ fact. Answers ontology.now (asked.Below expression) fact n))) }
+{
+    let every = is_every(ontology, saturation, Question::Below(expression));
+    found_below(alloc, ontology, saturation, marks, expression, every)
 }

@@ -1,12 +1,14 @@
 //! Of classes above or below a class, those that are farther from it than others.
-ghost use Rattle.answers.specs.Neighbours.{IsFarther, farther};
-ghost use Rattle.answers.specs.Questions.{AreMarks};
-ghost use Rattle.std.specs.Prelude.{◌↔◌, ◌≡◌, IfOk, Some, false, length, ℕ};
+ghost use Rattle.answers.specs.Names.{IsMarked};
+ghost use Rattle.answers.specs.Neighbours.{IsFarther, IsFartherOf, farther};
+ghost use Rattle.answers.specs.Questions.{IsOnly};
+ghost use Rattle.std.specs.Prelude.{◌<◌, ◌↔◌, ◌≡◌, ◌⊎◌, IfOk, length, true, ℕ};
+ghost use Rattle.taxonomy.specs.Relation.{is_listed};
 
-use crate::lists_above::{ListsAbove, marked_pair};
+use crate::lists_above::has;
 use crate::marks::mark;
-use axioms::{Memory, Ontology};
-use facts::StoredFact;
+use axioms::Memory;
+use number_sets::PackedLists;
 use std::alloc::Global;
 
 /// On which side of a class others lie.
@@ -26,44 +28,50 @@ fn farther(side: Side, low: usize, high: usize) -> usize
     }
 }
 
-/// The farther one of two marked classes of which the fact puts the one strictly below the other, which the lists tell.
-fn farther_by(
-    ontology: &Ontology,
-    above: &ListsAbove,
+/// The farther one of the class and of one in its list, where that is marked and the class is not in its list.
+fn farther_of(
+    lists: &PackedLists,
     marks: &[bool],
     side: Side,
-    fact: &StoredFact,
+    low: usize,
+    high: usize,
 ) -> Option<usize>
-    requires marks { length marks.now ≡ length ontology.now.names.classes }
-    requires lists { length above.now ≡ length ontology.now.names.classes }
-    ensures { (n : ℕ) → IsFarther ontology.now above.now marks.now side fact.now n ↔ (result ≡ Some n) }
+    requires within { high < length marks.now }
+    requires listed { is_listed lists.now low high ≡ true }
+    ensures { IsOnly (IsFartherOf lists.now marks.now side low high) result }
 {
-    ontology.well_formed();
-    let (low, high) = marked_pair(ontology, marks, fact)?;
-    let (low, high) = (low.index(), high.index());
-    if marks[high] && !above.is_below(high, low) {
+    if marks[high] && !has(lists, high, low) {
         Some(farther(side, low, high))
     } else {
         None
     }
 }
 
+/// Marks the farther one of the class and of each in its list.
+fn mark_farther(lists: &PackedLists, marks: &[bool], side: Side, low: usize, far: &mut [bool])
+    requires { (d : ℕ) → is_listed lists.now low d ≡ true → d < length marks.now }
+    ensures long { length far.new ≡ length far.old }
+    ensures exact { (n : ℕ) → n < length far.old → IsMarked far.new n ↔ (IsMarked far.old n ⊎ ((high : ℕ) × IsFartherOf lists.now marks.now side low high n)) }
+{
+    for high in lists.at(low) {
+        mark(far, farther_of(lists, marks, side, low, *high as usize));
+    }
+}
+
 /// Marks on the farther one of each two.
 pub(crate) fn far_marks(
     alloc: Global,
-    ontology: &Ontology,
-    facts: &[StoredFact],
-    above: &ListsAbove,
+    lists: &PackedLists,
     marks: &[bool],
     side: Side,
 ) -> Result<Vec<bool>, Memory>
-    requires marks { length marks.now ≡ length ontology.now.names.classes }
-    requires lists { length above.now ≡ length ontology.now.names.classes }
-    ensures { IfOk result (λ v. AreMarks (IsFarther ontology.now above.now marks.now side) facts.now false (length marks.now) v.items) }
+    requires { (c d : ℕ) → is_listed lists.now c d ≡ true → d < length marks.now }
+    ensures long { IfOk result (λ v. length v.items ≡ length marks.now) }
+    ensures exact { IfOk result (λ v. (n : ℕ) → n < length marks.now → IsMarked v.items n ↔ IsFarther lists.now marks.now side n) }
 {
     let mut far = vec![in alloc; false; marks.len()]?;
-    for fact in facts {
-        mark(&mut far, farther_by(ontology, above, marks, side, fact));
+    for low in 0..lists.len() {
+        mark_farther(lists, marks, side, low, &mut far);
     }
     Ok(far)
 }

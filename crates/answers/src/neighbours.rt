@@ -1,8 +1,9 @@
 //! The named classes that are the same as a class, and those directly above and below it.
 ghost use Rattle.answers.specs.Explanations.{IsClassNamed};
 ghost use Rattle.answers.specs.Names.{AreThose, HasMark, groups_in};
-ghost use Rattle.answers.specs.Neighbours.{AreGroups, AreMarksOf, AreOneGroup, AreSame, AreSatisfiable, IsNearer, IsNearest, LiesDirectlyBelow};
-ghost use Rattle.answers.specs.declared.nearest.Side.TheVariants.{Below};
+ghost use Rattle.answers.specs.Neighbours.{AreGroups, AreMarksAmong, AreMarksOf, AreOneGroup, AreSame, AreSatisfiable, IsNearer, IsNearest, LiesDirectlyBelow};
+ghost use Rattle.answers.specs.declared.nearest.Side.TheVariants.{Above, Below};
+ghost use Rattle.answers.specs.declared.question.Question.TheVariants as asked;
 ghost use Rattle.answers.specs.Questions.{FollowsFor, expression_asked, names_asked};
 ghost use Rattle.axioms.specs.Expression.{Iri};
 ghost use Rattle.closure.specs.Closure.{Expression, IsRoot};
@@ -10,8 +11,8 @@ ghost use Rattle.engine.specs.Saturations.{IsSaturated};
 ghost use Rattle.std.specs.Prelude.{◌↔◌, ◌≡◌, Contains, IfOk, IfSome, IsSome, length, map};
 
 use crate::groups::groups_of;
-use crate::lists_above::ListsAbove;
-use crate::marks::{apart, both, has_mark, marks_of};
+use crate::lists_above::lists_above;
+use crate::marks::{apart, both, has_mark, marks_found, marks_of};
 use crate::named::class_named;
 use crate::names::names_in_order;
 use crate::nearest::{Side, far_marks};
@@ -37,24 +38,58 @@ fn class_marks(
     marks_of(alloc, ontology, saturation, question, size)
 }
 
-/// Marks on the named classes that lie on that side of the class, and are not the same.
-fn strict_marks(
+/// Of the marked classes, marks on those that lie below the expression: where facts are found without going over all, each is looked
+/// for.
+fn marks_below(
+    alloc: Global,
+    ontology: &Ontology,
+    saturation: &Saturation,
+    marks: &[bool],
+    expression: ExprId,
+) -> Result<Vec<bool>, Memory>
+    requires saturated { IsSaturated ontology.now saturation.now }
+    requires root { IsRoot ontology.now saturation.now.normal.asked (Expression expression.0) }
+    requires long { length marks.now ≡ length ontology.now.names.classes }
+    ensures { IfOk result (λ v. AreMarksAmong marks.now ontology.now.names.classes (FollowsFor ontology.now (asked.Below expression)) v.items) }
+{
+    ontology.well_formed();
+    if saturation.can_grow() {
+        marks_found(alloc, ontology, saturation, marks, expression)
+    } else {
+        class_marks(alloc, ontology, saturation, Question::Below(expression))
+    }
+}
+
+/// Marks on the named classes that lie above the class, and are not the same.
+fn marks_strictly_above(
     alloc: Global,
     ontology: &Ontology,
     saturation: &Saturation,
     class: ExprId,
-    side: Side,
 ) -> Result<Vec<bool>, Memory>
     requires saturated { IsSaturated ontology.now saturation.now }
     requires root { IsRoot ontology.now saturation.now.normal.asked (Expression class.0) }
-    ensures { IfOk result (λ v. (name : Iri) → IsClassNamed ontology.now name class.0 → AreMarksOf ontology.now.names.classes (IsNearer ontology.now side name) v.items) }
+    ensures { IfOk result (λ v. (name : Iri) → IsClassNamed ontology.now name class.0 → AreMarksOf ontology.now.names.classes (IsNearer ontology.now Above name) v.items) }
+{
+    let above = class_marks(alloc, ontology, saturation, Question::Above(class))?;
+    let below = marks_below(alloc, ontology, saturation, &above, class)?;
+    apart(alloc, &above, &below)
+}
+
+/// Marks on the named classes that lie below the class, and are not the same.
+fn marks_strictly_below(
+    alloc: Global,
+    ontology: &Ontology,
+    saturation: &Saturation,
+    class: ExprId,
+) -> Result<Vec<bool>, Memory>
+    requires saturated { IsSaturated ontology.now saturation.now }
+    requires root { IsRoot ontology.now saturation.now.normal.asked (Expression class.0) }
+    ensures { IfOk result (λ v. (name : Iri) → IsClassNamed ontology.now name class.0 → AreMarksOf ontology.now.names.classes (IsNearer ontology.now Below name) v.items) }
 {
     let above = class_marks(alloc, ontology, saturation, Question::Above(class))?;
     let below = class_marks(alloc, ontology, saturation, Question::Below(class))?;
-    match side {
-        Side::Above => apart(alloc, &above, &below),
-        Side::Below => apart(alloc, &below, &above),
-    }
+    apart(alloc, &below, &above)
 }
 
 /// The groups of the nearest of the marked classes.
@@ -72,12 +107,11 @@ fn nearest_groups<'a>(
         (λ v. AreGroups ontology.now (IsNearest ontology.now (HasMark ontology.now.names.classes marks.now) side) (groups_in v.items)) }
 {
     ontology.well_formed();
-    let facts = saturation.facts();
-    let above = ListsAbove::of(alloc, ontology, facts, marks)?;
-    let far = far_marks(alloc, ontology, facts, &above, marks, side)?;
+    let lists = lists_above(alloc, ontology, saturation, marks)?;
+    let far = far_marks(alloc, &lists, marks, side)?;
     let near = apart(alloc, marks, &far)?;
     let names = names_in_order(alloc, ontology.classes(), &near)?;
-    groups_of(alloc, ontology, &above, &names)
+    groups_of(alloc, ontology, &lists, &names)
 }
 
 /// One group of the marked classes, or none where there are none.
@@ -112,8 +146,7 @@ fn groups_below<'a>(
         AreGroups ontology.now (λ name. LiesDirectlyBelow ontology.now name class) (groups_in v.items)) }
 {
     ontology.well_formed();
-    let nothing = Question::Below(ExprId::NOTHING);
-    let empty = class_marks(alloc, ontology, saturation, nothing)?;
+    let empty = marks_below(alloc, ontology, saturation, marks, ExprId::NOTHING)?;
     let satisfiable = apart(alloc, marks, &empty)?;
     if has_mark(&satisfiable) {
         nearest_groups(alloc, ontology, saturation, &satisfiable, Side::Below)
@@ -145,7 +178,7 @@ pub fn equivalents<'a>(
     };
     ontology.well_formed();
     let above = class_marks(alloc, ontology, saturation, Question::Above(class))?;
-    let below = class_marks(alloc, ontology, saturation, Question::Below(class))?;
+    let below = marks_below(alloc, ontology, saturation, &above, class)?;
     let same = both(alloc, &above, &below)?;
     let names = names_in_order(alloc, ontology.classes(), &same)?;
     Ok(Some(names))
@@ -173,7 +206,7 @@ pub fn parents<'a>(
     let Some(class) = class_named(ontology, class) else {
         return Ok(None);
     };
-    let marks = strict_marks(alloc, ontology, saturation, class, Side::Above)?;
+    let marks = marks_strictly_above(alloc, ontology, saturation, class)?;
     let groups = nearest_groups(alloc, ontology, saturation, &marks, Side::Above)?;
     Ok(Some(groups))
 }
@@ -198,7 +231,7 @@ pub fn children<'a>(
     let Some(class) = class_named(ontology, class) else {
         return Ok(None);
     };
-    let marks = strict_marks(alloc, ontology, saturation, class, Side::Below)?;
+    let marks = marks_strictly_below(alloc, ontology, saturation, class)?;
     let groups = groups_below(alloc, ontology, saturation, &marks)?;
     Ok(Some(groups))
 }

@@ -28,7 +28,7 @@ group_of-requires-clause-tells c =
     let k = c.loop-name.name-index in
     let name = get_or c.args.names.now k _ in
     let at = slice_get_map (λ s. s.now) c.args.names.now k name (slice_get-get_or c.args.names.now k _ c.loop-name-test.true) in
-    All-contains (TellsGroup c.args.ontology.now c.args.above.now) names name.now c.requires.tells (Contains-from_slice_get names k name.now at)
+    All-contains (TellsGroup c.args.ontology.now c.args.lists.now) names name.now c.requires.tells (Contains-from_slice_get names k name.now at)
 
 pub leads-requires : goal.leads-requires
 leads-requires c =

@@ -5,8 +5,8 @@ use Rattle.answers.specs.declared.nearest.Side.TheVariants.{Below}
 use Rattle.answers.proofs.Deriving.{class_root}
 use Rattle.answers.proofs.neighbours.children.Goals as goal
 
-pub strict_marks-requires-clause-root : goal.strict_marks-requires-clause-root
-strict_marks-requires-clause-root c = class_root c.args.ontology.now c.args.saturation.now.normal.asked c.args.class.now c.in-Some.class.0 c.in-Some.ensures
+pub marks_strictly_below-requires-clause-root : goal.marks_strictly_below-requires-clause-root
+marks_strictly_below-requires-clause-root c = class_root c.args.ontology.now c.args.saturation.now.normal.asked c.args.class.now c.in-Some.class.0 c.in-Some.ensures
 
 pub groups_below-requires-clause-below : goal.groups_below-requires-clause-below
 groups_below-requires-clause-below c =

@@ -7,19 +7,22 @@ use Rattle.axioms.specs.declared.ids.ExprId.{ExprId}
 use Rattle.closure.specs.Closure.{IsRoot}
 use Rattle.answers.specs.Entailment.{LiesBelow}
 use Rattle.answers.specs.Names.{HasMark, IsMarked, groups_in}
-use Rattle.answers.specs.Neighbours.{AreGroups, AreMarksOf, AreSatisfiable, IsNearer, IsNearest}
+use Rattle.answers.specs.Neighbours.{AreGroups, AreMarksAmong, AreSatisfiable, IsNearer, IsNearest}
 use Rattle.answers.specs.Questions.{FollowsFor}
 use Rattle.answers.specs.declared.question.Question.TheVariants.{Below}
 use Rattle.answers.proofs.NamedSides.{below_is}
 use Rattle.answers.specs.declared.nearest.Side.TheVariants as sides
-use Rattle.answers.proofs.Neighbouring.{children_are, lone_children_are, marks_apart, marks_same, one_group_below, satisfiable_below}
+use Rattle.answers.proofs.Neighbouring.{among_same, children_are, lone_children_are, marks_apart, one_group_below, satisfiable_below}
 use Rattle.answers.proofs.neighbours.groups_below.Goals as goal
 
 abbrev nothing_id : ExprId
 nothing_id = record { 0 = nothing }
 
-pub class_marks-requires-clause-root : goal.class_marks-requires-clause-root
-class_marks-requires-clause-root c = IsRoot.named 1 nothing c.well_formed-2.ensures.nothing_node
+pub marks_below-requires-clause-root : goal.marks_below-requires-clause-root
+marks_below-requires-clause-root c = IsRoot.named 1 nothing c.well_formed-2.ensures.nothing_node
+
+pub marks_below-requires-clause-long : goal.marks_below-requires-clause-long
+marks_below-requires-clause-long c = c.requires.below.1.long
 
 pub nearest_groups-requires-clause-satisfiable : goal.nearest_groups-requires-clause-satisfiable
 nearest_groups-requires-clause-satisfiable c =
@@ -28,8 +31,8 @@ nearest_groups-requires-clause-satisfiable c =
     let marks = c.args.marks.now in
     let empty = c.deref.result.now in
     let left = c.in_ok-satisfiable.satisfiable.items in
-    let bottom = subst (λ (ms : List Bool). AreMarksOf o.names.classes (FollowsFor o (Below nothing_id)) ms) (sym c.deref.ensures.value) c.in_ok-empty.ensures in
-    let without = marks_same o.names.classes (FollowsFor o (Below nothing_id)) (λ name. LiesBelow o name owl_nothing) (below_is o owl_nothing nothing_id (1, w.nothing_node, w.nothing_name)) empty bottom in
+    let bottom = subst (λ (ms : List Bool). AreMarksAmong marks o.names.classes (FollowsFor o (Below nothing_id)) ms) (sym c.deref.ensures.value) c.in_ok-empty.ensures in
+    let without = among_same o.names.classes (FollowsFor o (Below nothing_id)) (λ name. LiesBelow o name owl_nothing) marks (below_is o owl_nothing nothing_id (1, w.nothing_node, w.nothing_name)) empty bottom in
     let class = c.requires.below.0 in
     let below = c.requires.below.1 in
     subst (AreSatisfiable o) (sym c.deref-then-has_mark.ensures.value) (satisfiable_below o marks class below left (marks_apart o.names.classes (IsNearer o sides.Below class) (λ name. LiesBelow o name owl_nothing) marks empty left below without c.in_ok-satisfiable.ensures.long c.in_ok-satisfiable.ensures.exact))
@@ -41,8 +44,8 @@ returns-then-has_mark c =
     let marks = c.args.marks.now in
     let empty = c.deref.result.now in
     let left = c.in_ok-satisfiable.satisfiable.items in
-    let bottom = subst (λ (ms : List Bool). AreMarksOf o.names.classes (FollowsFor o (Below nothing_id)) ms) (sym c.deref.ensures.value) c.in_ok-empty.ensures in
-    let without = marks_same o.names.classes (FollowsFor o (Below nothing_id)) (λ name. LiesBelow o name owl_nothing) (below_is o owl_nothing nothing_id (1, w.nothing_node, w.nothing_name)) empty bottom in
+    let bottom = subst (λ (ms : List Bool). AreMarksAmong marks o.names.classes (FollowsFor o (Below nothing_id)) ms) (sym c.deref.ensures.value) c.in_ok-empty.ensures in
+    let without = among_same o.names.classes (FollowsFor o (Below nothing_id)) (λ name. LiesBelow o name owl_nothing) marks (below_is o owl_nothing nothing_id (1, w.nothing_node, w.nothing_name)) empty bottom in
     let some = subst (λ (ms : List Bool). (n : ℕ) × IsMarked ms n) c.deref-2.ensures.value (c.has_mark.ensures.0 c.if-has_mark.true) in
     IfOk-weaker c.nearest_groups.result _ _
     (λ v are class below. children_are o marks class below left (marks_apart o.names.classes (IsNearer o sides.Below class) (λ name. LiesBelow o name owl_nothing) marks empty left below without c.in_ok-satisfiable.ensures.long c.in_ok-satisfiable.ensures.exact) some.0 some.1 (groups_in v.items)
@@ -56,8 +59,8 @@ one_group-requires-clause-same c =
     let marks = c.args.marks.now in
     let empty = c.deref.result.now in
     let left = c.in_ok-satisfiable.satisfiable.items in
-    let bottom = subst (λ (ms : List Bool). AreMarksOf o.names.classes (FollowsFor o (Below nothing_id)) ms) (sym c.deref.ensures.value) c.in_ok-empty.ensures in
-    let without = marks_same o.names.classes (FollowsFor o (Below nothing_id)) (λ name. LiesBelow o name owl_nothing) (below_is o owl_nothing nothing_id (1, w.nothing_node, w.nothing_name)) empty bottom in
+    let bottom = subst (λ (ms : List Bool). AreMarksAmong marks o.names.classes (FollowsFor o (Below nothing_id)) ms) (sym c.deref.ensures.value) c.in_ok-empty.ensures in
+    let without = among_same o.names.classes (FollowsFor o (Below nothing_id)) (λ name. LiesBelow o name owl_nothing) marks (below_is o owl_nothing nothing_id (1, w.nothing_node, w.nothing_name)) empty bottom in
     let class = c.requires.below.0 in
     let below = c.requires.below.1 in
     let none : (k : ℕ) → IsMarked left k → ⊥ = λ k mark. false≢true (sym c.if-has_mark.false ∙ c.has_mark.ensures.1 (subst (λ (ms : List Bool). (n : ℕ) × IsMarked ms n) (sym c.deref-2.ensures.value) (k, mark))) in
@@ -70,8 +73,8 @@ returns c =
     let marks = c.args.marks.now in
     let empty = c.deref.result.now in
     let left = c.in_ok-satisfiable.satisfiable.items in
-    let bottom = subst (λ (ms : List Bool). AreMarksOf o.names.classes (FollowsFor o (Below nothing_id)) ms) (sym c.deref.ensures.value) c.in_ok-empty.ensures in
-    let without = marks_same o.names.classes (FollowsFor o (Below nothing_id)) (λ name. LiesBelow o name owl_nothing) (below_is o owl_nothing nothing_id (1, w.nothing_node, w.nothing_name)) empty bottom in
+    let bottom = subst (λ (ms : List Bool). AreMarksAmong marks o.names.classes (FollowsFor o (Below nothing_id)) ms) (sym c.deref.ensures.value) c.in_ok-empty.ensures in
+    let without = among_same o.names.classes (FollowsFor o (Below nothing_id)) (λ name. LiesBelow o name owl_nothing) marks (below_is o owl_nothing nothing_id (1, w.nothing_node, w.nothing_name)) empty bottom in
     let none : (k : ℕ) → IsMarked left k → ⊥ = λ k mark. false≢true (sym c.if-has_mark.false ∙ c.has_mark.ensures.1 (subst (λ (ms : List Bool). (n : ℕ) × IsMarked ms n) (sym c.deref-2.ensures.value) (k, mark))) in
     IfOk-weaker c.one_group.result _ _
     (λ v are class below. lone_children_are o marks class below left (marks_apart o.names.classes (IsNearer o sides.Below class) (λ name. LiesBelow o name owl_nothing) marks empty left below without c.in_ok-satisfiable.ensures.long c.in_ok-satisfiable.ensures.exact) none empty without (groups_in v.items) are)

@@ -7,8 +7,8 @@ use Rattle.answers.proofs.Deriving.{class_root}
 use Rattle.answers.proofs.Neighbouring.{parents_are, satisfiable_above}
 use Rattle.answers.proofs.neighbours.parents.Goals as goal
 
-pub strict_marks-requires-clause-root : goal.strict_marks-requires-clause-root
-strict_marks-requires-clause-root c = class_root c.args.ontology.now c.args.saturation.now.normal.asked c.args.class.now c.in-Some.class.0 c.in-Some.ensures
+pub marks_strictly_above-requires-clause-root : goal.marks_strictly_above-requires-clause-root
+marks_strictly_above-requires-clause-root c = class_root c.args.ontology.now c.args.saturation.now.normal.asked c.args.class.now c.in-Some.class.0 c.in-Some.ensures
 
 pub nearest_groups-requires-clause-long : goal.nearest_groups-requires-clause-long
 nearest_groups-requires-clause-long c = ap length c.deref.ensures.value ∙ (c.in_ok-marks.ensures c.args.class.now c.in-Some.ensures).long
