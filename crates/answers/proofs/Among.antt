@@ -1,7 +1,7 @@
 -- Marks on the numbers that some of the facts give, which are known by theirs.
-use Rattle.std.proofs.Common.{◌≡◌, ◌↔◌, ℕ, ◌+◌, ◌<◌, ◌≤◌, ◌⊎◌, inl, inr, ⊎_elim, Bool, true, List, length, slice_get, Option, Some, Contains, [], ◌∷◌, ◌++◌, ap, refl, sym, ◌∙◌, subst, arith, below_more}
-use Rattle.std.proofs.lemmas.Option.{same_Some, slice_get_within}
-use Rattle.std.proofs.lemmas.List.{length-append}
+use Rattle.std.proofs.Common.{◌≡◌, ◌↔◌, ℕ, ◌+◌, ◌<◌, ◌≤◌, ◌⊎◌, inl, inr, ⊎_elim, Bool, true, List, length, slice_get, Option, Some, Contains, [], ◌∷◌, ◌++◌, replicate, ap, refl, sym, ◌∙◌, subst, arith, below_more}
+use Rattle.std.proofs.lemmas.Option.{same_Some, slice_get-get_or, slice_get_within}
+use Rattle.std.proofs.lemmas.List.{get_or-replicate, length-append, length-replicate}
 use Rattle.lemmas.proofs.Members.{slice_get-from_Contains}
 use Rattle.lemmas.proofs.Places.{keeps_push, slice_get_push, slice_get_push_cases}
 use Rattle.axioms.specs.Ontology.{Ontology}
@@ -72,30 +72,41 @@ may_answer o (Members e) f n given = tt
 
 -- ---- classes, each of which is looked for
 
--- so many marks; of the marked numbers on those for which it holds
-pub record AreFoundBefore (marks : List Bool) (P : ℕ → Type 0) (k : ℕ) (found : List Bool) : Type 0 where
-  pub long : length found ≡ k
-  pub exact : (n : ℕ) → n < k → IsMarked marks n → IsMarked found n ↔ P n
+-- so many marks, on the numbers for which it holds
+pub record AreMarksBelow (P : ℕ → Type 0) (k : ℕ) (marks : List Bool) : Type 0 where
+  pub long : length marks ≡ k
+  pub exact : (n : ℕ) → n < k → IsMarked marks n ↔ P n
 
-module _ (marks : List Bool) (P : ℕ → Type 0) where
-  pub none_found : (found : List Bool) → found ≡ [] → AreFoundBefore marks P 0 found
-  none_found found none = record { long = ap length none; exact = λ n low. absurd (omega (arith, low)) }
+module _ (P : ℕ → Type 0) where
+  pub no_marks : (marks : List Bool) → marks ≡ [] → AreMarksBelow P 0 marks
+  no_marks marks none = record { long = ap length none; exact = λ n low. absurd (omega (arith, low)) }
 
-  pub one_more_found : (k : ℕ) (old new : List Bool) (x : Bool) → AreFoundBefore marks P k old → new ≡ old ++ x ∷ [] → (IsMarked marks k → (x ≡ true) ↔ P k) → AreFoundBefore marks P (k + 1) new
-  one_more_found k old new x was grown tells = record {
+  pub one_more_mark : (k : ℕ) (old new : List Bool) (x : Bool) → AreMarksBelow P k old → new ≡ old ++ x ∷ [] → (x ≡ true) ↔ P k → AreMarksBelow P (k + 1) new
+  one_more_mark k old new x was grown tells = record {
     long = ap length grown ∙ length-append old (x ∷ []) ∙ ap (λ (n : ℕ). n + 1) was.long;
-    exact = λ n low mark. below_more (λ (m : ℕ). IsMarked marks m → IsMarked new m ↔ P m) k
-        (λ m less there. (let is = was.exact m less there in (
+    exact = λ n low. below_more (λ (m : ℕ). IsMarked new m ↔ P m) k
+        (λ m less. (let is = was.exact m less in (
           λ h. ⊎_elim (λ before. is.0 before) (λ (e, _). absurd (omega (arith, e, less, was.long))) (slice_get_push_cases old x m true (subst (λ (l : List Bool). slice_get l m ≡ Some true) grown h)),
           λ p. subst (λ (l : List Bool). slice_get l m ≡ Some true) (sym grown) (keeps_push old x m true (is.1 p)),
-        )))
-        (λ there. (
+        ))) (
           λ h. ⊎_elim
               (λ before. absurd (omega (arith, slice_get_within old k true before, was.long)))
-              (λ (_, e). (tells there).0 e)
+              (λ (_, e). tells.0 e)
               (slice_get_push_cases old x k true (subst (λ (l : List Bool). slice_get l k ≡ Some true) grown h)),
           λ p. subst (λ (l : List Bool). slice_get l k ≡ Some true) (sym grown)
-              (subst (λ (n : ℕ). slice_get (old ++ x ∷ []) n ≡ Some true) was.long (subst (λ (b : Bool). slice_get (old ++ x ∷ []) (length old) ≡ Some b) ((tells there).1 p) (slice_get_push old x))),
-        ))
-        n low mark;
+              (subst (λ (n : ℕ). slice_get (old ++ x ∷ []) n ≡ Some true) was.long (subst (λ (b : Bool). slice_get (old ++ x ∷ []) (length old) ≡ Some b) (tells.1 p) (slice_get_push old x))),
+        )
+        n low;
   }
+
+-- the marked ones of all numbers for which it holds are those for which it holds
+pub marks_among_all : (gives : Fact → ℕ → Type 0) (facts : List Fact) (every : Bool) (size : ℕ) (all found : List Bool) → all ≡ replicate size true → length found ≡ length all
+    → ((n : ℕ) → n < length all → IsMarked found n ↔ (IsMarked all n × ((every ≡ true) ⊎ SomeFact facts (λ f. gives f n)))) → AreMarks gives facts every size found
+marks_among_all gives facts every size all found is long exact =
+    let many : length all ≡ size = ap length is ∙ length-replicate {A = Bool} size true in record {
+      long = long ∙ many;
+      exact = λ n low.
+          let here = exact n (subst (λ (k : ℕ). n < k) (sym many) low) in
+          let marked : IsMarked all n = subst (λ (l : List Bool). slice_get l n ≡ Some true) (sym is) (slice_get-get_or (replicate size true) n true (subst (λ (k : ℕ). n < k) (sym (length-replicate {A = Bool} size true)) low) ∙ ap (λ x. Some x) (get_or-replicate size n true true low)) in
+          (λ mark. (here.0 mark).1, λ h. here.1 (marked, h));
+    }

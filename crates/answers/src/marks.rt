@@ -6,7 +6,7 @@ ghost use Rattle.axioms.specs.Ontology.{nothing};
 ghost use Rattle.classification.specs.Lists.{SomeFact};
 ghost use Rattle.engine.specs.Saturations.{IsSaturated};
 ghost use Rattle.saturate.specs.ServedFacts.{AreNumbersOf};
-ghost use Rattle.std.specs.Prelude.{◌<◌, ◌↔◌, ◌≡◌, ◌⊎◌, IfOk, IfSome, IsTrue, MatchOption, Some, length, true, ℕ};
+ghost use Rattle.std.specs.Prelude.{◌<◌, ◌≤◌, ◌^◌, ◌↔◌, ◌≡◌, ◌⊎◌, IfOk, IfSome, IsTrue, MatchOption, Some, length, true, ℕ};
 
 use crate::question::Question;
 use axioms::{ClassId, ExprId, IndId, Memory, Ontology};
@@ -215,6 +215,147 @@ fn is_every(ontology: &Ontology, saturation: &Saturation, question: Question) ->
     }
 }
 
+// ---- by looking for each
+
+/// Whether a fact puts the expression in the class of that number.
+fn is_found_above(
+    ontology: &Ontology,
+    saturation: &Saturation,
+    expression: ExprId,
+    number: u32,
+) -> bool
+    ensures { IsTrue result ↔ SomeFact saturation.now.state.facts (λ fact. Answers ontology.now (asked.Above expression) fact number) }
+{
+    ontology.well_formed();
+    match ontology.class_expr(ClassId(number)) {
+        Some(above) => is_put(saturation, expression, above),
+        None => false,
+    }
+}
+
+/// Whether a fact puts the class of that number in the expression or in `owl:Nothing`.
+fn is_found_below(
+    ontology: &Ontology,
+    saturation: &Saturation,
+    expression: ExprId,
+    number: u32,
+) -> bool
+    ensures { IsTrue result ↔ SomeFact saturation.now.state.facts (λ fact. Answers ontology.now (asked.Below expression) fact number) }
+{
+    ontology.well_formed();
+    match ontology.class_expr(ClassId(number)) {
+        Some(below) => is_put(saturation, below, expression) || is_empty(saturation, below),
+        None => false,
+    }
+}
+
+/// Whether a fact puts the individual of that number in the expression.
+fn is_found_member(saturation: &Saturation, expression: ExprId, number: u32) -> bool
+    ensures { IsTrue result ↔ SomeFact saturation.now.state.facts (λ fact. PutsIndividual fact number expression.0) }
+{
+    let wanted = Fact::In(Class2::Expr(expression), Context::Individual(IndId(number)));
+    saturation.find(wanted).is_some()
+}
+
+/// Whether a fact answers the question with the number.
+fn is_found(ontology: &Ontology, saturation: &Saturation, question: Question, number: u32) -> bool
+    ensures { IsTrue result ↔ SomeFact saturation.now.state.facts (λ fact. Answers ontology.now question fact number) }
+{
+    match question {
+        Question::Above(expression) => is_found_above(ontology, saturation, expression, number),
+        Question::Below(expression) => is_found_below(ontology, saturation, expression, number),
+        Question::Members(expression) => is_found_member(saturation, expression, number),
+    }
+}
+
+/// Whether every number answers the question, or a fact answers it with this one.
+fn is_answer(
+    ontology: &Ontology,
+    saturation: &Saturation,
+    question: Question,
+    every: bool,
+    number: u32,
+) -> bool
+    ensures { IsTrue result ↔ ((every ≡ true) ⊎ SomeFact saturation.now.state.facts (λ fact. Answers ontology.now question fact number)) }
+{
+    every || is_found(ontology, saturation, question, number)
+}
+
+/// Marks on those of the marked numbers that a fact answers with, or on each of them.
+fn found_among(
+    alloc: Global,
+    ontology: &Ontology,
+    saturation: &Saturation,
+    question: Question,
+    every: bool,
+    marks: &[bool],
+) -> Result<Vec<bool>, Memory>
+    requires { length marks.now ≤ 2 ^ 32 }
+    ensures long { IfOk result (λ v. length v.items ≡ length marks.now) }
+    ensures exact { IfOk result (λ v. (n : ℕ) → n < length marks.now →
+        IsMarked v.items n ↔ (IsMarked marks.now n × ((every ≡ true) ⊎ SomeFact saturation.now.state.facts (λ fact. Answers ontology.now question fact n)))) }
+{
+    let mut found = Vec::new(alloc);
+    for n in 0..marks.len() {
+        found.push(marks[n] && is_answer(ontology, saturation, question, every, n as u32))?;
+    }
+    Ok(found)
+}
+
+/// So many marks: on each number, or on those that a fact answers with.
+fn marks_found(
+    alloc: Global,
+    ontology: &Ontology,
+    saturation: &Saturation,
+    question: Question,
+    every: bool,
+    size: usize,
+) -> Result<Vec<bool>, Memory>
+    requires { size ≤ 2 ^ 32 }
+    ensures { IfOk result (λ v. AreMarks (Answers ontology.now question) saturation.now.state.facts every size v.items) }
+{
+    let all = vec![in alloc; true; size]?;
+    found_among(alloc, ontology, saturation, question, every, &all)
+}
+
+/// Marks on those of the marked classes that answer which classes lie below the expression.
+///
+/// # Errors
+///
+/// `Memory` where memory was refused.
+pub(crate) fn below_among(
+    alloc: Global,
+    ontology: &Ontology,
+    saturation: &Saturation,
+    expression: ExprId,
+    marks: &[bool],
+) -> Result<Vec<bool>, Memory>
+    requires saturated { IsSaturated ontology.now saturation.now }
+    requires long { length marks.now ≡ length ontology.now.names.classes }
+    ensures long { IfOk result (λ v. length v.items ≡ length marks.now) }
+    ensures exact { IfOk result (λ v. (n : ℕ) → IsMarked marks.now n →
+        IsMarked v.items n ↔ (IsEvery ontology.now saturation.now (asked.Below expression) ⊎ SomeFact saturation.now.state.facts (λ fact. Answers ontology.now (asked.Below expression) fact n))) }
+{
+    ontology.bounded();
+    let question = Question::Below(expression);
+    let every = is_every(ontology, saturation, question);
+    found_among(alloc, ontology, saturation, question, every, marks)
+}
+
+// ---- by what costs less
+
+/// So many facts are gone over at the cost of looking for one, about.
+const FACTS_A_SEARCH: usize = 16;
+
+/// Whether looking for each of so many names costs less than going over all facts.
+fn are_few(saturation: &Saturation, names: usize) -> bool
+    ensures { IsTrue result → names ≤ 2 ^ 32 }
+{
+    saturation.can_grow()
+        && names <= u32::MAX as usize
+        && names < saturation.facts().len() / FACTS_A_SEARCH
+}
+
 /// Marks on the numbers that answer the question.
 ///
 /// # Errors
@@ -234,68 +375,9 @@ pub(crate) fn marks_of(
     let facts = saturation.facts();
     match asked_facts(saturation, question) {
         Some(numbers) => marked_among(alloc, ontology, facts, numbers, question, every, size),
+        None if are_few(saturation, size) => {
+            marks_found(alloc, ontology, saturation, question, every, size)
+        }
         None => marked_by(alloc, ontology, facts, question, every, size),
     }
-}
-
-/// Whether a fact puts the class below the expression or below `owl:Nothing`, or it is every class that is an answer.
-fn is_below(
-    ontology: &Ontology,
-    saturation: &Saturation,
-    expression: ExprId,
-    every: bool,
-    class: usize,
-) -> bool
-    requires { class < length ontology.now.names.classes }
-    ensures { IsTrue result ↔ ((every ≡ true) ⊎ SomeFact saturation.now.state.facts (λ fact. Answers ontology.now (asked.Below expression) fact class)) }
-{
-    ontology.well_formed();
-    ontology.bounded();
-    let Some(below) = ontology.class_expr(ClassId(class as u32)) else {
-        unreachable!()
-    };
-    every || is_put(saturation, below, expression) || is_empty(saturation, below)
-}
-
-/// Marks on those of the marked classes that a fact puts below the expression or below `owl:Nothing`, or on each of them.
-fn found_below(
-    alloc: Global,
-    ontology: &Ontology,
-    saturation: &Saturation,
-    marks: &[bool],
-    expression: ExprId,
-    every: bool,
-) -> Result<Vec<bool>, Memory>
-    requires { length marks.now ≡ length ontology.now.names.classes }
-    ensures long { IfOk result (λ v. length v.items ≡ length marks.now) }
-    ensures exact { IfOk result (λ v. (n : ℕ) → IsMarked marks.now n →
-        IsMarked v.items n ↔ ((every ≡ true) ⊎ SomeFact saturation.now.state.facts (λ fact. Answers ontology.now (asked.Below expression) fact n))) }
-{
-    let mut found = Vec::new(alloc);
-    for n in 0..marks.len() {
-        found.push(marks[n] && is_below(ontology, saturation, expression, every, n))?;
-    }
-    Ok(found)
-}
-
-/// Marks on those of the marked classes that answer which classes lie below the expression, each of which is looked for.
-///
-/// # Errors
-///
-/// `Memory` where memory was refused.
-pub(crate) fn marks_found(
-    alloc: Global,
-    ontology: &Ontology,
-    saturation: &Saturation,
-    marks: &[bool],
-    expression: ExprId,
-) -> Result<Vec<bool>, Memory>
-    requires saturated { IsSaturated ontology.now saturation.now }
-    requires long { length marks.now ≡ length ontology.now.names.classes }
-    ensures long { IfOk result (λ v. length v.items ≡ length marks.now) }
-    ensures exact { IfOk result (λ v. (n : ℕ) → IsMarked marks.now n →
-        IsMarked v.items n ↔ (IsEvery ontology.now saturation.now (asked.Below expression) ⊎ SomeFact saturation.now.state.facts (λ fact. Answers ontology.now (asked.Below expression) fact n))) }
-{
-    let every = is_every(ontology, saturation, Question::Below(expression));
-    found_below(alloc, ontology, saturation, marks, expression, every)
 }

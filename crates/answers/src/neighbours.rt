@@ -12,7 +12,7 @@ ghost use Rattle.std.specs.Prelude.{◌↔◌, ◌≡◌, Contains, IfOk, IfSome
 
 use crate::groups::groups_of;
 use crate::lists_above::lists_above;
-use crate::marks::{apart, both, has_mark, marks_found, marks_of};
+use crate::marks::{apart, below_among, both, has_mark, marks_of};
 use crate::named::class_named;
 use crate::names::names_in_order;
 use crate::nearest::{Side, far_marks};
@@ -54,7 +54,7 @@ fn marks_below(
 {
     ontology.well_formed();
     if saturation.can_grow() {
-        marks_found(alloc, ontology, saturation, marks, expression)
+        below_among(alloc, ontology, saturation, expression, marks)
     } else {
         class_marks(alloc, ontology, saturation, Question::Below(expression))
     }

@@ -9,9 +9,9 @@ use Rattle.answers.proofs.neighbours.marks_below.Goals as goal
 pub returns-then-can_grow : goal.returns-then-can_grow
 returns-then-can_grow c =
     let o = c.args.ontology.now in
-    ok_both _ _ _ c.marks_found.result
+    ok_both _ _ _ c.below_among.result
     (λ v long exact. among_follow o c.well_formed-2.ensures c.args.saturation.now c.requires.saturated c.args.expression c.requires.root c.args.marks.now v.items c.requires.long long exact)
-    c.marks_found.ensures.long c.marks_found.ensures.exact
+    c.below_among.ensures.long c.below_among.ensures.exact
 
 pub returns-else-can_grow : goal.returns-else-can_grow
 returns-else-can_grow c =
