@@ -149,8 +149,8 @@ fn lists_by_context(
 
 // ---- either way
 
-/// For each class the list of the classes that a fact puts above it, where it is marked: at the cost of what is found, or of all facts
-/// where those of a context are not listed.
+/// For each class the list of the classes that a fact puts above it, where it is marked: by the facts of the marked classes' contexts,
+/// or by all facts where those of a context are not listed.
 ///
 /// # Errors
 ///
