@@ -347,10 +347,10 @@ pub(crate) fn below_among(
 // ---- by what costs less
 
 /// So many facts are gone over at the cost of looking for one, about.
-const FACTS_A_SEARCH: usize = 16;
+const FACTS_A_SEARCH: usize = 128;
 
 /// Whether looking for each of so many names costs less than going over all facts.
-fn are_few(saturation: &Saturation, names: usize) -> bool
+pub(crate) fn are_few(saturation: &Saturation, names: usize) -> bool
     ensures { IsTrue result → names ≤ 2 ^ 32 }
 {
     saturation.can_grow()

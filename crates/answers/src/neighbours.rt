@@ -12,7 +12,7 @@ ghost use Rattle.std.specs.Prelude.{◌↔◌, ◌≡◌, Contains, IfOk, IfSome
 
 use crate::groups::groups_of;
 use crate::lists_above::lists_above;
-use crate::marks::{apart, below_among, both, has_mark, marks_of};
+use crate::marks::{apart, are_few, below_among, both, has_mark, marks_of};
 use crate::named::class_named;
 use crate::names::names_in_order;
 use crate::nearest::{Side, far_marks};
@@ -38,8 +38,7 @@ fn class_marks(
     marks_of(alloc, ontology, saturation, question, size)
 }
 
-/// Of the marked classes, marks on those that lie below the expression: where facts are found without going over all, each is looked
-/// for.
+/// Of the marked classes, marks on those that lie below the expression: where they are few, each is looked for.
 fn marks_below(
     alloc: Global,
     ontology: &Ontology,
@@ -53,7 +52,8 @@ fn marks_below(
     ensures { IfOk result (λ v. AreMarksAmong marks.now ontology.now.names.classes (FollowsFor ontology.now (asked.Below expression)) v.items) }
 {
     ontology.well_formed();
-    if saturation.can_grow() {
+    let marked = marks.iter().filter(|mark| **mark).count();
+    if are_few(saturation, marked) {
         below_among(alloc, ontology, saturation, expression, marks)
     } else {
         class_marks(alloc, ontology, saturation, Question::Below(expression))
