@@ -1,16 +1,19 @@
 -- What facts over numbers say of contexts.
-use Rattle.std.proofs.Common.{◌≡◌, ◌↔◌, ℕ, Bool, true, false, not, ◌&&◌, List, Contains, refl, ap, ap₂, sym, subst}
+use Rattle.std.proofs.Common.{◌≡◌, ◌↔◌, ℕ, Bool, true, false, not, ◌&&◌, List, Contains, refl, ap, ap₂, sym, ◌∙◌, subst}
 use Rattle.axioms.specs.Ontology.{Ontology, thing}
 use Rattle.axioms.specs.WellFormedness.{IsOntology}
 use Rattle.axioms.specs.declared.ids.ExprId.{ExprId}
+use Rattle.axioms.specs.declared.ids.PropId.{PropId}
 use Rattle.facts.specs.declared.contexts.Context as code
 use Rattle.facts.specs.declared.contexts.Context.TheVariants.{Expr, Individual as Individual2}
 use Rattle.facts.specs.declared.contexts.Fact as code_fact
 use Rattle.facts.specs.declared.contexts.Fact.TheVariants as facts
 use Rattle.normal_forms.specs.declared.forms.Class2.TheVariants as classes
-use Rattle.normal_forms.specs.Forms.{Whole}
-use Rattle.closure.specs.Closure.{Context, Expression, Individual, Fact, In, IsFact}
-use Rattle.closure.specs.Denotations.{Prefixes, whole, SaysContext, expression, individual, SaysFact, in_context, context_of}
+use Rattle.normal_forms.specs.declared.forms.PropId2.TheVariants as properties
+use Rattle.normal_forms.specs.Forms.{Whole, Property}
+use Rattle.closure.specs.Closure.{Context, Expression, Individual, Fact, In, Edge, IsFact}
+use Rattle.closure.specs.Denotations.{Prefixes, whole, property, SaysContext, expression, individual, SaysFact, in_context, edge, context_of}
+use Rattle.closure.proofs.Names.{prop_id}
 use Rattle.exactness.specs.ListedInterpretation.{IsSatisfiable}
 use Rattle.engine.specs.Saturations.{SayTheClosure}
 use Rattle.countermodel.specs.Sets.{IsWithin, holds, admits}
@@ -49,11 +52,28 @@ said_context : {x : code.Context} {y : Context} → SaysContext x y → x ≡ co
 said_context (expression h) = ap (λ n. Expr (record { 0 = n })) h
 said_context (individual h) = ap (λ n. Individual2 (record { 0 = n })) h
 
+said_itself : {x y : code.Context} → SaysContext x (context_of y) → x ≡ y
+said_itself {x = x} {y = y} s = said_context s ∙ same y
+  where
+    same : (y : code.Context) → code_of (context_of y) ≡ y
+    same (Expr e) = refl
+    same (Individual2 a) = refl
+
 fact_of_whole : {b : Prefixes} {class : ExprId} {x : code.Context} {g : Fact} → SaysFact b (facts.In (classes.Expr class) x) g → g ≡ In (Whole class.0) (context_of x)
 fact_of_whole (in_context (whole h) s) = ap₂ (λ c y. In (Whole c) y) (sym h) (context_said s)
 
 whole_of_fact : {b : Prefixes} {f : code_fact.Fact} {e : ℕ} {y : Context} → SaysFact b f (In (Whole e) y) → f ≡ facts.In (classes.Expr (record { 0 = e })) (code_of y)
 whole_of_fact (in_context (whole h) s) = ap₂ (λ n z. facts.In (classes.Expr (record { 0 = n })) z) h (said_context s)
+
+fact_of_edge : {b : Prefixes} {x y : code.Context} {q : PropId} {g : Fact} → SaysFact b (facts.Edge x (properties.Property q) y) g → g ≡ Edge (context_of x) (Property q.0) (context_of y)
+fact_of_edge (edge s (property h) t) = let source = context_said s in let target = context_said t in cc (source, h, target)
+
+edge_of_fact : {b : Prefixes} {f : code_fact.Fact} {x y : code.Context} {q : PropId} → SaysFact b f (Edge (context_of x) (Property q.0) (context_of y)) → f ≡ facts.Edge x (properties.Property q) y
+edge_of_fact {x = x} {y = y} {q = q} (edge {x = u} {y = v} s (property {p = p} h) t) =
+    let source : u ≡ x = said_itself s in
+    let target : v ≡ y = said_itself t in
+    let same : p ≡ q = ap prop_id h in
+    cc (source, same, target)
 
 module _ (o : Ontology) (asked : List ℕ) (b : Prefixes) (list : List code_fact.Fact) (says : SayTheClosure o asked b list) where
   -- whole classes in contexts are said as they are
@@ -65,6 +85,17 @@ module _ (o : Ontology) (asked : List ℕ) (b : Prefixes) (list : List code_fact
     λ f.
         let (g, there, s) = says.all (In (Whole class.0) x) f in
         subst (Contains list) (whole_of_fact s) there,
+  )
+
+  -- edges of properties are said as they are
+  pub edge_said : (x : code.Context) (q : PropId) (y : code.Context) → Contains list (facts.Edge x (properties.Property q) y) ↔ IsFact o asked (Edge (context_of x) (Property q.0) (context_of y))
+  edge_said x q y = (
+    λ there.
+        let (g, s, f) = says.each (facts.Edge x (properties.Property q) y) there in
+        subst (IsFact o asked) (fact_of_edge s) f,
+    λ f.
+        let (g, there, s) = says.all (Edge (context_of x) (Property q.0) (context_of y)) f in
+        subst (Contains list) (edge_of_fact s) there,
   )
 
   -- a set that is marked by the facts of the class holds the contexts with it

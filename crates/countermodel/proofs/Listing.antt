@@ -15,7 +15,7 @@ use Rattle.closure.specs.Closure.{Context, Expression, Individual}
 use Rattle.exactness.specs.ListedInterpretation.{IsBefore, IsSatisfiable, Leads, AreSatisfiableContexts}
 use Rattle.closure.specs.Denotations.{context_of}
 use Rattle.countermodel.specs.Elements.{contexts_of}
-use Rattle.countermodel.specs.ContextLists.{AreBefore, PlacesExpressions, PlacesIndividuals, place_in}
+use Rattle.countermodel.specs.ContextLists.{AreAll, AreBefore, PlacesExpressions, PlacesIndividuals, place_in}
 
 -- ---- contexts of the code and of the definitions
 
@@ -188,17 +188,26 @@ expressions_done P Q n xs are same within = record {
     all (Individual a) q l = absurd (omega arith)
 
 -- after all individuals
-pub contexts_done : (P : Context → Type 0) (n : ℕ) (xs : List Context) (o : Ontology) (asked : List ℕ) → AreBefore P (Individual n) xs → ((x : Context) → P x ↔ (IsSatisfiable o asked x × Leads o asked x)) → ((a : ℕ) → P (Individual a) → a < n) → AreSatisfiableContexts o asked xs
-contexts_done P n xs o asked are is within = record {
-  ascend = are.ascend;
-  satisfiable = λ m x h. ((is x).0 (are.pass m x h)).0;
-  leads = λ m x h. ((is x).0 (are.pass m x h)).1;
-  listed = λ x s l. (let p = (is x).1 (s, l) in are.all x p (earlier x p));
-}
+pub all_done : (P : Context → Type 0) (n : ℕ) (xs : List Context) → AreBefore P (Individual n) xs → ((a : ℕ) → P (Individual a) → a < n) → AreAll P xs
+all_done P n xs are within = record { ascend = are.ascend; pass = are.pass; all = λ x p. are.all x p (earlier x p) }
   where
     earlier : (x : Context) → P x → IsBefore x (Individual n)
     earlier (Expression e) p = tt
     earlier (Individual a) p = within a p
+
+pub all_same : (P Q : Context → Type 0) (xs : List Context) → ((x : Context) → P x ↔ Q x) → AreAll P xs → AreAll Q xs
+all_same P Q xs is are = record { ascend = are.ascend; pass = λ m x h. (is x).0 (are.pass m x h); all = λ x q. are.all x ((is x).1 q) }
+
+pub are_satisfiable : (P : Context → Type 0) (xs : List Context) (o : Ontology) (asked : List ℕ) → AreAll P xs → ((x : Context) → P x ↔ (IsSatisfiable o asked x × Leads o asked x)) → AreSatisfiableContexts o asked xs
+are_satisfiable P xs o asked are is = record {
+  ascend = are.ascend;
+  satisfiable = λ m x h. ((is x).0 (are.pass m x h)).0;
+  leads = λ m x h. ((is x).0 (are.pass m x h)).1;
+  listed = λ x s l. are.all x ((is x).1 (s, l));
+}
+
+pub contexts_done : (P : Context → Type 0) (n : ℕ) (xs : List Context) (o : Ontology) (asked : List ℕ) → AreBefore P (Individual n) xs → ((x : Context) → P x ↔ (IsSatisfiable o asked x × Leads o asked x)) → ((a : ℕ) → P (Individual a) → a < n) → AreSatisfiableContexts o asked xs
+contexts_done P n xs o asked are is within = are_satisfiable P xs o asked (all_done P n xs are within) is
 
 -- ---- what the tables say
 

@@ -1,5 +1,5 @@
 -- What a set of contexts holds after one more was put into it.
-use Rattle.std.proofs.Common.{◌≡◌, ◌↔◌, ℕ, ◌+◌, ◌<◌, ◌≤◌, ◌⊎◌, inl, inr, true, false, List, length, replicate, slice_get, get_or, Some, Contains, sym, ap, ◌∙◌, subst, arith, below_more}
+use Rattle.std.proofs.Common.{◌≡◌, ◌↔◌, ℕ, ◌+◌, ◌<◌, ◌≤◌, ◌⊎◌, inl, inr, Bool, true, false, not, ◌&&◌, List, length, replicate, slice_get, get_or, Some, Contains, refl, sym, ap, ◌∙◌, subst, arith, below_more}
 use Rattle.std.proofs.lemmas.List.{length-set, length-replicate}
 use Rattle.std.proofs.lemmas.Bool.{both_ways}
 use Rattle.std.proofs.lemmas.Option.{same_Some, slice_get-get_or, slice_get_within}
@@ -15,12 +15,7 @@ use Rattle.closure.specs.Closure.{Context, Expression, Individual}
 use Rattle.number_sets.proofs.Members.{has_none, has_set_same, has_set_grows, has_set_cases}
 use Rattle.countermodel.specs.declared.context_set.ContextSet.{ContextSet}
 use Rattle.closure.specs.Denotations.{context_of}
-use Rattle.countermodel.specs.Sets.{holds, with_context, IsWithin}
-
--- the set has room for the contexts of the ontology
-pub record HasRoom (o : Ontology) (s : ContextSet) : Type 0 where
-  pub expressions : length s.expressions ≡ length o.nodes
-  pub individuals : length s.individuals ≡ length o.names.individuals
+use Rattle.countermodel.specs.Sets.{admits, holds, with_context, HasRoom, IsWithin}
 
 put_room : (o : Ontology) (s : ContextSet) (x : code.Context) → HasRoom o s → HasRoom o (with_context s x)
 put_room o s (Expr e) r = record { expressions = length-set s.expressions e.0 true ∙ r.expressions; individuals = r.individuals }
@@ -48,6 +43,18 @@ no_contexts m n = record { expressions = replicate m false; individuals = replic
 holds_none : (m n : ℕ) (x : Context) → holds (no_contexts m n) x ≡ true → ⊥
 holds_none m n (Expression e) h = both_ways (holds (no_contexts m n) (Expression e)) (has_none m e) h
 holds_none m n (Individual a) h = both_ways (holds (no_contexts m n) (Individual a)) (has_none n a) h
+
+and_yes : (a b : Bool) → b ≡ false → (a && not b) ≡ a
+and_yes true b off = ap not off
+and_yes false b off = refl
+
+-- where no context has owl:Nothing, those that are admitted are all
+pub admits_only : (s none : ContextSet) → none ≡ no_contexts 0 0 → (x : Context) → admits (record { things = s; nothings = none }) x ≡ holds s x
+admits_only s none is x = and_yes (holds s x) (holds none x) (ap (λ (t : ContextSet). holds t x) is ∙ never x)
+  where
+    never : (x : Context) → holds (no_contexts 0 0) x ≡ false
+    never (Expression e) = has_none 0 e
+    never (Individual a) = has_none 0 a
 
 context_in : Fact → code.Context → code.Context
 context_in (In a x) d = x

@@ -16,6 +16,12 @@ pub record AreBefore (P : Context → Type 0) (bound : Context) (xs : List Conte
   pub pass : (m : ℕ) (x : Context) → slice_get xs m ≡ Some x → P x
   pub all : (x : Context) → P x → IsBefore x bound → (m : ℕ) × (slice_get xs m ≡ Some x)
 
+-- exactly those of which P holds, in order
+pub record AreAll (P : Context → Type 0) (xs : List Context) : Type 0 where
+  pub ascend : AllPairs IsBefore xs
+  pub pass : (m : ℕ) (x : Context) → slice_get xs m ≡ Some x → P x
+  pub all : (x : Context) → P x → (m : ℕ) × (slice_get xs m ≡ Some x)
+
 -- the table has the place of each expression of the list
 abbrev pub PlacesExpressions : List code.Context → List ℕ → Type 0
 PlacesExpressions xs places = (m : ℕ) (e : ExprId) → slice_get xs m ≡ Some (Expr e) → slice_get places e.0 ≡ Some m

@@ -1,5 +1,5 @@
 -- The members of classes in the interpretation that a closure lists, its individuals and its claims.
-use Rattle.std.specs.Prelude.{◌≡◌, ◌↔◌, ◌≤◌, ℕ, List, length, map, slice_get, Some}
+use Rattle.std.specs.Prelude.{◌≡◌, ◌↔◌, ◌<◌, ◌≤◌, ℕ, List, length, map, slice_get, Some}
 use Rattle.std.specs.List.{All, Contains}
 use Rattle.axioms.specs.Ontology.{Ontology, IsClassAt}
 use Rattle.listed_model.specs.Listing.{elements_of}
@@ -13,6 +13,10 @@ pub record AreClassRows (o : Ontology) (asked : List ℕ) (elements : List Conte
   pub within : All (λ c. IsNamedClass o c.0 × (2 ≤ c.0) × AreElements (length elements) c.1) rows
   pub ascend : Ascends (map (λ c. c.0) rows)
   pub exact : (c e m : ℕ) (x : Context) → IsClassAt o c e → 2 ≤ e → slice_get elements m ≡ Some x → Contains (elements_of rows e) m ↔ IsFact o asked (In (Whole e) x)
+
+-- the least of each group of individuals is an element
+abbrev pub HaveIndividuals : Ontology → List Context → Type 0
+HaveIndividuals o elements = (a : ℕ) → a < length o.names.individuals → (m : ℕ) × (slice_get elements m ≡ Some (Individual (least_same o a)))
 
 -- the element of each individual: that of the least of its group
 pub record AreIndividualElements (o : Ontology) (elements : List Context) (numbers : List ℕ) : Type 0 where

@@ -24,6 +24,11 @@ admits s x = holds s.things x && not (holds s.nothings x)
 abbrev pub IsAdmitted : Satisfiable → Context → Type 0
 IsAdmitted s x = admits s x ≡ true
 
+-- the set has room for the contexts of the ontology
+pub record HasRoom (o : Ontology) (s : ContextSet) : Type 0 where
+  pub expressions : length s.expressions ≡ length o.nodes
+  pub individuals : length s.individuals ≡ length o.names.individuals
+
 -- the ontology has the expression or individual
 abbrev pub IsWithin : Ontology → Context → Type 0
 IsWithin o (Expression e) = e < length o.nodes

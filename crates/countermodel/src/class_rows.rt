@@ -1,7 +1,8 @@
 //! Rows of classes.
 ghost use Rattle.certificate.specs.View.{class_row_of};
-ghost use Rattle.exactness.specs.ListedInterpretation.{AreSatisfiableContexts, IsBefore};
+ghost use Rattle.exactness.specs.ListedInterpretation.{IsBefore};
 ghost use Rattle.engine.specs.Saturations.{IsSaturated};
+ghost use Rattle.countermodel.specs.FactsOf.{AreFactsOf};
 ghost use Rattle.countermodel.specs.Sinks.{Adds};
 ghost use Rattle.countermodel.specs.Members.{AreMembers, AreRowsOf, HasNoMember, IsMember, IsOwnClass};
 ghost use Rattle.countermodel.specs.MemberRows.{AreClassRows};
@@ -80,7 +81,8 @@ fn add_rows_of<S: RowSink<ClassRow>>(
     Ok(())
 }
 
-/// Adds a row for each class that has elements, but for `owl:Thing` and `owl:Nothing`, in order.
+/// Adds a row for each class that has elements, but for `owl:Thing` and `owl:Nothing`, in order. The facts are all of the saturation,
+/// or those of the elements' contexts.
 ///
 /// # Errors
 ///
@@ -90,13 +92,15 @@ pub(crate) fn add_class_rows<S: RowSink<ClassRow>>(
     ontology: &Ontology,
     saturation: &Saturation,
     elements: &Elements,
+    facts: &[StoredFact],
     rows: &mut S,
 ) -> Result<(), Memory>
     requires saturated { IsSaturated ontology.now saturation.now }
-    requires elements { AreSatisfiableContexts ontology.now saturation.now.normal.asked elements.now }
+    requires ascend { AllPairs IsBefore elements.now }
+    requires facts { AreFactsOf elements.now saturation.now.state.facts facts.now }
     ensures { OnOk result (Adds (λ rs. AreClassRows ontology.now saturation.now.normal.asked elements.now (map class_row_of rs)) (S.adds rows.old rows.new)) }
 {
     ontology.bounded();
-    let lists = members(alloc, ontology, elements, saturation.facts())?;
+    let lists = members(alloc, ontology, elements, facts)?;
     add_rows_of(alloc, &lists, rows)
 }

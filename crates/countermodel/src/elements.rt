@@ -1,11 +1,11 @@
 //! Contexts as elements.
-ghost use Rattle.closure.specs.Closure.{Expression as Expression2, Individual as Individual2};
+ghost use Rattle.closure.specs.Closure.{Context as Context2, Expression as Expression2, Individual as Individual2};
 ghost use Rattle.exactness.specs.ListedInterpretation.{AreSatisfiableContexts};
 ghost use Rattle.closure.specs.Denotations.{context_of};
 ghost use Rattle.countermodel.specs.Elements.{contexts_of};
-ghost use Rattle.countermodel.specs.ContextLists.{AreBefore, PlacesExpressions, PlacesIndividuals, place_in};
+ghost use Rattle.countermodel.specs.ContextLists.{AreAll, AreBefore, PlacesExpressions, PlacesIndividuals, place_in};
 ghost use Rattle.countermodel.specs.Leading.{AreGroupsOf, AreLinks, IsElementBy};
-ghost use Rattle.countermodel.specs.Sets.{IsAdmitted};
+ghost use Rattle.countermodel.specs.Sets.{IsAdmitted, IsWithin};
 ghost use Rattle.engine.specs.Saturations.{IsSaturated};
 ghost use Rattle.std.specs.Prelude.{◌≡◌, ◌<◌, ◌≤◌, ◌^◌, ◌↔◌, [], IfOk, IsTrue, MatchOption, OnOk, Some, List, length, slice_get, ℕ};
 
@@ -161,15 +161,29 @@ impl Elements {
         ensures { IfOk result (λ e. AreSatisfiableContexts ontology.now saturation.now.normal.asked e) }
     {
         ontology.well_formed();
-        ontology.bounded();
         let satisfiable = Satisfiable::of(alloc, ontology, saturation)?;
+        Elements::among(alloc, ontology, &satisfiable, groups)
+    }
+
+    // Those of these contexts that are the least where the individuals form these groups.
+    pub(crate) fn among(
+        alloc: Global,
+        ontology: &Ontology,
+        satisfiable: &Satisfiable,
+        groups: &Groups,
+    ) -> Result<Elements, Memory>
+        requires within { (x : Context2) → IsAdmitted satisfiable.now x → IsWithin ontology.now x }
+        requires groups { AreLinks groups.now }
+        ensures { IfOk result (AreAll (IsElementBy satisfiable.now groups.now)) }
+    {
+        ontology.bounded();
         let mut contexts = Vec::new(alloc);
         let mut expressions = Vec::new(alloc);
         let mut individuals = Vec::new(alloc);
         let many = ontology.expression_count();
-        list_expressions(&mut contexts, &mut expressions, &satisfiable, many)?;
+        list_expressions(&mut contexts, &mut expressions, satisfiable, many)?;
         let many = ontology.individuals().len();
-        list_individuals(&mut contexts, &mut individuals, &satisfiable, groups, many)?;
+        list_individuals(&mut contexts, &mut individuals, satisfiable, groups, many)?;
         count(&contexts)?;
         Ok(Elements {
             contexts,

@@ -1,7 +1,6 @@
 //! The elements of individuals.
 ghost use Rattle.countermodel.specs.Leading.{AreGroupsOf};
-ghost use Rattle.exactness.specs.ListedInterpretation.{AreSatisfiableContexts, IsConsistent};
-ghost use Rattle.countermodel.specs.MemberRows.{AreIndividualElements};
+ghost use Rattle.countermodel.specs.MemberRows.{AreIndividualElements, HaveIndividuals};
 ghost use Rattle.std.specs.Prelude.{IfOk, List, ℕ};
 
 use crate::elements::Elements;
@@ -17,7 +16,8 @@ pub(crate) fn individual_elements(
     groups: &Groups,
     elements: &Elements,
 ) -> Result<Vec<u32>, Memory>
-    requires { (asked : List ℕ) × AreGroupsOf ontology.now asked groups.now × AreSatisfiableContexts ontology.now asked elements.now × IsConsistent ontology.now asked }
+    requires groups { (asked : List ℕ) × AreGroupsOf ontology.now asked groups.now }
+    requires there { HaveIndividuals ontology.now elements.now }
     ensures { IfOk result (λ v. AreIndividualElements ontology.now elements.now v.items) }
 {
     ontology.bounded();

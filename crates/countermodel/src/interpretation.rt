@@ -35,7 +35,8 @@ pub fn listed(alloc: Global, ontology: &Ontology, saturation: &Saturation) -> Re
     let groups = groups_of(alloc, saturation)?;
     let elements = Elements::by(alloc, ontology, saturation, &groups)?;
     let mut classes = Vec::new(alloc);
-    add_class_rows(alloc, ontology, saturation, &elements, &mut classes)?;
+    let facts = saturation.facts();
+    add_class_rows(alloc, ontology, saturation, &elements, facts, &mut classes)?;
     let pairs = pair_rows(alloc, ontology, saturation, &elements)?;
     let individuals = individual_elements(alloc, ontology, &groups, &elements)?;
     let claims = own_claims(alloc, ontology, &elements)?;

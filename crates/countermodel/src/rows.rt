@@ -1,13 +1,14 @@
 //! Rows of pairs.
 ghost use Rattle.axioms.specs.WellFormedness.{AreDistinct};
 ghost use Rattle.certificate.specs.View.{pair_row_of};
-ghost use Rattle.exactness.specs.ListedInterpretation.{AreSatisfiableContexts};
+ghost use Rattle.exactness.specs.ListedInterpretation.{AreSatisfiableContexts, IsBefore};
 ghost use Rattle.engine.specs.Saturations.{IsSaturated};
 ghost use Rattle.countermodel.specs.Edges.{IsGiven};
+ghost use Rattle.countermodel.specs.FactsOf.{AreFactsOf};
 ghost use Rattle.countermodel.specs.PairRows.{ArePairRows};
 ghost use Rattle.countermodel.specs.Ranges.{AddsRange, HasRowsBelow, IsBelow};
 ghost use Rattle.countermodel.specs.Sinks.{Adds};
-ghost use Rattle.std.specs.Prelude.{IfOk, None, OnOk, map};
+ghost use Rattle.std.specs.Prelude.{AllPairs, IfOk, None, OnOk, map};
 
 use crate::cuts::cuts_of;
 use crate::edges::pairs_of;
@@ -72,7 +73,8 @@ fn add_ranges<S: RowSink<PairRow>>(
     add_range(alloc, closure, elements, facts, range, last, rows)
 }
 
-/// Adds a row for each property and each element that it leads anywhere from, with the elements there, in order.
+/// Adds a row for each property and each element that it leads anywhere from, with the elements there, in order. The facts are all of
+/// the saturation, or those of the elements' contexts.
 ///
 /// # Errors
 ///
@@ -82,15 +84,16 @@ pub(crate) fn add_pair_rows<S: RowSink<PairRow>>(
     ontology: &Ontology,
     saturation: &Saturation,
     elements: &Elements,
+    facts: &[StoredFact],
     rows: &mut S,
 ) -> Result<(), Memory>
     requires saturated { IsSaturated ontology.now saturation.now }
-    requires elements { AreSatisfiableContexts ontology.now saturation.now.normal.asked elements.now }
+    requires ascend { AllPairs IsBefore elements.now }
+    requires facts { AreFactsOf elements.now saturation.now.state.facts facts.now }
     ensures { OnOk result (Adds (λ rs. ArePairRows ontology.now saturation.now.normal.asked elements.now (map pair_row_of rs)) (S.adds rows.old rows.new)) }
 {
     ontology.well_formed();
     let closure = saturation.closure();
-    let facts = saturation.facts();
     let cuts = cuts_of(alloc, closure, elements, facts)?;
     match add_ranges(alloc, closure, elements, facts, &cuts, rows)? {
         None => Ok(()),
@@ -114,6 +117,7 @@ pub fn pair_rows(
     ensures { IfOk result (λ v. ArePairRows ontology.now saturation.now.normal.asked elements.now (map pair_row_of v.items)) }
 {
     let mut rows = Vec::new(alloc);
-    add_pair_rows(alloc, ontology, saturation, elements, &mut rows)?;
+    let facts = saturation.facts();
+    add_pair_rows(alloc, ontology, saturation, elements, facts, &mut rows)?;
     Ok(rows)
 }

@@ -69,6 +69,17 @@ impl Satisfiable {
         Ok(Satisfiable { things, nothings })
     }
 
+    /// These contexts alone, which are satisfiable.
+    pub(crate) fn only(alloc: Global, contexts: ContextSet) -> Result<Satisfiable, Memory>
+        ensures { IfOk result (λ s. (x : Context2) → admits s x ≡ holds contexts x) }
+    {
+        let nothings = ContextSet::new(alloc, 0, 0)?;
+        Ok(Satisfiable {
+            things: contexts,
+            nothings,
+        })
+    }
+
     /// Whether the context is satisfiable.
     pub(crate) fn contains(&self, context: Context) -> bool
         ensures { result ≡ admits self.now (context_of context) }

@@ -36,8 +36,9 @@ pub fn text_with_listed<F: FormatType>(
     let groups = groups_of(alloc, saturation)?;
     let elements = Elements::by(alloc, ontology, saturation, &groups)?;
     let mut text = lines.with_domain(elements.len())?;
-    add_class_rows(alloc, ontology, saturation, &elements, &mut text)?;
-    add_pair_rows(alloc, ontology, saturation, &elements, &mut text)?;
+    let facts = saturation.facts();
+    add_class_rows(alloc, ontology, saturation, &elements, facts, &mut text)?;
+    add_pair_rows(alloc, ontology, saturation, &elements, facts, &mut text)?;
     let individuals = individual_elements(alloc, ontology, &groups, &elements)?;
     let claims = own_claims(alloc, ontology, &elements)?;
     text.end(&individuals, &claims)

@@ -1,16 +1,17 @@
-use Rattle.std.proofs.Common.{map, subst, sym}
+use Rattle.std.proofs.Common.{map}
 use Rattle.certificate.specs.View.{class_row_of}
-use Rattle.engine.specs.Saturations.{SayTheClosure}
 use Rattle.normalise.specs.Problem.{prefixes_of}
 use Rattle.countermodel.proofs.MemberFacts.{rows_are}
+use Rattle.countermodel.proofs.PartFacts.{members_in}
 use Rattle.countermodel.proofs.Taken.{adds_weaker}
 use Rattle.countermodel.proofs.class_rows.add_class_rows.Goals as goal
 
 pub returns : goal.returns
 returns g c =
     let o = c.args.ontology.now in
-    let asked = c.args.saturation.now.normal.asked in
-    let b = prefixes_of c.args.saturation.now.normal in
+    let s = c.args.saturation.now in
+    let elements = c.args.elements.now in
+    let members = members_in elements s.state.facts c.args.facts.now c.requires.facts o c.in_ok-lists.lists c.in_ok-lists.ensures.members in
     adds_weaker c.add_rows_of.result _ _ _
-    (λ rows are. rows_are o asked b c.args.elements.now c.facts.result.now (subst (SayTheClosure o asked b) (sym c.facts.ensures) c.requires.saturated.facts) c.in_ok-lists.lists c.in_ok-lists.ensures.members (map class_row_of rows) are)
+    (λ rows are. rows_are o s.normal.asked (prefixes_of s.normal) elements s.state.facts c.requires.saturated.facts c.in_ok-lists.lists members (map class_row_of rows) are)
     c.add_rows_of.ensures

@@ -5,12 +5,20 @@ use Rattle.certificate.specs.View.{class_row_of, pair_row_of, claim_of}
 use Rattle.certificate.specs.declared.listed.ClassRow.{ClassRow}
 use Rattle.exactness.specs.Acceptance.{IsListedFor}
 use Rattle.countermodel.specs.MemberRows.{AreClassRows}
+use Rattle.countermodel.proofs.FirstIndividuals.{least_there}
 use Rattle.countermodel.proofs.Interpreted.{listed_for, listed_of, numbers_small}
+use Rattle.countermodel.proofs.PartFacts.{all_facts}
 use Rattle.countermodel.proofs.Taken.{all_taken}
 use Rattle.countermodel.proofs.interpretation.listed.Goals as goal
 
-pub individual_elements-requires : goal.individual_elements-requires
-individual_elements-requires c = (c.args.saturation.now.normal.asked, c.in_ok-groups.ensures c.args.ontology.now c.requires.saturated, c.in_ok-elements.ensures, c.requires.consistent)
+pub add_class_rows-requires-clause-facts : goal.add_class_rows-requires-clause-facts
+add_class_rows-requires-clause-facts c = all_facts c.in_ok-elements.elements c.args.saturation.now.state.facts c.facts-facts.result.now c.facts-facts.ensures
+
+pub individual_elements-requires-clause-groups : goal.individual_elements-requires-clause-groups
+individual_elements-requires-clause-groups c = (c.args.saturation.now.normal.asked, c.in_ok-groups.ensures c.args.ontology.now c.requires.saturated)
+
+pub individual_elements-requires-clause-there : goal.individual_elements-requires-clause-there
+individual_elements-requires-clause-there c = least_there c.args.ontology.now c.args.saturation.now.normal.asked c.in_ok-elements.elements c.in_ok-elements.ensures c.requires.consistent
 
 pub returns : goal.returns
 returns c =

@@ -1,4 +1,4 @@
-use Rattle.std.proofs.Common.{◌≡◌, ◌↔◌, List, Contains, None, map, sym, subst}
+use Rattle.std.proofs.Common.{◌↔◌, List, Contains, None, map, subst}
 use Rattle.std.proofs.lemmas.Result.{on_ok_weaker}
 use Rattle.axioms.specs.Ontology.{Ontology}
 use Rattle.axioms.specs.WellFormedness.{IsOntology}
@@ -11,28 +11,30 @@ use Rattle.inference.specs.PropertyClosures.{IsClosureOf}
 use Rattle.property_closure.specs.PropertyClosures.{Known}
 use Rattle.countermodel.specs.declared.pair.Pair.{Pair}
 use Rattle.countermodel.specs.Edges.{IsGiven}
+use Rattle.countermodel.specs.FactsOf.{AreFactsOf}
 use Rattle.countermodel.specs.PairRows.{ArePairRows}
 use Rattle.countermodel.specs.Pairs.{AreGrouped}
 use Rattle.countermodel.specs.Ranges.{HasRowsBelow}
 use Rattle.countermodel.specs.Sinks.{Adds}
 use Rattle.countermodel.proofs.GroupedRows.{with_the_last, without_last}
 use Rattle.countermodel.proofs.ListedPairs.{are_rows, one_place}
+use Rattle.countermodel.proofs.PartFacts.{given_in}
 use Rattle.countermodel.proofs.rows.add_pair_rows.Goals as goal
 
 pub cuts_of-requires : goal.cuts_of-requires
-cuts_of-requires g c = one_place c.args.elements.now c.requires.elements.ascend
+cuts_of-requires g c = one_place c.args.elements.now c.requires.ascend
 
 pub add_ranges-requires : goal.add_ranges-requires
-add_ranges-requires g c = one_place c.args.elements.now c.requires.elements.ascend
+add_ranges-requires g c = one_place c.args.elements.now c.requires.ascend
 
 -- rows of the pairs that the facts give are those of the listed interpretation
 all_rows : (o : Ontology) (s : Saturated) → IsSaturated o s → (k : Known) → IsClosureOf s.state.problem.forms k → (elements : List Context) → IsOntology o
-    → (facts : List Fact) → facts ≡ s.state.facts → (pairs : List Pair) → ((p : Pair) → Contains pairs p ↔ (IsGiven k elements facts p × Unit {0}))
+    → (facts : List Fact) → AreFactsOf elements s.state.facts facts → (pairs : List Pair) → ((p : Pair) → Contains pairs p ↔ (IsGiven k elements facts p × Unit {0}))
     → (took : List PairRow → Type 0) → Adds (λ rs. AreGrouped pairs (map pair_row_of rs)) took → Adds (λ rs. ArePairRows o s.normal.asked elements (map pair_row_of rs)) took
-all_rows o s saturated k closed elements ontology facts same pairs are took a =
+all_rows o s saturated k closed elements ontology facts of pairs are took a =
     let given : (p : Pair) → Contains pairs p ↔ IsGiven k elements s.state.facts p = λ p. (
-      λ c. subst (λ (fs : List Fact). IsGiven k elements fs p) same ((are p).0 c).0,
-      λ h. (are p).1 (subst (λ (fs : List Fact). IsGiven k elements fs p) (sym same) h, tt),
+      λ c. (given_in elements s.state.facts facts of k p).0 ((are p).0 c).0,
+      λ h. (are p).1 ((given_in elements s.state.facts facts of k p).1 h, tt),
     ) in
     record { rows = a.rows; are = are_rows o s saturated k closed elements ontology pairs (map pair_row_of a.rows) given a.are; added = a.added }
 
@@ -43,8 +45,8 @@ returns-in-None g c =
     let now = c.add_ranges.new.rows in
     let k = c.closure-closure.result.now in
     let elements = c.args.elements.now in
-    let h = subst (HasRowsBelow adds (IsGiven k elements c.facts-facts.result.now) start None now) c.in-None.is c.in_ok-add_ranges.ensures in
-    all_rows c.args.ontology.now c.args.saturation.now c.requires.saturated k c.closure-closure.ensures elements c.well_formed-2.ensures c.facts-facts.result.now c.facts-facts.ensures h.pairs h.are
+    let h = subst (HasRowsBelow adds (IsGiven k elements c.args.facts.now) start None now) c.in-None.is c.in_ok-add_ranges.ensures in
+    all_rows c.args.ontology.now c.args.saturation.now c.requires.saturated k c.closure-closure.ensures elements c.well_formed-2.ensures c.args.facts.now c.requires.facts h.pairs h.are
     (adds start now) (without_last adds start h.pairs now h.grouped)
 
 pub returns : goal.returns
@@ -55,8 +57,8 @@ returns g c =
     let new = c.add.new.self in
     let k = c.closure-closure.result.now in
     let elements = c.args.elements.now in
-    let h = subst (HasRowsBelow adds (IsGiven k elements c.facts-facts.result.now) start None old) c.in-Some.is c.in_ok-add_ranges.ensures in
+    let h = subst (HasRowsBelow adds (IsGiven k elements c.args.facts.now) start None old) c.in-Some.is c.in_ok-add_ranges.ensures in
     on_ok_weaker c.add.result
-    (λ takes. all_rows c.args.ontology.now c.args.saturation.now c.requires.saturated k c.closure-closure.ensures elements c.well_formed-2.ensures c.facts-facts.result.now c.facts-facts.ensures h.pairs h.are
+    (λ takes. all_rows c.args.ontology.now c.args.saturation.now c.requires.saturated k c.closure-closure.ensures elements c.well_formed-2.ensures c.args.facts.now c.requires.facts h.pairs h.are
     (adds start new) (with_the_last adds start h.pairs old new c.in-Some.row takes h.grouped))
     c.add.ensures

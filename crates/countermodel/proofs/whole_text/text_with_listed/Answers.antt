@@ -5,11 +5,22 @@ use Rattle.std.proofs.lemmas.Result.{IfOk-weaker}
 use Rattle.certificate.specs.Text.{individual_text, claim_text, text_to_domain}
 use Rattle.certificate.specs.View.{claim_of}
 use Rattle.certificate.specs.declared.listed.Claim.{Claim}
+use Rattle.countermodel.proofs.FirstIndividuals.{least_there}
+use Rattle.countermodel.proofs.PartFacts.{all_facts}
 use Rattle.countermodel.proofs.SpelledWhole.{whole_text}
 use Rattle.countermodel.proofs.whole_text.text_with_listed.Goals as goal
 
-pub individual_elements-requires : goal.individual_elements-requires
-individual_elements-requires g c = (c.args.saturation.now.normal.asked, c.in_ok-groups.ensures c.args.ontology.now c.requires.saturated, c.in_ok-elements.ensures, c.requires.consistent)
+pub add_class_rows-requires-clause-facts : goal.add_class_rows-requires-clause-facts
+add_class_rows-requires-clause-facts g c = all_facts c.in_ok-elements.elements c.args.saturation.now.state.facts c.facts-facts.result.now c.facts-facts.ensures
+
+pub add_pair_rows-requires-clause-facts : goal.add_pair_rows-requires-clause-facts
+add_pair_rows-requires-clause-facts g c = all_facts c.in_ok-elements.elements c.args.saturation.now.state.facts c.facts-facts.result.now c.facts-facts.ensures
+
+pub individual_elements-requires-clause-groups : goal.individual_elements-requires-clause-groups
+individual_elements-requires-clause-groups g c = (c.args.saturation.now.normal.asked, c.in_ok-groups.ensures c.args.ontology.now c.requires.saturated)
+
+pub individual_elements-requires-clause-there : goal.individual_elements-requires-clause-there
+individual_elements-requires-clause-there g c = least_there c.args.ontology.now c.args.saturation.now.normal.asked c.in_ok-elements.elements c.in_ok-elements.ensures c.requires.consistent
 
 pub returns : goal.returns
 returns g c =

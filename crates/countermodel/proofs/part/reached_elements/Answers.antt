@@ -1,0 +1,39 @@
+use Rattle.std.proofs.Common.{sym, ◌∙◌}
+use Rattle.std.proofs.lemmas.Result.{IfOk-weaker}
+use Rattle.closure.specs.Denotations.{context_of}
+use Rattle.countermodel.specs.Leading.{IsElementBy}
+use Rattle.countermodel.specs.Reached.{IsReachedFrom}
+use Rattle.countermodel.proofs.Facts.{satisfiable_within}
+use Rattle.countermodel.proofs.Leading.{leads_by}
+use Rattle.countermodel.proofs.Listing.{all_same}
+use Rattle.countermodel.proofs.PartListed.{reached_has}
+use Rattle.countermodel.proofs.part.reached_elements.Goals as goal
+
+pub reached_from-requires-clause-within : goal.reached_from-requires-clause-within
+reached_from-requires-clause-within c =
+    satisfiable_within c.args.ontology.now c.args.saturation.now.normal.asked c.well_formed-2.ensures (context_of c.args.from) c.requires.satisfiable
+
+pub among-requires-clause-within : goal.among-requires-clause-within
+among-requires-clause-within c = λ x admitted.
+    let o = c.args.ontology.now in
+    let asked = c.args.saturation.now.normal.asked in
+    let reached = (c.in_ok-reached.ensures x).0 (sym (c.in_ok-satisfiable.ensures x) ∙ admitted) in
+    satisfiable_within o asked c.well_formed-2.ensures x (reached_has o asked c.requires.consistent (context_of c.args.from) c.requires.satisfiable c.requires.leads x reached).0
+
+pub returns : goal.returns
+returns c =
+    let o = c.args.ontology.now in
+    let asked = c.args.saturation.now.normal.asked in
+    let from = context_of c.args.from in
+    let groups = c.args.groups.now in
+    let leads = leads_by o asked groups c.requires.groups in
+    IfOk-weaker c.among.result _ _
+    (λ e are. all_same (IsElementBy c.in_ok-satisfiable.satisfiable groups) (IsReachedFrom o asked from) e
+    (λ x. (
+      λ h. (c.in_ok-reached.ensures x).0 (sym (c.in_ok-satisfiable.ensures x) ∙ h.0),
+      λ h. (
+        c.in_ok-satisfiable.ensures x ∙ (c.in_ok-reached.ensures x).1 h,
+        (leads x).1 (reached_has o asked c.requires.consistent from c.requires.satisfiable c.requires.leads x h).1,
+      ),
+    )) are)
+    c.among.ensures
