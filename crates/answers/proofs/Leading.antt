@@ -8,7 +8,7 @@ use Rattle.closure.proofs.Facts as fact
 use Rattle.closure.proofs.Groups.{turned, same_as_least, is_least, least_unique}
 use Rattle.exactness.specs.ListedInterpretation.{Leads}
 use Rattle.normal_forms.specs.Forms.{Class2}
-use Rattle.answers.specs.Explanations.{leader}
+use Rattle.countermodel.specs.Elements.{leader}
 use Rattle.answers.proofs.Deciding.{Decided}
 
 module _ (o : Ontology) (asked : List ℕ) where

@@ -23,3 +23,4 @@ pub mod Grouping
 pub mod ListedBelow
 pub mod NamedSides
 pub mod NearestNames
+pub mod Parting

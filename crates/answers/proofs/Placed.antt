@@ -23,7 +23,7 @@ use Rattle.interpretation_spec.specs.Interpretation.{Interpretation, IsModel}
 use Rattle.interpretation_spec.specs.NumberedInterpretation.{NumberedInterpretation, IsMadeFor}
 use Rattle.listed_model.specs.Interpretations.{listed_interpretation}
 use Rattle.listed_model.proofs.Interpreted.{listing_is, interpretation_is}
-use Rattle.answers.specs.Explanations.{leader}
+use Rattle.countermodel.specs.Elements.{leader}
 use Rattle.answers.specs.Findings.{IsElementOf, IsPartFor}
 use Rattle.answers.proofs.Leading.{leader_itself}
 

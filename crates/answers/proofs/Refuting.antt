@@ -20,7 +20,8 @@ use Rattle.interpretation_spec.specs.Interpretation.{Interpretation, IsInterpret
 use Rattle.interpretation_spec.specs.NumberedInterpretation.{NumberedInterpretation, IsNumberedInterpretation}
 use Rattle.interpretation_spec.proofs.Names.{stands_well, size_of}
 use Rattle.normal_forms.specs.Forms.{Whole}
-use Rattle.answers.specs.Explanations.{IsAbout, IsClassNamed, IsOf, Refutes, leader}
+use Rattle.answers.specs.Explanations.{IsAbout, IsClassNamed, IsOf, Refutes}
+use Rattle.countermodel.specs.Elements.{leader}
 use Rattle.answers.specs.Findings.{IsPartFor, IsRefutable}
 use Rattle.answers.specs.declared.asked.Asked.{Asked}
 use Rattle.answers.specs.declared.asked.Asked.TheVariants as asked

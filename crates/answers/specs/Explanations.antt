@@ -12,7 +12,7 @@ use Rattle.certificate.specs.Writability.{IsLineOf}
 use Rattle.certificate.specs.View.{lines_of}
 use Rattle.closure.specs.Closure.{Context, Expression}
 use Rattle.closure.specs.Closure as closure
-use Rattle.closure.specs.Groups.{least_same}
+use Rattle.countermodel.specs.Elements.{leader}
 use Rattle.exactness.specs.ListedInterpretation.{IsListedInterpretation}
 use Rattle.exactness.specs.Derivability.{subject_of}
 use Rattle.exactness.specs.Trimming.{EndsWith, EachServes}
@@ -52,11 +52,6 @@ IsAbout o (Class c) (Expression e) = IsClassNamed o c.now e
 IsAbout o (Class c) (closure.Individual a) = ⊥
 IsAbout o (Individual a) (Expression e) = ⊥
 IsAbout o (Individual a) (closure.Individual n) = slice_get o.names.individuals n ≡ Some a.now
-
--- the context that has the subject's element: of individuals that are one the least
-abbrev pub leader : Ontology → Context → Context
-leader o (Expression e) = Expression e
-leader o (closure.Individual a) = closure.Individual (least_same o a)
 
 -- ---- what is shown
 

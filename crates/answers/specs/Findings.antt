@@ -13,7 +13,8 @@ use Rattle.interpretation_spec.specs.NamedInterpretation.{interpretation_of}
 use Rattle.interpretation_spec.specs.Interpretation.{Interpretation, IsModel}
 use Rattle.interpretation_spec.specs.NumberedInterpretation.{NumberedInterpretation, IsMadeFor}
 use Rattle.normal_forms.specs.Forms.{Whole}
-use Rattle.answers.specs.Explanations.{Explains, IsAbout, IsClassNamed, leader}
+use Rattle.answers.specs.Explanations.{Explains, IsAbout, IsClassNamed}
+use Rattle.countermodel.specs.Elements.{leader}
 use Rattle.answers.specs.declared.asked.Asked.{Asked}
 use Rattle.answers.specs.declared.explanation.Explanation.{Explanation}
 

@@ -9,8 +9,9 @@ ghost use Rattle.answers.specs.Findings.{IsElementOf, IsPartFor};
 ghost use Rattle.std.specs.Prelude.{IfOk};
 
 use axioms::{Memory, Ontology};
+use cert_check::interpretation_of;
 use certificate::Listed;
-use countermodel::{Elements, listed};
+use countermodel::{Elements, listed, reached_part};
 use engine::Saturation;
 use facts::Context;
 use generated_part::listed_part;
@@ -58,8 +59,28 @@ fn element_of(
     }
 }
 
+/// The part of the interpretation that the closure lists, made from the members of the whole.
+fn part_of_whole(
+    alloc: Global,
+    ontology: &Ontology,
+    saturation: &Saturation,
+    context: Context,
+) -> Result<(Interpretation, usize), Memory>
+    requires saturated { IsSaturated ontology.now saturation.now }
+    requires consistent { IsConsistent ontology.now saturation.now.normal.asked }
+    requires satisfiable { IsSatisfiable ontology.now saturation.now.normal.asked (context_of context) }
+    ensures { IfOk result (λ part. IsPartFor ontology.now saturation.now.normal.asked (context_of context) part.0 part.1) }
+{
+    ontology.well_formed();
+    let whole = listed(alloc, ontology, saturation)?;
+    let from = element_of(alloc, ontology, saturation, &whole, context)?;
+    let part = listed_part(alloc, &whole, ontology, from as usize)?;
+    Ok(part)
+}
+
 /// The part of the interpretation that the closure lists that is reached from the context's own element and from the
-/// individuals, and the number of that element in it. It is made from the lists of members.
+/// individuals, and the number of that element in it. It is made from the lists of members: of those that are reached, where the
+/// saturation tells the facts of each context, and else of all.
 ///
 /// # Errors
 ///
@@ -76,8 +97,10 @@ pub(crate) fn part_for(
     ensures { IfOk result (λ part. IsPartFor ontology.now saturation.now.normal.asked (context_of context) part.0 part.1) }
 {
     ontology.well_formed();
-    let whole = listed(alloc, ontology, saturation)?;
-    let from = element_of(alloc, ontology, saturation, &whole, context)?;
-    let part = listed_part(alloc, &whole, ontology, from as usize)?;
-    Ok(part)
+    let Some((members, element)) = reached_part(alloc, ontology, saturation, context)? else {
+        return part_of_whole(alloc, ontology, saturation, context);
+    };
+    let part = interpretation_of(alloc, ontology, &members)?;
+    part.well_formed();
+    Ok((part, element as usize))
 }

@@ -24,6 +24,8 @@ mod queries;
 #[cfg(test)]
 mod questions_asked;
 #[cfg(test)]
+mod reached_parts;
+#[cfg(test)]
 mod refusals;
 #[cfg(test)]
 mod refused_memory;
