@@ -6,6 +6,8 @@ mod additions;
 #[cfg(test)]
 mod asked;
 #[cfg(test)]
+mod axiom_texts;
+#[cfg(test)]
 mod derivations;
 #[cfg(test)]
 mod documents;

@@ -4,6 +4,7 @@
 
 mod adding;
 mod answering;
+mod axiom;
 mod classes;
 mod classifying;
 mod edits;
