@@ -61,7 +61,7 @@ add_tells limits size payload old new t (Found answer) h told = absurd h
 add_tells limits size payload old new t (Written after answer) h told = absurd h
 
 -- what a command does
-does : (limits : Limits) (old new : Opened) (command : Command) (payload : List ℕ) (t : Told) → IsStep limits old command payload t new → Does old (told_added (Some command) t.status payload) new
+pub does : (limits : Limits) (old new : Opened) (command : Command) (payload : List ℕ) (t : Told) → IsStep limits old command payload t new → Does old (told_added (Some command) t.status payload) new
 does limits old new (asked.Add size) payload t (inl h) = Calls (Add payload) h.reply h.called (add_tells limits size payload old new t h.reply h.called h.answer)
 does limits old new (asked.Add size) payload t (inr (at, none, valid, said)) = Stays said.0 (refused limits size payload (reading.NotUtf8 at) t said.1)
 does limits old new asked.Run payload t h = Calls (calls.Resume limits.max_facts) h.reply h.called refl
@@ -79,10 +79,11 @@ does limits old new (asked.WhyIndividualReached subject class) payload t h = Cal
 does limits old new (asked.DotReached subject class) payload t h = Calls (calls.Explain (subjects.Class subject) class.now) h.reply h.called refl
 does limits old new (asked.Query size) payload t (inl h) = Calls (calls.Query payload limits.max_facts) h.reply h.called refl
 does limits old new (asked.Query size) payload t (inr (at, none, valid, said)) = Stays said.0 refl
+does limits old new (asked.Write paths) payload t (same, told) = Stays same refl
 does limits old new asked.Status payload t (same, told) = Stays same refl
 
 -- nothing was done
-unasked : (old mid new : Opened) (x : Exchange) (xs : List Exchange) → mid ≡ old → told_added x.command x.reply.status x.payload ≡ [] → AreCallsOf mid xs new → AreCallsOf old (x ∷ xs) new
+pub unasked : (old mid new : Opened) (x : Exchange) (xs : List Exchange) → mid ≡ old → told_added x.command x.reply.status x.payload ≡ [] → AreCallsOf mid xs new → AreCallsOf old (x ∷ xs) new
 unasked old mid new x xs same none h = record {
   calls = h.calls;
   answers = h.answers;
@@ -91,7 +92,7 @@ unasked old mid new x xs same none h = record {
 }
 
 -- one exchange before others
-before : (old mid new : Opened) (x : Exchange) (xs : List Exchange) → IsSession mid → Does old (told_added x.command x.reply.status x.payload) mid → AreCallsOf mid xs new → AreCallsOf old (x ∷ xs) new
+pub before : (old mid new : Opened) (x : Exchange) (xs : List Exchange) → IsSession mid → Does old (told_added x.command x.reply.status x.payload) mid → AreCallsOf mid xs new → AreCallsOf old (x ∷ xs) new
 before old mid new x xs session (Calls call reply is adds) h = record {
   calls = call ∷ h.calls;
   answers = reply ∷ h.answers;

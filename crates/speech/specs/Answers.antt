@@ -54,6 +54,10 @@ IsDoneWith (Err refused) t = ⊥
 abbrev pub unfinished : Told
 unfinished = told statuses.Usage (codes "not run to its end\n")
 
+-- that there are no files into which texts could be written
+abbrev pub unfiled : Told
+unfiled = told statuses.Usage (codes "no files are written here\n")
+
 -- the text and the status of the program where a question is not answered
 abbrev pub IsFaultTold : Limits → QuestionFault → Told → Type 0
 IsFaultTold limits fault t = IsQuestionText [] limits.max_bytes limits.max_facts fault t.text × (t.status ≡ question_status fault)
@@ -156,6 +160,7 @@ IsStep limits old (asked.WhyReached subject class) payload t new = IsCalled limi
 IsStep limits old (asked.WhyIndividualReached subject class) payload t new = IsCalled limits Reached (Explain (subjects.Individual subject) class.now) old t new
 IsStep limits old (asked.DotReached subject class) payload t new = IsCalled limits ReachedGraph (Explain (subjects.Class subject) class.now) old t new
 IsStep limits old (asked.Query size) payload t new = IsTextCalled limits (λ text. Query text limits.max_facts) payload old t new
+IsStep limits old (asked.Write paths) payload t new = IsSaid (λ t. t ≡ unfiled) old t new
 IsStep limits old asked.Status payload t new = IsSaid (λ t. t ≡ done (status_text old)) old t new
 
 -- the same of a session with its limits, which stay

@@ -4,7 +4,8 @@ use Rattle.std.specs.Fmt.{decimal}
 use Rattle.std.specs.List.{slice_split}
 use Rattle.std.specs.Str.{IsUtf8}
 use Rattle.speech.specs.declared.command.Command.{Command}
-use Rattle.speech.specs.declared.command.Command.TheVariants.{Add, Run, Supers, Subs, Equivalents, Parents, Children, Instances, Why, WhyIndividual, Dot, WhyReached, WhyIndividualReached, DotReached, Query, Status}
+use Rattle.speech.specs.declared.command.TextPaths.{TextPaths}
+use Rattle.speech.specs.declared.command.Command.TheVariants.{Add, Run, Supers, Subs, Equivalents, Parents, Children, Instances, Why, WhyIndividual, Dot, WhyReached, WhyIndividualReached, DotReached, Query, Write, Status}
 use Rattle.speech.specs.declared.line.LineFault.{LineFault}
 use Rattle.speech.specs.declared.line.LineFault.TheVariants as faults
 use Rattle.speech.specs.declared.words.Words.{Words}
@@ -31,6 +32,7 @@ words_of (WhyReached subject class) = codes "why" ∷ subject.now ∷ class.now 
 words_of (WhyIndividualReached subject class) = codes "why-individual" ∷ subject.now ∷ class.now ∷ codes "reached" ∷ []
 words_of (DotReached subject class) = codes "dot" ∷ subject.now ∷ class.now ∷ codes "reached" ∷ []
 words_of (Query size) = codes "query" ∷ decimal size ∷ []
+words_of (Write paths) = codes "write" ∷ paths.taxonomy.now ∷ paths.instances.now ∷ paths.certificate.now ∷ []
 words_of Status = codes "status" ∷ []
 
 -- how many bytes follow the line of a command
@@ -38,6 +40,11 @@ abbrev pub payload_size : Command → Option ℕ
 payload_size (Add size) = Some size
 payload_size (Query size) = Some size
 payload_size command = None
+
+-- the paths of the files that a command asks to write
+abbrev pub text_paths : Command → Option TextPaths
+text_paths (Write paths) = Some paths
+text_paths command = None
 
 -- so many bytes are counted in 64 bits
 abbrev pub IsCounted : Option ℕ → Type 0

@@ -1,6 +1,6 @@
 //! What a session answers, as replies.
 ghost use Rattle.session.specs.Texts.{HasText};
-ghost use Rattle.speech.specs.Answers.{IsAskTold, IsDoneWith, IsExplainedTold, IsFaultTold, IsFoundTold, IsGroupedTold, IsNamedTold, IsQueryTold, Tells, found, grouped, named, unfinished};
+ghost use Rattle.speech.specs.Answers.{IsAskTold, IsDoneWith, IsExplainedTold, IsFaultTold, IsFoundTold, IsGroupedTold, IsNamedTold, IsQueryTold, Tells, found, grouped, named, unfiled, unfinished};
 ghost use Rattle.std.specs.Prelude.{◌≡◌, IfOk};
 
 use crate::messages::question_message;
@@ -54,10 +54,23 @@ pub(crate) fn fault_reply(
 }
 
 /// The reply where facts are pending.
-fn unfinished_reply(alloc: Global) -> Result<Reply, Memory>
+pub fn unfinished_reply(alloc: Global) -> Result<Reply, Memory>
     ensures { Tells (λ t. t ≡ unfinished) result }
 {
     match b"not run to its end\n".to_vec(alloc) {
+        Ok(text) => Ok(Reply {
+            status: Status::Usage,
+            text,
+        }),
+        Err(_) => Err(Memory),
+    }
+}
+
+/// The reply where texts are to be written, and there are no files.
+pub(crate) fn unfiled_reply(alloc: Global) -> Result<Reply, Memory>
+    ensures { Tells (λ t. t ≡ unfiled) result }
+{
+    match b"no files are written here\n".to_vec(alloc) {
         Ok(text) => Ok(Reply {
             status: Status::Usage,
             text,

@@ -1,6 +1,14 @@
 //! Commands.
-ghost use Rattle.speech.specs.Commands.{payload_size};
+ghost use Rattle.speech.specs.Commands.{payload_size, text_paths};
 ghost use Rattle.std.specs.Prelude.{◌≡◌};
+
+/// The paths of the files of the three texts of a classification.
+#[derive(Clone, Copy, Debug, PartialEq, Eq)]
+pub struct TextPaths<'l> {
+    pub taxonomy: &'l str,
+    pub instances: &'l str,
+    pub certificate: &'l str,
+}
 
 /// What is asked of a session. Names are IRIs without brackets.
 #[derive(Clone, Copy, Debug, PartialEq, Eq)]
@@ -35,6 +43,8 @@ pub enum Command<'l> {
     DotReached(&'l str, &'l str),
     /// The names of the class expression of a text of so many bytes.
     Query(u64),
+    /// To write the texts of the classification into files.
+    Write(TextPaths<'l>),
     /// How many facts there are, how many are served, and how many bytes.
     Status,
 }
@@ -47,6 +57,16 @@ impl<'l> Command<'l> {
         match self {
             Command::Add(size) => Some(*size),
             Command::Query(size) => Some(*size),
+            _ => None,
+        }
+    }
+
+    /// The paths of the files that the command asks to write, where it asks for that.
+    pub fn text_paths(&self) -> Option<TextPaths<'l>>
+        ensures { result ≡ text_paths self.now }
+    {
+        match self {
+            Command::Write(paths) => Some(*paths),
             _ => None,
         }
     }

@@ -2,7 +2,7 @@
 ghost use Rattle.speech.specs.Commands.{IsCommandOf, Spells, SpellsNothing};
 ghost use Rattle.std.specs.Prelude.{◌∷◌, [], IfNone, IfSome};
 
-use crate::command::Command;
+use crate::command::{Command, TextPaths};
 use crate::sizes::size_of_word;
 use crate::words::{Words, words_in};
 
@@ -64,16 +64,22 @@ fn command_with_words<'l>(verb: &str, subject: &'l str, class: &'l str) -> Optio
     }
 }
 
-/// The command of four words, of which the last asks for what is reached.
-fn command_of_reached<'l>(
+/// The command of four words, of which the last asks for what is reached where the first does not ask to write.
+fn command_with_all<'l>(
     verb: &str,
     subject: &'l str,
     class: &'l str,
-    last: &str,
+    last: &'l str,
 ) -> Option<Command<'l>>
     ensures { IsCommandOf (verb.now ∷ subject.now ∷ class.now ∷ last.now ∷ []) result }
 {
-    if last != "reached" {
+    if verb == "write" {
+        Some(Command::Write(TextPaths {
+            taxonomy: subject,
+            instances: class,
+            certificate: last,
+        }))
+    } else if last != "reached" {
         None
     } else if verb == "why" {
         Some(Command::WhyReached(subject, class))
@@ -98,7 +104,7 @@ pub fn command_of(line: &str) -> Option<Command<'_>>
         Words::One(verb) => command_alone(verb),
         Words::Two(verb, word) => command_with_word(verb, word),
         Words::Three(verb, subject, class) => command_with_words(verb, subject, class),
-        Words::Four(verb, subject, class, last) => command_of_reached(verb, subject, class, last),
+        Words::Four(verb, subject, class, last) => command_with_all(verb, subject, class, last),
         Words::More => None,
     }
 }

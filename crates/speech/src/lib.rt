@@ -16,7 +16,8 @@ mod session_service;
 mod sizes;
 mod words;
 
-pub use command::Command;
+pub use answering::unfinished_reply;
+pub use command::{Command, TextPaths};
 pub use commands::{MOST_LINE, command_of};
 pub use conversation::{Ending, converse};
 pub use editing::conversations_are_edits;

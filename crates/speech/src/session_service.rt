@@ -9,7 +9,7 @@ ghost use Rattle.speech.specs.Replies.{told_by};
 ghost use Rattle.std.specs.Prelude.{◌≡◌};
 
 use crate::answering::{
-    done_reply, explained_reply, fault_reply, found_reply, groups_reply, names_reply,
+    done_reply, explained_reply, fault_reply, found_reply, groups_reply, names_reply, unfiled_reply,
 };
 use crate::command::Command;
 use crate::reply::Reply;
@@ -20,7 +20,7 @@ use session::{Asked, Form, QuestionFault, Session, Stop};
 use std::alloc::Global;
 use std::str::from_utf8;
 
-/// A session that answers commands. Each `Run` goes on to at most as many facts as the limits have, and so does a query.
+/// A session that answers commands, and writes no files. Each `Run` goes on to at most as many facts as the limits have, and so does a query.
 #[derive(Drop)]
 pub struct SessionService {
     pub alloc: Global,
@@ -179,6 +179,7 @@ impl SessionService {
                 self.why(Asked::Class(subject), class, Form::ReachedGraph)
             }
             Command::Query(_) => self.query(payload),
+            Command::Write(_) => unfiled_reply(self.alloc),
             Command::Status => self.status(),
         }
     }

@@ -27,6 +27,8 @@ add 13
 SubClassOf(:A
 query 29
 ObjectSomeValuesFrom(:loc :Q)
+write a b c
+write a b
 ";
 
 /// What is replied.
@@ -80,6 +82,10 @@ P2 at byte 13
 no 3 28
 F8 at byte 21
 F8 at byte 26
+no 2 26
+no files are written here
+no 2 16
+unknown command
 ";
 
 /// What is asked about classes that are next to one another: of a document in which A and B are the same and lie below C and D, these
