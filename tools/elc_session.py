@@ -7,7 +7,6 @@ ELC is a binary of elc, as crates/elc/out/elc. As a program this reads Python-li
 and its words, as `supers http://example.org/Pizza`, and prints what is answered. An editor imports it:
 
     from elc_session import Refused, Session
-
     with Session("elc", "food.ofn") as session:
         session.run()
         session.add("SubClassOf(:Margherita :Pizza)")
@@ -15,10 +14,9 @@ and its words, as `supers http://example.org/Pizza`, and prints what is answered
         session.supers("http://example.org/Margherita")
 
 Each method writes one command and reads its reply. It raises `Refused` where the command is not done, which leaves the session as it
-was but for `run`, which is then as far as it came and may be called again; and `Ended` where the process has ended. docs/SESSION.md has
-the commands and what is replied.
+was but for `run`, which is then as far as it came and may be called again; and `Ended` where the process has ended (docs/SESSION.md).
 """
-import subprocess, sys
+import contextlib, subprocess, sys
 
 
 class Refused(Exception):
@@ -33,14 +31,11 @@ class Ended(Exception):
     """The process has ended."""
 
 
-class Session:
+class Session(contextlib.AbstractContextManager):
     """A process that keeps the document at the path; further words are options, as "--max-facts", "1000"."""
 
     def __init__(self, elc, document, *options):
         self.process = subprocess.Popen([elc, "session", document, *options], stdin=subprocess.PIPE, stdout=subprocess.PIPE)
-
-    def __enter__(self):
-        return self
 
     def __exit__(self, *error):
         self.close()
@@ -51,36 +46,23 @@ class Session:
         self.process.stdout.close()
         return self.process.wait()
 
-    def command(self, line, payload=None):
-        """Writes the line, and the bytes behind it where there are some, and gives the text of the reply."""
+    def command(self, line, text=None):
+        """Writes the line, with the size of the text and the text behind it where there is one, and gives the text of the reply."""
         if "\n" in line:
             raise ValueError("a command is one line")
-        text = line.encode() + b"\n"
-        if payload is not None:
-            text += payload + b"\n"
+        lines = [line.encode()] if text is None else [f"{line} {len(text.encode())}".encode(), text.encode()]
         try:
-            self.process.stdin.write(text)
+            self.process.stdin.write(b"".join(part + b"\n" for part in lines))
             self.process.stdin.flush()
         except BrokenPipeError:
             raise Ended from None
-        return self.reply()
-
-    def reply(self):
-        """Reads one reply."""
         head = self.process.stdout.readline().decode().split()
-        if not head:
-            raise Ended
-        size = int(head[-1])
-        text = self.process.stdout.read(size)
-        if len(text) < size:
+        reply = self.process.stdout.read(int(head[-1])) if head else b""
+        if not head or len(reply) < int(head[-1]):
             raise Ended
         if head[0] == "ok":
-            return text.decode()
-        raise Refused(int(head[1]), text.decode())
-
-    def sized(self, word, text):
-        payload = text.encode()
-        return self.command(f"{word} {len(payload)}", payload)
+            return reply.decode()
+        raise Refused(int(head[1]), reply.decode())
 
     def names(self, line):
         return [name[1:-1] for name in self.command(line).splitlines()]
@@ -94,7 +76,7 @@ class Session:
 
     def add(self, text):
         """Adds axioms and declarations, with the prefixes of the document. Nothing is run."""
-        self.sized("add", text)
+        self.command("add", text)
 
     def run(self):
         """Finds out what follows, and gives the number of facts."""
@@ -142,13 +124,17 @@ class Session:
 
     def query(self, expression):
         """The classes above and below a class expression and its individuals, as lines of `elc query`."""
-        return self.sized("query", expression)
+        return self.command("query", expression)
+
+    def write(self, taxonomy, instances, certificate):
+        """Writes the texts of the classification into the files at these paths, and gives the line of `elc classify`."""
+        return self.command(f"write {taxonomy} {instances} {certificate}")
 
 
 def main(elc, document, *options):
     with Session(elc, document, *options) as session:
         for line in sys.stdin:
-            method, *words = line.split(maxsplit=2) or [""]
+            method, *words = line.strip().split(maxsplit=1 if line.startswith(("add ", "query ")) else -1) or [""]
             try:
                 answer = getattr(session, method.replace("-", "_"))(*words)
                 print("" if answer is None else answer)

@@ -97,11 +97,11 @@ pub record AreWorking (sinks : Sinks) : Type 0 where
   pub instances : sinks.instances.1 ≡ 0
   pub certificate : sinks.certificate.1 ≡ 0
 
-none : (sinks : Sinks) (before behind : ℕ) → AreCounted sinks before behind → AreWorking sinks → behind ≡ before
+pub none : (sinks : Sinks) (before behind : ℕ) → AreCounted sinks before behind → AreWorking sinks → behind ≡ before
 none sinks before behind counted working =
     counted.certificate.unfailed working.certificate ∙ counted.instances.unfailed working.instances ∙ counted.taxonomy.unfailed working.taxonomy ∙ counted.same
 
-untouched : (old new : Sinks) → AreWorking old → new ≡ old → AreWorking new
+pub untouched : (old new : Sinks) → AreWorking old → new ≡ old → AreWorking new
 untouched old new working same = let P : Sinks → Type 0 = AreWorking in subst P (sym same) working
 
 more : (old new : ℕ) → old ≡ 0 → HasFailed old new → 0 < new
@@ -111,7 +111,7 @@ more old new none (inr last) = omega (arith, last)
 some : (old new : Device) (text : List ℕ) → old.1 ≡ 0 → FailsIn old new text → 0 < new.1
 some old new text working fails = more old.1 new.1 working fails.1
 
-written_none : (old new : Sinks) (texts : Texts) (before behind : ℕ) → AreWorking old → AreCounted new before behind → AreWritten old new texts → behind ≡ before
+pub written_none : (old new : Sinks) (texts : Texts) (before behind : ℕ) → AreWorking old → AreCounted new before behind → AreWritten old new texts → behind ≡ before
 written_none old new texts before behind working counted written =
     none new before behind counted (record { taxonomy = written.0.1 ∙ working.taxonomy; instances = written.1.1 ∙ working.instances; certificate = written.2.1 ∙ working.certificate })
 
@@ -124,7 +124,7 @@ fails_from a b before behind first last failed =
     let Q : ℕ → Type 0 = λ n. HasFailed a n in
     subst P first (subst Q (sym last) failed)
 
-written_some : (n : ℕ) (old new : Sinks) (texts : Texts) (before behind : ℕ) → AreWorking old → AreCounted new before behind → AreWrittenUntil n old new texts → HasFailed before behind
+pub written_some : (n : ℕ) (old new : Sinks) (texts : Texts) (before behind : ℕ) → AreWorking old → AreCounted new before behind → AreWrittenUntil n old new texts → HasFailed before behind
 written_some zero old new texts before behind working counted written = absurd written
 written_some (suc zero) old new texts before behind working counted written =
     fails_from _ _ before behind counted.same

@@ -14,7 +14,8 @@ use Rattle.cli.proofs.Stored.{IsLeftBy, IsSome, sink_begins, sink_holds, stays}
 use Rattle.cli.specs.Checks.{AreKnown, IsTextRead}
 use Rattle.cli.specs.Conversions.{Converts, IsConversionAnswer, IsUntaken, conversion_fault}
 use Rattle.cli.specs.Files.{AreBothThere, BlamesWrites, ConvertsFiles, IsTextUnread, NoWriteFails, Store}
-use Rattle.cli.specs.Runs.{AreOtherFilesKept, Holds, HoldsPrefix, IsConversionMade, Stays, format_of}
+use Rattle.cli.specs.HeldTexts.{Holds, HoldsPrefix, Stays}
+use Rattle.cli.specs.Runs.{AreOtherFilesKept, IsConversionMade, format_of}
 use Rattle.cli.specs.declared.fault.CheckFault.{CheckFault}
 use Rattle.cli.specs.declared.fault.CheckFault.TheVariants as checking
 use Rattle.cli.specs.declared.fault.ConversionFault.{ConversionFault}

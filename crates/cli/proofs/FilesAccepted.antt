@@ -21,7 +21,8 @@ use Rattle.cli.specs.declared.fault.CheckFault.TheVariants as checking
 use Rattle.cli.proofs.WrittenAccepted.{written_is_accepted}
 use Rattle.cli.specs.Checks.{IsChecked, IsCheckFault}
 use Rattle.session.specs.Devices.{Device}
-use Rattle.cli.specs.Runs.{AreApart, HoldTexts, IsCheckRun, IsCheckTold, IsCheckedFiles, IsClassifyAnswer, IsClassifyRun, IsClassifyTold, IsCommandRun, IsPerformed, format_of}
+use Rattle.cli.specs.HeldTexts.{AreApart, HoldTexts}
+use Rattle.cli.specs.Runs.{IsCheckRun, IsCheckTold, IsCheckedFiles, IsClassifyAnswer, IsClassifyRun, IsClassifyTold, IsCommandRun, IsPerformed, format_of}
 use Rattle.cli.specs.Files.{Store}
 use Rattle.cli.proofs.Telling.{nothing_told}
 use Rattle.session.specs.Progress.{IsProgress}

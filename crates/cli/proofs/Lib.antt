@@ -7,6 +7,7 @@ pub mod Blamed
 pub mod Stored
 pub mod SomeTexts
 pub mod Left
+pub mod Filed
 pub mod Converted
 pub mod WrittenAccepted
 pub mod FilesAccepted

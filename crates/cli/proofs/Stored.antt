@@ -5,7 +5,7 @@ use Rattle.std.specs.Str.{bytes_eq}
 use Rattle.std.proofs.lemmas.Slice.Eq.{bytes_eq-Decides}
 use Rattle.command_line.specs.declared.tasks.Paths.{Paths}
 use Rattle.session.specs.Devices.{Device, FailsIn, Takes}
-use Rattle.cli.specs.Runs.{AreApart, AreOthersKept, HoldTexts, HoldTextsUntil, Holds, HoldsPrefix, Stays}
+use Rattle.cli.specs.HeldTexts.{AreApart, AreOthersKept, HoldTexts, HoldTextsUntil, Holds, HoldsPrefix, Stays}
 use Rattle.session.specs.WrittenTexts.{AreWritten, AreWrittenUntil, Sinks, Texts}
 use Rattle.system_files.specs.Contents.{Content, HasTakenSome, IsClosed, nothing_taken}
 

@@ -4,6 +4,8 @@ pub mod Checks
 pub mod Conversions
 pub mod FileSinks
 pub mod Files
+pub mod HeldTexts
+pub mod Filing
 pub mod Speaking
 pub mod Runs
 pub mod Theorems

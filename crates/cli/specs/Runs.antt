@@ -1,5 +1,5 @@
 -- What a run of the program does.
-use Rattle.std.specs.Prelude.{◌≡◌, ℕ, zero, suc, ◌⊎◌, List, [], ◌∷◌, Bool, true, false, if◌then◌else◌, Option, Some, Result, Ok, Err, ◌++◌, codes, take}
+use Rattle.std.specs.Prelude.{◌≡◌, ℕ, ◌⊎◌, List, [], ◌∷◌, Bool, true, false, if◌then◌else◌, Option, Result, Ok, Err, ◌++◌, codes}
 use Rattle.axioms.specs.Ontology.{Ontology}
 use Rattle.certificate.specs.declared.format.Format.{Format}
 use Rattle.certificate.specs.declared.format.Format.TheVariants.{One, Two}
@@ -30,6 +30,7 @@ use Rattle.cli.specs.Files.{AsksFile, ChecksFiles, ClassifiesFile, ConvertsFiles
 use Rattle.cli.specs.Messages.{BehindProgress, Output, IsAnswered, IsPrinted, IsTold, cannot_write, out_of_memory, rejected_text, unconverted_text, verdict_text, verdict_status, outputs, summary_text, IsCheckText, check_status, IsClassifyText, classify_status, IsLineTold}
 use Rattle.speech.specs.Messages.{IsDocumentText, IsQuestionText, cannot_read, question_status}
 use Rattle.cli.specs.Classifications.{IsFaultOf}
+use Rattle.cli.specs.HeldTexts.{AreApart, AreOthersKept, HoldTexts, HoldTextsUntil, Holds, HoldsPrefix, Stays}
 use Rattle.session.specs.Classifications.{IsClassified}
 use Rattle.session.specs.WrittenTexts.{Texts}
 use Rattle.cli.specs.Speaking.{IsSessionRun}
@@ -51,48 +52,7 @@ use Rattle.session.specs.Answers.{class_name, subject_name}
 use Rattle.system_files.specs.Contents.{Content}
 use Rattle.system_files.specs.declared.files.Files as files
 
--- ---- which file holds which text
-
--- the file holds the text, as far as it is known what files hold
-abbrev pub Holds : Bool → Option (List ℕ) → List ℕ → Type 0
-Holds true held text = held ≡ Some text
-Holds false held text = Unit {0}
-
--- the file holds what it held, as far as it is known what files hold
-abbrev pub Stays : Bool → (old new : Option (List ℕ)) → Type 0
-Stays true old new = new ≡ old
-Stays false old new = Unit {0}
-
--- the file holds a prefix of the text, or what it held, as far as it is known what files hold
-abbrev pub HoldsPrefix : Bool → (old new : Option (List ℕ)) → List ℕ → Type 0
-HoldsPrefix true old new text = (new ≡ old) ⊎ ((n : ℕ) × (new ≡ Some (take n text)))
-HoldsPrefix false old new text = Unit {0}
-
--- the three texts have three paths
-pub record AreApart (paths : Paths) : Type 0 where
-  pub taxonomy_instances : ¬ (paths.taxonomy.now ≡ paths.instances.now)
-  pub taxonomy_certificate : ¬ (paths.taxonomy.now ≡ paths.certificate.now)
-  pub instances_certificate : ¬ (paths.instances.now ≡ paths.certificate.now)
-
--- each path holds its text
-pub record HoldTexts (known : Bool) (paths : Paths) (texts : Texts) (new : Content) : Type 0 where
-  pub taxonomy : Holds known (new paths.taxonomy.now) texts.taxonomy
-  pub instances : Holds known (new paths.instances.now) texts.instances
-  pub certificate : Holds known (new paths.certificate.now) texts.certificate
-
--- where the sink of that number failed, the paths before it hold their texts, its own a prefix of its text or what it
--- held, and those behind it what they held
-abbrev pub HoldTextsUntil : ℕ → Bool → Paths → Texts → (old new : Content) → Type 0
-HoldTextsUntil (suc zero) known paths texts old new =
-    HoldsPrefix known (old paths.taxonomy.now) (new paths.taxonomy.now) texts.taxonomy × Stays known (old paths.instances.now) (new paths.instances.now)
-    × Stays known (old paths.certificate.now) (new paths.certificate.now)
-HoldTextsUntil (suc (suc zero)) known paths texts old new =
-    Holds known (new paths.taxonomy.now) texts.taxonomy × HoldsPrefix known (old paths.instances.now) (new paths.instances.now) texts.instances
-    × Stays known (old paths.certificate.now) (new paths.certificate.now)
-HoldTextsUntil (suc (suc (suc zero))) known paths texts old new =
-    Holds known (new paths.taxonomy.now) texts.taxonomy × Holds known (new paths.instances.now) texts.instances
-    × HoldsPrefix known (old paths.certificate.now) (new paths.certificate.now) texts.certificate
-HoldTextsUntil n known paths texts old new = ⊥
+-- ---- what the files hold behind a classification
 
 -- what the files hold where the answer is a fault: all that they held where it came before the writing
 abbrev pub AreLeft : Paths → Format → Limits → Bool → (content content' : Content) → ClassifyFault → Type 0
@@ -100,11 +60,6 @@ AreLeft paths format limits known content content' (Io n) =
     (summary : Summary) × (texts : Texts) × IsClassified limits.version format limits.max_bytes limits.max_facts (content paths.document.now) summary texts
     × (AreApart paths → HoldTextsUntil n known paths texts content content')
 AreLeft paths format limits known content content' fault = (path : List ℕ) → Stays known (content path) (content' path)
-
--- files at other paths than the three are as they were
-abbrev pub AreOthersKept : Paths → (content content' : Content) → Type 0
-AreOthersKept paths content content' =
-    (path : List ℕ) → ¬ (path ≡ paths.taxonomy.now) → ¬ (path ≡ paths.instances.now) → ¬ (path ≡ paths.certificate.now) → content' path ≡ content path
 
 -- the format of that number
 abbrev pub format_of : FormatNumber → Format
@@ -248,7 +203,7 @@ IsCommandRun (Convert conversion) limits s content content' old new status = IsC
 IsCommandRun (Instances document class) limits s content content' old new status = IsInstancesRun document.now class.now limits s content old new status
 IsCommandRun (Explain question) limits s content content' old new status = IsExplainRun question limits s content old new status
 IsCommandRun (Query document expression) limits s content content' old new status = IsQueryRun document.now expression.now limits s content old new status
-IsCommandRun (Session document) limits s content content' old new status = IsSessionRun document.now limits s content old new status
+IsCommandRun (Session document) limits s content content' old new status = IsSessionRun document limits s content content' old new status
 
 -- a run of the program: of the task that the words ask for, behind its progress; or the words are no task, which is told
 abbrev pub IsPerformed : List Text → Store → (content content' : Content) → (old new : Output) → (status : ℕ) → Type 0
@@ -256,10 +211,11 @@ IsPerformed words s content content' old new status =
     ((task : Task) × IsTaskOf words task × BehindProgress task.progress old (λ begun. IsCommandRun task.command task.limits s content content' begun new status))
     ⊎ ((fault : LineFault) × Refuses words fault × (new.out ≡ old.out) × IsLineTold fault old.err new.err status)
 
--- a classification and a conversion write files
+-- a classification, a conversion and a session write files
 abbrev pub writes_files : Command → Bool
 writes_files (Classify paths number) = true
 writes_files (Convert conversion) = true
+writes_files (Session document) = true
 writes_files command = false
 
 -- the words ask for none of them

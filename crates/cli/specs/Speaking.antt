@@ -1,7 +1,9 @@
 -- A run that keeps a document, and answers commands.
 use Rattle.std.specs.Prelude.{◌≡◌, ◌⊎◌, ℕ, List, [], Option, codes}
+use Rattle.std.specs.Borrow.{Bor}
 use Rattle.std.specs.Io.KnownBytes.{Keeps}
-use Rattle.cli.specs.Files.{BlamesFile, IsUnopened, Store}
+use Rattle.cli.specs.Files.{BlamesFile, IsUnopened, NoWriteFails, Store}
+use Rattle.cli.specs.Filing.{Filed, filing_service}
 use Rattle.cli.specs.Messages.{IsTold, Output}
 use Rattle.profile.specs.Faults.{OpensKnown, RefusesKnown}
 use Rattle.profile.specs.Messages.{status_of}
@@ -10,13 +12,12 @@ use Rattle.program.specs.Status.{code_of}
 use Rattle.program.specs.declared.limits.Limits.{Limits}
 use Rattle.session.specs.Sessions.{Opened, as_read}
 use Rattle.source_lines.specs.Sources.{SourceState}
-use Rattle.speech.specs.Answers.{session_service}
 use Rattle.speech.specs.Conversations.{IsConversation}
 use Rattle.speech.specs.Messages.{IsDocumentText}
 use Rattle.speech.specs.Turns.{status_of_end}
 use Rattle.speech.specs.declared.conversation.Ending.{Ending}
 use Rattle.speech.specs.declared.session_service.SessionService.{SessionService}
-use Rattle.system_files.specs.Contents.{Content}
+use Rattle.system_files.specs.Contents.{AreKept, Content}
 
 -- the file that commands are read from
 abbrev pub input_path : List ℕ
@@ -28,36 +29,45 @@ pub record IsOpenedAs (limits : Limits) (held : Option (List ℕ)) (s : Opened) 
   pub limit : s.most_bytes ≡ limits.max_bytes
   pub unserved : s.saturation.state.served ≡ []
 
+-- the files hold what they held, and no write failed
+pub record AreFilesKept (s : Store) (content content' : Content) : Type 0 where
+  pub kept : AreKept content content'
+  pub unfailed : NoWriteFails s
+
 -- the document is not opened, which is told
-pub record IsUnopenedTold (path : List ℕ) (limits : Limits) (s : Store) (content : Content) (old new : Output) (status : ℕ) : Type 0 where
+pub record IsUnopenedTold (path : List ℕ) (limits : Limits) (s : Store) (content content' : Content) (old new : Output) (status : ℕ) : Type 0 where
   pub fault : DocumentFault
   pub refused : RefusesKnown limits.version (content path) limits.max_bytes fault
   pub blames : BlamesFile s.reads_fail s.is_known (content path) fault
   pub unprinted : new.out ≡ old.out
   pub told : IsTold old.err new.err (IsDocumentText path limits.max_bytes fault) (status_of fault) status
+  pub files : AreFilesKept s content content'
 
 -- there is nothing to read commands from, which is told
-pub record IsUnheardTold (limits : Limits) (s : Store) (content : Content) (old new : Output) (status : ℕ) : Type 0 where
+pub record IsUnheardTold (limits : Limits) (s : Store) (content content' : Content) (old new : Output) (status : ℕ) : Type 0 where
   pub fault : DocumentFault
   pub unopened : IsUnopened s.is_known (content input_path) fault
   pub unprinted : new.out ≡ old.out
   pub told : IsTold old.err new.err (IsDocumentText input_path limits.max_bytes fault) (status_of fault) status
+  pub files : AreFilesKept s content content'
 
--- commands are answered by a session over the document, up to an end that the status tells
-pub record IsSpoken (path : List ℕ) (limits : Limits) (content : Content) (old new : Output) (status : ℕ) : Type 0 where
+-- commands are answered by a session over the document, which writes its texts into the files, up to an end that the status tells
+pub record IsSpoken (document : Bor (List ℕ)) (limits : Limits) (s : Store) (content content' : Content) (old new : Output) (status : ℕ) : Type 0 where
   pub service : SessionService
   pub last : SessionService
-  pub opened : IsOpenedAs limits (content path) service.session
+  pub opened : IsOpenedAs limits (content document.now) service.session
   pub limits_are : service.limits ≡ limits
   pub before : SourceState
   pub after : SourceState
   pub left : Keeps (content input_path) before.left
   pub ending : Ending
-  pub spoken : IsConversation session_service service last before after old.out new.out ending
+  pub spoken : IsConversation (filing_service s.is_known document) (record { service = service; content = content; failed_writes = s.failed_before })
+      (record { service = last; content = content'; failed_writes = s.failed_behind }) before after old.out new.out ending
   pub status_is : status ≡ code_of (status_of_end ending)
   pub quiet : new.err ≡ old.err
 
 -- a run of `session`
-abbrev pub IsSessionRun : (path : List ℕ) → Limits → Store → Content → (old new : Output) → (status : ℕ) → Type 0
-IsSessionRun path limits s content old new status =
-    IsSpoken path limits content old new status ⊎ (IsUnopenedTold path limits s content old new status ⊎ IsUnheardTold limits s content old new status)
+abbrev pub IsSessionRun : (document : Bor (List ℕ)) → Limits → Store → (content content' : Content) → (old new : Output) → (status : ℕ) → Type 0
+IsSessionRun document limits s content content' old new status =
+    IsSpoken document limits s content content' old new status
+    ⊎ (IsUnopenedTold document.now limits s content content' old new status ⊎ IsUnheardTold limits s content content' old new status)

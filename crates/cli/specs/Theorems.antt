@@ -15,7 +15,8 @@ use Rattle.command_line.specs.CommandLine.{IsTaskOf, elc_app}
 use Rattle.command_line.specs.declared.tasks.Command.TheVariants.{Check, Classify}
 use Rattle.command_line.specs.declared.tasks.Task.{Task}
 use Rattle.cli.specs.Files.{Store}
-use Rattle.cli.specs.Runs.{AreApart, IsPerformed}
+use Rattle.cli.specs.HeldTexts.{AreApart}
+use Rattle.cli.specs.Runs.{IsPerformed}
 use Rattle.cli.specs.Messages.{BehindProgress, Output, IsAnswered, IsCheckText, IsTold, check_status}
 use Rattle.cli.specs.Classifications.{IsClassification}
 use Rattle.session.specs.Classifications.{IsClassified}

@@ -1,7 +1,8 @@
 //! Certificates that are written again in a format.
 ghost use Rattle.cli.specs.Conversions.{Converts, ConvertsInto, ReadsBoth, conversion_fault as as_conversion};
 ghost use Rattle.cli.specs.Files.{BlamesWrites, NoWriteFails, store};
-ghost use Rattle.cli.specs.Runs.{AreOtherFilesKept, Holds, HoldsPrefix, IsConversionMade, Stays, format_of as format_with};
+ghost use Rattle.cli.specs.HeldTexts.{Holds, HoldsPrefix, Stays};
+ghost use Rattle.cli.specs.Runs.{AreOtherFilesKept, IsConversionMade, format_of as format_with};
 ghost use Rattle.cli.specs.declared.fault.ConversionFault.TheVariants as faults;
 ghost use Rattle.profile.specs.declared.fault.DocumentFault.TheVariants as document_faults;
 ghost use Rattle.std.specs.Prelude.{◌≡◌, ◌+◌, ◌<◌, IfErr, IsErrOf, OnOk};

@@ -1,6 +1,7 @@
 //! Documents in, texts and verdicts out: the calls that the program `elc` makes.
 #![tactic(auto)]
 
+ghost use Rattle.cli.specs.Filing.{FiledConversationsAreCalls, FiledConversationsAreOneDocument};
 ghost use Rattle.cli.specs.Theorems.{AcceptedTextsAreRight, EveryDocumentIsClassified, ReadDocumentsAreNoStop, WhatIsWrittenIsAccepted, WrittenFilesAreAccepted};
 
 mod asking;
@@ -8,10 +9,12 @@ mod checking;
 mod classifying;
 mod converting;
 mod fault;
+mod filing;
 mod formats;
 mod opening;
 mod printing;
 mod run;
+mod sinks;
 mod speaking;
 mod starting;
 
@@ -60,4 +63,12 @@ pub fn accepted_texts_are_right()
 /// checks the same four paths prints `accepted`, unless it is stopped so.
 pub fn written_files_are_accepted()
     ensures { WrittenFilesAreAccepted }
+{}
+
+/// Whatever is asked in a conversation with a session over files, and whatever is replied: it is calls of the session, one after the
+/// other, and texts that are written change nothing of it. So the session has the ontology that the document states with the texts of
+/// which the replies tell that they are added, in their order, and all laws of calls hold of it (`session::any_edits`).
+pub fn filed_conversations_are_edits()
+    ensures calls { FiledConversationsAreCalls }
+    ensures document { FiledConversationsAreOneDocument }
 {}

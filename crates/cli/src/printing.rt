@@ -69,7 +69,7 @@ pub(crate) fn unwritten_message(alloc: Global, path: &str) -> Result<Message, Al
 }
 
 /// The path of the file that is written as that number: 1 is the taxonomy's.
-fn written_path<'a>(paths: &Paths<'a>, number: usize) -> &'a str
+pub(crate) fn written_path<'a>(paths: &Paths<'a>, number: usize) -> &'a str
     ensures { result.now ≡ path_written paths.now number }
 {
     match number {

@@ -4,8 +4,7 @@ ghost use Rattle.session.specs.Progress.{IsProgress};
 ghost use Rattle.cli.specs.Files.{store};
 ghost use Rattle.cli.specs.Runs.{AskForNoFiles, IsCheckTold, IsClassifyMade, IsClassifyTold, IsConvertTold, IsUnconvertedTold, Performs, Runs, RunsTelling};
 ghost use Rattle.cli.specs.Messages.{IsLineTold, outputs};
-ghost use Rattle.cli.specs.FileSinks.{HasFresh, HaveNotFailed};
-ghost use Rattle.std.specs.Prelude.{◌≡◌, ℕ, List, IfOk, map};
+ghost use Rattle.std.specs.Prelude.{◌≡◌, map};
 
 use crate::asking::{perform_explain, perform_instances, perform_query};
 use crate::checking::checked_files;
@@ -18,8 +17,9 @@ use crate::printing::{
     check_message, classify_message, print_numbered, print_summary, print_unconverted,
     print_verdict, tell, tell_out_of_memory, unwritten_message, usage_message,
 };
+use crate::sinks::sinks_of;
 use crate::speaking::perform_session;
-use axioms::{Memory, Ontology};
+use axioms::Ontology;
 use cert_check::{ConvertFault, Verdict};
 use certificate::Format;
 use classification::Summary;
@@ -31,33 +31,6 @@ use speech::{document_message, unread_message};
 use std::alloc::Global;
 use std::hash::RandomState;
 use system_files::Files;
-
-/// The sinks of the three texts.
-#[derive(Drop)]
-struct TextSinks<S: Drop> {
-    taxonomy: S,
-    instances: S,
-    certificate: S,
-}
-
-/// Sinks of the files of the three texts, which have taken nothing. The files hold what they did.
-fn sinks_of<F: Files>(files: &mut F, paths: &Paths<'_>) -> Result<TextSinks<F::Out>, Memory>
-    ensures fresh { IfOk result (λ s. HasFresh F.Out.Sink (F.is_known files.old) paths.now (F.has_place files.new)
-        s.taxonomy s.instances s.certificate) }
-    ensures working { IfOk result (λ s. HaveNotFailed F.Out.Sink s.taxonomy s.instances s.certificate) }
-    ensures kept { (path : List ℕ) → F.content files.new path ≡ F.content files.old path }
-    ensures known { F.is_known files.new ≡ F.is_known files.old }
-    ensures unfailed { F.failed_writes files.new ≡ F.failed_writes files.old }
-{
-    let taxonomy = files.writer(paths.taxonomy)?;
-    let instances = files.writer(paths.instances)?;
-    let certificate = files.writer(paths.certificate)?;
-    Ok(TextSinks {
-        taxonomy,
-        instances,
-        certificate,
-    })
-}
 
 /// Classifies the document, and writes its texts into their files, the certificate in the format. Where progress is told, `err` is
 /// told how far it is.
@@ -255,7 +228,7 @@ pub fn perform<F: Files, O: Sink, E: Sink>(
     // What the words ask for, which file holds which text, what is printed, and the status.
     ensures performed { Performs F.Files O.Sink E.Sink (map (λ w. w.now) words.entry.now)
         (files.old, out.old, err.old) (files.new, out.new, err.new) result }
-    // Only a classification and a conversion write files.
+    // Only a classification, a conversion and a session write files.
     ensures untouched { AskForNoFiles (map (λ w. w.now) words.entry.now) → files.new ≡ files.old }
 {
     let task = match task(alloc, words) {

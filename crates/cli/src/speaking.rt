@@ -7,13 +7,14 @@ ghost use Rattle.session.specs.Progress.{IsProgress};
 ghost use Rattle.session.specs.Sessions.{as_read};
 ghost use Rattle.std.specs.Prelude.{◌≡◌, [], IfErr, IfOk};
 
+use crate::filing::{FileService, converse_over_files};
 use crate::opening::document_of;
 use crate::printing::tell;
 use command_line::Command;
 use device::Sink;
 use profile::{DocumentFault, Limits};
 use session::{Session, Stage, tell_stage};
-use speech::{SessionService, converse, document_message};
+use speech::{SessionService, document_message};
 use std::alloc::Global;
 use std::hash::RandomState;
 use system_files::Files;
@@ -50,19 +51,19 @@ fn tell_opened<E: Sink>(session: &Session, told: bool, err: &mut E)
     tell_stage(err, told, &Stage::Read { bytes, axioms });
 }
 
-/// Opens the document, and answers the commands that are read, until there are no more.
+/// Opens the document, and answers the commands that are read, until there are no more, over the files.
 pub(crate) fn perform_session<F: Files, O: Sink, E: Sink>(
     alloc: Global,
     path: &str,
     limits: &Limits,
     told: bool,
-    files: &F,
+    files: &mut F,
     out: &mut O,
     err: &mut E,
     state: RandomState,
 ) -> u8
     ensures { RunsTelling F.Files O.Sink E.Sink told (Command.Session path.entry) limits.now
-        (files.now, out.old, err.old) (files.now, out.new, err.new) result }
+        (files.old, out.old, err.old) (files.new, out.new, err.new) result }
 {
     let session = match session_in(alloc, path, limits, files, state) {
         Ok(session) => session,
@@ -78,7 +79,12 @@ pub(crate) fn perform_session<F: Files, O: Sink, E: Sink>(
         session,
         limits: *limits,
     };
-    converse(alloc, &mut service, &mut input, out)
+    let mut filing = FileService {
+        document: path,
+        service: &mut service,
+        files,
+    };
+    converse_over_files(alloc, &mut filing, &mut input, out)
         .status()
         .code()
 }

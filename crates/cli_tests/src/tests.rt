@@ -9,6 +9,7 @@ mod hierarchies;
 mod progress;
 mod refusals;
 mod refused;
+mod speaking;
 mod starting;
 mod versions;
 mod worked;

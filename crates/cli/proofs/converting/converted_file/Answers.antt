@@ -3,7 +3,8 @@ use Rattle.certificate.specs.declared.format.Format.{Format}
 use Rattle.cli.proofs.Converted.{unconverted_made, unread_made}
 use Rattle.cli.specs.Conversions.{Converts}
 use Rattle.cli.specs.Files.{Store}
-use Rattle.cli.specs.Runs.{Holds, HoldsPrefix, IsConversionMade, Stays, format_of}
+use Rattle.cli.specs.HeldTexts.{Holds, HoldsPrefix, Stays}
+use Rattle.cli.specs.Runs.{IsConversionMade, format_of}
 use Rattle.cli.specs.declared.fault.ConversionFault.{ConversionFault}
 use Rattle.cli.proofs.converting.converted_file.Goals as goal
 

@@ -52,8 +52,13 @@ pub returns-in-Session-clause-performed : goal.returns-in-Session-clause-perform
 returns-in-Session-clause-performed g c =
     let task = c.in-Ok.task in
     let call = c.perform_session in
-    let P : Command → Type 0 = λ command. RunsTelling g.F.Files g.O.Sink g.E.Sink task.progress command task.limits (c.args.files.now, c.args.out.now, c.args.err.now) (c.args.files.now, call.new.out, call.new.err) call.result in
+    let P : Command → Type 0 = λ command. RunsTelling g.F.Files g.O.Sink g.E.Sink task.progress command task.limits (c.args.files.now, c.args.out.now, c.args.err.now) (call.new.files, call.new.out, call.new.err) call.result in
     inl (task, c.in-Ok.ensures.asked, subst P (sym c.in-Session.is) call.ensures)
+
+pub returns-in-Session-clause-untouched : goal.returns-in-Session-clause-untouched
+returns-in-Session-clause-untouched g c none =
+    let bad : true ≡ false = sym (ap writes_files c.in-Session.is) ∙ none c.in-Ok.task c.in-Ok.ensures.asked in
+    absurd (cc)
 
 pub returns-in-Convert-clause-performed : goal.returns-in-Convert-clause-performed
 returns-in-Convert-clause-performed g c =

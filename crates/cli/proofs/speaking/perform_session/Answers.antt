@@ -1,9 +1,13 @@
-use Rattle.std.proofs.Common.{◌∙◌, ap, inl, inr, refl}
+use Rattle.std.proofs.Common.{◌∙◌, ap, inl, inr, refl, rules}
 use Rattle.program.specs.Status.{code_of}
 use Rattle.source_lines.specs.Sources.{source_state}
 use Rattle.speech.specs.Messages.{IsDocumentText}
 use Rattle.profile.specs.Messages.{status_of}
+use Rattle.cli.proofs.Filed.{spoken_over}
 use Rattle.cli.proofs.Telling.{nothing_told, told}
+use Rattle.cli.specs.Filing.{Filed}
+use Rattle.session.specs.Devices.{seen}
+use Rattle.speech.specs.declared.session_service.SessionService.{SessionService}
 use Rattle.cli.specs.Messages.{outputs}
 use Rattle.cli.specs.Speaking.{input_path}
 use Rattle.cli.proofs.speaking.perform_session.Goals as goal
@@ -20,6 +24,7 @@ returns-in-Err g c =
       blames = c.in-Err.ensures.blames;
       unprinted = refl;
       told = told old.err new.err c.document_message.result (IsDocumentText c.args.path.now limits.max_bytes fault) (status_of fault) c.tell.result c.document_message.ensures c.tell.ensures;
+      files = record { kept = λ path. refl; unfailed = refl };
     })))
 
 pub returns-in-Err-document_of : goal.returns-in-Err-document_of
@@ -38,25 +43,33 @@ returns-in-Err-document_of g c =
         unprinted = refl;
         told = told old.err new.err c.document_message-in-Err-document_of.result (IsDocumentText input_path limits.max_bytes fault) (status_of fault) c.tell-in-Err-document_of.result
             c.document_message-in-Err-document_of.ensures c.tell-in-Err-document_of.ensures;
+        files = record { kept = λ path. refl; unfailed = refl };
       }));
     }
 
 pub returns : goal.returns
 returns g c =
+    let files = g.F.Files in
+    let call = c.converse_over_files in
+    let service : SessionService = record { alloc = c.args.alloc; session = c.in-Ok.session; limits = c.args.limits.now } in
+    let first : Filed = record { service = service; content = files.content c.args.files.now; failed_writes = files.failed_writes c.args.files.now } in
+    let before = source_state g.F.In.Source c.in-Ok-document_of.input in
+    let after = source_state g.F.In.Source call.new.source in
     record {
       begun = outputs g.O.Sink g.E.Sink c.args.out.now c.tell_opened.new.err;
       unprinted = refl;
       progress = c.tell_opened.ensures;
       holds = inl (record {
-        service = record { alloc = c.args.alloc; session = c.in-Ok.session; limits = c.args.limits.now };
-        last = c.converse.new.service;
+        service = service;
+        last = call.new.service.service.now;
         opened = record { read = c.in-Ok.ensures.opened; limit = c.in-Ok.ensures.limit; unserved = c.in-Ok.ensures.unserved };
         limits_are = refl;
-        before = source_state g.F.In.Source c.in-Ok-document_of.input;
-        after = source_state g.F.In.Source c.converse.new.source;
+        before = before;
+        after = after;
         left = c.in-Ok-document_of.ensures.left;
-        ending = c.converse.result;
-        spoken = c.converse.ensures;
+        ending = call.result;
+        spoken = spoken_over files (files.is_known c.args.files.now) c.args.path first call.new.service.service.now call.new.service.files.now _ before after
+            (seen g.O.Sink c.args.out.now) (seen g.O.Sink call.new.sink) call.result (search rules) call.ensures.spoken;
         status_is = c.code.ensures ∙ ap code_of c.status.ensures;
         quiet = refl;
       });

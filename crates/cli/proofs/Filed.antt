@@ -1,0 +1,197 @@
+-- Texts of a session that are written into files, and conversations over files.
+use Rattle.std.proofs.Common.{◌≡◌, ◌∙◌, ◌∷◌, ◌⊎◌, [], ℕ, List, Bool, Option, Some, None, Result, Ok, Err, ap, inl, inr, refl, subst, sym}
+use Rattle.std.specs.Borrow.{Bor}
+use Rattle.certificate.specs.declared.format.Format.{Format}
+use Rattle.classification.specs.declared.classification.Summary.{Summary}
+use Rattle.cli.proofs.Blamed.{AreCounted, AreWorking, none, untouched, written_none, written_some}
+use Rattle.cli.proofs.SomeTexts.{acceptable_are_some}
+use Rattle.cli.proofs.Stored.{AreNew, AreSinksClosed, nothing_stored, texts_held, texts_held_until}
+use Rattle.cli.specs.Filing.{BlamesTexts, Filed, IsFiledBy, IsFiledIn, IsTextsAnswer, IsToldAs, filed, filing_service}
+use Rattle.cli.specs.Messages.{IsPrinted}
+use Rattle.cli.specs.declared.filing.FileService.{FileService}
+use Rattle.command_line.specs.declared.tasks.Paths.{Paths}
+use Rattle.program.specs.Status.{code_of}
+use Rattle.program.specs.declared.status.Status.{Status}
+use Rattle.program.specs.declared.status.Status.TheVariants as statuses
+use Rattle.program.specs.declared.version.Version.{Version}
+use Rattle.session.proofs.Calls.{edits_are_one_document}
+use Rattle.session.specs.Answers.{IsWritten}
+use Rattle.session.specs.Devices.{Device, Takes}
+use Rattle.session.specs.Edits.{IsOneDocument, IsSessionOver}
+use Rattle.session.specs.Sessions.{IsSession, Opened}
+use Rattle.session.specs.WrittenTexts.{Sinks}
+use Rattle.session.specs.declared.fault.TextFault.{TextFault}
+use Rattle.session.specs.declared.fault.TextFault.TheVariants.{Io, Memory, Unfinished}
+use Rattle.source_lines.specs.Sources.{SourceState}
+use Rattle.speech.proofs.Edits.{Does, Stays, before, does, unasked}
+use Rattle.speech.specs.Answers.{session_service}
+use Rattle.speech.specs.Commands.{text_paths}
+use Rattle.speech.specs.Conversations.{AreExchanges, Exchange, Exchanged, IsAnswered, IsConversation, IsExchange, IsRefusedBehind}
+use Rattle.speech.specs.Editing.{AreCallsOf, texts_added, told_added}
+use Rattle.speech.specs.Replies.{Told, told}
+use Rattle.speech.specs.declared.command.Command.{Command}
+use Rattle.speech.specs.declared.command.Command.TheVariants as asked
+use Rattle.speech.specs.declared.command.TextPaths.{TextPaths}
+use Rattle.speech.specs.declared.conversation.Ending.{Ending}
+use Rattle.speech.specs.declared.conversation.Ending.TheVariants as endings
+use Rattle.speech.specs.declared.input_fault.InputFault.{InputFault}
+use Rattle.speech.specs.declared.service.Service.{Ghosts}
+use Rattle.speech.specs.declared.session_service.SessionService.{SessionService}
+use Rattle.system_files.specs.Contents.{Content}
+use Rattle.system_files.specs.declared.files.Files as files
+
+-- ---- what is written
+
+pub texts_answer : (paths : Paths) (format : Format) (known : Bool) (s : Opened) (content content' : Content) (old new : Sinks) (answer : Result Summary TextFault) → AreNew known old → IsWritten s format old new answer → AreSinksClosed paths new content content'
+    → IsTextsAnswer paths format known s content content' answer
+texts_answer paths format known s content content' old new (Ok summary) fresh is closed =
+    (is.0, is.1, λ apart. texts_held known paths old new is.0 content content' (acceptable_are_some s.ontology is.0 is.1.acceptable) fresh is.2 closed apart)
+texts_answer paths format known s content content' old new (Err Unfinished) fresh is closed = (is.0, λ path. nothing_stored known paths old new content content' fresh is.1 closed path)
+texts_answer paths format known s content content' old new (Err Memory) fresh is closed = λ path. nothing_stored known paths old new content content' fresh is.1 closed path
+texts_answer paths format known s content content' old new (Err (Io n)) fresh is closed =
+    let texts = is.2.1 in
+    let made = is.2.2 in
+    (is.0, is.1, (is.2.0, texts, made, λ apart. texts_held_until n known paths old new texts content content' (acceptable_are_some s.ontology texts made.acceptable) fresh is.2.3 closed apart))
+
+pub texts_blamed : (s : Opened) (format : Format) (failed_before failed_behind : ℕ) (old new : Sinks) (answer : Result Summary TextFault) → AreWorking old → AreCounted new failed_before failed_behind → IsWritten s format old new answer
+    → BlamesTexts failed_before failed_behind answer
+texts_blamed s format failed_before failed_behind old new (Ok summary) working counted is = written_none old new is.0 _ _ working counted is.2
+texts_blamed s format failed_before failed_behind old new (Err Unfinished) working counted is = none new _ _ counted (untouched old new working is.1)
+texts_blamed s format failed_before failed_behind old new (Err Memory) working counted is = none new _ _ counted (untouched old new working is.1)
+texts_blamed s format failed_before failed_behind old new (Err (Io n)) working counted is = written_some n old new is.2.1 _ _ working counted is.2.3
+
+-- ---- what is told
+
+-- where the status is that of all being printed, all is
+pub printed_whole : (old new : Device) (text : List ℕ) (answered : ℕ) → IsPrinted old new text statuses.Done answered → answered ≡ code_of statuses.Done → Takes old new text
+printed_whole old new text answered (inl h) done = h.0
+printed_whole old new text answered (inr h) done = let bad : code_of statuses.Done ≡ code_of statuses.File = sym done ∙ h.1 in absurd (cc)
+
+-- ---- conversations
+
+-- what answers commands over files that are borrowed
+abbrev pub over : {F In Out : Type 0} → files.Ghosts F In Out → Ghosts (FileService F In Out)
+over F = record { steps = IsFiledIn F; room = λ s. session_service.room s.service.now }
+
+-- it is over the same files, of the same document
+pub record IsOver {F In Out : Type 0} (G : files.Ghosts F In Out) (known : Bool) (document : Bor (List ℕ)) (first s : FileService F In Out) : Type 0 where
+  pub known_is : G.is_known s.files.now ≡ known
+  pub document_is : s.document ≡ document
+  pub files_are : s.files.ghost_name ≡ first.files.ghost_name
+
+stays_over : {F In Out : Type 0} (G : files.Ghosts F In Out) (known : Bool) (document : Bor (List ℕ)) (first old new : FileService F In Out) → new ≡ old → IsOver G known document first old → IsOver G known document first new
+stays_over {F} {In} {Out} G known document first old new same is = let P : FileService F In Out → Type 0 = λ s. IsOver G known document first s in subst P (sym same) is
+
+answered_over : {F In Out : Type 0} (G : files.Ghosts F In Out) (known : Bool) (document : Bor (List ℕ)) (first old new : FileService F In Out) (command : Option Command) (payload : List ℕ) (t : Told)
+    → IsOver G known document first old → IsAnswered (over G) old command payload t new → IsAnswered (filing_service known document) (filed G old) command payload t (filed G new) × IsOver G known document first new
+answered_over G known document first old new (Some command) payload t is step =
+    let P : Bool → Type 0 = λ k. IsFiledBy k old.document (text_paths command) (filed G old) command payload t (filed G new) in
+    let Q : Bor (List ℕ) → Type 0 = λ d. IsFiledBy known d (text_paths command) (filed G old) command payload t (filed G new) in (
+      subst Q is.document_is (subst P is.known_is step.step),
+      record { known_is = step.known ∙ is.known_is; document_is = step.document ∙ is.document_is; files_are = step.files ∙ is.files_are },
+    )
+answered_over G known document first old new None payload t is (told, same) = ((told, ap (filed G) same), stays_over G known document first old new same is)
+
+exchange_over : {F In Out : Type 0} (G : files.Ghosts F In Out) (known : Bool) (document : Bor (List ℕ)) (first old new : FileService F In Out) (x : Exchange)
+    → IsOver G known document first old → IsExchange (over G) old x new → IsExchange (filing_service known document) (filed G old) x (filed G new) × IsOver G known document first new
+exchange_over G known document first old new x is e =
+    let answered = answered_over G known document first old new x.command x.payload x.reply is e.answered in
+    (record { single = e.single; heard = e.heard; sized = e.sized; answered = answered.0 }, answered.1)
+
+exchanges_over : {F In Out : Type 0} (G : files.Ghosts F In Out) (known : Bool) (document : Bor (List ℕ)) (first old new : FileService F In Out) (xs : List Exchange)
+    → IsOver G known document first old → AreExchanges (over G) old xs new → AreExchanges (filing_service known document) (filed G old) xs (filed G new) × IsOver G known document first new
+exchanges_over G known document first old new [] is same = (ap (filed G) same, stays_over G known document first old new same is)
+exchanges_over G known document first old new (x ∷ xs) is (mid, exchange, later) =
+    let one = exchange_over G known document first old mid x is exchange in
+    let others = exchanges_over G known document first mid new xs one.1 later in
+    ((filed G mid, one.0, others.0), others.1)
+
+exchanged_over : {F In Out : Type 0} (G : files.Ghosts F In Out) (known : Bool) (document : Bor (List ℕ)) (first new : FileService F In Out) (ahead : List ℕ) (s t : SourceState) (xs : List Exchange)
+    → IsOver G known document first first → Exchanged (over G) first new ahead s t xs → Exchanged (filing_service known document) (filed G first) (filed G new) ahead s t xs × IsOver G known document first new
+exchanged_over G known document first new ahead s t xs is e =
+    let all = exchanges_over G known document first first new xs is e.run in
+    (record { run = all.0; read = e.read }, all.1)
+
+refused_over : {F In Out : Type 0} (G : files.Ghosts F In Out) (known : Bool) (document : Bor (List ℕ)) (first new : FileService F In Out) (s t : SourceState) (xs : List Exchange) (fault : InputFault)
+    → IsOver G known document first first → IsRefusedBehind (over G) first new s t xs fault → IsRefusedBehind (filing_service known document) (filed G first) (filed G new) s t xs fault × IsOver G known document first new
+refused_over G known document first new s t xs fault is r =
+    let all = exchanged_over G known document first new r.ahead s r.then xs is r.exchanged in
+    (record { ahead = r.ahead; then = r.then; exchanged = all.0; refused = r.refused }, all.1)
+
+-- a conversation over files that are borrowed is one over what they hold, and the same files stay borrowed
+pub conversation_over : {F In Out : Type 0} (G : files.Ghosts F In Out) (known : Bool) (document : Bor (List ℕ)) (first new : FileService F In Out) (s t : SourceState) (sink sink' : Device) (ending : Ending)
+    → IsOver G known document first first → IsConversation (over G) first new s t sink sink' ending
+    → IsConversation (filing_service known document) (filed G first) (filed G new) s t sink sink' ending × IsOver G known document first new
+conversation_over G known document first new s t sink sink' endings.End is (xs, e, end, takes) =
+    let all = exchanged_over G known document first new [] s t xs is e in
+    ((xs, all.0, end, takes), all.1)
+conversation_over G known document first new s t sink sink' (endings.Refused fault) is (xs, r, takes) =
+    let all = refused_over G known document first new s t xs fault is r in
+    ((xs, all.0, takes), all.1)
+conversation_over G known document first new s t sink sink' endings.Unwritten is (inl (xs, ahead, e, fails)) =
+    let all = exchanged_over G known document first new ahead s t xs is e in
+    (inl (xs, ahead, all.0, fails), all.1)
+conversation_over G known document first new s t sink sink' endings.Unwritten is (inr (xs, fault, r, fails)) =
+    let all = refused_over G known document first new s t xs fault is r in
+    (inr (xs, fault, all.0, fails), all.1)
+
+-- it is one over what the files hold that are the same in the end
+pub spoken_over : {F In Out : Type 0} (G : files.Ghosts F In Out) (known : Bool) (document : Bor (List ℕ)) (old : Filed) (last : SessionService) (behind found : F) (s t : SourceState) (sink sink' : Device) (ending : Ending) → behind ≡ found
+    → IsConversation (filing_service known document) old (record { service = last; content = G.content behind; failed_writes = G.failed_writes behind }) s t sink sink' ending
+    → IsConversation (filing_service known document) old (record { service = last; content = G.content found; failed_writes = G.failed_writes found }) s t sink sink' ending
+spoken_over {F} G known document old last behind found s t sink sink' ending same is =
+    let P : F → Type 0 = λ f. IsConversation (filing_service known document) old (record { service = last; content = G.content f; failed_writes = G.failed_writes f }) s t sink sink' ending in
+    subst P same is
+
+-- ---- conversations as calls
+
+-- a command that writes adds nothing
+adds_none : (command : Command) (texts : TextPaths) (status : Status) (payload : List ℕ) → text_paths command ≡ Some texts → told_added (Some command) status payload ≡ []
+adds_none (asked.Add size) texts status payload is = absurd (cc)
+adds_none asked.Run texts status payload is = refl
+adds_none (asked.Supers class) texts status payload is = refl
+adds_none (asked.Subs class) texts status payload is = refl
+adds_none (asked.Equivalents class) texts status payload is = refl
+adds_none (asked.Parents class) texts status payload is = refl
+adds_none (asked.Children class) texts status payload is = refl
+adds_none (asked.Instances class) texts status payload is = refl
+adds_none (asked.Why subject class) texts status payload is = refl
+adds_none (asked.WhyIndividual subject class) texts status payload is = refl
+adds_none (asked.Dot subject class) texts status payload is = refl
+adds_none (asked.WhyReached subject class) texts status payload is = refl
+adds_none (asked.WhyIndividualReached subject class) texts status payload is = refl
+adds_none (asked.DotReached subject class) texts status payload is = refl
+adds_none (asked.Query size) texts status payload is = refl
+adds_none (asked.Write paths) texts status payload is = refl
+adds_none asked.Status texts status payload is = refl
+
+-- what a command does to the session
+does_filed : (known : Bool) (document : Bor (List ℕ)) (found : Option TextPaths) (old new : Filed) (command : Command) (payload : List ℕ) (t : Told) → text_paths command ≡ found
+    → IsFiledBy known document found old command payload t new → Does old.service.session (told_added (Some command) t.status payload) new.service.session
+does_filed known document (Some texts) old new command payload t is step = Stays (ap (λ s. s.session) step.service) (adds_none command texts t.status payload is)
+does_filed known document None old new command payload t is step = does old.service.limits old.service.session new.service.session command payload t step.served.step
+
+session_filed : (known : Bool) (document : Bor (List ℕ)) (found : Option TextPaths) (old new : Filed) (command : Command) (payload : List ℕ) (t : Told) → IsFiledBy known document found old command payload t new → IsSession new.service.session
+session_filed known document (Some texts) old new command payload t step = step.session
+session_filed known document None old new command payload t step = step.served.session
+
+one_more : (known : Bool) (document : Bor (List ℕ)) (old mid : Filed) (new : Opened) (x : Exchange) (xs : List Exchange) (command : Option Command) → x.command ≡ command
+    → IsAnswered (filing_service known document) old command x.payload x.reply mid → AreCallsOf mid.service.session xs new → AreCallsOf old.service.session (x ∷ xs) new
+one_more known document old mid new x xs (Some command) is answered h =
+    let P : Option Command → Type 0 = λ c. Does old.service.session (told_added c x.reply.status x.payload) mid.service.session in
+    before old.service.session mid.service.session new x xs (session_filed known document (text_paths command) old mid command x.payload x.reply answered)
+    (subst P (sym is) (does_filed known document (text_paths command) old mid command x.payload x.reply refl answered)) h
+one_more known document old mid new x xs None is (told, same) h =
+    let P : Option Command → Type 0 = λ c. told_added c x.reply.status x.payload ≡ [] in
+    unasked old.service.session mid.service.session new x xs (ap (λ (s : Filed). s.service.session) same) (subst P (sym is) refl) h
+
+pub calls_of : (known : Bool) (document : Bor (List ℕ)) (old new : Filed) (xs : List Exchange) → AreExchanges (filing_service known document) old xs new → AreCallsOf old.service.session xs new.service.session
+calls_of known document old new [] same = record { calls = []; answers = []; are = ap (λ (s : Filed). s.service.session) same; added = refl }
+calls_of known document old new (x ∷ xs) (mid, is, later) = one_more known document old mid new.service.session x xs x.command refl is.answered (calls_of known document mid new xs later)
+
+pub one_document : (known : Bool) (document : Bor (List ℕ)) (version : Version) (bytes : List ℕ) (old new : Filed) (xs : List Exchange) → IsSessionOver version bytes old.service.session
+    → AreExchanges (filing_service known document) old xs new → IsOneDocument version bytes (texts_added xs) new.service.session
+one_document known document version bytes old new xs opened exchanges =
+    let calls = calls_of known document old new xs exchanges in
+    subst (λ (texts : List (List ℕ)). IsOneDocument version bytes texts new.service.session) calls.added
+    (edits_are_one_document version bytes old.service.session new.service.session calls.calls calls.answers opened calls.are)

@@ -1,0 +1,135 @@
+-- A session that answers commands, over files into which it writes its texts.
+use Rattle.std.specs.Prelude.{◌≡◌, ◌≤◌, ◌⊎◌, ℕ, List, [], Bool, Option, Some, None, Result, Ok, Err}
+use Rattle.std.specs.Borrow.{Bor}
+use Rattle.certificate.specs.declared.format.Format.{Format}
+use Rattle.certificate.specs.declared.format.Format.TheVariants.{Two}
+use Rattle.classification.specs.declared.classification.Summary.{Summary}
+use Rattle.cli.specs.HeldTexts.{AreApart, AreOthersKept, HoldTexts, HoldTextsUntil, Stays}
+use Rattle.cli.specs.Messages.{cannot_write, summary_text, written_path}
+use Rattle.cli.specs.declared.filing.FileService.{FileService}
+use Rattle.command_line.specs.declared.tasks.Paths.{Paths}
+use Rattle.device.specs.Device.{HasFailed}
+use Rattle.engine.specs.Saturations.{IsFinished}
+use Rattle.program.specs.declared.status.Status.{Status}
+use Rattle.program.specs.declared.status.Status.TheVariants as statuses
+use Rattle.program.specs.declared.version.Version.{Version}
+use Rattle.session.specs.Answers.{IsMade}
+use Rattle.session.specs.Edits.{IsOneDocument, IsSessionOver}
+use Rattle.session.specs.Sessions.{IsSession, Opened}
+use Rattle.session.specs.WrittenTexts.{Texts}
+use Rattle.session.specs.declared.fault.TextFault.{TextFault}
+use Rattle.session.specs.declared.fault.TextFault.TheVariants.{Io, Memory, Unfinished}
+use Rattle.speech.specs.Answers.{IsServed, session_service, unfinished}
+use Rattle.speech.specs.Commands.{text_paths}
+use Rattle.speech.specs.Conversations.{AreExchanges, Exchange}
+use Rattle.speech.specs.Editing.{AreCallsOf, texts_added}
+use Rattle.speech.specs.Replies.{Told, out_of_memory, told}
+use Rattle.speech.specs.declared.command.Command.{Command}
+use Rattle.speech.specs.declared.command.TextPaths.{TextPaths}
+use Rattle.speech.specs.declared.service.Service.{Ghosts}
+use Rattle.speech.specs.declared.session_service.SessionService.{SessionService}
+use Rattle.system_files.specs.Contents.{Content}
+use Rattle.system_files.specs.declared.files.Files as files
+
+-- ---- what is written
+
+-- all files hold what they held, as far as it is known what files hold
+abbrev pub AllStay : Bool → (content content' : Content) → Type 0
+AllStay known content content' = (path : List ℕ) → Stays known (content path) (content' path)
+
+-- what an answer says of the texts of a session that are written into files: each path holds its text; or why not, and what the files hold then
+abbrev pub IsTextsAnswer : Paths → Format → (known : Bool) → Opened → (content content' : Content) → Result Summary TextFault → Type 0
+IsTextsAnswer paths format known s content content' (Ok summary) = (texts : Texts) × IsMade s format summary texts × (AreApart paths → HoldTexts known paths texts content')
+IsTextsAnswer paths format known s content content' (Err Unfinished) = ¬ IsFinished s.saturation × AllStay known content content'
+IsTextsAnswer paths format known s content content' (Err Memory) = AllStay known content content'
+IsTextsAnswer paths format known s content content' (Err (Io n)) =
+    (1 ≤ n) × (n ≤ 3) × ((summary : Summary) × (texts : Texts) × IsMade s format summary texts × (AreApart paths → HoldTextsUntil n known paths texts content content'))
+
+-- a write failed only where that is the answer
+abbrev pub BlamesTexts : (failed_before failed_behind : ℕ) → Result Summary TextFault → Type 0
+BlamesTexts before behind (Err (Io n)) = HasFailed before behind
+BlamesTexts before behind answer = behind ≡ before
+
+-- the answer is that of a session whose texts are written into files, no other file is written, and a write is blamed only where one failed
+pub record AreTextsFiled (paths : Paths) (format : Format) (known : Bool) (s : Opened) (content content' : Content) (failed_before failed_behind : ℕ) (answer : Result Summary TextFault) : Type 0 where
+  pub answered : IsTextsAnswer paths format known s content content' answer
+  pub blames : BlamesTexts failed_before failed_behind answer
+  pub others : AreOthersKept paths content content'
+
+-- ---- what is told
+
+-- the text with the status; or the status alone, where there was no memory for the text
+abbrev pub IsToldAs : Status → (text : List ℕ) → Told → Type 0
+IsToldAs status text t = (t ≡ told status text) ⊎ (t ≡ told status [])
+
+-- the line of the counts, or why the texts are not written; without memory for a reply it is not told that they are not, where they are
+abbrev pub IsTextsTold : Paths → Result Summary TextFault → Told → Type 0
+IsTextsTold paths (Ok summary) t = IsToldAs statuses.Done (summary_text summary) t
+IsTextsTold paths (Err Unfinished) t = (t ≡ unfinished) ⊎ (t ≡ out_of_memory)
+IsTextsTold paths (Err Memory) t = t ≡ out_of_memory
+IsTextsTold paths (Err (Io n)) t = IsToldAs statuses.File (cannot_write (written_path paths n)) t
+
+-- ---- commands
+
+-- a session with its limits, what the files hold, and how many writes of them have failed
+pub record Filed : Type 0 where
+  pub service : SessionService
+  pub content : Content
+  pub failed_writes : ℕ
+
+-- the paths of the document and of the texts
+abbrev pub paths_of : (document : Bor (List ℕ)) → TextPaths → Paths
+paths_of document texts = record { document = document; taxonomy = texts.taxonomy; instances = texts.instances; certificate = texts.certificate }
+
+-- the texts are written into the files at the paths, which is told; the session stays as it is
+pub record IsFiling (known : Bool) (paths : Paths) (old : Filed) (t : Told) (new : Filed) : Type 0 where
+  pub answer : Result Summary TextFault
+  pub filed : AreTextsFiled paths Two known old.service.session old.content new.content old.failed_writes new.failed_writes answer
+  pub told : IsTextsTold paths answer t
+  pub service : new.service ≡ old.service
+  pub session : IsSession new.service.session
+
+-- the session alone answers, and the files stay as they are
+pub record IsServedAlone (old : Filed) (command : Command) (payload : List ℕ) (t : Told) (new : Filed) : Type 0 where
+  pub served : IsServed old.service command payload t new.service
+  pub content : new.content ≡ old.content
+  pub failed_writes : new.failed_writes ≡ old.failed_writes
+
+-- what a command does that asks to write files at these paths, if it does
+abbrev pub IsFiledBy : (known : Bool) → (document : Bor (List ℕ)) → Option TextPaths → (old : Filed) → Command → (payload : List ℕ) → Told → (new : Filed) → Type 0
+IsFiledBy known document (Some texts) old command payload t new = IsFiling known (paths_of document texts) old t new
+IsFiledBy known document None old command payload t new = IsServedAlone old command payload t new
+
+-- what a session over files says as what answers commands
+abbrev pub filing_service : (known : Bool) → (document : Bor (List ℕ)) → Ghosts Filed
+filing_service known document = record {
+  steps = λ old command payload t new. IsFiledBy known document (text_paths command) old command payload t new;
+  room = λ s. session_service.room s.service;
+}
+
+-- ---- sessions over files that are borrowed
+
+-- what the words of their trait tell of the files
+abbrev pub filed : {F In Out : Type 0} → files.Ghosts F In Out → FileService F In Out → Filed
+filed F s = record { service = s.service.now; content = F.content s.files.now; failed_writes = F.failed_writes s.files.now }
+
+-- what a command does, to the same files
+pub record IsFiledIn {F In Out : Type 0} (G : files.Ghosts F In Out) (old : FileService F In Out) (command : Command) (payload : List ℕ) (t : Told) (new : FileService F In Out) : Type 0 where
+  pub step : IsFiledBy (G.is_known old.files.now) old.document (text_paths command) (filed G old) command payload t (filed G new)
+  pub document : new.document ≡ old.document
+  pub known : G.is_known new.files.now ≡ G.is_known old.files.now
+  pub files : new.files.ghost_name ≡ old.files.ghost_name
+
+-- ---- laws
+
+-- whatever is asked: it is calls of the session, one after the other, and writing is none that adds
+abbrev pub FiledConversationsAreCalls : Type 0
+FiledConversationsAreCalls =
+    (known : Bool) (document : Bor (List ℕ)) (old new : Filed) (xs : List Exchange) → AreExchanges (filing_service known document) old xs new →
+    AreCallsOf old.service.session xs new.service.session
+
+-- so what is there is what the document states with the texts that are told to be added
+abbrev pub FiledConversationsAreOneDocument : Type 0
+FiledConversationsAreOneDocument =
+    (known : Bool) (document : Bor (List ℕ)) (version : Version) (bytes : List ℕ) (old new : Filed) (xs : List Exchange) → IsSessionOver version bytes old.service.session →
+    AreExchanges (filing_service known document) old xs new → IsOneDocument version bytes (texts_added xs) new.service.session

@@ -1,0 +1,160 @@
+//! A session that answers commands, over files into which it writes its texts.
+ghost use Rattle.certificate.specs.declared.format.Format.TheVariants.{Two};
+ghost use Rattle.cli.specs.Filing.{AreTextsFiled, IsFiling, IsTextsTold, IsToldAs, filed, filing_service, paths_of};
+ghost use Rattle.cli.specs.Messages.{cannot_write, summary_text};
+ghost use Rattle.session.specs.Devices.{seen};
+ghost use Rattle.source_lines.specs.Sources.{source_state};
+ghost use Rattle.speech.specs.Conversations.{IsConversation};
+ghost use Rattle.speech.specs.Replies.{told, told_by};
+ghost use Rattle.std.specs.Prelude.{◌≡◌};
+
+use crate::printing::{print_summary, unwritten_message, written_path};
+use crate::sinks::sinks_of;
+use certificate::Format;
+use classification::Summary;
+use command_line::Paths;
+use device::{BufferSink, Memory, Sink, Source};
+use program::Status;
+use session::{Session, TextFault};
+use speech::{
+    Command, Ending, Reply, Service, SessionService, TextPaths, converse, unfinished_reply,
+};
+use std::alloc::Global;
+use system_files::Files;
+
+/// Writes the texts of the session into the files at the paths, the certificate in the second format. Where there is no memory for
+/// all three, or facts are pending, nothing is written.
+fn file_texts<F: Files>(
+    files: &mut F,
+    session: &Session,
+    paths: &Paths<'_>,
+) -> Result<Summary, TextFault>
+    ensures filed { AreTextsFiled paths.now Two (F.is_known files.old) session.now (F.content files.old) (F.content files.new)
+        (F.failed_writes files.old) (F.failed_writes files.new) result }
+    ensures known { F.is_known files.new ≡ F.is_known files.old }
+{
+    let Ok(mut sinks) = sinks_of(files, paths) else {
+        return Err(TextFault::Memory);
+    };
+    let written = session.write(
+        &mut sinks.taxonomy,
+        &mut sinks.instances,
+        &mut sinks.certificate,
+        Format::Two,
+    );
+    files.close(sinks.taxonomy);
+    files.close(sinks.instances);
+    files.close(sinks.certificate);
+    written
+}
+
+/// The reply with the counts, or with nothing where there is no memory for them: the texts are written by then.
+fn counted_reply(alloc: Global, summary: &Summary) -> Reply
+    ensures { IsToldAs Status.Done (summary_text summary.now) (told result.status result.text.items) }
+{
+    let mut line = BufferSink::new(alloc);
+    if print_summary(&mut line, summary) != Status::Done.code() {
+        return Reply {
+            status: Status::Done,
+            text: Vec::new(alloc),
+        };
+    }
+    Reply {
+        status: Status::Done,
+        text: line.into_bytes(),
+    }
+}
+
+/// The reply that the file at the path is not written, without its text where there is no memory for that.
+fn unwritten_reply(alloc: Global, path: &str) -> Reply
+    ensures { IsToldAs Status.File (cannot_write path.now) (told result.status result.text.items) }
+{
+    match unwritten_message(alloc, path) {
+        Ok(message) => Reply {
+            status: message.status,
+            text: message.text.into_bytes(),
+        },
+        Err(_) => Reply {
+            status: Status::File,
+            text: Vec::new(alloc),
+        },
+    }
+}
+
+/// The reply that the texts are written into the files at the paths, or why not.
+fn filed_reply(
+    alloc: Global,
+    answer: Result<Summary, TextFault>,
+    paths: &Paths<'_>,
+) -> Result<Reply, Memory>
+    ensures { IsTextsTold paths.now answer (told_by result) }
+{
+    match answer {
+        Ok(summary) => Ok(counted_reply(alloc, &summary)),
+        Err(TextFault::Unfinished) => unfinished_reply(alloc),
+        Err(TextFault::Memory) => Err(Memory),
+        Err(TextFault::Io(number)) => Ok(unwritten_reply(alloc, written_path(paths, number))),
+    }
+}
+
+/// A session over the document at the path, which answers commands and writes its texts into the files.
+#[derive(Drop)]
+pub(crate) struct FileService<'f, F: Files> {
+    pub document: &'f str,
+    pub service: &'f mut SessionService,
+    pub files: &'f mut F,
+}
+
+impl<'f, F: Files> FileService<'f, F> {
+    /// Writes the texts into the files at the paths, and tells that.
+    fn file(&mut self, texts: &TextPaths<'_>) -> Result<Reply, Memory>
+        ensures filing { IsFiling (F.is_known self.old.files.now) (paths_of self.old.document texts.now) (filed F.Files self.old) (told_by result) (filed F.Files self.new) }
+        ensures document { self.new.document ≡ self.old.document }
+        ensures known { F.is_known self.new.files.now ≡ F.is_known self.old.files.now }
+        ensures files { self.new.files.ghost_name ≡ self.old.files.ghost_name }
+    {
+        let paths = Paths {
+            document: self.document,
+            taxonomy: texts.taxonomy,
+            instances: texts.instances,
+            certificate: texts.certificate,
+        };
+        self.service.session.well_formed();
+        let answer = file_texts(self.files, &self.service.session, &paths);
+        filed_reply(self.service.alloc, answer, &paths)
+    }
+}
+
+impl<'f, F: Files> Service for FileService<'f, F> {
+    ghost use Rattle.cli.specs.Filing.{IsFiledIn};
+    ghost use Rattle.speech.specs.Answers.{session_service};
+
+    ghost steps = { IsFiledIn F.Files };
+
+    ghost room = { λ s. session_service.room s.service.now };
+
+    fn most_payload(&self) -> u64 {
+        self.service.most_payload()
+    }
+
+    fn answer(&mut self, command: Command<'_>, payload: &[u8]) -> Result<Reply, Memory> {
+        match command.text_paths() {
+            Some(texts) => self.file(&texts),
+            None => self.service.answer(command, payload),
+        }
+    }
+}
+
+/// Answers the commands that are read, until there are no more, and writes texts into the files.
+pub(crate) fn converse_over_files<F: Files, S: Source, O: Sink>(
+    alloc: Global,
+    service: &mut FileService<'_, F>,
+    source: &mut S,
+    sink: &mut O,
+) -> Ending
+    ensures spoken { IsConversation (filing_service (F.is_known service.old.files.now) service.old.document) (filed F.Files service.old) (filed F.Files service.new)
+        (source_state S.Source source.old) (source_state S.Source source.new) (seen O.Sink sink.old) (seen O.Sink sink.new) result }
+    ensures files { service.new.files.ghost_name ≡ service.old.files.ghost_name }
+{
+    converse(alloc, service, source, sink)
+}

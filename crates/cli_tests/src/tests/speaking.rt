@@ -1,0 +1,109 @@
+//! Sessions over files in memory, into which they write their texts.
+
+use super::*;
+
+pub(super) const SESSION: &[&str] = &["elc", "session", "doc"];
+
+/// Files of which one holds the document, and one what is asked.
+pub(super) fn files_asked(alloc: Global, asked: &str) -> Result<MemoryFiles, Memory> {
+    let mut files = files_with(alloc, ONE_DOCUMENT)?;
+    files.put("/dev/stdin", asked.as_bytes())?;
+    Ok(files)
+}
+
+/// Whether the texts are the same, byte for byte.
+fn are_same(texts: &Texts, others: &Texts) -> bool {
+    texts.taxonomy.as_slice() == others.taxonomy.as_slice()
+        && texts.instances.as_slice() == others.instances.as_slice()
+        && texts.certificate.as_slice() == others.certificate.as_slice()
+}
+
+/// Texts are asked for before the run, and behind it.
+const ASKED: &str = "write tax inst cert
+run
+write tax inst cert
+";
+
+const REPLIED: &str = "no 2 19
+not run to its end
+ok 8
+facts 8
+ok 43
+consistent classes 4 individuals 0 facts 8
+";
+
+#[test]
+fn a_session_writes_what_a_classification_does(rt: HostRuntime) -> Result<(), Fail> {
+    let mut files = files_asked(rt.alloc(), ASKED)?;
+    let run = run_of(&rt, SESSION, &mut files)?;
+    let texts = texts_in(rt.alloc(), &files)?;
+    let (_, others) = written_by(&rt, CLASSIFY, ONE_DOCUMENT)?;
+    assert!(rt; is_run(&run, 0, REPLIED, ""));
+    assert!(rt; are_texts(&texts, ONE, NO_INSTANCES));
+    assert!(rt; are_same(&texts, &others));
+    Ok(())
+}
+
+/// An axiom is added, and texts are written twice, once to files in another order.
+const ASKED_ADDED: &str = "run
+add 23
+SubClassOf(<x:B> <x:C>)
+write tax inst cert
+run
+write a b c
+write inst cert tax
+write tax inst cert
+";
+
+const REPLIED_ADDED: &str = "ok 8
+facts 8
+ok 0
+no 2 19
+not run to its end
+ok 9
+facts 12
+ok 44
+consistent classes 5 individuals 0 facts 12
+ok 44
+consistent classes 5 individuals 0 facts 12
+ok 44
+consistent classes 5 individuals 0 facts 12
+";
+
+/// The document with what is added.
+const WHOLE: &[u8] = b"Ontology(SubClassOf(<x:A> <x:B>) SubClassOf(<x:B> <x:C>))";
+
+const TWO: &str =
+    "eltax 1 consistent\n<http://www.w3.org/2002/07/owl#Thing>\n<x:A> < <x:B>\n<x:B> < <x:C>\n<x:C> < <http://www.w3.org/2002/07/owl#Thing>\nbottom <http://www.w3.org/2002/07/owl#Nothing>\n";
+
+#[test]
+fn texts_are_those_of_all_that_was_added(rt: HostRuntime) -> Result<(), Fail> {
+    let alloc = rt.alloc();
+    let mut files = files_asked(alloc, ASKED_ADDED)?;
+    let run = run_of(&rt, SESSION, &mut files)?;
+    let texts = texts_in(alloc, &files)?;
+    assert!(rt; is_run(&run, 0, REPLIED_ADDED, ""));
+    assert!(rt; are_texts(&texts, TWO, NO_INSTANCES));
+    assert!(rt; held(alloc, &files, "a")?.as_slice() == TWO.as_bytes());
+    assert!(rt; held(alloc, &files, "c")?.as_slice() == texts.certificate.as_slice());
+    assert!(rt; is_run(&check(&rt, WHOLE, &texts)?, 0, "accepted\n", ""));
+    Ok(())
+}
+
+/// Texts are asked for in files that can not be written, and the session goes on.
+pub(super) const ASKED_UNWRITTEN: &str = "run
+write tax inst cert
+status
+";
+
+#[test]
+fn a_file_that_is_not_written_is_named(rt: HostRuntime) -> Result<(), Fail> {
+    let mut files = files_asked(rt.alloc(), ASKED_UNWRITTEN)?;
+    files.lock();
+    let run = run_of(&rt, SESSION, &mut files)?;
+    let texts = texts_in(rt.alloc(), &files)?;
+    let told = "ok 8\nfacts 8\nno 6 17\ncannot write tax\nok 26\nfacts 8 served 8 bytes 33\n";
+    assert!(rt; is_run(&run, 0, told, ""));
+    assert!(rt; are_same(&texts, &no_texts(rt.alloc())));
+    Ok(())
+}
