@@ -1,5 +1,5 @@
 -- What a conversion writes, and what its files hold then.
-use Rattle.std.proofs.Common.{◌≡◌, ◌∙◌, ◌<◌, ℕ, List, [], Bool, true, false, Option, Some, None, Result, Ok, Err, OnOk, OnErr, IfErr, ap, refl, sym, subst}
+use Rattle.std.proofs.Common.{◌≡◌, ℕ, List, [], Bool, true, false, Option, Some, None, Result, Ok, Err, OnOk, OnErr, IfErr, ap, refl, subst}
 use Rattle.std.specs.Prelude.{IsErrOf}
 use Rattle.std.specs.Io.KnownBytes.{Keeps}
 use Rattle.std.proofs.KnownBytes.{Keeps-refl}
@@ -18,7 +18,6 @@ use Rattle.cli.specs.HeldTexts.{Holds, HoldsPrefix, Stays}
 use Rattle.cli.specs.Runs.{AreOtherFilesKept, IsConversionMade, format_of}
 use Rattle.cli.specs.declared.fault.CheckFault.{CheckFault}
 use Rattle.cli.specs.declared.fault.CheckFault.TheVariants as checking
-use Rattle.cli.specs.declared.fault.ConversionFault.{ConversionFault}
 use Rattle.cli.specs.declared.fault.ConversionFault.TheVariants.{Certificate}
 use Rattle.command_line.specs.declared.tasks.Conversion.{Conversion}
 use Rattle.device.specs.Device.{HasFailed}

@@ -124,14 +124,14 @@ same_paths rows p q a b = record {
 }
 
 -- what a run of a command says that the words of `classify` ask for
-classify_run : (name : Text) (rows : List Row) (paths : Paths) (number : FormatNumber) (command : Command) (limits : Limits) (s : Store) (content content' : Content) (old new : Output) (status : ℕ) → IsCommand name rows (Classify paths number) → IsCommand name rows command → IsCommandRun command limits s content content' old new status → (paths' : Paths) × (format : Format) × AreSamePaths paths paths' × IsClassifyRun paths' format limits s content content' old new status
-classify_run name rows paths number (Classify paths' number') limits s content content' old new status is is' run = (paths', format_of number', same_paths rows paths paths' is.1 is'.1, run)
-classify_run name rows paths number (Check paths') limits s content content' old new status is is' run = let bad : 108 ≡ 104 = one_letter name rows (Classify paths number) (Check paths') is is' in absurd (cc)
-classify_run name rows paths number (Convert conversion) limits s content content' old new status is is' run = let bad : 108 ≡ 111 = one_letter name rows (Classify paths number) (Convert conversion) is is' in absurd (cc)
-classify_run name rows paths number (Instances document class) limits s content content' old new status is is' run = let bad : 108 ≡ 110 = one_letter name rows (Classify paths number) (Instances document class) is is' in absurd (cc)
-classify_run name rows paths number (Explain question) limits s content content' old new status is is' run = let bad : 108 ≡ 120 = one_letter name rows (Classify paths number) (Explain question) is is' in absurd (cc)
-classify_run name rows paths number (Query document expression) limits s content content' old new status is is' run = let bad : 108 ≡ 117 = one_letter name rows (Classify paths number) (Query document expression) is is' in absurd (cc)
-classify_run name rows paths number (Session document) limits s content content' old new status is is' run = let bad : 108 ≡ 101 = one_letter name rows (Classify paths number) (Session document) is is' in absurd (cc)
+classify_run : (told : Bool) (name : Text) (rows : List Row) (paths : Paths) (number : FormatNumber) (command : Command) (limits : Limits) (s : Store) (content content' : Content) (old new : Output) (status : ℕ) → IsCommand name rows (Classify paths number) → IsCommand name rows command → IsCommandRun told command limits s content content' old new status → (paths' : Paths) × (format : Format) × AreSamePaths paths paths' × IsClassifyRun paths' format limits s content content' old new status
+classify_run told name rows paths number (Classify paths' number') limits s content content' old new status is is' run = (paths', format_of number', same_paths rows paths paths' is.1 is'.1, run)
+classify_run told name rows paths number (Check paths') limits s content content' old new status is is' run = let bad : 108 ≡ 104 = one_letter name rows (Classify paths number) (Check paths') is is' in absurd (cc)
+classify_run told name rows paths number (Convert conversion) limits s content content' old new status is is' run = let bad : 108 ≡ 111 = one_letter name rows (Classify paths number) (Convert conversion) is is' in absurd (cc)
+classify_run told name rows paths number (Instances document class) limits s content content' old new status is is' run = let bad : 108 ≡ 110 = one_letter name rows (Classify paths number) (Instances document class) is is' in absurd (cc)
+classify_run told name rows paths number (Explain question) limits s content content' old new status is is' run = let bad : 108 ≡ 120 = one_letter name rows (Classify paths number) (Explain question) is is' in absurd (cc)
+classify_run told name rows paths number (Query document expression) limits s content content' old new status is is' run = let bad : 108 ≡ 117 = one_letter name rows (Classify paths number) (Query document expression) is is' in absurd (cc)
+classify_run told name rows paths number (Session document) limits s content content' old new status is is' run = let bad : 108 ≡ 101 = one_letter name rows (Classify paths number) (Session document) is is' in absurd (cc)
 
 -- the second letter of `check` comes before those of most other commands
 before : (d : ℕ) → ◌≡◌ {A = ℕ} 104 (105 + d) → ⊥
@@ -142,14 +142,14 @@ earlier : ◌≡◌ {A = ℕ} 104 101 → ⊥
 earlier e = omega (arith, e)
 
 -- what a run of a command says that the words of `check` ask for
-check_run : (name : Text) (rows : List Row) (paths : Paths) (command : Command) (limits : Limits) (s : Store) (content content' : Content) (old new : Output) (status : ℕ) → IsCommand name rows (Check paths) → IsCommand name rows command → IsCommandRun command limits s content content' old new status → (paths' : Paths) × AreSamePaths paths paths' × IsCheckRun paths' limits.version limits.max_bytes s content old new status × (tells_progress command ≡ true)
-check_run name rows paths (Check paths') limits s content content' old new status is is' run = (paths', same_paths rows paths paths' is.1 is'.1, run, refl)
-check_run name rows paths (Classify paths' number') limits s content content' old new status is is' run = absurd (before 3 (one_letter name rows (Check paths) (Classify paths' number') is is'))
-check_run name rows paths (Convert conversion) limits s content content' old new status is is' run = absurd (before 6 (one_letter name rows (Check paths) (Convert conversion) is is'))
-check_run name rows paths (Instances document class) limits s content content' old new status is is' run = absurd (before 5 (one_letter name rows (Check paths) (Instances document class) is is'))
-check_run name rows paths (Explain question) limits s content content' old new status is is' run = absurd (before 15 (one_letter name rows (Check paths) (Explain question) is is'))
-check_run name rows paths (Query document expression) limits s content content' old new status is is' run = absurd (before 12 (one_letter name rows (Check paths) (Query document expression) is is'))
-check_run name rows paths (Session document) limits s content content' old new status is is' run = absurd (earlier (one_letter name rows (Check paths) (Session document) is is'))
+check_run : (told : Bool) (name : Text) (rows : List Row) (paths : Paths) (command : Command) (limits : Limits) (s : Store) (content content' : Content) (old new : Output) (status : ℕ) → IsCommand name rows (Check paths) → IsCommand name rows command → IsCommandRun told command limits s content content' old new status → (paths' : Paths) × AreSamePaths paths paths' × IsCheckRun paths' limits.version limits.max_bytes s content old new status × (tells_progress command ≡ true)
+check_run told name rows paths (Check paths') limits s content content' old new status is is' run = (paths', same_paths rows paths paths' is.1 is'.1, run, refl)
+check_run told name rows paths (Classify paths' number') limits s content content' old new status is is' run = absurd (before 3 (one_letter name rows (Check paths) (Classify paths' number') is is'))
+check_run told name rows paths (Convert conversion) limits s content content' old new status is is' run = absurd (before 6 (one_letter name rows (Check paths) (Convert conversion) is is'))
+check_run told name rows paths (Instances document class) limits s content content' old new status is is' run = absurd (before 5 (one_letter name rows (Check paths) (Instances document class) is is'))
+check_run told name rows paths (Explain question) limits s content content' old new status is is' run = absurd (before 15 (one_letter name rows (Check paths) (Explain question) is is'))
+check_run told name rows paths (Query document expression) limits s content content' old new status is is' run = absurd (before 12 (one_letter name rows (Check paths) (Query document expression) is is'))
+check_run told name rows paths (Session document) limits s content content' old new status is is' run = absurd (earlier (one_letter name rows (Check paths) (Session document) is is'))
 
 same_version : (v w : Version) → version_number v ≡ version_number w → v ≡ w
 same_version One One e = refl
@@ -198,15 +198,15 @@ record IsClassifiedBy (paths : Paths) (s : Store) (content content' : Content) (
 
 classified : (words : List Text) (task : Task) (paths : Paths) (number : FormatNumber) (s : Store) (content content' : Content) (old new : Output) → IsTaskOf words task → task.command ≡ Classify paths number → IsPerformed words s content content' old new (code_of statuses.Done) → IsClassifiedBy paths s content content' old new
 classified words task paths number s content content' old new of is (inl run) =
-    let made = classify_run _ _ paths number run.0.command run.0.limits s content content' run.2.begun new (code_of statuses.Done) (named words task run.0 (Classify paths number) run.1 of is).is run.1.is.command run.2.holds in
+    let made = classify_run run.0.progress _ _ paths number run.0.command run.0.limits s content content' run.2.begun new (code_of statuses.Done) (named words task run.0 (Classify paths number) run.1 of is).is run.1.is.command run.2.holds in
     record { paths' = made.0; format = made.1; limits = run.0.limits; same = made.2; begun = run.2.begun; run = made.3 }
 classified words task paths number s content content' old new of is (inr run) = absurd (line_not_done run.0 old.err new.err run.3)
 
 -- the run of a check that the words ask for
-checked : (words : List Text) (task other : Task) (paths : Paths) (s : Store) (content content' : Content) (old new : Output) (status : ℕ) → IsTaskOf words task → task.command ≡ Check paths → IsTaskOf words other → IsCommandRun other.command other.limits s content content' old new status → (paths' : Paths) × AreSamePaths paths paths' × IsCheckRun paths' task.limits.version task.limits.max_bytes s content old new status × (other.progress ≡ task.progress)
+checked : (words : List Text) (task other : Task) (paths : Paths) (s : Store) (content content' : Content) (old new : Output) (status : ℕ) → IsTaskOf words task → task.command ≡ Check paths → IsTaskOf words other → IsCommandRun other.progress other.command other.limits s content content' old new status → (paths' : Paths) × AreSamePaths paths paths' × IsCheckRun paths' task.limits.version task.limits.max_bytes s content old new status × (other.progress ≡ task.progress)
 checked words task other paths s content content' old new status of is of' run =
     let here = named words task other (Check paths) of' of is in
-    let made = check_run _ _ paths other.command other.limits s content content' old new status here.is of'.is.command run in
+    let made = check_run other.progress _ _ paths other.command other.limits s content content' old new status here.is of'.is.command run in
     let P : ℕ → Type 0 = λ most. IsCheckRun made.0 other.limits.version most s content old new status in
     let Q : Version → Type 0 = λ version. IsCheckRun made.0 version task.limits.max_bytes s content old new status in
     let R : Bool → Type 0 = λ tells. IsTelling tells of'.rows other.progress in

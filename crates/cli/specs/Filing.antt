@@ -1,5 +1,5 @@
 -- A session that answers commands, over files into which it writes its texts.
-use Rattle.std.specs.Prelude.{◌≡◌, ◌≤◌, ◌⊎◌, ℕ, List, [], Bool, Option, Some, None, Result, Ok, Err}
+use Rattle.std.specs.Prelude.{◌≡◌, ◌≤◌, ◌<◌, ◌⊎◌, ◌&&◌, ℕ, List, [], Bool, true, false, Option, Some, None, Result, Ok, Err}
 use Rattle.std.specs.Borrow.{Bor}
 use Rattle.certificate.specs.declared.format.Format.{Format}
 use Rattle.certificate.specs.declared.format.Format.TheVariants.{Two}
@@ -9,12 +9,16 @@ use Rattle.cli.specs.Messages.{cannot_write, summary_text, written_path}
 use Rattle.cli.specs.declared.filing.FileService.{FileService}
 use Rattle.command_line.specs.declared.tasks.Paths.{Paths}
 use Rattle.device.specs.Device.{HasFailed}
+use Rattle.device.specs.declared.device.Sink as sinks
 use Rattle.engine.specs.Saturations.{IsFinished}
+use Rattle.program.specs.declared.limits.Limits.{Limits}
 use Rattle.program.specs.declared.status.Status.{Status}
 use Rattle.program.specs.declared.status.Status.TheVariants as statuses
 use Rattle.program.specs.declared.version.Version.{Version}
 use Rattle.session.specs.Answers.{IsMade}
-use Rattle.session.specs.Edits.{IsOneDocument, IsSessionOver}
+use Rattle.session.specs.Devices.{seen}
+use Rattle.session.specs.Edits.{Reply, IsCall, IsOneDocument, IsSessionOver, Resume}
+use Rattle.session.specs.Progress.{IsProgress}
 use Rattle.session.specs.Sessions.{IsSession, Opened}
 use Rattle.session.specs.WrittenTexts.{Texts}
 use Rattle.session.specs.declared.fault.TextFault.{TextFault}
@@ -25,6 +29,7 @@ use Rattle.speech.specs.Conversations.{AreExchanges, Exchange}
 use Rattle.speech.specs.Editing.{AreCallsOf, texts_added}
 use Rattle.speech.specs.Replies.{Told, out_of_memory, told}
 use Rattle.speech.specs.declared.command.Command.{Command}
+use Rattle.speech.specs.declared.command.Command.TheVariants as asked
 use Rattle.speech.specs.declared.command.TextPaths.{TextPaths}
 use Rattle.speech.specs.declared.service.Service.{Ghosts}
 use Rattle.speech.specs.declared.session_service.SessionService.{SessionService}
@@ -89,47 +94,67 @@ pub record IsFiling (known : Bool) (paths : Paths) (old : Filed) (t : Told) (new
   pub service : new.service ≡ old.service
   pub session : IsSession new.service.session
 
--- the session alone answers, and the files stay as they are
-pub record IsServedAlone (old : Filed) (command : Command) (payload : List ℕ) (t : Told) (new : Filed) : Type 0 where
-  pub served : IsServed old.service command payload t new.service
+-- the session is run on by calls that allow fewer facts than the limit, one behind the other
+pub data IsRunOn (limits : Limits) (old : Opened) : Opened → Type 0 where
+  unmoved : IsRunOn limits old old
+  onward : (mid new : Opened) (most : ℕ) (reply : Reply) → IsRunOn limits old mid → most < limits.max_facts → IsCall mid (Resume most) reply new → IsSession new → IsRunOn limits old new
+
+-- the command finds out what follows
+abbrev pub is_run : Command → Bool
+is_run asked.Run = true
+is_run command = false
+
+-- what is done before a command is answered: where progress is told of it, the session is run on in slices, and else nothing
+abbrev pub IsBegunIn : (slices : Bool) → (old begun : SessionService) → Type 0
+IsBegunIn false old begun = begun ≡ old
+IsBegunIn true old begun = (begun.limits ≡ old.limits) × IsRunOn old.limits old.session begun.session
+
+-- the session alone answers, a run behind slices of it where progress is told, and the files stay as they are
+pub record IsServedAlone (told : Bool) (old : Filed) (command : Command) (payload : List ℕ) (t : Told) (new : Filed) : Type 0 where
+  pub begun : SessionService
+  pub slices : IsBegunIn (told && is_run command) old.service begun
+  pub served : IsServed begun command payload t new.service
   pub content : new.content ≡ old.content
   pub failed_writes : new.failed_writes ≡ old.failed_writes
 
 -- what a command does that asks to write files at these paths, if it does
-abbrev pub IsFiledBy : (known : Bool) → (document : Bor (List ℕ)) → Option TextPaths → (old : Filed) → Command → (payload : List ℕ) → Told → (new : Filed) → Type 0
-IsFiledBy known document (Some texts) old command payload t new = IsFiling known (paths_of document texts) old t new
-IsFiledBy known document None old command payload t new = IsServedAlone old command payload t new
+abbrev pub IsFiledBy : (known told : Bool) → (document : Bor (List ℕ)) → Option TextPaths → (old : Filed) → Command → (payload : List ℕ) → Told → (new : Filed) → Type 0
+IsFiledBy known told document (Some texts) old command payload t new = IsFiling known (paths_of document texts) old t new
+IsFiledBy known told document None old command payload t new = IsServedAlone told old command payload t new
 
--- what a session over files says as what answers commands
-abbrev pub filing_service : (known : Bool) → (document : Bor (List ℕ)) → Ghosts Filed
-filing_service known document = record {
-  steps = λ old command payload t new. IsFiledBy known document (text_paths command) old command payload t new;
+-- what a session over files says as what answers commands, where progress is told or not
+abbrev pub filing_service : (known told : Bool) → (document : Bor (List ℕ)) → Ghosts Filed
+filing_service known told document = record {
+  steps = λ old command payload t new. IsFiledBy known told document (text_paths command) old command payload t new;
   room = λ s. session_service.room s.service;
 }
 
 -- ---- sessions over files that are borrowed
 
 -- what the words of their trait tell of the files
-abbrev pub filed : {F In Out : Type 0} → files.Ghosts F In Out → FileService F In Out → Filed
+abbrev pub filed : {F In Out E : Type 0} → files.Ghosts F In Out → FileService F E In Out → Filed
 filed F s = record { service = s.service.now; content = F.content s.files.now; failed_writes = F.failed_writes s.files.now }
 
--- what a command does, to the same files
-pub record IsFiledIn {F In Out : Type 0} (G : files.Ghosts F In Out) (old : FileService F In Out) (command : Command) (payload : List ℕ) (t : Told) (new : FileService F In Out) : Type 0 where
-  pub step : IsFiledBy (G.is_known old.files.now) old.document (text_paths command) (filed G old) command payload t (filed G new)
+-- what a command does, to the same files, and what is told of it on the way, to the same sink
+pub record IsFiledIn {F In Out E : Type 0} (G : files.Ghosts F In Out) (S : sinks.Ghosts E) (old : FileService F E In Out) (command : Command) (payload : List ℕ) (t : Told) (new : FileService F E In Out) : Type 0 where
+  pub step : IsFiledBy (G.is_known old.files.now) old.told old.document (text_paths command) (filed G old) command payload t (filed G new)
   pub document : new.document ≡ old.document
+  pub told : new.told ≡ old.told
   pub known : G.is_known new.files.now ≡ G.is_known old.files.now
   pub files : new.files.ghost_name ≡ old.files.ghost_name
+  pub progress : IsProgress old.told (seen S old.err.now) (seen S new.err.now)
+  pub err : new.err.ghost_name ≡ old.err.ghost_name
 
 -- ---- laws
 
 -- whatever is asked: it is calls of the session, one after the other, and writing is none that adds
 abbrev pub FiledConversationsAreCalls : Type 0
 FiledConversationsAreCalls =
-    (known : Bool) (document : Bor (List ℕ)) (old new : Filed) (xs : List Exchange) → AreExchanges (filing_service known document) old xs new →
+    (known told : Bool) (document : Bor (List ℕ)) (old new : Filed) (xs : List Exchange) → AreExchanges (filing_service known told document) old xs new →
     AreCallsOf old.service.session xs new.service.session
 
 -- so what is there is what the document states with the texts that are told to be added
 abbrev pub FiledConversationsAreOneDocument : Type 0
 FiledConversationsAreOneDocument =
-    (known : Bool) (document : Bor (List ℕ)) (version : Version) (bytes : List ℕ) (old new : Filed) (xs : List Exchange) → IsSessionOver version bytes old.service.session →
-    AreExchanges (filing_service known document) old xs new → IsOneDocument version bytes (texts_added xs) new.service.session
+    (known told : Bool) (document : Bor (List ℕ)) (version : Version) (bytes : List ℕ) (old new : Filed) (xs : List Exchange) → IsSessionOver version bytes old.service.session →
+    AreExchanges (filing_service known told document) old xs new → IsOneDocument version bytes (texts_added xs) new.service.session

@@ -196,19 +196,19 @@ pub record IsQueryRun (path text : List ℕ) (limits : Limits) (s : Store) (cont
   pub told : IsQuestionTold path limits answer old new status
 
 -- a run of a command within the limits
-abbrev pub IsCommandRun : Command → Limits → Store → (content content' : Content) → (old new : Output) → (status : ℕ) → Type 0
-IsCommandRun (Classify paths number) limits s content content' old new status = IsClassifyRun paths (format_of number) limits s content content' old new status
-IsCommandRun (Check paths) limits s content content' old new status = IsCheckRun paths limits.version limits.max_bytes s content old new status
-IsCommandRun (Convert conversion) limits s content content' old new status = IsConvertRun conversion limits s content content' old new status
-IsCommandRun (Instances document class) limits s content content' old new status = IsInstancesRun document.now class.now limits s content old new status
-IsCommandRun (Explain question) limits s content content' old new status = IsExplainRun question limits s content old new status
-IsCommandRun (Query document expression) limits s content content' old new status = IsQueryRun document.now expression.now limits s content old new status
-IsCommandRun (Session document) limits s content content' old new status = IsSessionRun document limits s content content' old new status
+abbrev pub IsCommandRun : (told : Bool) → Command → Limits → Store → (content content' : Content) → (old new : Output) → (status : ℕ) → Type 0
+IsCommandRun told (Classify paths number) limits s content content' old new status = IsClassifyRun paths (format_of number) limits s content content' old new status
+IsCommandRun told (Check paths) limits s content content' old new status = IsCheckRun paths limits.version limits.max_bytes s content old new status
+IsCommandRun told (Convert conversion) limits s content content' old new status = IsConvertRun conversion limits s content content' old new status
+IsCommandRun told (Instances document class) limits s content content' old new status = IsInstancesRun document.now class.now limits s content old new status
+IsCommandRun told (Explain question) limits s content content' old new status = IsExplainRun question limits s content old new status
+IsCommandRun told (Query document expression) limits s content content' old new status = IsQueryRun document.now expression.now limits s content old new status
+IsCommandRun told (Session document) limits s content content' old new status = IsSessionRun told document limits s content content' old new status
 
 -- a run of the program: of the task that the words ask for, behind its progress; or the words are no task, which is told
 abbrev pub IsPerformed : List Text → Store → (content content' : Content) → (old new : Output) → (status : ℕ) → Type 0
 IsPerformed words s content content' old new status =
-    ((task : Task) × IsTaskOf words task × BehindProgress task.progress old (λ begun. IsCommandRun task.command task.limits s content content' begun new status))
+    ((task : Task) × IsTaskOf words task × BehindProgress task.progress old (λ begun. IsCommandRun task.progress task.command task.limits s content content' begun new status))
     ⊎ ((fault : LineFault) × Refuses words fault × (new.out ≡ old.out) × IsLineTold fault old.err new.err status)
 
 -- a classification, a conversion and a session write files
@@ -227,13 +227,13 @@ AskForNoFiles words = (task : Task) → IsTaskOf words task → writes_files tas
 -- a run of a command
 abbrev pub Runs : {F In Out O E : Type 0} → files.Ghosts F In Out → sinks.Ghosts O → sinks.Ghosts E → Command → Limits → (old new : F × O × E) → (status : ℕ) → Type 0
 Runs F O E command limits old new status =
-    IsCommandRun command limits (store F old.0 new.0) (F.content old.0) (F.content new.0) (outputs O E old.1 old.2) (outputs O E new.1 new.2) status
+    IsCommandRun false command limits (store F old.0 new.0) (F.content old.0) (F.content new.0) (outputs O E old.1 old.2) (outputs O E new.1 new.2) status
 
 -- a run of a command behind its progress
 abbrev pub RunsTelling : {F In Out O E : Type 0} → files.Ghosts F In Out → sinks.Ghosts O → sinks.Ghosts E → (told : Bool) → Command → Limits → (old new : F × O × E) → (status : ℕ) → Type 0
 RunsTelling F O E told command limits old new status =
     BehindProgress told (outputs O E old.1 old.2)
-    (λ begun. IsCommandRun command limits (store F old.0 new.0) (F.content old.0) (F.content new.0) begun (outputs O E new.1 new.2) status)
+    (λ begun. IsCommandRun told command limits (store F old.0 new.0) (F.content old.0) (F.content new.0) begun (outputs O E new.1 new.2) status)
 
 -- a run of the program
 abbrev pub Performs : {F In Out O E : Type 0} → files.Ghosts F In Out → sinks.Ghosts O → sinks.Ghosts E → List Text → (old new : F × O × E) → (status : ℕ) → Type 0

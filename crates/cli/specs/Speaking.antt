@@ -1,9 +1,9 @@
 -- A run that keeps a document, and answers commands.
-use Rattle.std.specs.Prelude.{◌≡◌, ◌⊎◌, ℕ, List, [], Option, codes}
+use Rattle.std.specs.Prelude.{◌≡◌, ◌⊎◌, ℕ, List, [], Bool, Option, codes}
 use Rattle.std.specs.Borrow.{Bor}
 use Rattle.std.specs.Io.KnownBytes.{Keeps}
 use Rattle.cli.specs.Files.{BlamesFile, IsUnopened, NoWriteFails, Store}
-use Rattle.cli.specs.Filing.{Filed, filing_service}
+use Rattle.cli.specs.Filing.{filing_service}
 use Rattle.cli.specs.Messages.{IsTold, Output}
 use Rattle.profile.specs.Faults.{OpensKnown, RefusesKnown}
 use Rattle.profile.specs.Messages.{status_of}
@@ -51,8 +51,9 @@ pub record IsUnheardTold (limits : Limits) (s : Store) (content content' : Conte
   pub told : IsTold old.err new.err (IsDocumentText input_path limits.max_bytes fault) (status_of fault) status
   pub files : AreFilesKept s content content'
 
--- commands are answered by a session over the document, which writes its texts into the files, up to an end that the status tells
-pub record IsSpoken (document : Bor (List ℕ)) (limits : Limits) (s : Store) (content content' : Content) (old new : Output) (status : ℕ) : Type 0 where
+-- commands are answered by a session over the document, which writes its texts into the files, up to an end that the status tells; what is
+-- told on the way is progress
+pub record IsSpoken (told : Bool) (document : Bor (List ℕ)) (limits : Limits) (s : Store) (content content' : Content) (old new : Output) (status : ℕ) : Type 0 where
   pub service : SessionService
   pub last : SessionService
   pub opened : IsOpenedAs limits (content document.now) service.session
@@ -61,13 +62,13 @@ pub record IsSpoken (document : Bor (List ℕ)) (limits : Limits) (s : Store) (c
   pub after : SourceState
   pub left : Keeps (content input_path) before.left
   pub ending : Ending
-  pub spoken : IsConversation (filing_service s.is_known document) (record { service = service; content = content; failed_writes = s.failed_before })
+  pub spoken : IsConversation (filing_service s.is_known told document) (record { service = service; content = content; failed_writes = s.failed_before })
       (record { service = last; content = content'; failed_writes = s.failed_behind }) before after old.out new.out ending
   pub status_is : status ≡ code_of (status_of_end ending)
   pub quiet : new.err ≡ old.err
 
 -- a run of `session`
-abbrev pub IsSessionRun : (document : Bor (List ℕ)) → Limits → Store → (content content' : Content) → (old new : Output) → (status : ℕ) → Type 0
-IsSessionRun document limits s content content' old new status =
-    IsSpoken document limits s content content' old new status
+abbrev pub IsSessionRun : (told : Bool) → (document : Bor (List ℕ)) → Limits → Store → (content content' : Content) → (old new : Output) → (status : ℕ) → Type 0
+IsSessionRun told document limits s content content' old new status =
+    IsSpoken told document limits s content content' old new status
     ⊎ (IsUnopenedTold document.now limits s content content' old new status ⊎ IsUnheardTold limits s content content' old new status)

@@ -1,15 +1,18 @@
 //! A session that answers commands, over files into which it writes its texts.
 ghost use Rattle.certificate.specs.declared.format.Format.TheVariants.{Two};
-ghost use Rattle.cli.specs.Filing.{AreTextsFiled, IsFiling, IsTextsTold, IsToldAs, filed, filing_service, paths_of};
+ghost use Rattle.cli.specs.Filing.{AreTextsFiled, IsFiling, IsServedAlone, IsTextsTold, IsToldAs, filed, filing_service, is_run, paths_of};
 ghost use Rattle.cli.specs.Messages.{cannot_write, summary_text};
 ghost use Rattle.session.specs.Devices.{seen};
+ghost use Rattle.session.specs.Progress.{IsProgress};
 ghost use Rattle.source_lines.specs.Sources.{source_state};
+ghost use Rattle.speech.specs.Answers.{session_service};
 ghost use Rattle.speech.specs.Conversations.{IsConversation};
 ghost use Rattle.speech.specs.Replies.{told, told_by};
-ghost use Rattle.std.specs.Prelude.{◌≡◌};
+ghost use Rattle.std.specs.Prelude.{◌≡◌, ◌≤◌, ◌&&◌, length};
 
 use crate::printing::{print_summary, unwritten_message, written_path};
 use crate::sinks::sinks_of;
+use crate::slicing::{run_slices, tell_drawn};
 use certificate::Format;
 use classification::Summary;
 use command_line::Paths;
@@ -97,21 +100,33 @@ fn filed_reply(
     }
 }
 
-/// A session over the document at the path, which answers commands and writes its texts into the files.
+/// Whether the command is a run of which it is told how far it is.
+fn is_told_run(told: bool, command: Command<'_>) -> bool
+    ensures { result ≡ (told && is_run command.entry) }
+{
+    told && matches!(command, Command::Run)
+}
+
+/// A session over the document at the path, which answers commands and writes its texts into the files. Where progress is told, `err` is
+/// told how far a run is.
 #[derive(Drop)]
-pub(crate) struct FileService<'f, F: Files> {
+pub(crate) struct FileService<'f, 'e, F: Files, E: Sink> {
     pub document: &'f str,
     pub service: &'f mut SessionService,
     pub files: &'f mut F,
+    pub told: bool,
+    pub err: &'e mut E,
 }
 
-impl<'f, F: Files> FileService<'f, F> {
+impl<'f, 'e, F: Files, E: Sink> FileService<'f, 'e, F, E> {
     /// Writes the texts into the files at the paths, and tells that.
     fn file(&mut self, texts: &TextPaths<'_>) -> Result<Reply, Memory>
         ensures filing { IsFiling (F.is_known self.old.files.now) (paths_of self.old.document texts.now) (filed F.Files self.old) (told_by result) (filed F.Files self.new) }
         ensures document { self.new.document ≡ self.old.document }
+        ensures told { self.new.told ≡ self.old.told }
         ensures known { F.is_known self.new.files.now ≡ F.is_known self.old.files.now }
         ensures files { self.new.files.ghost_name ≡ self.old.files.ghost_name }
+        ensures err { self.new.err ≡ self.old.err }
     {
         let paths = Paths {
             document: self.document,
@@ -123,13 +138,31 @@ impl<'f, F: Files> FileService<'f, F> {
         let answer = file_texts(self.files, &self.service.session, &paths);
         filed_reply(self.service.alloc, answer, &paths)
     }
+
+    /// Answers a command that writes nothing. Where progress is told, a run is one in slices, behind each of which it is told how far it
+    /// is.
+    fn serve(&mut self, command: Command<'_>, payload: &[u8]) -> Result<Reply, Memory>
+        requires { length payload.now ≤ session_service.room self.old.service.now }
+        ensures served { IsServedAlone self.old.told (filed F.Files self.old) command.entry payload.now (told_by result) (filed F.Files self.new) }
+        ensures document { self.new.document ≡ self.old.document }
+        ensures told { self.new.told ≡ self.old.told }
+        ensures files { self.new.files ≡ self.old.files }
+        ensures progress { IsProgress self.old.told (seen E.Sink self.old.err.now) (seen E.Sink self.new.err.now) }
+        ensures err { self.new.err.ghost_name ≡ self.old.err.ghost_name }
+    {
+        let slices = is_told_run(self.told, command);
+        run_slices(self.service, slices, self.err);
+        let reply = self.service.answer(command, payload);
+        tell_drawn(&self.service.session, slices, self.err);
+        reply
+    }
 }
 
-impl<'f, F: Files> Service for FileService<'f, F> {
+impl<'f, 'e, F: Files, E: Sink> Service for FileService<'f, 'e, F, E> {
     ghost use Rattle.cli.specs.Filing.{IsFiledIn};
     ghost use Rattle.speech.specs.Answers.{session_service};
 
-    ghost steps = { IsFiledIn F.Files };
+    ghost steps = { IsFiledIn F.Files E.Sink };
 
     ghost room = { λ s. session_service.room s.service.now };
 
@@ -140,21 +173,23 @@ impl<'f, F: Files> Service for FileService<'f, F> {
     fn answer(&mut self, command: Command<'_>, payload: &[u8]) -> Result<Reply, Memory> {
         match command.text_paths() {
             Some(texts) => self.file(&texts),
-            None => self.service.answer(command, payload),
+            None => self.serve(command, payload),
         }
     }
 }
 
 /// Answers the commands that are read, until there are no more, and writes texts into the files.
-pub(crate) fn converse_over_files<F: Files, S: Source, O: Sink>(
+pub(crate) fn converse_over_files<F: Files, E: Sink, S: Source, O: Sink>(
     alloc: Global,
-    service: &mut FileService<'_, F>,
+    service: &mut FileService<'_, '_, F, E>,
     source: &mut S,
     sink: &mut O,
 ) -> Ending
-    ensures spoken { IsConversation (filing_service (F.is_known service.old.files.now) service.old.document) (filed F.Files service.old) (filed F.Files service.new)
+    ensures spoken { IsConversation (filing_service (F.is_known service.old.files.now) service.old.told service.old.document) (filed F.Files service.old) (filed F.Files service.new)
         (source_state S.Source source.old) (source_state S.Source source.new) (seen O.Sink sink.old) (seen O.Sink sink.new) result }
     ensures files { service.new.files.ghost_name ≡ service.old.files.ghost_name }
+    ensures progress { IsProgress service.old.told (seen E.Sink service.old.err.now) (seen E.Sink service.new.err.now) }
+    ensures err { service.new.err.ghost_name ≡ service.old.err.ghost_name }
 {
     converse(alloc, service, source, sink)
 }

@@ -15,6 +15,7 @@ mod opening;
 mod printing;
 mod run;
 mod sinks;
+mod slicing;
 mod speaking;
 mod starting;
 

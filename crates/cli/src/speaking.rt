@@ -83,6 +83,8 @@ pub(crate) fn perform_session<F: Files, O: Sink, E: Sink>(
         document: path,
         service: &mut service,
         files,
+        told,
+        err,
     };
     converse_over_files(alloc, &mut filing, &mut input, out)
         .status()

@@ -75,3 +75,26 @@ fn a_check_tells_what_it_read(rt: HostRuntime) -> Result<(), Fail> {
     assert!(rt; is_run(&run, 0, "accepted\n", told.as_str()));
     Ok(())
 }
+
+const TELLING_SESSION: &[&str] = &["elc", "session", "doc", "--progress"];
+
+/// A run, one of which nothing is left, and a question.
+const ASKED: &str = "run\nrun\nsupers x:A\n";
+
+const REPLIED: &str = "ok 8
+facts 5
+ok 8
+facts 5
+ok 40
+<http://www.w3.org/2002/07/owl#Thing>
+";
+
+#[test]
+fn a_session_tells_how_far_its_runs_are(rt: HostRuntime) -> Result<(), Fail> {
+    let mut files = files_with(rt.alloc(), DOCUMENT.as_bytes())?;
+    files.put("/dev/stdin", ASKED.as_bytes())?;
+    let run = run_of(&rt, TELLING_SESSION, &mut files)?;
+    let told = "read: bytes 44 axioms 1\ndrawn: facts 5 pending 0\ndrawn: facts 5 pending 0\n";
+    assert!(rt; is_run(&run, 0, REPLIED, told));
+    Ok(())
+}

@@ -1,6 +1,7 @@
 use Rattle.std.proofs.Common.{◌≡◌, ◌∙◌, true, false, ap, inl, subst, sym}
 use Rattle.cli.specs.Messages.{outputs}
-use Rattle.cli.specs.Runs.{Runs, RunsTelling, writes_files}
+use Rattle.cli.specs.Files.{store}
+use Rattle.cli.specs.Runs.{IsCommandRun, RunsTelling, writes_files}
 use Rattle.cli.proofs.Telling.{nothing_told}
 use Rattle.command_line.specs.declared.tasks.Command.{Command}
 use Rattle.cli.proofs.run.perform.Goals as goal
@@ -28,24 +29,30 @@ pub returns-in-Instances-clause-performed : goal.returns-in-Instances-clause-per
 returns-in-Instances-clause-performed g c =
     let task = c.in-Ok.task in
     let call = c.perform_instances in
-    let P : Command → Type 0 = λ command. Runs g.F.Files g.O.Sink g.E.Sink command task.limits (c.args.files.now, c.args.out.now, c.args.err.now) (c.args.files.now, call.new.out, call.new.err) call.result in
     let old = outputs g.O.Sink g.E.Sink c.args.out.now c.args.err.now in
+    let new = outputs g.O.Sink g.E.Sink call.new.out call.new.err in
+    let files = g.F.Files in
+    let P : Command → Type 0 = λ command. IsCommandRun task.progress command task.limits (store files c.args.files.now c.args.files.now) (files.content c.args.files.now) (files.content c.args.files.now) old new call.result in
     inl (task, c.in-Ok.ensures.asked, nothing_told task.progress old _ (subst P (sym c.in-Instances.is) call.ensures))
 
 pub returns-in-Explain-clause-performed : goal.returns-in-Explain-clause-performed
 returns-in-Explain-clause-performed g c =
     let task = c.in-Ok.task in
     let call = c.perform_explain in
-    let P : Command → Type 0 = λ command. Runs g.F.Files g.O.Sink g.E.Sink command task.limits (c.args.files.now, c.args.out.now, c.args.err.now) (c.args.files.now, call.new.out, call.new.err) call.result in
     let old = outputs g.O.Sink g.E.Sink c.args.out.now c.args.err.now in
+    let new = outputs g.O.Sink g.E.Sink call.new.out call.new.err in
+    let files = g.F.Files in
+    let P : Command → Type 0 = λ command. IsCommandRun task.progress command task.limits (store files c.args.files.now c.args.files.now) (files.content c.args.files.now) (files.content c.args.files.now) old new call.result in
     inl (task, c.in-Ok.ensures.asked, nothing_told task.progress old _ (subst P (sym c.in-Explain.is) call.ensures))
 
 pub returns-in-Query-clause-performed : goal.returns-in-Query-clause-performed
 returns-in-Query-clause-performed g c =
     let task = c.in-Ok.task in
     let call = c.perform_query in
-    let P : Command → Type 0 = λ command. Runs g.F.Files g.O.Sink g.E.Sink command task.limits (c.args.files.now, c.args.out.now, c.args.err.now) (c.args.files.now, call.new.out, call.new.err) call.result in
     let old = outputs g.O.Sink g.E.Sink c.args.out.now c.args.err.now in
+    let new = outputs g.O.Sink g.E.Sink call.new.out call.new.err in
+    let files = g.F.Files in
+    let P : Command → Type 0 = λ command. IsCommandRun task.progress command task.limits (store files c.args.files.now c.args.files.now) (files.content c.args.files.now) (files.content c.args.files.now) old new call.result in
     inl (task, c.in-Ok.ensures.asked, nothing_told task.progress old _ (subst P (sym c.in-Query.is) call.ensures))
 
 pub returns-in-Session-clause-performed : goal.returns-in-Session-clause-performed
@@ -64,8 +71,10 @@ pub returns-in-Convert-clause-performed : goal.returns-in-Convert-clause-perform
 returns-in-Convert-clause-performed g c =
     let task = c.in-Ok.task in
     let call = c.perform_convert in
-    let P : Command → Type 0 = λ command. Runs g.F.Files g.O.Sink g.E.Sink command task.limits (c.args.files.now, c.args.out.now, c.args.err.now) (call.new.files, call.new.out, call.new.err) call.result in
     let old = outputs g.O.Sink g.E.Sink c.args.out.now c.args.err.now in
+    let new = outputs g.O.Sink g.E.Sink call.new.out call.new.err in
+    let files = g.F.Files in
+    let P : Command → Type 0 = λ command. IsCommandRun task.progress command task.limits (store files c.args.files.now call.new.files) (files.content c.args.files.now) (files.content call.new.files) old new call.result in
     inl (task, c.in-Ok.ensures.asked, nothing_told task.progress old _ (subst P (sym c.in-Convert.is) call.ensures))
 
 pub returns-in-Convert-clause-untouched : goal.returns-in-Convert-clause-untouched

@@ -3,7 +3,8 @@ use Rattle.program.specs.Status.{code_of}
 use Rattle.source_lines.specs.Sources.{source_state}
 use Rattle.speech.specs.Messages.{IsDocumentText}
 use Rattle.profile.specs.Messages.{status_of}
-use Rattle.cli.proofs.Filed.{spoken_over}
+use Rattle.cli.proofs.Filed.{same_seen, spoken_over}
+use Rattle.session.proofs.Told.{progress_behind}
 use Rattle.cli.proofs.Telling.{nothing_told, told}
 use Rattle.cli.specs.Filing.{Filed}
 use Rattle.session.specs.Devices.{seen}
@@ -56,9 +57,9 @@ returns g c =
     let before = source_state g.F.In.Source c.in-Ok-document_of.input in
     let after = source_state g.F.In.Source call.new.source in
     record {
-      begun = outputs g.O.Sink g.E.Sink c.args.out.now c.tell_opened.new.err;
+      begun = outputs g.O.Sink g.E.Sink c.args.out.now call.new.service.err.now;
       unprinted = refl;
-      progress = c.tell_opened.ensures;
+      progress = progress_behind c.args.told _ _ _ c.tell_opened.ensures call.ensures.progress;
       holds = inl (record {
         service = service;
         last = call.new.service.service.now;
@@ -68,9 +69,9 @@ returns g c =
         after = after;
         left = c.in-Ok-document_of.ensures.left;
         ending = call.result;
-        spoken = spoken_over files (files.is_known c.args.files.now) c.args.path first call.new.service.service.now call.new.service.files.now _ before after
+        spoken = spoken_over files (files.is_known c.args.files.now) c.args.told c.args.path first call.new.service.service.now call.new.service.files.now _ before after
             (seen g.O.Sink c.args.out.now) (seen g.O.Sink call.new.sink) call.result (search rules) call.ensures.spoken;
         status_is = c.code.ensures ∙ ap code_of c.status.ensures;
-        quiet = refl;
+        quiet = same_seen g.E.Sink _ call.new.service.err.now (search rules);
       });
     }
