@@ -7,11 +7,8 @@ ghost use Rattle.session.specs.Sessions.{IsSession, KeepsText};
 ghost use Rattle.std.specs.Prelude.{◌≡◌};
 
 use device::Sink;
-use session::{Session, Stage, Stop, tell_stage};
+use session::{SLICE, Session, Stage, Stop, tell_stage};
 use speech::SessionService;
-
-/// How many facts more may be drawn before it is told again how many there are.
-const SLICE: u32 = 250_000;
 
 /// Tells how many facts there are, and how many are pending, where progress is told.
 pub(crate) fn tell_drawn<E: Sink>(session: &Session, told: bool, err: &mut E)

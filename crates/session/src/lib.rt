@@ -47,4 +47,5 @@ pub use question_fault::QuestionFault;
 pub use run_fault::RunFault;
 pub use session::Session;
 pub use shown::shown_explanation;
+pub use slices::SLICE;
 pub use writing::{write_pieces, write_texts};

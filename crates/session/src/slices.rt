@@ -11,7 +11,7 @@ use device::Sink;
 use engine::{Saturation, Stop};
 
 /// How many facts more may be drawn before it is told again how many there are.
-const SLICE: u32 = 250_000;
+pub const SLICE: u32 = 250_000;
 
 /// Up to how many facts a run goes at first that has so many: where progress is told, to the end of the first slice.
 fn first_end(told: bool, facts: usize, max_facts: u32) -> u32
