@@ -126,6 +126,10 @@ class Session(contextlib.AbstractContextManager):
         """The classes above and below a class expression and its individuals, as lines of `elc query`."""
         return self.command("query", expression)
 
+    def axiom(self, number):
+        """The axiom of that number, as explanations cite it."""
+        return self.command(f"axiom {number}")
+
     def write(self, taxonomy, instances, certificate):
         """Writes the texts of the classification into the files at these paths, and gives the line of `elc classify`."""
         return self.command(f"write {taxonomy} {instances} {certificate}")

@@ -210,6 +210,7 @@ adds_none (asked.WhyIndividualReached subject class) texts status payload is = r
 adds_none (asked.DotReached subject class) texts status payload is = refl
 adds_none (asked.Query size) texts status payload is = refl
 adds_none (asked.Write paths) texts status payload is = refl
+adds_none (asked.Axiom number) texts status payload is = refl
 adds_none asked.Status texts status payload is = refl
 
 -- the calls by which a session is run on come before others

@@ -80,6 +80,7 @@ does limits old new (asked.DotReached subject class) payload t h = Calls (calls.
 does limits old new (asked.Query size) payload t (inl h) = Calls (calls.Query payload limits.max_facts) h.reply h.called refl
 does limits old new (asked.Query size) payload t (inr (at, none, valid, said)) = Stays said.0 refl
 does limits old new (asked.Write paths) payload t (same, told) = Stays same refl
+does limits old new (asked.Axiom number) payload t (same, told) = Stays same refl
 does limits old new asked.Status payload t (same, told) = Stays same refl
 
 -- nothing was done

@@ -1,14 +1,16 @@
 -- What is told of the calls of a session.
-use Rattle.std.specs.Prelude.{◌≡◌, ◌++◌, ◌-◌, ◌⊎◌, ℕ, List, [], Result, Ok, Err, codes, length, map}
+use Rattle.std.specs.Prelude.{◌≡◌, ◌++◌, ◌-◌, ◌⊎◌, ℕ, List, [], Option, Some, None, Result, Ok, Err, codes, length, map, option_map}
 use Rattle.std.specs.Fmt.{decimal}
 use Rattle.std.specs.Str.{IsUtf8, IsValidUpTo}
 use Rattle.std.specs.Global.{Vec}
 use Rattle.std.specs.Borrow.{Bor}
+use Rattle.answer_texts.specs.Axioms.{axiom_line}
 use Rattle.answers.specs.Names.{groups_in}
 use Rattle.answers.specs.declared.asked.Asked.TheVariants as subjects
 use Rattle.answers.specs.declared.explanation.Explanation.{Explanation}
 use Rattle.axioms.specs.Expression.{Iri}
 use Rattle.axioms.specs.Ontology.{Ontology}
+use Rattle.axioms.specs.View.{at_number}
 use Rattle.inference.specs.declared.known_facts.Stop.TheVariants as stops
 use Rattle.profile.specs.declared.fault.DocumentFault.TheVariants.{NotUtf8}
 use Rattle.program.specs.declared.limits.Limits.{Limits}
@@ -112,6 +114,15 @@ abbrev pub status_text : Opened → List ℕ
 status_text s =
     codes "facts " ++ (decimal (length s.saturation.state.facts) ++ (codes " served " ++ (decimal (length s.saturation.state.served) ++ (codes " bytes " ++ (decimal s.bytes ++ codes "\n")))))
 
+-- the line of the axiom of that number, if there is one
+abbrev pub axiom_at : Ontology → (number : ℕ) → Option (List ℕ)
+axiom_at o number = option_map (axiom_line o) (at_number o.axioms number)
+
+-- what is told of it
+abbrev pub axiom_told : (number : ℕ) → Option (List ℕ) → Told
+axiom_told number (Some line) = done line
+axiom_told number None = told statuses.Usage (codes "no axiom " ++ (decimal number ++ codes "\n"))
+
 -- what is told of an answer of the session, which then has the other ontology and facts
 abbrev pub IsAnswerTold : Limits → Form → Opened → Reply → Told → Type 0
 IsAnswerTold limits form s (Added (Ok _)) t = t ≡ done []
@@ -161,6 +172,7 @@ IsStep limits old (asked.WhyIndividualReached subject class) payload t new = IsC
 IsStep limits old (asked.DotReached subject class) payload t new = IsCalled limits ReachedGraph (Explain (subjects.Class subject) class.now) old t new
 IsStep limits old (asked.Query size) payload t new = IsTextCalled limits (λ text. Query text limits.max_facts) payload old t new
 IsStep limits old (asked.Write paths) payload t new = IsSaid (λ t. t ≡ unfiled) old t new
+IsStep limits old (asked.Axiom number) payload t new = IsSaid (λ t. t ≡ axiom_told number (axiom_at old.ontology number)) old t new
 IsStep limits old asked.Status payload t new = IsSaid (λ t. t ≡ done (status_text old)) old t new
 
 -- the same of a session with its limits, which stay

@@ -5,7 +5,7 @@ use Rattle.std.specs.List.{slice_split}
 use Rattle.std.specs.Str.{IsUtf8}
 use Rattle.speech.specs.declared.command.Command.{Command}
 use Rattle.speech.specs.declared.command.TextPaths.{TextPaths}
-use Rattle.speech.specs.declared.command.Command.TheVariants.{Add, Run, Supers, Subs, Equivalents, Parents, Children, Instances, Why, WhyIndividual, Dot, WhyReached, WhyIndividualReached, DotReached, Query, Write, Status}
+use Rattle.speech.specs.declared.command.Command.TheVariants.{Add, Run, Supers, Subs, Equivalents, Parents, Children, Instances, Why, WhyIndividual, Dot, WhyReached, WhyIndividualReached, DotReached, Query, Write, Axiom, Status}
 use Rattle.speech.specs.declared.line.LineFault.{LineFault}
 use Rattle.speech.specs.declared.line.LineFault.TheVariants as faults
 use Rattle.speech.specs.declared.words.Words.{Words}
@@ -33,6 +33,7 @@ words_of (WhyIndividualReached subject class) = codes "why-individual" ∷ subje
 words_of (DotReached subject class) = codes "dot" ∷ subject.now ∷ class.now ∷ codes "reached" ∷ []
 words_of (Query size) = codes "query" ∷ decimal size ∷ []
 words_of (Write paths) = codes "write" ∷ paths.taxonomy.now ∷ paths.instances.now ∷ paths.certificate.now ∷ []
+words_of (Axiom number) = codes "axiom" ∷ decimal number ∷ []
 words_of Status = codes "status" ∷ []
 
 -- how many bytes follow the line of a command
@@ -46,7 +47,14 @@ abbrev pub text_paths : Command → Option TextPaths
 text_paths (Write paths) = Some paths
 text_paths command = None
 
--- so many bytes are counted in 64 bits
+-- the number in a command, where it has one
+abbrev pub number_in : Command → Option ℕ
+number_in (Add size) = Some size
+number_in (Query size) = Some size
+number_in (Axiom number) = Some number
+number_in command = None
+
+-- so many are counted in 64 bits
 abbrev pub IsCounted : Option ℕ → Type 0
 IsCounted None = Unit {0}
 IsCounted (Some size) = size < 2 ^ 64
@@ -60,7 +68,7 @@ pub record Spells (line : List ℕ) (command : Command) : Type 0 where
   pub short : length line ≤ most_line
   pub text : IsUtf8 line
   pub words : split_words line ≡ words_of command
-  pub counted : IsCounted (payload_size command)
+  pub counted : IsCounted (number_in command)
 
 -- the line is no command
 abbrev pub SpellsNothing : List ℕ → Type 0
@@ -91,5 +99,5 @@ AreWords More words = (a b c d e : List ℕ) × (rest : List (List ℕ)) × (wor
 
 -- the command that has the words, or that there is none
 abbrev pub IsCommandOf : List (List ℕ) → Option Command → Type 0
-IsCommandOf words (Some command) = (words_of command ≡ words) × IsCounted (payload_size command)
-IsCommandOf words None = (command : Command) → IsCounted (payload_size command) → words_of command ≡ words → ⊥
+IsCommandOf words (Some command) = (words_of command ≡ words) × IsCounted (number_in command)
+IsCommandOf words None = (command : Command) → IsCounted (number_in command) → words_of command ≡ words → ⊥

@@ -45,6 +45,8 @@ pub enum Command<'l> {
     Query(u64),
     /// To write the texts of the classification into files.
     Write(TextPaths<'l>),
+    /// The axiom of that number, counted from 1 as explanations cite it.
+    Axiom(u64),
     /// How many facts there are, how many are served, and how many bytes.
     Status,
 }

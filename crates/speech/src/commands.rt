@@ -32,6 +32,9 @@ fn command_with_word<'l>(verb: &str, word: &'l str) -> Option<Command<'l>>
     } else if verb == "query" {
         let size = size_of_word(word)?;
         Some(Command::Query(size))
+    } else if verb == "axiom" {
+        let number = size_of_word(word)?;
+        Some(Command::Axiom(number))
     } else if verb == "supers" {
         Some(Command::Supers(word))
     } else if verb == "subs" {

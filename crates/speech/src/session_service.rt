@@ -4,9 +4,9 @@ ghost use Rattle.session.specs.Edits.{Add, Children, Equivalents, Explain, Insta
 ghost use Rattle.session.specs.declared.form.Form.TheVariants.{Lines};
 ghost use Rattle.profile.specs.declared.fault.DocumentFault.TheVariants.{NotUtf8};
 ghost use Rattle.session.specs.declared.question_fault.QuestionFault.TheVariants as faults;
-ghost use Rattle.speech.specs.Answers.{IsCalled, IsFaultTold, IsStep, IsTextCalled, Tells, done, run_text, status_text};
+ghost use Rattle.speech.specs.Answers.{IsCalled, IsFaultTold, IsStep, IsTextCalled, Tells, axiom_at, axiom_told, done, run_text, status_text};
 ghost use Rattle.speech.specs.Replies.{told_by};
-ghost use Rattle.std.specs.Prelude.{◌≡◌};
+ghost use Rattle.std.specs.Prelude.{◌≡◌, None};
 
 use crate::answering::{
     done_reply, explained_reply, fault_reply, found_reply, groups_reply, names_reply, unfiled_reply,
@@ -16,6 +16,7 @@ use crate::reply::Reply;
 use crate::service::Service;
 use device::Memory;
 use profile::{DocumentFault, Limits};
+use program::Status;
 use session::{Asked, Form, QuestionFault, Session, Stop};
 use std::alloc::Global;
 use std::str::from_utf8;
@@ -86,6 +87,30 @@ impl SessionService {
         let bytes = self.session.bytes();
         match format!(in self.alloc; "facts {facts} served {served} bytes {bytes}\n") {
             Ok(text) => Ok(done_reply(text.into_bytes())),
+            Err(_) => Err(Memory),
+        }
+    }
+
+    /// The reply with the axiom of that number.
+    fn axiom(&self, number: u64) -> Result<Reply, Memory>
+        ensures { Tells (λ t. t ≡ axiom_told number (axiom_at self.now.session.ontology number)) result }
+    {
+        match self.session.axiom(number as usize) {
+            Ok(Some(line)) => Ok(done_reply(line)),
+            Ok(None) => self.no_axiom(number),
+            Err(_) => Err(Memory),
+        }
+    }
+
+    /// The reply that there is no axiom of that number.
+    fn no_axiom(&self, number: u64) -> Result<Reply, Memory>
+        ensures { Tells (λ t. t ≡ axiom_told number None) result }
+    {
+        match format!(in self.alloc; "no axiom {number}\n") {
+            Ok(text) => Ok(Reply {
+                status: Status::Usage,
+                text: text.into_bytes(),
+            }),
             Err(_) => Err(Memory),
         }
     }
@@ -180,6 +205,7 @@ impl SessionService {
             }
             Command::Query(_) => self.query(payload),
             Command::Write(_) => unfiled_reply(self.alloc),
+            Command::Axiom(number) => self.axiom(number),
             Command::Status => self.status(),
         }
     }

@@ -1,4 +1,4 @@
-//! Numbers of bytes.
+//! Numbers of bytes, and of axioms.
 ghost use Rattle.std.specs.Fmt.{decimal};
 ghost use Rattle.std.specs.Prelude.{◌≡◌, ◌<◌, ◌^◌, ℕ, IfNone, IfSome};
 

@@ -29,6 +29,10 @@ query 29
 ObjectSomeValuesFrom(:loc :Q)
 write a b c
 write a b
+axiom 2
+axiom 4
+axiom 0
+axiom 02
 ";
 
 /// What is replied.
@@ -84,6 +88,14 @@ F8 at byte 21
 F8 at byte 26
 no 2 26
 no files are written here
+no 2 16
+unknown command
+ok 27
+SubClassOf(<x:B> <x:C>)
+no 2 11
+no axiom 4
+no 2 11
+no axiom 0
 no 2 16
 unknown command
 ";
