@@ -90,7 +90,7 @@ no 2 26
 no files are written here
 no 2 16
 unknown command
-ok 27
+ok 24
 SubClassOf(<x:B> <x:C>)
 no 2 11
 no axiom 4
