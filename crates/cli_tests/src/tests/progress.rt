@@ -85,8 +85,9 @@ const REPLIED: &str = "ok 8
 facts 5
 ok 8
 facts 5
-ok 40
+ok 44
 <http://www.w3.org/2002/07/owl#Thing>
+<x:A>
 ";
 
 #[test]
