@@ -5,3 +5,4 @@ pub mod Search
 pub mod Transposition
 pub mod Words
 pub mod Numbers
+pub mod RowWords

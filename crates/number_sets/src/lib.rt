@@ -7,6 +7,7 @@ mod list;
 mod open_lists;
 mod packed_lists;
 mod row;
+mod row_words;
 mod search;
 mod turning;
 mod words;

@@ -3,9 +3,8 @@ ghost use Rattle.number_sets.specs.Members.{has};
 ghost use Rattle.number_sets.specs.Words.{is_set};
 ghost use Rattle.std.specs.Prelude.{◌&&◌, ◌*◌, ◌+◌, ◌/◌, ◌<◌, ◌||◌, ◌↔◌, ◌≡◌, IfOk, IsTrue, count_by, false, length, not, replicate, slice_index, slice_set, true, ℕ};
 
-use crate::words::{
-    are_disjoint, count_words, intersect_words, is_within, minus_words, union_words,
-};
+use crate::row_words::RowWords;
+use crate::words::{are_disjoint, count_words, is_within};
 use device::Memory;
 use std::alloc::Global;
 use std::marker::Model;
@@ -14,18 +13,19 @@ use std::marker::Model;
 #[derive(Drop)]
 pub struct Row {
     len: usize,
-    words: Vec<u64>,
+    words: RowWords,
 }
 
 impl Model for Row {
     ghost use Rattle.std.specs.Prelude.{Bool, List};
+    ghost use Rattle.number_sets.specs.RowWords.{words_of};
     ghost use Rattle.number_sets.specs.Words.{IsRow, bits_of};
 
     ghost Value = { List Bool };
 
-    ghost view = { λ r. bits_of r.len r.words.items };
+    ghost view = { λ r. bits_of r.len (words_of r.words) };
 
-    ghost invariant = { λ r. IsRow r.len r.words.items };
+    ghost invariant = { λ r. IsRow r.len (words_of r.words) };
 }
 
 /// How many words hold `n` bits.
@@ -40,7 +40,7 @@ impl Row {
     pub fn new(alloc: Global, n: usize) -> Result<Row, Memory>
         ensures { IfOk result (λ r. r ≡ replicate n false) }
     {
-        let words = vec![in alloc; 0u64; words_for(n)]?;
+        let words = RowWords::filled(alloc, 0, words_for(n))?;
         Ok(Row { len: n, words })
     }
 
@@ -48,9 +48,9 @@ impl Row {
     pub fn full(alloc: Global, n: usize) -> Result<Row, Memory>
         ensures { IfOk result (λ r. r ≡ replicate n true) }
     {
-        let mut words = vec![in alloc; u64::MAX; words_for(n)]?;
+        let mut words = RowWords::filled(alloc, u64::MAX, words_for(n))?;
         if n % 64 != 0 {
-            words[n / 64] = (1 << (n % 64)) - 1;
+            words.set(n / 64, (1 << (n % 64)) - 1);
         }
         Ok(Row { len: n, words })
     }
@@ -61,7 +61,7 @@ impl Row {
     {
         Ok(Row {
             len: self.len,
-            words: self.words.as_slice().to_vec(alloc)?,
+            words: self.words.copy(alloc)?,
         })
     }
 
@@ -73,7 +73,8 @@ impl Row {
         if i >= self.len {
             return false;
         }
-        self.words[i / 64] |= 1 << (i % 64);
+        let word = self.words.word(i / 64);
+        self.words.set(i / 64, word | 1 << (i % 64));
         true
     }
 
@@ -83,7 +84,7 @@ impl Row {
         ensures len { length self.new ≡ length self.old }
         ensures members { (k : ℕ) → has self.new k ≡ (has self.old k || has other.now k) }
     {
-        union_words(&mut self.words, &other.words);
+        self.words.unite(other.words.as_slice());
     }
 
     /// Removes the members of `other`.
@@ -92,7 +93,7 @@ impl Row {
         ensures len { length self.new ≡ length self.old }
         ensures members { (k : ℕ) → has self.new k ≡ (has self.old k && not (has other.now k)) }
     {
-        minus_words(&mut self.words, &other.words);
+        self.words.subtract(other.words.as_slice());
     }
 
     /// Keeps the members that are in `other`.
@@ -101,7 +102,7 @@ impl Row {
         ensures len { length self.new ≡ length self.old }
         ensures members { (k : ℕ) → has self.new k ≡ (has self.old k && has other.now k) }
     {
-        intersect_words(&mut self.words, &other.words);
+        self.words.intersect(other.words.as_slice());
     }
 
     /// Whether no member is one of `other`.
@@ -109,7 +110,7 @@ impl Row {
         requires { length self.now ≡ length other.now }
         ensures { IsTrue result ↔ ((k : ℕ) → has self.now k ≡ true → has other.now k ≡ false) }
     {
-        are_disjoint(&self.words, &other.words)
+        are_disjoint(self.words.as_slice(), other.words.as_slice())
     }
 
     /// Whether each member is one of `other`.
@@ -117,7 +118,7 @@ impl Row {
         requires { length self.now ≡ length other.now }
         ensures { IsTrue result ↔ ((k : ℕ) → has self.now k ≡ true → has other.now k ≡ true) }
     {
-        is_within(&self.words, &other.words)
+        is_within(self.words.as_slice(), other.words.as_slice())
     }
 
     /// Whether `i` is a member.
@@ -127,14 +128,14 @@ impl Row {
         if i >= self.len {
             return false;
         }
-        self.words[i / 64] >> (i % 64) & 1 == 1
+        self.words.word(i / 64) >> (i % 64) & 1 == 1
     }
 
     /// How many members there are.
     pub fn count(&self) -> usize
         ensures { result ≡ count_by (λ b. b) self.now }
     {
-        count_words(&self.words, self.len)
+        count_words(self.words.as_slice(), self.len)
     }
 
     /// Below which number its members are.
@@ -149,6 +150,6 @@ impl Row {
         ensures many { length result.now ≡ (length self.now + 63) / 64 }
         ensures bits { (j k : ℕ) → k < 64 → is_set (slice_index result.now j) k ≡ has self.now (64 * j + k) }
     {
-        &self.words
+        self.words.as_slice()
     }
 }

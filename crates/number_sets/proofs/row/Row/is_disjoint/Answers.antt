@@ -4,8 +4,8 @@ use Rattle.number_sets.proofs.row.Row.is_disjoint.Goals as goal
 
 pub are_disjoint-requires : goal.are_disjoint-requires
 are_disjoint-requires c =
-    as_many c.self.invariant c.other.invariant c.self.view_is c.other.view_is c.requires c.deref.ensures.value c.deref-2.ensures.value
+    as_many c.self.invariant c.other.invariant c.self.view_is c.other.view_is c.requires c.as_slice.ensures c.as_slice-2.ensures
 
 pub returns : goal.returns
 returns c =
-    each_member false c.self.invariant c.other.invariant c.self.view_is c.other.view_is c.deref.ensures.value c.deref-2.ensures.value c.are_disjoint.ensures
+    each_member false c.self.invariant c.other.invariant c.self.view_is c.other.view_is c.as_slice.ensures c.as_slice-2.ensures c.are_disjoint.ensures

@@ -1,7 +1,8 @@
 use Rattle.std.proofs.Common.{◌≡◌, ◌<◌, ◌≤◌, ◌*◌, ◌/◌, ◌%◌, ◌^◌, ℕ, List, Bool, true, true≢false, nat_eq, bit_or, length, get_or, set, w64, refl, sym, ap, ◌∙◌, arith}
 use Rattle.std.specs.Int.{bit_at}
-use Rattle.std.proofs.lemmas.List.{get_or_read, set_past}
+use Rattle.std.proofs.lemmas.List.{set_past}
 use Rattle.std.proofs.lemmas.Nat.Bits.{bit_at_set_same, bit_at_set_other}
+use Rattle.number_sets.specs.RowWords.{words_of}
 use Rattle.number_sets.specs.Words.{bits_of, IsRow}
 use Rattle.number_sets.proofs.Bits.{length_bits, put_bits}
 use Rattle.number_sets.proofs.row.Row.put.Goals as goal
@@ -18,7 +19,7 @@ pub returns-then-i-self : goal.returns-then-i-self
 returns-then-i-self c =
     let n = c.self.inside.len in
     let long = ap length c.self.view_is in
-    let past : length c.args.self.now ≤ c.args.i = omega (arith, long, length_bits n c.self.inside.words.items) in
+    let past : length c.args.self.now ≤ c.args.i = omega (arith, long, length_bits n (words_of c.self.inside.words)) in
     record {
       in_range = (λ f. absurd (true≢false (sym f)), λ l. absurd (omega arith));
       after = sym (set_past c.args.self.now c.args.i true past);
@@ -26,21 +27,19 @@ returns-then-i-self c =
 
 pub invariant_of-self : goal.invariant_of-self
 invariant_of-self c =
-    let words = c.self.inside.words.items in
+    let words = (words_of c.self.inside.words) in
     let i = c.args.i in
     let within : i / 64 < length words = omega (arith, c.self.invariant.long) in
-    let read = get_or_read words (i / 64) c.index_mut.result.now within c.index_mut.ensures.value 0 in
-    (put_word c.self.inside.len words i c.index_mut.result.now c.self.invariant c.if-i-self.false within read).0
+    rw c.set.ensures (put_word c.self.inside.len words i c.word-word.result c.self.invariant c.if-i-self.false within c.word-word.ensures).0
 
 pub returns : goal.returns
 returns c =
     let n = c.self.inside.len in
-    let words = c.self.inside.words.items in
+    let words = (words_of c.self.inside.words) in
     let i = c.args.i in
     let within : i / 64 < length words = omega (arith, c.self.invariant.long) in
-    let read = get_or_read words (i / 64) c.index_mut.result.now within c.index_mut.ensures.value 0 in
     let long = ap length c.self.view_is in
     record {
       in_range = (λ _. omega (arith, long, length_bits n words), λ _. refl);
-      after = (put_word n words i c.index_mut.result.now c.self.invariant c.if-i-self.false within read).1 ∙ ap (λ (row : List Bool). set row i true) c.self.view_is;
+      after = rw c.set.ensures (put_word n words i c.word-word.result c.self.invariant c.if-i-self.false within c.word-word.ensures).1 ∙ ap (λ (row : List Bool). set row i true) c.self.view_is;
     }
