@@ -1,5 +1,5 @@
 -- Members and where they are found.
-use Rattle.std.proofs.Common.{◌≡◌, ◌⊎◌, ℕ, zero, suc, Bool, true, false, ◌||◌, inl, inr, List, [], ◌∷◌, ◌++◌, if◌then◌else◌, length, slice_get, is_some, IfSome, IfNone, Some, None, refl, sym, ap, ◌∙◌, subst}
+use Rattle.std.proofs.Common.{◌≡◌, ◌⊎◌, ℕ, zero, suc, Bool, true, false, ◌||◌, inl, inr, List, [], ◌∷◌, ◌++◌, if◌then◌else◌, length, slice_get, take, is_some, IfSome, IfNone, Some, None, refl, sym, ap, ◌∙◌, subst}
 use Rattle.std.proofs.lemmas.Option.{none-some, same_Some}
 use Rattle.std.proofs.lemmas.Bool.{or_left, or_right}
 use Rattle.std.specs.List.{list_any}
@@ -25,6 +25,13 @@ push_cases (z ∷ zs) y x (suc n) at =
       | inl h ↦ inl h
       | inr h ↦ inr (ap suc h.0, h.1)
     ]
+
+-- what stands in the front of a list stands there in the list
+in_front : {T : Type 0} (xs : List T) (n m : ℕ) (x : T) → slice_get (take n xs) m ≡ Some x → slice_get xs m ≡ Some x
+in_front xs zero m x at = absurd (none-some x at)
+in_front [] (suc n) m x at = absurd (none-some x at)
+in_front (y ∷ ys) (suc n) zero x at = at
+in_front (y ∷ ys) (suc n) (suc m) x at = in_front ys n m x at
 
 pub found_push : {T : Type 0} (hash : T → ℕ) (old new : Slots) (xs : List T) (y : T) → KeepLeading old new → Leads new (hash y) (length xs) → AreFound hash old xs → AreFound hash new (xs ++ y ∷ [])
 found_push {T} hash old new xs y keep here found = λ n x at. elim (push_cases xs y x n at) [
@@ -81,3 +88,7 @@ inserted_last eq ks k absent = sym (ap (λ b. if b then ks else ks ++ k ∷ []) 
 pub last_is : {T : Type 0} (xs : List T) (y : T) → slice_get (xs ++ y ∷ []) (length xs) ≡ Some y
 last_is [] y = refl
 last_is (x ∷ xs) y = last_is xs y
+
+-- fewer members are found as before
+pub found_front : {T : Type 0} (hash : T → ℕ) (slots : Slots) (xs : List T) (n : ℕ) → AreFound hash slots xs → AreFound hash slots (take n xs)
+found_front hash slots xs n found = λ m x at. found m x (in_front xs n m x at)

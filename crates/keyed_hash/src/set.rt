@@ -2,7 +2,7 @@
 ghost use Rattle.keyed_hash.specs.Numbering.{AreFound, hash_of, insert_key, passes_at, room_in};
 ghost use Rattle.keyed_hash.specs.Slots.{HasSlots, Leads};
 ghost use Rattle.std.specs.List.{list_any, AllZip};
-ghost use Rattle.std.specs.Prelude.{◌≡◌, ◌+◌, ◌<◌, ◌^◌, ℕ, true, false, not, [], ◌∷◌, ◌++◌, length, if◌then◌else◌, option_copied, slice_get, vec_capacity, IfNone, IfOk, IfSome, OnErr, OnOk, Some};
+ghost use Rattle.std.specs.Prelude.{◌≡◌, ◌+◌, ◌<◌, ◌^◌, ℕ, true, false, not, [], ◌∷◌, ◌++◌, length, if◌then◌else◌, option_copied, slice_get, take, vec_capacity, IfNone, IfOk, IfSome, OnErr, OnOk, Some};
 
 use crate::key::Key;
 use crate::slots::Slots;
@@ -200,6 +200,14 @@ impl<T: Eq + Hash> NumberedSet<T> {
 }
 
 impl<T: Eq + Hash + Drop> NumberedSet<T> {
+    /// Keeps so many members, if there are more, and lets those behind them go, in time by how many these are. Their slots go on
+    /// holding numbers, which are those of no member, or of one that comes later.
+    pub fn truncate(&mut self, len: usize)
+        ensures { self.new.keys ≡ take len self.old.keys }
+    {
+        self.members.truncate(len);
+    }
+
     /// The number of the member, which goes last where none is equal, and whether it did. Fails where memory is refused, or there are
     /// 2^32 - 1 members; then they are what they were.
     #[inline(always)]
