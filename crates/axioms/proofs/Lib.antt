@@ -8,3 +8,4 @@ pub mod Growing
 pub mod TwoClasses
 pub mod Keeping
 pub mod Unique
+pub mod Fronts

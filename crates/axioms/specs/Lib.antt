@@ -8,3 +8,4 @@ pub mod Examples
 pub mod View
 pub mod Fields
 pub mod Growth
+pub mod Fronts

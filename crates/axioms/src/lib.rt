@@ -6,6 +6,7 @@ mod copies;
 mod fault;
 mod growth;
 mod ids;
+mod lengths;
 mod ontology;
 mod terms;
 mod theory;
@@ -15,6 +16,7 @@ pub use device::{BufferSink, Failed, Memory, ReaderSource, Sink, SliceSource, So
 pub use fault::BuildFault;
 pub use growth::{MOST_AXIOMS, MOST_EXPRESSIONS, MOST_NAMES, OWL_NOTHING, OWL_THING};
 pub use ids::{ClassId, ExprId, IndId, PropId};
+pub use lengths::Lengths;
 pub use ontology::Ontology;
 pub use terms::{Axiom, Expr, Kind, Name};
 pub use theory::{numbered_expressions, ontology_of_statements};

@@ -1,6 +1,7 @@
 pub mod FirstPlaces
 pub mod Appending
 pub mod Trees
+pub mod Extending
 pub mod Steps
 pub mod Overflowing
 pub mod Named

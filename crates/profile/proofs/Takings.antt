@@ -1,5 +1,5 @@
 -- Trees that are taken one by one.
-use Rattle.std.proofs.Common.{◌≡◌, Bool, true, false, List, [], ◌∷◌, ◌++◌, Option, None, Some, Result, Ok, Err, IfErr, IfOk, ℕ, ◌+◌, ◌≤◌, length, ◌<◌, get_or, take, arith, refl, sym, ap, ◌∙◌, subst, append_assoc, map, option_map}
+use Rattle.std.proofs.Common.{◌≡◌, Bool, true, false, List, [], ◌∷◌, ◌++◌, Option, None, Some, Result, Ok, Err, IfErr, IfOk, OnErr, OnOk, ℕ, ◌+◌, ◌≤◌, length, ◌<◌, get_or, take, arith, refl, sym, ap, ◌∙◌, subst, append_assoc, map, option_map}
 use Rattle.std.proofs.lemmas.List.{append-nil, map-append, take_all}
 use Rattle.std.proofs.lemmas.Option.{slice_get-get_or}
 use Rattle.lemmas.proofs.Places.{take_push}
@@ -181,15 +181,17 @@ module _ (version : Version) (ts us : List parsed.Tree) (same : ts ≡ us) (old 
     not_accepted (Ok o) refused = tt
     not_accepted (Err r) refused = refused version (map tree_of us) (behind_all (of_document version) [] none)
 
-  module _ (o copy : Ontology) (is : copy ≡ o) (none : AreTaken (of_growth version copy) [] old) where
-    from : AreTaken (of_growth version o) [] old
-    from = subst (λ (x : Ontology). AreTaken (of_growth version x) [] old) is none
+  module _ (o : Ontology) (none : AreTaken (of_growth version o) [] old) where
+    pub grown : (r : Result (Unit {0}) Refusal) (p : Ontology) → OnOk r ((v : Version) (x : Ontology) (trees : List Tree) → AreTaken (of_growth v x) trees new → AreAddedAs v x (trees_from trees) p) → OnOk r (AreAddedAs version o (trees_of us) p)
+    grown (Ok u) p added = added version o (map tree_of us) (behind_all (of_growth version o) [] none)
+    grown (Err r) p added = tt
 
-    pub grown : (r : Result Ontology Refusal) → IfOk r (λ p. (v : Version) (x : Ontology) (trees : List Tree) → AreTaken (of_growth v x) trees new → AreAddedAs v x (trees_from trees) p) → IfOk r (AreAddedAs version o (trees_of us))
-    grown (Ok p) added = added version o (map tree_of us) (behind_all (of_growth version o) [] from)
-    grown (Err r) added = tt
-
-    pub not_grown : (r : Result Ontology Refusal) → IfErr r (λ f. (v : Version) (x : Ontology) (trees : List Tree) → AreTaken (of_growth v x) trees new → RefusesStatements v f x (trees_from trees)) →
+    pub not_grown : (r : Result (Unit {0}) Refusal) → IfErr r (λ f. (v : Version) (x : Ontology) (trees : List Tree) → AreTaken (of_growth v x) trees new → RefusesStatements v f x (trees_from trees)) →
         IfErr r (λ f. RefusesStatements version f o (trees_of us))
-    not_grown (Ok p) refused = tt
-    not_grown (Err r) refused = refused version o (map tree_of us) (behind_all (of_growth version o) [] from)
+    not_grown (Ok u) refused = tt
+    not_grown (Err r) refused = refused version o (map tree_of us) (behind_all (of_growth version o) [] none)
+
+-- what holds holds of a refusal, too
+pub on_err : (r : Result (Unit {0}) Refusal) (P : Type 0) → P → OnErr r P
+on_err (Ok u) P h = tt
+on_err (Err f) P h = h

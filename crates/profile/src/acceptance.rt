@@ -1,4 +1,5 @@
 //! From a document's trees to an ontology.
+ghost use Rattle.axioms.specs.Fronts.{Extends};
 ghost use Rattle.fs_parser.specs.View.{tree_of, trees_of};
 ghost use Rattle.profile.specs.Reading.{AreReadAs, Refuses};
 ghost use Rattle.profile.specs.Intake.{AreTakenBehind};
@@ -23,7 +24,8 @@ pub enum Refusal {
 }
 
 pub(crate) fn take_all(reader: &mut OntologyReader, trees: &[Tree<'_>]) -> Result<(), Memory>
-    ensures { OnOk result (AreTakenBehind (map tree_of trees.now) reader.old reader.new) }
+    ensures taken { OnOk result (AreTakenBehind (map tree_of trees.now) reader.old reader.new) }
+    ensures kept { Extends reader.old.ontology reader.new.ontology }
 {
     for tree in trees {
         reader.take(tree)?;

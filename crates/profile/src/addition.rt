@@ -3,7 +3,7 @@ ghost use Rattle.axioms.specs.Ontology as numbered;
 ghost use Rattle.fs_parser.specs.View.{tree_of, trees_of};
 ghost use Rattle.profile.specs.AddedTexts.{AreStatementsOf, IsAddedText, IsExpressionOf, IsReadExpression, RefusesAddition, RefusesReading};
 ghost use Rattle.profile.specs.Documents.{IsTaken};
-ghost use Rattle.std.specs.Prelude.{IfErr, IfOk};
+ghost use Rattle.std.specs.Prelude.{◌≡◌, IfErr, IfOk, OnErr, OnOk};
 
 use crate::fault::DocumentFault;
 use crate::growth::{accept_expression, accept_statements};
@@ -33,35 +33,37 @@ fn listed_statements<'a>(
     }
 }
 
-/// A copy of the ontology, grown by what the text states: axioms and declarations that stand alone, without an `Ontology( .. )`
-/// around them, in this version of the profile, whose names are expanded with these prefixes. A text of none is one, too.
+/// Grows the ontology by what the text states: axioms and declarations that stand alone, without an `Ontology( .. )` around them,
+/// in this version of the profile, whose names are expanded with these prefixes. A text of none is one, too.
 ///
 /// # Errors
 ///
 /// Places count the bytes of this text. `Lex` or `Parse` where it is no trees of which at most 64 parentheses are open at once;
 /// `Faults`, with every one in the order of the text, where they are not of the profile; `TooManyNames` where they are, and with
-/// them a kind has more than 1,000,000 names; `Memory` where memory was refused before the answer was there.
+/// them a kind has more than 1,000,000 names; `Memory` where memory was refused before the answer was there. After any of them the
+/// ontology is as it was.
 pub fn read_addition(
     alloc: Global,
-    ontology: &Ontology,
+    ontology: &mut Ontology,
     prefixes: &Prefixes,
     version: Version,
     text: &str,
     state: RandomState,
-) -> Result<Ontology, DocumentFault>
-    requires { IsTaken ontology.now }
-    ensures added { IfOk result (IsAddedText version prefixes.now text.now ontology.now) }
-    ensures taken { IfOk result IsTaken }
-    ensures refused { IfErr result (RefusesAddition version prefixes.now text.now ontology.now) }
+) -> Result<(), DocumentFault>
+    requires { IsTaken ontology.old }
+    ensures added { OnOk result (IsAddedText version prefixes.now text.now ontology.old ontology.new) }
+    ensures taken { IsTaken ontology.new }
+    ensures refused { IfErr result (RefusesAddition version prefixes.now text.now ontology.old) }
+    ensures err { OnErr result (ontology.new ≡ ontology.old) }
 {
     let trees = match listed_statements(alloc, prefixes, text) {
         Ok(trees) => trees,
         Err(fault) => return Err(fault),
     };
     match accept_statements(alloc, ontology, &trees, version, state) {
-        Ok(grown) => {
-            grown.well_formed();
-            Ok(grown)
+        Ok(()) => {
+            ontology.well_formed();
+            Ok(())
         }
         Err(refusal) => Err(DocumentFault::from(refusal)),
     }

@@ -1,4 +1,5 @@
 //! Axioms, each behind what it is about.
+ghost use Rattle.axioms.specs.Fronts.{Extends};
 ghost use Rattle.axioms.specs.Axiom.{SubClassOf, EquivalentClasses, DisjointClasses, PropertyDomain, TransitiveProperty, ReflexiveProperty, ClassAssertion, PropertyAssertion, EquivalentProperties, SubPropertyOf, SameIndividuals, DifferentIndividuals, NegativePropertyAssertion};
 ghost use Rattle.axioms.specs.Numbering.{States};
 ghost use Rattle.axioms.specs.View.{axiom_of};
@@ -21,7 +22,8 @@ use std::alloc::Global;
 #[inline(always)]
 fn state(builder: &mut NameBuilder, axiom: Axiom) -> Result<(), BuildFault>
     requires { IsAxiomOf builder.old (axiom_of «axiom») }
-    ensures { AxiomRead result (axiom_of «axiom») builder.old builder.new }
+    ensures read { AxiomRead result (axiom_of «axiom») builder.old builder.new }
+    ensures kept { Extends builder.old builder.new }
 {
     builder.well_formed();
     match builder.add_axiom(axiom) {
@@ -39,7 +41,8 @@ pub(crate) fn sub_class(
 ) -> Result<(), BuildFault>
     requires sub { IsClassTree (tree_of sub.now) }
     requires superclass { IsClassTree (tree_of superclass.now) }
-    ensures { StatementRead result (States (SubClassOf (class_in sub.now) (class_in superclass.now))) builder.old builder.new }
+    ensures read { StatementRead result (States (SubClassOf (class_in sub.now) (class_in superclass.now))) builder.old builder.new }
+    ensures kept { Extends builder.old builder.new }
 {
     let sub = match class_expression(alloc, builder, sub) {
         Ok(sub) => sub,
@@ -60,7 +63,8 @@ pub(crate) fn equivalent_classes(
 ) -> Result<(), BuildFault>
     requires classes { AreClassTrees (trees_of trees.now) }
     requires many { AreManyDistinct (trees_of trees.now) }
-    ensures { StatementRead result (States (EquivalentClasses (classes_of (trees_of trees.now)))) builder.old builder.new }
+    ensures read { StatementRead result (States (EquivalentClasses (classes_of (trees_of trees.now)))) builder.old builder.new }
+    ensures kept { Extends builder.old builder.new }
 {
     let operands = match class_expressions(alloc, builder, trees) {
         Ok(operands) => operands,
@@ -77,7 +81,8 @@ pub(crate) fn disjoint_classes(
 ) -> Result<(), BuildFault>
     requires classes { AreClassTrees (trees_of trees.now) }
     requires many { AreManyDistinct (trees_of trees.now) }
-    ensures { StatementRead result (States (DisjointClasses (classes_of (trees_of trees.now)))) builder.old builder.new }
+    ensures read { StatementRead result (States (DisjointClasses (classes_of (trees_of trees.now)))) builder.old builder.new }
+    ensures kept { Extends builder.old builder.new }
 {
     let operands = match class_expressions(alloc, builder, trees) {
         Ok(operands) => operands,
@@ -94,7 +99,8 @@ pub(crate) fn property_domain(
     second: &Tree<'_>,
 ) -> Result<(), BuildFault>
     requires { IsClassTree (tree_of second.now) }
-    ensures { StatementRead result (States (PropertyDomain (iri_in first.now) (class_in second.now))) builder.old builder.new }
+    ensures read { StatementRead result (States (PropertyDomain (iri_in first.now) (class_in second.now))) builder.old builder.new }
+    ensures kept { Extends builder.old builder.new }
 {
     let property = match property(builder, first) {
         Ok(property) => property,
@@ -112,7 +118,8 @@ pub(crate) fn transitive_property(
     builder: &mut NameBuilder,
     tree: &Tree<'_>,
 ) -> Result<(), BuildFault>
-    ensures { StatementRead result (States (TransitiveProperty (iri_in tree.now))) builder.old builder.new }
+    ensures read { StatementRead result (States (TransitiveProperty (iri_in tree.now))) builder.old builder.new }
+    ensures kept { Extends builder.old builder.new }
 {
     let property = match property(builder, tree) {
         Ok(property) => property,
@@ -126,7 +133,8 @@ pub(crate) fn reflexive_property(
     builder: &mut NameBuilder,
     tree: &Tree<'_>,
 ) -> Result<(), BuildFault>
-    ensures { StatementRead result (States (ReflexiveProperty (iri_in tree.now))) builder.old builder.new }
+    ensures read { StatementRead result (States (ReflexiveProperty (iri_in tree.now))) builder.old builder.new }
+    ensures kept { Extends builder.old builder.new }
 {
     let property = match property(builder, tree) {
         Ok(property) => property,
@@ -143,7 +151,8 @@ pub(crate) fn class_assertion(
     second: &Tree<'_>,
 ) -> Result<(), BuildFault>
     requires { IsClassTree (tree_of first.now) }
-    ensures { StatementRead result (States (ClassAssertion (class_in first.now) (iri_in second.now))) builder.old builder.new }
+    ensures read { StatementRead result (States (ClassAssertion (class_in first.now) (iri_in second.now))) builder.old builder.new }
+    ensures kept { Extends builder.old builder.new }
 {
     let class = match class_expression(alloc, builder, first) {
         Ok(class) => class,
@@ -163,7 +172,8 @@ pub(crate) fn property_assertion(
     second: &Tree<'_>,
     third: &Tree<'_>,
 ) -> Result<(), BuildFault>
-    ensures { StatementRead result (States (PropertyAssertion (iri_in first.now) (iri_in second.now) (iri_in third.now))) builder.old builder.new }
+    ensures read { StatementRead result (States (PropertyAssertion (iri_in first.now) (iri_in second.now) (iri_in third.now))) builder.old builder.new }
+    ensures kept { Extends builder.old builder.new }
 {
     let (property, source, target) = match pair(builder, first, second, third) {
         Ok(pair) => pair,
@@ -179,7 +189,8 @@ pub(crate) fn equivalent_properties(
     trees: &[Tree<'_>],
 ) -> Result<(), BuildFault>
     requires { AreManyDistinctNames (trees_of trees.now) }
-    ensures { StatementRead result (States (EquivalentProperties (iris_of (trees_of trees.now)))) builder.old builder.new }
+    ensures read { StatementRead result (States (EquivalentProperties (iris_of (trees_of trees.now)))) builder.old builder.new }
+    ensures kept { Extends builder.old builder.new }
 {
     let operands = match properties(alloc, builder, trees) {
         Ok(operands) => operands,
@@ -196,7 +207,8 @@ pub(crate) fn sub_property(
     second: &Tree<'_>,
 ) -> Result<(), BuildFault>
     requires { IsChain (tree_of first.now) }
-    ensures { StatementRead result (States (SubPropertyOf (chain_of (tree_of first.now)) (iri_in second.now))) builder.old builder.new }
+    ensures read { StatementRead result (States (SubPropertyOf (chain_of (tree_of first.now)) (iri_in second.now))) builder.old builder.new }
+    ensures kept { Extends builder.old builder.new }
 {
     let steps = match chain(alloc, builder, first) {
         Ok(steps) => steps,
@@ -216,7 +228,8 @@ pub(crate) fn same_individuals(
     trees: &[Tree<'_>],
 ) -> Result<(), BuildFault>
     requires { AreManyDistinctNames (trees_of trees.now) }
-    ensures { StatementRead result (States (SameIndividuals (iris_of (trees_of trees.now)))) builder.old builder.new }
+    ensures read { StatementRead result (States (SameIndividuals (iris_of (trees_of trees.now)))) builder.old builder.new }
+    ensures kept { Extends builder.old builder.new }
 {
     let operands = match individuals(alloc, builder, trees) {
         Ok(operands) => operands,
@@ -232,7 +245,8 @@ pub(crate) fn different_individuals(
     trees: &[Tree<'_>],
 ) -> Result<(), BuildFault>
     requires { AreManyDistinctNames (trees_of trees.now) }
-    ensures { StatementRead result (States (DifferentIndividuals (iris_of (trees_of trees.now)))) builder.old builder.new }
+    ensures read { StatementRead result (States (DifferentIndividuals (iris_of (trees_of trees.now)))) builder.old builder.new }
+    ensures kept { Extends builder.old builder.new }
 {
     let operands = match individuals(alloc, builder, trees) {
         Ok(operands) => operands,
@@ -248,7 +262,8 @@ pub(crate) fn negative_property_assertion(
     second: &Tree<'_>,
     third: &Tree<'_>,
 ) -> Result<(), BuildFault>
-    ensures { StatementRead result (States (NegativePropertyAssertion (iri_in first.now) (iri_in second.now) (iri_in third.now))) builder.old builder.new }
+    ensures read { StatementRead result (States (NegativePropertyAssertion (iri_in first.now) (iri_in second.now) (iri_in third.now))) builder.old builder.new }
+    ensures kept { Extends builder.old builder.new }
 {
     let (property, source, target) = match pair(builder, first, second, third) {
         Ok(pair) => pair,

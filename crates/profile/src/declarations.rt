@@ -1,4 +1,5 @@
 //! Declarations of names.
+ghost use Rattle.axioms.specs.Fronts.{Extends};
 ghost use Rattle.axioms.specs.Numbering.{DeclaresClass, DeclaresIndividual, DeclaresProperty};
 ghost use Rattle.profile.specs.Additions.{StatementRead};
 ghost use Rattle.profile.specs.Statements.{iri_in};
@@ -10,7 +11,8 @@ use fs_parser::Tree;
 
 /// Declares the class that the tree names.
 pub(crate) fn declare_class(builder: &mut NameBuilder, tree: &Tree<'_>) -> Result<(), BuildFault>
-    ensures { StatementRead result (DeclaresClass (iri_in tree.now)) builder.old builder.new }
+    ensures read { StatementRead result (DeclaresClass (iri_in tree.now)) builder.old builder.new }
+    ensures kept { Extends builder.old builder.new }
 {
     match class(builder, tree) {
         Ok(_) => Ok(()),
@@ -20,7 +22,8 @@ pub(crate) fn declare_class(builder: &mut NameBuilder, tree: &Tree<'_>) -> Resul
 
 /// Declares the property that the tree names.
 pub(crate) fn declare_property(builder: &mut NameBuilder, tree: &Tree<'_>) -> Result<(), BuildFault>
-    ensures { StatementRead result (DeclaresProperty (iri_in tree.now)) builder.old builder.new }
+    ensures read { StatementRead result (DeclaresProperty (iri_in tree.now)) builder.old builder.new }
+    ensures kept { Extends builder.old builder.new }
 {
     match property(builder, tree) {
         Ok(_) => Ok(()),
@@ -33,7 +36,8 @@ pub(crate) fn declare_individual(
     builder: &mut NameBuilder,
     tree: &Tree<'_>,
 ) -> Result<(), BuildFault>
-    ensures { StatementRead result (DeclaresIndividual (iri_in tree.now)) builder.old builder.new }
+    ensures read { StatementRead result (DeclaresIndividual (iri_in tree.now)) builder.old builder.new }
+    ensures kept { Extends builder.old builder.new }
 {
     match individual(builder, tree) {
         Ok(_) => Ok(()),

@@ -1,4 +1,5 @@
 //! Class expressions, each behind its parts.
+ghost use Rattle.axioms.specs.Fronts.{Extends};
 ghost use Rattle.axioms.specs.Ontology.{intersection};
 ghost use Rattle.fs_parser.specs.View.{tree_of, trees_of};
 ghost use Rattle.profile.specs.Additions.{ClassRead, ClassesRead};
@@ -20,7 +21,8 @@ pub(crate) fn class_expression(
     tree: &Tree<'_>,
 ) -> Result<ExprId, BuildFault>
     requires { IsClassTree (tree_of tree.now) }
-    ensures { ClassRead result (class_in tree.now) builder.old builder.new }
+    ensures read { ClassRead result (class_in tree.now) builder.old builder.new }
+    ensures kept { Extends builder.old builder.new }
 {
     match tree {
         Tree::Form { keyword, trees, .. } => {
@@ -43,7 +45,8 @@ fn intersection(
 ) -> Result<ExprId, BuildFault>
     requires classes { AreClassTrees (trees_of trees.now) }
     requires many { AreManyDistinct (trees_of trees.now) }
-    ensures { ClassRead result (intersection (classes_of (trees_of trees.now))) builder.old builder.new }
+    ensures read { ClassRead result (intersection (classes_of (trees_of trees.now))) builder.old builder.new }
+    ensures kept { Extends builder.old builder.new }
 {
     let operands = match class_expressions(alloc, builder, trees) {
         Ok(operands) => operands,
@@ -63,7 +66,8 @@ pub(crate) fn class_expressions(
     trees: &[Tree<'_>],
 ) -> Result<Vec<ExprId>, BuildFault>
     requires { AreClassTrees (trees_of trees.now) }
-    ensures { ClassesRead result (classes_of (trees_of trees.now)) builder.old builder.new }
+    ensures read { ClassesRead result (classes_of (trees_of trees.now)) builder.old builder.new }
+    ensures kept { Extends builder.old builder.new }
 {
     builder.well_formed();
     let mut expressions = Vec::new(alloc);
@@ -88,7 +92,8 @@ fn some_values(
     trees: &[Tree<'_>],
 ) -> Result<ExprId, BuildFault>
     requires { AreSomeTrees (trees_of trees.now) }
-    ensures { ClassRead result (some_values (trees_of trees.now) (classes_of (trees_of trees.now))) builder.old builder.new }
+    ensures read { ClassRead result (some_values (trees_of trees.now) (classes_of (trees_of trees.now))) builder.old builder.new }
+    ensures kept { Extends builder.old builder.new }
 {
     let [first, second] = trees else {
         return names::class(

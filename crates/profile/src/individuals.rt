@@ -1,4 +1,5 @@
 //! Lists and pairs of individuals.
+ghost use Rattle.axioms.specs.Fronts.{Extends};
 ghost use Rattle.fs_parser.specs.View.{trees_of};
 ghost use Rattle.profile.specs.Additions.{IndividualsRead, PairRead};
 ghost use Rattle.profile.specs.Statements.{iri_in, iris_of};
@@ -15,7 +16,8 @@ pub(crate) fn individuals(
     builder: &mut NameBuilder,
     trees: &[Tree<'_>],
 ) -> Result<Vec<IndId>, BuildFault>
-    ensures { IndividualsRead result (iris_of (trees_of trees.now)) builder.old builder.new }
+    ensures read { IndividualsRead result (iris_of (trees_of trees.now)) builder.old builder.new }
+    ensures kept { Extends builder.old builder.new }
 {
     builder.well_formed();
     let mut individuals = Vec::new(alloc);
@@ -40,7 +42,8 @@ pub(crate) fn pair(
     second: &Tree<'_>,
     third: &Tree<'_>,
 ) -> Result<(PropId, IndId, IndId), BuildFault>
-    ensures { PairRead result (iri_in first.now) (iri_in second.now) (iri_in third.now) builder.old builder.new }
+    ensures read { PairRead result (iri_in first.now) (iri_in second.now) (iri_in third.now) builder.old builder.new }
+    ensures kept { Extends builder.old builder.new }
 {
     let property = match property(builder, first) {
         Ok(property) => property,

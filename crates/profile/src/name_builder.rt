@@ -1,5 +1,6 @@
 //! A builder that is asked for names as trees have them, in two pieces of the source.
 ghost use Rattle.std.specs.Prelude.{◌≡◌, length, Err, IfOk, OnOk, OnErr};
+ghost use Rattle.axioms.specs.Fronts.{Extends};
 ghost use Rattle.axioms.specs.declared.fault.BuildFault.TheVariants as faults;
 ghost use Rattle.axioms.specs.Growth.{empty_ontology, names_of, Numbers, IsFull, Declares, with_axiom};
 ghost use Rattle.axioms.specs.View.{axiom_of, node_of};
@@ -62,6 +63,7 @@ impl NameBuilder {
         ensures ok { IfOk result (Declares self.old kind (iri_of iri.now) self.new) }
         ensures room { OnOk result (IsFull (names_of self.old.names kind) (iri_of iri.now) → ⊥) }
         ensures full { result ≡ Err faults.TooManyNames → IsFull (names_of self.old.names kind) (iri_of iri.now) }
+        ensures kept { Extends self.old self.new }
     {
         if iri.local.is_empty() {
             return self.builder.declare(kind, iri.base);
@@ -80,6 +82,7 @@ impl NameBuilder {
         ensures ok { IfOk result (λ e. Numbers self.old.nodes (node_of expr) self.new.nodes e.0) }
         ensures others { self.new ≡ record self.old { nodes = self.new.nodes } }
         ensures err { OnErr result (self.new ≡ self.old) }
+        ensures kept { Extends self.old self.new }
     {
         self.builder.add_expr(expr)
     }
@@ -90,6 +93,7 @@ impl NameBuilder {
         requires { IsAxiomOf self.old (axiom_of «axiom») }
         ensures ok { OnOk result (self.new ≡ with_axiom self.old (axiom_of «axiom»)) }
         ensures err { OnErr result (self.new ≡ self.old) }
+        ensures kept { Extends self.old self.new }
     {
         self.builder.add_axiom(axiom)
     }

@@ -1,4 +1,5 @@
 //! Names as the builder numbers them. It answers a kind with a name of that kind; another would be told as refused memory.
+ghost use Rattle.axioms.specs.Fronts.{Extends};
 ghost use Rattle.axioms.specs.Expression.{Named};
 ghost use Rattle.fs_parser.specs.View.{iri_of};
 ghost use Rattle.profile.specs.Additions.{ClassRead, IndividualRead, PropertyRead};
@@ -10,7 +11,8 @@ use fs_parser::Iri;
 /// The expression of the class of this name, which is declared where it is new.
 #[inline(always)]
 pub(crate) fn class(builder: &mut NameBuilder, iri: &Iri<'_>) -> Result<ExprId, BuildFault>
-    ensures { ClassRead result (Named (iri_of iri.now)) builder.old builder.new }
+    ensures read { ClassRead result (Named (iri_of iri.now)) builder.old builder.new }
+    ensures kept { Extends builder.old builder.new }
 {
     builder.well_formed();
     let name = match builder.declare(Kind::Class, iri) {
@@ -27,7 +29,8 @@ pub(crate) fn class(builder: &mut NameBuilder, iri: &Iri<'_>) -> Result<ExprId, 
 /// The property of this name, which is declared where it is new.
 #[inline(always)]
 pub(crate) fn property(builder: &mut NameBuilder, iri: &Iri<'_>) -> Result<PropId, BuildFault>
-    ensures { PropertyRead result (iri_of iri.now) builder.old builder.new }
+    ensures read { PropertyRead result (iri_of iri.now) builder.old builder.new }
+    ensures kept { Extends builder.old builder.new }
 {
     builder.well_formed();
     let name = match builder.declare(Kind::Property, iri) {
@@ -44,7 +47,8 @@ pub(crate) fn property(builder: &mut NameBuilder, iri: &Iri<'_>) -> Result<PropI
 /// The individual of this name, which is declared where it is new.
 #[inline(always)]
 pub(crate) fn individual(builder: &mut NameBuilder, iri: &Iri<'_>) -> Result<IndId, BuildFault>
-    ensures { IndividualRead result (iri_of iri.now) builder.old builder.new }
+    ensures read { IndividualRead result (iri_of iri.now) builder.old builder.new }
+    ensures kept { Extends builder.old builder.new }
 {
     builder.well_formed();
     let name = match builder.declare(Kind::Individual, iri) {

@@ -1,10 +1,11 @@
 //! From trees, taken one by one, to an ontology.
+ghost use Rattle.axioms.specs.Fronts.{Extends};
 ghost use Rattle.fs_parser.specs.View.{tree_of};
 ghost use Rattle.profile.specs.Finishing.{IsGrown, IsNotGrown, IsRead, IsRefused};
 ghost use Rattle.profile.specs.Operands.{IsFitting};
 ghost use Rattle.profile.specs.Intake.{AreStated, AreTaken, AreTakenBehind, of_document, of_growth};
 ghost use Rattle.shapes.specs.TreeStatements.{meaning, stated};
-ghost use Rattle.std.specs.Prelude.{◌∷◌, [], IfErr, IfOk, OnOk, option_map};
+ghost use Rattle.std.specs.Prelude.{◌≡◌, ◌∷◌, [], IfErr, IfOk, OnOk, option_map};
 
 use crate::acceptance::Refusal;
 use crate::name_builder::NameBuilder;
@@ -46,7 +47,8 @@ fn overflows(
     statement: Option<Statement<'_, '_>>,
 ) -> Result<bool, Memory>
     requires { IsFitting (option_map stated statement) }
-    ensures { IfOk result (λ is_full. AreStated builder.old (meaning (option_map stated statement.entry)) is_full builder.new) }
+    ensures stated { IfOk result (λ is_full. AreStated builder.old (meaning (option_map stated statement.entry)) is_full builder.new) }
+    ensures kept { Extends builder.old builder.new }
 {
     builder.well_formed();
     let Some(statement) = statement else {
@@ -94,7 +96,8 @@ impl OntologyReader {
         version: Version,
         state: RandomState,
     ) -> OntologyReader
-        ensures { AreTaken (of_growth version ontology) [] result }
+        ensures none { AreTaken (of_growth version ontology) [] result }
+        ensures same { result.ontology ≡ ontology }
     {
         ontology.well_formed();
         OntologyReader {
@@ -114,7 +117,9 @@ impl OntologyReader {
     ///
     /// `Memory` where memory was refused. The reader is of no more use then.
     pub fn take(&mut self, tree: &Tree<'_>) -> Result<(), Memory>
-        ensures { OnOk result (AreTakenBehind (tree_of tree.now ∷ []) self.old self.new) }
+        ensures taken { OnOk result (AreTakenBehind (tree_of tree.now ∷ []) self.old self.new) }
+        // Whatever comes of it, what was there stays in front.
+        ensures kept { Extends self.old.ontology self.new.ontology }
     {
         let (place, statement) = part_faults(
             self.alloc,
@@ -132,6 +137,25 @@ impl OntologyReader {
         Ok(())
     }
 
+    /// Whether the trees state an ontology, or one has grown by them, and the ontology as far as it came.
+    pub(crate) fn end(self) -> (Result<(), Refusal>, Ontology)
+        ensures ontology { result.1 ≡ self.ontology }
+        ensures read { OnOk result.0 (IsRead self result.1) }
+        ensures refused { IfErr result.0 (IsRefused self) }
+        ensures added { OnOk result.0 (IsGrown self result.1) }
+        ensures not_added { IfErr result.0 (IsNotGrown self) }
+    {
+        let ontology = self.builder.finish();
+        ontology.bounded();
+        if !self.found.is_empty() {
+            return (Err(Refusal::Faults(self.found)), ontology);
+        }
+        if self.is_full {
+            return (Err(Refusal::TooManyNames), ontology);
+        }
+        (Ok(()), ontology)
+    }
+
     /// The ontology that the trees state, or the one that has grown by them.
     ///
     /// # Errors
@@ -144,16 +168,13 @@ impl OntologyReader {
         ensures added { IfOk result (IsGrown self) }
         ensures not_added { IfErr result (IsNotGrown self) }
     {
-        if !self.found.is_empty() {
-            drop(self.builder);
-            return Err(Refusal::Faults(self.found));
+        let (answer, ontology) = self.end();
+        match answer {
+            Ok(()) => Ok(ontology),
+            Err(refusal) => {
+                drop(ontology);
+                Err(refusal)
+            }
         }
-        if self.is_full {
-            drop(self.builder);
-            return Err(Refusal::TooManyNames);
-        }
-        let ontology = self.builder.finish();
-        ontology.bounded();
-        Ok(ontology)
     }
 }

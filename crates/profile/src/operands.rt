@@ -1,4 +1,5 @@
 //! Names of trees, and expressions over parts that are there.
+ghost use Rattle.axioms.specs.Fronts.{Extends};
 ghost use Rattle.std.specs.Prelude.{◌≡◌, None, IfOk, length};
 ghost use Rattle.axioms.specs.Expression.{Named};
 ghost use Rattle.axioms.specs.Ontology.{tree_of as node_tree, trees};
@@ -19,7 +20,8 @@ use fs_parser::{Iri, Tree};
 pub(crate) fn add(builder: &mut NameBuilder, expr: Expr) -> Result<ExprId, Memory>
     requires fits { IsNodeOf builder.old (length builder.old.nodes) (node_of expr) }
     requires unnamed { class_name (node_tree builder.old.names (trees builder.old) (node_of expr)) ≡ None }
-    ensures { IfOk result (λ e. HasAdded builder.old builder.new e.0 (node_tree builder.old.names (trees builder.old) (node_of expr))) }
+    ensures read { IfOk result (λ e. HasAdded builder.old builder.new e.0 (node_tree builder.old.names (trees builder.old) (node_of expr))) }
+    ensures kept { Extends builder.old builder.new }
 {
     builder.well_formed();
     let number = builder.add_expr(expr);
@@ -43,14 +45,16 @@ fn iri_of<'a>(tree: &Tree<'a>) -> Iri<'a>
 
 #[inline(always)]
 pub(crate) fn property(builder: &mut NameBuilder, tree: &Tree<'_>) -> Result<PropId, BuildFault>
-    ensures { PropertyRead result (tree_iri (tree_of tree.now)) builder.old builder.new }
+    ensures read { PropertyRead result (tree_iri (tree_of tree.now)) builder.old builder.new }
+    ensures kept { Extends builder.old builder.new }
 {
     names::property(builder, &iri_of(tree))
 }
 
 #[inline(always)]
 pub(crate) fn individual(builder: &mut NameBuilder, tree: &Tree<'_>) -> Result<IndId, BuildFault>
-    ensures { IndividualRead result (tree_iri (tree_of tree.now)) builder.old builder.new }
+    ensures read { IndividualRead result (tree_iri (tree_of tree.now)) builder.old builder.new }
+    ensures kept { Extends builder.old builder.new }
 {
     names::individual(builder, &iri_of(tree))
 }
@@ -58,7 +62,8 @@ pub(crate) fn individual(builder: &mut NameBuilder, tree: &Tree<'_>) -> Result<I
 /// The class that the tree names.
 #[inline(always)]
 pub(crate) fn class(builder: &mut NameBuilder, tree: &Tree<'_>) -> Result<ExprId, BuildFault>
-    ensures { ClassRead result (Named (tree_iri (tree_of tree.now))) builder.old builder.new }
+    ensures read { ClassRead result (Named (tree_iri (tree_of tree.now))) builder.old builder.new }
+    ensures kept { Extends builder.old builder.new }
 {
     names::class(builder, &iri_of(tree))
 }

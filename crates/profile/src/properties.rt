@@ -1,4 +1,5 @@
 //! Lists of properties.
+ghost use Rattle.axioms.specs.Fronts.{Extends};
 ghost use Rattle.fs_parser.specs.View.{tree_of, trees_of};
 ghost use Rattle.profile.specs.Additions.{PropertiesRead};
 ghost use Rattle.profile.specs.ClassTrees.{IsChain};
@@ -17,7 +18,8 @@ pub(crate) fn properties(
     builder: &mut NameBuilder,
     trees: &[Tree<'_>],
 ) -> Result<Vec<PropId>, BuildFault>
-    ensures { PropertiesRead result (iris_of (trees_of trees.now)) builder.old builder.new }
+    ensures read { PropertiesRead result (iris_of (trees_of trees.now)) builder.old builder.new }
+    ensures kept { Extends builder.old builder.new }
 {
     builder.well_formed();
     let mut properties = Vec::new(alloc);
@@ -40,7 +42,8 @@ fn one_property(
     builder: &mut NameBuilder,
     tree: &Tree<'_>,
 ) -> Result<Vec<PropId>, BuildFault>
-    ensures { PropertiesRead result (iri_in tree.now ∷ []) builder.old builder.new }
+    ensures read { PropertiesRead result (iri_in tree.now ∷ []) builder.old builder.new }
+    ensures kept { Extends builder.old builder.new }
 {
     let property = match property(builder, tree) {
         Ok(property) => property,
@@ -60,7 +63,8 @@ pub(crate) fn chain(
     tree: &Tree<'_>,
 ) -> Result<Vec<PropId>, BuildFault>
     requires { IsChain (tree_of tree.now) }
-    ensures { PropertiesRead result (chain_of (tree_of tree.now)) builder.old builder.new }
+    ensures read { PropertiesRead result (chain_of (tree_of tree.now)) builder.old builder.new }
+    ensures kept { Extends builder.old builder.new }
 {
     match tree {
         Tree::Form { trees, .. } => properties(alloc, builder, trees),

@@ -1,4 +1,5 @@
 //! Statements, each added to an ontology.
+ghost use Rattle.axioms.specs.Fronts.{Extends};
 ghost use Rattle.shapes.specs.Shapes.{row};
 ghost use Rattle.shapes.specs.TreeStatements.{form_stated, meaning, stated, trees_stated};
 ghost use Rattle.profile.specs.Additions.{StatementsRead};
@@ -27,7 +28,8 @@ pub(crate) fn add_statement(
     statement: Statement<'_, '_>,
 ) -> Result<(), BuildFault>
     requires { AreOperands (row (form_stated statement)).1 (trees_stated statement) }
-    ensures { StatementsRead result (meaning (Some (stated statement.entry))) builder.old builder.new }
+    ensures read { StatementsRead result (meaning (Some (stated statement.entry))) builder.old builder.new }
+    ensures kept { Extends builder.old builder.new }
 {
     match statement {
         Statement::SubClassOf(sub, superclass) => sub_class(alloc, builder, sub, superclass),

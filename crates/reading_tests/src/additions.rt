@@ -7,7 +7,6 @@ use crate::parts::nested;
 use crate::tables::{Shown, counts, random};
 use axioms::{ExprId, Ontology};
 use device::SliceSource;
-use fs_parser::Prefixes;
 use profile::{
     DocumentFault, Limits, Opened, Version, read_addition, read_expression, read_opened,
 };
@@ -39,9 +38,9 @@ fn opened(alloc: Global, state: RandomState, document: &str) -> Option<Opened>
 }
 
 /// The counts of the ontology that has grown, or the fault.
-fn shown(alloc: Global, grown: &Result<Ontology, DocumentFault>) -> Shown {
-    match grown {
-        Ok(ontology) => {
+fn shown(alloc: Global, ontology: &Ontology, answer: &Result<(), DocumentFault>) -> Shown {
+    match answer {
+        Ok(()) => {
             let counts = counts(ontology);
             format!(in alloc; "{counts:?}")
         }
@@ -68,13 +67,16 @@ fn read(alloc: Global, state: RandomState, opened: &Opened, version: Version, te
     shown_expression(alloc, &read)
 }
 
-/// What is shown of the document's ontology when the text was added.
+/// What is shown of a copy of the document's ontology when the text was added.
 fn added(alloc: Global, state: RandomState, opened: &Opened, version: Version, text: &str) -> Shown
     requires { IsTaken opened.now.ontology }
 {
-    let ontology = &opened.ontology;
-    let grown = read_addition(alloc, ontology, &opened.prefixes, version, text, state);
-    shown(alloc, &grown)
+    let Ok(mut ontology) = opened.ontology.copy() else {
+        return Err(AllocError);
+    };
+    let prefixes = &opened.prefixes;
+    let answer = read_addition(alloc, &mut ontology, prefixes, version, text, state);
+    shown(alloc, &ontology, &answer)
 }
 
 /// What is done with a text.
@@ -321,39 +323,36 @@ fn deepest_additions(rt: HostRuntime) -> Result<(), Fail> {
     Ok(())
 }
 
-/// The counts behind two additions, one to what the other has made.
-fn added_twice(alloc: Global, state: RandomState, opened: &Opened) -> Shown
-    requires { IsTaken opened.now.ontology }
+/// The counts behind two additions, one to what the other has made, and a refused one between them.
+fn added_twice(alloc: Global, state: RandomState, opened: Opened) -> Shown
+    requires { IsTaken opened.ontology }
 {
-    let prefixes: &Prefixes = &opened.prefixes;
-    match read_addition(
-        alloc,
-        &opened.ontology,
+    let Opened {
+        mut ontology,
         prefixes,
-        Version::Two,
-        "SubClassOf(:B :C)",
-        state,
-    ) {
-        Ok(grown) => {
-            let again = read_addition(
-                alloc,
-                &grown,
-                prefixes,
-                Version::Two,
-                "SubClassOf(:C :D)",
-                state,
-            );
-            shown(alloc, &again)
-        }
-        Err(fault) => format!(in alloc; "{fault}"),
+        bytes: _,
+        version,
+    } = opened;
+    let first = "SubClassOf(:B :C)";
+    let refused = "SubClassOf(:E :F) SubClassOf(:F owl:real)";
+    let last = "SubClassOf(:C :D)";
+    match read_addition(alloc, &mut ontology, &prefixes, version, first, state) {
+        Ok(()) => {}
+        Err(fault) => return format!(in alloc; "{fault}"),
     }
+    match read_addition(alloc, &mut ontology, &prefixes, version, refused, state) {
+        Ok(()) => return String::from_str(alloc, "a fault was added"),
+        Err(fault) => drop(fault),
+    }
+    let answer = read_addition(alloc, &mut ontology, &prefixes, version, last, state);
+    shown(alloc, &ontology, &answer)
 }
 
 #[test]
 fn additions_follow_additions(rt: HostRuntime) -> Result<(), Fail> {
     let state = random(&rt)?;
     let found = match opened(rt.alloc(), state, DOCUMENT) {
-        Some(opened) => added_twice(rt.alloc(), state, &opened),
+        Some(opened) => added_twice(rt.alloc(), state, opened),
         None => Err(AllocError),
     }?;
     assert!(rt; found.as_str() == "[6, 0, 0, 6, 3]", "{found}");

@@ -14,9 +14,9 @@ const SMALL: &str =
     "Ontology(Declaration(Class(<x:A>)) Declaration(Class(<x:B>)) Declaration(ObjectProperty(<x:r>)))";
 
 /// The counts of the grown ontology, or the faults.
-fn shown(alloc: Global, grown: &Result<Ontology, Refusal>) -> Shown {
-    match grown {
-        Ok(ontology) => {
+fn shown(alloc: Global, ontology: &Ontology, answer: &Result<(), Refusal>) -> Shown {
+    match answer {
+        Ok(()) => {
             let counts = counts(ontology);
             format!(in alloc; "{counts:?}")
         }
@@ -43,15 +43,18 @@ enum Growth {
     Expression,
 }
 
-/// What is shown of the ontology that has grown by the trees.
+/// What is shown of a copy of the ontology that has grown by the trees.
 fn grown_by_statements(
     alloc: Global,
     state: RandomState,
     ontology: &Ontology,
     trees: &[Tree<'_>],
 ) -> Shown {
-    let grown = accept_statements(alloc, ontology, trees, Version::Two, state);
-    shown(alloc, &grown)
+    let Ok(mut grown) = ontology.copy() else {
+        return Err(AllocError);
+    };
+    let answer = accept_statements(alloc, &mut grown, trees, Version::Two, state);
+    shown(alloc, &grown, &answer)
 }
 
 /// What is shown of the ontology that has grown by the class expression.

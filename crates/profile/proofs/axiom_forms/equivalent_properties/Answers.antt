@@ -2,16 +2,20 @@ use Rattle.axioms.specs.View.{prop_numbers}
 use Rattle.fs_parser.specs.View.{trees_of}
 use Rattle.profile.specs.Statements.{iris_of}
 use Rattle.profile.proofs.AxiomReading.{equivalent_properties_fit, equivalent_properties_read, equivalent_properties_refused}
+use Rattle.axioms.proofs.Fronts.{extends_both}
 use Rattle.profile.proofs.axiom_forms.equivalent_properties.Goals as goal
 
-pub returns-in-Err : goal.returns-in-Err
-returns-in-Err c =
-    equivalent_properties_refused (iris_of (trees_of c.args.trees.now)) c.args.builder.now c.properties.new.builder c.in-Err.fault c.in-Err.ensures
+pub returns-in-Err-clause-read : goal.returns-in-Err-clause-read
+returns-in-Err-clause-read c =
+    equivalent_properties_refused (iris_of (trees_of c.args.trees.now)) c.args.builder.now c.properties.new.builder c.in-Err.fault c.in-Err.ensures.read
 
 pub state-requires : goal.state-requires
 state-requires c =
-    equivalent_properties_fit (iris_of (trees_of c.args.trees.now)) c.args.builder.now c.properties.new.builder (prop_numbers c.in-Ok.operands.items) c.in-Ok.ensures c.requires.many c.requires.distinct
+    equivalent_properties_fit (iris_of (trees_of c.args.trees.now)) c.args.builder.now c.properties.new.builder (prop_numbers c.in-Ok.operands.items) c.in-Ok.ensures.read c.requires.many c.requires.distinct
 
-pub returns : goal.returns
-returns c =
-    equivalent_properties_read (iris_of (trees_of c.args.trees.now)) c.args.builder.now c.properties.new.builder (prop_numbers c.in-Ok.operands.items) c.in-Ok.ensures c.state.new.builder c.state.result c.state.ensures
+pub returns-clause-read : goal.returns-clause-read
+returns-clause-read c =
+    equivalent_properties_read (iris_of (trees_of c.args.trees.now)) c.args.builder.now c.properties.new.builder (prop_numbers c.in-Ok.operands.items) c.in-Ok.ensures.read c.state.new.builder c.state.result c.state.ensures.read
+
+pub returns-clause-kept : goal.returns-clause-kept
+returns-clause-kept c = extends_both c.args.builder.now c.properties.new.builder c.state.new.builder c.in-Ok.ensures.kept c.state.ensures.kept

@@ -3,8 +3,8 @@ use Rattle.profile.specs.Statements.{iri_of}
 use Rattle.profile.proofs.AxiomReading.{property_refused}
 use Rattle.profile.proofs.declarations.declare_property.Goals as goal
 
-pub returns-in-Ok : goal.returns-in-Ok
-returns-in-Ok c = c.in-Ok.ensures.0
+pub returns-in-Ok-clause-read : goal.returns-in-Ok-clause-read
+returns-in-Ok-clause-read c = c.in-Ok.ensures.read.0
 
-pub returns-in-Err : goal.returns-in-Err
-returns-in-Err c = property_refused (iri_of (tree_of c.args.tree.now)) c.args.builder.now c.property.new.builder c.in-Err.fault c.in-Err.ensures
+pub returns-in-Err-clause-read : goal.returns-in-Err-clause-read
+returns-in-Err-clause-read c = property_refused (iri_of (tree_of c.args.tree.now)) c.args.builder.now c.property.new.builder c.in-Err.fault c.in-Err.ensures.read

@@ -1,12 +1,27 @@
-use Rattle.std.proofs.Common.{refl}
-use Rattle.profile.proofs.Takings.{grown, not_grown}
+use Rattle.std.proofs.Common.{◌≡◌, IfErr, sym, subst}
+use Rattle.axioms.proofs.Fronts.{front_is}
+use Rattle.axioms.specs.Fronts.{Extends, front_of, lengths_of}
+use Rattle.axioms.specs.Ontology.{Ontology}
+use Rattle.axioms.specs.WellFormedness.{IsOntology}
+use Rattle.axioms.specs.declared.lengths.Lengths.{Lengths}
+use Rattle.fs_parser.specs.View.{trees_of}
+use Rattle.profile.specs.Growth.{RefusesStatements}
+use Rattle.profile.proofs.Takings.{on_err}
 use Rattle.profile.proofs.growth.accept_statements.Goals as goal
 
-pub returns-in-Ok-take_all-clause-added : goal.returns-in-Ok-take_all-clause-added
-returns-in-Ok-take_all-clause-added c =
-    grown c.args.version c.args.trees.now c.args.trees.now refl c.of_growth-reader.result c.take_all.new.reader c.in-Ok-take_all.ensures c.args.ontology.now c.in-Ok.copy c.in-Ok.ensures c.of_growth-reader.ensures c.finish.result c.finish.ensures.added
+-- what has grown is the ontology of before again, where as much is kept of it
+back : (old taken new : Ontology) (lengths : Lengths) → taken ≡ old → Extends taken new → lengths ≡ lengths_of old → front_of lengths new ≡ old
+back old taken new lengths same grown long = subst (λ (l : Lengths). front_of l new ≡ old) (sym long) (front_is old new (subst (λ (o : Ontology). Extends o new) same grown))
 
-pub returns-in-Ok-take_all-clause-refused : goal.returns-in-Ok-take_all-clause-refused
-returns-in-Ok-take_all-clause-refused c =
-    not_grown c.args.version c.args.trees.now c.args.trees.now refl c.of_growth-reader.result c.take_all.new.reader c.in-Ok-take_all.ensures c.args.ontology.now c.in-Ok.copy c.in-Ok.ensures c.of_growth-reader.ensures c.finish.result
-    c.finish.ensures.not_added
+pub truncate-requires : goal.truncate-requires
+truncate-requires c =
+    subst IsOntology (sym (back c.args.ontology.now c.replace-old.result c.grown-answer.result.1 c.lengths-lengths.result c.replace-old.ensures.value c.grown-answer.ensures.kept c.lengths-lengths.ensures)) c.well_formed-2.ensures
+
+pub returns-then-is_err-clause-refused : goal.returns-then-is_err-clause-refused
+returns-then-is_err-clause-refused c =
+    subst (λ (o : Ontology). IfErr c.grown-answer.result.0 (λ r. RefusesStatements c.args.version r o (trees_of c.args.trees.now))) c.replace-old.ensures.value c.grown-answer.ensures.refused
+
+pub returns-then-is_err-clause-err : goal.returns-then-is_err-clause-err
+returns-then-is_err-clause-err c =
+    let was = back c.args.ontology.now c.replace-old.result c.grown-answer.result.1 c.lengths-lengths.result c.replace-old.ensures.value c.grown-answer.ensures.kept c.lengths-lengths.ensures in
+    on_err c.grown-answer.result.0 _ (subst (λ (o : Ontology). c.truncate.new.self ≡ o) was c.truncate.ensures)

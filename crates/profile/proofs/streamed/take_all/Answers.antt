@@ -10,7 +10,7 @@ loop-tree-preserved c =
     let left = c.loop-tree.trees in
     let next = c.next.new.self in
     let first = subst (λ (o : Option code.Tree). IsNext left (option_map tree_of o) next) c.in-Ok-Some.field-0-is c.in-Ok-Some.ensures.next in
-    one_more_taken c.args.trees.now left next c.args.reader.now c.loop-tree.reader c.take-taken.new.self (tree_of c.in-Ok-Some.tree) c.loop-tree.invariant first c.in-Ok.ensures
+    one_more_taken c.args.trees.now left next c.args.reader.now c.loop-tree.reader c.take-taken.new.self (tree_of c.in-Ok-Some.tree) c.loop-tree.invariant first c.in-Ok.ensures.taken
 
 pub returns-in-Ok-None : goal.returns-in-Ok-None
 returns-in-Ok-None c =

@@ -2,6 +2,8 @@ use Rattle.std.proofs.Common.{◌≡◌, ◌∙◌, ◌++◌, List, ℕ, ap, sym
 use Rattle.std.proofs.lemmas.Bool.Decides.{nat_tests}
 use Rattle.axioms.specs.Growth.{IsFull, names_of}
 use Rattle.fs_parser.specs.View.{iri_of}
+use Rattle.axioms.proofs.Fronts.{extends_self}
+use Rattle.profile.proofs.Extending.{declared_extends}
 use Rattle.profile.proofs.Named.{full_of, has_room, one_piece}
 use Rattle.profile.proofs.name_builder.NameBuilder.declare.Goals as goal
 
@@ -24,3 +26,14 @@ returns-in-Ok-clause-room c =
     let joined : c.as_str.result.now ≡ iri = c.as_str.ensures.value ∙ c.in-Ok.ensures ∙ ap (λ (t : List ℕ). t ++ iri) c.clear.ensures.bytes in
     has_room c.declare-in-Ok.result (IsFull (names_of c.args.self.now.names c.args.kind) iri)
     (λ is. c.declare-in-Ok.ensures.full.1 (full_of c.self.inside.builder c.args.self.now c.args.kind c.as_str.result.now iri c.self.view_is joined is))
+
+pub returns-then-is_empty-clause-kept : goal.returns-then-is_empty-clause-kept
+returns-then-is_empty-clause-kept c =
+    rw (← c.self.view_is) (declared_extends c.self.inside.builder c.declare.new.self c.args.kind _ c.declare.result c.declare.ensures.ok c.declare.ensures.err)
+
+pub returns-in-Ok-clause-kept : goal.returns-in-Ok-clause-kept
+returns-in-Ok-clause-kept c =
+    rw (← c.self.view_is) (declared_extends c.self.inside.builder c.declare-in-Ok.new.self c.args.kind _ c.declare-in-Ok.result c.declare-in-Ok.ensures.ok c.declare-in-Ok.ensures.err)
+
+pub returns-in-Err-clause-kept : goal.returns-in-Err-clause-kept
+returns-in-Err-clause-kept c = rw (← c.self.view_is) (extends_self c.self.inside.builder)

@@ -3,7 +3,7 @@ use Rattle.std.proofs.lemmas.Bool.Decides.{nat_tests}
 use Rattle.shapes.specs.View.{faults_of}
 use Rattle.profile.specs.Intake.{AreTaken, of_document, of_growth, taken}
 use Rattle.profile.proofs.Takings.{all_faults, growth_told, names_told, none_found, read_told, stated_all}
-use Rattle.profile.proofs.ontology_reader.OntologyReader.finish.Goals as goal
+use Rattle.profile.proofs.ontology_reader.OntologyReader.end.Goals as goal
 
 pub returns-then-not-is_empty-clause-refused : goal.returns-then-not-is_empty-clause-refused
 returns-then-not-is_empty-clause-refused c =
