@@ -5,3 +5,6 @@ pub mod Properties
 pub mod Theorems
 pub mod StoredForms
 pub mod Lists
+pub mod Pairs
+pub mod FormPieces
+pub mod Stretches

@@ -1,5 +1,4 @@
 //! Normal forms as they are kept.
-ghost use Rattle.normal_forms.specs.Properties.{is_property_form};
 ghost use Rattle.normal_forms.specs.StoredForms.{form_of, form_from};
 ghost use Rattle.std.specs.Prelude.{◌≡◌};
 
@@ -80,14 +79,6 @@ impl StoredForm {
                 StoredForm::of(Kind::N12, (false, a.0), (false, r.0), (false, b.0))
             }
         }
-    }
-
-    /// Whether the form is of properties alone: N5, N6 or N7.
-    #[inline(always)]
-    pub(crate) fn is_of_properties(&self) -> bool
-        ensures { result ≡ is_property_form (form_of self.now) }
-    {
-        matches!(self.kind, Kind::N5 | Kind::N6 | Kind::N7)
     }
 
     /// The form.

@@ -15,3 +15,4 @@ pub mod Pairs
 pub mod Keeping
 pub mod ProblemForms
 pub mod AddingRoots
+pub mod AddingPairs

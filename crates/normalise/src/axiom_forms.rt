@@ -15,6 +15,10 @@ use crate::made::Made;
 use axioms::{Axiom, ExprId, IndId, Memory, PropId};
 use normal_forms::{Class2, Form, Origin, PropId2};
 
+// From so many classes on, the forms of their pairs are one piece of the list, and memory goes by the classes. Fewer have a form for each
+// two: those are found in the index of forms, which costs less than to find a pair by the lists that its classes are in.
+const MANY_CLASSES: usize = 8;
+
 impl Made {
     // The k-th class of a circle is below the next.
     fn circle_step(&mut self, classes: &[ExprId], k: usize, origin: Origin) -> Result<(), Memory>
@@ -84,13 +88,26 @@ impl Made {
         Ok(())
     }
 
-    // No two of the classes have anything in common.
-    fn disjoint(&mut self, classes: &[ExprId], origin: Origin) -> Result<(), Memory>
+    // No two of the classes have anything in common, each two by a form of their own.
+    fn each_apart(&mut self, classes: &[ExprId], origin: Origin) -> Result<(), Memory>
         requires { AreDistinct (expr_numbers classes.now) }
         ensures { OnOk result (Adds self.old self.new (From origin (λ g. (m : ℕ) × ((n : ℕ) × PairGives disjoint (expr_numbers classes.now) m n g)))) }
     {
         for m in 0..classes.len() {
             self.apart(classes, m, origin)?;
+        }
+        Ok(())
+    }
+
+    // No two of the classes have anything in common.
+    fn disjoint(&mut self, classes: &[ExprId], origin: Origin) -> Result<(), Memory>
+        requires { AreDistinct (expr_numbers classes.now) }
+        ensures { OnOk result (Adds self.old self.new (From origin (λ g. (m : ℕ) × ((n : ℕ) × PairGives disjoint (expr_numbers classes.now) m n g)))) }
+    {
+        if classes.len() < MANY_CLASSES {
+            self.each_apart(classes, origin)?;
+        } else {
+            self.add_disjoint(classes, origin)?;
         }
         Ok(())
     }

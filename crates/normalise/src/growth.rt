@@ -92,7 +92,7 @@ impl Normal {
             right,
             left,
         } = more;
-        let made = self.made.joined(self.alloc, made)?;
+        let made = self.made.joined(made)?;
         Ok(Normal {
             alloc: self.alloc,
             made,

@@ -1,7 +1,10 @@
 //! A list of forms that grows, with its tables of prefixes.
-ghost use Rattle.std.specs.Prelude.{◌≡◌, ◌++◌, [], IfOk, OnErr, OnOk};
+ghost use Rattle.std.specs.Prelude.{◌≡◌, ℕ, ◌++◌, [], IfOk, OnErr, OnOk};
+ghost use Rattle.axioms.specs.View.{expr_numbers};
+ghost use Rattle.axioms.specs.WellFormedness.{AreDistinct};
 ghost use Rattle.normal_forms.specs.Forms.{Form as Formed};
-ghost use Rattle.normalise.specs.View.{Adds, IsOne, Says};
+ghost use Rattle.normal_forms.specs.Origins.{PairGives, disjoint};
+ghost use Rattle.normalise.specs.View.{Adds, From, IsOne, Says};
 
 use crate::entries::{Entries, Entry};
 use crate::table::Prefixes;
@@ -46,7 +49,7 @@ impl Made {
     pub(crate) fn copy(&self, alloc: Global) -> Result<Made, Memory>
         ensures { IfOk result (λ m. m ≡ self.now) }
     {
-        let entries = self.entries.copy(alloc)?;
+        let entries = self.entries.copy()?;
         let operands = self.operands.copy(alloc)?;
         let steps = self.steps.copy(alloc)?;
         Ok(Made {
@@ -88,7 +91,7 @@ impl Made {
     }
 
     // These forms, and the others behind them, with the fresh names of those.
-    pub(crate) fn joined(&self, alloc: Global, more: Made) -> Result<Made, Memory>
+    pub(crate) fn joined(&self, more: Made) -> Result<Made, Memory>
         ensures entries { IfOk result (λ m. m.entries ≡ self.now.entries ++ more.entries) }
         ensures operands { IfOk result (λ m. m.operands ≡ more.operands) }
         ensures steps { IfOk result (λ m. m.steps ≡ more.steps) }
@@ -98,7 +101,7 @@ impl Made {
             operands,
             steps,
         } = more;
-        let entries = self.entries.joined(alloc, entries)?;
+        let entries = self.entries.joined(entries)?;
         Ok(Made {
             entries,
             operands,
@@ -111,6 +114,15 @@ impl Made {
         ensures steps { OnOk result (self.new.steps ≡ self.old.steps) }
     {
         self.entries.push(Entry { form, origin })?;
+        Ok(())
+    }
+
+    // No two of the classes have anything in common, as one piece of the list.
+    pub(crate) fn add_disjoint(&mut self, classes: &[ExprId], origin: Origin) -> Result<(), Memory>
+        requires { AreDistinct (expr_numbers classes.now) }
+        ensures { OnOk result (Adds self.old self.new (From origin (λ g. (m : ℕ) × ((n : ℕ) × PairGives disjoint (expr_numbers classes.now) m n g)))) }
+    {
+        self.entries.push_disjoint(classes, origin)?;
         Ok(())
     }
 }

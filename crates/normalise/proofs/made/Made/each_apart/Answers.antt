@@ -5,7 +5,7 @@ use Rattle.axioms.specs.View.{expr_numbers}
 use Rattle.std.proofs.lemmas.Option.{slice_get_within}
 use Rattle.normal_forms.specs.Origins.{PairGives, disjoint}
 use Rattle.normalise.proofs.Adding.{below_none, below_more, below_all}
-use Rattle.normalise.proofs.made.Made.disjoint.Goals as goal
+use Rattle.normalise.proofs.made.Made.each_apart.Goals as goal
 
 pub loop-m-init : goal.loop-m-init
 loop-m-init c = below_none _ _ _
