@@ -1,5 +1,5 @@
 -- Forms counted by their keys, and the numbers of those with one.
-use Rattle.std.proofs.Common.{◌≡◌, ℕ, zero, suc, ◌+◌, ◌-◌, ◌==◌, ◌<◌, ◌≤◌, ◌⊎◌, inl, inr, ⊎_elim, Bool, true, false, cond, true≢false, List, [], ◌∷◌, ◌++◌, length, get_or, slice_get, slice_index, Option, Some, None, Contains, refl, sym, ap, subst, ◌∙◌, append-nil, add-one, le_of_eq, le_antisymm, length-append, arith}
+use Rattle.std.proofs.Common.{◌≡◌, ℕ, zero, suc, ◌+◌, ◌-◌, ◌==◌, ◌<◌, ◌≤◌, ◌⊎◌, inl, inr, ⊎_elim, Bool, true, false, cond, true≢false, List, [], ◌∷◌, ◌++◌, length, get_or, slice_index, Option, Some, None, Contains, refl, sym, ap, subst, ◌∙◌, append-nil, add-one, le_of_eq, le_antisymm, length-append, arith}
 use Rattle.std.proofs.lemmas.Bool.{cases_lt}
 use Rattle.std.proofs.lemmas.Bool.Decides.{eqb_tells}
 use Rattle.std.proofs.lemmas.List.{get_or_append_left, get_or_past, get_or_push, length_push}
@@ -15,7 +15,7 @@ use Rattle.indexes.specs.declared.roles.ByRole.{ByRole}
 use Rattle.indexes.specs.declared.key_counts.KeyCounts.{KeyCounts}
 use Rattle.indexes.specs.Roles.{ForEach}
 use Rattle.indexes.proofs.ByRoles.{for_each, for_other}
-use Rattle.indexes.specs.FormsUnderKeys.{IsUnder, is_key, numbers_under}
+use Rattle.indexes.specs.FormsUnderKeys.{HasKeyAt, is_key, numbers_under}
 use Rattle.indexes.specs.Lists.{before, AreStarts}
 use Rattle.indexes.specs.Counts.{count_at, Counts, CountsKey, AreCountsOf, AreFew, CountsForm, AreFormCounts}
 
@@ -37,74 +37,74 @@ is_that_key k o e = subst (λ (p : Option Key). is_key k p ≡ true) (sym e) (�
 pub other_key : (k j : Key) → (k ≡ j → ⊥) → is_key k (Some j) ≡ false
 other_key k j ne = ⊎_elim (λ w. absurd (ne w.0)) (λ w. w.1) (which_key k j)
 
--- ---- the numbers of the forms with a key
+-- ---- the numbers of what has a key
 
 short_one : (b : Bool) (n : ℕ) → length (cond b (n ∷ []) []) ≤ 1
 short_one true n = omega arith
 short_one false n = omega arith
 
-module _ (key : Form → Option Key) (forms : List Form) where
-  pub numbers_more : (k : Key) (i : ℕ) (form : Form) → slice_get forms i ≡ Some form → numbers_under key forms k (i + 1) ≡ numbers_under key forms k i ++ cond (is_key k (key form)) (i ∷ []) []
-  numbers_more k i form at = ap (numbers_under key forms k) (add-one i) ∙ ap (λ (o : Option Form). numbers_under key forms k i ++ cond (is_key k (option_and_then key o)) (i ∷ []) []) at
+module _ {X : Type 0} (key : X → Option Key) (there : ℕ → Option X) where
+  pub numbers_more : (k : Key) (i : ℕ) (x : X) → there i ≡ Some x → numbers_under key there k (i + 1) ≡ numbers_under key there k i ++ cond (is_key k (key x)) (i ∷ []) []
+  numbers_more k i x at = ap (numbers_under key there k) (add-one i) ∙ ap (λ (o : Option X). numbers_under key there k i ++ cond (is_key k (option_and_then key o)) (i ∷ []) []) at
 
-  pub numbers_few : (k : Key) (n : ℕ) → length (numbers_under key forms k n) ≤ n
+  pub numbers_few : (k : Key) (n : ℕ) → length (numbers_under key there k n) ≤ n
   numbers_few k zero = omega arith
   numbers_few k (suc n) =
-      let b = is_key k (option_and_then key (slice_get forms n)) in
-      omega (arith, length-append (numbers_under key forms k n) (cond b (n ∷ []) []), short_one b n, numbers_few k n)
+      let b = is_key k (option_and_then key (there n)) in
+      omega (arith, length-append (numbers_under key there k n) (cond b (n ∷ []) []), short_one b n, numbers_few k n)
 
-  numbers_grow : (k : Key) (i n : ℕ) → i ≤ n → length (numbers_under key forms k i) ≤ length (numbers_under key forms k n)
+  numbers_grow : (k : Key) (i n : ℕ) → i ≤ n → length (numbers_under key there k i) ≤ length (numbers_under key there k n)
   numbers_grow k i zero le = let e : i ≡ 0 = omega (arith, le) in rw e (omega arith)
   numbers_grow k i (suc n) le = ⊎_elim
-      (λ low. omega (arith, numbers_grow k i n (omega (arith, low)), length-append (numbers_under key forms k n) (cond (is_key k (option_and_then key (slice_get forms n))) (n ∷ []) [])))
-      (λ high. le_of_eq (ap (λ (m : ℕ). length (numbers_under key forms k m)) (le_antisymm le high)))
+      (λ low. omega (arith, numbers_grow k i n (omega (arith, low)), length-append (numbers_under key there k n) (cond (is_key k (option_and_then key (there n))) (n ∷ []) [])))
+      (λ high. le_of_eq (ap (λ (m : ℕ). length (numbers_under key there k m)) (le_antisymm le high)))
       (cases_lt i (suc n))
 
-  pub numbers_with : (k : Key) (i : ℕ) (form : Form) → slice_get forms i ≡ Some form → key form ≡ Some k → numbers_under key forms k (i + 1) ≡ numbers_under key forms k i ++ i ∷ []
-  numbers_with k i form at has = numbers_more k i form at ∙ ap (λ (b : Bool). numbers_under key forms k i ++ cond b (i ∷ []) []) (is_that_key k (key form) has)
+  pub numbers_with : (k : Key) (i : ℕ) (x : X) → there i ≡ Some x → key x ≡ Some k → numbers_under key there k (i + 1) ≡ numbers_under key there k i ++ i ∷ []
+  numbers_with k i x at has = numbers_more k i x at ∙ ap (λ (b : Bool). numbers_under key there k i ++ cond b (i ∷ []) []) (is_that_key k (key x) has)
 
-  pub numbers_without : (k : Key) (i : ℕ) (form : Form) → slice_get forms i ≡ Some form → is_key k (key form) ≡ false → numbers_under key forms k (i + 1) ≡ numbers_under key forms k i
-  numbers_without k i form at not = numbers_more k i form at ∙ ap (λ (b : Bool). numbers_under key forms k i ++ cond b (i ∷ []) []) not ∙ append-nil (numbers_under key forms k i)
+  pub numbers_without : (k : Key) (i : ℕ) (x : X) → there i ≡ Some x → is_key k (key x) ≡ false → numbers_under key there k (i + 1) ≡ numbers_under key there k i
+  numbers_without k i x at not = numbers_more k i x at ∙ ap (λ (b : Bool). numbers_under key there k i ++ cond b (i ∷ []) []) not ∙ append-nil (numbers_under key there k i)
 
-  -- the next form has the key, so one number more is to come
-  pub numbers_to_come : (k : Key) (i : ℕ) (form : Form) → slice_get forms i ≡ Some form → key form ≡ Some k → i < length forms → length (numbers_under key forms k i) < length (numbers_under key forms k (length forms))
-  numbers_to_come k i form at has low =
-      omega (arith, ap length (numbers_with k i form at has), length-append (numbers_under key forms k i) (i ∷ []), numbers_grow k (i + 1) (length forms) (omega (arith, low)))
+  -- the next has the key, so one number more is to come
+  pub numbers_to_come : (k : Key) (i end : ℕ) (x : X) → there i ≡ Some x → key x ≡ Some k → i < end → length (numbers_under key there k i) < length (numbers_under key there k end)
+  numbers_to_come k i end x at has low =
+      omega (arith, ap length (numbers_with k i x at has), length-append (numbers_under key there k i) (i ∷ []), numbers_grow k (i + 1) end (omega (arith, low)))
 
-  has_form : (k : Key) (o : Option Form) → is_key k (option_and_then key o) ≡ true → (form : Form) × (o ≡ Some form) × (key form ≡ Some k)
+  has_form : (k : Key) (o : Option X) → is_key k (option_and_then key o) ≡ true → (x : X) × (o ≡ Some x) × (key x ≡ Some k)
   has_form k None e = absurd (true≢false (sym e))
-  has_form k (Some form) e = (form, refl, that_key k (key form) e)
+  has_form k (Some x) e = (x, refl, that_key k (key x) e)
 
-  from_last : (k : Key) (n m : ℕ) (b : Bool) → is_key k (option_and_then key (slice_get forms n)) ≡ b → Contains (numbers_under key forms k n ++ cond b (n ∷ []) []) m → Contains (numbers_under key forms k n) m ⊎ ((n ≡ m) × IsUnder key forms k n)
-  from_last k n m true e c = ⊎_elim (λ old. inl old) (λ same. inr (same, has_form k (slice_get forms n) e)) (Contains-push_cases (numbers_under key forms k n) n m c)
-  from_last k n m false e c = inl (subst (λ (list : List ℕ). Contains list m) (append-nil (numbers_under key forms k n)) c)
+  from_last : (k : Key) (n m : ℕ) (b : Bool) → is_key k (option_and_then key (there n)) ≡ b → Contains (numbers_under key there k n ++ cond b (n ∷ []) []) m → Contains (numbers_under key there k n) m ⊎ ((n ≡ m) × HasKeyAt key there k n)
+  from_last k n m true e c = ⊎_elim (λ old. inl old) (λ same. inr (same, has_form k (there n) e)) (Contains-push_cases (numbers_under key there k n) n m c)
+  from_last k n m false e c = inl (subst (λ (list : List ℕ). Contains list m) (append-nil (numbers_under key there k n)) c)
 
-  pub numbers_are_under : (k : Key) (n m : ℕ) → Contains (numbers_under key forms k n) m → (m < n) × IsUnder key forms k m
+  pub numbers_are_under : (k : Key) (n m : ℕ) → Contains (numbers_under key there k n) m → (m < n) × HasKeyAt key there k m
   numbers_are_under k zero m c = absurd (Contains-none m c)
   numbers_are_under k (suc n) m c = ⊎_elim
       (λ old. let w = numbers_are_under k n m old in (omega (arith, w.0), w.1))
-      (λ new. (omega (arith, new.0), subst (λ (i : ℕ). IsUnder key forms k i) new.0 new.1))
-      (from_last k n m (is_key k (option_and_then key (slice_get forms n))) refl c)
+      (λ new. (omega (arith, new.0), subst (λ (i : ℕ). HasKeyAt key there k i) new.0 new.1))
+      (from_last k n m (is_key k (option_and_then key (there n))) refl c)
 
-  into_last : (k : Key) (n : ℕ) → IsUnder key forms k n → Contains (numbers_under key forms k (suc n)) n
+  into_last : (k : Key) (n : ℕ) → HasKeyAt key there k n → Contains (numbers_under key there k (suc n)) n
   into_last k n w =
-      let has : is_key k (option_and_then key (slice_get forms n)) ≡ true = is_that_key k (option_and_then key (slice_get forms n)) (ap (option_and_then key) w.1 ∙ w.2) in
-      subst (λ (b : Bool). Contains (numbers_under key forms k n ++ cond b (n ∷ []) []) n) (sym has) (Contains-push (numbers_under key forms k n) n)
+      let has : is_key k (option_and_then key (there n)) ≡ true = is_that_key k (option_and_then key (there n)) (ap (option_and_then key) w.1 ∙ w.2) in
+      subst (λ (b : Bool). Contains (numbers_under key there k n ++ cond b (n ∷ []) []) n) (sym has) (Contains-push (numbers_under key there k n) n)
 
-  pub under_are_numbers : (k : Key) (n m : ℕ) → m < n → IsUnder key forms k m → Contains (numbers_under key forms k n) m
+  pub under_are_numbers : (k : Key) (n m : ℕ) → m < n → HasKeyAt key there k m → Contains (numbers_under key there k n) m
   under_are_numbers k zero m low w = absurd (omega (arith, low))
   under_are_numbers k (suc n) m low w = ⊎_elim
-      (λ l. Contains-append_left (numbers_under key forms k n) (cond (is_key k (option_and_then key (slice_get forms n))) (n ∷ []) []) m (under_are_numbers k n m l w))
-      (λ g. let e : m ≡ n = omega (arith, low, g) in subst (λ (i : ℕ). Contains (numbers_under key forms k (suc n)) i) (sym e) (into_last k n (subst (λ (i : ℕ). IsUnder key forms k i) e w)))
+      (λ l. Contains-append_left (numbers_under key there k n) (cond (is_key k (option_and_then key (there n))) (n ∷ []) []) m (under_are_numbers k n m l w))
+      (λ g. let e : m ≡ n = omega (arith, low, g) in subst (λ (i : ℕ). Contains (numbers_under key there k (suc n)) i) (sym e) (into_last k n (subst (λ (i : ℕ). HasKeyAt key there k i) e w)))
       (cases_lt m n)
 
   rise_more : (xs : List ℕ) (n : ℕ) (b : Bool) → ((m : ℕ) → Contains xs m → m < n) → IsNonDecreasing xs → IsNonDecreasing (xs ++ cond b (n ∷ []) [])
   rise_more xs n true low rise = IsNonDecreasingBy-push (λ (x : ℕ). x) xs n rise (λ d some. omega (arith, low (get_or xs (length xs - 1) d) (Contains-get_or xs (length xs - 1) d (omega (arith, some)))))
   rise_more xs n false low rise = subst IsNonDecreasing (sym (append-nil xs)) rise
 
-  pub numbers_rise : (k : Key) (n : ℕ) → IsNonDecreasing (numbers_under key forms k n)
+  pub numbers_rise : (k : Key) (n : ℕ) → IsNonDecreasing (numbers_under key there k n)
   numbers_rise k zero = IsNonDecreasingBy-short (λ (x : ℕ). x) [] (omega arith)
-  numbers_rise k (suc n) = rise_more (numbers_under key forms k n) n (is_key k (option_and_then key (slice_get forms n))) (λ m c. (numbers_are_under k n m c).0) (numbers_rise k n)
+  numbers_rise k (suc n) = rise_more (numbers_under key there k n) n (is_key k (option_and_then key (there n))) (λ m c. (numbers_are_under k n m c).0) (numbers_rise k n)
 
 -- ---- how many keys below have together
 
@@ -161,7 +161,7 @@ more_of old new (Some (Whole j)) i w (Partial k) = ap (λ (list : List ℕ). sli
 more_of old new (Some (Partial j)) i w (Whole k) = ap (λ (list : List ℕ). slice_index list k) w.0 ∙ omega arith
 more_of old new (Some (Partial j)) i w (Partial k) = by_key k j i _ _ (w.1 k)
 
-module _ (key : Form → Option Key) (forms : List Form) (i : ℕ) (form : Form) (at : slice_get forms i ≡ Some form) (old new : KeyCounts) (were : AreCountsOf key forms i old) where
+module _ {X : Type 0} (key : X → Option Key) (there : ℕ → Option X) (i : ℕ) (x : X) (at : there i ≡ Some x) (old new : KeyCounts) (were : AreCountsOf key there i old) where
   wholes_few : (o : Option Key) → CountsKey old new o → (n : ℕ) → before (slice_index new.wholes.items) n ≤ i + 1
   wholes_few None w n = omega (arith, were.wholes n, ap (λ (list : List ℕ). before (slice_index list) n) w.0)
   wholes_few (Some (Whole j)) w n = omega (arith, were.wholes n, one_more_before old.wholes.items new.wholes.items j w.0 n)
@@ -172,42 +172,68 @@ module _ (key : Form → Option Key) (forms : List Form) (i : ℕ) (form : Form)
   partials_few (Some (Whole j)) w n = omega (arith, were.partials n, ap (λ (list : List ℕ). before (slice_index list) n) w.1)
   partials_few (Some (Partial j)) w n = omega (arith, were.partials n, one_more_before old.partials.items new.partials.items j w.1 n)
 
-  pub counted_more : CountsKey old new (key form) → AreCountsOf key forms (i + 1) new
+  pub counted_more : CountsKey old new (key x) → AreCountsOf key there (i + 1) new
   counted_more w = record {
     exact = λ k. omega (
       arith,
-      more_of old new (key form) i w k,
+      more_of old new (key x) i w k,
       were.exact k,
-      ap length (numbers_more key forms k i form at),
-      length-append (numbers_under key forms k i) (cond (is_key k (key form)) (i ∷ []) []),
+      ap length (numbers_more key there k i x at),
+      length-append (numbers_under key there k i) (cond (is_key k (key x)) (i ∷ []) []),
     );
-    wholes = wholes_few (key form) w;
-    partials = partials_few (key form) w;
+    wholes = wholes_few (key x) w;
+    partials = partials_few (key x) w;
   }
 
 uncounted : (counts : KeyCounts) → counts.wholes.items ≡ [] → counts.partials.items ≡ [] → (k : Key) → count_at counts k ≡ 0
 uncounted counts w p (Whole k) = ap (λ (list : List ℕ). slice_index list k) w
 uncounted counts w p (Partial k) = ap (λ (list : List ℕ). slice_index list k) p
 
-pub none_counted : (key : Form → Option Key) (forms : List Form) (counts : KeyCounts) → counts.wholes.items ≡ [] → counts.partials.items ≡ [] → AreCountsOf key forms 0 counts
-none_counted key forms counts w p = record {
+pub none_counted : {X : Type 0} (key : X → Option Key) (there : ℕ → Option X) (counts : KeyCounts) → counts.wholes.items ≡ [] → counts.partials.items ≡ [] → AreCountsOf key there 0 counts
+none_counted key there counts w p = record {
   exact = uncounted counts w p;
   wholes = λ k. le_of_eq (ap (λ (list : List ℕ). before (slice_index list) k) w ∙ before_none (slice_index []) (λ j. refl) k);
   partials = λ k. le_of_eq (ap (λ (list : List ℕ). before (slice_index list) k) p ∙ before_none (slice_index []) (λ j. refl) k);
 }
 
-pub form_counted : (forms : List Form) (i : ℕ) (form : Form) → slice_get forms i ≡ Some form → (old new : ByRole KeyCounts) → AreFormCounts forms i old → CountsForm old new form → AreFormCounts forms (i + 1) new
-form_counted forms i form at old new were more =
-    for_other (λ key counts. AreCountsOf key forms i counts) (λ key before after. CountsKey before after (key form)) (λ key counts. AreCountsOf key forms (i + 1) counts) old new
-    (λ key before after was w. counted_more key forms i form at before after was w) were more
+pub form_counted : (there : ℕ → Option Form) (i : ℕ) (form : Form) → there i ≡ Some form → (old new : ByRole KeyCounts) → AreFormCounts there i old → CountsForm old new form → AreFormCounts there (i + 1) new
+form_counted there i form at old new were more =
+    for_other (λ key counts. AreCountsOf key there i counts) (λ key before after. CountsKey before after (key form)) (λ key counts. AreCountsOf key there (i + 1) counts) old new
+    (λ key before after was w. counted_more key there i form at before after was w) were more
 
--- no kind of key has more than all forms
-pub few_counted : (forms : List Form) (counts : ByRole KeyCounts) → length forms ≤ 4294967295 → AreFormCounts forms (length forms) counts → ForEach (λ key by. AreFew by) counts
-few_counted forms counts few are = for_each (λ key by. AreCountsOf key forms (length forms) by) (λ key by. AreFew by) counts
+-- nothing is there between the two numbers
+skipped : (b : Option Key) (k : Key) (n : ℕ) → b ≡ None → cond (is_key k b) (n ∷ []) [] ≡ []
+skipped b k n e = ap (λ (o : Option Key). cond (is_key k o) (n ∷ []) []) e
+
+pub numbers_skip : {X : Type 0} (key : X → Option Key) (there : ℕ → Option X) (k : Key) (i n : ℕ) → i ≤ n → ((j : ℕ) → i ≤ j → j < n → there j ≡ None) → numbers_under key there k i ≡ numbers_under key there k n
+numbers_skip key there k i zero le none = let e : i ≡ 0 = omega (arith, le) in ap (numbers_under key there k) e
+numbers_skip key there k i (suc n) le none = ⊎_elim
+    (λ low. let at : i ≤ n = omega (arith, low) in
+    numbers_skip key there k i n at (λ j ge lt. none j ge (omega (arith, lt)))
+    ∙ sym (ap (λ (more : List ℕ). numbers_under key there k n ++ more) (skipped (option_and_then key (there n)) k n (ap (option_and_then key) (none n at (omega arith)))) ∙ append-nil (numbers_under key there k n)))
+    (λ high. ap (numbers_under key there k) (le_antisymm le high))
+    (cases_lt i (suc n))
+
+-- .. so what is counted below the one is counted below the other
+pub forms_skipped : (there : ℕ → Option Form) (i n : ℕ) → i ≤ n → ((j : ℕ) → i ≤ j → j < n → there j ≡ None) → (counts : ByRole KeyCounts) → AreFormCounts there i counts → AreFormCounts there n counts
+forms_skipped there i n le none counts were = for_each (λ key by. AreCountsOf key there i by) (λ key by. AreCountsOf key there n by) counts
     (λ key by was. record {
-      wholes = omega (arith, was.wholes (length by.wholes.items), few);
-      partials = omega (arith, was.partials (length by.partials.items), few);
+      exact = λ k. was.exact k ∙ ap length (numbers_skip key there k i n le none);
+      wholes = λ k. omega (arith, was.wholes k, le);
+      partials = λ k. omega (arith, was.partials k, le);
     })
+    were
+
+-- no kind of key has more than there are
+pub few_of : {X : Type 0} (key : X → Option Key) (there : ℕ → Option X) (end : ℕ) (counts : KeyCounts) → end ≤ 4294967295 → AreCountsOf key there end counts → AreFew counts
+few_of key there end counts few was = record {
+  wholes = omega (arith, was.wholes (length counts.wholes.items), few);
+  partials = omega (arith, was.partials (length counts.partials.items), few);
+}
+
+pub few_counted : (there : ℕ → Option Form) (end : ℕ) (counts : ByRole KeyCounts) → end ≤ 4294967295 → AreFormCounts there end counts → ForEach (λ key by. AreFew by) counts
+few_counted there end counts few are = for_each (λ key by. AreCountsOf key there end by) (λ key by. AreFew by) counts
+    (λ key by was. few_of key there end by few was)
     are
 
 -- ---- where lists start

@@ -1,5 +1,5 @@
 -- Lists in one piece, as they are filled.
-use Rattle.std.proofs.Common.{◌≡◌, ℕ, zero, suc, ◌+◌, ◌-◌, ◌<◌, ◌≤◌, ⊎_elim, false, List, [], ◌∷◌, ◌++◌, length, get_or, take, drop, slice_get, slice_index, Option, Some, None, refl, sym, ap, subst, ◌∙◌, add-one, length-set, length-take, length-drop, get_or-set_same, get_or-set_other, get_or-take, get_or-drop, arith}
+use Rattle.std.proofs.Common.{◌≡◌, ℕ, zero, suc, ◌+◌, ◌-◌, ◌<◌, ◌≤◌, ⊎_elim, false, List, [], ◌∷◌, ◌++◌, length, get_or, take, drop, slice_index, Option, Some, None, refl, sym, ap, subst, ◌∙◌, add-one, length-set, length-take, length-drop, get_or-set_same, get_or-set_other, get_or-take, get_or-drop, arith}
 use Rattle.std.proofs.lemmas.Bool.{cases_lt, cases_eq}
 use Rattle.std.proofs.lemmas.List.{get_or_past, get_or_push, get_or_append_left, get_or_default, length_push, same_lists}
 use Rattle.std.specs.List.Sorted.{IsNonDecreasing}
@@ -16,7 +16,7 @@ use Rattle.indexes.specs.KeyFillings.{AreFull, HasPlaces, HasPlaceUnder, IsRoomU
 use Rattle.indexes.specs.Roles.{ForEach, ForEachTwo}
 use Rattle.indexes.specs.declared.roles.ByRole.{ByRole}
 use Rattle.indexes.proofs.ByRoles.{for_each, for_other}
-use Rattle.indexes.proofs.Counting.{before_next, before_none, before_rises, numbers_rise, numbers_to_come, numbers_with, numbers_without, other_key}
+use Rattle.indexes.proofs.Counting.{before_next, before_none, before_rises, numbers_rise, numbers_skip, numbers_to_come, numbers_with, numbers_without, other_key}
 
 no_length : (xs : List ℕ) → length xs ≡ 0 → xs ≡ []
 no_length [] e = refl
@@ -178,10 +178,10 @@ module _ (whole : ℕ → List ℕ) (f : Filling) (full : IsFilling whole whole 
 
 -- ---- lists of both kinds
 
--- the numbers of those with each key among the first so many forms stand there
-pub record AreFilled (key : Form → Option Key) (forms : List Form) (n : ℕ) (f : KeyFilling) : Type 0 where
-  pub wholes : IsFilling (λ k. numbers_under key forms (Whole k) (length forms)) (λ k. numbers_under key forms (Whole k) n) f.wholes
-  pub partials : IsFilling (λ k. numbers_under key forms (Partial k) (length forms)) (λ k. numbers_under key forms (Partial k) n) f.partials
+-- of what is there below the end, the numbers below n of those with each key stand in their lists
+pub record AreFilled {X : Type 0} (key : X → Option Key) (there : ℕ → Option X) (end n : ℕ) (f : KeyFilling) : Type 0 where
+  pub wholes : IsFilling (λ k. numbers_under key there (Whole k) end) (λ k. numbers_under key there (Whole k) n) f.wholes
+  pub partials : IsFilling (λ k. numbers_under key there (Partial k) end) (λ k. numbers_under key there (Partial k) n) f.partials
 
 same_parts : (whole part same : ℕ → List ℕ) (f : Filling) → ((k : ℕ) → same k ≡ part k) → IsFilling whole part f → IsFilling whole same f
 same_parts whole part same f are w = record {
@@ -196,76 +196,90 @@ same_parts whole part same f are w = record {
   parts = λ k m lt low. w.parts k m lt (omega (arith, ap length (are k), low)) ∙ ap (λ (list : List ℕ). get_or list m 0) (sym (are k));
 }
 
-module _ (key : Form → Option Key) (forms : List Form) (i : ℕ) (form : Form) (at : slice_get forms i ≡ Some form) (low : i < length forms) (old new : KeyFilling) (were : AreFilled key forms i old) where
-  pub has_place_under : (o : Option Key) → key form ≡ o → HasPlaceUnder old o
+module _ {X : Type 0} (key : X → Option Key) (there : ℕ → Option X) (end i : ℕ) (x : X) (at : there i ≡ Some x) (low : i < end) (old new : KeyFilling) (were : AreFilled key there end i old) where
+  pub has_place_under : (o : Option Key) → key x ≡ o → HasPlaceUnder old o
   has_place_under None e = tt
-  has_place_under (Some (Whole k)) e = has_place _ _ old.wholes were.wholes k (numbers_to_come key forms (Whole k) i form at e low)
-  has_place_under (Some (Partial k)) e = has_place _ _ old.partials were.partials k (numbers_to_come key forms (Partial k) i form at e low)
+  has_place_under (Some (Whole k)) e = has_place _ _ old.wholes were.wholes k (numbers_to_come key there (Whole k) i end x at e low)
+  has_place_under (Some (Partial k)) e = has_place _ _ old.partials were.partials k (numbers_to_come key there (Partial k) i end x at e low)
 
   -- the lists of the other keys stay
-  stays_without : (o : Option Key) → key form ≡ o → (k : Key) → is_key k o ≡ false → numbers_under key forms k (i + 1) ≡ numbers_under key forms k i
-  stays_without o e k not = numbers_without key forms k i form at (ap (is_key k) e ∙ not)
+  stays_without : (o : Option Key) → key x ≡ o → (k : Key) → is_key k o ≡ false → numbers_under key there k (i + 1) ≡ numbers_under key there k i
+  stays_without o e k not = numbers_without key there k i x at (ap (is_key k) e ∙ not)
 
-  wholes_stay : (o : Option Key) → key form ≡ o → ((k : ℕ) → is_key (Whole k) o ≡ false) → new.wholes ≡ old.wholes → IsFilling (λ k. numbers_under key forms (Whole k) (length forms)) (λ k. numbers_under key forms (Whole k) (i + 1)) new.wholes
-  wholes_stay o e not same = subst (λ (f : Filling). IsFilling (λ k. numbers_under key forms (Whole k) (length forms)) (λ k. numbers_under key forms (Whole k) (i + 1)) f) (sym same)
-      (same_parts _ (λ k. numbers_under key forms (Whole k) i) _ old.wholes (λ k. stays_without o e (Whole k) (not k)) were.wholes)
+  wholes_stay : (o : Option Key) → key x ≡ o → ((k : ℕ) → is_key (Whole k) o ≡ false) → new.wholes ≡ old.wholes → IsFilling (λ k. numbers_under key there (Whole k) end) (λ k. numbers_under key there (Whole k) (i + 1)) new.wholes
+  wholes_stay o e not same = subst (λ (f : Filling). IsFilling (λ k. numbers_under key there (Whole k) end) (λ k. numbers_under key there (Whole k) (i + 1)) f) (sym same)
+      (same_parts _ (λ k. numbers_under key there (Whole k) i) _ old.wholes (λ k. stays_without o e (Whole k) (not k)) were.wholes)
 
-  partials_stay : (o : Option Key) → key form ≡ o → ((k : ℕ) → is_key (Partial k) o ≡ false) → new.partials ≡ old.partials → IsFilling (λ k. numbers_under key forms (Partial k) (length forms)) (λ k. numbers_under key forms (Partial k) (i + 1)) new.partials
-  partials_stay o e not same = subst (λ (f : Filling). IsFilling (λ k. numbers_under key forms (Partial k) (length forms)) (λ k. numbers_under key forms (Partial k) (i + 1)) f) (sym same)
-      (same_parts _ (λ k. numbers_under key forms (Partial k) i) _ old.partials (λ k. stays_without o e (Partial k) (not k)) were.partials)
+  partials_stay : (o : Option Key) → key x ≡ o → ((k : ℕ) → is_key (Partial k) o ≡ false) → new.partials ≡ old.partials → IsFilling (λ k. numbers_under key there (Partial k) end) (λ k. numbers_under key there (Partial k) (i + 1)) new.partials
+  partials_stay o e not same = subst (λ (f : Filling). IsFilling (λ k. numbers_under key there (Partial k) end) (λ k. numbers_under key there (Partial k) (i + 1)) f) (sym same)
+      (same_parts _ (λ k. numbers_under key there (Partial k) i) _ old.partials (λ k. stays_without o e (Partial k) (not k)) were.partials)
 
-  pub filled_under : (o : Option Key) → key form ≡ o → PlacesUnder old new o i → AreFilled key forms (i + 1) new
+  pub filled_under : (o : Option Key) → key x ≡ o → PlacesUnder old new o i → AreFilled key there end (i + 1) new
   filled_under None e w = record {
     wholes = wholes_stay None e (λ k. refl) (ap (λ (f : KeyFilling). f.wholes) w);
     partials = partials_stay None e (λ k. refl) (ap (λ (f : KeyFilling). f.partials) w);
   }
   filled_under (Some (Whole k)) e w = record {
-    wholes = filled_more _ (λ j. numbers_under key forms (Whole j) i) old.wholes were.wholes new.wholes k i w.0 (λ j. numbers_under key forms (Whole j) (i + 1)) (numbers_to_come key forms (Whole k) i form at e low) (numbers_with key forms (Whole k) i form at e)
+    wholes = filled_more _ (λ j. numbers_under key there (Whole j) i) old.wholes were.wholes new.wholes k i w.0 (λ j. numbers_under key there (Whole j) (i + 1)) (numbers_to_come key there (Whole k) i end x at e low) (numbers_with key there (Whole k) i x at e)
         (λ j ne. stays_without (Some (Whole k)) e (Whole j) (other_key (Whole j) (Whole k) (λ s. ne (cc))));
     partials = partials_stay (Some (Whole k)) e (λ j. refl) w.1;
   }
   filled_under (Some (Partial k)) e w = record {
     wholes = wholes_stay (Some (Partial k)) e (λ j. refl) w.0;
-    partials = filled_more _ (λ j. numbers_under key forms (Partial j) i) old.partials were.partials new.partials k i w.1 (λ j. numbers_under key forms (Partial j) (i + 1)) (numbers_to_come key forms (Partial k) i form at e low) (numbers_with key forms (Partial k) i form at e)
+    partials = filled_more _ (λ j. numbers_under key there (Partial j) i) old.partials were.partials new.partials k i w.1 (λ j. numbers_under key there (Partial j) (i + 1)) (numbers_to_come key there (Partial k) i end x at e low) (numbers_with key there (Partial k) i x at e)
         (λ j ne. stays_without (Some (Partial k)) e (Partial j) (other_key (Partial j) (Partial k) (λ s. ne (cc))));
   }
 
+-- none of the numbers is there yet
+pub none_filled_under : {X : Type 0} (key : X → Option Key) (there : ℕ → Option X) (end : ℕ) (counts : KeyCounts) (f : KeyFilling) → end ≤ 4294967295 → AreCountsOf key there end counts → IsRoomUnder counts f → AreFilled key there end 0 f
+none_filled_under key there end counts f few was w = record {
+  wholes = nothing_filled counts.wholes.items f.wholes (λ k. numbers_under key there (Whole k) end) w.wholes (omega (arith, was.wholes (length counts.wholes.items), few)) (λ k. was.exact (Whole k));
+  partials = nothing_filled counts.partials.items f.partials (λ k. numbers_under key there (Partial k) end) w.partials (omega (arith, was.partials (length counts.partials.items), few)) (λ k. was.exact (Partial k));
+}
+
+-- nothing is there between the two numbers
+pub filled_skipped : {X : Type 0} (key : X → Option Key) (there : ℕ → Option X) (end i n : ℕ) → i ≤ n → ((j : ℕ) → i ≤ j → j < n → there j ≡ None) → (f : KeyFilling) → AreFilled key there end i f → AreFilled key there end n f
+filled_skipped key there end i n le none f was = record {
+  wholes = same_parts _ (λ k. numbers_under key there (Whole k) i) _ f.wholes (λ k. sym (numbers_skip key there (Whole k) i n le none)) was.wholes;
+  partials = same_parts _ (λ k. numbers_under key there (Partial k) i) _ f.partials (λ k. sym (numbers_skip key there (Partial k) i n le none)) was.partials;
+}
+
+-- all are placed, so the lists are full
+pub full_under : {X : Type 0} (key : X → Option Key) (there : ℕ → Option X) (end : ℕ) (f : KeyFilling) → AreFilled key there end end f → AreFull f
+full_under key there end f was = record {
+  wholes = record { within = full_within _ f.wholes was.wholes; listed = full_listed _ f.wholes was.wholes; ascending = full_ascends _ f.wholes was.wholes (λ k. numbers_rise key there (Whole k) end) };
+  partials = record { within = full_within _ f.partials was.partials; listed = full_listed _ f.partials was.partials; ascending = full_ascends _ f.partials was.partials (λ k. numbers_rise key there (Partial k) end) };
+}
+
 -- ---- by each of the keys
 
--- the numbers of the first so many forms stand there, by each key that they have
-abbrev pub AreAllFilled : List Form → ℕ → ByRole KeyFilling → Type 0
-AreAllFilled forms n filling = ForEach (λ key by. AreFilled key forms n by) filling
+-- .. by each key that forms have
+abbrev pub AreAllFilled : (ℕ → Option Form) → ℕ → ℕ → ByRole KeyFilling → Type 0
+AreAllFilled there end n filling = ForEach (λ key by. AreFilled key there end n by) filling
 
-pub none_filled : (forms : List Form) (counts : ByRole KeyCounts) (filling : ByRole KeyFilling) → length forms ≤ 4294967295 → AreFormCounts forms (length forms) counts
-    → ForEachTwo (λ key by room. IsRoomUnder by room) counts filling → AreAllFilled forms 0 filling
-none_filled forms counts filling few are room =
-    for_other (λ key by. AreCountsOf key forms (length forms) by) (λ key by f. IsRoomUnder by f) (λ key f. AreFilled key forms 0 f) counts filling
-    (λ key by f was w. record {
-      wholes = nothing_filled by.wholes.items f.wholes (λ k. numbers_under key forms (Whole k) (length forms)) w.wholes (omega (arith, was.wholes (length by.wholes.items), few)) (λ k. was.exact (Whole k));
-      partials = nothing_filled by.partials.items f.partials (λ k. numbers_under key forms (Partial k) (length forms)) w.partials (omega (arith, was.partials (length by.partials.items), few)) (λ k. was.exact (Partial k));
-    })
+pub none_filled : (there : ℕ → Option Form) (end : ℕ) (counts : ByRole KeyCounts) (filling : ByRole KeyFilling) → end ≤ 4294967295 → AreFormCounts there end counts
+    → ForEachTwo (λ key by room. IsRoomUnder by room) counts filling → AreAllFilled there end 0 filling
+none_filled there end counts filling few are room =
+    for_other (λ key by. AreCountsOf key there end by) (λ key by f. IsRoomUnder by f) (λ key f. AreFilled key there end 0 f) counts filling
+    (λ key by f was w. none_filled_under key there end by f few was w)
     are room
 
-module _ (forms : List Form) (i : ℕ) (form : Form) (at : slice_get forms i ≡ Some form) (low : i < length forms) where
-  pub has_places : (filling : ByRole KeyFilling) → AreAllFilled forms i filling → HasPlaces filling form
-  has_places filling were = for_each (λ key f. AreFilled key forms i f) (λ key f. HasPlaceUnder f (key form)) filling
-      (λ key f was. has_place_under key forms i form at low f f was (key form) refl) were
+module _ (there : ℕ → Option Form) (end i : ℕ) where
+  module _ (form : Form) (at : there i ≡ Some form) (low : i < end) where
+    pub has_places : (filling : ByRole KeyFilling) → AreAllFilled there end i filling → HasPlaces filling form
+    has_places filling were = for_each (λ key f. AreFilled key there end i f) (λ key f. HasPlaceUnder f (key form)) filling
+        (λ key f was. has_place_under key there end i form at low f f was (key form) refl) were
 
-  pub form_filled : (old new : ByRole KeyFilling) → AreAllFilled forms i old → PlacesForm old new form i → AreAllFilled forms (i + 1) new
-  form_filled old new were places = for_other (λ key f. AreFilled key forms i f) (λ key f g. PlacesUnder f g (key form) i) (λ key g. AreFilled key forms (i + 1) g) old new
-      (λ key f g was w. filled_under key forms i form at low f g was (key form) refl w) were places
+    pub form_filled : (old new : ByRole KeyFilling) → AreAllFilled there end i old → PlacesForm old new form i → AreAllFilled there end (i + 1) new
+    form_filled old new were places = for_other (λ key f. AreFilled key there end i f) (λ key f g. PlacesUnder f g (key form) i) (λ key g. AreFilled key there end (i + 1) g) old new
+        (λ key f g was w. filled_under key there end i form at low f g was (key form) refl w) were places
 
--- all forms are placed
-pub all_filled : (forms : List Form) (n end : ℕ) (filling : ByRole KeyFilling) → n ≤ end → end ≤ n → end ≡ length forms → AreAllFilled forms n filling → AreAllFilled forms (length forms) filling
-all_filled forms n end filling low high all were =
-    let same : n ≡ length forms = omega (arith, low, high, all) in
-    subst (λ (m : ℕ). AreAllFilled forms m filling) same were
+  pub all_skipped : (n : ℕ) → i ≤ n → ((j : ℕ) → i ≤ j → j < n → there j ≡ None) → (filling : ByRole KeyFilling) → AreAllFilled there end i filling → AreAllFilled there end n filling
+  all_skipped n le none filling were = for_each (λ key f. AreFilled key there end i f) (λ key f. AreFilled key there end n f) filling
+      (λ key f was. filled_skipped key there end i n le none f was) were
 
--- so the lists are full
-pub all_full : (forms : List Form) (filling : ByRole KeyFilling) → AreAllFilled forms (length forms) filling → ForEach (λ key by. AreFull by) filling
-all_full forms filling are = for_each (λ key f. AreFilled key forms (length forms) f) (λ key f. AreFull f) filling
-    (λ key f was. record {
-      wholes = record { within = full_within _ f.wholes was.wholes; listed = full_listed _ f.wholes was.wholes; ascending = full_ascends _ f.wholes was.wholes (λ k. numbers_rise key forms (Whole k) (length forms)) };
-      partials = record { within = full_within _ f.partials was.partials; listed = full_listed _ f.partials was.partials; ascending = full_ascends _ f.partials was.partials (λ k. numbers_rise key forms (Partial k) (length forms)) };
-    })
+-- all forms are placed, so the lists are full
+pub all_full : (there : ℕ → Option Form) (end : ℕ) (filling : ByRole KeyFilling) → AreAllFilled there end end filling → ForEach (λ key by. AreFull by) filling
+all_full there end filling are = for_each (λ key f. AreFilled key there end end f) (λ key f. AreFull f) filling
+    (λ key f was. full_under key there end f was)
     are

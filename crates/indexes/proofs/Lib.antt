@@ -5,5 +5,9 @@ pub mod ByRoles
 pub mod Counting
 pub mod Filling
 pub mod Listing
+pub mod Rows
+pub mod Walking
+pub mod Pairing
+pub mod Indexing
 pub mod Paths
 pub mod Grouping

@@ -23,9 +23,9 @@ CountsKey old new None = (new.wholes.items ≡ old.wholes.items) × (new.partial
 CountsKey old new (Some (Whole k)) = Counts old.wholes.items new.wholes.items k × (new.partials.items ≡ old.partials.items)
 CountsKey old new (Some (Partial k)) = (new.wholes.items ≡ old.wholes.items) × Counts old.partials.items new.partials.items k
 
--- each key counts those with it among the first so many forms, and together they are no more
-pub record AreCountsOf (key : Form → Option Key) (forms : List Form) (n : ℕ) (counts : KeyCounts) : Type 0 where
-  pub exact : (k : Key) → count_at counts k ≡ length (numbers_under key forms k n)
+-- each key counts what has it and a number below n, and together they are no more
+pub record AreCountsOf {X : Type 0} (key : X → Option Key) (there : ℕ → Option X) (n : ℕ) (counts : KeyCounts) : Type 0 where
+  pub exact : (k : Key) → count_at counts k ≡ length (numbers_under key there k n)
   pub wholes : (k : ℕ) → before (slice_index counts.wholes.items) k ≤ n
   pub partials : (k : ℕ) → before (slice_index counts.partials.items) k ≤ n
 
@@ -38,6 +38,6 @@ pub record AreFew (counts : KeyCounts) : Type 0 where
 abbrev pub CountsForm : ByRole KeyCounts → ByRole KeyCounts → Form → Type 0
 CountsForm old new form = ForEachTwo (λ key before after. CountsKey before after (key form)) old new
 
--- the first so many forms are counted by each key that they have
-abbrev pub AreFormCounts : List Form → ℕ → ByRole KeyCounts → Type 0
-AreFormCounts forms n counts = ForEach (λ key by. AreCountsOf key forms n by) counts
+-- the forms that are there below n are counted by each key that they have
+abbrev pub AreFormCounts : (ℕ → Option Form) → ℕ → ByRole KeyCounts → Type 0
+AreFormCounts there n counts = ForEach (λ key by. AreCountsOf key there n by) counts

@@ -8,6 +8,7 @@ pub mod FormsUnderKeys
 pub mod Counts
 pub mod KeyFillings
 pub mod Lists
+pub mod Disjoint
 pub mod FormIndex
 pub mod Groups
 pub mod Roots

@@ -1,15 +1,17 @@
 //! A problem whose forms are found by key.
-ghost use Rattle.std.specs.Prelude.{◌≡◌, ◌<◌, ◌↔◌, ◌⊎◌, ◌++◌, [], ℕ, Contains, IfOk, false, slice_get};
+ghost use Rattle.std.specs.Prelude.{◌≡◌, ◌<◌, ◌≤◌, ◌↔◌, ◌⊎◌, ◌++◌, [], ℕ, Contains, IfOk, IfSome, None, Some, false, slice_get, true};
 ghost use Rattle.axioms.specs.declared.ids.ExprId.{ExprId as ExprId2};
 ghost use Rattle.normal_forms.specs.declared.forms.Class2.TheVariants as classes;
 ghost use Rattle.indexes.specs.declared.keys.Key.{Key as Key2};
 ghost use Rattle.indexes.specs.declared.keys.Key.TheVariants as keys;
 ghost use Rattle.indexes.specs.Keys.{class_key, property_key, individual_key, by_kind, by_alone, by_first, by_second, by_filler, by_chain, by_end, by_plain, by_linked_first, by_linked_second, by_denied};
-ghost use Rattle.indexes.specs.FormsUnderKeys.{IsUnder};
+ghost use Rattle.indexes.specs.FormsUnderKeys.{IsLikeFirst, IsUnder};
 
+use crate::disjoint::Disjointness;
 use crate::form_index::{listed, nothing_listed};
 use crate::key_lists::KeyLists;
 use crate::keys::Key;
+use crate::lists::is_used;
 use crate::named::{key_of_class, key_of_property};
 use crate::overlap::common;
 use crate::roles::ByRole;
@@ -24,7 +26,35 @@ pub struct IndexedProblem {
     alloc: Global,
     forms: FormList,
     roots: Vec<Context>,
+    disjoint: Disjointness,
     index: ByRole<KeyLists>,
+}
+
+/// Forms to be looked at, by their numbers.
+#[derive(Clone, Copy)]
+pub struct Candidates<'a> {
+    pub listed: &'a [u32],
+    /// The first that says, as one of a list of disjoint classes, that two classes are disjoint. The others that say so are not listed.
+    pub pair: Option<u32>,
+}
+
+impl<'a> Candidates<'a> {
+    /// The listed alone.
+    pub fn of(listed: &'a [u32]) -> Candidates<'a>
+        ensures listed { result.listed.now ≡ listed.now }
+        ensures pair { result.pair ≡ None }
+    {
+        Candidates { listed, pair: None }
+    }
+}
+
+/// All intersections that have a class, by the numbers of their forms.
+#[derive(Clone, Copy)]
+pub struct FewIntersections<'a> {
+    /// Those of that first class.
+    pub first: &'a [u32],
+    /// Those of that second class.
+    pub second: &'a [u32],
 }
 
 // A value is let go by one call, where each way out would else let each field go.
@@ -34,6 +64,7 @@ impl Drop for IndexedProblem {
             alloc: _,
             forms: _,
             roots: _,
+            disjoint: _,
             index: _,
         } = self;
     }
@@ -41,13 +72,13 @@ impl Drop for IndexedProblem {
 
 impl Model for IndexedProblem {
     ghost use Rattle.facts.specs.Closure.{Problem};
-    ghost use Rattle.indexes.specs.FormIndex.{IsFormIndex};
+    ghost use Rattle.indexes.specs.FormIndex.{IsIndexed};
 
     ghost Value = { Problem };
 
     ghost view = { λ p. record { forms = p.forms; roots = p.roots.items } };
 
-    ghost invariant = { λ p. IsFormIndex p.forms p.index };
+    ghost invariant = { λ p. IsIndexed p.forms p.disjoint p.index };
 }
 
 /// The contexts of the first list, and then those of the second.
@@ -70,6 +101,7 @@ impl IndexedProblem {
             alloc,
             forms: FormList::new(alloc),
             roots: Vec::new(alloc),
+            disjoint: Disjointness::new(alloc),
             index: nothing_listed(alloc),
         }
     }
@@ -93,11 +125,13 @@ impl IndexedProblem {
         if forms.len() > u32::MAX as usize {
             return Err(AllocError);
         }
-        let index = listed(alloc, &forms)?;
+        let disjoint = Disjointness::of(alloc, &forms)?;
+        let index = listed(alloc, &forms, disjoint.operands())?;
         Ok(IndexedProblem {
             alloc,
             forms,
             roots,
+            disjoint,
             index,
         })
     }
@@ -145,30 +179,54 @@ impl IndexedProblem {
         self.index.alone.of(key_of_class(class))
     }
 
-    /// The intersections of that first class.
-    pub fn first(&self, class: Class2) -> &[u32]
-        ensures { (n : ℕ) → Contains result.now n ↔ IsUnder by_first self.now.forms (class_key class) n }
+    /// Whether an intersection has that first class.
+    pub fn begins_intersection(&self, class: Class2) -> bool
+        ensures some { result ≡ true → (n : ℕ) × IsUnder by_first self.now.forms (class_key class) n }
+        ensures none { result ≡ false → (n : ℕ) → IsUnder by_first self.now.forms (class_key class) n → ⊥ }
     {
-        self.index.first.of(key_of_class(class))
+        let key = key_of_class(class);
+        is_used(self.index.first.of(key)) || self.disjoint.begins(key)
     }
 
-    /// The intersections of that second class.
-    pub fn second(&self, class: Class2) -> &[u32]
-        ensures { (n : ℕ) → Contains result.now n ↔ IsUnder by_second self.now.forms (class_key class) n }
+    /// Whether an intersection has that second class.
+    pub fn ends_intersection(&self, class: Class2) -> bool
+        ensures some { result ≡ true → (n : ℕ) × IsUnder by_second self.now.forms (class_key class) n }
+        ensures none { result ≡ false → (n : ℕ) → IsUnder by_second self.now.forms (class_key class) n → ⊥ }
     {
-        self.index.second.of(key_of_class(class))
+        let key = key_of_class(class);
+        is_used(self.index.second.of(key)) || self.disjoint.ends(key)
     }
 
-    /// Intersections of that first class, or of that second class, with all that have both: none where those of one of the two classes end
-    /// before those of the other begin, else those of the class that fewer have.
-    pub fn intersections(&self, first: Class2, second: Class2) -> &[u32]
-        ensures all { (n : ℕ) → IsUnder by_first self.now.forms (class_key first) n → IsUnder by_second self.now.forms (class_key second) n → Contains result.now n }
-        ensures only { (n : ℕ) → Contains result.now n → IsUnder by_first self.now.forms (class_key first) n ⊎ IsUnder by_second self.now.forms (class_key second) n }
+    /// The intersections of that class, if there are at most so many. It may give none where a list of disjoint classes has the class.
+    pub fn few_intersections(&self, class: Class2, most: usize) -> Option<FewIntersections<'_>>
+        ensures first { IfSome result (λ few. (n : ℕ) → Contains few.first.now n ↔ IsUnder by_first self.now.forms (class_key class) n) }
+        ensures second { IfSome result (λ few. (n : ℕ) → Contains few.second.now n ↔ IsUnder by_second self.now.forms (class_key class) n) }
     {
-        common(
-            self.index.first.of(key_of_class(first)),
-            self.index.second.of(key_of_class(second)),
-        )
+        let key = key_of_class(class);
+        if self.disjoint.has(key) {
+            return None;
+        }
+        let first = self.index.first.of(key);
+        let second = self.index.second.of(key);
+        if first.len().saturating_add(second.len()) > most {
+            return None;
+        }
+        Some(FewIntersections { first, second })
+    }
+
+    /// Intersections of that first class, or of that second class, with all that have both: none are listed where those of one of the two
+    /// classes end before those of the other begin, else those of the class that fewer have. Those of lists of disjoint classes are not
+    /// listed; of them there is the first that has both classes, like which the others are.
+    pub fn intersections(&self, first: Class2, second: Class2) -> Candidates<'_>
+        ensures all { (n : ℕ) → IsUnder by_first self.now.forms (class_key first) n → IsUnder by_second self.now.forms (class_key second) n → Contains result.listed.now n ⊎ IsLikeFirst self.now.forms result.pair n }
+        ensures only { (n : ℕ) → Contains result.listed.now n → IsUnder by_first self.now.forms (class_key first) n ⊎ IsUnder by_second self.now.forms (class_key second) n }
+        ensures pair { IfSome result.pair (λ n. IsUnder by_first self.now.forms (class_key first) n × IsUnder by_second self.now.forms (class_key second) n) }
+    {
+        let first = key_of_class(first);
+        let second = key_of_class(second);
+        let listed = common(self.index.first.of(first), self.index.second.of(second));
+        let pair = self.disjoint.pair(first, second);
+        Candidates { listed, pair }
     }
 
     /// The restrictions that need that class at the target of an edge.

@@ -3,6 +3,7 @@
 #![tactic(auto)]
 
 mod by_context;
+mod disjoint;
 mod form_counts;
 mod form_index;
 mod index;
@@ -20,7 +21,7 @@ mod same_individuals;
 mod table;
 
 pub use index::Index;
-pub use indexed_problem::IndexedProblem;
+pub use indexed_problem::{Candidates, FewIntersections, IndexedProblem};
 pub use keys::Key;
 pub use same_individuals::Groups;
 pub use table::Table;

@@ -1,5 +1,5 @@
 //! Lists of numbers by key, all in one piece.
-ghost use Rattle.std.specs.Prelude.{◌≡◌, ◌-◌, ◌≤◌, ◌↔◌, ℕ, [], IfOk, length, slice_index, true};
+ghost use Rattle.std.specs.Prelude.{◌≡◌, ◌-◌, ◌≤◌, ◌↔◌, ℕ, [], Contains, IfOk, false, length, slice_index, true};
 ghost use Rattle.std.specs.List.Sorted.{IsNonDecreasing};
 ghost use Rattle.indexes.specs.Lists.{before, list_at, AreAllListed, AreStarts, HasPlace, IsRoomFor, IsWithin, Places};
 
@@ -51,6 +51,14 @@ fn last_of(numbers: &[u32]) -> usize
         Some(last) => *last as usize,
         None => 0,
     }
+}
+
+/// Whether there is any number.
+pub(crate) fn is_used(list: &[u32]) -> bool
+    ensures some { result ≡ true → (n : ℕ) × Contains list.now n }
+    ensures none { result ≡ false → (n : ℕ) → Contains list.now n → ⊥ }
+{
+    !list.is_empty()
 }
 
 impl Filling {

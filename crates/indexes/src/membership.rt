@@ -1,7 +1,8 @@
 //! Whether a problem has a form.
-ghost use Rattle.std.specs.Prelude.{◌≡◌, ◌↔◌, ℕ, Contains, IsTrue, Some, slice_get};
+ghost use Rattle.std.specs.Prelude.{◌≡◌, ◌↔◌, ◌⊎◌, ℕ, Contains, IsTrue, Some, slice_get};
+ghost use Rattle.indexes.specs.FormsUnderKeys.{IsLikeFirst};
 
-use crate::indexed_problem::IndexedProblem;
+use crate::indexed_problem::{Candidates, IndexedProblem};
 use crate::overlap::shorter;
 use normal_forms::{Form, PropId2};
 
@@ -37,20 +38,24 @@ fn is_at(problem: &IndexedProblem, number: u32, form: Form) -> bool
 }
 
 /// Forms among which each is that is equal to this one: those with a class, a property or an individual in the same role.
-fn like(problem: &IndexedProblem, form: Form) -> &[u32]
-    ensures { (n : ℕ) → slice_get problem.now.forms n ≡ Some form → Contains result.now n }
+fn like(problem: &IndexedProblem, form: Form) -> Candidates<'_>
+    ensures { (n : ℕ) → slice_get problem.now.forms n ≡ Some form → Contains result.listed.now n ⊎ IsLikeFirst problem.now.forms result.pair n }
 {
     match form {
-        Form::N1(a, _) | Form::N3(a, _, _) => problem.alone(a),
+        Form::N1(a, _) | Form::N3(a, _, _) => Candidates::of(problem.alone(a)),
         Form::N2(a, b, _) => problem.intersections(a, b),
-        Form::N4(_, a, _) => problem.with_filler(a),
-        Form::N5(r, _) => problem.plain_from(PropId2::Property(r)),
-        Form::N6(r, s, _) => shorter(problem.chains_from(r), problem.chains_to(s)),
-        Form::N7(_) => problem.reflexive(),
-        Form::N8(..) | Form::N9(..) => problem.given(),
-        Form::N10(a, b) => shorter(problem.linked_first(a), problem.linked_second(b)),
-        Form::N11(..) => problem.different(),
-        Form::N12(a, _, _) => problem.denied(a),
+        Form::N4(_, a, _) => Candidates::of(problem.with_filler(a)),
+        Form::N5(r, _) => Candidates::of(problem.plain_from(PropId2::Property(r))),
+        Form::N6(r, s, _) => {
+            Candidates::of(shorter(problem.chains_from(r), problem.chains_to(s)))
+        }
+        Form::N7(_) => Candidates::of(problem.reflexive()),
+        Form::N8(..) | Form::N9(..) => Candidates::of(problem.given()),
+        Form::N10(a, b) => {
+            Candidates::of(shorter(problem.linked_first(a), problem.linked_second(b)))
+        }
+        Form::N11(..) => Candidates::of(problem.different()),
+        Form::N12(a, _, _) => Candidates::of(problem.denied(a)),
     }
 }
 
@@ -60,11 +65,15 @@ impl IndexedProblem {
     pub fn has(&self, form: Form) -> bool
         ensures { IsTrue result ↔ Contains self.now.forms form }
     {
-        for number in like(self, form) {
+        let like = like(self, form);
+        for number in like.listed {
             if is_at(self, *number, form) {
                 return true;
             }
         }
-        false
+        match like.pair {
+            Some(number) => is_at(self, number, form),
+            None => false,
+        }
     }
 }

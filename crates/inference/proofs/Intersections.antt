@@ -1,5 +1,5 @@
 -- What intersections give from the classes in a context.
-use Rattle.std.proofs.Common.{◌≡◌, ℕ, List, [], ◌∷◌, slice_get, Some, Contains, inl, sym, ap₂, subst}
+use Rattle.std.proofs.Common.{◌≡◌, ◌↔◌, ℕ, List, [], ◌∷◌, slice_get, Some, Contains, inl, sym, ap₂, subst}
 use Rattle.normal_forms.specs.declared.forms.Form.{Form}
 use Rattle.normal_forms.specs.declared.forms.Form.TheVariants.{N1, N2, N3, N4, N5, N6, N7, N8, N9, N10, N11, N12}
 use Rattle.normal_forms.specs.declared.forms.Class2.{Class2}
@@ -7,6 +7,8 @@ use Rattle.facts.specs.declared.contexts.Context.{Context}
 use Rattle.facts.specs.declared.contexts.Fact.{Fact}
 use Rattle.facts.specs.declared.contexts.Fact.TheVariants.{In, Edge}
 use Rattle.facts.specs.Closure.{Problem, FromTwo, in_thing, in_itself, by_form, unsatisfiable, loop}
+use Rattle.indexes.specs.FormsUnderKeys.{IsUnder}
+use Rattle.indexes.specs.Keys.{class_key, by_first, by_second}
 use Rattle.inference.specs.Derivations.{Derived, Grows}
 use Rattle.inference.specs.Visits.{IsClassFact}
 use Rattle.inference.specs.Completeness.{IsDrawnFrom, IsDrawnIn, MeetsOperands, MeetEachOther, DrawnUpToRedundancy}
@@ -72,13 +74,15 @@ by_intersections k a b x y new forms _ _ h (unsatisfiable b') = absurd b'
 by_intersections k a b x y new forms _ _ h (loop z n form at l c) = absurd c
 
 -- so a class has met another where it has met its operands
-pub met_by_operands : (k : Problem) (old : List Fact) (a : Class2) (x : Context) (g : Fact) (new : Derived) → IsClassFact g → Contains old (In a x) → Contains old g → MeetsOperands k old a x new.facts → MeetEachOther k (In a x) g new
-met_by_operands k old a x (In b y) new is ina inb met = record {
+pub met_by_operands : (k : Problem) (old : List Fact) (a : Class2) (x : Context) (g : Fact) (new : Derived) (firsts seconds : List ℕ) → IsClassFact g → Contains old (In a x) → Contains old g
+    → ((n : ℕ) → Contains firsts n ↔ IsUnder by_first k.forms (class_key a) n) → ((n : ℕ) → Contains seconds n ↔ IsUnder by_second k.forms (class_key a) n)
+    → MeetsOperands k old firsts seconds x new.facts → MeetEachOther k (In a x) g new
+met_by_operands k old a x (In b y) new firsts seconds is ina inb begin end met = record {
   first = by_intersections k a b x y new (λ n form h at w.
       let same = (intersection k form a b x y h w).2 in
-      met.first n (form, at, first_operand k form a b x y h w) a b ina (subst (λ z. Contains old (In b z)) (sym same) inb) form at h (subst (λ z. FromTwo k form (In a x) (In b z) h) (sym same) w));
+      met.first n ((begin n).1 (form, at, first_operand k form a b x y h w)) a b ina (subst (λ z. Contains old (In b z)) (sym same) inb) form at h (subst (λ z. FromTwo k form (In a x) (In b z) h) (sym same) w));
   second = by_intersections k b a y x new (λ n form h at w.
       let same = (intersection k form b a y x h w).2 in
-      met.second n (form, at, second_operand k form b a y x h w) b a (subst (λ z. Contains old (In b z)) same inb) ina form at h (subst (λ z. FromTwo k form (In b z) (In a x) h) same w));
+      met.second n ((end n).1 (form, at, second_operand k form b a y x h w)) b a (subst (λ z. Contains old (In b z)) same inb) ina form at h (subst (λ z. FromTwo k form (In b z) (In a x) h) same w));
 }
-met_by_operands k old a x (Edge y r z) new is ina inb met = absurd is
+met_by_operands k old a x (Edge y r z) new firsts seconds is ina inb begin end met = absurd is

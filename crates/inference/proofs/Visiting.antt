@@ -1,5 +1,7 @@
 -- A form that gives something from facts is listed for them.
-use Rattle.std.proofs.Common.{◌≡◌, ℕ, List, [], ◌∷◌, slice_get, Some, None, Contains, refl, sym, ap, subst, ◌∙◌}
+use Rattle.std.proofs.Common.{◌≡◌, ◌-◌, ◌⊎◌, ⊎_elim, ℕ, List, [], ◌∷◌, length, take, drop, length-drop, arith, slice_get, Option, Some, None, Contains, refl, sym, ap, subst, ◌∙◌}
+use Rattle.std.proofs.lemmas.List.{take-append-drop, take_all}
+use Rattle.std.proofs.lemmas.List.Elements.{Contains-append_cases}
 use Rattle.std.proofs.lemmas.Option.{none-some, same_Some}
 use Rattle.axioms.specs.declared.ids.IndId.{IndId}
 use Rattle.normal_forms.specs.declared.forms.Form.{Form}
@@ -13,8 +15,12 @@ use Rattle.normal_forms.specs.Properties.{IsAtOrBelow}
 use Rattle.facts.specs.Closure.{Problem, FromNone, FromOne, FromTwo, Concludes, IsLoop}
 use Rattle.indexes.specs.declared.keys.Key.TheVariants.{Whole}
 use Rattle.indexes.specs.Keys.{class_key, individual_key, by_kind, by_alone, by_first, by_second, by_filler, by_chain, by_denied}
-use Rattle.inference.specs.Visits.{chained_property, AllChainsDrawn, IsBy, IsEdge}
-use Rattle.inference.specs.Completeness.{AreConcluded, AreDrawn, AllDrawn, DrawnAt}
+use Rattle.indexes.specs.FormsUnderKeys.{IsLikeFirst}
+use Rattle.inference.specs.Derivations.{Derived, Grows}
+use Rattle.inference.specs.Visits.{chained_property, AllChainsDrawn, AreVisited, IsBy, IsEdge}
+use Rattle.inference.specs.Completeness.{AreConcluded, AreDrawn, AreDrawnFrom, AllDrawn, DrawnAt, IsDrawnFrom}
+use Rattle.inference.proofs.Drawing.{drawn_at_still}
+use Rattle.inference.proofs.Growth.{grows_trans}
 use Rattle.inference.proofs.Giving.{prefix}
 use Rattle.inference.proofs.Lists.{slice_get-from_Contains}
 
@@ -129,6 +135,23 @@ module _ (k : Problem) (older new : List Fact)
 
   pub all_given : AreDrawn k older new
   all_given form there f w = let at = slice_get-from_Contains k.forms form there in given form at.0 at.1 f w
+
+-- what the listed forms up to a place, then one more, and then the others give is what all of them do
+pub visited_between : {k : Problem} {most : ℕ} {a b d : Derived} → Grows k most a b → Grows k most b d → (older : List Fact) (listed : List ℕ) (place m : ℕ) → AreDrawnFrom k older a.facts (take place listed) → IsDrawnFrom k older b.facts m → AreDrawnFrom k older d.facts (take (length listed - place) (drop place listed)) → AreVisited k older d.facts listed (Some m)
+visited_between {k} {most} {a} {b} {d} s t older listed place m below here above = record {
+  listed = λ n c. ⊎_elim
+      (λ low. drawn_at_still (grows_trans s t) _ _ n (below n low))
+      (λ high. above n (subst (λ (rest : List ℕ). Contains rest n) (sym (take_all (length listed - place) (drop place listed) (omega (arith, length-drop place listed)))) high))
+      (Contains-append_cases (take place listed) (drop place listed) n (subst (λ (all : List ℕ). Contains all n) (sym (take-append-drop place listed)) c));
+  paired = λ i e. let same : m ≡ i = same_Some m i e in subst (IsDrawnFrom k older d.facts) same (drawn_at_still t _ _ m here);
+}
+
+-- a form that is visited, or like that of the pair, has given what it gives
+pub given_when_visited : (k : Problem) (older facts : List Fact) (numbers : List ℕ) (pair : Option ℕ) → AreVisited k older facts numbers pair → (n : ℕ) (form : Form) (f : Fact) → slice_get k.forms n ≡ Some form → Contains numbers n ⊎ IsLikeFirst k.forms pair n → Concludes k form older f → Contains facts f
+given_when_visited k older facts numbers pair drawn n form f at which gives = ⊎_elim
+    (λ c. drawn.listed n c form at f gives)
+    (λ w. drawn.paired w.0 w.1 form (sym w.3 ∙ at) f gives)
+    which
 
 -- the loops of the reflexive properties are all loops
 pub all_loops : (k : Problem) (x : Context) (new : List Fact) → ((n : ℕ) (form : Form) → slice_get k.forms n ≡ Some form → by_kind form ≡ Some (Whole 1) → DrawnAt (IsLoop x) k.forms new n) → AllDrawn (IsLoop x) k.forms new

@@ -1,5 +1,5 @@
 -- What the engine keeps while it works.
-use Rattle.std.specs.Prelude.{◌≡◌, ℕ, ◌↔◌, ◌⊎◌, List, [], ◌∷◌, slice_get, map, Option, Some}
+use Rattle.std.specs.Prelude.{◌≡◌, ℕ, ◌↔◌, ◌⊎◌, List, [], ◌∷◌, slice_get, take, map, Option, Some}
 use Rattle.std.specs.List.{Contains, AllByRecursion}
 use Rattle.axioms.specs.declared.ids.ExprId.{ExprId}
 use Rattle.normal_forms.specs.declared.forms.Form.{Form}
@@ -14,8 +14,6 @@ use Rattle.facts.specs.declared.contexts.Fact.{Fact}
 use Rattle.facts.specs.declared.contexts.Fact.TheVariants.{In}
 use Rattle.facts.specs.Closure.{Problem, Concludes, CarriesBack, IsContextBy, IsLoop, Gives, IsFact, thing}
 use Rattle.facts.specs.Births.{Reason}
-use Rattle.indexes.specs.Keys.{class_key, by_first, by_second}
-use Rattle.indexes.specs.FormsUnderKeys.{IsUnder}
 use Rattle.inference.specs.Derivations.{Derived}
 
 -- the facts of these numbers
@@ -50,10 +48,10 @@ IsDrawnIn k old x new n = (a b : Class2) → Contains old (In a x) → Contains 
 abbrev pub AreDrawnIn : Problem → List Fact → Context → List Fact → List ℕ → Type 0
 AreDrawnIn k old x new places = (n : ℕ) → Contains places n → IsDrawnIn k old x new n
 
--- what the intersections with the class as an operand give from two classes that were in the context is there
-pub record MeetsOperands (k : Problem) (old : List Fact) (a : Class2) (x : Context) (new : List Fact) : Type 0 where
-  pub first : (n : ℕ) → IsUnder by_first k.forms (class_key a) n → IsDrawnIn k old x new n
-  pub second : (n : ℕ) → IsUnder by_second k.forms (class_key a) n → IsDrawnIn k old x new n
+-- what the forms at the places of both kinds give from two classes that were in the context is there
+pub record MeetsOperands (k : Problem) (old : List Fact) (firsts seconds : List ℕ) (x : Context) (new : List Fact) : Type 0 where
+  pub first : AreDrawnIn k old x new firsts
+  pub second : AreDrawnIn k old x new seconds
 
 -- what the forms give from these facts is there
 abbrev pub AreDrawn : Problem → List Fact → List Fact → Type 0
@@ -73,6 +71,10 @@ pub record IsEntered (k : Problem) (x : Context) (facts : List Fact) : Type 0 wh
   pub top : Contains facts (In thing x)
   pub itself : IsInItself x facts
   pub loops : AllDrawn (IsLoop x) k.forms facts
+
+-- what is in each context is in the first so many roots
+abbrev pub AreEntered : Problem → ℕ → List Fact → Type 0
+AreEntered k many facts = (x : Context) → Contains (take many k.roots) x → IsEntered k x facts
 
 -- what these facts give is there
 abbrev pub Drawn : Problem → List Fact → List Fact → Type 0

@@ -1,5 +1,5 @@
 -- Which forms are visited for facts.
-use Rattle.std.specs.Prelude.{◌≡◌, ℕ, ◌<◌, Bool, true, List, [], ◌∷◌, length, slice_get, Option, Some, None}
+use Rattle.std.specs.Prelude.{◌≡◌, ℕ, ◌<◌, ◌⊎◌, Bool, true, List, [], ◌∷◌, length, slice_get, Option, Some, None}
 use Rattle.std.specs.List.{Contains}
 use Rattle.indexes.specs.declared.keys.Key.{Key}
 use Rattle.normal_forms.specs.declared.forms.Form.{Form}
@@ -9,9 +9,9 @@ use Rattle.facts.specs.declared.contexts.Fact.{Fact}
 use Rattle.facts.specs.declared.contexts.Fact.TheVariants.{In, Edge}
 use Rattle.facts.specs.Closure.{Problem, Concludes, Gives}
 use Rattle.indexes.specs.Keys.{by_chain, by_end, property_key}
-use Rattle.indexes.specs.FormsUnderKeys.{IsUnder}
+use Rattle.indexes.specs.FormsUnderKeys.{IsLikeFirst, IsUnder}
 use Rattle.property_closure.specs.PropertyClosures.{Known, Has}
-use Rattle.inference.specs.Completeness.{IsDrawnFrom, GoesOn}
+use Rattle.inference.specs.Completeness.{AreDrawnFrom, IsDrawnFrom, GoesOn}
 
 -- the two facts, in this order, give nothing
 abbrev pub GiveNothing : Problem → Fact → Fact → Type 0
@@ -70,9 +70,14 @@ ChainsDrawn k older facts r = (n : ℕ) → IsUnder by_chain k.forms (property_k
 abbrev pub AllChainsDrawn : Problem → List Fact → List Fact → PropId2 → Type 0
 AllChainsDrawn k older facts p = (r : PropId2) → IsAtOrBelow k.forms p r → ChainsDrawn k older facts r
 
--- the numbers are at least those of the forms, but chains, that give something from these facts
-abbrev pub HaveAllVisited : Problem → List Fact → List ℕ → Type 0
-HaveAllVisited k older numbers = (n : ℕ) (form : Form) (f : Fact) → slice_get k.forms n ≡ Some form → by_chain form ≡ None → Concludes k form older f → Contains numbers n
+-- each form, but chains, that gives something from these facts has one of the numbers, or it is like that of the pair
+abbrev pub HaveAllVisited : Problem → List Fact → List ℕ → Option ℕ → Type 0
+HaveAllVisited k older numbers pair = (n : ℕ) (form : Form) (f : Fact) → slice_get k.forms n ≡ Some form → by_chain form ≡ None → Concludes k form older f → Contains numbers n ⊎ IsLikeFirst k.forms pair n
+
+-- what the forms of these numbers, and of the pair, give from these facts is there
+pub record AreVisited (k : Problem) (older facts : List Fact) (numbers : List ℕ) (pair : Option ℕ) : Type 0 where
+  pub listed : AreDrawnFrom k older facts numbers
+  pub paired : (m : ℕ) → pair ≡ Some m → IsDrawnFrom k older facts m
 
 -- the form at the place goes on
 abbrev pub GoesOnAt : List Form → ℕ → Type 0

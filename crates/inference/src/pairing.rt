@@ -11,19 +11,20 @@ ghost use Rattle.inference.specs.Meetings.{IsWithin, AllListedAreMet, HasServed}
 
 use crate::known_facts::{KnownFacts, Stop};
 use crate::rules::Rules;
-use crate::visits::{begins_chain, has_any, is_carried, operands_of};
+use crate::visits::{begins_chain, is_carried, operands_of};
 use facts::{Context, Fact};
 use indexes::Index;
 use normal_forms::{Class2, PropId2};
 
 impl Rules<'_> {
-    /// Whether the two facts may give something in this order: two classes give nothing where no intersection is listed for one of them.
+    /// Whether the two facts may give something in this order: two classes give nothing where no intersection begins with the first,
+    /// or none ends with the second.
     fn may_give(&self, first: Fact, second: Fact) -> bool
         ensures { result ≡ false → GiveNothing self.now.problem.now first second }
     {
         match (first, second) {
             (Fact::In(a, _), Fact::In(b, _)) => {
-                has_any(self.problem.first(a)) && has_any(self.problem.second(b))
+                self.problem.begins_intersection(a) && self.problem.ends_intersection(b)
             }
             _ => true,
         }
@@ -156,26 +157,20 @@ impl Rules<'_> {
         Ok(())
     }
 
-    /// Adds what the intersections that have the class as an operand give from it and from classes in the context.
+    /// Adds what the intersections that have a class as their first operand, or as their second, give from classes in the context.
     fn meet_operands(
         &self,
         facts: &mut KnownFacts,
-        class: Class2,
+        first: &[u32],
+        second: &[u32],
         context: Context,
     ) -> Result<(), Stop>
         requires derived { IsDerived self.now.problem.now facts.old }
-        ensures { Draws self.now facts.old facts.new result (MeetsOperands self.now.problem.now facts.old.facts class context facts.new.facts) }
+        ensures { Draws self.now facts.old facts.new result (MeetsOperands self.now.problem.now facts.old.facts first.now second.now context facts.new.facts) }
     {
-        self.draw_intersections(facts, self.problem.first(class), context)?;
-        self.draw_intersections(facts, self.problem.second(class), context)?;
+        self.draw_intersections(facts, first, context)?;
+        self.draw_intersections(facts, second, context)?;
         Ok(())
-    }
-
-    /// Whether at most so many intersections have the class as an operand.
-    fn has_few_operands(&self, class: Class2, most: usize) -> bool {
-        let first = self.problem.first(class).len();
-        let second = self.problem.second(class).len();
-        first.saturating_add(second) <= most
     }
 
     /// Adds what the class in a context gives with the other classes in it, which have those numbers: by the intersections that have
@@ -193,10 +188,9 @@ impl Rules<'_> {
         requires numbers { AreAll IsClassFact facts.old.facts numbers.now }
         ensures { Draws self.now facts.old facts.new result (AreMet self.now.problem.now (In class context) facts.old.facts numbers.now facts.new) }
     {
-        if self.has_few_operands(class, numbers.len()) {
-            self.meet_operands(facts, class, context)?;
-        } else {
-            self.meet_all(facts, hand, Fact::In(class, context), numbers)?;
+        match self.problem.few_intersections(class, numbers.len()) {
+            Some(few) => self.meet_operands(facts, few.first, few.second, context)?,
+            None => self.meet_all(facts, hand, Fact::In(class, context), numbers)?,
         }
         Ok(())
     }

@@ -6,15 +6,15 @@ ghost use Rattle.inference.specs.Derivations.{IsDerived};
 ghost use Rattle.property_closure.specs.PropertyClosures.{Has};
 ghost use Rattle.inference.specs.PropertyClosures.{IsClosureOf, IsClosureOf-prop};
 ghost use Rattle.inference.specs.Joins.{AreJoins, AreJoins-prop};
-ghost use Rattle.inference.specs.Completeness.{AreAt, IsContextAt, AllDrawn, AreConcluded, DrawnAt, AreDrawnFrom, AreDrawn, IsDrawnFrom, IsEntered, IsInItself, Drawn};
-ghost use Rattle.inference.specs.Visits.{AllChainsDrawn};
+ghost use Rattle.inference.specs.Completeness.{AreAt, AreEntered, IsContextAt, AllDrawn, AreConcluded, DrawnAt, AreDrawnFrom, AreDrawn, IsDrawnFrom, IsEntered, IsInItself, Drawn};
+ghost use Rattle.inference.specs.Visits.{AllChainsDrawn, AreVisited};
 ghost use Rattle.inference.specs.Sameness.{AreGroupsOf, AreGroupsOf-prop};
 ghost use Rattle.inference.specs.Entry.{HasBegun, LoopIsDrawn, LoopsAreDrawn};
 
 use crate::conclusions::{THING, carried_back, conclusion, condition_of, loop_at};
 use crate::joins::Joins;
 use crate::known_facts::{KnownFacts, Stop};
-use crate::visits::{chained, visited};
+use crate::visits::{chained, count_below, visited};
 use facts::{Birth, Context, Fact};
 use indexes::{Groups, IndexedProblem};
 use normal_forms::{Class2, PropId2};
@@ -113,6 +113,47 @@ impl Rules<'_> {
         Ok(())
     }
 
+    /// Adds what the listed forms and that of the pair give from the facts: first the listed ones up to the pair, then the pair, then the others.
+    fn draw_between(
+        &self,
+        facts: &mut KnownFacts,
+        listed: &[u32],
+        pair: u32,
+        numbers: &[u32],
+        older: &[Fact],
+    ) -> Result<(), Stop>
+        requires derived { IsDerived self.now.problem.now facts.old }
+        requires older { AreAt facts.old.facts numbers.now older.now }
+        ensures { Draws self.now facts.old facts.new result (AreVisited self.now.problem.now older.now facts.new.facts listed.now (Some pair)) }
+    {
+        let below = count_below(listed, pair);
+        self.draw_listed(facts, &listed[..below], numbers, older)?;
+        self.draw_form(facts, pair, numbers, older)?;
+        self.draw_listed(facts, &listed[below..], numbers, older)?;
+        Ok(())
+    }
+
+    /// Adds what the listed forms, and that of the pair, give from the facts, in the order of their numbers.
+    #[inline(always)]
+    fn draw_visited(
+        &self,
+        facts: &mut KnownFacts,
+        listed: &[u32],
+        pair: Option<u32>,
+        numbers: &[u32],
+        older: &[Fact],
+    ) -> Result<(), Stop>
+        requires derived { IsDerived self.now.problem.now facts.old }
+        requires older { AreAt facts.old.facts numbers.now older.now }
+        ensures { Draws self.now facts.old facts.new result (AreVisited self.now.problem.now older.now facts.new.facts listed.now pair) }
+    {
+        match pair {
+            Some(pair) => self.draw_between(facts, listed, pair, numbers, older)?,
+            None => self.draw_listed(facts, listed, numbers, older)?,
+        }
+        Ok(())
+    }
+
     /// Adds what chains that begin with the property, or one above it, give from the facts.
     #[inline(always)]
     pub(crate) fn draw_chains(
@@ -145,7 +186,8 @@ impl Rules<'_> {
         requires older { AreAt facts.old.facts numbers.now older.now }
         ensures { Draws self.now facts.old facts.new result (AreDrawn self.now.problem.now older.now facts.new.facts) }
     {
-        self.draw_listed(facts, visited(self.problem, older), numbers, older)?;
+        let visited = visited(self.problem, older);
+        self.draw_visited(facts, visited.listed, visited.pair, numbers, older)?;
         if let Some(property) = chained(older) {
             self.draw_chains(facts, property, numbers, older)?;
         }
@@ -240,17 +282,27 @@ impl Rules<'_> {
         Ok(())
     }
 
+    /// Adds what is there with no fact, where what is in each context is in the first so many roots already.
+    pub fn begin_more(&self, facts: &mut KnownFacts, entered: usize) -> Result<(), Stop>
+        requires derived { IsDerived self.now.problem.now facts.old }
+        requires entered { AreEntered self.now.problem.now entered facts.old.facts }
+        ensures { Draws self.now facts.old facts.new result (Drawn self.now.problem.now [] facts.new.facts) }
+    {
+        self.draw(facts, &[], &[])?;
+        self.draw_different(facts)?;
+        let roots = self.problem.roots();
+        for number in entered..roots.len() {
+            self.enter(facts, roots[number], &[])?;
+        }
+        Ok(())
+    }
+
     /// Adds what is there with no fact.
     pub fn begin(&self, facts: &mut KnownFacts) -> Result<(), Stop>
         requires derived { IsDerived self.now.problem.now facts.old }
         ensures { Draws self.now facts.old facts.new result (Drawn self.now.problem.now [] facts.new.facts) }
     {
-        self.draw(facts, &[], &[])?;
-        self.draw_different(facts)?;
-        for root in self.problem.roots() {
-            self.enter(facts, *root, &[])?;
-        }
-        Ok(())
+        self.begin_more(facts, 0)
     }
 
     /// Adds the loops of reflexive properties at the target of the fact of that number, where it is an edge.

@@ -1,5 +1,5 @@
 //! Which forms are visited for facts: those that give something from them are listed.
-ghost use Rattle.std.specs.Prelude.{◌≡◌, ◌∷◌, [], ℕ, Some, Contains, IfSome, IsNone, false, slice_get};
+ghost use Rattle.std.specs.Prelude.{◌≡◌, ◌≤◌, ◌∷◌, [], ℕ, Some, Contains, IfSome, IsNone, false, length, slice_get};
 ghost use Rattle.facts.specs.Closure.{FromOne, nothing};
 ghost use Rattle.facts.specs.declared.contexts.Fact.{Fact as Fact2};
 ghost use Rattle.normal_forms.specs.declared.forms.Form.{Form as Form2};
@@ -14,7 +14,7 @@ ghost use Rattle.inference.specs.Visits.{HaveAllVisited, IsNotCarried, NoneUnder
 
 use crate::conclusions::NOTHING;
 use facts::{Context, Fact};
-use indexes::IndexedProblem;
+use indexes::{Candidates, IndexedProblem};
 use normal_forms::{Class2, Form, PropId2};
 use property_closure::PropertyClosure;
 
@@ -50,26 +50,38 @@ fn visited_by_one(problem: &IndexedProblem, first: Fact) -> &[u32]
 }
 
 /// The forms, but chains, that give something from two facts in this order.
-fn visited_by_two(problem: &IndexedProblem, first: Fact, second: Fact) -> &[u32]
-    ensures { HaveAllVisited problem.now (first ∷ second ∷ []) result.now }
+fn visited_by_two(problem: &IndexedProblem, first: Fact, second: Fact) -> Candidates<'_>
+    ensures { HaveAllVisited problem.now (first ∷ second ∷ []) result.listed.now result.pair }
 {
     match (first, second) {
         (Fact::In(a, _), Fact::In(b, _)) => problem.intersections(a, b),
-        (Fact::Edge(..), Fact::In(filler, _)) => problem.with_filler(filler),
-        _ => &[],
+        (Fact::Edge(..), Fact::In(filler, _)) => Candidates::of(problem.with_filler(filler)),
+        _ => Candidates::of(&[]),
     }
 }
 
 /// The forms, but chains, that give something from the facts in their order.
-pub(crate) fn visited<'a>(problem: &'a IndexedProblem, older: &[Fact]) -> &'a [u32]
-    ensures { HaveAllVisited problem.now older.now result.now }
+pub(crate) fn visited<'a>(problem: &'a IndexedProblem, older: &[Fact]) -> Candidates<'a>
+    ensures { HaveAllVisited problem.now older.now result.listed.now result.pair }
 {
     match *older {
-        [] => problem.given(),
-        [first] => visited_by_one(problem, first),
+        [] => Candidates::of(problem.given()),
+        [first] => Candidates::of(visited_by_one(problem, first)),
         [first, second] => visited_by_two(problem, first, second),
-        _ => &[],
+        _ => Candidates::of(&[]),
     }
+}
+
+/// How many of the numbers are below that one, up to the first that is not.
+pub(crate) fn count_below(numbers: &[u32], number: u32) -> usize
+    ensures { result ≤ length numbers.now }
+{
+    for place in 0..numbers.len() {
+        if numbers[place] >= number {
+            return place;
+        }
+    }
+    numbers.len()
 }
 
 pub(crate) fn has_any(list: &[u32]) -> bool

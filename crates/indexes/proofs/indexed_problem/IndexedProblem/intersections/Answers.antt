@@ -1,13 +1,18 @@
 use Rattle.std.proofs.Common.{inl, inr, ⊎_elim}
+use Rattle.indexes.proofs.Indexing.{all_found, first_under, pair_under, second_under}
 use Rattle.indexes.proofs.indexed_problem.IndexedProblem.intersections.Goals as goal
 
 pub returns-clause-all : goal.returns-clause-all
-returns-clause-all c = λ n. rw (← c.self.view_is) (λ first second. c.common.ensures.all n
-    (rw (c.of.ensures.list, c.key_of_class.ensures) ((c.self.invariant.first _ n).1 first))
-    (rw (c.of-2.ensures.list, c.key_of_class-2.ensures) ((c.self.invariant.second _ n).1 second)))
+returns-clause-all c = λ n. rw (← c.self.view_is, ← c.key_of_class-first.ensures, ← c.key_of_class-second.ensures)
+    (all_found _ _ c.self.invariant.rows c.self.invariant.pairs c.self.inside.index.first c.self.inside.index.second _ _ c.of.result.now c.of-2.result.now c.common-listed.result.now c.pair-pair.result
+    c.self.invariant.index.first c.self.invariant.index.second c.of.ensures.list c.of-2.ensures.list c.common-listed.ensures.all c.pair-pair.ensures.some c.pair-pair.ensures.least c.pair-pair.ensures.none n)
 
 pub returns-clause-only : goal.returns-clause-only
-returns-clause-only c = λ n there. rw (← c.self.view_is) (⊎_elim
-    (λ a. inl ((c.self.invariant.first _ n).0 (rw (c.of.ensures.list, c.key_of_class.ensures) at a)))
-    (λ b. inr ((c.self.invariant.second _ n).0 (rw (c.of-2.ensures.list, c.key_of_class-2.ensures) at b)))
-    (c.common.ensures.only n there))
+returns-clause-only c = λ n there. rw (← c.self.view_is, ← c.key_of_class-first.ensures, ← c.key_of_class-second.ensures) (⊎_elim
+    (λ a. inl (first_under _ _ c.self.invariant.rows c.self.invariant.pairs c.self.inside.index.first _ _ c.of.ensures.list c.self.invariant.index.first n a))
+    (λ b. inr (second_under _ _ c.self.invariant.rows c.self.invariant.pairs c.self.inside.index.second _ _ c.of-2.ensures.list c.self.invariant.index.second n b))
+    (c.common-listed.ensures.only n there))
+
+pub returns-clause-pair : goal.returns-clause-pair
+returns-clause-pair c = rw (← c.self.view_is, ← c.key_of_class-first.ensures, ← c.key_of_class-second.ensures)
+    (pair_under _ _ c.self.invariant.rows c.self.invariant.pairs _ _ c.pair-pair.result c.pair-pair.ensures.some)

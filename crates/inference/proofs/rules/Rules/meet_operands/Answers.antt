@@ -7,6 +7,6 @@ pub returns : goal.returns
 returns c =
     let old = c.args.facts.now.facts in
     draws (grows_trans c.draw_intersections.ensures.grows c.draw_intersections-2.ensures.grows) (record {
-      first = λ n under. drawn_in_still c.draw_intersections-2.ensures.grows old c.args.context n (c.in_ok-draw_intersections.ensures.drawn n ((c.first.ensures n).1 under));
-      second = λ n under. drawn_in_earlier c.draw_intersections.ensures.grows _ c.args.context n (c.in_ok-draw_intersections-2.ensures.drawn n ((c.second.ensures n).1 under));
+      first = λ n under. drawn_in_still c.draw_intersections-2.ensures.grows old c.args.context n (c.in_ok-draw_intersections.ensures.drawn n under);
+      second = λ n under. drawn_in_earlier c.draw_intersections.ensures.grows _ c.args.context n (c.in_ok-draw_intersections-2.ensures.drawn n under);
     })

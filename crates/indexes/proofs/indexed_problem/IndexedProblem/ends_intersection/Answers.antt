@@ -1,0 +1,17 @@
+use Rattle.indexes.proofs.Indexing.{none_second, pair_second, second_under}
+use Rattle.indexes.proofs.indexed_problem.IndexedProblem.ends_intersection.Goals as goal
+
+pub returns-then-is_used-clause-some : goal.returns-then-is_used-clause-some
+returns-then-is_used-clause-some c = λ _. rw (← c.self.view_is, ← c.key_of_class-key.ensures)
+    (let w = c.is_used.ensures.some c.if-is_used.true in
+    (w.0, second_under _ _ c.self.invariant.rows c.self.invariant.pairs c.self.inside.index.second _ _ c.of.ensures.list c.self.invariant.index.second w.0 w.1))
+
+pub returns-else-is_used-clause-some : goal.returns-else-is_used-clause-some
+returns-else-is_used-clause-some c = λ yes. rw (← c.self.view_is, ← c.key_of_class-key.ensures)
+    (let w = c.ends.ensures.some yes in
+    (w.0, pair_second _ _ c.self.invariant.rows c.self.invariant.pairs _ w.1))
+
+pub returns-else-is_used-clause-none : goal.returns-else-is_used-clause-none
+returns-else-is_used-clause-none c = λ no_pair. rw (← c.self.view_is, ← c.key_of_class-key.ensures)
+    (none_second _ _ c.self.invariant.rows c.self.invariant.pairs c.self.inside.index.second _ _ c.of.ensures.list c.self.invariant.index.second
+    (c.is_used.ensures.none c.if-is_used.false) (c.ends.ensures.none no_pair))

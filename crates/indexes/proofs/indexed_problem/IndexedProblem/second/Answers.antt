@@ -1,4 +1,0 @@
-use Rattle.indexes.proofs.indexed_problem.IndexedProblem.second.Goals as goal
-
-pub returns : goal.returns
-returns c = λ n. rw (← c.self.view_is, c.of.ensures.list, c.key_of_class.ensures) (c.self.invariant.second _ n)
