@@ -1,11 +1,9 @@
 -- Slots as they are filled and searched.
-use Rattle.std.proofs.Common.{◌≡◌, ◌≢◌, ℕ, zero, suc, ◌<◌, inl, inr, List, [], ◌∷◌, ◌++◌, length, get_or, set, refl, sym, ap, ◌∙◌, arith}
+use Rattle.std.proofs.Common.{◌≡◌, ◌≢◌, ℕ, ◌<◌, inl, inr, List, [], ◌∷◌, ◌++◌, length, get_or, set, sym, ap, ◌∙◌, arith}
 use Rattle.std.proofs.lemmas.Bool.{cases_eq, cases_lt}
 use Rattle.std.proofs.lemmas.List.{length_push, get_or_append_left, get_or_past, get_or-set_other, get_or-set_same}
-use Rattle.std.proofs.lemmas.Option.{none-some}
 use Rattle.std.proofs.Math.Seq.{get_or-append_seam}
-use Rattle.facts.specs.declared.contexts.Fact.{Fact}
-use Rattle.facts.specs.Slots.{HasPassed, IsFirstFree, LeadsTo, Stands}
+use Rattle.facts.specs.Slots.{IsFirstFree, Stands}
 
 -- slots of which one has another number
 pub record IsPut (old new : List ℕ) (slot number : ℕ) : Type 0 where
@@ -54,16 +52,3 @@ stands_still old new slot number put free some b n more stood =
         | inr ne ↦ stood.no_gap i low high (sym (put.others i ne) ∙ gone)
       ];
     }
-
--- a walk among no facts ends at the first free slot
-pub free_among_none : (slots : List ℕ) (bucket : ℕ) (fact : Fact) (slot : ℕ) → HasPassed [] slots bucket fact slot → LeadsTo [] (get_or slots slot 0) fact → IsFirstFree slots bucket slot
-free_among_none slots bucket fact slot passed ends = record {
-  from = passed.from;
-  within = passed.within;
-  free = go (get_or slots slot 0) refl;
-  no_gap = passed.no_gap;
-}
-  where
-    go : (number : ℕ) → get_or slots slot 0 ≡ number → get_or slots slot 0 ≡ 0
-    go zero is = is
-    go (suc place) is = absurd (none-some fact (ends place is))

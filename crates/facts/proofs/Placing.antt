@@ -12,7 +12,7 @@ use Rattle.facts.specs.declared.contexts.Fact.{Fact}
 use Rattle.facts.specs.declared.slots.Found.{Found}
 use Rattle.facts.specs.declared.slots.Found.TheVariants.{At, Free}
 use Rattle.facts.specs.declared.slots.Slots.{Slots}
-use Rattle.facts.specs.declared.slots.Slots.TheVariants.{Few, Several, Many}
+use Rattle.facts.specs.declared.slots.Slots.TheVariants.{Few, Many}
 use Rattle.facts.specs.Slots.{home_of, bucket_of, buckets_of, numbers_of, Stands, IsFirstFree, IsFound, AreFound, HasSlots, HasRoom, CanHold, HaveSlots, IfFree, Holds, IsFreeFor, IsTable}
 use Rattle.axioms.specs.WellFormedness.{AreDistinct}
 use Rattle.facts.proofs.Facts.{distinct_push, distinct_take}
@@ -173,8 +173,7 @@ not_past seeds numbers fact slot last free first =
 -- where there is room for a number, the first free slot can hold it
 pub first_holds : (seeds : Seeds) (table : Slots) (fact : Fact) (slot : ℕ) → HasRoom table →
     IsFirstFree (numbers_of table) (bucket_of seeds (buckets_of table) fact) slot → CanHold table slot
-first_holds seeds (Few numbers) fact slot last first = omega (arith, not_past seeds numbers fact slot 2 last first)
-first_holds seeds (Several numbers) fact slot last first = omega (arith, not_past seeds numbers.value fact slot 5 last first)
+first_holds seeds (Few numbers) fact slot last first = omega (arith, not_past seeds numbers fact slot 6 last first)
 first_holds seeds (Many size used numbers) fact slot room first = first.within
 
 -- the slots that are read at the home of a fact that a slot is free for

@@ -11,8 +11,8 @@ use Rattle.facts.specs.declared.seeds.Seeds.{Seeds}
 use Rattle.facts.specs.declared.slots.Found.{Found}
 use Rattle.facts.specs.declared.slots.Found.TheVariants.{At, Free}
 use Rattle.facts.specs.declared.slots.Slots.{Slots}
-use Rattle.facts.specs.declared.slots.Slots.TheVariants.{Few, Several, Many}
-use Rattle.facts.specs.declared.slots.TheConstants.{FEW, SEVERAL}
+use Rattle.facts.specs.declared.slots.Slots.TheVariants.{Few, Many}
+use Rattle.facts.specs.declared.slots.TheConstants.{FEW}
 
 -- the bucket of the fact, of so many
 unfoldable pub bucket_of : Seeds → ℕ → Fact → ℕ
@@ -35,13 +35,11 @@ count_of size = 2 ^ (size % 64)
 -- what the slots hold
 abbrev pub numbers_of : Slots → List ℕ
 numbers_of (Few numbers) = numbers
-numbers_of (Several numbers) = numbers.value
-numbers_of (Many size used numbers) = numbers.value.items
+numbers_of (Many size used numbers) = numbers.items
 
--- how many buckets there are, of few facts or several one
+-- how many buckets there are, of few facts one
 abbrev pub buckets_of : Slots → ℕ
 buckets_of (Few numbers) = 1
-buckets_of (Several numbers) = 1
 buckets_of (Many size used numbers) = count_of size
 
 -- the slots hold the same numbers, in as many buckets
@@ -73,10 +71,6 @@ StandsIn old new slot number = (b : ℕ) → IsFirstFree old b slot → Stands n
 -- no number that leads to the fact stands there
 abbrev pub StandsNowhere : List Fact → List ℕ → ℕ → Fact → Type 0
 StandsNowhere facts slots bucket fact = (place : ℕ) → slice_get facts place ≡ Some fact → Stands slots bucket (suc place) → ⊥
-
--- the number leads to the fact, unless it is 0
-abbrev pub LeadsTo : List Fact → ℕ → Fact → Type 0
-LeadsTo facts number fact = (place : ℕ) → number ≡ suc place → slice_get facts place ≡ Some fact
 
 -- no slot from the bucket on up to this one is free or leads to the fact
 pub record HasPassed (facts : List Fact) (slots : List ℕ) (bucket : ℕ) (fact : Fact) (slot : ℕ) : Type 0 where
@@ -111,17 +105,15 @@ HoldsNot seeds facts table fact = (place : ℕ) → slice_get facts place ≡ So
 abbrev pub HasSlots : Slots → Type 0
 HasSlots table = buckets_of table ≤ length (numbers_of table)
 
--- there is room for one number more: of few or several the last slot is free
+-- there is room for one number more: of few the last slot is free
 abbrev pub HasRoom : Slots → Type 0
 HasRoom (Few numbers) = slice_index numbers (FEW - 1) ≡ 0
-HasRoom (Several numbers) = slice_index numbers.value (SEVERAL - 1) ≡ 0
 HasRoom (Many size used numbers) = Unit {0}
 
--- the slot is one of the few or the several, or one of many or the next behind them
+-- the slot is one of the few, or one of many or the next behind them
 abbrev pub CanHold : Slots → ℕ → Type 0
 CanHold (Few numbers) slot = slot < FEW
-CanHold (Several numbers) slot = slot < SEVERAL
-CanHold (Many size used numbers) slot = slot ≤ length numbers.value.items
+CanHold (Many size used numbers) slot = slot ≤ length numbers.items
 
 -- the fact that is at the place is found in the slots of its home
 pub record IsFound (seeds : Seeds) (homes : List Slots) (fact : Fact) (place : ℕ) : Type 0 where

@@ -3,8 +3,8 @@
 //! A slot holds a number, which is one more than the place of a fact, or 0, and then it is free. A fact falls into a bucket, which
 //! is the number of a slot, and its number stands there or behind, with no free slot between: so who looks from the bucket on finds
 //! it, or a free slot where it is not there. Numbers that lead nowhere, since facts were taken away, do no harm. The slots of few facts
-//! stand where those of more have the address of theirs, and those of few or several have one bucket.
-ghost use Rattle.facts.specs.Slots.{bucket_of, buckets_of, CanHold, count_of, HasPassed, HasRoom, HasSlots, Holds, HoldsNot, IfAt, IfFree, IsFirstFree, LeadsTo, numbers_of, Stands, StandsIn, StandsNowhere, StillHolds, StillStand};
+//! stand where those of more have the address of theirs, and have one bucket.
+ghost use Rattle.facts.specs.Slots.{bucket_of, buckets_of, CanHold, count_of, HasRoom, HasSlots, Holds, HoldsNot, IfAt, IfFree, IsFirstFree, numbers_of, Stands, StandsIn, StandsNowhere, StillHolds, StillStand};
 ghost use Rattle.facts.specs.declared.contexts.Fact.{Fact as AFact};
 ghost use Rattle.std.specs.Prelude.{◌≡◌, ◌↔◌, ◌⊎◌, ℕ, suc, ◌<◌, ◌≤◌, length, slice_get, slice_index, IfOk, IsTrue, OnOk, Some, false, true};
 
@@ -15,12 +15,9 @@ use axioms::Memory;
 use std::alloc::{AllocError, Global};
 
 /// How many facts are few.
-const FEW: usize = 3;
+const FEW: usize = 7;
 
-/// How many are several.
-const SEVERAL: usize = 6;
-
-/// The size of the first slots for more than several.
+/// The size of the first slots for more than few.
 const FIRST_SIZE: u8 = 4;
 
 /// How many slots more than buckets there is room for, where there are many.
@@ -31,8 +28,6 @@ const MOST_SPARE: usize = 4;
 pub(crate) enum Slots {
     /// The numbers of few facts, in the order in which they came, and free slots behind them. They have one bucket.
     Few([u32; FEW]),
-    /// Those of several, in the same way.
-    Several(Box<[u32; SEVERAL]>),
     /// Slots by hash.
     Many {
         /// The power of 2 that is the number of buckets. As a byte it leaves the whole no larger than the few are.
@@ -40,11 +35,11 @@ pub(crate) enum Slots {
         /// How many numbers were put.
         used: u32,
         /// What the slots hold. There are as many as buckets, and those that were put behind the last.
-        numbers: Box<Vec<u32>>,
+        numbers: Vec<u32>,
     },
 }
 
-const _: () = prove!(size_of::<Slots>() == 16);
+const _: () = prove!(size_of::<Slots>() == 32);
 
 /// What a search for a fact comes to.
 #[derive(Clone, Copy, Debug, PartialEq, Eq, Drop)]
@@ -72,35 +67,16 @@ fn bucket(seeds: &Seeds, count: usize, fact: Fact) -> usize
     hash(seeds, fact) as usize & count.saturating_sub(1)
 }
 
-/// Whether the fact is the one whose place the number is one more than.
+/// Whether the fact stands at the place, which may be past the last.
 #[inline(always)]
-fn leads_to(facts: &[StoredFact], number: u32, fact: Fact) -> bool
-    requires { 0 < number }
-    ensures { (place : ℕ) → number ≡ suc place → IsTrue result ↔ (slice_get facts.now place ≡ Some fact) }
+fn is_at(facts: &[StoredFact], place: u32, fact: Fact) -> bool
+    ensures { IsTrue result ↔ (slice_get facts.now place ≡ Some fact) }
 {
-    let place = number as usize - 1;
+    let place = place as usize;
     if place < facts.len() {
         return facts[place].is(fact);
     }
     false
-}
-
-/// The slot of the fact's number, where that stands from the bucket on with no free slot before it, or else the first free slot.
-#[inline(always)]
-fn walk(facts: &[StoredFact], numbers: &[u32], bucket: usize, fact: Fact) -> usize
-    requires { bucket ≤ length numbers.now }
-    ensures passed { HasPassed facts.now numbers.now bucket fact result }
-    ensures ends { LeadsTo facts.now (slice_index numbers.now result) fact }
-{
-    let mut slot = bucket;
-    while slot < numbers.len() {
-        let number = numbers[slot];
-        if number == 0 || leads_to(facts, number, fact) {
-            return slot;
-        }
-        slot += 1;
-    }
-    slot
 }
 
 /// The place of the fact, where its number stands from the bucket on with no free slot before it, or else the first free slot.
@@ -111,26 +87,34 @@ fn search(facts: &[StoredFact], numbers: &[u32], bucket: usize, fact: Fact) -> F
     ensures free { IfFree result (IsFirstFree numbers.now bucket) }
     ensures absent { IfFree result (λ _. StandsNowhere facts.now numbers.now bucket fact) }
 {
-    let slot = walk(facts, numbers, bucket, fact);
-    if slot < numbers.len() && numbers[slot] != 0 {
-        return Found::At(numbers[slot] - 1);
+    let mut slot = bucket;
+    while slot < numbers.len() && numbers[slot] != 0 {
+        let place = numbers[slot] - 1;
+        if is_at(facts, place, fact) {
+            return Found::At(place);
+        }
+        slot += 1;
     }
     Found::Free(slot)
 }
 
-/// The first free slot from the bucket on: a walk among no facts ends nowhere else.
+/// The first free slot from the bucket on.
 #[inline(always)]
-fn first_free(numbers: &[u32], bucket: usize, fact: Fact) -> usize
+fn first_free(numbers: &[u32], bucket: usize) -> usize
     requires { bucket ≤ length numbers.now }
     ensures { IsFirstFree numbers.now bucket result }
 {
-    walk(&[], numbers, bucket, fact)
+    let mut free = bucket;
+    while free < numbers.len() && numbers[free] != 0 {
+        free += 1;
+    }
+    free
 }
 
-/// Puts the number into a free slot of so many.
+/// Puts the number into a free slot of few.
 #[inline(always)]
-fn fill<const SLOTS: usize>(numbers: &mut [u32; SLOTS], slot: usize, number: u32)
-    requires within { slot < SLOTS }
+fn fill(numbers: &mut [u32; FEW], slot: usize, number: u32)
+    requires within { slot < FEW }
     requires free { slice_index numbers.old slot ≡ 0 }
     requires number { 0 < number }
     ensures stands { StandsIn numbers.old numbers.new slot number }
@@ -176,7 +160,7 @@ fn carry(
         return Ok(());
     }
     let fact = facts[number as usize - 1].get();
-    let slot = first_free(wider, bucket(seeds, buckets, fact), fact);
+    let slot = first_free(wider, bucket(seeds, buckets, fact));
     occupy(wider, slot, number)
 }
 
@@ -201,18 +185,6 @@ fn spread(
     Ok(wider)
 }
 
-/// Slots for several facts, with the numbers of few.
-fn several(alloc: Global, numbers: &[u32; FEW]) -> Result<Slots, Memory>
-    ensures stands { IfOk result (λ slots. StillStand numbers.now (numbers_of slots)) }
-    ensures buckets { IfOk result (λ slots. buckets_of slots ≡ 1) }
-    ensures slots { IfOk result HasSlots }
-    ensures room { IfOk result HasRoom }
-{
-    let [first, second, third] = *numbers;
-    let several = Box::new(alloc, [first, second, third, 0, 0, 0])?;
-    Ok(Slots::Several(several))
-}
-
 /// Slots of that size, with these numbers, so many of which were put.
 fn many(
     alloc: Global,
@@ -228,7 +200,6 @@ fn many(
     ensures room { IfOk result HasRoom }
 {
     let numbers = spread(alloc, seeds, facts, numbers, count(size))?;
-    let numbers = Box::new(alloc, numbers)?;
     Ok(Slots::Many {
         size,
         used,
@@ -237,13 +208,13 @@ fn many(
 }
 
 /// The same numbers, with room for as many more.
-fn copied(numbers: &Vec<u32>) -> Result<Box<Vec<u32>>, AllocError>
-    ensures { IfOk result (λ copy. copy.value.items ≡ numbers.now.items) }
+fn copied(numbers: &Vec<u32>) -> Result<Vec<u32>, AllocError>
+    ensures { IfOk result (λ copy. copy.items ≡ numbers.now.items) }
 {
     let alloc = *numbers.allocator();
     let mut copy = Vec::with_capacity(alloc, numbers.capacity())?;
     copy.extend_from_slice(numbers)?;
-    Ok(Box::new(alloc, copy)?)
+    Ok(copy)
 }
 
 impl Clone for Slots {
@@ -254,7 +225,6 @@ impl Clone for Slots {
     fn clone(&self) -> Result<Slots, AllocError> {
         match self {
             Slots::Few(numbers) => Ok(Slots::Few(*numbers)),
-            Slots::Several(numbers) => Ok(Slots::Several(numbers.clone()?)),
             Slots::Many {
                 size,
                 used,
@@ -283,7 +253,6 @@ impl Slots {
     {
         match self {
             Slots::Few(numbers) => numbers,
-            Slots::Several(numbers) => numbers.as_slice(),
             Slots::Many { numbers, .. } => numbers.as_slice(),
         }
     }
@@ -294,20 +263,20 @@ impl Slots {
         ensures within { result ≤ buckets_of self.now }
     {
         match self {
-            Slots::Few(_) | Slots::Several(_) => 0,
+            Slots::Few(_) => 0,
             Slots::Many { size, .. } => bucket(seeds, count(*size), fact),
         }
     }
 
-    /// Whether there is no room for one fact more: of few or several no slot is free, or of many not one in four.
+    /// Whether there is no room for one fact more: of few no slot is free, or of many half as many numbers were put as there are buckets,
+    /// so that a search passes few.
     #[inline(always)]
     fn is_full(&self) -> bool
         ensures { IsTrue result ⊎ HasRoom self.now }
     {
         match self {
             Slots::Few(numbers) => numbers[FEW - 1] != 0,
-            Slots::Several(numbers) => numbers[SEVERAL - 1] != 0,
-            Slots::Many { size, used, .. } => count(*size) / 4 * 3 <= *used as usize,
+            Slots::Many { size, used, .. } => count(*size) / 2 <= *used as usize,
         }
     }
 
@@ -333,10 +302,10 @@ impl Slots {
             return Ok(slot);
         }
         self.grow(alloc, seeds, facts)?;
-        Ok(first_free(self.numbers(), self.bucket(seeds, fact), fact))
+        Ok(first_free(self.numbers(), self.bucket(seeds, fact)))
     }
 
-    /// Makes slots for several, for many, or for twice as many. Fails where memory is refused; then nothing changes.
+    /// Makes slots for many, or for twice as many. Fails where memory is refused; then nothing changes.
     fn grow(&mut self, alloc: Global, seeds: &Seeds, facts: &[StoredFact]) -> Result<(), Memory>
         requires { HasSlots self.old }
         ensures holds { StillHolds seeds.now facts.now self.old self.new }
@@ -344,15 +313,7 @@ impl Slots {
         ensures room { OnOk result (HasRoom self.new) }
     {
         *self = match self {
-            Slots::Few(numbers) => several(alloc, numbers)?,
-            Slots::Several(numbers) => many(
-                alloc,
-                seeds,
-                facts,
-                numbers.as_slice(),
-                FIRST_SIZE,
-                SEVERAL as u32,
-            )?,
+            Slots::Few(numbers) => many(alloc, seeds, facts, numbers, FIRST_SIZE, FEW as u32)?,
             Slots::Many {
                 size,
                 used,
@@ -395,10 +356,6 @@ impl Slots {
         match self {
             Slots::Few(few) => {
                 fill(few, slot, number);
-                Ok(())
-            }
-            Slots::Several(several) => {
-                fill(several, slot, number);
                 Ok(())
             }
             Slots::Many { used, numbers, .. } => {

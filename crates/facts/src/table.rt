@@ -13,8 +13,7 @@ use std::hash::RandomState;
 use std::marker::Model;
 
 /// Facts in order, each once, fewer than 2^32, found by their hashes among those of the same context. Beside each number of a context
-/// this takes 16 bytes, in which up to three facts are found, 32 more for up to six, and 5 to 16 bytes beside a fact where there are
-/// more.
+/// this takes 32 bytes, in which up to seven facts are found, and 8 to 16 bytes beside a fact where there are more.
 #[derive(Drop)]
 pub struct FactTable {
     alloc: Global,

@@ -1,6 +1,6 @@
 use Rattle.std.proofs.Common.{◌-◌, length}
 use Rattle.facts.specs.Slots.{HasPassed}
-use Rattle.facts.proofs.slots.walk.Given as goal
+use Rattle.facts.proofs.slots.search.Given as goal
 
 -- what was passed
 abbrev pub invariant-loop-slot : goal.invariant-loop-slot
