@@ -2,7 +2,8 @@
 use Rattle.std.specs.Prelude.{◌≡◌, ℕ, ◌<◌, ◌≤◌, Bool, List, [], length, map, Result, Err, OnOk, OnErr}
 use Rattle.std.specs.List.{All, Contains}
 use Rattle.axioms.specs.Ontology.{Ontology}
-use Rattle.axioms.specs.WellFormedness.{AreDistinct}
+use Rattle.axioms.specs.WellFormedness.{AreDistinct, IsOntology}
+use Rattle.axioms.specs.declared.lengths.Lengths.{Lengths}
 use Rattle.normal_forms.specs.declared.forms.Form.{Form}
 use Rattle.facts.specs.declared.contexts.Context.{Context}
 use Rattle.facts.specs.declared.contexts.Fact as code
@@ -10,9 +11,10 @@ use Rattle.facts.specs.Closure.{Problem}
 use Rattle.closure.specs.Closure.{AreAsked, Fact, IsFact}
 use Rattle.closure.specs.Denotations.{Prefixes, SaysFact, IsProblemOf}
 use Rattle.normalise.specs.Entries.{form_in}
-use Rattle.normalise.specs.Growth.{Grown, IsNormalFor}
+use Rattle.normalise.specs.Growth.{Grown, Grows, IsNormalFor}
 use Rattle.normalise.specs.Listing.{Listing}
 use Rattle.normalise.specs.Problem.{prefixes_of}
+use Rattle.normalise.specs.Roots.{HasMoreNames}
 use Rattle.inference.specs.declared.known_facts.Stop.{Stop}
 use Rattle.inference.specs.declared.known_facts.Stop.TheVariants.{Limit, Memory}
 use Rattle.inference.specs.Derivations.{Keeps}
@@ -109,3 +111,11 @@ pub record KeepsFacts (old new : Saturated) : Type 0 where
   pub served : KeepsServed old.state.problem.forms new.state.problem.forms old.state.facts old.state.served new.state.served
   -- where nothing is new, all facts are served if they were
   pub idle : BringsNothing old.state.problem new.state.problem → IsFinished old → IsFinished new
+
+-- the saturation is that of an ontology that had so much, and from which the new one has grown
+pub record Continues (s : Saturated) (lengths : Lengths) (new : Ontology) : Type 0 where
+  pub old : Ontology
+  pub whole : IsOntology old
+  pub sound : IsSound old s
+  pub grows : Grows old new lengths.axioms
+  pub names : HasMoreNames old new lengths.classes lengths.individuals

@@ -94,8 +94,10 @@ fn extends(saturation: &mut Saturation, old: &Ontology, new: &Ontology, row: &Ro
     requires grows { Grows old.now new.now (length old.now.axioms) }
     requires names { KeepsNames old.now new.now }
 {
+    old.well_formed();
+    let lengths = old.lengths();
     let facts = saturation.facts().len();
-    saturation.extend(old, new) == Ok(())
+    saturation.extend(lengths, new) == Ok(())
         && saturation.served() == row.served
         && saturation.is_finished() == (facts == row.facts as usize)
         && saturation.resume(row.facts) == Ok(())

@@ -1,8 +1,10 @@
 //! Intersections of two classes, by the forms that each has.
 
-use crate::numbered::{C1, C2, C3, C4};
+use crate::numbered::{C1, C2, C3, C4, C5};
+use axioms::ExprId;
 use indexes::IndexedProblem;
-use normal_forms::{Form, FormList};
+use normal_forms::{Class2, Form, FormList};
+use std::alloc::{AllocError, Global};
 use std::test::Fail;
 
 /// Of three disjoint classes each has a form with each later one, and none with itself or an earlier one.
@@ -15,12 +17,71 @@ fn disjoint_classes_meet_in_order(rt: HostRuntime) -> Result<(), Fail> {
     ];
     let forms = FormList::of(rt.alloc(), &forms)?;
     let problem = IndexedProblem::new(rt.alloc(), forms, Vec::new(rt.alloc()))?;
-    assert!(rt; problem.intersections(C2, C3) == [0].as_slice());
-    assert!(rt; problem.intersections(C2, C4).contains(&1));
-    assert!(rt; problem.intersections(C3, C4) == [2].as_slice());
+    assert!(rt; problem.intersections(C2, C3).listed == [0].as_slice());
+    assert!(rt; problem.intersections(C2, C4).listed.contains(&1));
+    assert!(rt; problem.intersections(C3, C4).listed == [2].as_slice());
     for (first, second) in [(C2, C2), (C3, C3), (C4, C4), (C3, C2), (C4, C2), (C4, C3)] {
-        let is_empty = problem.intersections(first, second).is_empty();
+        let is_empty = problem.intersections(first, second).listed.is_empty();
         assert!(rt; is_empty);
     }
+    Ok(())
+}
+
+/// Classes of which each two have nothing in common.
+const CLASSES: &[ExprId] = &[ExprId(2), ExprId(3), ExprId(4)];
+
+/// A form of its own, and twice the forms of each two of the classes.
+fn with_two_lists(alloc: Global) -> Result<IndexedProblem, AllocError> {
+    let mut forms = FormList::of(alloc, &[Form::N2(C3, C4, C5)])?;
+    forms.push_disjoint(CLASSES)?;
+    forms.push_disjoint(CLASSES)?;
+    IndexedProblem::new(alloc, forms, Vec::new(alloc))
+}
+
+/// Of the forms of a list that is kept as one piece none is listed: of two classes the first is found, in the order of the list alone.
+#[test]
+fn pairs_of_a_kept_list_are_found(rt: HostRuntime) -> Result<(), Fail> {
+    let problem = with_two_lists(rt.alloc())?;
+    let found = problem.intersections(C3, C4);
+    assert!(rt; found.listed == [0].as_slice());
+    assert!(rt; found.pair == Some(3));
+    let turned = problem.intersections(C4, C3);
+    let is_empty = turned.listed.is_empty();
+    assert!(rt; is_empty);
+    assert!(rt; turned.pair == None);
+    let before = problem.intersections(C2, C4);
+    assert!(rt; before.pair == Some(2));
+    Ok(())
+}
+
+/// Whether an intersection begins or ends with a class tells of kept lists too, and a class of one has no few intersections.
+#[test]
+fn kept_lists_begin_and_end(rt: HostRuntime) -> Result<(), Fail> {
+    let problem = with_two_lists(rt.alloc())?;
+    for (class, begins, ends) in [
+        (C2, true, false),
+        (C3, true, true),
+        (C4, false, true),
+        (C5, false, false),
+    ] {
+        let begun = problem.begins_intersection(class);
+        assert!(rt; begun == begins);
+        let ended = problem.ends_intersection(class);
+        assert!(rt; ended == ends);
+        let few = problem.few_intersections(class, 9).is_some();
+        assert!(rt; few != (begins || ends));
+    }
+    Ok(())
+}
+
+/// A form of a kept list is one of the problem, and the same with its classes turned is not.
+#[test]
+fn forms_of_a_kept_list_are_there(rt: HostRuntime) -> Result<(), Fail> {
+    let problem = with_two_lists(rt.alloc())?;
+    let nothing = Class2::Expr(ExprId::NOTHING);
+    let there = problem.has(Form::N2(C2, C4, nothing));
+    assert!(rt; there);
+    let turned = problem.has(Form::N2(C4, C2, nothing));
+    assert!(rt; !turned);
     Ok(())
 }

@@ -56,6 +56,8 @@ mod steps;
 #[cfg(test)]
 mod stored_facts;
 #[cfg(test)]
+mod stretches;
+#[cfg(test)]
 mod taken_out;
 #[cfg(test)]
 mod targets;

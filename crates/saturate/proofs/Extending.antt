@@ -19,7 +19,7 @@ use Rattle.facts.proofs.Premises.{no_three}
 use Rattle.saturate.specs.Requests.{Asks, IsAskedAnew, IsNew, IsOneOf}
 use Rattle.inference.specs.Derivations.{Derived, IsDerived, Grows, Keeps}
 use Rattle.saturate.specs.Growth.{with_more, KeepsServed}
-use Rattle.inference.specs.Entry.{HasBegun}
+use Rattle.saturate.specs.GoingOn.{IsBegun}
 use Rattle.inference.specs.Completeness.{IsCompleteUpToRedundancy, IsServed, AreRedundant, EndsAbove, GoesOn}
 use Rattle.saturate.proofs.EqualForms.{is_there}
 use Rattle.inference.proofs.Lists.{Contains-from_slice_get, slice_get-from_Contains}
@@ -300,7 +300,7 @@ module _ (k : Problem) (forms : List Form) (roots : List Context) where
 
   -- ---- so what served facts give is there still
 
-  module _ {most : ℕ} {old new : Derived} (s : HasBegun (with_more k forms roots) most old new) (served : List ℕ)
+  module _ {most : ℕ} {old new : Derived} (served : List ℕ) (s : IsBegun (with_more k forms roots) most served old new)
       (within : (n : ℕ) → Contains served n → n < length old.facts) (complete : IsCompleteUpToRedundancy k old served) (now : List ℕ) (keeps : KeepsServed k.forms (k.forms ++ forms) old.facts served now) where
     was_served : (f : Fact) → IsServed new.facts now f → (n : ℕ) × Contains served n × (slice_get old.facts n ≡ Some f) × Unasked f
     was_served f w =
@@ -327,7 +327,7 @@ module _ (k : Problem) (forms : List Form) (roots : List Context) where
         (λ new. absurd (v.3 (form, new, asks_handed_on form on)))
         (λ before. alone g f (v.0, v.1, v.2) (handed_on before.0 form before.1 on))
         (new_or_there k.forms forms form (Contains-from_slice_get (k.forms ++ forms) n form at))
-    one g f w (loop x n form at l c) = let v = was_served g w in s.loops v.0 g x v.2 c form (Contains-from_slice_get (k.forms ++ forms) n form at) f l
+    one g f w (loop x n form at l c) = let v = was_served g w in s.loops v.0 v.1 g x v.2 c form (Contains-from_slice_get (k.forms ++ forms) n form at) f l
 
     -- what two facts gave by a form is there still, or redundant still, also by an equal form
     by_earlier : (g h f : Fact) (m n : ℕ) (form : Form) → IsServed old.facts served g → IsServed old.facts served h → slice_get k.forms m ≡ Some form → slice_get (k.forms ++ forms) n ≡ Some form → FromTwo k form g h f → Contains new.facts f ⊎ AreRedundant (with_more k forms roots) new (g ∷ h ∷ []) (Some n)
@@ -374,13 +374,13 @@ module _ (k : Problem) (forms : List Form) (roots : List Context) {j : Problem} 
   pub derived_then : {d : Derived} → IsDerived k d → IsDerived j d
   derived_then {d} s = subst (λ (i : Problem). IsDerived i d) (sym same) (derived_more k forms roots s)
 
-  pub extended : {most : ℕ} {old new : Derived} {q r : Queued} → IsUnderWay k old q → HasBegun j most old new → r.queued ≤ length new.facts → KeepsServed k.forms j.forms old.facts q.served r.served → IsUnderWay j new r
+  pub extended : {most : ℕ} {old new : Derived} {q r : Queued} → IsUnderWay k old q → IsBegun j most q.served old new → r.queued ≤ length new.facts → KeepsServed k.forms j.forms old.facts q.served r.served → IsUnderWay j new r
   extended {most} {old} {new} {q} {r} s begun queued keeps = record {
     derived = begun.grows.derived;
     queued = queued;
     within = λ n c. omega (arith, s.within n ((keeps n).0 c).0, begun.grows.longer);
     complete = subst (λ (i : Problem). IsCompleteUpToRedundancy i new r.served) (sym same)
-        (complete_still k forms roots (subst (λ (i : Problem). HasBegun i most old new) same begun) q.served s.within s.complete r.served
+        (complete_still k forms roots q.served (subst (λ (i : Problem). IsBegun i most q.served old new) same begun) s.within s.complete r.served
         (subst (λ (i : Problem). KeepsServed k.forms i.forms old.facts q.served r.served) same keeps));
   }
 

@@ -5,6 +5,7 @@ pub mod Listing
 pub mod Exact
 pub mod Counting
 pub mod Asking
+pub mod Entering
 pub mod Extending
 pub mod Naming
 pub mod Flagging

@@ -1,13 +1,17 @@
 -- What is named is still there where there is more.
-use Rattle.std.proofs.Common.{◌≡◌, ℕ, ◌+◌, ◌<◌, ◌≤◌, List, length, slice_get, get_or, Some, Contains, refl, subst, sym, ◌∙◌, arith, below_more}
+use Rattle.std.proofs.Common.{◌≡◌, ℕ, ◌+◌, ◌<◌, ◌≤◌, ⊎_elim, List, length, slice_get, get_or, Some, Contains, refl, subst, sym, ◌∙◌, arith, below_more}
 use Rattle.std.specs.List.{All}
+use Rattle.std.proofs.lemmas.Bool.{cases_lt}
 use Rattle.std.proofs.lemmas.Option.{same_Some, slice_get-get_or, slice_get_within}
 use Rattle.inference.proofs.Lists.{Contains-from_slice_get, slice_get-from_Contains}
+use Rattle.axioms.specs.declared.ids.ExprId.{ExprId}
 use Rattle.normal_forms.specs.declared.forms.PropId2.{PropId2}
 use Rattle.normal_forms.specs.declared.forms.PropId2.TheVariants.{Property, Partial}
 use Rattle.normal_forms.specs.declared.forms.Form.{Form}
 use Rattle.normal_forms.specs.declared.forms.Form.TheVariants.{N1, N2, N3, N4, N5, N6, N7, N8, N9, N10, N11, N12}
 use Rattle.normal_forms.specs.Properties.{IsPropertyFormOf, property_forms}
+use Rattle.normal_forms.specs.Pairs.{StandFrom, disjoint_form}
+use Rattle.normal_forms.proofs.Pairs.{disjoint_at}
 use Rattle.property_closure.specs.PropertyClosures.{Known}
 use Rattle.inference.specs.PropertyClosures.{IsClosureOf}
 use Rattle.saturate.specs.declared.counts.Counts.{Counts}
@@ -42,6 +46,17 @@ one_form_more c d forms k form m before at has = below_more NamedAt k (λ n low 
   where
     NamedAt : ℕ → Type 0
     NamedAt n = (f : Form) → slice_get forms n ≡ Some f → HasNames d f
+
+-- what holds of each form that stands before, and of each of disjoint classes, holds of each up to the end of theirs
+pub each_past : (P : Form → Type 0) {forms : List Form} {number : ℕ} {classes : List ExprId} {end : ℕ} → StandFrom forms number classes end → ((c d : ExprId) → P (disjoint_form c d))
+    → (n : ℕ) (form : Form) → (n < number → P form) → n < end → slice_get forms n ≡ Some form → P form
+each_past P {number = number} s disjoint n form before high at = ⊎_elim
+    before
+    (λ low. let (c, d, is) = disjoint_at s n form low high at in subst P (sym is) (disjoint c d))
+    (cases_lt n number)
+
+pub pairs_more : (c : Counts) {forms : List Form} {number : ℕ} {classes : List ExprId} {end : ℕ} → StandFrom forms number classes end → HasNamesBelow c forms number → HasNamesBelow c forms end
+pairs_more c s before n high form at = each_past (HasNames c) s (λ a b. record { named = tt; edges = λ p puts. absurd puts }) n form (λ low. before n low form at) high at
 
 pub all_named : (c : Counts) (forms : List Form) → ((form : Form) → Contains forms form → HasNames c form) → All (IsPropertyFormOf c.properties c.partials) forms
 all_named c forms has k d low = (has (get_or forms k d) (Contains-from_slice_get forms k (get_or forms k d) (slice_get-get_or forms k d low))).named

@@ -1,5 +1,5 @@
 -- What the index lists is right still where no form that is added is of properties.
-use Rattle.std.proofs.Common.{◌≡◌, ℕ, zero, suc, ◌+◌, inl, inr, ⊎_elim, true, false, true≢false, List, [], ◌∷◌, ◌++◌, drop, slice_get, Some, None, Contains, refl, sym, ap, ◌∙◌, subst, arith}
+use Rattle.std.proofs.Common.{◌≡◌, ℕ, zero, suc, ◌+◌, inl, inr, ⊎_elim, true, false, true≢false, List, [], ◌∷◌, ◌++◌, drop, length, slice_get, Some, None, Contains, refl, sym, ap, ◌∙◌, subst, arith}
 use Rattle.std.proofs.lemmas.List.Elements.{Contains-append_cases}
 use Rattle.normal_forms.specs.declared.forms.Form.{Form}
 use Rattle.normal_forms.specs.declared.forms.Form.TheVariants.{N1, N2, N3, N4, N5, N6, N7, N8, N9, N10, N11, N12}
@@ -15,12 +15,14 @@ use Rattle.indexes.specs.declared.index.Index.{Index}
 use Rattle.indexes.specs.FactIndex.{IsFrom, IsIn}
 use Rattle.indexes.proofs.Parts.{part_same}
 use Rattle.inference.specs.Derivations.{Derived}
-use Rattle.inference.specs.Completeness.{IsRedundantAsSecond}
+use Rattle.inference.specs.Completeness.{IsCompleteUpToRedundancy, IsRedundantAsSecond}
 use Rattle.inference.specs.Visits.{IsNotCarried}
 use Rattle.inference.proofs.Lists.{Contains-from_slice_get, slice_get-from_Contains}
 use Rattle.saturate.specs.Requests.{Asks, IsAskedAnew}
+use Rattle.saturate.specs.GoingOn.{HasEntered}
 use Rattle.saturate.specs.Growth.{with_more, KeepsServed, LeaveProperties}
 use Rattle.saturate.specs.IndexedFacts.{ListsFacts}
+use Rattle.saturate.proofs.Entering.{entered}
 use Rattle.saturate.proofs.Extending.{new_or_there, redundant_more}
 use Rattle.saturate.proofs.Listing.{fewer}
 
@@ -157,3 +159,7 @@ pub listed_then : {k j : Problem} {d : Derived} {w m : List ℕ} {index : Index}
 listed_then {k} {j} {d} {w} {m} {index} from roots is leave now keeps s =
     subst (λ (i : Problem). ListsFacts i d now m index) (sym is)
     (listed_by_more k (drop from j.forms) roots (added from j.forms leave) now (subst (λ (fs : List Form). KeepsServed k.forms fs d.facts w now) (ap (λ (i : Problem). i.forms) is) keeps) s)
+
+pub entered_then : {k j : Problem} {d : Derived} {served : List ℕ} (from : ℕ) (roots : List Context) → j ≡ with_more k (drop from j.forms) roots → LeaveProperties from j.forms → IsCompleteUpToRedundancy k d served → HasEntered j (length k.roots) served d.facts
+entered_then {k} {j} {d} {served} from roots is leave complete =
+    subst (λ (i : Problem). HasEntered i (length k.roots) served d.facts) (sym is) (entered k (drop from j.forms) roots (added from j.forms leave) served complete)

@@ -6,6 +6,7 @@ pub mod ServedFacts
 pub mod Requests
 pub mod Flags
 pub mod Growth
+pub mod GoingOn
 pub mod Counts
 pub mod FinishedStates
 pub mod Progress

@@ -1,10 +1,12 @@
 -- Which facts forms that are added ask for: what they give with others has to be drawn again.
-use Rattle.std.specs.Prelude.{◌≡◌, ◌⊎◌, ℕ, List, slice_get, Some}
+use Rattle.std.specs.Prelude.{◌≡◌, ◌⊎◌, ◌↔◌, ◌<◌, ℕ, Bool, true, List, length, slice_get, Some}
 use Rattle.std.specs.List.{Contains}
 use Rattle.axioms.specs.declared.ids.IndId.{IndId}
 use Rattle.normal_forms.specs.declared.forms.Form.{Form}
 use Rattle.normal_forms.specs.declared.forms.Form.TheVariants.{N1, N2, N3, N4, N5, N6, N10, N12}
 use Rattle.normal_forms.specs.declared.forms.Class2.{Class2}
+use Rattle.normal_forms.specs.declared.forms.Class2.TheVariants.{Expr}
+use Rattle.number_sets.specs.Members.{has}
 use Rattle.normal_forms.specs.declared.forms.PropId2.{PropId2}
 use Rattle.normal_forms.specs.declared.forms.PropId2.TheVariants.{Property}
 use Rattle.normal_forms.specs.Properties.{IsAtOrBelow}
@@ -75,6 +77,10 @@ IsNew before now form = Contains now form × ¬ Contains before form
 abbrev pub HasForm : (Form → Type 0) → List Form → Type 0
 HasForm P forms = (form : Form) × Contains forms form × P form
 
+-- of each expression below the row's length the row says whether one of the forms names it
+abbrev pub AreNamed : List Form → List Bool → Type 0
+AreNamed forms row = (k : ℕ) → k < length row → (has row k ≡ true) ↔ HasForm (λ form. NamesClass form (Expr (record { 0 = k }))) forms
+
 -- one of the added forms asks for the fact, by all forms
 abbrev pub IsAsked : List Form → List Form → Fact → Type 0
 IsAsked forms added f = HasForm (λ form. Asks forms form f) added
@@ -82,6 +88,16 @@ IsAsked forms added f = HasForm (λ form. Asks forms form f) added
 -- a new form asks for the fact, by all that are there now
 abbrev pub IsAskedAnew : List Form → List Form → Fact → Type 0
 IsAskedAnew before now f = (form : Form) × IsNew before now form × Asks now form f
+
+-- what the form asks for, one of these asks for
+abbrev pub AskFor : List Form → Form → Type 0
+AskFor new form = (forms : List Form) (f : Fact) → Asks forms form f → IsAsked forms new f
+
+-- to the old forms some of these are added that are not among the earlier ones, such that the new forms ask for all that those ask for
+pub record AddsNew (before forms old new : List Form) : Type 0 where
+  pub kept : (form : Form) → Contains old form → Contains new form
+  pub each : (form : Form) → Contains new form → Contains old form ⊎ IsNew before forms form
+  pub all : (form : Form) → IsNew before forms form → AskFor new form
 
 -- what has that number is such
 abbrev pub IsSuchAt : {X : Type 0} → (X → Type 0) → List X → ℕ → Type 0

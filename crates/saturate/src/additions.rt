@@ -6,16 +6,18 @@ ghost use Rattle.normal_forms.specs.declared.forms.PropId2.TheVariants as the_pr
 ghost use Rattle.normal_forms.specs.Properties.{IsAtOrBelow};
 ghost use Rattle.indexes.specs.Keys.{by_filler, by_first, class_key};
 ghost use Rattle.property_closure.specs.PropertyClosures.{Has};
-ghost use Rattle.saturate.specs.Requests.{BeginsWith, Denies, HasForm, HasUnder, IsAsked, IsAskedUnder, IsSuchAt, IsUnaskedUnder, LacksUnder, NamesAbove, NamesClass, NamesIndividual};
+ghost use Rattle.saturate.specs.Requests.{AreNamed, BeginsWith, Denies, HasForm, HasUnder, IsAsked, IsAskedUnder, IsSuchAt, IsUnaskedUnder, LacksUnder, NamesAbove, NamesClass, NamesIndividual};
 ghost use Rattle.inference.specs.PropertyClosures.{IsClosureOf};
 ghost use Rattle.inference.specs.Visits.{HasProperty, NoneUnder};
-ghost use Rattle.std.specs.Prelude.{◌≡◌, ◌⊎◌, ◌↔◌, ℕ, Contains, IsTrue, List, false, true};
+ghost use Rattle.std.specs.Prelude.{◌≡◌, ◌⊎◌, ◌↔◌, ℕ, Contains, IfOk, IsTrue, List, false, true};
 
-use axioms::{IndId, PropId};
+use axioms::{ExprId, IndId, Memory, PropId};
 use facts::{Context, Fact};
 use indexes::IndexedProblem;
 use normal_forms::{Class2, Form, PropId2};
+use number_sets::Row;
 use property_closure::PropertyClosure;
+use std::alloc::Global;
 
 /// Whether there is any number.
 fn is_used(list: &[u32]) -> bool
@@ -31,7 +33,7 @@ fn asks_for_pairs(added: &IndexedProblem, class: Class2) -> bool
     ensures first { result ≡ false → NoneUnder by_first added.now.forms (class_key class) }
     ensures filler { result ≡ false → NoneUnder by_filler added.now.forms (class_key class) }
 {
-    is_used(added.first(class)) || is_used(added.with_filler(class))
+    added.begins_intersection(class) || is_used(added.with_filler(class))
 }
 
 /// Whether one of the added forms asks for the facts of a class.
@@ -40,6 +42,32 @@ fn asks_for_class(added: &IndexedProblem, class: Class2) -> bool
     ensures no { result ≡ false → HasForm (λ form. NamesClass form class) added.now.forms → ⊥ }
 {
     is_used(added.alone(class)) || asks_for_pairs(added, class)
+}
+
+/// Of the expressions below the number whether one of the added forms asks for the facts of the class: a look at a bit is less than one
+/// at three lists, where there are many facts.
+pub(crate) fn named_classes(alloc: Global, added: &IndexedProblem, end: u32) -> Result<Row, Memory>
+    ensures { IfOk result (AreNamed added.now.forms) }
+{
+    let mut classes = Row::new(alloc, end as usize)?;
+    for number in 0..end {
+        if asks_for_class(added, Class2::Expr(ExprId(number))) {
+            classes.put(number as usize);
+        }
+    }
+    Ok(classes)
+}
+
+/// Whether one of the added forms asks for the facts of a class, of which these are told.
+fn is_named(added: &IndexedProblem, classes: &Row, class: Class2) -> bool
+    requires { AreNamed added.now.forms classes.now }
+    ensures yes { result ≡ true → HasForm (λ form. NamesClass form class) added.now.forms }
+    ensures no { result ≡ false → HasForm (λ form. NamesClass form class) added.now.forms → ⊥ }
+{
+    match class {
+        Class2::Expr(class) if class.index() < classes.len() => classes.contains(class.index()),
+        _ => asks_for_class(added, class),
+    }
 }
 
 /// Whether one of the added forms puts the property below another, or is a chain that begins with it.
@@ -183,11 +211,12 @@ fn asks_for_denied(
 }
 
 /// Whether one of the added forms asks for the class in the context.
-fn asks_for_member(added: &IndexedProblem, class: Class2, context: Context) -> bool
+fn asks_for_member(added: &IndexedProblem, classes: &Row, class: Class2, context: Context) -> bool
+    requires { AreNamed added.now.forms classes.now }
     ensures yes { result ≡ true → (all : List Form2) → IsAsked all added.now.forms (the_facts.In class context) }
     ensures no { result ≡ false → (all : List Form2) → IsAsked all added.now.forms (the_facts.In class context) → ⊥ }
 {
-    asks_for_class(added, class) || asks_for_individual(added, context)
+    is_named(added, classes, class) || asks_for_individual(added, context)
 }
 
 /// Whether one of the added forms asks for the edge.
@@ -207,14 +236,20 @@ fn asks_for_edge(
         || asks_for_denied(added, closure, source, property, target)
 }
 
-/// Whether one of the added forms asks for the fact. The closure is that of all forms.
-pub(crate) fn asks_for(added: &IndexedProblem, closure: &PropertyClosure, fact: Fact) -> bool
-    requires { HasProperty closure.now fact }
+/// Whether one of the added forms asks for the fact. Of some classes it is told whether one asks for them; the closure is that of all forms.
+pub(crate) fn asks_for(
+    added: &IndexedProblem,
+    classes: &Row,
+    closure: &PropertyClosure,
+    fact: Fact,
+) -> bool
+    requires named { AreNamed added.now.forms classes.now }
+    requires property { HasProperty closure.now fact }
     ensures yes { result ≡ true → IsAskedUnder closure.now added.now.forms fact }
     ensures no { result ≡ false → IsUnaskedUnder closure.now added.now.forms fact }
 {
     match fact {
-        Fact::In(class, context) => asks_for_member(added, class, context),
+        Fact::In(class, context) => asks_for_member(added, classes, class, context),
         Fact::Edge(source, property, target) => {
             asks_for_edge(added, closure, source, property, target)
         }

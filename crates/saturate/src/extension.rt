@@ -3,20 +3,22 @@ ghost use Rattle.saturate.specs.IndexedFacts.{ListsFacts, ListsServed};
 ghost use Rattle.inference.specs.Derivations.{IsDerived};
 ghost use Rattle.normal_forms.specs.Properties.{is_property_form};
 ghost use Rattle.saturate.specs.Flags.{IsFlagged, ListsServedStill, ListsThoseKept, ListsUnlessFlagged, kept};
+ghost use Rattle.saturate.specs.GoingOn.{GoOn, HasEntered, HaveTurns, IsBegun, Stay};
 ghost use Rattle.saturate.specs.Growth.{IsGrownFrom, KeepsServed, LeaveProperties};
 ghost use Rattle.saturate.specs.Requests.{IsAsked, IsAskedAnew};
 ghost use Rattle.saturate.specs.Turns.{option_list};
-ghost use Rattle.inference.specs.Entry.{HasBegun};
-ghost use Rattle.std.specs.Prelude.{◌≡◌, ◌<◌, ◌≤◌, ◌++◌, ℕ, Contains, IfOk, OnErr, OnOk, Some, length, take, true};
+ghost use Rattle.inference.specs.Completeness.{AreEntered, IsCompleteUpToRedundancy};
+ghost use Rattle.inference.specs.Draws.{Draws};
+ghost use Rattle.std.specs.Prelude.{◌≡◌, ◌<◌, ◌≤◌, ◌++◌, ℕ, Contains, List, IfOk, OnErr, OnOk, Some, length, take, true};
 
-use crate::additions::asks_for;
+use crate::additions::{asks_for, named_classes};
 use crate::ground::Ground;
 use crate::new_forms::new_forms;
 use crate::queue::{Queue, has_flag};
 use axioms::Memory;
 use facts::Fact;
 use indexes::{Index, IndexedProblem};
-use inference::{KnownFacts, Rules, is_filler, is_second_premise};
+use inference::{KnownFacts, Rules, Stop, is_filler, is_second_premise};
 use normal_forms::{Form, FormList};
 use std::alloc::Global;
 use work_list::WorkList;
@@ -33,9 +35,11 @@ fn flagged(
     ensures flags { IfOk result (λ flags. (n : ℕ) → n < length facts.now.facts → IsFlagged (IsAsked ground.now.forms added.now.forms) facts.now.facts flags.items n) }
 {
     let closure = ground.closure();
-    let mut flags = Vec::new(alloc);
+    let end = expected_contexts(ground.problem()).min(u32::MAX as usize) as u32;
+    let classes = named_classes(alloc, added, end)?;
+    let mut flags = Vec::with_capacity(alloc, facts.len())?;
     for fact in facts.as_slice() {
-        flags.push(asks_for(added, closure, fact.get()))?;
+        flags.push_reserved(asks_for(added, &classes, closure, fact.get()));
     }
     Ok(flags)
 }
@@ -96,14 +100,17 @@ const FACTS_OF_CONTEXT: usize = 4;
 
 /// How many facts there may well be. It decides nothing.
 fn expected_facts(problem: &IndexedProblem) -> usize {
-    let of_forms = problem.forms().len().saturating_mul(FACTS_OF_FORM);
+    let of_forms = problem.forms().entries().saturating_mul(FACTS_OF_FORM);
     let of_contexts = problem.roots().len().saturating_mul(FACTS_OF_CONTEXT);
     of_forms.saturating_add(of_contexts)
 }
 
 /// Up to which number contexts may well come. It decides nothing.
 fn expected_contexts(problem: &IndexedProblem) -> usize {
-    problem.roots().len().saturating_add(problem.forms().len())
+    problem
+        .roots()
+        .len()
+        .saturating_add(problem.forms().entries())
 }
 
 /// An index of those of the facts that are not flagged.
@@ -126,6 +133,19 @@ fn indexed(
     Ok(index)
 }
 
+/// Adds what is there at once; where what is in each context is in the first so many roots, for those behind them alone.
+fn begun(rules: &Rules, facts: &mut KnownFacts, entered: Option<usize>) -> Result<(), Stop>
+    requires derived { IsDerived rules.now.problem.now facts.old }
+    requires entered { (many : ℕ) → entered ≡ Some many → AreEntered rules.now.problem.now many facts.old.facts }
+    ensures { (served : List ℕ) → ((many : ℕ) → entered ≡ Some many → HasEntered rules.now.problem.now many served facts.old.facts) →
+        Draws rules.now facts.old facts.new result (IsBegun rules.now.problem.now rules.now.max_facts served facts.old facts.new) }
+{
+    match entered {
+        Some(many) => rules.begin_more(facts, many),
+        None => rules.begin_again(facts),
+    }
+}
+
 /// Adds what is there at once, and makes the facts that are flagged wait again. Changes nothing where memory is refused.
 fn begun_again<W: WorkList>(
     alloc: Global,
@@ -133,10 +153,12 @@ fn begun_again<W: WorkList>(
     facts: &mut KnownFacts,
     queue: &mut Queue<W>,
     flags: &[bool],
+    entered: Option<usize>,
 ) -> Result<(), Memory>
     requires derived { IsDerived ground.now facts.old }
     requires queued { queue.old.queued ≤ length facts.old.facts }
-    ensures begun { OnOk result (HasBegun ground.now u32.MAX facts.old facts.new) }
+    requires entered { (many : ℕ) → entered ≡ Some many → HasEntered ground.now many queue.old.served facts.old.facts }
+    ensures begun { OnOk result (IsBegun ground.now u32.MAX queue.old.served facts.old facts.new) }
     ensures queued { queue.new.queued ≤ length facts.new.facts }
     ensures waiting { queue.new.waiting ≡ queue.old.waiting }
     ensures served { OnOk result (queue.new.served ≡ kept flags.now queue.old.served) }
@@ -154,7 +176,7 @@ fn begun_again<W: WorkList>(
         joins: ground.joins(),
         max_facts: u32::MAX,
     };
-    let Ok(()) = rules.begin_again(facts) else {
+    let Ok(()) = begun(&rules, facts, entered) else {
         facts.truncate(before);
         return Err(Memory);
     };
@@ -177,19 +199,13 @@ fn listed_anew<W: WorkList>(
     flags: &[bool],
 ) -> Result<(), Memory>
     requires derived { IsDerived ground.now facts.old }
-    requires served { (n : ℕ) → Contains queue.old.served n → n < length facts.old.facts }
-    requires queued { queue.old.queued ≤ length facts.old.facts }
-    ensures begun { OnOk result (HasBegun ground.now u32.MAX facts.old facts.new) }
-    ensures queued { queue.new.queued ≤ length facts.new.facts }
-    ensures waiting { queue.new.waiting ≡ queue.old.waiting }
+    requires turns { HaveTurns facts.old.facts queue.old }
+    ensures goes_on { OnOk result (GoOn ground.now u32.MAX facts.old facts.new queue.old queue.new index.new) }
     ensures served { OnOk result (queue.new.served ≡ kept flags.now queue.old.served) }
-    ensures index { OnOk result (ListsFacts ground.now facts.new queue.new.served queue.new.served index.new) }
-    ensures facts { OnErr result (facts.new ≡ facts.old) }
-    ensures queue { OnErr result (queue.new ≡ queue.old) }
-    ensures same { OnErr result (index.new ≡ index.old) }
+    ensures err { OnErr result (Stay facts.old facts.new queue.old queue.new index.old index.new) }
 {
     let again = indexed(alloc, ground, facts, queue.numbers(), flags)?;
-    match begun_again(alloc, ground, facts, queue, flags) {
+    match begun_again(alloc, ground, facts, queue, flags, None) {
         Ok(()) => {
             *index = again;
             Ok(())
@@ -212,9 +228,14 @@ fn is_of_properties(form: Form) -> bool
 fn leave_properties(forms: &FormList, from: usize) -> bool
     ensures { result ≡ true → LeaveProperties from forms.now }
 {
-    for number in from..forms.len() {
-        if is_of_properties(forms.at(number)) {
+    let mut number = from;
+    while number < forms.len() {
+        if let Some(disjoint) = forms.disjoint_from(number) {
+            number = disjoint.end;
+        } else if is_of_properties(forms.at(number)) {
             return false;
+        } else {
+            number += 1;
         }
     }
     true
@@ -278,23 +299,19 @@ fn listed_still<W: WorkList>(
     queue: &mut Queue<W>,
     index: &mut Index,
     flags: &[bool],
+    entered: usize,
 ) -> Result<(), Memory>
     requires derived { IsDerived ground.now facts.old }
-    requires served { (n : ℕ) → Contains queue.old.served n → n < length facts.old.facts }
-    requires queued { queue.old.queued ≤ length facts.old.facts }
+    requires turns { HaveTurns facts.old.facts queue.old }
     requires flags { length flags.now ≤ length facts.old.facts }
+    requires entered { HasEntered ground.now entered queue.old.served facts.old.facts }
     requires listed { ListsFacts ground.now facts.old (kept flags.now queue.old.served) (queue.old.served ++ option_list queue.old.hand) index.old }
-    ensures begun { OnOk result (HasBegun ground.now u32.MAX facts.old facts.new) }
-    ensures queued { queue.new.queued ≤ length facts.new.facts }
-    ensures waiting { queue.new.waiting ≡ queue.old.waiting }
+    ensures goes_on { OnOk result (GoOn ground.now u32.MAX facts.old facts.new queue.old queue.new index.new) }
     ensures served { OnOk result (queue.new.served ≡ kept flags.now queue.old.served) }
-    ensures index { OnOk result (ListsFacts ground.now facts.new queue.new.served queue.new.served index.new) }
-    ensures facts { OnErr result (facts.new ≡ facts.old) }
-    ensures queue { OnErr result (queue.new ≡ queue.old) }
-    ensures same { OnErr result (index.new ≡ index.old) }
+    ensures err { OnErr result (Stay facts.old facts.new queue.old queue.new index.old index.new) }
 {
     let hand = queue.hand();
-    begun_again(alloc, ground, facts, queue, flags)?;
+    begun_again(alloc, ground, facts, queue, flags, Some(entered))?;
     remove_pending(index, facts, flags, hand);
     Ok(())
 }
@@ -311,16 +328,10 @@ pub(crate) fn restart<W: WorkList>(
 ) -> Result<(), Memory>
     requires earlier { take from ground.now.forms ≡ earlier.now.forms }
     requires derived { IsDerived ground.now facts.old }
-    requires served { (n : ℕ) → Contains queue.old.served n → n < length facts.old.facts }
-    requires queued { queue.old.queued ≤ length facts.old.facts }
-    ensures begun { OnOk result (HasBegun ground.now u32.MAX facts.old facts.new) }
-    ensures queued { queue.new.queued ≤ length facts.new.facts }
-    ensures waiting { queue.new.waiting ≡ queue.old.waiting }
+    requires turns { HaveTurns facts.old.facts queue.old }
+    ensures goes_on { OnOk result (GoOn ground.now u32.MAX facts.old facts.new queue.old queue.new index.new) }
     ensures served { OnOk result (KeepsServed earlier.now.forms ground.now.forms facts.old.facts queue.old.served queue.new.served) }
-    ensures index { OnOk result (ListsFacts ground.now facts.new queue.new.served queue.new.served index.new) }
-    ensures facts { OnErr result (facts.new ≡ facts.old) }
-    ensures queue { OnErr result (queue.new ≡ queue.old) }
-    ensures same { OnErr result (index.new ≡ index.old) }
+    ensures err { OnErr result (Stay facts.old facts.new queue.old queue.new index.old index.new) }
 {
     let flags = flags_of(alloc, earlier, ground, from, facts, queue.numbers())?;
     listed_anew(alloc, ground, facts, queue, index, &flags)
@@ -340,23 +351,19 @@ pub(crate) fn carry_on<W: WorkList>(
     requires earlier { take from ground.now.forms ≡ earlier.now.forms }
     requires grown { IsGrownFrom from earlier.now ground.now }
     requires derived { IsDerived ground.now facts.old }
-    requires served { (n : ℕ) → Contains queue.old.served n → n < length facts.old.facts }
-    requires queued { queue.old.queued ≤ length facts.old.facts }
+    requires complete { IsCompleteUpToRedundancy earlier.now facts.old queue.old.served }
+    requires turns { HaveTurns facts.old.facts queue.old }
     requires listed { ListsServed earlier.now facts.old queue.old index.old }
-    ensures begun { OnOk result (HasBegun ground.now u32.MAX facts.old facts.new) }
-    ensures queued { queue.new.queued ≤ length facts.new.facts }
-    ensures waiting { queue.new.waiting ≡ queue.old.waiting }
+    ensures goes_on { OnOk result (GoOn ground.now u32.MAX facts.old facts.new queue.old queue.new index.new) }
     ensures served { OnOk result (KeepsServed earlier.now.forms ground.now.forms facts.old.facts queue.old.served queue.new.served) }
-    ensures index { OnOk result (ListsFacts ground.now facts.new queue.new.served queue.new.served index.new) }
-    ensures facts { OnErr result (facts.new ≡ facts.old) }
-    ensures queue { OnErr result (queue.new ≡ queue.old) }
-    ensures same { OnErr result (index.new ≡ index.old) }
+    ensures err { OnErr result (Stay facts.old facts.new queue.old queue.new index.old index.new) }
 {
     let flags = flags_of(alloc, earlier, ground, from, facts, queue.numbers())?;
     let few = queue.served().saturating_mul(LOOKS_FOR_A_FACT);
     let leaves = leave_properties(ground.problem().forms(), from);
     if leaves && looked_at(index, facts, &flags) < few {
-        return listed_still(alloc, ground, facts, queue, index, &flags);
+        let entered = earlier.roots().len();
+        return listed_still(alloc, ground, facts, queue, index, &flags, entered);
     }
     listed_anew(alloc, ground, facts, queue, index, &flags)
 }

@@ -1,3 +1,4 @@
+use Rattle.std.proofs.Common.{◌-◌, length}
 use Rattle.saturate.specs.Counts.{HasNamesBelow, IsSmall}
 use Rattle.saturate.proofs.counts.counted.Given as goal
 
@@ -6,3 +7,6 @@ invariant-loop-number l = record {
   small : IsSmall l.counts;
   has : HasNamesBelow l.counts l.forms l.number;
 }
+
+abbrev pub decreases-loop-number : goal.decreases-loop-number
+decreases-loop-number l = length l.forms - l.number

@@ -2,11 +2,11 @@ use Rattle.std.proofs.Common.{ℕ, List}
 use Rattle.std.proofs.lemmas.Result.{on_ok_weaker}
 use Rattle.saturate.specs.Flags.{kept}
 use Rattle.saturate.proofs.Flagging.{keeps_served, keeps_served_then}
-use Rattle.saturate.proofs.Staying.{listed_then}
+use Rattle.saturate.proofs.Staying.{entered_then, listed_then}
 use Rattle.saturate.proofs.extension.carry_on.Goals as goal
 
 pub flags_of-requires-clause-served : goal.flags_of-requires-clause-served
-flags_of-requires-clause-served g c = λ n there. c.requires.served n (rw c.numbers.ensures at there)
+flags_of-requires-clause-served g c = λ n there. c.requires.turns.served n (rw c.numbers.ensures at there)
 
 pub listed_still-requires-clause-listed : goal.listed_still-requires-clause-listed
 listed_still-requires-clause-listed g c =
@@ -30,3 +30,7 @@ returns-clause-served g c =
     (λ is. keeps_served_then c.args.earlier.now.forms c.args.ground.now.forms c.args.facts.now.facts c.in_ok-flags.flags.items c.deref-2.result.now c.args.queue.now.served c.listed_anew.new.queue.served c.deref-2.ensures.value is
     (λ n there. c.in_ok-flags.ensures.flags n (rw c.numbers.ensures there)))
     c.listed_anew.ensures.served
+
+pub listed_still-requires-clause-entered : goal.listed_still-requires-clause-entered
+listed_still-requires-clause-entered g c =
+    rw c.roots-entered.ensures (entered_then c.args.from c.requires.grown.0 c.requires.grown.1 (rw (c.forms.ensures, c.problem.ensures) at c.leave_properties-leaves.ensures c.if-leaves.true) c.requires.complete)

@@ -3,7 +3,7 @@ use Rattle.saturate.proofs.Flagging.{keeps_served_then}
 use Rattle.saturate.proofs.extension.restart.Goals as goal
 
 pub flags_of-requires-clause-served : goal.flags_of-requires-clause-served
-flags_of-requires-clause-served g c = λ n there. c.requires.served n (rw c.numbers.ensures at there)
+flags_of-requires-clause-served g c = λ n there. c.requires.turns.served n (rw c.numbers.ensures at there)
 
 pub returns-clause-served : goal.returns-clause-served
 returns-clause-served g c =

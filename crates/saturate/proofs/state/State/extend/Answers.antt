@@ -22,21 +22,24 @@ carry_on-requires-clause-grown g c = (
   rw c.problem.ensures (grown g (goal.at.carry_on-requires-clause-grown g c).After-problem ∙ ap (λ (fs : List Form). with_more c.self.inside.ground (drop c.args.from fs) c.args.roots.now) (sym c.in_ok-ground.ensures.forms)),
 )
 
+pub carry_on-requires-clause-complete : goal.carry_on-requires-clause-complete
+carry_on-requires-clause-complete g c = rw c.problem.ensures c.self.invariant.0.complete
+
 pub carry_on-requires-clause-listed : goal.carry_on-requires-clause-listed
 carry_on-requires-clause-listed g c = rw c.problem.ensures c.self.invariant.1
 
 pub invariant_of-self : goal.invariant_of-self
 invariant_of-self g c = (
-  extended c.self.inside.ground (drop c.args.from c.args.all.now) c.args.roots.now (grown g (goal.at.invariant_of-self g c).After-problem) c.self.invariant.0 c.in-Ok.ensures.begun c.carry_on.ensures.queued (rw c.problem.ensures at c.in-Ok.ensures.served),
-  listed_again c.carry_on.new.queue c.in-Ok.ensures.index,
-  rw c.carry_on.ensures.waiting (named_still c.self.inside.facts.facts c.carry_on.new.facts.facts c.self.inside.queue.waiting c.in-Ok.ensures.begun.grows.facts c.self.invariant.2),
+  extended c.self.inside.ground (drop c.args.from c.args.all.now) c.args.roots.now (grown g (goal.at.invariant_of-self g c).After-problem) c.self.invariant.0 c.in-Ok.ensures.goes_on.begun c.in-Ok.ensures.goes_on.queued (rw c.problem.ensures at c.in-Ok.ensures.served),
+  listed_again c.carry_on.new.queue c.in-Ok.ensures.goes_on.listed,
+  rw c.in-Ok.ensures.goes_on.waiting (named_still c.self.inside.facts.facts c.carry_on.new.facts.facts c.self.inside.queue.waiting c.in-Ok.ensures.goes_on.begun.grows.facts c.self.invariant.2),
 )
 
 pub returns-in-Ok-clause-grown : goal.returns-in-Ok-clause-grown
 returns-in-Ok-clause-grown g c = rw (← c.self.view_is) (record {
   problem = grown g (goal.at.returns-in-Ok-clause-grown g c).After-problem;
-  facts = c.in-Ok.ensures.begun.grows.facts;
-  births = c.in-Ok.ensures.begun.grows.births;
+  facts = c.in-Ok.ensures.goes_on.begun.grows.facts;
+  births = c.in-Ok.ensures.goes_on.begun.grows.births;
 })
 
 pub returns-in-Ok-clause-served : goal.returns-in-Ok-clause-served
@@ -44,4 +47,4 @@ returns-in-Ok-clause-served g c = rw (← c.self.view_is) (rw c.problem.ensures 
 
 -- a growth that was refused changes nothing
 pub invariant_of-self-in-Err : goal.invariant_of-self-in-Err
-invariant_of-self-in-Err g c = rw (c.in-Err.ensures.facts, c.in-Err.ensures.queue, c.in-Err.ensures.same) c.self.invariant
+invariant_of-self-in-Err g c = rw (c.in-Err.ensures.err.facts, c.in-Err.ensures.err.queue, c.in-Err.ensures.err.index) c.self.invariant

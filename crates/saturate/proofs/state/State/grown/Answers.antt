@@ -1,5 +1,5 @@
 use Rattle.std.proofs.Common.{◌≡◌, length, drop, arith}
-use Rattle.inference.specs.Entry.{HasBegun}
+use Rattle.saturate.specs.GoingOn.{IsBegun}
 use Rattle.saturate.specs.Growth.{with_more, KeepsServed}
 use Rattle.saturate.proofs.Extending.{derived_then, extended, listed_again, parted}
 use Rattle.saturate.proofs.Turns.{named_still}
@@ -21,24 +21,24 @@ restart-requires-clause-earlier g c = rw (c.problem.ensures, c.in_ok-ground.ensu
 pub restart-requires-clause-derived : goal.restart-requires-clause-derived
 restart-requires-clause-derived g c = rw c.in_ok-facts.ensures (derived_then c.self.inside.ground (drop c.args.from c.args.all.now) c.args.roots.now (grown g (goal.at.restart-requires-clause-derived g c).After-problem) c.self.invariant.0.derived)
 
-pub restart-requires-clause-served : goal.restart-requires-clause-served
-restart-requires-clause-served g c = rw (c.in_ok-queue.ensures, c.in_ok-facts.ensures) c.self.invariant.0.within
+pub restart-requires-clause-turns : goal.restart-requires-clause-turns
+restart-requires-clause-turns g c = rw (c.in_ok-queue.ensures, c.in_ok-facts.ensures) (record { queued = c.self.invariant.0.queued; served = c.self.invariant.0.within })
 
 pub invariant_of-state : goal.invariant_of-state
 invariant_of-state g c =
     let same = grown g (goal.at.invariant_of-state g c).After-problem in
-    let begun : HasBegun c.in_ok-ground.ground 4294967295 c.self.inside.facts c.restart.new.facts = rw c.in_ok-facts.ensures at c.in_ok-restart.ensures.begun in
+    let begun : IsBegun c.in_ok-ground.ground 4294967295 c.self.inside.queue.served c.self.inside.facts c.restart.new.facts = rw (c.in_ok-facts.ensures, c.in_ok-queue.ensures) at c.in_ok-restart.ensures.goes_on.begun in
     let kept : KeepsServed c.self.inside.ground.forms c.in_ok-ground.ground.forms c.self.inside.facts.facts c.self.inside.queue.served c.restart.new.queue.served = rw (c.problem.ensures, c.in_ok-facts.ensures, c.in_ok-queue.ensures) at c.in_ok-restart.ensures.served in (
-      extended c.self.inside.ground (drop c.args.from c.args.all.now) c.args.roots.now same c.self.invariant.0 begun c.restart.ensures.queued kept,
-      listed_again c.restart.new.queue c.in_ok-restart.ensures.index,
-      rw (c.restart.ensures.waiting, c.in_ok-queue.ensures) (named_still c.self.inside.facts.facts c.restart.new.facts.facts c.self.inside.queue.waiting begun.grows.facts c.self.invariant.2),
+      extended c.self.inside.ground (drop c.args.from c.args.all.now) c.args.roots.now same c.self.invariant.0 begun c.in_ok-restart.ensures.goes_on.queued kept,
+      listed_again c.restart.new.queue c.in_ok-restart.ensures.goes_on.listed,
+      rw (c.in_ok-restart.ensures.goes_on.waiting, c.in_ok-queue.ensures) (named_still c.self.inside.facts.facts c.restart.new.facts.facts c.self.inside.queue.waiting begun.grows.facts c.self.invariant.2),
     )
 
 pub returns-clause-grown : goal.returns-clause-grown
 returns-clause-grown g c = rw (← c.self.view_is, ← c.in_ok-facts.ensures) (record {
   problem = grown g (goal.at.returns-clause-grown g c).After-problem;
-  facts = c.in_ok-restart.ensures.begun.grows.facts;
-  births = c.in_ok-restart.ensures.begun.grows.births;
+  facts = c.in_ok-restart.ensures.goes_on.begun.grows.facts;
+  births = c.in_ok-restart.ensures.goes_on.begun.grows.births;
 })
 
 pub returns-clause-served : goal.returns-clause-served

@@ -1,0 +1,31 @@
+use Rattle.std.proofs.lemmas.Result.{on_ok_weaker}
+use Rattle.facts.specs.Closure.{IsLoop}
+use Rattle.inference.proofs.Drawing.{all_still}
+use Rattle.saturate.proofs.extension.begun.Goals as goal
+
+pub begin_more-requires-clause-entered : goal.begin_more-requires-clause-entered
+begin_more-requires-clause-entered c = c.requires.entered c.in-Some.many c.in-Some.is
+
+pub returns-in-Some : goal.returns-in-Some
+returns-in-Some c = λ served entered.
+    let s = c.begin_more.ensures.grows in
+    record {
+      grows = s;
+      limit = c.begin_more.ensures.limit;
+      drawn = on_ok_weaker c.begin_more.result (λ given. record {
+        grows = s;
+        given = given;
+        loops = λ n there f x at target. all_still s (IsLoop x) c.args.rules.now.problem.now.forms ((entered c.in-Some.many c.in-Some.is).loops n there f x at target);
+      }) c.begin_more.ensures.drawn;
+    }
+
+pub returns-in-None : goal.returns-in-None
+returns-in-None c = λ served entered. record {
+  grows = c.begin_again.ensures.grows;
+  limit = c.begin_again.ensures.limit;
+  drawn = on_ok_weaker c.begin_again.result (λ begun. record {
+    grows = begun.grows;
+    given = begun.given;
+    loops = λ n there. begun.loops n;
+  }) c.begin_again.ensures.drawn;
+}
