@@ -1,6 +1,5 @@
 -- The lines of one more fact.
-use Rattle.std.proofs.Common.{◌≡◌, ℕ, zero, suc, ◌+◌, ◌<◌, ◌≤◌, ◌⊎◌, inl, inr, List, [], ◌∷◌, ◌++◌, length, slice_get, Some, Bool, true, false, refl, sym, ap, ◌∙◌, subst, arith}
-use Rattle.std.proofs.lemmas.Bool.{false≢true}
+use Rattle.std.proofs.Common.{◌≡◌, ℕ, zero, suc, ◌+◌, ◌<◌, ◌≤◌, ◌⊎◌, inl, inr, List, [], ◌∷◌, ◌++◌, length, slice_get, Some, Bool, true, refl, sym, ap, ◌∙◌, subst, arith}
 use Rattle.std.proofs.lemmas.List.{length-append}
 use Rattle.std.proofs.lemmas.Option.{none-some, slice_get_within}
 use Rattle.std.specs.List.{Contains}
@@ -91,30 +90,45 @@ older_shown o s marks lines shown k saturated closed marked next l h r birth m r
     let below = rests_below s k m fact.0 r birth (saturated.born.born k fact.0 r fact.1 birth) (r, birth, rests) in
     h.each m f (omega (arith, below, next)) (closed k m marked (r, birth, rests)) at
 
+-- the next facts are not marked
+module _ (o : Ontology) (s : Saturated) (marks : List Bool) (lines : List Line) (shown longer : List (List ℕ)) (long : length shown ≤ length longer)
+    (same : (n : ℕ) → list_at longer n ≡ list_at shown n) (unmarked : (n : ℕ) → length shown ≤ n → n < length longer → IsMarked marks n → ⊥) (h : IsShowing o s marks lines shown) where
+  each_past : (n : ℕ) (f : Fact) → n < length longer → IsMarked marks n → slice_get s.state.facts n ≡ Some f → AreShowing (prefixes_of s.normal) lines (list_at longer n) f
+  each_past n f l marked at = elim (before_or_not n (length shown)) [
+    | inl k ↦ rw (same n) (h.each n f k marked at)
+    | inr k ↦ absurd (unmarked n k l marked)
+  ]
+
+  awaited_past : (n : ℕ) → IsAwaited s marks shown n → IsAwaited s marks longer n
+  awaited_past n a = record {
+    fact = a.fact;
+    shows = subst (λ ns. Contains ns (suc n)) (sym (same a.fact)) a.shows;
+    later = a.later;
+    to_come = elim (before_or_not a.later (length longer)) [ inl l ↦ absurd (unmarked a.later a.to_come l a.marked) | inr l ↦ l ];
+    marked = a.marked;
+    rests = a.rests;
+  }
+
+  pub showing_past : IsShowing o s marks lines longer
+  showing_past = record { derivation = h.derivation; each = each_past; needed = needed }
+    where
+      needed : (n : ℕ) (line : Line) → slice_get lines n ≡ Some line → IsWanted o s.normal.asked line.conclusion ⊎ (IsPremise lines n ⊎ IsAwaited s marks longer n)
+      needed n line at = elim (h.needed n line at) [
+        | inl w ↦ inl w
+        | inr r ↦ elim r [ inl p ↦ inr (inl p) | inr a ↦ inr (inr (awaited_past n a)) ]
+      ]
+
+list_at_none : (shown : List (List ℕ)) (n : ℕ) → list_at (shown ++ [] ∷ []) n ≡ list_at shown n
+list_at_none [] zero = refl
+list_at_none [] (suc n) = refl
+list_at_none (x ∷ shown) zero = refl
+list_at_none (x ∷ shown) (suc n) = list_at_none shown n
+
 -- the next fact is not marked
-pub showing_not : (o : Ontology) (s : Saturated) (marks : List Bool) (lines : List Line) (shown : List (List ℕ)) → slice_get marks (length shown) ≡ Some false → IsShowing o s marks lines shown → IsShowing o s marks lines (shown ++ [] ∷ [])
-showing_not o s marks lines shown unmarked h = record { derivation = h.derivation; each = each; needed = needed }
-  where
-    other : (n : ℕ) → IsMarked marks n → n ≡ length shown → ⊥
-    other n marked e = false≢true (one_value (slice_get marks (length shown)) false true unmarked (subst (IsMarked marks) e marked))
-
-    each : (n : ℕ) (f : Fact) → n < length (shown ++ [] ∷ []) → IsMarked marks n → slice_get s.state.facts n ≡ Some f → AreShowing (prefixes_of s.normal) lines (list_at (shown ++ [] ∷ []) n) f
-    each n f l marked at = elim (before_or_last shown [] n l) [
-      | inl k ↦ rw (list_at_kept shown [] n k) (h.each n f k marked at)
-      | inr e ↦ absurd (other n marked e)
-    ]
-
-    awaited : (n : ℕ) → IsAwaited s marks shown n → IsAwaited s marks (shown ++ [] ∷ []) n
-    awaited n a = elim (from_next (length shown) a.later a.to_come) [
-      | inl l ↦ awaited_still s marks shown [] n a l
-      | inr e ↦ absurd (other a.later a.marked e)
-    ]
-
-    needed : (n : ℕ) (line : Line) → slice_get lines n ≡ Some line → IsWanted o s.normal.asked line.conclusion ⊎ (IsPremise lines n ⊎ IsAwaited s marks (shown ++ [] ∷ []) n)
-    needed n line at = elim (h.needed n line at) [
-      | inl w ↦ inl w
-      | inr r ↦ elim r [ inl p ↦ inr (inl p) | inr a ↦ inr (inr (awaited n a)) ]
-    ]
+pub showing_not : (o : Ontology) (s : Saturated) (marks : List Bool) (lines : List Line) (shown : List (List ℕ)) → (IsMarked marks (length shown) → ⊥) → IsShowing o s marks lines shown → IsShowing o s marks lines (shown ++ [] ∷ [])
+showing_not o s marks lines shown unmarked h =
+    showing_past o s marks lines shown (shown ++ [] ∷ []) (omega (arith, length-append shown ([] ∷ []))) (list_at_none shown)
+    (λ n low high m. unmarked (subst (IsMarked marks) (let e : n ≡ length shown = omega (arith, low, high, length-append shown ([] ∷ [])) in e) m)) h
 
 -- the next fact is marked, and lines that show it were added
 module _ (o : Ontology) (s : Saturated) (marks : List Bool) (old new : List Line) (shown : List (List ℕ)) (numbers : List ℕ) (f : Fact)
@@ -185,7 +199,7 @@ module _ (o : Ontology) (s : Saturated) (marks : List Bool) (old new : List Line
 
 -- ---- all facts
 
-pub all_needed : (o : Ontology) (s : Saturated) (marks : List Bool) (lines : List Line) (shown : List (List ℕ)) → length marks ≡ length shown → IsShowing o s marks lines shown → EachIsNeeded o s.normal.asked lines
+pub all_needed : (o : Ontology) (s : Saturated) (marks : List Bool) (lines : List Line) (shown : List (List ℕ)) → length marks ≤ length shown → IsShowing o s marks lines shown → EachIsNeeded o s.normal.asked lines
 all_needed o s marks lines shown long h n line at = elim (h.needed n line at) [
   | inl w ↦ inl w
   | inr r ↦ elim r [ inl p ↦ inr p | inr a ↦ absurd (over a) ]
@@ -194,6 +208,6 @@ all_needed o s marks lines shown long h n line at = elim (h.needed n line at) [
     over : IsAwaited s marks shown n → ⊥
     over a = omega (arith, slice_get_within marks a.later true a.marked, a.to_come, long)
 
-pub all_shown : (o : Ontology) (s : Saturated) (marks : List Bool) (lines : List Line) (shown : List (List ℕ)) → length marks ≡ length shown → IsShowing o s marks lines shown → (n : ℕ) (f : Fact) → IsMarked marks n → slice_get s.state.facts n ≡ Some f → IsShown (prefixes_of s.normal) lines f
+pub all_shown : (o : Ontology) (s : Saturated) (marks : List Bool) (lines : List Line) (shown : List (List ℕ)) → length marks ≤ length shown → IsShowing o s marks lines shown → (n : ℕ) (f : Fact) → IsMarked marks n → slice_get s.state.facts n ≡ Some f → IsShown (prefixes_of s.normal) lines f
 all_shown o s marks lines shown long h n f marked at =
     (list_at shown n, h.each n f (omega (arith, long, slice_get_within marks n true marked)) marked at)

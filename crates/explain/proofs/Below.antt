@@ -1,6 +1,6 @@
 -- Marks on what the lines of marked facts rest on.
 use Rattle.std.proofs.Common.{◌≡◌, ℕ, zero, suc, ◌+◌, ◌<◌, ◌≤◌, ◌⊎◌, ◌↔◌, inl, inr, List, [], ◌∷◌, length, map, take, slice_get, Some, Bool, true, false, if◌then◌else◌, ◌||◌, ◌&&◌, ◌==◌, refl, sym, ap, ◌∙◌, subst, arith}
-use Rattle.std.proofs.lemmas.Bool.{false≢true}
+use Rattle.std.proofs.lemmas.Bool.{cases_lt}
 use Rattle.std.proofs.lemmas.Option.{slice_get_within}
 use Rattle.std.specs.List.{Contains}
 use Rattle.engine.specs.Saturations.{Saturated}
@@ -140,16 +140,11 @@ handed_on_more s first marks new j k one h marked long adds older = record {
     only : (n : ℕ) → IsMarked marks n → IsMarked first n ⊎ ServesLater s new n
     only n g = elim (h.only n g) [ inl f ↦ inl f | inr v ↦ inr (v.0, v.1, keep v.0 v.2, v.3) ]
 
-pub handed_on_not : (s : Saturated) (first marks : List Bool) (j k : ℕ) → j ≡ k + 1 → AreHandedOn s first marks j → slice_get marks k ≡ Some false → AreHandedOn s first marks k
-handed_on_not s first marks j k one h unmarked = record {
+-- from an earlier fact, where none between is marked
+pub handed_on_past : (s : Saturated) (first marks : List Bool) (j k : ℕ) → AreHandedOn s first marks j → ((n : ℕ) → k ≤ n → n < j → IsMarked marks n → ⊥) → AreHandedOn s first marks k
+handed_on_past s first marks j k h none = record {
   long = h.long;
   kept = h.kept;
-  closed = closed;
+  closed = λ n m l g r. elim (cases_lt n j) [ inl before ↦ absurd (none n l before g) | inr z ↦ h.closed n m z g r ];
   only = h.only;
 }
-  where
-    closed : (n m : ℕ) → k ≤ n → IsMarked marks n → RestsOn s n m → IsMarked marks m
-    closed n m l g r = elim (from_next k n l) [
-      | inl z ↦ h.closed n m (omega (arith, one)) g r
-      | inr e ↦ absurd (false≢true (one_value (slice_get marks k) false true unmarked (subst (λ i. IsMarked marks i) e g)))
-    ]

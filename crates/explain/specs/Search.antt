@@ -45,6 +45,10 @@ pub record AreTold (bound : ℕ) (Leads : ℕ → ℕ → ℕ → Type 0) (lists
   pub long : length lists ≡ bound
   pub exact : (r : ℕ) (t : Told) → Contains (list_at lists r) t ↔ Leads t.form r t.to
 
+-- what the first k forms lead to
+abbrev pub AreToldBefore : (ℕ → ℕ → ℕ → Type 0) → ℕ → List (List Told) → Type 0
+AreToldBefore Leads k lists = (r : ℕ) (t : Told) → Contains (list_at lists r) t ↔ ((t.form < k) × Leads t.form r t.to)
+
 -- ---- what was reached
 
 -- the last step to d, which stands at that place: none where d is c

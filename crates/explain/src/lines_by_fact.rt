@@ -2,10 +2,10 @@
 ghost use Rattle.explain.specs.LinesByFact as spec;
 ghost use Rattle.explain.specs.LinesByFact.{IsEntryOf, IsGrownBy};
 ghost use Rattle.number_sets.specs.Pieces.{list_at};
-ghost use Rattle.std.specs.Prelude.{◌≡◌, ◌++◌, ◌∷◌, [], ◌+◌, ◌<◌, ◌^◌, IfOk, IfSome, OnErr, OnOk, length};
+ghost use Rattle.std.specs.Prelude.{◌≡◌, ◌++◌, ◌∷◌, [], ◌+◌, ◌%◌, ◌<◌, ◌^◌, IfOk, IfSome, OnErr, OnOk, length, ℕ};
 
 use axioms::Memory;
-use number_sets::PackedLists;
+use number_sets::{OpenLists, PackedLists};
 use smallvec::SmallVec;
 use std::alloc::{AllocError, Global};
 use std::marker::Model;
@@ -16,23 +16,28 @@ pub(crate) type LineNumbers = SmallVec<u64, 4>;
 /// What stands for the first list. What is less stands for one line, or for none.
 const FIRST_LIST: u32 = 1 << 31;
 
-/// For each fact, by its number from 0, the numbers of the lines that show it. Where that is one line or none, they take 4 bytes.
+/// How many facts have their entries in one block.
+pub(crate) const BLOCK: usize = 256;
+
+/// For each fact, by its number from 0, the numbers of the lines that show it. Where that is one line or none, they take 4 bytes, and
+/// nothing in a block of 256 facts that no lines show.
 #[derive(Drop)]
 pub(crate) struct LinesByFact {
-    // 0 for no line, a number below 2^31 for that line, and else 2^31 and the number of a list
-    entries: Vec<u32>,
+    facts: usize,
+    // of each fact of a block 0 for no line, a number below 2^31 for that line, and else 2^31 and the number of a list
+    blocks: OpenLists,
     lists: PackedLists<u64>,
 }
 
 impl Model for LinesByFact {
-    ghost use Rattle.std.specs.Prelude.{List, ℕ, length, map};
-    ghost use Rattle.explain.specs.LinesByFact.{AreEntries, numbers_at};
+    ghost use Rattle.std.specs.Prelude.{List, ℕ, length};
+    ghost use Rattle.explain.specs.LinesByFact.{AreEntries, numbers_by_fact};
 
     ghost Value = { List (List ℕ) };
 
-    ghost view = { λ l. map (numbers_at l.lists) l.entries.items };
+    ghost view = { λ l. numbers_by_fact l.lists l.blocks l.facts };
 
-    ghost invariant = { λ l. AreEntries (length l.lists) l.entries.items };
+    ghost invariant = { λ l. AreEntries (length l.lists) l.blocks l.facts };
 }
 
 // What stands for one line, or for none; `None` for other numbers.
@@ -101,19 +106,45 @@ impl LinesByFact {
         ensures { IfOk result (λ l. l ≡ []) }
     {
         Ok(LinesByFact {
-            entries: Vec::with_capacity(alloc, facts)?,
+            facts: 0,
+            blocks: OpenLists::new(alloc, facts / BLOCK + 1)?,
             lists: PackedLists::new(alloc),
         })
     }
 
-    /// Adds the numbers of the lines of the next fact. Fails where memory is refused, or 2^31 facts are shown by other than one line
-    /// of a number below 2^31; then nothing changes.
+    /// How many facts there are.
+    pub(crate) fn len(&self) -> usize
+        ensures { result ≡ length self.now }
+    {
+        self.facts
+    }
+
+    /// Adds the numbers of the lines of the next fact. Fails where memory is refused, there is no room, or 2^31 facts are shown by
+    /// other than one line of a number below 2^31; then nothing changes.
     pub(crate) fn push_list(&mut self, numbers: &[u64]) -> Result<(), Memory>
         ensures ok { OnOk result (self.new ≡ self.old ++ numbers.now ∷ []) }
         ensures err { OnErr result (self.new ≡ self.old) }
     {
+        let block = self.facts / BLOCK;
+        if block >= self.blocks.len() || self.facts == usize::MAX {
+            return Err(Memory);
+        }
         let entry = entry_in(&mut self.lists, numbers)?;
-        self.entries.push(entry)?;
+        self.blocks.push(block, entry)?;
+        self.facts += 1;
+        Ok(())
+    }
+
+    /// Adds a block of facts that no lines show, behind whole blocks. Fails where there are too many facts.
+    pub(crate) fn skip_block(&mut self) -> Result<(), Memory>
+        requires { length self.old % 256 ≡ 0 }
+        ensures longer { OnOk result (length self.new ≡ length self.old + 256) }
+        ensures none { OnOk result ((fact : ℕ) → list_at self.new fact ≡ list_at self.old fact) }
+    {
+        let Some(facts) = self.facts.checked_add(BLOCK) else {
+            return Err(Memory);
+        };
+        self.facts = facts;
         Ok(())
     }
 
@@ -121,9 +152,11 @@ impl LinesByFact {
     pub(crate) fn at(&self, alloc: Global, fact: usize) -> Result<LineNumbers, AllocError>
         ensures { IfOk result (λ v. v.items ≡ list_at self.now fact) }
     {
-        let Some(entry) = self.entries.get(fact) else {
+        let block = self.blocks.at(fact / BLOCK);
+        let place = fact % BLOCK;
+        if place >= block.len() {
             return Ok(SmallVec::new(alloc));
-        };
-        numbers_at(alloc, &self.lists, *entry)
+        }
+        numbers_at(alloc, &self.lists, block[place])
     }
 }

@@ -1,23 +1,25 @@
 //! Marks on the facts that the lines of marked facts rest on.
 ghost use Rattle.explain.specs.Marks.{AreClosed, IsMarked, ServesLater};
 ghost use Rattle.explain.specs.Uses.{RestsOn};
-ghost use Rattle.std.specs.Prelude.{◌↔◌, ◌<◌, ◌≤◌, ◌≡◌, ◌⊎◌, length, ℕ};
+ghost use Rattle.std.specs.Prelude.{◌↔◌, ◌<◌, ◌≤◌, ◌≡◌, ◌⊎◌, ◌^◌, length, ℕ};
 
+use crate::marks::is_blank;
 use crate::older::rests_on;
 use engine::Saturation;
 use facts::{FactId, Older};
+use number_sets::Row;
 
-fn mark(marks: &mut [bool], fact: FactId)
+fn mark(marks: &mut Row, fact: FactId)
     requires { fact.0 < length marks.old }
     ensures long { length marks.new ≡ length marks.old }
     ensures exact { (n : ℕ) → IsMarked marks.new n ↔ (IsMarked marks.old n ⊎ (n ≡ fact.0)) }
 {
     let FactId(number) = fact;
-    marks[number as usize] = true;
+    marks.put(number as usize);
 }
 
 // Marks what the line of the fact rests on.
-fn mark_below(saturation: &Saturation, fact: FactId, marks: &mut [bool])
+fn mark_below(saturation: &Saturation, fact: FactId, marks: &mut Row)
     requires there { fact.0 < length saturation.now.state.facts }
     requires marked { fact.0 < length marks.old }
     ensures long { length marks.new ≡ length marks.old }
@@ -37,19 +39,26 @@ fn mark_below(saturation: &Saturation, fact: FactId, marks: &mut [bool])
     }
 }
 
-/// Marks what the lines of marked facts rest on, and what the lines of those do. Of the last facts there may be no marks.
-pub(crate) fn mark_older(saturation: &Saturation, count: u32, marks: &mut [bool])
+/// Marks what the lines of marked facts rest on, and what the lines of those do. Of the last facts there may be no marks. Where 64
+/// facts in a row have no mark, it passes them by at once.
+pub(crate) fn mark_older(saturation: &Saturation, marks: &mut Row)
     requires within { length marks.old ≤ length saturation.now.state.facts }
-    requires count { count ≡ length marks.old }
+    requires few { length marks.old < 2 ^ 32 }
     ensures long { length marks.new ≡ length marks.old }
     ensures kept { (n : ℕ) → IsMarked marks.old n → IsMarked marks.new n }
     ensures closed { AreClosed saturation.now marks.new }
     // What is marked was marked before, or the line of a later fact that is marked rests on it.
     ensures only { (n : ℕ) → IsMarked marks.new n → IsMarked marks.old n ⊎ ServesLater saturation.now marks.new n }
 {
-    for number in (0..count).rev() {
-        if marks[number as usize] {
-            mark_below(saturation, FactId(number), marks);
+    let mut end = marks.len();
+    while end > 0 {
+        if end % 64 == 0 && is_blank(marks, end / 64 - 1) {
+            end -= 64;
+        } else {
+            end -= 1;
+            if marks.contains(end) {
+                mark_below(saturation, FactId(end as u32), marks);
+            }
         }
     }
 }

@@ -42,12 +42,8 @@ fn mark_premises(lines: &[Line], marks: &mut [bool])
     }
 }
 
-/// Marks up to the goal, which is counted from 1: the goal alone is marked.
-///
-/// # Errors
-///
-/// `Memory` where memory was refused.
-pub(crate) fn on_goal(alloc: Global, goal: usize) -> Result<Vec<bool>, Memory>
+// Marks up to the goal, which is counted from 1: the goal alone is marked.
+fn on_goal(alloc: Global, goal: usize) -> Result<Vec<bool>, Memory>
     requires { 0 < goal }
     ensures long { IfOk result (λ v. length v.items ≡ goal) }
     ensures exact { IfOk result (λ v. (n : ℕ) → IsMarked v.items n ↔ (suc n ≡ goal)) }

@@ -1,17 +1,36 @@
 //! Which forms lead from each number to which.
-ghost use Rattle.explain.specs.Search.{AreLeadsWithin, AreTold, LeadsOver, LeadsUp};
-ghost use Rattle.std.specs.Prelude.{◌≤◌, ◌^◌, IfOk, length};
+ghost use Rattle.explain.specs.Search.{AreLeadsWithin, AreTold, AreToldBefore, LeadsOver, LeadsUp};
+ghost use Rattle.std.specs.Prelude.{◌+◌, ◌<◌, ◌≡◌, ◌≤◌, ◌^◌, IfOk, OnOk, length};
 
 use axioms::Memory;
 use normal_forms::{Form, FormList};
 use number_sets::{OpenLists, PackedLists};
-use std::alloc::Global;
+use std::alloc::{AllocError, Global};
 
 /// The number of a form, and that of the property or individual that it leads to.
 #[derive(Clone, Copy, Debug, PartialEq, Eq)]
 pub(crate) struct Told {
     pub form: u32,
     pub to: u32,
+}
+
+// Adds what the form of that number leads to, if it is a plain one, to what those before it lead to.
+fn tell_up(forms: &FormList, number: usize, told: &mut OpenLists<Told>) -> Result<(), AllocError>
+    requires few { length forms.now ≤ 2 ^ 32 }
+    requires there { number < length forms.now }
+    requires within { AreLeadsWithin (length told.old) (LeadsUp forms.now) }
+    requires before { AreToldBefore (LeadsUp forms.now) number told.old }
+    ensures long { OnOk result (length told.new ≡ length told.old) }
+    ensures told { OnOk result (AreToldBefore (LeadsUp forms.now) (number + 1) told.new) }
+{
+    if let Form::N5(sub, sup) = forms.at(number) {
+        let step = Told {
+            form: number as u32,
+            to: sup.0,
+        };
+        told.push(sub.index(), step)?;
+    }
+    Ok(())
 }
 
 /// For each property the plain forms that lead from it.
@@ -25,16 +44,36 @@ pub(crate) fn all_told(
     ensures { IfOk result (λ l. AreTold properties (LeadsUp forms.now) l) }
 {
     let mut told = OpenLists::new(alloc, properties)?;
-    for number in 0..forms.len() {
-        if let Form::N5(sub, sup) = forms.at(number) {
-            let step = Told {
-                form: number as u32,
-                to: sup.0,
-            };
-            told.push(sub.index(), step)?;
+    let mut number = 0;
+    while number < forms.len() {
+        match forms.disjoint_from(number) {
+            Some(disjoint) => number = disjoint.end,
+            None => {
+                tell_up(forms, number, &mut told)?;
+                number += 1;
+            }
         }
     }
     Ok(told.packed(alloc)?)
+}
+
+// Adds the two that the form of that number makes one, if it does, to what those before it make one.
+fn tell_over(forms: &FormList, number: usize, links: &mut OpenLists<Told>) -> Result<(), AllocError>
+    requires few { length forms.now ≤ 2 ^ 32 }
+    requires there { number < length forms.now }
+    requires within { AreLeadsWithin (length links.old) (LeadsOver forms.now) }
+    requires before { AreToldBefore (LeadsOver forms.now) number links.old }
+    ensures long { OnOk result (length links.new ≡ length links.old) }
+    ensures told { OnOk result (AreToldBefore (LeadsOver forms.now) (number + 1) links.new) }
+{
+    if let Form::N10(first, second) = forms.at(number) {
+        let form = number as u32;
+        let onward = Told { form, to: second.0 };
+        links.push(first.index(), onward)?;
+        let back = Told { form, to: first.0 };
+        links.push(second.index(), back)?;
+    }
+    Ok(())
 }
 
 /// For each individual the forms that make it one with another.
@@ -48,13 +87,14 @@ pub(crate) fn all_links(
     ensures { IfOk result (λ l. AreTold individuals (LeadsOver forms.now) l) }
 {
     let mut links = OpenLists::new(alloc, individuals)?;
-    for number in 0..forms.len() {
-        if let Form::N10(first, second) = forms.at(number) {
-            let form = number as u32;
-            let onward = Told { form, to: second.0 };
-            links.push(first.index(), onward)?;
-            let back = Told { form, to: first.0 };
-            links.push(second.index(), back)?;
+    let mut number = 0;
+    while number < forms.len() {
+        match forms.disjoint_from(number) {
+            Some(disjoint) => number = disjoint.end,
+            None => {
+                tell_over(forms, number, &mut links)?;
+                number += 1;
+            }
         }
     }
     Ok(links.packed(alloc)?)

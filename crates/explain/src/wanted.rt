@@ -8,6 +8,7 @@ use axioms::{ExprId, Memory, Ontology};
 use engine::Saturation;
 use facts::{Context, Fact, FactId, StoredFact};
 use normal_forms::Class2;
+use number_sets::Row;
 use std::alloc::Global;
 
 // Whether the expression is a named class.
@@ -76,7 +77,7 @@ fn is_contradictory(ontology: &Ontology, fact: Fact) -> bool
     }
 }
 
-/// Of each fact whether it is wanted, where these expressions are asked about.
+/// A mark on each fact that is wanted, where these expressions are asked about.
 ///
 /// # Errors
 ///
@@ -86,13 +87,15 @@ pub(crate) fn wanted(
     ontology: &Ontology,
     asked: &[ExprId],
     facts: &[StoredFact],
-) -> Result<Vec<bool>, Memory>
-    ensures long { IfOk result (λ v. length v.items ≡ length facts.now) }
-    ensures exact { IfOk result (λ v. (n : ℕ) (f : Fact2) → slice_get facts.now n ≡ Some f → IsMarked v.items n ↔ IsWantedFact ontology.now (expr_numbers asked.now) f) }
+) -> Result<Row, Memory>
+    ensures long { IfOk result (λ r. length r ≡ length facts.now) }
+    ensures exact { IfOk result (λ r. (n : ℕ) (f : Fact2) → slice_get facts.now n ≡ Some f → IsMarked r n ↔ IsWantedFact ontology.now (expr_numbers asked.now) f) }
 {
-    let mut marks = Vec::new(alloc);
-    for fact in facts {
-        marks.push(is_wanted(ontology, asked, fact.get()))?;
+    let mut marks = Row::new(alloc, facts.len())?;
+    for number in 0..facts.len() {
+        if is_wanted(ontology, asked, facts[number].get()) {
+            marks.put(number);
+        }
     }
     Ok(marks)
 }

@@ -1,4 +1,4 @@
-use Rattle.std.proofs.Common.{◌≡◌, Some, sym, subst, ◌∙◌}
+use Rattle.std.proofs.Common.{sym, subst, ◌∙◌}
 use Rattle.cert_check.specs.Derivation.{HasLine, IsDerivation}
 use Rattle.certificate.specs.Certificate.{Sub}
 use Rattle.closure.specs.Denotations.{context_of}

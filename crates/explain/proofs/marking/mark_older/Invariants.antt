@@ -1,5 +1,8 @@
 use Rattle.explain.proofs.Below.{AreHandedOn}
 use Rattle.explain.proofs.marking.mark_older.Given as goal
 
-abbrev pub invariant-loop-number : goal.invariant-loop-number
-invariant-loop-number l = AreHandedOn l.saturation l.fn.marks l.marks l.number
+abbrev pub invariant-loop-end : goal.invariant-loop-end
+invariant-loop-end l = AreHandedOn l.saturation l.fn.marks l.marks l.end
+
+abbrev pub decreases-loop-end : goal.decreases-loop-end
+decreases-loop-end l = l.end

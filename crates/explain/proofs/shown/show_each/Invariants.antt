@@ -1,6 +1,9 @@
-use Rattle.std.proofs.Common.{◌≡◌, length}
+use Rattle.std.proofs.Common.{◌-◌, length}
 use Rattle.explain.specs.LineOrder.{IsShowing}
 use Rattle.explain.proofs.shown.show_each.Given as goal
 
-abbrev pub invariant-loop-number : goal.invariant-loop-number
-invariant-loop-number g l = (length l.shown ≡ l.number) × IsShowing l.basis.ontology.now l.basis.saturation.now l.marks l.derivation l.shown
+abbrev pub invariant-loop-derivation : goal.invariant-loop-derivation
+invariant-loop-derivation g l = IsShowing l.basis.ontology.now l.basis.saturation.now l.marks l.derivation l.shown
+
+abbrev pub decreases-loop-derivation : goal.decreases-loop-derivation
+decreases-loop-derivation g l = length l.marks - length l.shown

@@ -1,21 +1,21 @@
-use Rattle.std.proofs.Common.{◌≡◌, ◌∙◌, Some, false, ap, subst, slice_get, arith}
-use Rattle.std.proofs.lemmas.Option.{slice_get-get_or}
+use Rattle.std.proofs.Common.{◌≡◌, ◌∙◌, Some, sym, subst, slice_get, arith}
 use Rattle.lemmas.proofs.Places.{slice_get_there}
 use Rattle.explain.specs.Marks.{IsMarked}
 use Rattle.explain.specs.Uses.{EachIsUsed}
 use Rattle.explain.proofs.Adding.{older_shown, showing_not, showing_more}
+use Rattle.explain.proofs.MarkBits.{is_marked, not_marked}
 use Rattle.explain.proofs.shown.show_next.Goals as goal
 
-pub returns-then-not-marks-number-clause-showing : goal.returns-then-not-marks-number-clause-showing
-returns-then-not-marks-number-clause-showing g c =
-    let unmarked : slice_get c.args.marks.now c.args.fact.0 ≡ Some false = slice_get-get_or c.args.marks.now c.args.fact.0 false c.requires.there ∙ ap Some c.if-not-marks-number.true in
+pub returns-then-not-contains-clause-showing : goal.returns-then-not-contains-clause-showing
+returns-then-not-contains-clause-showing g c =
+    let marks = c.args.marks.now in
     rw (c.in_ok-push_list.ensures.ok)
-    (showing_not c.args.basis.now.ontology.now c.args.basis.now.saturation.now c.args.marks.now c.args.derivation.now c.args.shown.now
-    (subst (λ k. slice_get c.args.marks.now k ≡ Some false) c.requires.next unmarked) c.requires.showing)
+    (showing_not c.args.basis.now.ontology.now c.args.basis.now.saturation.now marks c.args.derivation.now c.args.shown.now
+    (subst (λ k. IsMarked marks k → ⊥) c.requires.next (not_marked marks c.args.fact.0 (sym c.contains.ensures ∙ c.if-not-contains.true))) c.requires.showing)
 
 pub show-requires-clause-older : goal.show-requires-clause-older
 show-requires-clause-older g c =
-    let marked : IsMarked c.args.marks.now c.args.fact.0 = slice_get-get_or c.args.marks.now c.args.fact.0 false c.requires.there ∙ ap Some c.if-not-marks-number.false in
+    let marked = is_marked c.args.marks.now c.args.fact.0 (sym c.contains.ensures ∙ c.if-not-contains.false) in
     older_shown c.args.basis.now.ontology.now c.args.basis.now.saturation.now c.args.marks.now c.args.derivation.now c.args.shown.now c.args.fact.0
     c.requires.ready.saturated c.requires.ready.closed marked c.requires.next (omega (arith, c.requires.there, c.requires.ready.within)) c.requires.showing
 
@@ -26,7 +26,7 @@ returns-clause-showing g c =
     let marks = c.args.marks.now in
     let shown = c.args.shown.now in
     let next = c.requires.next in
-    let marked : IsMarked marks c.args.fact.0 = slice_get-get_or marks c.args.fact.0 false c.requires.there ∙ ap Some c.if-not-marks-number.false in
+    let marked = is_marked marks c.args.fact.0 (sym c.contains.ensures ∙ c.if-not-contains.false) in
     let fact = slice_get_there s.state.facts c.args.fact.0 (omega (arith, c.requires.there, c.requires.ready.within)) in
     let numbers = c.in_ok-numbers.numbers.items in
     let more = showing_more o s marks c.args.derivation.now c.show.new.derivation shown numbers fact.0

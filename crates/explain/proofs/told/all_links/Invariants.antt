@@ -1,6 +1,5 @@
-use Rattle.std.proofs.Common.{◌≡◌, length}
-use Rattle.explain.specs.Search.{LeadsOver}
-use Rattle.explain.proofs.Telling.{AreToldBefore}
+use Rattle.std.proofs.Common.{◌≡◌, ◌-◌, length}
+use Rattle.explain.specs.Search.{AreToldBefore, LeadsOver}
 use Rattle.explain.proofs.told.all_links.Given as goal
 
 abbrev pub invariant-loop-number : goal.invariant-loop-number
@@ -8,3 +7,6 @@ invariant-loop-number l = record {
   long : length l.links ≡ l.individuals;
   exact : AreToldBefore (LeadsOver l.forms) l.number l.links;
 }
+
+abbrev pub decreases-loop-number : goal.decreases-loop-number
+decreases-loop-number l = length l.forms - l.number

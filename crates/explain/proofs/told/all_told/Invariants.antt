@@ -1,6 +1,5 @@
-use Rattle.std.proofs.Common.{◌≡◌, length}
-use Rattle.explain.specs.Search.{LeadsUp}
-use Rattle.explain.proofs.Telling.{AreToldBefore}
+use Rattle.std.proofs.Common.{◌≡◌, ◌-◌, length}
+use Rattle.explain.specs.Search.{AreToldBefore, LeadsUp}
 use Rattle.explain.proofs.told.all_told.Given as goal
 
 abbrev pub invariant-loop-number : goal.invariant-loop-number
@@ -8,3 +7,6 @@ invariant-loop-number l = record {
   long : length l.told ≡ l.properties;
   exact : AreToldBefore (LeadsUp l.forms) l.number l.told;
 }
+
+abbrev pub decreases-loop-number : goal.decreases-loop-number
+decreases-loop-number l = length l.forms - l.number
