@@ -2,6 +2,7 @@
 
 use crate::documents::session_of;
 use crate::sessions::written;
+use axioms::OWL_THING;
 use session::{Asked, Explanation, Limits, Session, Stop, Version};
 use std::alloc::{AllocError, Global};
 use std::hash::RandomState;
@@ -596,6 +597,36 @@ fn refused_texts(rt: HostRuntime) -> Result<(), Fail> {
     let state = RandomState::new(&rt)?;
     let mut session = ended(rt.alloc(), state, 1000)?.ok_or("session")?;
     let right = are_refused(rt.alloc(), &mut session)?;
+    drop(session);
+    assert!(rt; right);
+    Ok(())
+}
+
+/// Whether these are the classes above the class.
+fn lies_below(session: &Session, class: &str, names: &[&str]) -> bool {
+    match session.superclasses(class) {
+        Ok(found) => found.as_slice() == names,
+        Err(_) => false,
+    }
+}
+
+/// Whether a name of a refused text is unknown behind it, and is what a later text makes of it.
+fn is_forgotten(session: &mut Session) -> bool {
+    session
+        .add("SubClassOf(:B :C) SubClassOf(:C owl:real)")
+        .is_err()
+        && session.superclasses("x:C").is_err()
+        && session.add("SubClassOf(:D :B) SubClassOf(:C :D)").is_ok()
+        && session.resume(MANY) == Ok(())
+        && lies_below(session, "x:C", &[OWL_THING, "x:B", "x:C", "x:D"])
+        && lies_below(session, "x:B", &[OWL_THING, "x:B"])
+}
+
+#[test]
+fn refused_names(rt: HostRuntime) -> Result<(), Fail> {
+    let state = RandomState::new(&rt)?;
+    let mut session = ended(rt.alloc(), state, 1000)?.ok_or("session")?;
+    let right = is_forgotten(&mut session);
     drop(session);
     assert!(rt; right);
     Ok(())

@@ -77,6 +77,14 @@ const DIFFERENT_BY_WAY_OF_A_THIRD: &str =
 const DENIED_BY_WAY_OF_SAME: &str =
     "Prefix(:=<x:>) Ontology(SameIndividual(:b :c) ObjectPropertyAssertion(:r :a :b) SubObjectPropertyOf(:r :s) NegativeObjectPropertyAssertion(:s :a :c))";
 
+/// X is in the third and in the sixth of eight classes that are apart, by way of the third.
+const EIGHT_APART: &str =
+    "Prefix(:=<x:>) Ontology(SubClassOf(:X :C) SubClassOf(:C :F) DisjointClasses(:A :B :C :D :E :F :G :H))";
+
+/// X is in the last and in the second of nine classes that are apart, by way of the last.
+const NINE_APART: &str =
+    "Prefix(:=<x:>) Ontology(SubClassOf(:X :I) SubClassOf(:I :B) DisjointClasses(:A :B :C :D :E :F :G :H :I))";
+
 /// Which explanation is wanted, by its text.
 #[derive(Clone, Copy)]
 enum Wanted {
@@ -250,6 +258,31 @@ const QUESTIONS: &[Question] = &[
         wanted: Wanted::Contradictory(
             "1. edge individual <x:a> <x:r> individual <x:b> by K16 axiom 2\n2. same individual <x:c> individual <x:b> by K17 axiom 1\n3. edge individual <x:a> <x:r> individual <x:c> by K19 from 2, 1\n4. edge individual <x:a> <x:s> individual <x:c> by K12 axiom 3 from 3\n5. sub individual <x:a> <http://www.w3.org/2002/07/owl#Nothing> by K20 axiom 4 from 4\n",
         ),
+    },
+    Question {
+        case: "nothing is in X, by two of eight classes",
+        document: EIGHT_APART,
+        asked: Asked::Class("x:X"),
+        class: "http://www.w3.org/2002/07/owl#Nothing",
+        wanted: Wanted::Yes(
+            "1. sub <x:X> <x:X> by K1\n2. sub <x:X> <x:C> by K4 axiom 1 from 1\n3. sub <x:X> <x:F> by K4 axiom 2 from 2\n4. sub <x:X> <http://www.w3.org/2002/07/owl#Nothing> by K7 axiom 3 from 2, 3\n",
+        ),
+    },
+    Question {
+        case: "nothing is in X, by two of nine classes, the later one first",
+        document: NINE_APART,
+        asked: Asked::Class("x:X"),
+        class: "http://www.w3.org/2002/07/owl#Nothing",
+        wanted: Wanted::Yes(
+            "1. sub <x:X> <x:X> by K1\n2. sub <x:X> <x:I> by K4 axiom 1 from 1\n3. sub <x:X> <x:B> by K4 axiom 2 from 2\n4. sub <x:X> <http://www.w3.org/2002/07/owl#Nothing> by K7 axiom 3 from 3, 2\n",
+        ),
+    },
+    Question {
+        case: "A is not below H, though eight classes are apart",
+        document: EIGHT_APART,
+        asked: Asked::Class("x:A"),
+        class: "x:H",
+        wanted: Wanted::No("no\ndomain 1\nclass <x:A> 0\nelement 0\n"),
     },
 ];
 

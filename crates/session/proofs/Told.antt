@@ -1,5 +1,5 @@
 -- Progress that is told in parts.
-use Rattle.std.proofs.Common.{◌≡◌, ◌∙◌, ℕ, List, [], ◌∷◌, ◌++◌, Bool, true, false, refl, subst, sym}
+use Rattle.std.proofs.Common.{◌∙◌, List, [], ◌∷◌, ◌++◌, Bool, true, false, refl, subst}
 use Rattle.session.specs.Devices.{Device}
 use Rattle.session.specs.Progress.{AreStagesTold, IsProgress, IsStageTold}
 use Rattle.session.specs.declared.progress.Stage.{Stage}

@@ -39,20 +39,20 @@ impl Session {
         let Some(bytes) = self.bytes_with(text) else {
             return Err(DocumentFault::TooLarge);
         };
-        let (ontology, prefixes) = (&self.ontology, &self.prefixes);
+        let old = self.ontology.lengths();
         let (version, state) = (self.version, self.state);
-        let grown = match read_addition(self.alloc, ontology, prefixes, version, text, state) {
-            Ok(grown) => grown,
+        let (ontology, prefixes) = (&mut self.ontology, &self.prefixes);
+        match read_addition(self.alloc, ontology, prefixes, version, text, state) {
+            Ok(()) => {}
             Err(fault) => return Err(fault),
-        };
-        match self.saturation.extend(&self.ontology, &grown) {
+        }
+        match self.saturation.extend(old, &self.ontology) {
             Ok(()) => {
-                self.ontology = grown;
                 self.bytes = bytes;
                 Ok(())
             }
             Err(_) => {
-                drop(grown);
+                self.ontology.truncate(old);
                 Err(DocumentFault::Memory)
             }
         }

@@ -1,8 +1,17 @@
-use Rattle.session.proofs.Growing.{grows, keeps_names}
+use Rattle.std.proofs.Common.{◌∙◌}
+use Rattle.session.proofs.Growing.{back, back_whole, grown_from}
 use Rattle.session.proofs.session.Session.add.Goals as goal
 
-pub extend-requires-clause-grows : goal.extend-requires-clause-grows
-extend-requires-clause-grows c = grows c.self.inside.version c.self.inside.prefixes c.args.text.now c.self.inside.ontology c.in-Ok.grown c.in-Ok.ensures.added
+pub extend-requires-clause-grown : goal.extend-requires-clause-grown
+extend-requires-clause-grown c =
+    grown_from c.self.inside.version c.self.inside.prefixes c.args.text.now c.self.inside.ontology c.read_addition.new.ontology c.in-Ok.ensures.added c.lengths-old.result c.lengths-old.ensures c.self.invariant.taken.well_formed c.self.inside.saturation c.self.invariant.sound
 
-pub extend-requires-clause-names : goal.extend-requires-clause-names
-extend-requires-clause-names c = keeps_names c.self.inside.version c.self.inside.prefixes c.args.text.now c.self.inside.ontology c.in-Ok.grown c.in-Ok.ensures.added
+pub truncate-requires : goal.truncate-requires
+truncate-requires c =
+    back_whole c.self.inside.version c.self.inside.prefixes c.args.text.now c.self.inside.ontology c.read_addition.new.ontology c.in-Ok.ensures.added c.lengths-old.result c.lengths-old.ensures c.self.invariant.taken.well_formed
+
+-- what was added is taken back
+pub invariant_of-self-in-Err-extend : goal.invariant_of-self-in-Err-extend
+invariant_of-self-in-Err-extend c =
+    let same = c.truncate.ensures ∙ back c.self.inside.version c.self.inside.prefixes c.args.text.now c.self.inside.ontology c.read_addition.new.ontology c.in-Ok.ensures.added c.lengths-old.result c.lengths-old.ensures c.self.invariant.taken.well_formed in
+    rw (same, c.in-Err-extend.ensures.err) c.self.invariant

@@ -1,6 +1,6 @@
 use Rattle.std.proofs.Common.{◌∙◌, ap, Err}
 use Rattle.session.proofs.Told.{progress_behind}
-use Rattle.session.proofs.opening.run_telling.Goals as goal
+use Rattle.session.proofs.opening.run_keeping.Goals as goal
 
 pub returns-in-Err-Limit-clause-fault : goal.returns-in-Err-Limit-clause-fault
 returns-in-Err-Limit-clause-fault g c = (c.in-Ok.ontology, c.in-Ok.ensures.reads, c.run_to_end.ensures.limit (c.in-Err-Limit.is ∙ ap Err c.in-Err-Limit.field-0-is))
