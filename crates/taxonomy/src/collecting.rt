@@ -20,7 +20,7 @@ fn all_below(alloc: Global, n: usize) -> Result<Vec<u32>, Memory>
     if n > u32::MAX as usize {
         return Err(Memory);
     }
-    let mut numbers = Vec::new(alloc);
+    let mut numbers = Vec::with_capacity(alloc, n)?;
     for k in 0..n as u32 {
         numbers.push(k)?;
     }
@@ -65,7 +65,7 @@ pub(crate) fn once_of(alloc: Global, seen: &mut EpochSet, list: &[u32]) -> Resul
     ensures room { length seen.new ≡ length seen.old }
 {
     seen.clear();
-    let mut found = Vec::new(alloc);
+    let mut found = Vec::with_capacity(alloc, list.len())?;
     for d in list {
         if put_new(seen, *d as usize) {
             found.push(*d)?;

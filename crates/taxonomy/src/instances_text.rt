@@ -64,6 +64,9 @@ fn write_individuals(
         ≡ out.old.items
         ++ flat_map (individual_line (map string_bytes names.now) (map string_bytes individuals.now) (is_listed classes.now) (is_listed types.now)) order.now) }
 {
+    if order.is_empty() {
+        return Ok(());
+    }
     let leading = leading_of(alloc, names, classes)?;
     let mut marks = no_marks(alloc, classes.len())?;
     for a in order {

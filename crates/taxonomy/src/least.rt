@@ -81,7 +81,7 @@ fn with_sizes(
 ) -> Result<Vec<(usize, u32)>, Memory>
     ensures { IfOk result (λ v. map (λ p. p.1) v.items ≡ numbers.now) }
 {
-    let mut pairs = Vec::new(alloc);
+    let mut pairs = Vec::with_capacity(alloc, numbers.len())?;
     for n in numbers {
         let size = classes.len_at(*n as usize);
         pairs.push((classes.len().saturating_sub(size), *n))?;

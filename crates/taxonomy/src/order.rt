@@ -17,7 +17,7 @@ fn numbered(alloc: Global, names: &[String]) -> Result<Vec<(&str, usize)>, Memor
         (λ v. (map (λ p. p.1) v.items ≡ range_with_len 0 (length names.now))
         × All (λ p. p.0.now ≡ name_at (map string_bytes names.now) p.1) v.items) }
 {
-    let mut pairs = Vec::new(alloc);
+    let mut pairs = Vec::with_capacity(alloc, names.len())?;
     for (i, name) in names.iter().enumerate() {
         pairs.push((name.as_str(), i))?;
     }
@@ -34,7 +34,7 @@ fn named<'a>(
         (λ v. (map (λ p. p.1) v.items ≡ numbers.now)
         × All (λ p. p.0.now ≡ name_at (map string_bytes names.now) p.1) v.items) }
 {
-    let mut pairs = Vec::new(alloc);
+    let mut pairs = Vec::with_capacity(alloc, numbers.len())?;
     for n in numbers {
         let n = *n as usize;
         pairs.push((name_of(names, n), n))?;
