@@ -7,12 +7,13 @@ use Rattle.std.proofs.lemmas.List.{append-nil, drop-append-le, take-append-le}
 use Rattle.std.proofs.lemmas.List.Elements.{All-cons, All-nil, All-head, All-tail, All-append}
 use Rattle.std.proofs.lemmas.Option.{slice_get_within}
 use Rattle.std.specs.List.{slice_range}
+use Rattle.std.specs.Option.{option_map}
 use Rattle.lemmas.proofs.Places.{slice_get_there}
 use Rattle.axioms.specs.declared.ids.ExprId.{ExprId}
 use Rattle.normal_forms.specs.Pairs.{StandFrom, disjoint_form, pairs}
 use Rattle.normal_forms.specs.FormPieces.{IsKept, ListIsKept, classes_of, forms_of_piece, forms_of_pieces}
 use Rattle.normal_forms.specs.StoredForms.{form_of}
-use Rattle.normal_forms.specs.Stretches.{found_at, size}
+use Rattle.normal_forms.specs.Stretches.{found_at, found_one, size}
 use Rattle.normal_forms.specs.declared.store.DisjointList.{DisjointList}
 use Rattle.normal_forms.specs.declared.stored.StoredForm.{StoredForm}
 use Rattle.normal_forms.specs.declared.stretches.Piece.{Piece}
@@ -201,3 +202,13 @@ forms_joined classes none ps qs h e =
 
 pub kept_joined : (classes none : List ExprId) (ps qs : List (Piece StoredForm DisjointList)) → All (IsKept classes) ps → All (IsKept none) qs → none ≡ [] → All (IsKept classes) (ps ++ qs)
 kept_joined classes none ps qs g h e = All-append (IsKept classes) ps qs g (kept_under_more [] classes qs (subst (λ cs. All (IsKept cs) qs) e h))
+
+-- ---- where no list is kept by its classes
+
+-- the form of a value of one number
+pub found_alone : (classes : List ExprId) (forms : List StoredForm) (n : ℕ) → form_found classes (found_one forms n) ≡ option_map form_of (slice_get forms n)
+found_alone classes forms n = of (slice_get forms n)
+  where
+    of : (form : Option StoredForm) → form_found classes (option_map found.One form) ≡ option_map form_of form
+    of None = refl
+    of (Some form) = refl

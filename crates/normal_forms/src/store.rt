@@ -2,6 +2,7 @@
 ghost use Rattle.normal_forms.specs.FormPieces.{IsTaken, classes_of};
 ghost use Rattle.normal_forms.specs.Pairs.{StandFrom, disjoint_form, pairs};
 ghost use Rattle.normal_forms.specs.StoredForms.{form_of};
+ghost use Rattle.std.specs.Option.{option_map};
 ghost use Rattle.std.specs.Prelude.{◌≡◌, ◌<◌, ◌≤◌, ◌++◌, ◌∷◌, [], IfOk, IfSome, OnErr, OnOk, length, slice_get};
 
 use crate::disjoint::{DisjointClasses, count_pairs, pair_at};
@@ -58,6 +59,17 @@ fn part(classes: &[ExprId], list: DisjointList) -> &[ExprId]
     &classes[list.start..list.end]
 }
 
+/// The form at the place, read where it stands: one that is moved first takes longer than the look at its list.
+#[inline(always)]
+fn form_at(forms: &[StoredForm], place: usize) -> Option<Form>
+    ensures { result ≡ option_map form_of (slice_get forms.now place) }
+{
+    match forms.get(place) {
+        Some(form) => Some(form.get()),
+        None => None,
+    }
+}
+
 impl Store {
     /// No forms.
     pub(crate) fn new(alloc: Global) -> Store
@@ -87,6 +99,16 @@ impl Store {
     /// The form of that number, counted from 0, if there is one.
     #[inline(always)]
     pub(crate) fn get(&self, number: usize) -> Option<Form>
+        ensures { result ≡ slice_get self.now number }
+    {
+        match self.pieces.ones() {
+            Some(forms) => form_at(forms, number),
+            None => self.search(number),
+        }
+    }
+
+    /// The same, by what the number falls on.
+    fn search(&self, number: usize) -> Option<Form>
         ensures { result ≡ slice_get self.now number }
     {
         match self.pieces.find(number) {

@@ -2,7 +2,7 @@
 ghost use Rattle.normal_forms.specs.Stretches.{EndsIn, FitsBehind, found_at, found_one, moved_up, size};
 ghost use Rattle.normal_forms.specs.declared.stretches.Piece.TheVariants as pieces;
 ghost use Rattle.std.specs.List.Sorted.{IsNonDecreasingBy, IsPartitionPoint};
-ghost use Rattle.std.specs.Prelude.{◌≡◌, ◌↔◌, ◌-◌, ◌≤◌, ◌++◌, ◌∷◌, [], All, IfOk, IsTrue, OnErr, OnOk, false, length, map, nat_le, take, true};
+ghost use Rattle.std.specs.Prelude.{◌≡◌, ◌↔◌, ◌-◌, ◌≤◌, ◌++◌, ◌∷◌, [], ℕ, All, IfOk, IfSome, IsTrue, OnErr, OnOk, false, length, map, nat_le, take, true};
 
 use std::alloc::{AllocError, Global};
 use std::marker::Model;
@@ -165,6 +165,18 @@ impl<P: Copy, L: Copy> Stretches<P, L> {
         ensures { result ≤ length self.now }
     {
         self.ones.len().saturating_add(self.stretches.len())
+    }
+
+    /// The values, by number, where there are no stretches.
+    #[inline(always)]
+    pub(crate) fn ones(&self) -> Option<&[P]>
+        ensures { IfSome result (λ ones. (n : ℕ) → found_at self.now n ≡ found_one ones.now n) }
+    {
+        if self.stretches.is_empty() {
+            Some(&self.ones)
+        } else {
+            None
+        }
     }
 
     /// What the number falls on, if a piece has it.
