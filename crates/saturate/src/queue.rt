@@ -43,25 +43,21 @@ pub(crate) fn has_flag(flags: &[bool], number: u32) -> bool
     }
 }
 
-/// Adds those of the numbers that are not flagged.
-fn add_kept(list: &mut Vec<u32>, numbers: &[u32], flags: &[bool]) -> Result<(), Memory>
-    ensures { OnOk result (list.new.items ≡ list.old.items ++ kept flags.now numbers.now) }
-{
-    for number in numbers {
-        if !has_flag(flags, *number) {
-            list.push(*number)?;
-        }
-    }
-    Ok(())
-}
-
-/// Adds those that are.
-fn add_flagged(list: &mut Vec<u32>, numbers: &[u32], flags: &[bool]) -> Result<(), Memory>
-    ensures { OnOk result (list.new.items ≡ list.old.items ++ asked flags.now numbers.now) }
+/// Adds those of the numbers that are not flagged to the one list, and those that are to the other.
+fn part(
+    still: &mut Vec<u32>,
+    again: &mut Vec<u32>,
+    numbers: &[u32],
+    flags: &[bool],
+) -> Result<(), Memory>
+    ensures still { OnOk result (still.new.items ≡ still.old.items ++ kept flags.now numbers.now) }
+    ensures again { OnOk result (again.new.items ≡ again.old.items ++ asked flags.now numbers.now) }
 {
     for number in numbers {
         if has_flag(flags, *number) {
-            list.push(*number)?;
+            again.push(*number)?;
+        } else {
+            still.push(*number)?;
         }
     }
     Ok(())
@@ -80,10 +76,11 @@ impl Turns {
         ensures taken { IfOk result (λ t. t.taken.items ≡ kept flags.now served.now ++ asked flags.now served.now ++ rest.now) }
         ensures served { IfOk result (λ t. t.served ≡ length (kept flags.now served.now)) }
     {
-        let mut taken = Vec::new(alloc);
-        add_kept(&mut taken, served, flags)?;
+        let mut taken = Vec::with_capacity(alloc, served.len().saturating_add(rest.len()))?;
+        let mut again = Vec::new(alloc);
+        part(&mut taken, &mut again, served, flags)?;
         let kept = taken.len();
-        add_flagged(&mut taken, served, flags)?;
+        taken.extend_from_slice(&again)?;
         taken.extend_from_slice(rest)?;
         Ok(Turns {
             taken,
