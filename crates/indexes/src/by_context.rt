@@ -1,5 +1,5 @@
 //! Lists of numbers by context.
-ghost use Rattle.std.specs.Prelude.{◌≡◌, [], OnOk, OnErr, false, true};
+ghost use Rattle.std.specs.Prelude.{◌≡◌, [], OnOk, IfOk, OnErr, false, true};
 ghost use Rattle.indexes.specs.Contexts.{at_context, AddsAt, EndsAt, IsLast, IsSameAt, PutsLastAt, RemovesAt};
 
 use crate::table::Table;
@@ -31,6 +31,18 @@ impl ByContext {
             expressions: Table::new(alloc),
             individuals: Table::new(alloc),
         }
+    }
+
+    /// The same lists. Fails where memory is refused.
+    pub fn copy(&self) -> Result<ByContext, AllocError>
+        ensures { IfOk result (λ lists. lists ≡ self.now) }
+    {
+        let expressions = self.expressions.copy()?;
+        let individuals = self.individuals.copy()?;
+        Ok(ByContext {
+            expressions,
+            individuals,
+        })
     }
 
     /// The list of a context.

@@ -1,5 +1,5 @@
 //! The index.
-ghost use Rattle.std.specs.Prelude.{◌≡◌, OnOk};
+ghost use Rattle.std.specs.Prelude.{◌≡◌, IfOk, OnOk};
 ghost use Rattle.indexes.specs.Contexts.{at_context, IsEmptyIndex};
 ghost use Rattle.indexes.specs.FactIndex.{MayList, Lists, Removes};
 
@@ -42,6 +42,24 @@ impl Index {
             second_premises: ByContext::new(alloc),
             fillers: ByContext::new(alloc),
         }
+    }
+
+    /// An index that lists the same. Fails where memory is refused.
+    pub fn copy(&self) -> Result<Index, AllocError>
+        ensures { IfOk result (λ index. index ≡ self.now) }
+    {
+        let classes = self.classes.copy()?;
+        let from = self.from.copy()?;
+        let into = self.into.copy()?;
+        let second_premises = self.second_premises.copy()?;
+        let fillers = self.fillers.copy()?;
+        Ok(Index {
+            classes,
+            from,
+            into,
+            second_premises,
+            fillers,
+        })
     }
 
     /// Facts that put a class into the context.

@@ -102,6 +102,39 @@ fn put(
     push(alloc, lists, place - 1, number)
 }
 
+/// A list of these numbers. Fails where memory is refused.
+fn list_of_numbers(alloc: Global, numbers: &[u32]) -> Result<NumberList, AllocError>
+    ensures { IfOk result (λ list. list ≡ numbers.now) }
+{
+    let mut list = NumberList::new();
+    for number in numbers {
+        list.push(alloc, *number)?;
+    }
+    Ok(list)
+}
+
+/// Puts a list of these numbers behind the others. Fails where memory is refused.
+fn push_copy(alloc: Global, lists: &mut Vec<NumberList>, numbers: &[u32]) -> Result<(), AllocError>
+    ensures { OnOk result (lists.new.items ≡ lists.old.items ++ numbers.now ∷ []) }
+{
+    let list = list_of_numbers(alloc, numbers)?;
+    let Ok(()) = lists.push(list) else {
+        return Err(AllocError);
+    };
+    Ok(())
+}
+
+/// The same lists. Fails where memory is refused.
+fn copied(alloc: Global, lists: &[NumberList]) -> Result<Vec<NumberList>, AllocError>
+    ensures { IfOk result (λ copy. copy.items ≡ lists.now) }
+{
+    let mut copy = Vec::with_capacity(alloc, lists.len())?;
+    for list in lists {
+        push_copy(alloc, &mut copy, list.as_slice())?;
+    }
+    Ok(copy)
+}
+
 /// Moves the other numbers to the front, in their order, and tells how many there are.
 fn gather_others(list: &mut NumberList, number: u32) -> usize
     ensures others { take result list.new ≡ without number list.old }
@@ -164,6 +197,20 @@ impl Table {
             keys: Vec::new(alloc),
             lists: Vec::new(alloc),
         }
+    }
+
+    /// The same lists. Fails where memory is refused.
+    pub fn copy(&self) -> Result<Table, AllocError>
+        ensures { IfOk result (λ table. table ≡ self.now) }
+    {
+        let mut keys = Vec::with_capacity(self.alloc, self.keys.len())?;
+        keys.extend_from_slice(&self.keys)?;
+        let lists = copied(self.alloc, &self.lists)?;
+        Ok(Table {
+            alloc: self.alloc,
+            keys,
+            lists,
+        })
     }
 
     /// For how many keys there is room.
