@@ -26,6 +26,12 @@ fn listed(alloc: Global) -> Result<Index, AllocError> {
     Ok(index)
 }
 
+/// A copy of that index.
+fn copied(alloc: Global) -> Result<Index, AllocError> {
+    let index = listed(alloc)?;
+    index.copy()
+}
+
 /// Whether these are the classes that the index has, as fillers too.
 fn has_classes(index: &Index, classes: &[u32]) -> bool {
     index.classes_in(SOURCE) == classes && index.fillers_in(SOURCE) == classes
@@ -60,6 +66,14 @@ fn edge_is_taken_out(rt: HostRuntime) -> Result<(), Fail> {
 fn number_that_is_not_listed_changes_nothing(rt: HostRuntime) -> Result<(), Fail> {
     let mut index = listed(rt.alloc())?;
     index.remove(8, CLASS);
+    assert!(rt; has_classes(&index, &[7, 9]));
+    assert!(rt; has_edges(&index, &[8, 4]));
+    Ok(())
+}
+
+#[test]
+fn copy_lists_the_same(rt: HostRuntime) -> Result<(), Fail> {
+    let index = copied(rt.alloc())?;
     assert!(rt; has_classes(&index, &[7, 9]));
     assert!(rt; has_edges(&index, &[8, 4]));
     Ok(())

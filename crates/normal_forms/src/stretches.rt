@@ -184,10 +184,10 @@ impl<P: Copy, L: Copy> Stretches<P, L> {
     pub fn find(&self, number: usize) -> Option<Found<P, L>>
         ensures { result ≡ found_at self.now number }
     {
-        if self.stretches.is_empty() {
-            return one_at(&self.ones, number);
+        match self.ones() {
+            Some(ones) => one_at(ones, number),
+            None => self.search(number),
         }
-        self.search(number)
     }
 
     /// The same, by the last stretch that starts at the number or before it.

@@ -1,12 +1,5 @@
-use Rattle.std.proofs.Common.{◌≡◌, length, sym, ◌∙◌, arith}
-use Rattle.std.proofs.lemmas.Bool.{eqb-true}
-use Rattle.normal_forms.proofs.Pieces.{all_behind}
+use Rattle.std.proofs.Common.{sym, ◌∙◌}
 use Rattle.normal_forms.proofs.stretches.Stretches.find.Goals as goal
 
-pub returns-then-is_empty : goal.returns-then-is_empty
-returns-then-is_empty g c =
-    let fields = c.self.inside in
-    let none : length fields.stretches.items ≡ 0 = sym fields.stretches.ok.0 ∙ eqb-true _ _ (sym c.is_empty.ensures ∙ c.if-is_empty.true) in
-    c.one_at.ensures
-    ∙ rw (c.deref.ensures.value, ← c.self.view_is)
-    (sym (all_behind fields.ones.items fields.len fields.stretches.items c.args.number c.self.invariant (λ k d a b. absurd (omega (arith, b)), λ k d a b. absurd (omega (arith, b, none)))))
+pub returns-in-Some : goal.returns-in-Some
+returns-in-Some g c = c.one_at.ensures ∙ sym (c.in-Some.ensures c.args.number)
