@@ -316,29 +316,9 @@ fn listed_still<W: WorkList>(
     Ok(())
 }
 
-/// Goes on from more roots, and more forms, from that number on. Changes nothing where memory is refused.
-pub(crate) fn restart<W: WorkList>(
-    alloc: Global,
-    earlier: &IndexedProblem,
-    ground: &Ground,
-    from: usize,
-    facts: &mut KnownFacts,
-    queue: &mut Queue<W>,
-    index: &mut Index,
-) -> Result<(), Memory>
-    requires earlier { take from ground.now.forms ≡ earlier.now.forms }
-    requires derived { IsDerived ground.now facts.old }
-    requires turns { HaveTurns facts.old.facts queue.old }
-    ensures goes_on { OnOk result (GoOn ground.now u32.MAX facts.old facts.new queue.old queue.new index.new) }
-    ensures served { OnOk result (KeepsServed earlier.now.forms ground.now.forms facts.old.facts queue.old.served queue.new.served) }
-    ensures err { OnErr result (Stay facts.old facts.new queue.old queue.new index.old index.new) }
-{
-    let flags = flags_of(alloc, earlier, ground, from, facts, queue.numbers())?;
-    listed_anew(alloc, ground, facts, queue, index, &flags)
-}
-
-/// Goes on as `restart` does, where the index lists the served facts. Where no added form is one of properties, and few numbers stand
-/// beside those of facts that are pending again, it is not made anew.
+/// Goes on from more roots, and more forms, from that number on. The index lists the served facts; where no added form is one of
+/// properties, and few numbers stand beside those of facts that are pending again, it is not made anew. Changes nothing where memory is
+/// refused.
 pub(crate) fn carry_on<W: WorkList>(
     alloc: Global,
     earlier: &IndexedProblem,

@@ -8,7 +8,7 @@ ghost use Rattle.saturate.specs.Run.{HasRun, IsLeft, IsState, IsStep};
 ghost use Rattle.inference.specs.PropertyClosures.{IsClosureOf};
 ghost use Rattle.inference.specs.Completeness.{IsClosure};
 
-use crate::extension::{carry_on, restart};
+use crate::extension::carry_on;
 use crate::ground::Ground;
 use crate::kept::Kept;
 use crate::queue::Queue;
@@ -142,9 +142,9 @@ impl<W: WorkList> State<W> {
         self.well_formed();
         let mut queue = self.queue.copy(list)?;
         let mut facts = self.facts.copy()?;
-        let mut index = Index::new(self.alloc);
+        let mut index = self.index.copy()?;
         let ground = self.ground.grown(self.alloc, all, roots)?;
-        restart(
+        carry_on(
             self.alloc,
             self.ground.problem(),
             &ground,

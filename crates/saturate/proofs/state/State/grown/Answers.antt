@@ -1,4 +1,5 @@
-use Rattle.std.proofs.Common.{◌≡◌, length, drop, arith}
+use Rattle.std.proofs.Common.{◌≡◌, List, ap, sym, ◌∙◌, length, drop, arith}
+use Rattle.normal_forms.specs.declared.forms.Form.{Form}
 use Rattle.saturate.specs.GoingOn.{IsBegun}
 use Rattle.saturate.specs.Growth.{with_more, KeepsServed}
 use Rattle.saturate.proofs.Extending.{derived_then, extended, listed_again, parted}
@@ -15,31 +16,43 @@ copy-requires-clause-finished g c =
     let all : length c.self.inside.queue.served ≡ length c.self.inside.facts.facts = rw (← c.self.view_is) at c.requires.finished in
     omega (arith, c.self.invariant.0.queued, all)
 
-pub restart-requires-clause-earlier : goal.restart-requires-clause-earlier
-restart-requires-clause-earlier g c = rw (c.problem.ensures, c.in_ok-ground.ensures.forms) (rw (← c.self.view_is) at c.requires.forms)
+pub carry_on-requires-clause-earlier : goal.carry_on-requires-clause-earlier
+carry_on-requires-clause-earlier g c = rw (c.problem.ensures, c.in_ok-ground.ensures.forms) (rw (← c.self.view_is) at c.requires.forms)
 
-pub restart-requires-clause-derived : goal.restart-requires-clause-derived
-restart-requires-clause-derived g c = rw c.in_ok-facts.ensures (derived_then c.self.inside.ground (drop c.args.from c.args.all.now) c.args.roots.now (grown g (goal.at.restart-requires-clause-derived g c).After-problem) c.self.invariant.0.derived)
+pub carry_on-requires-clause-grown : goal.carry_on-requires-clause-grown
+carry_on-requires-clause-grown g c = (
+  c.args.roots.now,
+  rw c.problem.ensures (grown g (goal.at.carry_on-requires-clause-grown g c).After-problem ∙ ap (λ (fs : List Form). with_more c.self.inside.ground (drop c.args.from fs) c.args.roots.now) (sym c.in_ok-ground.ensures.forms)),
+)
 
-pub restart-requires-clause-turns : goal.restart-requires-clause-turns
-restart-requires-clause-turns g c = rw (c.in_ok-queue.ensures, c.in_ok-facts.ensures) (record { queued = c.self.invariant.0.queued; served = c.self.invariant.0.within })
+pub carry_on-requires-clause-derived : goal.carry_on-requires-clause-derived
+carry_on-requires-clause-derived g c = rw c.in_ok-facts.ensures (derived_then c.self.inside.ground (drop c.args.from c.args.all.now) c.args.roots.now (grown g (goal.at.carry_on-requires-clause-derived g c).After-problem) c.self.invariant.0.derived)
+
+pub carry_on-requires-clause-complete : goal.carry_on-requires-clause-complete
+carry_on-requires-clause-complete g c = rw (c.problem.ensures, c.in_ok-facts.ensures, c.in_ok-queue.ensures) c.self.invariant.0.complete
+
+pub carry_on-requires-clause-turns : goal.carry_on-requires-clause-turns
+carry_on-requires-clause-turns g c = rw (c.in_ok-queue.ensures, c.in_ok-facts.ensures) (record { queued = c.self.invariant.0.queued; served = c.self.invariant.0.within })
+
+pub carry_on-requires-clause-listed : goal.carry_on-requires-clause-listed
+carry_on-requires-clause-listed g c = rw (c.problem.ensures, c.in_ok-facts.ensures, c.in_ok-queue.ensures, c.in_ok-index.ensures) c.self.invariant.1
 
 pub invariant_of-state : goal.invariant_of-state
 invariant_of-state g c =
     let same = grown g (goal.at.invariant_of-state g c).After-problem in
-    let begun : IsBegun c.in_ok-ground.ground 4294967295 c.self.inside.queue.served c.self.inside.facts c.restart.new.facts = rw (c.in_ok-facts.ensures, c.in_ok-queue.ensures) at c.in_ok-restart.ensures.goes_on.begun in
-    let kept : KeepsServed c.self.inside.ground.forms c.in_ok-ground.ground.forms c.self.inside.facts.facts c.self.inside.queue.served c.restart.new.queue.served = rw (c.problem.ensures, c.in_ok-facts.ensures, c.in_ok-queue.ensures) at c.in_ok-restart.ensures.served in (
-      extended c.self.inside.ground (drop c.args.from c.args.all.now) c.args.roots.now same c.self.invariant.0 begun c.in_ok-restart.ensures.goes_on.queued kept,
-      listed_again c.restart.new.queue c.in_ok-restart.ensures.goes_on.listed,
-      rw (c.in_ok-restart.ensures.goes_on.waiting, c.in_ok-queue.ensures) (named_still c.self.inside.facts.facts c.restart.new.facts.facts c.self.inside.queue.waiting begun.grows.facts c.self.invariant.2),
+    let begun : IsBegun c.in_ok-ground.ground 4294967295 c.self.inside.queue.served c.self.inside.facts c.carry_on.new.facts = rw (c.in_ok-facts.ensures, c.in_ok-queue.ensures) at c.in_ok-carry_on.ensures.goes_on.begun in
+    let kept : KeepsServed c.self.inside.ground.forms c.in_ok-ground.ground.forms c.self.inside.facts.facts c.self.inside.queue.served c.carry_on.new.queue.served = rw (c.problem.ensures, c.in_ok-facts.ensures, c.in_ok-queue.ensures) at c.in_ok-carry_on.ensures.served in (
+      extended c.self.inside.ground (drop c.args.from c.args.all.now) c.args.roots.now same c.self.invariant.0 begun c.in_ok-carry_on.ensures.goes_on.queued kept,
+      listed_again c.carry_on.new.queue c.in_ok-carry_on.ensures.goes_on.listed,
+      rw (c.in_ok-carry_on.ensures.goes_on.waiting, c.in_ok-queue.ensures) (named_still c.self.inside.facts.facts c.carry_on.new.facts.facts c.self.inside.queue.waiting begun.grows.facts c.self.invariant.2),
     )
 
 pub returns-clause-grown : goal.returns-clause-grown
 returns-clause-grown g c = rw (← c.self.view_is, ← c.in_ok-facts.ensures) (record {
   problem = grown g (goal.at.returns-clause-grown g c).After-problem;
-  facts = c.in_ok-restart.ensures.goes_on.begun.grows.facts;
-  births = c.in_ok-restart.ensures.goes_on.begun.grows.births;
+  facts = c.in_ok-carry_on.ensures.goes_on.begun.grows.facts;
+  births = c.in_ok-carry_on.ensures.goes_on.begun.grows.births;
 })
 
 pub returns-clause-served : goal.returns-clause-served
-returns-clause-served g c = rw (← c.self.view_is) (rw (c.problem.ensures, c.in_ok-facts.ensures, c.in_ok-queue.ensures) at c.in_ok-restart.ensures.served)
+returns-clause-served g c = rw (← c.self.view_is) (rw (c.problem.ensures, c.in_ok-facts.ensures, c.in_ok-queue.ensures) at c.in_ok-carry_on.ensures.served)
