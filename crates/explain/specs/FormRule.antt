@@ -43,3 +43,10 @@ abbrev pub origin_rule : Ontology → Option Origin → Form → Rule × Option 
 origin_rule o (Some (origins.Axiom number)) form = stated_rule (at_number o.axioms number) number form
 origin_rule o (Some (origins.Expr e)) form = (expression_rule form, None)
 origin_rule o None form = (expression_rule form, None)
+
+-- the same of a form of two classes: an axiom that gives one says that the first is below the second, and an expression that gives one
+-- is an intersection with the second among its operands
+abbrev pub inclusion_rule : Option Origin → Rule × Option ℕ
+inclusion_rule (Some (origins.Axiom number)) = (K4, Some number)
+inclusion_rule (Some (origins.Expr e)) = (K6, None)
+inclusion_rule None = (K6, None)

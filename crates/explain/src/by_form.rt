@@ -3,7 +3,7 @@ ghost use Rattle.axioms.specs.View.{axiom_of};
 ghost use Rattle.axioms.specs.declared.ids.IndId.{IndId as Ind};
 ghost use Rattle.cert_check.specs.Derivation.{IsDerivation};
 ghost use Rattle.engine.specs.Saturations.{IsSaturated};
-ghost use Rattle.explain.specs.FormRule.{axiom_rule, expression_rule, origin_rule, stated_rule};
+ghost use Rattle.explain.specs.FormRule.{axiom_rule, expression_rule, inclusion_rule, origin_rule, stated_rule};
 ghost use Rattle.explain.specs.OlderFacts.{AreOlderShown};
 ghost use Rattle.explain.specs.Premises.{TakesNoSame};
 ghost use Rattle.explain.specs.Uses.{EachIsUsed, IsAmong, IsBornBy, Uses};
@@ -23,10 +23,10 @@ use crate::older::rests_on;
 use crate::premises::premises;
 use crate::same::same_along;
 use crate::sink::LineSink;
-use axioms::{Axiom, IndId, Memory, Ontology};
+use axioms::{Axiom, ExprId, IndId, Memory, Ontology};
 use certificate::Rule;
 use facts::{Birth, FactId, Older};
-use normal_forms::{Form, Origin};
+use normal_forms::{Class2, Form, Origin};
 use normalise::Normal;
 use smallvec::SmallVec;
 
@@ -83,6 +83,55 @@ fn origin_rule(
         Some(Origin::Axiom(number)) => stated_rule(ontology.axiom(number), number, form),
         _ => (expression_rule(form), None),
     }
+}
+
+/// The condition of a fact that a form of two classes led to.
+const BY_INCLUSION: u8 = 4;
+
+/// A form of two classes: what a line takes for one is the same whichever it is.
+const INCLUSION: Form = Form::N1(Class2::Expr(ExprId::THING), Class2::Expr(ExprId::THING));
+
+// The rule for a fact of a form of two classes, which has that number, and the number of the axiom that gave the form, if one did.
+fn inclusion_rule(normal: &Normal, number: u32) -> (Rule, Option<usize>)
+    ensures { result ≡ inclusion_rule (option_map origin_in (slice_get normal.now.entries number)) }
+{
+    match normal.origin(number as usize) {
+        Some(Origin::Axiom(number)) => (Rule::K4, Some(number)),
+        _ => (Rule::K6, None),
+    }
+}
+
+// What a form of two classes led to: adds the line of the fact, where it has one, and gives the numbers of the lines that show the fact.
+// Neither the form is read nor the axiom that gave it: where there are many, each is read from another place, which takes longest of all.
+fn shown_by_inclusion<L: LineSink>(
+    basis: &Basis<'_>,
+    derivation: &mut Derivation<L>,
+    shown: &LinesByFact,
+    fact: FactId,
+    birth: &Birth,
+    form: u32,
+) -> Result<LineNumbers, Memory>
+    requires saturated { IsSaturated basis.now.ontology.now basis.now.saturation.now }
+    requires paths { basis.now.paths.now ≡ basis.now.saturation.now.state.problem.forms }
+    requires there { fact.0 < length basis.now.saturation.now.state.facts }
+    requires derivation { IsDerivation basis.now.ontology.now derivation.old }
+    requires older { AreOlderShown basis.now.saturation.now derivation.old shown.now fact.0 }
+    requires birth { slice_get basis.now.saturation.now.state.births fact.0 ≡ Some (reason birth.now) }
+    requires form { (reason birth.now).form ≡ Some form }
+    requires inclusion { (reason birth.now).condition ≡ 4 }
+    ensures derivation { OnOk result (IsDerivation basis.now.ontology.now derivation.new) }
+    ensures longer { OnOk result (Lengthens derivation.old derivation.new) }
+    ensures shown { IfOk result (λ numbers. ShowsFact basis.now.saturation.now derivation.new fact.0 numbers.items) }
+    ensures used { IfOk result (λ numbers. EachIsUsed basis.now.saturation.now shown.now fact.0 derivation.old derivation.new numbers.items) }
+{
+    basis.ontology.well_formed();
+    let normal = basis.saturation.normal();
+    let older = rests_on(normal, birth);
+    let numbers = premises(basis, derivation, shown, older, &INCLUSION)?;
+    let fact = fact_of(basis.saturation, fact);
+    let (rule, axiom) = inclusion_rule(normal, form);
+    let numbers = concluded(basis.alloc, derivation, fact, rule, axiom, numbers)?;
+    Ok(numbers)
 }
 
 // What a form led to that takes facts alone: adds the line of the fact, where it has one, and gives the numbers of the lines that show
@@ -215,6 +264,10 @@ pub(crate) fn shown_by_form<L: LineSink>(
     ensures shown { IfOk result (λ numbers. ShowsFact basis.now.saturation.now derivation.new fact.0 numbers.items) }
     ensures used { IfOk result (λ numbers. EachIsUsed basis.now.saturation.now shown.now fact.0 derivation.old derivation.new numbers.items) }
 {
+    if birth.condition() == BY_INCLUSION {
+        let numbers = shown_by_inclusion(basis, derivation, shown, fact, birth, form)?;
+        return Ok(numbers);
+    }
     let step = basis.saturation.normal().forms().at(form as usize);
     match step {
         Form::N10(..) => {

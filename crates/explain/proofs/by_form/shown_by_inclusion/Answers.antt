@@ -1,0 +1,66 @@
+use Rattle.std.proofs.Common.{◌≡◌, map, option_map, slice_get, Contains, sym, ap, ◌∙◌, subst}
+use Rattle.std.proofs.lemmas.Option.{same_Some}
+use Rattle.lemmas.proofs.Places.{slice_get_there}
+use Rattle.facts.specs.Births.{reason}
+use Rattle.facts.specs.Closure.{nothing}
+use Rattle.normalise.specs.Entries.{origin_in}
+use Rattle.normalise.specs.Listing.{Listing}
+use Rattle.normalise.specs.Problem.{prefixes_of}
+use Rattle.explain.specs.FormRule.{inclusion_rule}
+use Rattle.explain.specs.OlderFacts.{rests_on}
+use Rattle.explain.specs.LinesOfFacts.{AreShowing}
+use Rattle.explain.proofs.ByForm.{LeadsBy}
+use Rattle.explain.proofs.Inclusions.{led_by_inclusion}
+use Rattle.explain.proofs.Used.{used_by_fact}
+use Rattle.explain.proofs.by_form.shown_by_inclusion.Given.{Over}
+use Rattle.explain.proofs.by_form.shown_by_inclusion.Goals as goal
+
+pub premises-requires-clause-there : goal.premises-requires-clause-there
+premises-requires-clause-there g c m there =
+    let o = c.args.basis.now.ontology.now in
+    let s = c.args.basis.now.saturation.now in
+    let r = reason c.args.birth.now in
+    let (f, at) = slice_get_there s.state.facts c.args.fact.0 c.requires.there in
+    (led_by_inclusion o s c.well_formed-2.ensures c.requires.saturated c.args.fact.0 r c.requires.birth f at c.args.form c.requires.form c.requires.inclusion).there m
+    (subst (λ ns. Contains ns m) (c.rests_on-older.ensures ∙ ap (λ (v : Listing). rests_on v.entries r) c.normal-normal.ensures) there)
+
+pub premises-requires-clause-shown : goal.premises-requires-clause-shown
+premises-requires-clause-shown g c m there f at =
+    let r = reason c.args.birth.now in
+    c.requires.older r c.requires.birth m (subst (λ ns. Contains ns m) (c.rests_on-older.ensures ∙ ap (λ (v : Listing). rests_on v.entries r) c.normal-normal.ensures) there) f at
+
+pub premises-requires-clause-below : goal.premises-requires-clause-below
+premises-requires-clause-below g c fs at_fs =
+    let o = c.args.basis.now.ontology.now in
+    let s = c.args.basis.now.saturation.now in
+    let r = reason c.args.birth.now in
+    let (f, at) = slice_get_there s.state.facts c.args.fact.0 c.requires.there in
+    (led_by_inclusion o s c.well_formed-2.ensures c.requires.saturated c.args.fact.0 r c.requires.birth f at c.args.form c.requires.form c.requires.inclusion).lift nothing nothing fs
+    (ap (map (slice_get s.state.facts)) (sym (c.rests_on-older.ensures ∙ ap (λ (v : Listing). rests_on v.entries r) c.normal-normal.ensures)) ∙ at_fs)
+
+-- the line that the rule makes follows
+leading : (g : Over) (c : goal.In_ok-numbers-2 g) → LeadsBy c.args.basis.now.ontology.now c.args.basis.now.saturation.now c.premises.new.derivation c.in_ok-numbers.numbers.items c.fact_of-fact.result c.inclusion_rule-rule.result
+leading g c =
+    let o = c.args.basis.now.ontology.now in
+    let s = c.args.basis.now.saturation.now in
+    let r = reason c.args.birth.now in
+    let f = c.fact_of-fact.result in
+    let to = (led_by_inclusion o s c.well_formed-2.ensures c.requires.saturated c.args.fact.0 r c.requires.birth f c.fact_of-fact.ensures c.args.form c.requires.form c.requires.inclusion).lead_to nothing nothing c.premises.new.derivation c.in_ok-numbers.numbers.items
+    (λ fs at. c.in_ok-numbers.ensures.shown fs (ap (map (slice_get s.state.facts)) (c.rests_on-older.ensures ∙ ap (λ (v : Listing). rests_on v.entries r) c.normal-normal.ensures) ∙ at)) in
+    subst (LeadsBy o s c.premises.new.derivation c.in_ok-numbers.numbers.items f)
+    (sym (c.inclusion_rule-rule.ensures ∙ ap (λ (v : Listing). inclusion_rule (option_map origin_in (slice_get v.entries c.args.form))) c.normal-normal.ensures)) to
+
+pub returns-clause-derivation : goal.returns-clause-derivation
+returns-clause-derivation g c = c.in_ok-numbers-2.ensures.derivation c.args.basis.now.ontology.now (prefixes_of c.args.basis.now.saturation.now.normal) c.in_ok-numbers.ensures.derivation (leading g c)
+
+pub returns-clause-shown : goal.returns-clause-shown
+returns-clause-shown g c f at =
+    let s = c.args.basis.now.saturation.now in
+    subst (AreShowing (prefixes_of s.normal) c.concluded.new.derivation c.in_ok-numbers-2.numbers.items) (same_Some c.fact_of-fact.result f (sym c.fact_of-fact.ensures ∙ at))
+    (c.in_ok-numbers-2.ensures.shown c.args.basis.now.ontology.now (prefixes_of s.normal) (leading g c))
+
+pub returns-clause-used : goal.returns-clause-used
+returns-clause-used g c =
+    let r = reason c.args.birth.now in
+    used_by_fact c.args.basis.now.saturation.now c.args.shown.now c.args.fact.0 r _ c.requires.birth (sym (c.rests_on-older.ensures ∙ ap (λ (v : Listing). rests_on v.entries r) c.normal-normal.ensures)) c.args.derivation.now c.premises.new.derivation c.concluded.new.derivation
+    c.in_ok-numbers.numbers.items c.in_ok-numbers-2.numbers.items c.in_ok-numbers-2.ensures.longer c.in_ok-numbers.ensures.used c.in_ok-numbers-2.ensures.used
