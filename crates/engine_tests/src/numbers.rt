@@ -77,6 +77,22 @@ fn keeps_lists(alloc: Global, behind: usize) -> Result<bool, AllocError> {
     Ok(has_lists(&table))
 }
 
+/// Whether a copy has the same lists, and each goes its own way from there.
+fn copy_has_lists(alloc: Global) -> Result<bool, AllocError> {
+    let mut table = Table::new(alloc);
+    add_all(&mut table, 0, 0)?;
+    let mut copy = table.copy()?;
+    let is_same = has_lists(&copy);
+    copy.add(3, 32)?;
+    Ok(is_same && has_lists(&table) && copy.of(3) == [1, 4, 8, 16, 32].as_slice())
+}
+
+#[test]
+fn copied_table_has_the_same_lists(rt: HostRuntime) -> Result<(), Fail> {
+    assert!(rt; copy_has_lists(rt.alloc())?);
+    Ok(())
+}
+
 #[test]
 fn each_key_has_its_list(rt: HostRuntime) -> Result<(), Fail> {
     assert!(rt; keeps_lists(rt.alloc(), 0)?);
