@@ -1,5 +1,6 @@
 -- What is known of a fact that a form of two classes gave.
-use Rattle.std.proofs.Common.{◌≡◌, ℕ, ◌<◌, List, [], ◌∷◌, length, map, slice_get, option_map, Option, Some, None, Contains, inl, inr, refl, sym, ap, ◌∙◌, subst, arith}
+use Rattle.std.proofs.Common.{◌≡◌, ℕ, List, [], ◌∷◌, map, slice_get, option_map, Option, Some, None, Contains, inl, inr, refl, sym, ap, ◌∙◌, subst, arith}
+use Rattle.std.proofs.lemmas.List.{append-nil}
 use Rattle.std.proofs.lemmas.Option.{same_Some}
 use Rattle.axioms.specs.Ontology.{Ontology, Axiom, SubClass, EquivalentClasses, DisjointClasses, SubProperty, EquivalentProperties, Domain, Transitive, Reflexive, ClassAssertion, PropertyAssertion, SameIndividuals, DifferentIndividuals, NegativePropertyAssertion}
 use Rattle.axioms.specs.WellFormedness.{IsOntology}
@@ -8,8 +9,12 @@ use Rattle.certificate.specs.declared.line.Rule.{Rule}
 use Rattle.certificate.specs.declared.line.Rule.TheVariants.{K4}
 use Rattle.closure.specs.Denotations.{Prefixes, SaysForm, n1}
 use Rattle.engine.specs.Saturations.{Saturated, IsSaturated}
-use Rattle.facts.specs.Births.{Reason}
-use Rattle.facts.specs.Closure.{Problem, Gives, in_thing, in_itself, by_form, unsatisfiable, loop, handed_on, different}
+use Rattle.facts.specs.Births.{Reason, numbers_of}
+use Rattle.facts.specs.declared.births.FactId.{FactId}
+use Rattle.facts.specs.declared.births.Older as code_older
+use Rattle.facts.specs.declared.births.Older.TheVariants as older
+use Rattle.lemmas.proofs.Members.{Contains-first}
+use Rattle.facts.specs.Closure.{Problem, Concludes, Gives, in_thing, in_itself, by_form, unsatisfiable, loop, handed_on, different}
 use Rattle.facts.specs.declared.contexts.Fact.{Fact}
 use Rattle.normal_forms.specs.Forms as definition
 use Rattle.normal_forms.specs.Origins.{AxiomGives}
@@ -22,8 +27,10 @@ use Rattle.normalise.specs.Entries.{form_in, origin_in}
 use Rattle.normalise.specs.Problem.{prefixes_of}
 use Rattle.explain.specs.FormRule.{axiom_rule, inclusion_rule, origin_rule, stated_rule}
 use Rattle.explain.specs.OlderFacts.{rests_on}
-use Rattle.explain.specs.Premises.{AreShowingEach, LeadUpAt, ShowsTaken, taken}
-use Rattle.explain.proofs.Births.{born_by, none_named}
+use Rattle.explain.specs.LinesOfFacts.{AreShowing}
+use Rattle.explain.specs.Premises.{AreShowingEach, taken}
+use Rattle.explain.proofs.Births.{born_by, heads}
+use Rattle.explain.proofs.Sameness.{one_older}
 use Rattle.explain.proofs.ByForm.{IsLedTo, LeadsBy, led_to}
 use Rattle.explain.proofs.Within.{form_said}
 
@@ -71,59 +78,80 @@ rule_of_inclusion o s saturated m x y at_form = go (option_map origin_in (slice_
         ap (λ (found : Option Axiom). stated_rule found number (N1 x y)) stated
         ∙ ap (λ (rule : Rule). (rule, Some number)) (axiom_of_inclusion a g (said_inclusion (prefixes_of s.normal) x y g says) gives)
 
--- ---- the form
+-- ---- the form and the fact
 
--- what gives a fact by that condition is a form of two classes
-inclusion_given : (k : Problem) (c : ℕ) (place : Option ℕ) (older : List Fact) (f : Fact) → Gives k c place older f → c ≡ 4 → (m : ℕ) → place ≡ Some m → (x : Class2) × (y : Class2) × (slice_get k.forms m ≡ Some (N1 x y))
-inclusion_given k c place older f (in_thing by) e m p = absurd (omega (arith, e))
-inclusion_given k c place older f (in_itself by) e m p = absurd (omega (arith, e))
-inclusion_given k c place older f (by_form n (N1 x y) at concludes) e m p = (x, y, subst (λ z. slice_get k.forms z ≡ Some (N1 x y)) (same_Some n m p) at)
-inclusion_given k c place older f (by_form n (N2 _ _ _) at concludes) e m p = absurd (omega (arith, e))
-inclusion_given k c place older f (by_form n (N3 _ _ _) at concludes) e m p = absurd (omega (arith, e))
-inclusion_given k c place older f (by_form n (N4 _ _ _) at concludes) e m p = absurd (omega (arith, e))
-inclusion_given k c place older f (by_form n (N5 _ _) at concludes) e m p = absurd (omega (arith, e))
-inclusion_given k c place older f (by_form n (N6 _ _ _) at concludes) e m p = absurd (omega (arith, e))
-inclusion_given k c place older f (by_form n (N7 _) at concludes) e m p = absurd (omega (arith, e))
-inclusion_given k c place older f (by_form n (N8 _ _) at concludes) e m p = absurd (omega (arith, e))
-inclusion_given k c place older f (by_form n (N9 _ _ _) at concludes) e m p = absurd (omega (arith, e))
-inclusion_given k c place older f (by_form n (N10 _ _) at concludes) e m p = absurd (omega (arith, e))
-inclusion_given k c place older f (by_form n (N11 _ _) at concludes) e m p = absurd (omega (arith, e))
-inclusion_given k c place older f (by_form n (N12 _ _ _) at concludes) e m p = absurd (omega (arith, e))
-inclusion_given k c place older f (unsatisfiable back) e m p = absurd (omega (arith, e))
-inclusion_given k c place older f (loop x n form at is by) e m p = absurd (omega (arith, e))
-inclusion_given k c place older f (handed_on n form at hands) e m p = absurd (omega (arith, e))
-inclusion_given k c place older f (different n a b at same) e m p = absurd (omega (arith, e))
+-- the form is of two classes, and gives the fact from that one
+record IsGiven (k : Problem) (m : ℕ) (older : List Fact) : Type 0 where
+  lower : Class2
+  upper : Class2
+  at : slice_get k.forms m ≡ Some (N1 lower upper)
+  fact : Fact
+  only : older ≡ fact ∷ []
 
-pub inclusion_there : (o : Ontology) (s : Saturated) → IsSaturated o s → (n : ℕ) (r : Reason) → slice_get s.state.births n ≡ Some r → (f : Fact) → slice_get s.state.facts n ≡ Some f
-    → (m : ℕ) → r.form ≡ Some m → r.condition ≡ 4 → (x : Class2) × (y : Class2) × (slice_get s.state.problem.forms m ≡ Some (N1 x y))
-inclusion_there o s saturated n r born f there m place is =
-    let (older, at_older, gives) = born_by o s n r f saturated born there in
-    inclusion_given s.state.problem r.condition r.form older f gives is m place
+given_one : (k : Problem) (m : ℕ) (x y : Class2) (older : List Fact) (f : Fact) → slice_get k.forms m ≡ Some (N1 x y) → Concludes k (N1 x y) older f → IsGiven k m older
+given_one k m x y [] f at c = absurd c
+given_one k m x y (g ∷ []) f at c = record { lower = x; upper = y; at = at; fact = g; only = refl }
+given_one k m x y (g ∷ h ∷ []) f at c = absurd c
+given_one k m x y (g ∷ h ∷ i ∷ more) f at c = absurd c
+
+-- what gives a fact by that condition
+is_given : (k : Problem) (c : ℕ) (place : Option ℕ) (older : List Fact) (f : Fact) → Gives k c place older f → c ≡ 4 → (m : ℕ) → place ≡ Some m → IsGiven k m older
+is_given k c place older f (in_thing by) e m p = absurd (omega (arith, e))
+is_given k c place older f (in_itself by) e m p = absurd (omega (arith, e))
+is_given k c place older f (by_form n (N1 x y) at concludes) e m p = given_one k m x y older f (subst (λ z. slice_get k.forms z ≡ Some (N1 x y)) (same_Some n m p) at) concludes
+is_given k c place older f (by_form n (N2 _ _ _) at concludes) e m p = absurd (omega (arith, e))
+is_given k c place older f (by_form n (N3 _ _ _) at concludes) e m p = absurd (omega (arith, e))
+is_given k c place older f (by_form n (N4 _ _ _) at concludes) e m p = absurd (omega (arith, e))
+is_given k c place older f (by_form n (N5 _ _) at concludes) e m p = absurd (omega (arith, e))
+is_given k c place older f (by_form n (N6 _ _ _) at concludes) e m p = absurd (omega (arith, e))
+is_given k c place older f (by_form n (N7 _) at concludes) e m p = absurd (omega (arith, e))
+is_given k c place older f (by_form n (N8 _ _) at concludes) e m p = absurd (omega (arith, e))
+is_given k c place older f (by_form n (N9 _ _ _) at concludes) e m p = absurd (omega (arith, e))
+is_given k c place older f (by_form n (N10 _ _) at concludes) e m p = absurd (omega (arith, e))
+is_given k c place older f (by_form n (N11 _ _) at concludes) e m p = absurd (omega (arith, e))
+is_given k c place older f (by_form n (N12 _ _ _) at concludes) e m p = absurd (omega (arith, e))
+is_given k c place older f (unsatisfiable back) e m p = absurd (omega (arith, e))
+is_given k c place older f (loop x n form at is by) e m p = absurd (omega (arith, e))
+is_given k c place older f (handed_on n form at hands) e m p = absurd (omega (arith, e))
+is_given k c place older f (different n a b at same) e m p = absurd (omega (arith, e))
 
 -- ---- the line
 
--- what a line takes for a form of two classes is the same whichever it is
-taken_alike : (a b x y : Class2) (fs : List Fact) → taken (N1 a b) fs ≡ taken (N1 x y) fs
-taken_alike a b x y [] = refl
-taken_alike a b x y (f ∷ []) = refl
-taken_alike a b x y (f ∷ g ∷ more) = refl
+-- lines of one fact are what the line takes
+shown_alone : (b : Prefixes) (lines : List Line) (numbers : List ℕ) (facts : List Fact) (x y : Class2) (n : ℕ) (fs : List Fact) → map (slice_get facts) (n ∷ []) ≡ map Some fs
+    → ((g : Fact) → slice_get facts n ≡ Some g → AreShowing b lines numbers g) → AreShowingEach b lines numbers (taken (N1 x y) fs)
+shown_alone b lines numbers facts x y n [] at showing = absurd cc
+shown_alone b lines numbers facts x y n (g ∷ []) at showing = (numbers, [], sym (append-nil numbers), showing g (heads at), refl)
+shown_alone b lines numbers facts x y n (g ∷ h ∷ more) at showing = absurd cc
 
--- what its line rests on is there and lifts to what a form of two classes names, and lines that show what is taken for one lead to it
-pub record IsLedByInclusion (o : Ontology) (s : Saturated) (r : Reason) (m : ℕ) (f : Fact) : Type 0 where
-  pub there : (p : ℕ) → Contains (rests_on s.normal.entries r) p → p < length s.state.facts
-  pub lift : (a b : Class2) → LeadUpAt s (N1 a b) (rests_on s.normal.entries r)
-  pub lead_to : (a b : Class2) (lines : List Line) (numbers : List ℕ) → ShowsTaken s lines (N1 a b) (rests_on s.normal.entries r) numbers
-      → LeadsBy o s lines numbers f (inclusion_rule (option_map origin_in (slice_get s.normal.entries m)))
+module _ (o : Ontology) (s : Saturated) (w : IsOntology o) (saturated : IsSaturated o s) (n : ℕ) (r : Reason) (born : slice_get s.state.births n ≡ Some r) (f : Fact) (there : slice_get s.state.facts n ≡ Some f)
+    (m : ℕ) (place : r.form ≡ Some m) (inclusion : r.condition ≡ 4) (o' : code_older.Older) (older_is : numbers_of o' ≡ r.older) where
+  given : (older : List Fact) × (map (slice_get s.state.facts) r.older ≡ map Some older) × IsGiven s.state.problem m older
+  given =
+      let (older, at_older, gives) = born_by o s n r f saturated born there in
+      (older, at_older, is_given s.state.problem r.condition r.form older f gives inclusion m place)
 
-pub led_by_inclusion : (o : Ontology) (s : Saturated) → IsOntology o → IsSaturated o s → (n : ℕ) (r : Reason) → slice_get s.state.births n ≡ Some r → (f : Fact) → slice_get s.state.facts n ≡ Some f
-    → (m : ℕ) → r.form ≡ Some m → r.condition ≡ 4 → IsLedByInclusion o s r m f
-led_by_inclusion o s w saturated n r born f there m place is =
-    let (x, y, at_form) = inclusion_there o s saturated n r born f there m place is in
-    let led : IsLedTo o s r m (N1 x y) f = led_to o s w saturated n r born f there m place (N1 x y) at_form tt in
-    record {
-      there = led.there;
-      lift = λ a b fs at. none_named s.state.problem.forms (N1 a b) fs refl refl;
-      lead_to = λ a b lines numbers showing.
-          subst (LeadsBy o s lines numbers f) (rule_of_inclusion o s saturated m x y at_form)
-          (led.lead_to lines numbers (λ fs at. subst (AreShowingEach (prefixes_of s.normal) lines numbers) (taken_alike a b x y fs) (showing fs at)));
-    }
+  alone : map (slice_get s.state.facts) r.older ≡ map Some (given.2.fact ∷ [])
+  alone = given.1 ∙ ap (map Some) given.2.only
+
+  -- one older fact gave it
+  pub one_taken : ((x : FactId) → o' ≡ older.One x → ⊥) → ⊥
+  one_taken none =
+      let (x, is, at_x) = one_older o' s.state.facts given.2.fact (ap (map (slice_get s.state.facts)) older_is ∙ alone) in
+      none x is
+
+  module _ (x : FactId) (is : o' ≡ older.One x) where
+    -- the line rests on it alone
+    pub rests_on_one : rests_on s.normal.entries r ≡ x.0 ∷ []
+    rests_on_one = subst (λ (c : ℕ). rests_on s.normal.entries (record r { condition = c }) ≡ r.older) (sym inclusion) refl ∙ sym older_is ∙ ap numbers_of is
+
+    pub rests : Contains (rests_on s.normal.entries r) x.0
+    rests = subst (λ ns. Contains ns x.0) (sym rests_on_one) (Contains-first x.0 [])
+
+    -- and lines that show that one lead to the fact
+    pub leads_on : (lines : List Line) (numbers : List ℕ) → ((g : Fact) → slice_get s.state.facts x.0 ≡ Some g → AreShowing (prefixes_of s.normal) lines numbers g)
+        → LeadsBy o s lines numbers f (inclusion_rule (option_map origin_in (slice_get s.normal.entries m)))
+    leads_on lines numbers showing =
+        let led : IsLedTo o s r m (N1 given.2.lower given.2.upper) f = led_to o s w saturated n r born f there m place (N1 given.2.lower given.2.upper) given.2.at tt in
+        subst (LeadsBy o s lines numbers f) (rule_of_inclusion o s saturated m given.2.lower given.2.upper given.2.at)
+        (led.lead_to lines numbers (λ fs at. shown_alone (prefixes_of s.normal) lines numbers s.state.facts given.2.lower given.2.upper x.0 fs (ap (map (slice_get s.state.facts)) (sym rests_on_one) ∙ at) showing))

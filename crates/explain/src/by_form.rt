@@ -23,10 +23,10 @@ use crate::older::rests_on;
 use crate::premises::premises;
 use crate::same::same_along;
 use crate::sink::LineSink;
-use axioms::{Axiom, ExprId, IndId, Memory, Ontology};
+use axioms::{Axiom, IndId, Memory, Ontology};
 use certificate::Rule;
 use facts::{Birth, FactId, Older};
-use normal_forms::{Class2, Form, Origin};
+use normal_forms::{Form, Origin};
 use normalise::Normal;
 use smallvec::SmallVec;
 
@@ -88,9 +88,6 @@ fn origin_rule(
 /// The condition of a fact that a form of two classes led to.
 const BY_INCLUSION: u8 = 4;
 
-/// A form of two classes: what a line takes for one is the same whichever it is.
-const INCLUSION: Form = Form::N1(Class2::Expr(ExprId::THING), Class2::Expr(ExprId::THING));
-
 // The rule for a fact of a form of two classes, which has that number, and the number of the axiom that gave the form, if one did.
 fn inclusion_rule(normal: &Normal, number: u32) -> (Rule, Option<usize>)
     ensures { result ≡ inclusion_rule (option_map origin_in (slice_get normal.now.entries number)) }
@@ -102,7 +99,8 @@ fn inclusion_rule(normal: &Normal, number: u32) -> (Rule, Option<usize>)
 }
 
 // What a form of two classes led to: adds the line of the fact, where it has one, and gives the numbers of the lines that show the fact.
-// Neither the form is read nor the axiom that gave it: where there are many, each is read from another place, which takes longest of all.
+// Neither the form is read nor the axiom that gave it, nor the older fact: where there are many, each is read from another place, which
+// takes longest of all.
 fn shown_by_inclusion<L: LineSink>(
     basis: &Basis<'_>,
     derivation: &mut Derivation<L>,
@@ -112,7 +110,6 @@ fn shown_by_inclusion<L: LineSink>(
     form: u32,
 ) -> Result<LineNumbers, Memory>
     requires saturated { IsSaturated basis.now.ontology.now basis.now.saturation.now }
-    requires paths { basis.now.paths.now ≡ basis.now.saturation.now.state.problem.forms }
     requires there { fact.0 < length basis.now.saturation.now.state.facts }
     requires derivation { IsDerivation basis.now.ontology.now derivation.old }
     requires older { AreOlderShown basis.now.saturation.now derivation.old shown.now fact.0 }
@@ -125,11 +122,13 @@ fn shown_by_inclusion<L: LineSink>(
     ensures used { IfOk result (λ numbers. EachIsUsed basis.now.saturation.now shown.now fact.0 derivation.old derivation.new numbers.items) }
 {
     basis.ontology.well_formed();
-    let normal = basis.saturation.normal();
-    let older = rests_on(normal, birth);
-    let numbers = premises(basis, derivation, shown, older, &INCLUSION)?;
+    let Older::One(older) = birth.older() else {
+        // One fact is taken.
+        unreachable!()
+    };
+    let numbers = shown.at(basis.alloc, older.0 as usize)?;
     let fact = fact_of(basis.saturation, fact);
-    let (rule, axiom) = inclusion_rule(normal, form);
+    let (rule, axiom) = inclusion_rule(basis.saturation.normal(), form);
     let numbers = concluded(basis.alloc, derivation, fact, rule, axiom, numbers)?;
     Ok(numbers)
 }

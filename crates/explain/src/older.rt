@@ -28,6 +28,7 @@ fn first_alone(older: Older) -> Older
 }
 
 /// The older facts that the line of a fact with this birth rests on.
+#[inline(always)]
 pub(crate) fn rests_on(normal: &Normal, birth: &Birth) -> Older
     ensures { numbers_of result ≡ rests_on normal.now.entries (reason birth.now) }
 {
