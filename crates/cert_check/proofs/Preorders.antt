@@ -1,5 +1,5 @@
 -- Where all claims agree with the lines of a derivation, in a model, what the lines say of classes is a preorder.
-use Rattle.std.proofs.Common.{◌≡◌, ℕ, ◌<◌, Bool, true, false, ◌||◌, List, length, refl, sym, ap, ◌∙◌, subst, arith}
+use Rattle.std.proofs.Common.{◌≡◌, ℕ, ◌<◌, Bool, true, false, ◌||◌, List, length, None, refl, sym, ap, ◌∙◌, subst, arith}
 use Rattle.std.proofs.lemmas.Bool.{false≢true}
 use Rattle.std.proofs.lemmas.List.Elements.{All-contains}
 use Rattle.axioms.specs.Ontology.{Ontology, IsClassAt, expression, nothing, axiom_trees}
@@ -14,7 +14,7 @@ use Rattle.cert_check.specs.Acceptance.{ClaimHolds}
 use Rattle.listed_model.specs.Listing.{IsListing}
 use Rattle.cert_check.specs.Derivation.{IsDerivation, HasLine}
 use Rattle.cert_check.specs.Lists.{said_by, AreSuperclasses, ArePreorder}
-use Rattle.cert_check.specs.Verdict.{AgreedClaimsArePreorder, Each, HasClaim, ClaimsHold}
+use Rattle.cert_check.specs.Verdict.{ClaimsAgainst, Each, HasClaim, ClaimsHold}
 use Rattle.cert_check.proofs.Derivations.{line_true}
 use Rattle.cert_check.proofs.Relations.{below_line}
 
@@ -82,6 +82,7 @@ module _ (o : Ontology) (w : IsOntology o) (lines : List Line) (derived : IsDeri
     transitive = λ c d g lc ld lg. transitive_at c d g lc ld lg (is_listed above c nothing_class) refl;
   }
 
-pub agreed_claims_are_preorder : AgreedClaimsArePreorder
+-- where no claim of a listed model speaks against a derivation, what its lines say of classes is a preorder
+pub agreed_claims_are_preorder : (o : Ontology) → IsOntology o → (lines : List Line) → IsDerivation o lines → (l : Listed) → IsListedOf o l → (i : Interpretation) → IsListing o l i → IsModel i (axiom_trees o) → ClaimsAgainst o i lines l None → (above : List (List ℕ)) → AreSuperclasses o (said_by lines) above → ArePreorder above
 agreed_claims_are_preorder o w lines derived l fits i listing model agreed above class =
     are_preorder o w lines derived l fits i listing model agreed.0 agreed.1 above class

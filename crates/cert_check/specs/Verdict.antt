@@ -3,13 +3,12 @@ use Rattle.std.specs.Prelude.{◌≡◌, ◌↔◌, ℕ, ◌<◌, List, Bool, Is
 use Rattle.std.specs.declared.option.Option.{Option}
 use Rattle.std.specs.List.{Contains}
 use Rattle.axioms.specs.Ontology.{Ontology, IsClassAt, axiom_trees, thing, nothing}
-use Rattle.axioms.specs.WellFormedness.{IsOntology}
 use Rattle.axioms.specs.declared.ids.ClassId.{ClassId}
 use Rattle.axioms.specs.declared.ids.IndId.{IndId}
 use Rattle.interpretation_spec.specs.NamedInterpretation.{IsFirstUnsatisfied}
 use Rattle.interpretation_spec.specs.Interpretation.{Interpretation, IsInterpretation, IsModel}
 use Rattle.certificate.specs.Certificate.{Expression, Individual, Conclusion, Sub, Edge, Same, Line, Listed, Certificate}
-use Rattle.certificate.specs.Writability.{IsSomeTextOf, IsListedOf}
+use Rattle.certificate.specs.Writability.{IsSomeTextOf}
 use Rattle.certificate.specs.Prefixes.{IsNoText}
 use Rattle.taxonomy.specs.Texts.{taxonomy_text, instances_text, inconsistent_taxonomy_text, inconsistent_instances_text}
 use Rattle.cert_check.specs.declared.verdict.Reason.{Reason}
@@ -19,7 +18,7 @@ use Rattle.cert_check.specs.declared.verdict.Verdict.TheVariants.{Accepted, Reje
 use Rattle.cert_check.specs.Derivation.{IsDerivation, HasLine}
 use Rattle.cert_check.specs.Acceptance.{Agrees, ClaimHolds, LiesBelow, Belongs}
 use Rattle.listed_model.specs.Listing.{IsListing}
-use Rattle.cert_check.specs.Lists.{AreSuperclasses, AreTypes, ArePreorder, said_by}
+use Rattle.cert_check.specs.Lists.{AreSuperclasses, AreTypes, said_by}
 use Rattle.cert_check.specs.Rows.{SomeLine}
 use Rattle.cert_check.specs.Faults.{IsFirstBadLine, DifferFirstAt}
 use Rattle.cert_check.specs.Lines.{IsTrueIn}
@@ -108,13 +107,6 @@ ClaimsAgainst _ _ _ _ _ = ⊥
 abbrev pub ClaimsAgainstLists : Ontology → Listed → (above types : List (List ℕ)) → Option Reason → Type 0
 ClaimsAgainstLists o listed above types reason =
     (lines : List Line) → AreSuperclasses o (said_by lines) above → AreTypes o (said_by lines) types → (i : Interpretation) → IsListing o listed i → IsInterpretation i → ClaimsAgainst o i lines listed reason
-
--- where no claim of a listed model speaks against a derivation, what its lines say of classes is a preorder
-abbrev pub AgreedClaimsArePreorder : Type 0
-AgreedClaimsArePreorder =
-    (o : Ontology) → IsOntology o → (lines : List Line) → IsDerivation o lines → (listed : Listed) → IsListedOf o listed →
-    (i : Interpretation) → IsListing o listed i → IsModel i (axiom_trees o) → ClaimsAgainst o i lines listed None →
-    (above : List (List ℕ)) → AreSuperclasses o (said_by lines) above → ArePreorder above
 
 -- what speaks against the texts where the listed interpretation is i: an axiom that it does not satisfy, else a claim or an
 -- individual, else the texts

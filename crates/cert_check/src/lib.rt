@@ -16,8 +16,8 @@ mod theory;
 mod verdict;
 
 pub use certificate::{
-    CertFault, CertWriteFault, Certificate, Conclusion, Format, Line, Listed, MOST_ELEMENTS,
-    MakeFault, Rule, Subject, read_certificate, write_certificate,
+    CertFault, CertWriteFault, Certificate, Claim, ClassRow, Conclusion, Format, Line, Listed,
+    MOST_ELEMENTS, MakeFault, PairRow, Rule, Subject, read_certificate, write_certificate,
 };
 pub use checker::{check, check_from};
 pub use conversion::{ConvertFault, acceptable_in_both_formats, convert};

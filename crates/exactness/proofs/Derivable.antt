@@ -1,5 +1,5 @@
 -- What is derivable has a derivation, and a derivation has no others.
-use Rattle.std.proofs.Common.{◌≡◌, ℕ, zero, suc, ◌<◌, ◌≤◌, ◌↔◌, inl, inr, List, [], ◌∷◌, ◌++◌, map, length, slice_get, take, Option, Some, None, refl, sym, ap, ◌∙◌, subst, arith}
+use Rattle.std.proofs.Common.{◌≡◌, ℕ, zero, suc, ◌<◌, ◌≤◌, ◌↔◌, inl, inr, List, [], ◌∷◌, ◌++◌, map, length, slice_get, take, Option, Some, None, refl, ap, ◌∙◌, subst, arith}
 use Rattle.std.proofs.lemmas.Option.{slice_get_within, same_Some, none-some}
 use Rattle.std.proofs.lemmas.List.{take_all, take-append-le}
 use Rattle.axioms.specs.Ontology.{Ontology}
@@ -122,60 +122,6 @@ derivable_up_to {o} lines d (suc n) m line l e =
 
 pub derivable_from_line : {o : Ontology} (lines : List Line) (c : Conclusion) → IsDerivation o lines → HasLine lines c → IsDerivable o c
 derivable_from_line {o} lines c d h = subst (IsDerivable o) h.3 (derivable_up_to lines d (suc h.0) h.0 h.1 (omega arith) h.2)
-
--- ---- two derivations
-
-pub record Joined (o : Ontology) (a b : List Line) : Type 0 where
-  pub lines : List Line
-  pub derivation : IsDerivation o lines
-  pub keeps : Keeps a lines
-  pub first : (c : Conclusion) → HasLine a c → HasLine lines c
-  pub second : (c : Conclusion) → HasLine b c → HasLine lines c
-
-AreDerivable-from_each : {o : Ontology} (cs : List Conclusion) → ((n : ℕ) (c : Conclusion) → slice_get cs n ≡ Some c → IsDerivable o c) → AreDerivable o cs
-AreDerivable-from_each [] each = none
-AreDerivable-from_each (c ∷ cs) each = more (each 0 c refl) (AreDerivable-from_each cs (λ n. each (suc n)))
-
-at_numbers_get : {A : Type 0} (xs : List A) (ns : List ℕ) (ys : List A) → at_numbers xs ns ≡ Some ys → (k : ℕ) (y : A) → slice_get ys k ≡ Some y → (n : ℕ) × (slice_get xs n ≡ Some y)
-at_numbers_get xs [] ys e k y h = absurd (none-some y (subst (λ (zs : List _). slice_get zs k ≡ Some y) (sym (same_Some [] ys e)) h))
-at_numbers_get xs (zero ∷ ns) ys e k y h = absurd (none-some ys e)
-at_numbers_get {A} xs (suc n ∷ ns) ys e k y h =
-    let p = prepended_list_parts (slice_get xs n) (at_numbers xs ns) ys e in
-    go p.1 k (subst (λ (zs : List A). slice_get zs k ≡ Some y) (sym p.4) h) p.2 (at_numbers_get xs ns p.1 p.3)
-  where
-    go : {z : A} (zs : List A) (k : ℕ) → slice_get (z ∷ zs) k ≡ Some y → slice_get xs n ≡ Some z → ((k : ℕ) (y : A) → slice_get zs k ≡ Some y → (n : ℕ) × (slice_get xs n ≡ Some y)) → (n : ℕ) × (slice_get xs n ≡ Some y)
-    go zs zero h at rest = (n, at ∙ h)
-    go zs (suc k) h at rest = rest k y h
-
-pub joined : {o : Ontology} (a b : List Line) → IsDerivation o a → IsDerivation o b → Joined o a b
-joined {o} a b d e =
-    let each : (n : ℕ) (c : Conclusion) → slice_get (conclusions b) n ≡ Some c → IsDerivable o c =
-    λ n c at. (let h = at_conclusion b n c at in derivable_from_line b c e (n, h.0, h.1, h.2)) in
-    let f = longer_each (AreDerivable-from_each (conclusions b) each) a d in
-    record {
-      lines = f.lines;
-      derivation = f.derivation;
-      keeps = f.keeps;
-      first = λ c h. (h.0, h.1, f.keeps h.0 h.1 h.2, h.3);
-      second = λ c h. (
-          let g = at_numbers_get (conclusions f.lines) f.numbers (conclusions b) f.at h.0 c (conclusion_at b h.0 h.1 h.2 ∙ ap Some h.3) in
-          let l = at_conclusion f.lines g.0 c g.1 in
-          (g.0, l.0, l.1, l.2));
-    }
-
--- ---- any number of conclusions
-
--- one derivation has them all
-pub derivation_from_each : {o : Ontology} {cs : List Conclusion} → AreDerivable o cs → (lines : List Line) × IsDerivation o lines × ((n : ℕ) (c : Conclusion) → slice_get cs n ≡ Some c → HasLine lines c)
-derivation_from_each {cs = cs} ps =
-    let f = longer_each ps [] derivation_nil in (
-      f.lines,
-      f.derivation,
-      λ n c e. (
-          let g = at_numbers_get (conclusions f.lines) f.numbers cs f.at n c e in
-          let l = at_conclusion f.lines g.0 c g.1 in
-          (g.0, l.0, l.1, l.2)),
-    )
 
 pub derivable_iff : (o : Ontology) (c : Conclusion) → IsDerivable o c ↔ ((lines : List Line) × IsDerivation o lines × HasLine lines c)
 derivable_iff o c = (λ p. HasLine-from_derivable p, λ (lines, d, h). derivable_from_line lines c d h)

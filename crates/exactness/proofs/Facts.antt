@@ -1,23 +1,20 @@
 -- Each fact of the closure is derivable, and no fresh name is left: of a prefix of an intersection each operand, of a prefix of a chain a walk.
-use Rattle.std.proofs.Common.{◌≡◌, ◌⊎◌, ℕ, length-take, option_map, ◌+◌, ◌<◌, inl, inr, List, [], ◌∷◌, ◌++◌, map, length, slice_get, slice_index, get_or, take, Some, All, Contains, Bool, true, false, ◌==◌, if◌then◌else◌, refl, sym, ap, ◌∙◌, subst, arith, eqb-true}
+use Rattle.std.proofs.Common.{◌≡◌, ◌⊎◌, ℕ, length-take, ◌+◌, ◌<◌, inl, inr, List, [], ◌∷◌, ◌++◌, length, slice_get, slice_index, get_or, take, Some, All, Contains, Bool, true, false, ◌==◌, if◌then◌else◌, refl, sym, ap, subst, arith, eqb-true}
 use Rattle.std.specs.List.{AllByRecursion}
-use Rattle.std.proofs.lemmas.Option.{slice_get_within, slice_get-map, slice_get-get_or}
+use Rattle.std.proofs.lemmas.Option.{slice_get_within}
 use Rattle.std.proofs.lemmas.List.{take_all}
-use Rattle.std.proofs.lemmas.List.Elements.{All-head, All-tail, All-cons, All-nil, All-push, All-contains}
+use Rattle.std.proofs.lemmas.List.Elements.{All-cons, All-nil, All-push, All-contains}
 use Rattle.axioms.specs.Ontology.{Ontology, Class, And, SubProperty, DifferentIndividuals, nothing}
 use Rattle.axioms.specs.WellFormedness.{IsOntology}
 use Rattle.lemmas.proofs.Members.{Contains-from_slice_get}
 use Rattle.lemmas.proofs.Places.{take_push}
 use Rattle.certificate.specs.Certificate.{Subject, Expression, Individual, Conclusion, Sub, Edge, Same}
 use Rattle.cert_check.specs.Lines.{IsWalk}
-use Rattle.certificate.specs.Certificate.{Line}
 use Rattle.certificate.specs.Writability.{IsSubjectOf}
-use Rattle.cert_check.specs.Derivation.{IsDerivation, HasLine}
 use Rattle.normal_forms.specs.Forms.{Class2, Whole, Prefix, Property2, Property, Steps, N1, N2, N3, N4, N5, N6, N7, N8, N9, N10, N11, N12, IsForm, sub_class, equivalent, right_and, left_and, disjoint, right_some, left_some, domain, sub_property, same_property, chain, transitive, reflexive, class_assertion, property_assertion, same_individuals, different_individuals, negative_assertion, first_of, first_steps, IsNextInCircle}
 use Rattle.closure.specs.Closure as closure
 use Rattle.closure.specs.Closure.{Context, Fact, In, IsAtOrBelow, same, step, AreSame, itself, forth, back, IsRoot, named, individual, question, IsContextBy, root, target, Gives, in_thing, in_itself, asserted, asserted_edge, subsumed, both, successor, predecessor, unsatisfiable, chained, loop, same_class, same_source, same_target, different, denied, IsFact, AreFacts, given}
 use Rattle.exactness.specs.Derivability.{IsDerivable, AreDerivable, none, more, subject_of, ClassIsDerivable, WalkIsDerivable, EdgeIsDerivable, FactIsDerivable}
-use Rattle.exactness.proofs.Derivable.{derivation_from_each}
 use Rattle.exactness.proofs.Rules.{derivable_within, axiom_within, k1, k2, k4_sub, k4_same, k5, k6, k7, k8, k9, k10, k11, k12_sub, k12_same, k13_chain, k13_transitive, k14, k15, k16, k17, k18, k19_class, k19_source, k19_target, k20_different, k20_denied}
 
 -- the expression lies above the subject
@@ -272,16 +269,3 @@ module _ (o : Ontology) (asked : List ℕ) (h : IsOntology o) where
 
   pub below_derivable : (x : Context) (d : ℕ) → IsFact o asked (In (Whole d) x) → IsDerivable o (Sub (subject_of x) d)
   below_derivable x d f = (fact_derivable f).1
-
-  all_below : (wanted : List (Context × ℕ)) → All (λ w. IsFact o asked (In (Whole w.1) w.0)) wanted → AreDerivable o (map (λ w. Sub (subject_of w.0) w.1) wanted)
-  all_below [] fs = none
-  all_below (w ∷ wanted) fs =
-      let F : Context × ℕ → Type 0 = λ w. IsFact o asked (In (Whole w.1) w.0) in
-      more (below_derivable w.0 w.1 (All-head F w wanted fs)) (all_below wanted (All-tail F w wanted fs))
-
-  -- any number of facts have one derivation
-  pub each_has_line : (wanted : List (Context × ℕ)) → All (λ w. IsFact o asked (In (Whole w.1) w.0)) wanted → (lines : List Line) × IsDerivation o lines × All (λ w. HasLine lines (Sub (subject_of w.0) w.1)) wanted
-  each_has_line wanted fs =
-      let conclusion : Context × ℕ → Conclusion = λ w. Sub (subject_of w.0) w.1 in
-      let e = derivation_from_each (all_below wanted fs) in
-      (e.0, e.1, λ k d l. e.2 k (conclusion (get_or wanted k d)) (slice_get-map conclusion wanted k ∙ ap (option_map conclusion) (slice_get-get_or wanted k d l)))

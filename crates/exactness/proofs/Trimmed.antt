@@ -16,9 +16,8 @@ use Rattle.cert_check.specs.Derivation.{IsDerived, IsDerivation, at_numbers}
 use Rattle.exactness.specs.Trimming.{EndsWith}
 use Rattle.certificate.specs.Writability.{Ascends}
 use Rattle.axioms.specs.View.{at_number}
-use Rattle.exactness.specs.Derivability.{IsDerivable}
 use Rattle.exactness.specs.Trimming.{RestsOn, itself, premise, place, renumbered_line, IsTrimmed, EachServes, premises_of, wanted_below, trimmed_numbers, trimmed}
-use Rattle.exactness.proofs.Derivable.{derivation_from_derivable, HasLine-from_ends, prepended_list_parts, at_conclusion, conclusion_at, conclusions}
+use Rattle.exactness.proofs.Derivable.{prepended_list_parts, at_conclusion, conclusion_at, conclusions}
 
 -- ---- ascending numbers
 
@@ -361,12 +360,3 @@ trimmed_is_trimmed lines goal g d e =
 pub trimmed_all : (o : Ontology) (lines : List Line) (goal : ℕ) (line : Line) → IsDerivation o lines → at_number lines goal ≡ Some line → (left : List Line) → IsTrimmed lines goal left → IsDerivation o left × EndsWith left line.conclusion × EachServes left
 trimmed_all o lines goal line d e left t =
     (trimmed_derivation o lines goal line d e left t, trimmed_ends o lines goal line d e left t, trimmed_serves o lines goal line d e left t)
-
--- what is derivable has a derivation that ends in it and in which each other line is of use
-pub trimmed_from_derivable : {o : Ontology} {c : Conclusion} → IsDerivable o c → (lines : List Line) × IsDerivation o lines × EndsWith lines c × EachServes lines
-trimmed_from_derivable {o} p =
-    let e = derivation_from_derivable p in
-    let h = HasLine-from_ends e.2 in
-    let goal = suc h.0 in
-    let all = trimmed_all o e.0 goal h.1 e.1 h.2 (trimmed e.0 goal) (trimmed_is_trimmed e.0 goal h.1 e.1 h.2) in
-    (trimmed e.0 goal, all.0, subst (EndsWith (trimmed e.0 goal)) h.3 all.1, all.2)

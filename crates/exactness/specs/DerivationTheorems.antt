@@ -1,16 +1,14 @@
 -- What is proved of derivations.
 use Rattle.std.specs.Prelude.{◌≡◌, ℕ, ◌↔◌, List, Some}
-use Rattle.std.specs.List.{All}
 use Rattle.axioms.specs.Ontology.{Ontology}
 use Rattle.axioms.specs.WellFormedness.{IsOntology}
-use Rattle.certificate.specs.Certificate.{Conclusion, Sub}
+use Rattle.certificate.specs.Certificate.{Conclusion}
 use Rattle.certificate.specs.Certificate.{Line}
 use Rattle.cert_check.specs.Derivation.{IsDerivation, HasLine}
 use Rattle.exactness.specs.Trimming.{EndsWith}
 use Rattle.axioms.specs.View.{at_number}
-use Rattle.normal_forms.specs.Forms.{Whole}
-use Rattle.closure.specs.Closure.{Context, Fact, In, IsFact}
-use Rattle.exactness.specs.Derivability.{IsDerivable, FactIsDerivable, subject_of}
+use Rattle.closure.specs.Closure.{Fact, IsFact}
+use Rattle.exactness.specs.Derivability.{IsDerivable, FactIsDerivable}
 use Rattle.exactness.specs.Trimming.{IsTrimmed, EachServes, trimmed}
 
 -- what is derivable is what some derivation has
@@ -23,19 +21,6 @@ DerivableHasDerivation =
 abbrev pub FactsAreDerivable : Type 0
 FactsAreDerivable =
     (o : Ontology) (asked : List ℕ) → IsOntology o → (fact : Fact) → IsFact o asked fact → FactIsDerivable o fact
-
--- one derivation has any number of facts
-abbrev pub FactsHaveDerivation : Type 0
-FactsHaveDerivation =
-    (o : Ontology) (asked : List ℕ) → IsOntology o → (wanted : List (Context × ℕ)) →
-    All (λ w. IsFact o asked (In (Whole w.1) w.0)) wanted →
-    (lines : List Line) × IsDerivation o lines × All (λ w. HasLine lines (Sub (subject_of w.0) w.1)) wanted
-
--- and for one fact a derivation ends in it, each of whose other lines serves a later one
-abbrev pub FactHasShortDerivation : Type 0
-FactHasShortDerivation =
-    (o : Ontology) (asked : List ℕ) → IsOntology o → (x : Context) (e : ℕ) → IsFact o asked (In (Whole e) x) →
-    (lines : List Line) × IsDerivation o lines × EndsWith lines (Sub (subject_of x) e) × EachServes lines
 
 -- what is left of a derivation for a goal is a derivation that ends in the goal, and each other line serves a later one
 abbrev pub TrimmedIsDerivation : Type 0

@@ -2,7 +2,7 @@
 #![tactic(auto)]
 
 ghost use Rattle.exactness.specs.Acceptance.{ShownIsAcceptable};
-ghost use Rattle.exactness.specs.DerivationTheorems.{DerivableHasDerivation, FactsAreDerivable, FactsHaveDerivation, FactHasShortDerivation, TrimmedIsDerivation, TrimmedIsTrimmed};
+ghost use Rattle.exactness.specs.DerivationTheorems.{DerivableHasDerivation, FactsAreDerivable, TrimmedIsDerivation, TrimmedIsTrimmed};
 ghost use Rattle.exactness.specs.ListedTheorems.{ListedIsModel, ListedAgrees, GroupsAreElements, ClosureIsComplete, TypesAreComplete, ListedExists, ListedIsDetermined};
 ghost use Rattle.exactness.specs.Theorems.{FactsFollow, NothingIsBelowAll, ClosureIsExact, TypesAreExact, ContradictionIsSound, ContradictionIsComplete, QuestionsChangeNothing, ListedMeetsClaims};
 
@@ -21,8 +21,6 @@ pub fn listed_interpretation()
 pub fn derivations()
     ensures derivable { DerivableHasDerivation }
     ensures facts { FactsAreDerivable }
-    ensures lines { FactsHaveDerivation }
-    ensures short { FactHasShortDerivation }
     ensures trimmed { TrimmedIsDerivation }
     ensures computed { TrimmedIsTrimmed }
 {}

@@ -1,5 +1,5 @@
 //! The items of one context together.
-ghost use Rattle.std.specs.Prelude.{◌≡◌, ◌<◌, ◌⊎◌, ◌∷◌, [], ℕ, Contains, None, Some, IfNone, IfSome, IsTrue, ◌↔◌, OnErr, OnOk, length};
+ghost use Rattle.std.specs.Prelude.{◌≡◌, ◌<◌, [], ℕ, None, Some, IfNone, IfSome, IsTrue, ◌↔◌, OnErr, OnOk, length};
 ghost use Rattle.work_list.specs.Bag.{Adds};
 ghost use Rattle.work_list.specs.Groups.{LeadsTo, PopsTogether, PushesInto};
 ghost use Rattle.work_list.specs.Waiting.{AllStand, AreStacked, grouped, items_in, list_at};
@@ -13,8 +13,8 @@ use std::alloc::{AllocError, Global};
 use std::marker::Model;
 
 /// Pops an item of the context whose turn it is, which is that of the item that it popped last or one that it was led to since, while
-/// that has any, and then goes on to the context that began to wait last, or had to wait for another. It is led to a context only before
-/// that has had its turn. It is seen as its items, in no
+/// that has any, and then goes on to the context that began to wait last, or had to wait for another. It is meant to be led to a context
+/// only before that has had its turn, which no clause says: which item is popped matters for time alone. It is seen as its items, in no
 /// order that means anything, and the context whose turn it is.
 /// A push and a pop take constant time on the whole, however many items and contexts there are. A push hands the item back where
 /// memory is refused, or where a `usize` cannot count the items. Memory goes by the largest number of a context, 16 bytes for each
