@@ -1,6 +1,5 @@
 //! A derivation as a graph.
 ghost use Rattle.answer_texts.specs.Graphs as graphs;
-ghost use Rattle.answer_texts.specs.Proof.{numbered_text};
 ghost use Rattle.certificate.specs.Writability.{IsLineOf};
 ghost use Rattle.certificate.specs.View.{line_of, lines_of};
 ghost use Rattle.std.specs.List.{enumerate_from, flat_map};

@@ -3,7 +3,7 @@ ghost use Rattle.answer_texts.specs.Pairs.{all_elements as all};
 ghost use Rattle.answer_texts.specs.Reached.{elements_in as in_set};
 ghost use Rattle.interpretation_spec.specs.NumberedInterpretation.{members_of, targets_of};
 ghost use Rattle.number_sets.specs.Members.{has};
-ghost use Rattle.std.specs.Prelude.{◌<◌, ◌≡◌, ◌^◌, ◌≤◌, IfOk, length, slice_index};
+ghost use Rattle.std.specs.Prelude.{◌<◌, ◌≡◌, ◌≤◌, IfOk, length, slice_index};
 
 use axioms::{ClassId, IndId, Memory, PropId};
 use interpretation_spec::Interpretation;

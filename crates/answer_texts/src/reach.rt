@@ -1,6 +1,6 @@
 //! The elements that pairs lead to from one.
 ghost use Rattle.answer_texts.specs.Reached.{IsReached, all_targets};
-ghost use Rattle.interpretation_spec.specs.NumberedInterpretation.{IsMadeFor, IsNumberedInterpretation};
+ghost use Rattle.interpretation_spec.specs.NumberedInterpretation.{IsMadeFor};
 ghost use Rattle.number_sets.specs.Members.{has};
 ghost use Rattle.number_sets.specs.Search.{search_of, with_number, with_starts};
 ghost use Rattle.std.specs.Prelude.{◌<◌, ◌↔◌, ◌≡◌, ◌^◌, ◌≤◌, IfOk, OnOk, true, ℕ};

@@ -5,7 +5,7 @@ ghost use Rattle.answer_texts.specs.Refutation as text;
 ghost use Rattle.axioms.specs.Ontology.{name_at};
 ghost use Rattle.interpretation_spec.specs.NumberedInterpretation.{IsMadeFor};
 ghost use Rattle.std.specs.List.{enumerate_from, flat_map, range_with_len};
-ghost use Rattle.std.specs.Prelude.{◌++◌, ◌-◌, ◌<◌, ◌≡◌, ◌^◌, ◌≤◌, IfOk, OnOk, length};
+ghost use Rattle.std.specs.Prelude.{◌++◌, ◌-◌, ◌<◌, ◌≡◌, IfOk, OnOk, length};
 
 use crate::looking::{all_elements, element_of, elements_in, is_member};
 use crate::names::{push_name, push_number};

@@ -1,7 +1,7 @@
 -- Ontologies that have grown from others.
 use Rattle.std.proofs.Common.{◌≡◌, ℕ, ◌<◌, List, [], ◌++◌, length, map, take, slice_get, Some, string_bytes, sym, ap, ◌∙◌, subst, arith, append_assoc}
 use Rattle.std.proofs.Math.Seq.{take-append_seam}
-use Rattle.std.proofs.lemmas.List.{append-nil, length-map, length-take, take-map}
+use Rattle.std.proofs.lemmas.List.{append-nil, length-take, take-map}
 use Rattle.std.proofs.lemmas.Option.{slice_get_within}
 use Rattle.lemmas.proofs.Places.{slice_get_take}
 use Rattle.axioms.specs.Fields.{kept_ontology, IsKept}

@@ -1,7 +1,7 @@
 //! The classes that lines put above each class and each individual.
 ghost use Rattle.cert_check.specs.Lists.{AddsNumbers, PutsBelow, PutsInto};
 ghost use Rattle.certificate.specs.View.{conclusion_of};
-ghost use Rattle.std.specs.Prelude.{◌<◌, ◌≡◌, MatchOption, OnOk, ℕ};
+ghost use Rattle.std.specs.Prelude.{◌<◌, MatchOption, OnOk, ℕ};
 
 use axioms::{ClassId, IndId, Memory, Ontology};
 use certificate::{Conclusion, Subject};

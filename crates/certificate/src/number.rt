@@ -1,6 +1,6 @@
 //! Words and decimal numbers at the front of bytes.
 
-ghost use Rattle.std.specs.Prelude.{◌≡◌, length, option_map};
+ghost use Rattle.std.specs.Prelude.{◌≡◌, option_map};
 ghost use Rattle.certificate.specs.LineReading.{small_at};
 ghost use Rattle.certificate.specs.Reading.{after, more_digits, number_at};
 

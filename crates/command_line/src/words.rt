@@ -1,6 +1,6 @@
 //! Reads the program's words.
-ghost use Rattle.std.specs.Prelude.{◌≡◌, ℕ, IfOk, IfErr, map, option_map, true};
-ghost use Rattle.clap.specs.Words.{subcommand_rows_of, rows_of, found_of, first_of, takes};
+ghost use Rattle.std.specs.Prelude.{◌≡◌, IfOk, IfErr, map, option_map, true};
+ghost use Rattle.clap.specs.Words.{subcommand_rows_of, rows_of, found_of, first_of};
 ghost use Rattle.command_line.specs.CommandLine.{AreLimits, ArePaths, IsCommand, IsConversion, IsFlag, IsFormat, IsNumber, IsQuestion, IsTaskOf, IsTelling, IsVersion, NamesTask, Finds, Refuses, draws_facts as draws, tells_progress as tells};
 
 use crate::command::elc_command;

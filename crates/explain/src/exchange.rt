@@ -1,5 +1,4 @@
 //! Lines of a fact with an individual in the place of another that is one with it.
-ghost use Rattle.axioms.specs.declared.ids.IndId.{IndId as Ind};
 ghost use Rattle.cert_check.specs.Derivation.{IsDerivation};
 ghost use Rattle.certificate.specs.Certificate.{Subject as Subject2};
 ghost use Rattle.certificate.specs.View.{subject_of};

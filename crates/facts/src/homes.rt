@@ -2,7 +2,7 @@
 ghost use Rattle.facts.specs.Slots.{home_of, AreFound, HaveSlots, IfAt, IfFree, IsFound, IsFreeAt, IsFreeFor, number_of, StillFound};
 ghost use Rattle.facts.specs.declared.seeds.Seeds.{Seeds as TheSeeds};
 ghost use Rattle.facts.specs.declared.contexts.Fact.{Fact as AFact};
-ghost use Rattle.std.specs.Prelude.{◌≡◌, ℕ, suc, ◌<◌, ◌≤◌, [], length, slice_get, Contains, IfOk, IfSome, IsNone, OnOk, Some};
+ghost use Rattle.std.specs.Prelude.{◌≡◌, ℕ, suc, ◌<◌, length, slice_get, Contains, IfOk, IfSome, IsNone, OnOk, Some};
 
 use crate::contexts::{Context, Fact};
 use crate::seeds::Seeds;

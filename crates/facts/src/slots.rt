@@ -6,7 +6,7 @@
 //! stand where those of more have the address of theirs, and have one bucket.
 ghost use Rattle.facts.specs.Slots.{bucket_of, buckets_of, CanHold, count_of, HasRoom, HasSlots, Holds, HoldsNot, IfAt, IfFree, IsFirstFree, numbers_of, Stands, StandsIn, StandsNowhere, StillHolds, StillStand};
 ghost use Rattle.facts.specs.declared.contexts.Fact.{Fact as AFact};
-ghost use Rattle.std.specs.Prelude.{◌≡◌, ◌↔◌, ◌⊎◌, ℕ, suc, ◌<◌, ◌≤◌, length, slice_get, slice_index, IfOk, IsTrue, OnOk, Some, false, true};
+ghost use Rattle.std.specs.Prelude.{◌≡◌, ◌↔◌, ◌⊎◌, ℕ, suc, ◌<◌, ◌≤◌, length, slice_get, slice_index, IfOk, IsTrue, OnOk, Some, false};
 
 use crate::contexts::Fact;
 use crate::seeds::{Seeds, hash};

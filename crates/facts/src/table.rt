@@ -1,6 +1,6 @@
 //! Facts in order, each once, found by their hashes.
 ghost use Rattle.axioms.specs.WellFormedness.{AreDistinct};
-ghost use Rattle.std.specs.Prelude.{◌≡◌, ◌↔◌, ◌<◌, ◌^◌, ◌++◌, ◌∷◌, [], true, false, length, take, Contains, Ok, IfOk, IfSome, IsNone, OnErr, Some, slice_get};
+ghost use Rattle.std.specs.Prelude.{◌≡◌, ◌<◌, ◌^◌, ◌++◌, ◌∷◌, [], true, false, length, take, Contains, Ok, IfOk, IfSome, IsNone, OnErr, Some, slice_get};
 
 use crate::contexts::Fact;
 use crate::homes;

@@ -1,12 +1,12 @@
 -- Cutting one token out of a text.
-use Rattle.std.proofs.Common.{◌≡◌, ℕ, ◌+◌, ◌-◌, ◌<◌, ◌≤◌, List, [], ◌∷◌, ◌++◌, length, get_or, take, drop, Option, Some, None, refl, sym, ap, subst, ◌∙◌, append_assoc, arith}
+use Rattle.std.proofs.Common.{◌≡◌, ℕ, ◌+◌, ◌-◌, ◌<◌, ◌≤◌, List, [], ◌∷◌, ◌++◌, length, get_or, take, drop, Some, None, sym, ap, subst, ◌∙◌, append_assoc, arith}
 use Rattle.std.specs.Str.{IsUtf8, IsCharBoundary}
 use Rattle.std.proofs.lemmas.Str.{IsCharBoundary-before_ascii, IsCharBoundary-after_ascii}
 use Rattle.std.proofs.lemmas.List.{length-append, length-drop, get_or-append-add, take-append-drop, take_all}
 use Rattle.std.proofs.lemmas.Option.{none-some}
 use Rattle.std.proofs.Math.Seq.{drop-append_seam, take-append_seam}
 use Rattle.fs_lexer.specs.Spelling.{Token, Kind}
-use Rattle.fs_lexer.specs.Reading.{Found, skip, token_at, ahead, AreReadFrom}
+use Rattle.fs_lexer.specs.Reading.{skip, token_at, ahead, AreReadFrom}
 use Rattle.fs_lexer.proofs.Pieces.{skip_takes}
 use Rattle.fs_lexer.proofs.Fronts.{token_takes}
 use Rattle.fs_lexer.proofs.State.{kind_ends, ahead_was, ahead_none, next_token}

@@ -1,6 +1,5 @@
 //! Reading documents without a list of all their tokens.
 ghost use Rattle.std.specs.Prelude.{◌≤◌, length, map, IfSome};
-ghost use Rattle.fs_lexer.specs.Reading.{AreReadFrom};
 ghost use Rattle.fs_parser.specs.KnownPrefixes.{known_of};
 ghost use Rattle.fs_parser.specs.Name.{StandForOne};
 ghost use Rattle.fs_parser.specs.State.{state_of};

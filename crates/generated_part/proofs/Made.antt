@@ -1,16 +1,14 @@
 -- The part that is made of what is reached is the generated part.
-use Rattle.std.proofs.Common.{◌≡◌, ◌↔◌, ℕ, zero, suc, ◌<◌, ◌≤◌, inl, inr, Bool, true, false, List, [], ◌∷◌, Option, unwrap_or, length, get_or, slice_get, Some, All, Contains, refl, sym, ap, ◌∙◌, subst, subst₂, arith}
+use Rattle.std.proofs.Common.{◌≡◌, ◌↔◌, ℕ, zero, suc, ◌<◌, inl, inr, Bool, true, false, List, [], ◌∷◌, Option, unwrap_or, length, get_or, slice_get, Some, All, Contains, refl, sym, ap, ◌∙◌, subst, arith}
 use Rattle.std.specs.Prelude.{slice_index}
-use Rattle.std.proofs.lemmas.Bool.{cases_Bool, both_ways}
 use Rattle.std.proofs.lemmas.Option.{same_Some, slice_get_within, slice_get-get_or, get_or_from_slice_get}
 use Rattle.lemmas.proofs.Members.{Contains-first, Contains-later, Contains-cons_cases, Contains-from_slice_get, slice_get-from_Contains}
 use Rattle.axioms.specs.Expression.{owl_thing, owl_nothing}
 use Rattle.axioms.specs.Ontology.{Ontology, name_at, property_name, individual_name}
 use Rattle.axioms.specs.WellFormedness.{IsOntology}
-use Rattle.axioms.specs.declared.ids.PropId.{PropId}
 use Rattle.interpretation_spec.specs.NamedInterpretation.{interpretation_of, is_target}
 use Rattle.interpretation_spec.specs.Interpretation.{Interpretation, IsInterpretation}
-use Rattle.interpretation_spec.specs.NumberedInterpretation.{NumberedInterpretation, IsNumberedInterpretation, IsMadeFor, members_of}
+use Rattle.interpretation_spec.specs.NumberedInterpretation.{NumberedInterpretation, IsNumberedInterpretation, members_of}
 use Rattle.interpretation_spec.proofs.Names.{StandsFor, stands}
 use Rattle.number_sets.specs.Members.{has}
 use Rattle.number_sets.specs.Pieces.{list_at}

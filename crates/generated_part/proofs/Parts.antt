@@ -1,9 +1,9 @@
 -- What is put into the part, one after the other.
-use Rattle.std.proofs.Common.{◌≡◌, ◌↔◌, ℕ, zero, suc, ◌+◌, ◌-◌, ◌<◌, ◌≤◌, ◌==◌, ◌⊎◌, inl, inr, Bool, true, false, List, [], ◌∷◌, ◌++◌, length, map, get_or, take, slice_get, replicate, Some, Contains, refl, sym, ap, ◌∙◌, subst, arith}
+use Rattle.std.proofs.Common.{◌≡◌, ◌↔◌, ℕ, zero, suc, ◌+◌, ◌-◌, ◌<◌, ◌≤◌, ◌==◌, ◌⊎◌, inl, inr, Bool, true, false, List, [], length, map, get_or, take, slice_get, replicate, Some, Contains, refl, sym, ap, ◌∙◌, subst, arith}
 use Rattle.std.specs.List.{list_any}
 use Rattle.std.specs.Prelude.{slice_index}
 use Rattle.std.proofs.lemmas.Bool.{cases_eq, false≢true}
-use Rattle.std.proofs.lemmas.Option.{same_Some, slice_get_within, none-some}
+use Rattle.std.proofs.lemmas.Option.{same_Some}
 use Rattle.lemmas.proofs.Mapped.{slice_get_map}
 use Rattle.lemmas.proofs.Places.{take_push, slice_get_take, take_slice_get}
 use Rattle.axioms.specs.Ontology.{Ontology}
@@ -11,13 +11,12 @@ use Rattle.axioms.specs.WellFormedness.{IsOntology}
 use Rattle.axioms.specs.declared.ids.ClassId.{ClassId}
 use Rattle.axioms.specs.declared.ids.PropId.{PropId}
 use Rattle.cert_check.specs.Additions.{AddsMembers, AddsPairs, PutsIndividuals}
-use Rattle.cert_check.proofs.Additions.{contains_more, one_member, more_members, one_pair, more_pairs, individual_step}
+use Rattle.cert_check.proofs.Additions.{contains_more, one_member, more_members, one_pair, more_pairs}
 use Rattle.cert_check.proofs.Made.{empty_is_made_for}
 use Rattle.cert_check.proofs.Rowwise.{no_number}
 use Rattle.taxonomy.specs.Relation.{lies_below}
 use Rattle.interpretation_spec.specs.NamedInterpretation.{is_target}
-use Rattle.interpretation_spec.specs.NumberedInterpretation.{NumberedInterpretation, IsNumberedInterpretation, IsMadeFor, empty_interpretation, members_of, with_member, with_pair, with_individual}
-use Rattle.number_sets.specs.Members.{has}
+use Rattle.interpretation_spec.specs.NumberedInterpretation.{NumberedInterpretation, IsNumberedInterpretation, IsMadeFor, empty_interpretation, with_member, with_pair}
 use Rattle.number_sets.specs.Pieces.{list_at}
 use Rattle.generated_part.specs.Elements.{class_id, prop_id}
 use Rattle.generated_part.specs.Part.{IsMemberAt, LeadsFrom, IsPairAt, IsPart}

@@ -1,15 +1,14 @@
 -- What is listed of each element.
-use Rattle.std.proofs.Common.{◌≡◌, ℕ, zero, suc, ◌+◌, ◌<◌, ◌≤◌, inl, inr, Bool, true, false, List, [], ◌∷◌, ◌++◌, length, get_or, take, slice_get, Some, Contains, refl, sym, ap, ◌∙◌, subst, arith, below_more}
+use Rattle.std.proofs.Common.{◌≡◌, ℕ, ◌+◌, ◌<◌, ◌≤◌, inl, inr, true, false, List, [], ◌∷◌, ◌++◌, length, get_or, take, slice_get, Some, Contains, sym, ap, ◌∙◌, subst, arith}
 use Rattle.std.proofs.lemmas.Bool.{both_ways, cases_eq}
 use Rattle.std.proofs.lemmas.List.Elements.{Contains-append_left, Contains-push, Contains-push_cases, All-contains}
-use Rattle.std.proofs.lemmas.Option.{get_or_from_slice_get, slice_get_within, none-some}
-use Rattle.lemmas.proofs.Members.{Contains-none, slice_get-from_Contains}
-use Rattle.axioms.specs.Ontology.{Ontology, name_at, property_name, individual_name}
+use Rattle.std.proofs.lemmas.Option.{get_or_from_slice_get, slice_get_within}
+use Rattle.lemmas.proofs.Members.{Contains-none}
+use Rattle.axioms.specs.Ontology.{Ontology}
 use Rattle.axioms.specs.WellFormedness.{IsOntology}
 use Rattle.axioms.specs.declared.ids.ClassId.{ClassId}
 use Rattle.axioms.specs.declared.ids.PropId.{PropId}
-use Rattle.interpretation_spec.specs.NamedInterpretation.{interpretation_of, is_target}
-use Rattle.interpretation_spec.specs.Interpretation.{Interpretation}
+use Rattle.interpretation_spec.specs.NamedInterpretation.{interpretation_of}
 use Rattle.interpretation_spec.specs.NumberedInterpretation.{NumberedInterpretation, IsNumberedInterpretation, IsMadeFor, members_of, targets_of}
 use Rattle.interpretation_spec.proofs.Names.{stands}
 use Rattle.listed_model.proofs.Members.{holds_from_Contains, Contains_from_holds}

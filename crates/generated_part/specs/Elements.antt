@@ -1,5 +1,5 @@
 -- An interpretation by its elements: of each the classes that it is in, and its pairs.
-use Rattle.std.specs.Prelude.{◌≡◌, ◌⊎◌, ◌↔◌, ℕ, ◌<◌, ◌≤◌, List, Bool, true, length, slice_get, Some}
+use Rattle.std.specs.Prelude.{◌≡◌, ◌⊎◌, ◌↔◌, ℕ, ◌<◌, ◌≤◌, List, true, length, slice_get, Some}
 use Rattle.std.specs.List.{Contains}
 use Rattle.axioms.specs.Ontology.{Ontology, name_at, property_name, individual_name}
 use Rattle.axioms.specs.declared.ids.ClassId.{ClassId}

@@ -5,7 +5,7 @@ ghost use Rattle.generated_part.specs.Elements.{class_id};
 ghost use Rattle.generated_part.specs.Part.{IsMemberAt, IsPairAt, IsPart, LeadsFrom};
 ghost use Rattle.interpretation_spec.specs.NumberedInterpretation.{IsMadeFor};
 ghost use Rattle.number_sets.specs.Pieces.{list_at};
-ghost use Rattle.std.specs.Prelude.{◌<◌, ◌≡◌, ◌≤◌, ◌^◌, All, Contains, IfOk, OnOk, Some, length, map, slice_get, slice_index, ℕ};
+ghost use Rattle.std.specs.Prelude.{◌<◌, ◌≡◌, ◌≤◌, ◌^◌, All, Contains, IfOk, OnOk, length, map, slice_index, ℕ};
 
 use crate::by_element::ByElement;
 use crate::chosen::Chosen;

@@ -4,7 +4,7 @@ ghost use Rattle.std.specs.List.Sorted.{IsNonDecreasing};
 ghost use Rattle.normal_forms.specs.Pairs.{disjoint_form, pairs};
 ghost use Rattle.indexes.specs.declared.disjoint.Operand.{Operand as Operand2};
 ghost use Rattle.indexes.specs.Counts.{AreCountsOf};
-ghost use Rattle.indexes.specs.Disjoint.{operand_key, rows_of, AreRows, ArePairsOf, IsAny, IsBehind, IsOf, IsPair};
+ghost use Rattle.indexes.specs.Disjoint.{operand_key, rows_of, AreRows, ArePairsOf, IsAny, IsOf, IsPair};
 ghost use Rattle.indexes.specs.FormIndex.{ListsNumbers};
 
 use crate::key_counts::KeyCounts;

@@ -1,5 +1,5 @@
 //! A problem whose forms are found by key.
-ghost use Rattle.std.specs.Prelude.{◌≡◌, ◌<◌, ◌≤◌, ◌↔◌, ◌⊎◌, ◌++◌, [], ℕ, Contains, IfOk, IfSome, None, Some, false, slice_get, true};
+ghost use Rattle.std.specs.Prelude.{◌≡◌, ◌<◌, ◌↔◌, ◌⊎◌, ◌++◌, [], ℕ, Contains, IfOk, IfSome, None, Some, false, slice_get, true};
 ghost use Rattle.axioms.specs.declared.ids.ExprId.{ExprId as ExprId2};
 ghost use Rattle.normal_forms.specs.declared.forms.Class2.TheVariants as classes;
 ghost use Rattle.indexes.specs.declared.keys.Key.{Key as Key2};

@@ -1,5 +1,5 @@
 //! Lists of numbers by the number of a key.
-ghost use Rattle.std.specs.Prelude.{◌≡◌, ◌+◌, ◌<◌, ◌≤◌, [], ◌∷◌, ◌++◌, length, slice_set, take, OnOk, OnErr, IfOk};
+ghost use Rattle.std.specs.Prelude.{◌≡◌, ◌+◌, ◌<◌, [], ◌∷◌, ◌++◌, length, slice_set, take, OnOk, OnErr, IfOk};
 ghost use Rattle.indexes.specs.Tables.{at, by_key, list_of, without, Adds, IsSame, IsTable, PutsLast, Removes};
 
 use number_sets::NumberList;

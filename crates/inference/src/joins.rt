@@ -2,7 +2,6 @@
 ghost use Rattle.std.specs.Prelude.{◌≡◌, ◌↔◌, ℕ, List, Contains, IfOk, IsTrue, length, slice_get, Some, None, true};
 ghost use Rattle.facts.specs.Closure.{nothing};
 ghost use Rattle.normal_forms.specs.declared.forms.Form.{Form as Form2};
-ghost use Rattle.normal_forms.specs.declared.forms.PropId2.TheVariants as the_properties;
 ghost use Rattle.normal_forms.specs.declared.forms.Class2.TheVariants as the_classes;
 ghost use Rattle.property_closure.specs.PropertyClosures.{Has};
 ghost use Rattle.inference.specs.PropertyClosures.{IsClosureOf};

@@ -1,5 +1,5 @@
 //! A finite interpretation of an ontology's names.
-ghost use Rattle.std.specs.Prelude.{◌≡◌, ◌<◌, ◌↔◌, IfOk, IfErr, IsOk, OnOk, OnErr, if◌then◌else◌, ◌==◌, length, slice_get, option_map, option_and_then, replicate, true, false, ◌∷◌, ◌-◌};
+ghost use Rattle.std.specs.Prelude.{◌≡◌, ◌<◌, ◌↔◌, IfOk, IfErr, IsOk, OnOk, if◌then◌else◌, ◌==◌, length, slice_get, option_map, option_and_then, replicate, true, false, ◌∷◌, ◌-◌};
 ghost use Rattle.interpretation_spec.specs.declared.fault.InterpretationFault.TheVariants as faults;
 ghost use Rattle.interpretation_spec.specs.NumberedInterpretation.{IsNumberedInterpretation, empty_interpretation, with_individual, with_member, with_pair};
 ghost use Rattle.interpretation_spec.specs.Refusals.{class_refusal, pair_refusal};

@@ -2,7 +2,7 @@
 ghost use Rattle.keyed_hash.specs.Numbering.{AreFound, hash_of, insert_key, passes_at, room_in};
 ghost use Rattle.keyed_hash.specs.Slots.{HasSlots, Leads};
 ghost use Rattle.std.specs.List.{list_any, AllZip};
-ghost use Rattle.std.specs.Prelude.{◌≡◌, ◌+◌, ◌<◌, ◌^◌, ℕ, true, false, not, [], ◌∷◌, ◌++◌, length, if◌then◌else◌, option_copied, slice_get, take, vec_capacity, IfNone, IfOk, IfSome, OnErr, OnOk, Some};
+ghost use Rattle.std.specs.Prelude.{◌≡◌, ◌+◌, ◌<◌, ℕ, true, false, not, [], ◌∷◌, ◌++◌, length, if◌then◌else◌, option_copied, slice_get, take, vec_capacity, IfNone, IfOk, IfSome, OnErr, OnOk, Some};
 
 use crate::key::Key;
 use crate::slots::Slots;

@@ -5,7 +5,7 @@
 //! knows do no harm.
 ghost use Rattle.keyed_hash.specs.Slots.{bucket_of, HasSlots, IsFirstFree, Leads, Stands, StandsIn, slot_at};
 ghost use Rattle.keyed_hash.specs.declared.slots.Slot.{Slot as ASlot};
-ghost use Rattle.std.specs.Prelude.{◌≡◌, ◌+◌, ℕ, suc, true, false, ◌<◌, ◌≤◌, length, IfOk, IfNone, IfSome, OnErr, OnOk, vec_capacity};
+ghost use Rattle.std.specs.Prelude.{◌≡◌, ◌+◌, ℕ, suc, true, false, ◌<◌, ◌≤◌, length, IfOk, IfNone, IfSome, OnOk, vec_capacity};
 
 use std::alloc::{AllocError, Global};
 

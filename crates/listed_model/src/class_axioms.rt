@@ -1,11 +1,10 @@
 //! Axioms on classes, over the elements of expressions.
 ghost use Rattle.axioms.specs.View.{expr_numbers};
 ghost use Rattle.listed_model.specs.Members.{holds};
-ghost use Rattle.number_sets.specs.Members.{has};
 ghost use Rattle.number_sets.specs.Pieces.{list_at};
-ghost use Rattle.std.specs.List.{list_all, list_any};
+ghost use Rattle.std.specs.List.{list_all};
 ghost use Rattle.std.specs.List.Sorted.{IsStrictlyIncreasing};
-ghost use Rattle.std.specs.Prelude.{◌<◌, ◌≡◌, ◌||◌, ◌↔◌, AllPairs, IsTrue, length, true, ℕ};
+ghost use Rattle.std.specs.Prelude.{◌<◌, ◌≡◌, ◌↔◌, AllPairs, IsTrue, length, true, ℕ};
 
 use crate::ascending::are_within;
 use crate::sets::{has_one, put_each};

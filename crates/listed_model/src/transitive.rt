@@ -1,7 +1,5 @@
 //! Whether a property is transitive, without walking each path of two steps.
 ghost use Rattle.certificate.specs.View.{pair_row_of};
-ghost use Rattle.certificate.specs.declared.listed.PairRow.{PairRow as PairRow2};
-ghost use Rattle.listed_model.specs.Listing.{targets_of};
 ghost use Rattle.listed_model.specs.Members.{holds};
 ghost use Rattle.listed_model.specs.Rows.{ArePairRows, ClosedAt, LeadsWithin};
 ghost use Rattle.number_sets.specs.Members.{has};

@@ -3,9 +3,8 @@ ghost use Rattle.std.specs.Prelude.{◌≡◌, ℕ, ◌+◌, ◌<◌, ◌≤◌,
 ghost use Rattle.axioms.specs.Ontology.{Axiom as Stated, SubProperty};
 ghost use Rattle.axioms.specs.View.{axiom_of, expr_numbers, ind_numbers, prop_numbers};
 ghost use Rattle.axioms.specs.WellFormedness.{AreDistinct};
-ghost use Rattle.normal_forms.specs.declared.forms.Origin.TheVariants as origins;
 ghost use Rattle.normal_forms.specs.Forms.{N5, N10, N11};
-ghost use Rattle.normal_forms.specs.Origins.{AxiomGives, ChainGives, CircleGives, NextGives, PairGives, disjoint, subsumed};
+ghost use Rattle.normal_forms.specs.Origins.{AxiomGives, CircleGives, NextGives, PairGives, disjoint, subsumed};
 ghost use Rattle.normalise.specs.FreshNames.{prefixes_of, chain_prefixes};
 ghost use Rattle.normalise.specs.Steps.{NameMoreChains, NumbersBehind, OperandsDiffer, StatedFrom};
 ghost use Rattle.normalise.specs.View.{Adds, From};

@@ -2,7 +2,7 @@
 ghost use Rattle.std.specs.Prelude.{◌≡◌, ◌<◌, ◌≤◌, ◌^◌, OnOk, length};
 ghost use Rattle.axioms.specs.Ontology.{And};
 ghost use Rattle.axioms.specs.View.{expr_numbers, node_of};
-ghost use Rattle.axioms.specs.WellFormedness.{AreDistinct, IsOntology};
+ghost use Rattle.axioms.specs.WellFormedness.{AreDistinct};
 ghost use Rattle.normal_forms.specs.Origins.{LeftGives, RightGives};
 ghost use Rattle.normalise.specs.Steps.{BelowOperand, ExpressedAt, ExpressedTo, LeftGivesIf, PartsDiffer, RightGivesIf, SideGives};
 ghost use Rattle.normalise.specs.View.{Adds, From};

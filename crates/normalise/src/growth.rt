@@ -1,10 +1,9 @@
 //! Normal forms of an ontology that grows at its end, and of further expressions.
-ghost use Rattle.std.specs.Prelude.{◌≡◌, ℕ, List, [], ◌∷◌, ◌++◌, ◌↔◌, ◌<◌, ◌≤◌, IfOk, IsTrue, OnErr, OnOk, length, Contains};
+ghost use Rattle.std.specs.Prelude.{◌≡◌, ℕ, [], ◌↔◌, ◌<◌, ◌≤◌, IfOk, IsTrue, OnErr, OnOk, length, Contains};
 ghost use Rattle.axioms.specs.Growth.{Numbers};
 ghost use Rattle.axioms.specs.View.{expr_numbers};
 ghost use Rattle.normalise.specs.Additions.{joined};
 ghost use Rattle.normalise.specs.Growth.{AreNormalAgain, Grown, IsNormalFor};
-ghost use Rattle.normalise.specs.Listing.{Listing};
 
 use crate::made::Made;
 use crate::marks::Side;

@@ -1,5 +1,5 @@
 //! A list of forms that grows, with its tables of prefixes.
-ghost use Rattle.std.specs.Prelude.{◌≡◌, ℕ, ◌++◌, [], IfOk, OnErr, OnOk};
+ghost use Rattle.std.specs.Prelude.{◌≡◌, ℕ, ◌++◌, [], IfOk, OnOk};
 ghost use Rattle.axioms.specs.View.{expr_numbers};
 ghost use Rattle.axioms.specs.WellFormedness.{AreDistinct};
 ghost use Rattle.normal_forms.specs.Forms.{Form as Formed};

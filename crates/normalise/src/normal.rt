@@ -1,5 +1,5 @@
 //! The normal forms of an ontology.
-ghost use Rattle.std.specs.Prelude.{◌≡◌, ◌<◌, ◌^◌, length, IfOk, map, option_map, slice_get, [], false, true, Bool, IsTrue, ◌↔◌, Contains};
+ghost use Rattle.std.specs.Prelude.{◌≡◌, ◌<◌, ◌^◌, length, IfOk, map, option_map, slice_get, []};
 ghost use Rattle.axioms.specs.View.{expr_numbers, prop_numbers};
 ghost use Rattle.normalise.specs.Entries.{form_in, origin_in};
 

@@ -1,7 +1,7 @@
 //! Places of lists in one piece of memory.
 ghost use Rattle.std.specs.Prelude.{◌≡◌, ◌+◌, ◌-◌, ◌≤◌, ◌++◌, List, length, map, take, vec_len, vec_capacity};
 ghost use Rattle.std.specs.Option.{ForSome};
-ghost use Rattle.normalise.specs.Spans.{IsListAt, IsSpanOf};
+ghost use Rattle.normalise.specs.Spans.{IsListAt};
 
 use crate::member::Member;
 

@@ -21,7 +21,7 @@ impl<T: Drop> Drop for PackedLists<T> {
 }
 
 impl<T> Model for PackedLists<T> {
-    ghost use Rattle.std.specs.Prelude.{List, length, ℕ};
+    ghost use Rattle.std.specs.Prelude.{List, length};
     ghost use Rattle.number_sets.specs.Pieces.{AreEnds, pieces};
 
     ghost Value = { List (List T) };

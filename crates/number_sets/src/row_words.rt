@@ -1,5 +1,5 @@
 //! The words of a row: a single one takes no memory of its own.
-ghost use Rattle.std.specs.Prelude.{◌≡◌, ◌<◌, ◌≤◌, ℕ, IfOk, bit_and, bit_or, length, replicate, slice_index, slice_set};
+ghost use Rattle.std.specs.Prelude.{◌≡◌, ◌<◌, ℕ, IfOk, bit_and, bit_or, length, replicate, slice_index, slice_set};
 ghost use Rattle.number_sets.specs.RowWords.{words_of};
 ghost use Rattle.number_sets.specs.Words.{without_bits};
 

@@ -1,6 +1,6 @@
 //! Bits in words of 64: four words at a time, and the rest word by word.
 ghost use Rattle.std.specs.Prelude.{◌≡◌, ℕ, ◌+◌, ◌%◌, ◌^◌, ◌<◌, ◌≤◌, ◌↔◌, IsTrue, bit_and, bit_or, bit_xor, count_by, count_ones, false, length, map, slice_index, take, true};
-ghost use Rattle.std.specs.Simd.Lanes.{Each1, chunk, put_chunk, sum_l, zip2};
+ghost use Rattle.std.specs.Simd.Lanes.{Each1, chunk, sum_l, zip2};
 ghost use Rattle.number_sets.specs.Words.{IsRow, bit_of, bits_of, without_bits};
 
 use std::simd::prelude::*;

@@ -2,8 +2,7 @@
 ghost use Rattle.normal_forms.specs.Properties.{ChainComesBefore, IsPropertyOf};
 ghost use Rattle.property_closure.specs.Chains.{AddsChain, AreChains, AreChainsOf, AreChainsWithin, ArePacked, chains_at};
 ghost use Rattle.std.specs.List.{AllPairs};
-ghost use Rattle.std.specs.Prelude.{◌↔◌, ◌≡◌, [], IfOk, OnOk, Contains, ℕ, ◌<◌, length};
-ghost use Rattle.number_sets.specs.Pieces.{list_at};
+ghost use Rattle.std.specs.Prelude.{◌↔◌, ◌≡◌, [], IfOk, OnOk, Contains, ◌<◌, length};
 
 use axioms::Memory;
 use normal_forms::{Form, PropId2};

@@ -1,9 +1,8 @@
 //! The closure of properties.
 ghost use Rattle.normal_forms.specs.Properties.{ChainComesBefore, ComesBefore, IsAtOrBelow, IsChainFrom, IsPropertyFormOf, IsReflexive, property_forms};
 ghost use Rattle.property_closure.specs.PropertyClosures.{ArePrefixes, AreProperties, Has};
-ghost use Rattle.property_closure.specs.Relations.{as_property};
 ghost use Rattle.std.specs.List.{All, AllPairs};
-ghost use Rattle.std.specs.Prelude.{◌++◌, ◌<◌, ◌↔◌, ◌≡◌, ◌≤◌, ◌^◌, ◌∷◌, [], Contains, IfOk, IsTrue, OnErr, OnOk, Some, false, length, slice_get, vec_capacity, ℕ};
+ghost use Rattle.std.specs.Prelude.{◌++◌, ◌<◌, ◌↔◌, ◌≡◌, ◌≤◌, ◌^◌, ◌∷◌, [], Contains, IfOk, IsTrue, OnErr, OnOk, Some, false, length, slice_get, vec_capacity};
 
 use crate::related::Related;
 use axioms::{Memory, PropId};

@@ -1,8 +1,7 @@
 //! Operands so far, in a table where equal trees are one.
 
-ghost use Rattle.std.specs.Hash.{fed_then};
 ghost use Rattle.std.specs.List.{list_any};
-ghost use Rattle.std.specs.Prelude.{◌≡◌, IfOk, OnOk, fold, map, not};
+ghost use Rattle.std.specs.Prelude.{◌≡◌, IfOk, OnOk, fold, not};
 ghost use Rattle.fs_parser.specs.View.{iri_of, tree_of, trees_of};
 ghost use Rattle.shapes.specs.TreeLaws.{same_tree_equiv, same_tree_alike};
 ghost use Rattle.shapes.specs.TreeEquality.{same_tree};

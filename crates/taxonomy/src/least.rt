@@ -2,7 +2,7 @@
 ghost use Rattle.number_sets.specs.Members.{has};
 ghost use Rattle.std.specs.List.{filter};
 ghost use Rattle.std.specs.List.Sorted.{IsPermutation};
-ghost use Rattle.std.specs.Prelude.{◌<◌, ◌||◌, ◌≡◌, IfOk, false, length, map, not, replicate, ℕ};
+ghost use Rattle.std.specs.Prelude.{◌<◌, ◌||◌, ◌≡◌, IfOk, false, length, map, not, ℕ};
 ghost use Rattle.taxonomy.specs.Relation.{is_listed};
 ghost use Rattle.taxonomy.specs.ClassMarks.{HasRoom};
 ghost use Rattle.taxonomy.specs.Superclasses.{AreSuperclasses, is_larger};

@@ -1,8 +1,6 @@
 //! Class numbers in the byte order of the names.
 ghost use Rattle.taxonomy.specs.Texts.{by_name, in_byte_order, sorted};
 ghost use Rattle.std.specs.List.{All, range_with_len};
-ghost use Rattle.std.specs.List.Sorted.{IsPermutation, IsSortedBy};
-ghost use Rattle.std.specs.Ordering.{is_lt};
 ghost use Rattle.std.specs.Prelude.{◌≡◌, IfOk, map, length};
 ghost use Rattle.std.specs.String.{string_bytes};
 ghost use Rattle.axioms.specs.Ontology.{name_at};

@@ -1,7 +1,7 @@
 //! Facts that wait, in a list for each context.
-ghost use Rattle.std.specs.Prelude.{◌≡◌, ◌<◌, ◌++◌, ◌∷◌, [], IfNone, IfOk, IfSome, IsTrue, OnErr, OnOk, ◌↔◌, false, length, option_to_list, slice_index_or, slice_set};
+ghost use Rattle.std.specs.Prelude.{◌≡◌, ◌<◌, ◌++◌, ◌∷◌, [], IfNone, IfSome, IsTrue, OnErr, OnOk, ◌↔◌, length, option_to_list, slice_index_or, slice_set};
 ghost use Rattle.work_list.specs.Bag.{Adds};
-ghost use Rattle.work_list.specs.Waiting.{IsSame, IsSameBut, item_of, items_in, list_at};
+ghost use Rattle.work_list.specs.Waiting.{IsSame, IsSameBut, items_in, list_at};
 
 use crate::item::Item;
 use crate::room::make_room;

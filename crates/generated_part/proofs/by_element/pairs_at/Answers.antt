@@ -1,4 +1,4 @@
-use Rattle.std.proofs.Common.{◌≡◌, ℕ, List, ◌+◌, sym, subst, arith}
+use Rattle.std.proofs.Common.{◌≡◌, ℕ, List, subst, arith}
 use Rattle.generated_part.specs.Elements.{prop_id, AddsTargets, ArePairsAt}
 use Rattle.generated_part.proofs.Rows.{one_property}
 use Rattle.generated_part.proofs.by_element.pairs_at.Goals as goal

@@ -1,6 +1,6 @@
 use Rattle.std.proofs.Common.{◌≡◌, List, ℕ, length, map, subst, subst₂, arith}
 use Rattle.std.specs.Prelude.{slice_index}
-use Rattle.cert_check.specs.Additions.{AddsMembers, AddsPairs, PutsIndividuals}
+use Rattle.cert_check.specs.Additions.{AddsMembers, PutsIndividuals}
 use Rattle.interpretation_spec.specs.NumberedInterpretation.{NumberedInterpretation, empty_interpretation}
 use Rattle.generated_part.specs.Part.{IsMemberAt}
 use Rattle.generated_part.proofs.Parts.{part_made, part_is}

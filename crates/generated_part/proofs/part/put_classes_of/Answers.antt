@@ -1,4 +1,3 @@
-use Rattle.std.proofs.Common.{get_or}
 use Rattle.std.proofs.lemmas.Option.{slice_get-get_or}
 use Rattle.cert_check.proofs.Additions.{went_well}
 use Rattle.generated_part.proofs.Parts.{class_step}
