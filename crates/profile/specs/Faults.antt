@@ -1,5 +1,6 @@
 -- What a fault says of a document.
 use Rattle.std.specs.Prelude.{◌≡◌, List, [], ℕ, ◌<◌, ◌≤◌, length, Option, Some, None}
+use Rattle.std.specs.Io.KnownBytes.{IsAtEnd}
 use Rattle.std.specs.Str.{IsUtf8, IsValidUpTo}
 use Rattle.axioms.specs.Ontology.{Ontology}
 use Rattle.fs_lexer.specs.Faults as lexer
@@ -98,3 +99,10 @@ RefusesKnown version (Some bytes) most TooLarge = most < length bytes
 RefusesKnown version (Some bytes) most Io = Unit {0}
 RefusesKnown version (Some bytes) most Memory = Unit {0}
 RefusesKnown version (Some bytes) most e = Refuses version e bytes × (length bytes ≤ most)
+
+-- behind a fault of its bytes the source is at its end; where it failed, or had too many, or memory was refused, it may have more
+abbrev pub IsReadWhole : DocumentFault → (left : Option (List ℕ)) → Type 0
+IsReadWhole Io left = Unit {0}
+IsReadWhole TooLarge left = Unit {0}
+IsReadWhole Memory left = Unit {0}
+IsReadWhole fault left = IsAtEnd left

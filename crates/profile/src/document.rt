@@ -1,7 +1,7 @@
 //! From bytes to an ontology.
 ghost use Rattle.device.specs.Device.{HasFailed, LosesFront};
 ghost use Rattle.profile.specs.Documents.{AreTextOf, IsTaken, OpensAs, ReadsAs};
-ghost use Rattle.profile.specs.Faults.{OpensKnown, ReadsKnown, Refuses, RefusesKnown};
+ghost use Rattle.profile.specs.Faults.{IsReadWhole, OpensKnown, ReadsKnown, Refuses, RefusesKnown};
 ghost use Rattle.std.specs.Io.KnownBytes.{IsAtEnd};
 ghost use Rattle.fs_parser.specs.View.{document_of};
 ghost use Rattle.std.specs.Prelude.{◌≡◌, ◌+◌, ◌<◌, ◌≤◌, IfErr, IfOk, IsErrOf, OnOk, length};
@@ -157,6 +157,7 @@ pub fn read_opened<S: Source>(
     ensures beyond { IsErrOf result DocumentFault.TooLarge → S.most source.new + limits.now.max_bytes < S.most source.old }
     // What was read of the source, and whether a read failed.
     ensures end { OnOk result (IsAtEnd (S.left source.new)) }
+    ensures whole { IfErr result (λ e. IsReadWhole e (S.left source.new)) }
     ensures lost { LosesFront (S.left source.old) (S.left source.new) (S.most source.old) (S.most source.new) }
     ensures unfailed { ¬ IsErrOf result DocumentFault.Io → S.failures source.new ≡ S.failures source.old }
     ensures failed { IsErrOf result DocumentFault.Io → HasFailed (S.failures source.old) (S.failures source.new) }
@@ -192,6 +193,7 @@ pub fn read_document<S: Source>(
     ensures beyond { IsErrOf result DocumentFault.TooLarge → S.most source.new + limits.now.max_bytes < S.most source.old }
     // What was read of the source, and whether a read failed.
     ensures end { OnOk result (IsAtEnd (S.left source.new)) }
+    ensures whole { IfErr result (λ e. IsReadWhole e (S.left source.new)) }
     ensures lost { LosesFront (S.left source.old) (S.left source.new) (S.most source.old) (S.most source.new) }
     ensures unfailed { ¬ IsErrOf result DocumentFault.Io → S.failures source.new ≡ S.failures source.old }
     ensures failed { IsErrOf result DocumentFault.Io → HasFailed (S.failures source.old) (S.failures source.new) }

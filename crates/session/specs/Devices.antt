@@ -3,9 +3,9 @@ use Rattle.std.specs.Prelude.{◌≡◌, ℕ, List, Option}
 use Rattle.std.specs.Io.KnownBytes.{Appends}
 use Rattle.device.specs.declared.device.Sink.{Ghosts}
 use Rattle.device.specs.Device.{AppendsPrefix, HasFailed}
-use Rattle.source_lines.specs.Sources.{SourceState, IsReadOn, FailsInReading}
+use Rattle.source_lines.specs.Sources.{SourceState, IsReadOn, IsReadToItsEnd, FailsInReading}
 use Rattle.profile.specs.declared.fault.DocumentFault.{DocumentFault}
-use Rattle.profile.specs.declared.fault.DocumentFault.TheVariants.{Io}
+use Rattle.profile.specs.declared.fault.DocumentFault.TheVariants.{Io, Memory, TooLarge}
 
 -- ---- sinks
 
@@ -27,7 +27,10 @@ FailsIn old new text = AppendsPrefix old.0 new.0 text × HasFailed old.1 new.1
 
 -- ---- sources
 
--- what was read of a document where this is its fault: its source failed where that is told, and otherwise no call failed
+-- what was read of a document where this is its fault: its source failed where that is told, and otherwise no call failed; a fault of its
+-- bytes comes once all were read
 abbrev pub IsReadUntil : DocumentFault → (old new : SourceState) → Type 0
 IsReadUntil Io old new = FailsInReading old new
-IsReadUntil fault old new = IsReadOn old new
+IsReadUntil TooLarge old new = IsReadOn old new
+IsReadUntil Memory old new = IsReadOn old new
+IsReadUntil fault old new = IsReadToItsEnd old new

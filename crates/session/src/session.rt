@@ -1,7 +1,7 @@
 //! A document that is opened, and run as far as is wanted.
 ghost use Rattle.device.specs.Device.{HasFailed, LosesFront};
 ghost use Rattle.profile.specs.Documents.{IsTaken};
-ghost use Rattle.profile.specs.Faults.{OpensKnown, ReadsKnown, RefusesKnown};
+ghost use Rattle.profile.specs.Faults.{IsReadWhole, OpensKnown, ReadsKnown, RefusesKnown};
 ghost use Rattle.engine.specs.Saturations.{HasResumed, IsFinished, IsSaturated, IsSound, Saturates};
 ghost use Rattle.session.specs.Sessions.{IsSession, KeepsText, as_read};
 ghost use Rattle.std.specs.Io.KnownBytes.{IsAtEnd};
@@ -111,6 +111,7 @@ impl Session {
         ensures beyond { IsErrOf result DocumentFault.TooLarge → S.most source.new + limits.now.max_bytes < S.most source.old }
         // What was read of the source, and whether a read failed.
         ensures end { OnOk result (IsAtEnd (S.left source.new)) }
+        ensures whole { IfErr result (λ e. IsReadWhole e (S.left source.new)) }
         ensures lost { LosesFront (S.left source.old) (S.left source.new) (S.most source.old) (S.most source.new) }
         ensures unfailed { ¬ IsErrOf result DocumentFault.Io → S.failures source.new ≡ S.failures source.old }
         ensures failed { IsErrOf result DocumentFault.Io → HasFailed (S.failures source.old) (S.failures source.new) }

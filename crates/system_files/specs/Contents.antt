@@ -1,5 +1,6 @@
--- What files hold, by their paths, and what becomes of that where they are written.
-use Rattle.std.specs.Prelude.{◌≡◌, ℕ, List, [], ◌∷◌, Bool, true, false, Option, Some, None, IsSome, length, if◌then◌else◌}
+-- What files hold, by their paths, and what becomes of that where they are read or written.
+use Rattle.std.specs.Prelude.{◌≡◌, ◌⊎◌, ℕ, List, [], ◌∷◌, Bool, true, false, Option, Some, None, IsSome, inl, inr, length, refl, if◌then◌else◌}
+use Rattle.std.specs.Io.KnownBytes.{IsAtEnd}
 
 -- the bytes of the file at a path: `None` where there is none, or where they are not known
 abbrev pub Content : Type 0
@@ -22,6 +23,16 @@ IsThere false held = Unit {0}
 abbrev pub IsMissing : Bool → Option (List ℕ) → Type 0
 IsMissing true held = held ≡ None
 IsMissing false held = ⊥
+
+-- a source of a file can give as many bytes as the file holds, where these are known
+abbrev pub GivesAll : Option (List ℕ) → (most : ℕ) → Type 0
+GivesAll None most = Unit {0}
+GivesAll (Some bytes) most = most ≡ length bytes
+
+-- a source can give nothing, and is not at its end: each read of it fails
+pub record IsStuck (left : Option (List ℕ)) (most : ℕ) : Type 0 where
+  pub none : most ≡ 0
+  pub before_end : ¬ IsAtEnd left
 
 -- what a new sink has taken, where files are known or not
 abbrev pub nothing_taken : Bool → Option (List ℕ)
@@ -47,6 +58,24 @@ pub record IsPut (old new : Content) (path bytes : List ℕ) : Type 0 where
   pub others : (other : List ℕ) → ¬ (other ≡ path) → new other ≡ old other
 
 -- ---- what the laws of files rest on
+
+-- what is left in a source of a file, of which so many bytes were read, and how many it can give: of a file that is missing one that it
+-- never gives
+abbrev pub left_of : (is_missing : Bool) → (rest : List ℕ) → List ℕ
+left_of true rest = 0 ∷ []
+left_of false rest = rest
+
+abbrev pub most_of : (is_missing : Bool) → (rest : List ℕ) → ℕ
+most_of true rest = 0
+most_of false rest = length rest
+
+not_nothing : 0 ∷ [] ≡ [] → ⊥
+not_nothing bad = absurd (cc)
+
+-- a source in memory has not failed, or is that of a file that is missing
+pub unfailed_or_stuck : (is_missing : Bool) (rest : List ℕ) (failures : ℕ) → (if is_missing then 0 else failures) ≡ 0 → (failures ≡ 0) ⊎ IsStuck (Some (left_of is_missing rest)) (most_of is_missing rest)
+unfailed_or_stuck true rest failures is = inr (record { none = refl; before_end = not_nothing })
+unfailed_or_stuck false rest failures is = inl is
 
 pub not_false : {P : Type 0} → true ≡ false → P
 not_false bad = absurd (cc)

@@ -1,20 +1,10 @@
 //! The trait of what makes sources and sinks for paths.
-ghost use Rattle.std.specs.Prelude.{◌≡◌, ◌<◌, ℕ, List, Bool, true, false, Option, IfOk, IsErrOf, OnOk};
+ghost use Rattle.std.specs.Prelude.{◌≡◌, ◌<◌, ◌⊎◌, ℕ, List, Bool, true, false, Option, IfOk, OnOk};
 ghost use Rattle.std.specs.Io.KnownBytes.{Keeps};
 ghost use Rattle.device.specs.Device.{HasFailed};
-ghost use Rattle.system_files.specs.Contents.{AreKept, HasTakenSome, IsClosed, IsMissing, IsThere, PlacesStay, nothing_taken};
+ghost use Rattle.system_files.specs.Contents.{AreKept, GivesAll, HasTakenSome, IsClosed, IsMissing, IsStuck, PlacesStay, nothing_taken};
 
-use axioms::Memory;
-use device::{Sink, Source};
-
-/// Why there is no source of a file.
-#[derive(Clone, Copy, Debug, PartialEq, Eq)]
-pub enum OpenFault {
-    /// It is known that there is no file at the path.
-    Missing,
-    /// A growth of memory was refused.
-    Memory,
-}
+use device::{Memory, Sink, Source};
 
 /// Makes sources and sinks for the files at paths. A file is opened at its first read, and made at its first write; it
 /// holds what was written once its sink is closed.
@@ -46,16 +36,11 @@ pub trait Files {
     /// Whether a read can fail of a file that is there.
     ghost reads_fail: { Bool };
 
-    /// A source of the bytes of the file at the path. Where it is not known whether there is one, and there is none, the
-    /// source fails.
-    ///
-    /// # Errors
-    ///
-    /// `Missing` where it is known that there is no file, and `Memory` where memory was refused.
-    fn reader(&self, path: &str) -> Result<Self::In, OpenFault>
-        ensures there { OnOk result (IsThere (is_known self.now) (content self.now path.now)) }
-        ensures missing { IsErrOf result OpenFault.Missing → IsMissing (is_known self.now) (content self.now path.now) }
+    /// A source of the bytes of the file at the path. Where there is no file, each read of it fails.
+    fn reader(&self, path: &str) -> Result<Self::In, Memory>
         ensures left { IfOk result (λ source. Keeps (content self.now path.now) (Self.In.left source)) }
+        ensures most { IfOk result (λ source. GivesAll (content self.now path.now) (Self.In.most source)) }
+        ensures missing { IfOk result (λ source. IsMissing (is_known self.now) (content self.now path.now) → IsStuck (Self.In.left source) (Self.In.most source)) }
         ensures failures { IfOk result (λ source. Self.In.failures source ≡ 0) };
 
     /// A sink that has taken nothing and makes the file at the path anew, which fails where that is not allowed. The files
@@ -85,6 +70,9 @@ pub trait Files {
     /// A sink that takes nothing has taken nothing.
     ghost untaken: { (sink : Self.Out) → is_shut sink ≡ true → ¬ HasTakenSome (Self.Out.taken sink) };
 
-    /// Where no read fails of a file that is there, no source has failed.
-    ghost unfailing: { reads_fail ≡ false → (source : Self.In) → Self.In.failures source ≡ 0 };
+    /// Where no read fails of a file that is there, it is known what the files hold.
+    ghost all_known: { reads_fail ≡ false → (files : Self) → is_known files ≡ true };
+
+    /// And no source has failed but one that can give nothing, as that of a file that is missing.
+    ghost unfailing: { reads_fail ≡ false → (source : Self.In) → (Self.In.failures source ≡ 0) ⊎ IsStuck (Self.In.left source) (Self.In.most source) };
 }

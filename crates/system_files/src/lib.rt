@@ -5,6 +5,6 @@ mod files;
 mod memory;
 mod system;
 
-pub use files::{Files, OpenFault};
+pub use files::Files;
 pub use memory::{MemoryFiles, MemorySink, MemorySource};
 pub use system::{FileReader, FileSink, SystemFiles};

@@ -4,9 +4,8 @@ ghost use Rattle.std.specs.Option.{option_copied};
 ghost use Rattle.system_files.specs.Contents.{AreKept, IsPut, PlacesStay};
 ghost use Rattle.system_files.specs.MemoryFiles.{file_at, has_place_at, is_at};
 
-use crate::files::{Files, OpenFault};
-use axioms::Memory;
-use device::{Failed, Sink, Source};
+use crate::files::Files;
+use device::{Failed, Memory, Sink, Source};
 use std::alloc::Global;
 
 /// A file, or a place for one that is not yet made.
@@ -129,8 +128,8 @@ impl MemoryFiles {
 }
 
 impl Files for MemoryFiles {
-    ghost use Rattle.std.specs.Prelude.{true, false, refl};
-    ghost use Rattle.system_files.specs.Contents.{shut_is_untaken};
+    ghost use Rattle.std.specs.Prelude.{true, false, drop, refl};
+    ghost use Rattle.system_files.specs.Contents.{shut_is_untaken, unfailed_or_stuck};
     ghost use Rattle.system_files.specs.MemoryFiles.{file_at, has_place_at};
 
     type In = MemorySource;
@@ -153,15 +152,14 @@ impl Files for MemoryFiles {
 
     ghost untaken = { λ sink shut. shut_is_untaken sink.is_locked sink.bytes.items sink.untaken shut };
 
-    ghost unfailing = { λ _ _. refl };
+    ghost all_known = { λ _ _. refl };
 
-    fn reader(&self, path: &str) -> Result<MemorySource, OpenFault> {
-        let Some(bytes) = self.bytes(path) else {
-            return Err(OpenFault::Missing);
-        };
-        match bytes.to_vec(self.alloc) {
-            Ok(bytes) => Ok(MemorySource { bytes, at: 0 }),
-            Err(_) => Err(OpenFault::Memory),
+    ghost unfailing = { λ _ source. unfailed_or_stuck source.is_missing (drop source.at source.bytes.items) source.failures source.unfailed };
+
+    fn reader(&self, path: &str) -> Result<MemorySource, Memory> {
+        match self.bytes(path) {
+            Some(bytes) => Ok(MemorySource::of(bytes.to_vec(self.alloc)?)),
+            None => Ok(MemorySource::missing(self.alloc)),
         }
     }
 
@@ -186,24 +184,64 @@ impl Files for MemoryFiles {
     }
 }
 
-/// A source of a file in memory, which has bytes of its own and never fails.
+/// A source of a file in memory, which has bytes of its own and never fails; or of one that is missing, of which each read fails.
 #[derive(Drop)]
 pub struct MemorySource {
     bytes: Vec<u8>,
     at: usize,
+    is_missing: bool,
+    failures: u64,
     ghost within: { at ≤ vec_len bytes },
+    ghost unfailed: { (if is_missing then 0 else failures) ≡ 0 },
+}
+
+impl MemorySource {
+    ghost use Rattle.std.specs.Prelude.{◌≡◌, false, true};
+
+    /// A source of a file that holds these bytes.
+    fn of(bytes: Vec<u8>) -> Self
+        ensures bytes { result.bytes ≡ bytes }
+        ensures start { result.at ≡ 0 }
+        ensures there { result.is_missing ≡ false }
+        ensures failures { result.failures ≡ 0 }
+    {
+        MemorySource {
+            bytes,
+            at: 0,
+            is_missing: false,
+            failures: 0,
+        }
+    }
+
+    /// A source of a file that is missing.
+    fn missing(alloc: Global) -> Self
+        ensures missing { result.is_missing ≡ true }
+        ensures failures { result.failures ≡ 0 }
+    {
+        MemorySource {
+            bytes: Vec::new(alloc),
+            at: 0,
+            is_missing: true,
+            failures: 0,
+        }
+    }
 }
 
 impl Source for MemorySource {
-    ghost use Rattle.std.specs.Prelude.{Some, drop, length};
+    ghost use Rattle.std.specs.Prelude.{Some, drop};
+    ghost use Rattle.system_files.specs.Contents.{left_of, most_of};
 
-    ghost left = { λ s. Some (drop s.at s.bytes.items) };
+    ghost left = { λ s. Some (left_of s.is_missing (drop s.at s.bytes.items)) };
 
-    ghost failures = { λ _. 0 };
+    ghost failures = { λ s. s.failures };
 
-    ghost most = { λ s. length (drop s.at s.bytes.items) };
+    ghost most = { λ s. most_of s.is_missing (drop s.at s.bytes.items) };
 
     fn read(&mut self, buffer: &mut [u8]) -> Result<usize, Failed> {
+        if self.is_missing {
+            self.failures = self.failures.saturating_add(1);
+            return Err(Failed);
+        }
         let rest = &self.bytes[self.at..];
         let n = buffer.len().min(rest.len());
         buffer[..n].copy_from_slice(&rest[..n]);

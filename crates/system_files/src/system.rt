@@ -1,9 +1,8 @@
 //! The files of the system.
 ghost use Rattle.std.specs.Prelude.{◌≡◌, ◌≤◌, IfOk, length, string_bytes};
 
-use crate::files::{Files, OpenFault};
-use axioms::Memory;
-use device::{Failed, ReaderSource, Sink};
+use crate::files::Files;
+use device::{Failed, Memory, ReaderSource, Sink};
 use std::io::{Read, Write};
 use std::{fs, io, rt};
 
@@ -58,18 +57,16 @@ impl<'r, R: rt::Files + AllocGlobal> Files for SystemFiles<'r, R> {
 
     ghost untaken = { λ _ shut. not_true shut };
 
+    ghost all_known = { λ bad _. not_false bad };
+
     ghost unfailing = { λ bad _. not_false bad };
 
-    fn reader(&self, path: &str) -> Result<Self::In, OpenFault> {
-        let Ok(path) = self.owned(path) else {
-            return Err(OpenFault::Memory);
-        };
-        let file = FileReader {
+    fn reader(&self, path: &str) -> Result<Self::In, Memory> {
+        Ok(ReaderSource::new(FileReader {
             runtime: self.runtime,
-            path,
+            path: self.owned(path)?,
             file: None,
-        };
-        Ok(ReaderSource::new(file))
+        }))
     }
 
     fn writer(&mut self, path: &str) -> Result<Self::Out, Memory> {
